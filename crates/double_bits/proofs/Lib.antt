@@ -1,0 +1,3 @@
+pub mod OneHalf
+pub mod Powers
+pub mod Signs
