@@ -1,0 +1,6 @@
+pub mod Numbers
+pub mod Fields
+pub mod Buffers
+pub mod Digits
+pub mod StuffedLaws
+pub mod HeadLaws

@@ -1,0 +1,11 @@
+use Rattle.std.proofs.Common.{◌≡◌, ◌*◌, take}
+use Rattle.bit_stuff.specs.Stuffed.{number_of_values}
+use Rattle.bit_stuff.specs.Buffer.{IsBuffer, bits_of_buffer, number_of_buffer}
+use Rattle.bit_stuff.proofs.packing.stuff.Given as goal
+
+abbrev pub invariant-loop-v : goal.invariant-loop-v
+invariant-loop-v l = record {
+  buffer : IsBuffer l.buffer 32;
+  bits : bits_of_buffer l.buffer ≡ l.width * l.v-index;
+  number : number_of_buffer l.out l.buffer ≡ number_of_values l.width (take l.v-index l.values);
+}

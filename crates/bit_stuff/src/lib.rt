@@ -1,0 +1,24 @@
+//! Stuffed numbers, and lists of them in the simple form.
+//!
+//! It stands on `byteorder` alone and takes no memory. The layer above uses one contract: stuffed
+//! bytes are one large number, cut into fields of one width.
+#![tactic(auto)]
+
+mod heads;
+mod laws;
+mod packing;
+mod simple;
+mod unpacking;
+
+pub use heads::{ListFault, ListHead, ListReason, head_len, read_head, write_head};
+pub use laws::{
+    clear_bytes_are_written_bytes, length_is_monotone, simple_bytes_are_a_list,
+    simple_lists_have_one_list, stuffed_bytes_have_one_list, stuffed_values_are_below,
+    written_bytes_are_stuffed,
+};
+pub use packing::stuff;
+pub use simple::{list_width, simple_len, write_simple};
+pub use unpacking::{stuffed_len, unstuff};
+
+#[cfg(test)]
+mod tests;

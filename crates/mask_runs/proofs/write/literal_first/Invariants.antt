@@ -1,0 +1,5 @@
+use Rattle.mask_runs.proofs.Equal.{Searching}
+use Rattle.mask_runs.proofs.write.literal_first.Given as goal
+
+abbrev pub invariant-loop-i : goal.invariant-loop-i
+invariant-loop-i l = Searching l.mask l.start l.i

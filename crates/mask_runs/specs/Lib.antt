@@ -1,0 +1,4 @@
+pub mod Runs
+pub mod Fault
+pub mod Chosen
+pub mod Step
