@@ -1,0 +1,2 @@
+mod Blobs
+mod Outcomes

@@ -1,0 +1,5 @@
+pub mod Blob
+pub mod Command
+pub mod Constant
+pub mod Run
+pub mod Stop

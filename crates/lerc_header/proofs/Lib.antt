@@ -1,0 +1,6 @@
+mod CountsAt
+mod Exits
+pub mod HeadLemmas
+mod Parts
+mod Ranges
+mod Words

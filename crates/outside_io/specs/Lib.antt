@@ -1,0 +1,16 @@
+pub mod Blind
+pub mod Disk
+pub mod Faults
+pub mod History
+pub mod Marks
+pub mod MemVolume
+pub mod Memory
+pub mod Pick
+pub mod Pieces
+pub mod Present
+pub mod Recorded
+pub mod Sink
+pub mod Source
+pub mod Sparse
+pub mod Steps
+pub mod Word

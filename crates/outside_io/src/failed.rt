@@ -1,0 +1,3 @@
+/// The only fault that an object of the outside gives.
+#[derive(Clone, Copy, Debug, PartialEq, Eq)]
+pub struct Failed;

@@ -1,0 +1,9 @@
+-- What contracts of this crate cite.
+pub use Rattle.outside_io.specs.Faults.{CountsFaults}
+pub use Rattle.outside_io.specs.Sink.{Holds, HoldsPrefix}
+pub mod Kind
+pub mod Raster
+pub mod Places
+pub mod Grid
+pub mod View
+pub mod Pack
