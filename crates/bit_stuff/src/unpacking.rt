@@ -1,6 +1,6 @@
 // Reading stuffed numbers.
 
-ghost use Rattle.std.specs.Prelude.{◌≡◌, ◌+◌, ◌*◌, ◌/◌, ◌%◌, ◌^◌, ◌<◌, ◌≤◌, length, All};
+ghost use Rattle.std.specs.Prelude.{◌≡◌, ◌+◌, ◌*◌, ◌/◌, ◌%◌, ◌^◌, ◌<◌, ◌≤◌, ℕ, length, slice_index, All};
 ghost use Rattle.bit_stuff.specs.Stuffed.{IsLeastHolding, IsStuffed, field_at, number_of_bytes, stuffed_size};
 
 use byteorder::{ByteOrder, LittleEndian};
@@ -26,6 +26,18 @@ fn field(word: u64, shift: usize, width: u32) -> u32
     ((word >> shift) & ((1 << width) - 1)) as u32
 }
 
+/// The `width` bits of the bytes' number from bit `shift` of byte `at` on, out of the eight bytes there.
+#[inline(always)]
+fn bits_from(bytes: &[u8], at: usize, shift: usize, width: u32) -> u32
+    requires whole { at + 8 ≤ length bytes.now }
+    requires width { width ≤ 31 }
+    requires shift { shift < 64 }
+    requires word { shift + width ≤ 64 }
+    ensures { result ≡ number_of_bytes bytes.now / 2 ^ (8 * at + shift) % 2 ^ width }
+{
+    field(LittleEndian::read_u64(&bytes[at..]), shift, width)
+}
+
 /// Field `i` of the bytes' number, out of eight bytes that hold it: those from its first bit on, or
 /// the last eight.
 #[inline(always)]
@@ -38,8 +50,41 @@ fn number_at(bytes: &[u8], width: u32, i: usize) -> u32
 {
     let place = width as usize * i;
     let at = (place / 8).min(bytes.len() - 8);
-    let word = LittleEndian::read_u64(&bytes[at..]);
-    field(word, place - 8 * at, width)
+    bits_from(bytes, at, place - 8 * at, width)
+}
+
+/// Reads the eight numbers behind the first `done`, which begin at byte `at`.
+#[inline(always)]
+fn unstuff_eight(bytes: &[u8], width: u32, at: usize, out: &mut [u32], done: usize)
+    requires width { width ≤ 31 }
+    requires room { done + 8 ≤ length out.old }
+    requires place { 8 * at ≡ width * done }
+    requires whole { at + width + 8 ≤ length bytes.now }
+    requires read { (k : ℕ) → k < done → slice_index out.old k ≡ field_at width (number_of_bytes bytes.now) k }
+    ensures { (k : ℕ) → k < done + 8 → slice_index out.new k ≡ field_at width (number_of_bytes bytes.now) k }
+{
+    for k in 0..8 {
+        let place = width as usize * k;
+        out[done + k] = bits_from(bytes, at + place / 8, place % 8, width);
+    }
+}
+
+/// Reads numbers by eights, which are `width` bytes each, as far as eight more bytes follow; how many
+/// it has read.
+fn unstuff_eights(bytes: &[u8], width: u32, out: &mut [u32]) -> usize
+    requires count { length out.old ≤ 2 ^ 24 }
+    requires width { width ≤ 31 }
+    ensures within { result ≤ length out.old }
+    ensures read { (k : ℕ) → k < result → slice_index out.new k ≡ field_at width (number_of_bytes bytes.now) k }
+{
+    let mut at = 0;
+    let mut done = 0;
+    while done + 8 <= out.len() && at + width as usize + 8 <= bytes.len() {
+        unstuff_eight(bytes, width, at, out, done);
+        at += width as usize;
+        done += 8;
+    }
+    done
 }
 
 /// Reads the numbers of eight bytes or more.
@@ -50,8 +95,9 @@ fn unstuff_long(bytes: &[u8], width: u32, out: &mut [u32])
     requires size { length bytes.now ≡ stuffed_size (length out.old) width }
     ensures { IsStuffed bytes.now width out.new }
 {
-    for (i, value) in out.iter_mut().enumerate() {
-        *value = number_at(bytes, width, i);
+    let done = unstuff_eights(bytes, width, out);
+    for i in done..out.len() {
+        out[i] = number_at(bytes, width, i);
     }
 }
 

@@ -1,9 +1,9 @@
 //! The program `lerc_cli`: the words of the command line and the bytes of a source become the bytes of an
 //! output and a status.
 //!
-//! It stands on every other crate. What it does is the function `run`, whose contract is the program's: over
-//! any words, any input, however it is cut into pieces, and objects that fail at any call, a blob is decoded
-//! exactly where the input is one, and nothing else is given.
+//! It stands on `outside_io`, `raster_values` and `lerc_header`. What it does is the function `run`, whose
+//! contract is the program's: over any words, any input, however it is cut into pieces, and objects that fail
+//! at any call, a blob is decoded exactly where the input is one, and nothing else is given.
 #![tactic(auto)]
 
 mod blob;

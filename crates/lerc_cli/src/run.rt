@@ -1,4 +1,4 @@
-ghost use Rattle.std.specs.Prelude.{◌≡◌, ◌≢◌, ◌<◌, ◌≤◌, ◌⊎◌, ◌↔◌, ℕ, List, [], Some, Err, OnOk, IfSome};
+ghost use Rattle.std.specs.Prelude.{◌≡◌, ◌≢◌, ◌<◌, ◌≤◌, ◌⊎◌, ◌↔◌, ℕ, List, [], Some, Err, OnOk};
 ghost use Rattle.outside_io.specs.Faults.{FailedBetween};
 ghost use Rattle.outside_io.specs.Source.{TakesUpTo, IsAtEnd};
 ghost use Rattle.lerc_cli.specs.declared.stop.Stop.{Stop};
