@@ -6,7 +6,7 @@ use Rattle.outside_io.specs.Sink.{Holds, HoldsPrefix}
 use Rattle.raster_values.specs.Raster.{Pixels}
 use Rattle.raster_values.specs.Grid.{grid_of}
 use Rattle.lerc_cli.specs.declared.stop.Stop.{Stop}
-use Rattle.lerc_cli.specs.declared.stop.Stop.TheVariants.{Usage, Refused, Source, Output, OutOfMemory}
+use Rattle.lerc_cli.specs.declared.stop.Stop.TheVariants.{Refused, Source, Output, OutOfMemory}
 use Rattle.lerc_cli.specs.Blob.{Blob, IsBlob}
 
 -- the bytes, where they are told, are a blob with this raster
@@ -34,53 +34,37 @@ GivesLine old new faults_old faults_new line =
 
 -- the source failed exactly where the answer says so
 abbrev pub CountsSource : {X : Type 0} → Result X Stop → ℕ → ℕ → Type 0
-CountsSource (Ok x) old new = new ≡ old
-CountsSource (Err Usage) old new = new ≡ old
-CountsSource (Err Refused) old new = new ≡ old
 CountsSource (Err Source) old new = (old ≤ new) × FailedBetween old new
-CountsSource (Err Output) old new = new ≡ old
-CountsSource (Err OutOfMemory) old new = new ≡ old
+CountsSource _ old new = new ≡ old
 
 -- the output failed exactly where the answer says so
 abbrev pub CountsOutput : {X : Type 0} → Result X Stop → ℕ → ℕ → Type 0
-CountsOutput (Ok x) old new = new ≡ old
-CountsOutput (Err Usage) old new = new ≡ old
-CountsOutput (Err Refused) old new = new ≡ old
-CountsOutput (Err Source) old new = new ≡ old
 CountsOutput (Err Output) old new = (old ≤ new) × FailedBetween old new
-CountsOutput (Err OutOfMemory) old new = new ≡ old
+CountsOutput _ old new = new ≡ old
+
+-- the stop is one that the input or memory gives, and no object
+abbrev pub IsOfInput : Stop → Type 0
+IsOfInput Refused = Unit {0}
+IsOfInput OutOfMemory = Unit {0}
+IsOfInput _ = ⊥
 
 -- a raster was read, or none is there
 abbrev pub ReadsBlob : Option (List ℕ) → Result Pixels Stop → Type 0
 ReadsBlob input (Ok r) = ToldBlob input r
-ReadsBlob input (Err Usage) = ⊥
 ReadsBlob input (Err Refused) = ToldNoBlob input
 ReadsBlob input (Err Source) = Unit {0}
-ReadsBlob input (Err Output) = ⊥
 ReadsBlob input (Err OutOfMemory) = Unit {0}
-
--- the stop is one that the input or memory gives, and no object
-abbrev pub IsOfInput : Stop → Type 0
-IsOfInput Usage = ⊥
-IsOfInput Refused = Unit {0}
-IsOfInput Source = ⊥
-IsOfInput Output = ⊥
-IsOfInput OutOfMemory = Unit {0}
+ReadsBlob input _ = ⊥
 
 -- what a command gave of its output
 abbrev pub GivesOutput : {X : Type 0} → Option (List ℕ) → Result X Stop → Option (List ℕ) → Option (List ℕ) → Type 0
 GivesOutput input (Ok x) old new = GivesGrid input old new
-GivesOutput input (Err Usage) old new = new ≡ old
-GivesOutput input (Err Refused) old new = ToldNoBlob input × (new ≡ old)
-GivesOutput input (Err Source) old new = new ≡ old
 GivesOutput input (Err Output) old new = GivesGridPrefix input old new
-GivesOutput input (Err OutOfMemory) old new = new ≡ old
+GivesOutput input (Err Refused) old new = ToldNoBlob input × (new ≡ old)
+GivesOutput input _ old new = new ≡ old
 
 -- a stop before the output began left it alone
 abbrev pub LeavesOutput : {X K : Type 0} → Result X Stop → K → K → Type 0
 LeavesOutput (Ok x) old new = Unit {0}
-LeavesOutput (Err Usage) old new = new ≡ old
-LeavesOutput (Err Refused) old new = new ≡ old
-LeavesOutput (Err Source) old new = new ≡ old
 LeavesOutput (Err Output) old new = Unit {0}
-LeavesOutput (Err OutOfMemory) old new = new ≡ old
+LeavesOutput _ old new = new ≡ old
