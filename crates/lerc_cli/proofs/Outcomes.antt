@@ -8,19 +8,10 @@ use Rattle.lerc_header.specs.declared.header.Header.{Header}
 use Rattle.lerc_cli.specs.declared.stop.Stop.{Stop}
 use Rattle.lerc_cli.specs.declared.stop.Stop.TheVariants.{Usage, Refused, Source, Output, OutOfMemory}
 use Rattle.lerc_cli.specs.Blob.{Blob, IsBlob}
-use Rattle.lerc_cli.specs.Run.{CountsSource, GivesGrid, GivesOutput, IsOfInput, ReadsBlob, ToldBlob, ToldNoBlob}
+use Rattle.lerc_cli.specs.Run.{GivesGrid, GivesOutput, ReadsBlob, ToldBlob, ToldNoBlob}
 use Rattle.lerc_cli.specs.Constant.{IsConstant, constant_raster}
 use Rattle.lerc_cli.specs.Stop.{status_of}
 use Rattle.lerc_cli.proofs.Blobs.{blob_length, blob_made}
-
--- a stop that the input or memory gives leaves the source's count
-pub counts_input : {X : Type 0} (r : Result X Stop) (old new : ℕ) → new ≡ old → IfErr r IsOfInput → CountsSource r old new
-counts_input (Ok x) old new same of_input = same
-counts_input (Err Usage) old new same of_input = absurd of_input
-counts_input (Err Refused) old new same of_input = same
-counts_input (Err Source) old new same of_input = absurd of_input
-counts_input (Err Output) old new same of_input = absurd of_input
-counts_input (Err OutOfMemory) old new same of_input = same
 
 -- fewer than 67 bytes taken are all of them
 all_taken : (left : List ℕ) (taken : ℕ) → drop taken left ≡ [] → take taken left ≡ left

@@ -1,4 +1,4 @@
-ghost use Rattle.std.specs.Prelude.{◌≡◌, ◌↔◌, Some, IsTrue, IfOk, IfErr, OnOk, length, drop};
+ghost use Rattle.std.specs.Prelude.{◌≡◌, ◌≤◌, ◌↔◌, Some, IsTrue, IfOk, IfErr, OnOk, length, drop};
 ghost use Rattle.byteorder.specs.Endian.{little_number};
 ghost use Rattle.outside_io.specs.Source.{TakesUpTo, IsAtEnd};
 ghost use Rattle.raster_values.specs.Kind.{InRange};
@@ -37,7 +37,7 @@ fn says_constant(header: &Header) -> bool
 
 /// Whether the length of the mask is 0.
 fn has_no_mask(bytes: &[u8]) -> bool
-    requires { length bytes.now ≡ 66 }
+    requires { 66 ≤ length bytes.now }
     ensures { IsTrue result ↔ (little_number 4 (drop 62 bytes.now) ≡ 0) }
 {
     LittleEndian::read_u32(&bytes[MASK_LENGTH..]) == 0
@@ -45,7 +45,7 @@ fn has_no_mask(bytes: &[u8]) -> bool
 
 /// Whether the checksum is that of the bytes behind it.
 fn has_checksum(bytes: &[u8], stored: u32) -> bool
-    requires { length bytes.now ≡ 66 }
+    requires { 14 ≤ length bytes.now }
     ensures { IsTrue result ↔ (stored ≡ sum_of (drop 14 bytes.now)) }
 {
     stored == checksum(&bytes[COVERED..])
@@ -98,7 +98,7 @@ fn raster_of(alloc: Global, bytes: &[u8]) -> Result<Raster, Stop>
 }
 
 /// Reads the raster of the blob that is all that the source has. It takes at most 67 bytes, since no blob of this form
-/// has more than 66. Nothing is promised of a refusal that wants memory.
+/// has more than 66. Where memory is refused nothing is said of the input.
 pub fn read_blob<S: Source>(alloc: Global, src: &mut S) -> Result<Raster, Stop>
     ensures blob { ReadsBlob (S.left src.old) result }
     ensures source { CountsSource result (S.faults src.old) (S.faults src.new) }

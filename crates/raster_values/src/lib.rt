@@ -2,8 +2,8 @@
 //! thiserror.
 //!
 //! The contract that the layers above use: a raster is a pixel type, a shape, a set of valid places and
-//! their values. `Raster`'s calls change one place and nothing else, and `grid_write` gives the one grid
-//! of the raster.
+//! their values. `mark` and `set` change one place and nothing else, `fill` changes all of them, and
+//! `grid_write` gives the one grid of the raster.
 #![tactic(auto)]
 
 mod grid;
