@@ -7,7 +7,7 @@ use Rattle.std.proofs.lemmas.Nat.{pow-add, pow_pos}
 use Rattle.std.proofs.Math.Nat.{pow-suc}
 use Rattle.std.specs.Prelude.{All}
 use lib.Count.{count_leading_zeros}
-use Rattle.bit_stuff.specs.Simple.{binary_digits, greatest_of, width_of}
+use Rattle.bit_stuff.specs.Simple.{binary_digits, greatest_number, width_of}
 
 pub digits-zero : binary_digits 0 ≡ 0
 unfolding binary_digits
@@ -44,30 +44,30 @@ digits_hold_below (suc k) (suc n) h =
     let more : 2 ^ binary_digits (suc n) ≡ 2 ^ binary_digits (suc n / 2) * 2 = ap (λ (d : ℕ). 2 ^ d) (digits_step (suc n) (omega arith)) ∙ pow_more2 (binary_digits (suc n / 2)) in
     omega (arith, rest, more)
 
-pub greatest_push : (xs : List ℕ) (x : ℕ) → greatest_of (xs ++ x ∷ []) ≡ max (greatest_of xs) x
+pub greatest_push : (xs : List ℕ) (x : ℕ) → greatest_number (xs ++ x ∷ []) ≡ max (greatest_number xs) x
 greatest_push [] x = omega arith
 greatest_push (y ∷ xs) x = omega (arith, greatest_push xs x)
 
-pub greatest_take : (xs : List ℕ) (i : ℕ) → i < length xs → greatest_of (take (i + 1) xs) ≡ max (greatest_of (take i xs)) (get_or xs i 0)
-greatest_take xs i h = ap greatest_of (take_more xs i 0 h) ∙ greatest_push (take i xs) (get_or xs i 0)
+pub greatest_take : (xs : List ℕ) (i : ℕ) → i < length xs → greatest_number (take (i + 1) xs) ≡ max (greatest_number (take i xs)) (get_or xs i 0)
+greatest_take xs i h = ap greatest_number (take_more xs i 0 h) ∙ greatest_push (take i xs) (get_or xs i 0)
 
 -- no value is above the greatest
-pub greatest_above : (xs : List ℕ) (i : ℕ) → get_or xs i 0 ≤ greatest_of xs
+pub greatest_above : (xs : List ℕ) (i : ℕ) → get_or xs i 0 ≤ greatest_number xs
 greatest_above [] i = omega arith
 greatest_above (x ∷ xs) zero = omega arith
 greatest_above (x ∷ xs) (suc i) = omega (arith, greatest_above xs i)
 
 -- the greatest is below what all values are below
-pub greatest-lt : (n : ℕ) (xs : List ℕ) → 0 < n → ((i : ℕ) → i < length xs → get_or xs i 0 < n) → greatest_of xs < n
+pub greatest-lt : (n : ℕ) (xs : List ℕ) → 0 < n → ((i : ℕ) → i < length xs → get_or xs i 0 < n) → greatest_number xs < n
 greatest-lt n [] some h = some
 greatest-lt n (x ∷ xs) some h = omega (arith, h 0 (omega arith), greatest-lt n xs some (λ i lt. h (suc i) (omega arith)))
 
 -- a width of k bits is enough for values of k bits
 pub width_of-le : (k : ℕ) (values : List ℕ) → All (λ v. v < 2 ^ k) values → width_of values ≤ k
-width_of-le k values h = digits-le k (greatest_of values) (greatest-lt (2 ^ k) values (pow_pos k) (λ i lt. h i 0 lt))
+width_of-le k values h = digits-le k (greatest_number values) (greatest-lt (2 ^ k) values (pow_pos k) (λ i lt. h i 0 lt))
 
 -- the chosen width holds each value
 pub below_width : (k : ℕ) (values : List ℕ) → All (λ v. v < 2 ^ k) values → All (λ v. v < 2 ^ width_of values) values
 below_width k values h =
-    let whole : greatest_of values < 2 ^ width_of values = digits_hold_below k (greatest_of values) (greatest-lt (2 ^ k) values (pow_pos k) (λ i lt. h i 0 lt)) in
+    let whole : greatest_number values < 2 ^ width_of values = digits_hold_below k (greatest_number values) (greatest-lt (2 ^ k) values (pow_pos k) (λ i lt. h i 0 lt)) in
     All-from_get_or (λ v. v < 2 ^ width_of values) values 0 (λ i lt. omega (arith, greatest_above values i))

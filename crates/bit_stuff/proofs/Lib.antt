@@ -4,3 +4,4 @@ pub mod Buffers
 pub mod Digits
 pub mod StuffedLaws
 pub mod HeadLaws
+pub mod HeadParts

@@ -1,5 +1,8 @@
 -- The laws of stuffed bytes, of heads and of simple lists.
 use Rattle.std.proofs.Common.{◌≡◌, ℕ, ◌*◌, ◌/◌, ◌^◌, ◌<◌, ◌≤◌, List, length, slice_index, sym, ap, ◌∙◌, arith}
+use Rattle.std.specs.Prelude.{map}
+use Rattle.std.specs.List.{range_with_len}
+use Rattle.std.proofs.lemmas.List.FromFn.{get_or-map-range_with_len, length-map-range_with_len}
 use Rattle.std.proofs.lemmas.Nat.{pow_pos, mul-le}
 use Rattle.std.proofs.lemmas.List.{ext_get_or}
 use Rattle.std.proofs.lemmas.List.Elements.{All-from_get_or}
@@ -80,3 +83,19 @@ none_stuffed bytes width values empty size zeros = record {
   size = size;
   fields = λ i lt. zeros i lt ∙ sym (field_of_zero width (number_of_bytes bytes) i (number_none bytes empty));
 }
+
+-- so many bytes are stuffed of some list
+pub some_stuffed : (bytes : List ℕ) (width n : ℕ) → length bytes ≡ stuffed_size n width → (values : List ℕ) × ((length values ≡ n) × IsStuffed bytes width values)
+some_stuffed bytes width n size =
+    let field : ℕ → ℕ = field_at width (number_of_bytes bytes) in
+    let values : List ℕ = map field (range_with_len 0 n) in
+    let long : length values ≡ n = length-map-range_with_len field 0 n in (
+      values,
+      (
+        long,
+        record {
+          size = size ∙ ap (λ (k : ℕ). stuffed_size k width) (sym long);
+          fields = λ i lt. get_or-map-range_with_len field 0 n i i 0 (omega (arith, lt, long)) (omega arith);
+        },
+      ),
+    )

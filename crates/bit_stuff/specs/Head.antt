@@ -1,9 +1,11 @@
 -- The head of a list: a byte of its form, and the count of its numbers.
-use Rattle.std.specs.Prelude.{ℕ, ◌≡◌, ◌≢◌, ◌+◌, ◌*◌, ◌/◌, ◌%◌, ◌<◌, ◌≤◌, ◌↔◌, ◌⊎◌, ◌==◌, nat_le, List, ◌∷◌, length, drop, slice_index, if◌then◌else◌, Bool, IsTrue}
+use Rattle.std.specs.Prelude.{ℕ, ◌≡◌, ◌+◌, ◌*◌, ◌/◌, ◌%◌, ◌<◌, ◌≤◌, ◌↔◌, ◌==◌, nat_le, Bool, IsTrue}
+use Rattle.std.specs.Prelude.{List, ◌∷◌, length, drop, slice_index, if◌then◌else◌}
 use Rattle.byteorder.specs.Endian.{little_number, little_bytes}
 use Rattle.bit_stuff.specs.declared.heads.ListHead.{ListHead}
 use Rattle.bit_stuff.specs.declared.heads.ListReason.{ListReason}
-use Rattle.bit_stuff.specs.declared.heads.ListReason.TheVariants.{Cut, BadHead, BadCount, BadTable, BadIndex}
+use Rattle.bit_stuff.specs.declared.heads.ListReason.TheVariants.{Cut, BadHead, BadCount, BadTable}
+use Rattle.first_fault.specs.Faults.{Faults, none, wrong, unless}
 
 -- the first byte: bits 0 to 4 are the width, bit 5 is set in the table form, bits 6 and 7 are the code of the count's size
 abbrev pub head_byte : List ℕ → ℕ
@@ -41,18 +43,26 @@ pub record IsHead (bytes : List ℕ) (head : ListHead) (taken : ℕ) : Type 0 wh
   pub size : taken ≡ 1 + count_size (size_code bytes)
   pub within : taken ≤ length bytes
 
--- Reading a head of `want` numbers meets this fault first. The tests come in this order: the first byte is there;
--- its size code is not 3; a table has a width above 0; the count is there; it is the wanted one.
-abbrev pub HasHeadFault : List ℕ → ℕ → ListReason → ℕ → Type 0
-HasHeadFault bytes want Cut at =
-    ((length bytes ≡ 0) × (at ≡ 0))
-    ⊎ (HasForm bytes × ((length bytes < 1 + count_size (size_code bytes)) × (at ≡ 1)))
-HasHeadFault bytes want BadHead at = (0 < length bytes) × ((size_code bytes ≡ 3) × (at ≡ 0))
-HasHeadFault bytes want BadTable at =
-    (0 < length bytes) × ((size_code bytes < 3) × ((table_bit bytes ≡ 1) × ((width_bits bytes ≡ 0) × (at ≡ 0))))
-HasHeadFault bytes want BadCount at =
-    HasForm bytes × ((1 + count_size (size_code bytes) ≤ length bytes) × ((count_at bytes ≢ want) × (at ≡ 1)))
-HasHeadFault bytes want BadIndex at = ⊥
+-- The faults of a head of `want` numbers, in the order of the tests. The count: it is there, and it is
+-- the wanted one.
+abbrev pub count_faults : ℕ → List ℕ → Faults ListReason
+count_faults want bytes =
+    unless (1 + count_size (size_code bytes) ≤ length bytes) (wrong Cut 1)
+    (unless (count_at bytes ≡ want) (wrong BadCount 1) none)
+
+-- the size code has a meaning, and a table has a width
+abbrev pub form_faults : ℕ → List ℕ → Faults ListReason
+form_faults want bytes =
+    unless (size_code bytes < 3) (wrong BadHead 0)
+    (unless (table_bit bytes ≡ 1 → 0 < width_bits bytes) (wrong BadTable 0) (count_faults want bytes))
+
+-- the first byte is there, and what it says is right
+abbrev pub head_faults : ℕ → List ℕ → Faults ListReason
+head_faults want bytes = unless (0 < length bytes) (wrong Cut 0) (form_faults want bytes)
+
+-- the bytes are the head of a list of n numbers, and no more
+abbrev pub IsHeadOf : ℕ → List ℕ → ListHead → Type 0
+IsHeadOf n bytes head = IsHead bytes head (length bytes) × (head.count ≡ n)
 
 -- the code of the smallest size that holds the count: u8 up to 255, u16 up to 65,535, else u32
 abbrev pub chosen_code : ℕ → ℕ

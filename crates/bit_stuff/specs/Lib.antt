@@ -1,5 +1,5 @@
 pub mod Stuffed
 pub mod Head
 pub mod Simple
-pub mod Buffer
+pub mod inside
 pub use Rattle.byteorder.specs.Endian

@@ -21,13 +21,13 @@ unfoldable pub binary_digits : ℕ → ℕ
 binary_digits n = length (digits_of 2 n)
 
 -- the greatest value, or 0 where there is none
-abbrev pub greatest_of : List ℕ → ℕ
-greatest_of [] = 0
-greatest_of (v ∷ values) = max v (greatest_of values)
+abbrev pub greatest_number : List ℕ → ℕ
+greatest_number [] = 0
+greatest_number (v ∷ values) = max v (greatest_number values)
 
 -- the chosen width: as many bits as the greatest value has binary digits
 abbrev pub width_of : List ℕ → ℕ
-width_of values = binary_digits (greatest_of values)
+width_of values = binary_digits (greatest_number values)
 
 -- the bytes that are chosen for a list in the simple form
 unfoldable pub simple_bytes : List ℕ → List ℕ

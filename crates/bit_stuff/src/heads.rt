@@ -2,7 +2,7 @@
 
 ghost use Rattle.std.specs.Prelude.{◌≡◌, ◌+◌, ◌*◌, ◌≤◌, ◌↔◌, ◌++◌, ℕ, MatchResult, length, drop};
 ghost use Rattle.byteorder.specs.Endian.{little_number};
-ghost use Rattle.bit_stuff.specs.Head.{IsHead, HasHeadFault, count_size, head_bytes, head_size};
+ghost use Rattle.bit_stuff.specs.Head.{IsHead, count_size, head_bytes, head_faults, head_size};
 ghost use Rattle.bit_stuff.specs.declared.heads.ListHead.{ListHead};
 ghost use Rattle.bit_stuff.specs.declared.heads.ListFault.{ListFault};
 
@@ -79,7 +79,7 @@ fn refused(reason: ListReason, at: usize) -> Result<(ListHead, usize), ListFault
 fn head_of(bytes: &[u8], want: u32) -> Result<(ListHead, usize), ListFault>
     ensures { MatchResult result
         (λ r. IsHead bytes.now r.0 r.1 × (r.0.count ≡ want))
-        (λ f. HasHeadFault bytes.now want f.reason f.at) }
+        (λ f. head_faults want bytes.now f.at f.reason) }
 {
     if bytes.is_empty() {
         return refused(ListReason::Cut, 0);
@@ -123,7 +123,7 @@ pub fn read_head(bytes: &[u8], want: u32) -> Result<(ListHead, usize), ListFault
     ensures ok { (head : ListHead) (used : ℕ) →
         (result ≡ Ok (record { 0 = head; 1 = used })) ↔ (IsHead bytes.now head used × (head.count ≡ want)) }
     ensures fault { (f : ListFault) →
-        (result ≡ Err f) ↔ HasHeadFault bytes.now want f.reason f.at }
+        (result ≡ Err f) ↔ head_faults want bytes.now f.at f.reason }
 {
     head_of(bytes, want)
 }

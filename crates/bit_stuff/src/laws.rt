@@ -1,6 +1,8 @@
 // Laws of the definitions, for the crates above. Each function does nothing: its contract is the law.
 
 ghost use Rattle.std.specs.Prelude.{◌≡◌, ◌^◌, ◌<◌, ◌≤◌, ℕ, List, All, length, slice_index};
+ghost use Rattle.first_fault.specs.Parts.{IsDecided, IsPart};
+ghost use Rattle.bit_stuff.specs.Head.{IsHeadOf, head_faults};
 ghost use Rattle.bit_stuff.specs.Simple.{IsSimpleList, simple_bytes};
 ghost use Rattle.bit_stuff.specs.Stuffed.{HasClearSpareBits, IsStuffed, stuffed_bytes, stuffed_size};
 
@@ -10,10 +12,12 @@ pub fn length_is_monotone()
         stuffed_size count width ≤ stuffed_size more wider }
 {}
 
-/// Stuffed bytes of one count and width stand for one list.
+/// Stuffed bytes of one count and width stand for one list, and so many bytes stand for some.
 pub fn stuffed_bytes_have_one_list()
-    ensures { (bytes xs ys : List ℕ) (width : ℕ) →
+    ensures one { (bytes xs ys : List ℕ) (width : ℕ) →
         IsStuffed bytes width xs → IsStuffed bytes width ys → length xs ≡ length ys → xs ≡ ys }
+    ensures some { (bytes : List ℕ) (width n : ℕ) → length bytes ≡ stuffed_size n width →
+        (values : List ℕ) × ((length values ≡ n) × IsStuffed bytes width values) }
 {}
 
 /// A value that is stuffed in `width` bits is below `2 ^ width`.
@@ -46,4 +50,10 @@ pub fn simple_bytes_are_a_list()
 /// Bytes are a list in the simple form of one list of values at most.
 pub fn simple_lists_have_one_list()
     ensures { (bytes xs ys : List ℕ) → IsSimpleList bytes xs → IsSimpleList bytes ys → xs ≡ ys }
+{}
+
+/// A head is read in one way, whatever follows it, and it stands or has one first fault.
+pub fn heads_stand_or_have_one_fault()
+    ensures part { (n : ℕ) → IsPart (IsHeadOf n) (head_faults n) }
+    ensures decided { (n : ℕ) → IsDecided (IsHeadOf n) (head_faults n) }
 {}

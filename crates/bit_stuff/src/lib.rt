@@ -12,7 +12,7 @@ mod unpacking;
 
 pub use heads::{ListFault, ListHead, ListReason, head_len, read_head, write_head};
 pub use laws::{
-    clear_bytes_are_written_bytes, length_is_monotone, simple_bytes_are_a_list,
+    clear_bytes_are_written_bytes, heads_stand_or_have_one_fault, length_is_monotone, simple_bytes_are_a_list,
     simple_lists_have_one_list, stuffed_bytes_have_one_list, stuffed_values_are_below,
     written_bytes_are_stuffed,
 };

@@ -2,7 +2,7 @@
 
 ghost use Rattle.std.specs.Prelude.{◌≡◌, ◌+◌, ◌*◌, ◌/◌, ◌%◌, ◌^◌, ◌<◌, ◌≤◌, length, All};
 ghost use Rattle.bit_stuff.specs.Stuffed.{IsStuffed, HasClearSpareBits, number_of_bytes, stuffed_bytes, stuffed_size};
-ghost use Rattle.bit_stuff.specs.Buffer.{IsBuffer, bits_of_buffer, number_of_buffer};
+ghost use Rattle.bit_stuff.specs.inside.Buffer.{IsBuffer, bits_of_buffer, number_of_buffer};
 
 use byteorder::{ByteOrder, LittleEndian};
 

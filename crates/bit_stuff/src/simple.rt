@@ -1,7 +1,7 @@
 // Lists in the simple form.
 
 ghost use Rattle.std.specs.Prelude.{◌≡◌, ◌+◌, ◌^◌, ◌<◌, ◌≤◌, ℕ, length, All};
-ghost use Rattle.bit_stuff.specs.Simple.{IsSimpleList, greatest_of, simple_bytes, width_of};
+ghost use Rattle.bit_stuff.specs.Simple.{IsSimpleList, greatest_number, simple_bytes, width_of};
 
 use crate::heads::{head_len, write_head};
 use crate::packing::stuff;
@@ -9,7 +9,7 @@ use crate::unpacking::stuffed_len;
 
 /// The greatest of the values, or 0 where there is none.
 fn greatest(values: &[u32]) -> u32
-    ensures { result ≡ greatest_of values.now }
+    ensures { result ≡ greatest_number values.now }
 {
     let mut most = 0;
     for v in values {

@@ -9,7 +9,7 @@ use Rattle.std.proofs.Math.ListN.{set}
 use Rattle.std.proofs.Math.Nat.{mul-le-mul_right, div-le_self}
 use mir.Syntax.{w64}
 use mir.Val.{SFits, to_z, of_z}
-use Rattle.lane_kernels.specs.Kernels.{capped_sums, IsSmall, IsQuantised, IsStep}
+use Rattle.lane_kernels.specs.Kernels.{capped_sums, IsSmall, IsQuantised, IsStepSize}
 use Rattle.lane_kernels.proofs.MinMax.{int_min-le, int_min-ge}
 
 -- a number as the code reads it again
@@ -71,7 +71,7 @@ quotient_past (negsuc a) d h k = absurd (omega (arith, ints))
 abbrev pub computed : ℤ → ℤ → ℤ
 computed a d = to_z w64 (of_z w64 (to_z w64 (of_z w64 (int_div (to_z w64 (of_z w64 a)) (to_z w64 (of_z w64 d)))) +ℤ pos 1))
 
-pub computed_past : (a d : ℤ) → pos 0 ≤ℤ a → a ≤ℤ pos 8589934592 → IsStep d → IsFirstPast a d (computed a d)
+pub computed_past : (a d : ℤ) → pos 0 ≤ℤ a → a ≤ℤ pos 8589934592 → IsStepSize d → IsFirstPast a d (computed a d)
 computed_past a d h small step =
     let above : pos 0 <ℤ d = omega (arith, ints) in
     let fits : SFits w64 a = omega (arith, ints) in
@@ -87,7 +87,7 @@ pub record IsSmallProduct (product : ℤ) : Type 0 where
   pub from_zero : pos 0 ≤ℤ product
   pub small : product ≤ℤ pos 17179869184
 
-pub capped_product : (q past step n : ℤ) → n ≡ int_min q past → pos 0 ≤ℤ q → pos 0 <ℤ past → IsStep step → (past *ℤ step) ≤ℤ pos 17179869184 → IsSmallProduct (n *ℤ step)
+pub capped_product : (q past step n : ℤ) → n ≡ int_min q past → pos 0 ≤ℤ q → pos 0 <ℤ past → IsStepSize step → (past *ℤ step) ≤ℤ pos 17179869184 → IsSmallProduct (n *ℤ step)
 capped_product q past step n e h k step' small =
     let bounds : (pos 0 ≤ℤ n) × (n ≤ℤ past) = subst (λ m. (pos 0 ≤ℤ m) × (m ≤ℤ past)) (sym e) (omega (arith, ints, clamps), omega (arith, ints, clamps)) in
     let above = mul_le_mul (pos 0) n step (omega (arith, ints)) bounds.0 (omega (arith, ints)) in

@@ -1,6 +1,6 @@
 ghost use Rattle.std.specs.Prelude.{◌≡◌, pos, ◌+ℤ◌, ◌*ℤ◌, ◌<ℤ◌, ◌≤ℤ◌, length, All};
 ghost use Rattle.std.specs.Int.{int_min};
-ghost use Rattle.lane_kernels.specs.Kernels.{capped_sums, IsSmall, IsQuantised, IsStep};
+ghost use Rattle.lane_kernels.specs.Kernels.{capped_sums, IsSmall, IsQuantised, IsStepSize};
 
 /// Writes the smaller of `offset + q * step` and `top` over `out`, for each quantised value q in turn: the
 /// sum in whole numbers, though the product can pass 64 bits. Each q is from 0 to 2^31 - 1, `offset` and
@@ -9,7 +9,7 @@ pub fn plus_capped(qs: &[i64], offset: i64, step: i64, top: i64, out: &mut [i64]
     requires lengths { length out.old ≡ length qs.now }
     requires quantised { All IsQuantised qs.now }
     requires small_offset { IsSmall offset }
-    requires step { IsStep step }
+    requires step { IsStepSize step }
     requires small_top { IsSmall top }
     ensures { out.new ≡ capped_sums qs.now offset step top }
 {
@@ -27,7 +27,7 @@ pub fn plus_capped(qs: &[i64], offset: i64, step: i64, top: i64, out: &mut [i64]
 /// of it and the step at most 2^34.
 fn steps_to_pass(gap: i64, step: i64) -> i64
     requires gap { (pos 0 <ℤ gap) × (gap ≤ℤ pos 8589934592) }
-    requires step { IsStep step }
+    requires step { IsStepSize step }
     ensures positive { pos 0 <ℤ result }
     ensures past { gap <ℤ (result *ℤ step) }
     ensures first { (result *ℤ step) ≤ℤ (gap +ℤ step) }
@@ -41,7 +41,7 @@ fn steps_to_pass(gap: i64, step: i64) -> i64
 fn capped_sum(q: i64, enough: i64, offset: i64, step: i64, top: i64) -> i64
     requires from_zero { pos 0 ≤ℤ q }
     requires small_offset { IsSmall offset }
-    requires step { IsStep step }
+    requires step { IsStepSize step }
     requires positive { pos 0 <ℤ enough }
     requires past { top <ℤ (offset +ℤ enough *ℤ step) }
     requires product { (enough *ℤ step) ≤ℤ pos 17179869184 }

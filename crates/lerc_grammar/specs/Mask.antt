@@ -4,7 +4,7 @@ use Rattle.std.specs.Prelude.{◌≡◌, ℕ, ℤ, pos, ◌+◌, ◌/◌, ◌≤
 use Rattle.std.specs.List.{count_by}
 use Rattle.first_fault.specs.Faults.{Faults, none, wrong, choice, unless, moved}
 use Rattle.mask_runs.specs.Runs.{Runs}
-use Rattle.mask_runs.specs.Fault.{FirstFault}
+use Rattle.mask_runs.specs.Fault.{FirstRunFault}
 use Rattle.lerc_grammar.specs.Flat.{marks_in}
 use Rattle.lerc_header.specs.Head.{i32_at}
 use Rattle.lerc_grammar.specs.declared.fault.BlobReason.{BlobReason}
@@ -43,7 +43,7 @@ IsMaskLength pixels valid n = (pos 0 ≤ℤ n) × (IsAlike pixels valid → n �
 
 -- the bytes are no runs of a mask of this size
 abbrev pub in_runs : List ℕ → ℕ → Faults BlobReason
-in_runs runs size place reason = FirstFault runs size place × (reason ≡ BadRun)
+in_runs runs size place reason = FirstRunFault runs size place × (reason ≡ BadRun)
 
 -- they are, and the mask has another number of set bits than pixels are valid
 abbrev pub miscounted : ℕ → ℕ → List ℕ → Faults BlobReason

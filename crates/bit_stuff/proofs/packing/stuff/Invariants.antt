@@ -1,6 +1,6 @@
 use Rattle.std.proofs.Common.{◌≡◌, ◌*◌, take}
 use Rattle.bit_stuff.specs.Stuffed.{number_of_values}
-use Rattle.bit_stuff.specs.Buffer.{IsBuffer, bits_of_buffer, number_of_buffer}
+use Rattle.bit_stuff.specs.inside.Buffer.{IsBuffer, bits_of_buffer, number_of_buffer}
 use Rattle.bit_stuff.proofs.packing.stuff.Given as goal
 
 abbrev pub invariant-loop-v : goal.invariant-loop-v

@@ -1,0 +1,6 @@
+pub mod Lists
+pub mod Faults
+pub mod Tables
+pub use Rattle.bit_stuff.specs.Head
+pub use Rattle.bit_stuff.specs.Simple
+pub use Rattle.bit_stuff.specs.Stuffed
