@@ -1,6 +1,7 @@
 mod Pieces
 mod Reading
 pub mod Stops
+pub mod Decided
 mod Steps
 mod Equal
 pub mod Chosen

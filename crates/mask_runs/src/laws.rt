@@ -1,6 +1,6 @@
 //! Laws of runs, of their faults and of the chosen pieces.
 
-ghost use Rattle.std.specs.Prelude.{◌≡◌, ℕ, ◌<◌, ◌≤◌, List, [], ◌∷◌, length, drop};
+ghost use Rattle.std.specs.Prelude.{◌≡◌, ◌⊎◌, All, ℕ, ◌<◌, ◌≤◌, List, [], ◌∷◌, length, drop};
 ghost use Rattle.mask_runs.specs.Runs.{Runs, piece_content};
 ghost use Rattle.mask_runs.specs.Fault.{FirstRunFault};
 ghost use Rattle.mask_runs.specs.Chosen.{equal_bytes, before_repeat, first_piece, chosen_pieces};
@@ -14,6 +14,13 @@ pub fn runs_are_determined()
         → FirstRunFault bytes n place → FirstRunFault bytes n other → place ≡ other }
     ensures either { (bytes mask : List ℕ) (place : ℕ)
         → Runs bytes mask → FirstRunFault bytes (length mask) place → ⊥ }
+{}
+
+/// A law: all bytes are runs of a mask of the wanted length, or go wrong first at some place.
+pub fn bytes_are_runs_or_go_wrong()
+    ensures { (bytes : List ℕ) (n : ℕ) → All (λ byte. byte < 256) bytes →
+        ((mask : List ℕ) × (Runs bytes mask × (length mask ≡ n)))
+        ⊎ ((place : ℕ) × FirstRunFault bytes n place) }
 {}
 
 /// A law: the chosen pieces of a mask are its first piece and then those of what that piece leaves.
