@@ -10,16 +10,16 @@ use Rattle.std.proofs.lemmas.List.Sums.{prefix_len_passes}
 use Rattle.byteorder.specs.Endian.{twos_complement}
 use Rattle.mask_runs.specs.declared.write.Choice.{Choice}
 use Rattle.mask_runs.specs.declared.write.Choice.TheVariants.{Literal as LiteralOf, Repeat as RepeatOf}
-use Rattle.mask_runs.specs.Runs.{Piece, Literal, Repeat, Run, IsRun, given, content, count_of, body, Joined, Runs}
-use Rattle.mask_runs.specs.Chosen.{equal_bytes, before_repeat, first_piece, pieces_after, chosen_pieces, written, chosen_runs}
-use Rattle.mask_runs.specs.Step.{IsFirst, piece_of, count_in, size_in}
+use Rattle.mask_runs.specs.Runs.{MaskPiece, Literal, Repeat, MaskRun, IsRun, run_content, piece_content, piece_count, piece_body, AreJoinedRuns, Runs}
+use Rattle.mask_runs.specs.Chosen.{equal_bytes, before_repeat, first_piece, pieces_after, chosen_pieces, piece_bytes, chosen_runs}
+use Rattle.mask_runs.specs.inside.Steps.{IsFirstChoice, piece_of, count_in, size_in}
 use Rattle.mask_runs.proofs.Equal.{equal_most, before_some, before_most}
 use Rattle.mask_runs.proofs.Pieces.{size_of_count}
 use Rattle.mask_runs.proofs.Reading.{signed_is}
 use Rattle.mask_runs.proofs.Steps.{joined_none, joined_cons}
 
 -- five or more equal bytes come first
-pub choose_repeat : (mask : List ℕ) (n : ℕ) → n ≡ min (equal_bytes mask) 32767 → 5 ≤ n → IsFirst mask (RepeatOf n)
+pub choose_repeat : (mask : List ℕ) (n : ℕ) → n ≡ min (equal_bytes mask) 32767 → 5 ≤ n → IsFirstChoice mask (RepeatOf n)
 choose_repeat mask n is many = record {
   piece = ap (λ b. cond b (Repeat (min (equal_bytes mask) 32767) (get_or mask 0 0)) (Literal (take (min (before_repeat mask) 32767) mask))) (le-leb 5 (equal_bytes mask) (omega arith)) ∙ ap (λ k. Repeat k (get_or mask 0 0)) (sym is);
   least = omega arith;
@@ -28,7 +28,7 @@ choose_repeat mask n is many = record {
 }
 
 -- fewer equal bytes come first
-pub choose_literal : (mask : List ℕ) (e n : ℕ) → 0 < length mask → e ≡ min (equal_bytes mask) 32767 → e < 5 → n ≡ min (before_repeat mask) 32767 → IsFirst mask (LiteralOf n)
+pub choose_literal : (mask : List ℕ) (e n : ℕ) → 0 < length mask → e ≡ min (equal_bytes mask) 32767 → e < 5 → n ≡ min (before_repeat mask) 32767 → IsFirstChoice mask (LiteralOf n)
 choose_literal mask e n some equal few is = record {
   piece = ap (λ b. cond b (Repeat (min (equal_bytes mask) 32767) (get_or mask 0 0)) (Literal (take (min (before_repeat mask) 32767) mask))) (lt-leb 5 (equal_bytes mask) (omega arith)) ∙ ap (λ k. Literal (take k mask)) (sym is);
   least = let h = before_some mask some (omega arith) in omega arith;
@@ -37,18 +37,18 @@ choose_literal mask e n some equal few is = record {
 }
 
 -- a mask that is not empty has a first piece
-choice_of : (mask : List ℕ) → 0 < length mask → (choice : Choice) × IsFirst mask choice
-choice_of mask some = elim (cases_lt (min (equal_bytes mask) 32767) 5) as (λ _. (choice : Choice) × IsFirst mask choice) [
+choice_of : (mask : List ℕ) → 0 < length mask → (choice : Choice) × IsFirstChoice mask choice
+choice_of mask some = elim (cases_lt (min (equal_bytes mask) 32767) 5) as (λ _. (choice : Choice) × IsFirstChoice mask choice) [
   | inl few ↦ (LiteralOf (min (before_repeat mask) 32767), choose_literal mask (min (equal_bytes mask) 32767) (min (before_repeat mask) 32767) some refl few refl)
   | inr many ↦ (RepeatOf (min (equal_bytes mask) 32767), choose_repeat mask (min (equal_bytes mask) 32767) refl many)
 ]
 
 -- how many bytes a chosen piece gives, and how many are written for it
-pub length-content : (mask : List ℕ) (choice : Choice) → IsFirst mask choice → length (content (piece_of mask choice)) ≡ count_in choice
+pub length-content : (mask : List ℕ) (choice : Choice) → IsFirstChoice mask choice → length (piece_content (piece_of mask choice)) ≡ count_in choice
 length-content mask (LiteralOf n) first = length-take-le n mask first.within
 length-content mask (RepeatOf n) first = length-replicate n (get_or mask 0 0)
 
-pub length-written : (mask : List ℕ) (choice : Choice) → IsFirst mask choice → size_in choice ≡ length (written (piece_of mask choice))
+pub length-written : (mask : List ℕ) (choice : Choice) → IsFirstChoice mask choice → size_in choice ≡ length (piece_bytes (piece_of mask choice))
 length-written mask (LiteralOf n) first = omega (arith, length-take-le n mask first.within)
 length-written mask (RepeatOf n) first = omega arith
 
@@ -60,33 +60,33 @@ pieces_after-drop (suc n) [] = refl
 pieces_after-drop (suc n) (x ∷ mask) = pieces_after-drop n mask
 
 -- the law of the chosen pieces
-pub pieces_go_on : (mask : List ℕ) → 0 < length mask → chosen_pieces mask ≡ first_piece mask ∷ chosen_pieces (drop (length (content (first_piece mask))) mask)
+pub pieces_go_on : (mask : List ℕ) → 0 < length mask → chosen_pieces mask ≡ first_piece mask ∷ chosen_pieces (drop (length (piece_content (first_piece mask))) mask)
 pieces_go_on [] some = absurd (omega arith)
 pieces_go_on (x ∷ mask) some =
     let choice = choice_of (x ∷ mask) some in
-    let size : length (content (first_piece (x ∷ mask))) ≡ count_in choice.0 = ap (λ piece. length (content piece)) choice.1.piece ∙ length-content (x ∷ mask) choice.0 choice.1 in
+    let size : length (piece_content (first_piece (x ∷ mask))) ≡ count_in choice.0 = ap (λ piece. length (piece_content piece)) choice.1.piece ∙ length-content (x ∷ mask) choice.0 choice.1 in
     let least = choice.1.least in
-    let one_more : suc (length (content (first_piece (x ∷ mask))) - 1) ≡ length (content (first_piece (x ∷ mask))) = omega arith in
-    ap (λ pieces. first_piece (x ∷ mask) ∷ pieces) (pieces_after-drop (length (content (first_piece (x ∷ mask))) - 1) mask ∙ ap (λ n. chosen_pieces (drop n (x ∷ mask))) one_more)
+    let one_more : suc (length (piece_content (first_piece (x ∷ mask))) - 1) ≡ length (piece_content (first_piece (x ∷ mask))) = omega arith in
+    ap (λ pieces. first_piece (x ∷ mask) ∷ pieces) (pieces_after-drop (length (piece_content (first_piece (x ∷ mask))) - 1) mask ∙ ap (λ n. chosen_pieces (drop n (x ∷ mask))) one_more)
 
 -- one piece more is written
-pub runs_more : (mask : List ℕ) (choice : Choice) → 0 < length mask → IsFirst mask choice
-    → flat_map written (chosen_pieces mask) ≡ written (piece_of mask choice) ++ flat_map written (chosen_pieces (drop (count_in choice) mask))
+pub runs_more : (mask : List ℕ) (choice : Choice) → 0 < length mask → IsFirstChoice mask choice
+    → flat_map piece_bytes (chosen_pieces mask) ≡ piece_bytes (piece_of mask choice) ++ flat_map piece_bytes (chosen_pieces (drop (count_in choice) mask))
 runs_more mask choice some first =
-    let size : length (content (first_piece mask)) ≡ count_in choice = ap (λ piece. length (content piece)) first.piece ∙ length-content mask choice first in
-    ap (flat_map written) (pieces_go_on mask some) ∙ ap (λ piece. written piece ++ flat_map written (chosen_pieces (drop (length (content (first_piece mask))) mask))) first.piece
-    ∙ ap (λ n. written (piece_of mask choice) ++ flat_map written (chosen_pieces (drop n mask))) size
+    let size : length (piece_content (first_piece mask)) ≡ count_in choice = ap (λ piece. length (piece_content piece)) first.piece ∙ length-content mask choice first in
+    ap (flat_map piece_bytes) (pieces_go_on mask some) ∙ ap (λ piece. piece_bytes piece ++ flat_map piece_bytes (chosen_pieces (drop (length (piece_content (first_piece mask))) mask))) first.piece
+    ∙ ap (λ n. piece_bytes (piece_of mask choice) ++ flat_map piece_bytes (chosen_pieces (drop n mask))) size
 
 -- the same from a place on
-pub runs_more_at : (mask : List ℕ) (at : ℕ) (choice : Choice) → at < length mask → IsFirst (drop at mask) choice
-    → flat_map written (chosen_pieces (drop at mask)) ≡ written (piece_of (drop at mask) choice) ++ flat_map written (chosen_pieces (drop (at + count_in choice) mask))
+pub runs_more_at : (mask : List ℕ) (at : ℕ) (choice : Choice) → at < length mask → IsFirstChoice (drop at mask) choice
+    → flat_map piece_bytes (chosen_pieces (drop at mask)) ≡ piece_bytes (piece_of (drop at mask) choice) ++ flat_map piece_bytes (chosen_pieces (drop (at + count_in choice) mask))
 runs_more_at mask at choice below first =
     runs_more (drop at mask) choice (omega (arith, length-drop at mask)) first
-    ∙ ap (λ rest. written (piece_of (drop at mask) choice) ++ flat_map written (chosen_pieces rest)) (drop-drop (count_in choice) at mask)
+    ∙ ap (λ rest. piece_bytes (piece_of (drop at mask) choice) ++ flat_map piece_bytes (chosen_pieces rest)) (drop-drop (count_in choice) at mask)
 
 -- nothing is written for no bytes
-pub runs_done : (mask : List ℕ) (at : ℕ) → length mask ≤ at → flat_map written (chosen_pieces (drop at mask)) ≡ []
-runs_done mask at all = ap (λ rest. flat_map written (chosen_pieces rest)) (drop_all at mask all)
+pub runs_done : (mask : List ℕ) (at : ℕ) → length mask ≤ at → flat_map piece_bytes (chosen_pieces (drop at mask)) ≡ []
+runs_done mask at all = ap (λ rest. flat_map piece_bytes (chosen_pieces rest)) (drop_all at mask all)
 
 -- the bytes that a repeat gives come first in the mask
 front_equal : (mask : List ℕ) (n : ℕ) → n ≤ equal_bytes mask → replicate n (get_or mask 0 0) ≡ take n mask
@@ -99,27 +99,27 @@ front_equal mask n few =
     get_or-replicate n k (get_or mask 0 0) 0 below ∙ sym same ∙ sym (get_or-take n mask k 0 below))
 
 -- the run that is written for a piece
-abbrev run_of : Piece → Run
-run_of piece = record { low = byte_at 0 (cast_unsigned w16 (count_of piece)); high = byte_at 1 (cast_unsigned w16 (count_of piece)); piece = piece }
+abbrev run_of : MaskPiece → MaskRun
+run_of piece = record { low = byte_at 0 (cast_unsigned w16 (piece_count piece)); high = byte_at 1 (cast_unsigned w16 (piece_count piece)); piece = piece }
 
-run_is : (piece : Piece) → 1 ≤ length (content piece) → length (content piece) ≤ 32767 → All (λ byte. byte < 256) (body piece) → IsRun (run_of piece)
+run_is : (piece : MaskPiece) → 1 ≤ length (piece_content piece) → length (piece_content piece) ≤ 32767 → All (λ byte. byte < 256) (piece_body piece) → IsRun (run_of piece)
 run_is piece least most all =
-    let x = cast_unsigned w16 (count_of piece) in
+    let x = cast_unsigned w16 (piece_count piece) in
     let size = size_of_count piece in
-    let fits : FitsSigned w16 (count_of piece) = fits_signed_from_abs w16 (count_of piece) (omega arith) in
+    let fits : FitsSigned w16 (piece_count piece) = fits_signed_from_abs w16 (piece_count piece) (omega arith) in
     let below : x < 65536 = omega (arith, ints) in
     let low : byte_at 0 x < 256 = omega arith in
     let high : byte_at 1 x < 256 = omega arith in
     let number : byte_at 0 x + 256 * byte_at 1 x ≡ x = omega arith in
     record {
-      bytes = All-cons (λ byte. byte < 256) (byte_at 0 x) (byte_at 1 x ∷ body piece) low (All-cons (λ byte. byte < 256) (byte_at 1 x) (body piece) high all);
-      count = ap (twos_complement 2) number ∙ sym (signed_is x below) ∙ to_z-of_z w16 (count_of piece) fits;
+      bytes = All-cons (λ byte. byte < 256) (byte_at 0 x) (byte_at 1 x ∷ piece_body piece) low (All-cons (λ byte. byte < 256) (byte_at 1 x) (piece_body piece) high all);
+      count = ap (twos_complement 2) number ∙ sym (signed_is x below) ∙ to_z-of_z w16 (piece_count piece) fits;
       least = least;
       most = most;
     }
 
 -- what is written for the first piece is a run, and gives the front of the mask
-first_run : (mask : List ℕ) (choice : Choice) → 0 < length mask → All (λ byte. byte < 256) mask → IsFirst mask choice → IsRun (run_of (piece_of mask choice))
+first_run : (mask : List ℕ) (choice : Choice) → 0 < length mask → All (λ byte. byte < 256) mask → IsFirstChoice mask choice → IsRun (run_of (piece_of mask choice))
 first_run mask (LiteralOf n) some all first =
     let size = length-content mask (LiteralOf n) first in
     run_is (Literal (take n mask)) (omega (arith, first.least)) (omega (arith, first.most)) (All-take (λ byte. byte < 256) n mask all)
@@ -128,7 +128,7 @@ first_run mask (RepeatOf n) some all first =
     run_is (Repeat n (get_or mask 0 0)) (omega (arith, first.least)) (omega (arith, first.most))
     (All-cons (λ byte. byte < 256) (get_or mask 0 0) [] (All-get_or (λ byte. byte < 256) mask 0 0 some all) (All-nil (λ byte. byte < 256)))
 
-first_gives : (mask : List ℕ) (choice : Choice) → IsFirst mask choice → content (piece_of mask choice) ++ drop (count_in choice) mask ≡ mask
+first_gives : (mask : List ℕ) (choice : Choice) → IsFirstChoice mask choice → piece_content (piece_of mask choice) ++ drop (count_in choice) mask ≡ mask
 first_gives mask (LiteralOf n) first = take-append-drop n mask
 first_gives mask (RepeatOf n) first =
     elim (cases_lt (equal_bytes mask) 5) as (λ _. replicate n (get_or mask 0 0) ++ drop n mask ≡ mask) [
@@ -144,7 +144,7 @@ first_gives mask (RepeatOf n) first =
     ]
 
 -- what is written for a mask are runs of it
-chosen_joined : (n : ℕ) (mask : List ℕ) → length mask ≤ n → All (λ byte. byte < 256) mask → Joined (flat_map written (chosen_pieces mask)) mask
+chosen_joined : (n : ℕ) (mask : List ℕ) → length mask ≤ n → All (λ byte. byte < 256) mask → AreJoinedRuns (flat_map piece_bytes (chosen_pieces mask)) mask
 chosen_joined n [] short all = joined_none
 chosen_joined zero (x ∷ xs) short all = absurd (omega arith)
 chosen_joined (suc n) (x ∷ xs) short all =
@@ -154,9 +154,9 @@ chosen_joined (suc n) (x ∷ xs) short all =
     let first = (choice_of mask some).1 in
     let rest = chosen_joined n (drop (count_in choice) mask) (omega (arith, length-drop (count_in choice) mask, first.least)) (All-drop (λ byte. byte < 256) (count_in choice) mask all) in
     let run = run_of (piece_of mask choice) in
-    let more : Joined (written (piece_of mask choice) ++ flat_map written (chosen_pieces (drop (count_in choice) mask))) (given run ++ drop (count_in choice) mask) =
-    joined_cons (flat_map written (chosen_pieces (drop (count_in choice) mask))) (drop (count_in choice) mask) run (first_run mask choice some all first) rest in
-    subst (Joined (flat_map written (chosen_pieces mask))) (first_gives mask choice first) (subst (λ (bytes : List ℕ). Joined bytes (given run ++ drop (count_in choice) mask)) (sym (runs_more mask choice some first)) more)
+    let more : AreJoinedRuns (piece_bytes (piece_of mask choice) ++ flat_map piece_bytes (chosen_pieces (drop (count_in choice) mask))) (run_content run ++ drop (count_in choice) mask) =
+    joined_cons (flat_map piece_bytes (chosen_pieces (drop (count_in choice) mask))) (drop (count_in choice) mask) run (first_run mask choice some all first) rest in
+    subst (AreJoinedRuns (flat_map piece_bytes (chosen_pieces mask))) (first_gives mask choice first) (subst (λ (bytes : List ℕ). AreJoinedRuns bytes (run_content run ++ drop (count_in choice) mask)) (sym (runs_more mask choice some first)) more)
 
 pub chosen_are_runs : (mask : List ℕ) → All (λ byte. byte < 256) mask → Runs (chosen_runs mask) mask
-chosen_are_runs mask all = (flat_map written (chosen_pieces mask), (refl, chosen_joined (length mask) mask (omega arith) all))
+chosen_are_runs mask all = (flat_map piece_bytes (chosen_pieces mask), (refl, chosen_joined (length mask) mask (omega arith) all))

@@ -1,7 +1,8 @@
-pub mod Pieces
-pub mod Reading
+mod Pieces
+mod Reading
 pub mod Stops
-pub mod Steps
-pub mod Equal
+pub mod Decided
+mod Steps
+mod Equal
 pub mod Chosen
-pub mod Writing
+mod Writing

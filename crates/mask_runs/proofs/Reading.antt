@@ -5,11 +5,11 @@ use Rattle.std.proofs.lemmas.List.Elements.{All-from_get_or, All-head, All-tail,
 use Rattle.std.proofs.lemmas.Int.{ints}
 use Rattle.std.specs.Int.{cast_signed, w16}
 use Rattle.byteorder.specs.Endian.{twos_complement, little_number}
-use Rattle.mask_runs.specs.Runs.{Literal, Repeat, Run, end_mark}
-use Rattle.mask_runs.specs.Fault.{HasCount, Faulty, count_zero, past_end, run_cut, end_count}
-use Rattle.mask_runs.specs.declared.read.Step.{Step}
-use Rattle.mask_runs.specs.declared.read.Step.TheVariants.{Taken, End, Fault}
-use Rattle.mask_runs.specs.Step.{TakesRun, ReadsBody, Reads}
+use Rattle.mask_runs.specs.Runs.{Literal, Repeat, MaskRun, end_mark}
+use Rattle.mask_runs.specs.Fault.{HasRunCount, IsWrongRun, count_zero, past_end, run_cut, end_count}
+use Rattle.mask_runs.specs.declared.read.RunStep.{RunStep}
+use Rattle.mask_runs.specs.declared.read.RunStep.TheVariants.{Taken, End, Fault}
+use Rattle.mask_runs.specs.inside.Steps.{TakesRun, ReadsRunBody, ReadsRun}
 
 -- each byte of a slice is below 256
 pub bytes_below : (bytes : List ℕ) → ((i : ℕ) → Fits w8 (get_or bytes i 0)) → All (λ byte. byte < 256) bytes
@@ -27,12 +27,12 @@ repeat_count (negsuc m) (suc n) h some e = omega (arith, ints)
 repeat_count (negsuc m) zero h some e = absurd (omega arith)
 
 -- enough bytes follow the count of a literal
-pub literal_first : (bytes : List ℕ) (count : ℤ) (n : ℕ) → All (λ byte. byte < 256) bytes → HasCount count bytes → pos 0 <ℤ count → unsigned_abs count ≡ n
+pub literal_first : (bytes : List ℕ) (count : ℤ) (n : ℕ) → All (λ byte. byte < 256) bytes → HasRunCount count bytes → pos 0 <ℤ count → unsigned_abs count ≡ n
     → 0 < n → n ≤ 32767 → n ≤ length (drop 2 bytes) → TakesRun bytes (take n (drop 2 bytes)) (2 + n) n
 literal_first [] count n all has above is some most long = absurd (omega (arith, has.0))
 literal_first (low ∷ []) count n all has above is some most long = absurd (omega (arith, has.0))
 literal_first (low ∷ high ∷ rest) count n all has above is some most long =
-    let run : Run = record { low = low; high = high; piece = Literal (take n rest) } in
+    let run : MaskRun = record { low = low; high = high; piece = Literal (take n rest) } in
     let cut : length (take n rest) ≡ n = length-take-le n rest long in
     let tail : All (λ byte. byte < 256) rest = All-tail (λ byte. byte < 256) high rest (All-tail (λ byte. byte < 256) low (high ∷ rest) all) in
     record {
@@ -52,13 +52,13 @@ literal_first (low ∷ high ∷ rest) count n all has above is some most long =
     }
 
 -- a byte follows the count of a repeat
-pub repeat_first : (bytes : List ℕ) (count : ℤ) (n : ℕ) → All (λ byte. byte < 256) bytes → HasCount count bytes → count ≤ℤ pos 0 → unsigned_abs count ≡ n
+pub repeat_first : (bytes : List ℕ) (count : ℤ) (n : ℕ) → All (λ byte. byte < 256) bytes → HasRunCount count bytes → count ≤ℤ pos 0 → unsigned_abs count ≡ n
     → 0 < n → n ≤ 32767 → 0 < length (drop 2 bytes) → TakesRun bytes (replicate n (get_or (drop 2 bytes) 0 0)) 3 n
 repeat_first [] count n all has above is some most long = absurd (omega (arith, has.0))
 repeat_first (low ∷ []) count n all has above is some most long = absurd (omega (arith, has.0))
 repeat_first (low ∷ high ∷ []) count n all has above is some most long = absurd (omega arith)
 repeat_first (low ∷ high ∷ byte ∷ rest) count n all has above is some most long =
-    let run : Run = record { low = low; high = high; piece = Repeat n byte } in
+    let run : MaskRun = record { low = low; high = high; piece = Repeat n byte } in
     let all_high = All-tail (λ byte. byte < 256) low (high ∷ byte ∷ rest) all in
     let all_body = All-tail (λ byte. byte < 256) high (byte ∷ rest) all_high in
     let long_is : length (replicate n byte) ≡ n = length-replicate n byte in
@@ -83,7 +83,7 @@ pub signed_is : (x : ℕ) → x < 65536 → cast_signed w16 x ≡ twos_complemen
 signed_is x h = grind (arith, ints)
 
 -- the count that two bytes are read as
-pub read_count : (bytes : List ℕ) (count : ℤ) → 2 ≤ length bytes → All (λ byte. byte < 256) bytes → count ≡ cast_signed w16 (little_number 2 bytes) → HasCount count bytes
+pub read_count : (bytes : List ℕ) (count : ℤ) → 2 ≤ length bytes → All (λ byte. byte < 256) bytes → count ≡ cast_signed w16 (little_number 2 bytes) → HasRunCount count bytes
 read_count [] count long all e = absurd (omega arith)
 read_count (low ∷ []) count long all e = absurd (omega arith)
 read_count (low ∷ high ∷ rest) count long all e =
@@ -93,7 +93,7 @@ read_count (low ∷ high ∷ rest) count long all e =
     (long, sym (e ∙ ap (cast_signed w16) number ∙ signed_is (low + 256 * high) (omega arith)))
 
 -- the count is that of the end mark
-pub end_first : (bytes : List ℕ) → All (λ byte. byte < 256) bytes → HasCount end_count bytes → bytes ≡ end_mark ++ drop 2 bytes
+pub end_first : (bytes : List ℕ) → All (λ byte. byte < 256) bytes → HasRunCount end_count bytes → bytes ≡ end_mark ++ drop 2 bytes
 end_first [] all has = absurd (omega (arith, has.0))
 end_first (low ∷ []) all has = absurd (omega (arith, has.0))
 end_first (low ∷ high ∷ rest) all has =
@@ -104,13 +104,13 @@ end_first (low ∷ high ∷ rest) all has =
     ap (λ n. n ∷ high ∷ rest) low_is ∙ ap (λ n. 0 ∷ n ∷ rest) high_is
 
 -- a count of no bytes, or of more bytes than the mask still has
-pub count_faulty : (bytes : List ℕ) (room n : ℕ) (count : ℤ) → HasCount count bytes → count ≢ end_count → unsigned_abs count ≡ n → (n ≡ 0) ⊎ ((n ≡ 0 → ⊥) × (room < n)) → Faulty bytes room
-count_faulty bytes room n (pos m) has other is (inl none) = count_zero (subst (λ k. HasCount (pos k) bytes) (is ∙ none) has)
+pub count_faulty : (bytes : List ℕ) (room n : ℕ) (count : ℤ) → HasRunCount count bytes → count ≢ end_count → unsigned_abs count ≡ n → (n ≡ 0) ⊎ ((n ≡ 0 → ⊥) × (room < n)) → IsWrongRun bytes room
+count_faulty bytes room n (pos m) has other is (inl none) = count_zero (subst (λ k. HasRunCount (pos k) bytes) (is ∙ none) has)
 count_faulty bytes room n (negsuc m) has other is (inl none) = absurd (omega arith)
 count_faulty bytes room n count has other is (inr past) = past_end count other has (omega arith)
 
 -- what the body of a run shows of the whole step
-pub step_of_body : (bytes old part : List ℕ) (count : ℤ) (n : ℕ) (step : Step) → HasCount count bytes → count ≢ end_count → n ≡ length part → ReadsBody bytes count part step → Reads bytes old (part ++ drop n old) step
+pub step_of_body : (bytes old part : List ℕ) (count : ℤ) (n : ℕ) (step : RunStep) → HasRunCount count bytes → count ≢ end_count → n ≡ length part → ReadsRunBody bytes count part step → ReadsRun bytes old (part ++ drop n old) step
 step_of_body bytes old part count n (Taken taken filled) has other is run =
     let same : n ≡ filled = is ∙ ap length run.gives ∙ sym run.filled_is in
     (part, (ap (λ k. part ++ drop k old) same, run))

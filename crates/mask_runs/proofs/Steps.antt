@@ -4,31 +4,31 @@ use Rattle.std.proofs.lemmas.List.{append_assoc, append-nil, length-append, leng
 use Rattle.std.proofs.lemmas.List.Concat.{flat_map-append}
 use Rattle.std.proofs.lemmas.List.Elements.{All-append, All-cons, All-nil}
 use borrow.Rule.Slice.PartMut.{put_mid, post_of}
-use Rattle.mask_runs.specs.Runs.{Run, IsRun, spelling, given, end_mark, Joined, Runs}
-use Rattle.mask_runs.specs.Fault.{Faulty, FirstFault, in_run, after_end}
-use Rattle.mask_runs.specs.Step.{Reads}
-use Rattle.mask_runs.specs.declared.read.Step.TheVariants.{Taken, End}
+use Rattle.mask_runs.specs.Runs.{MaskRun, IsRun, spelling, run_content, end_mark, AreJoinedRuns, Runs}
+use Rattle.mask_runs.specs.Fault.{IsWrongRun, FirstRunFault, in_run, after_end}
+use Rattle.mask_runs.specs.inside.Steps.{ReadsRun}
+use Rattle.mask_runs.specs.declared.read.RunStep.TheVariants.{Taken, End}
 
 -- no run stands in no bytes
-pub joined_none : Joined [] []
+pub joined_none : AreJoinedRuns [] []
 joined_none = record { runs = []; each = All-nil IsRun; spelled = refl; contents = refl }
 
 -- one run more
-pub joined_more : (bytes mask : List ℕ) (run : Run) → Joined bytes mask → IsRun run → Joined (bytes ++ spelling run) (mask ++ given run)
+pub joined_more : (bytes mask : List ℕ) (run : MaskRun) → AreJoinedRuns bytes mask → IsRun run → AreJoinedRuns (bytes ++ spelling run) (mask ++ run_content run)
 joined_more bytes mask run j is = record {
   runs = j.runs ++ run ∷ [];
   each = All-append IsRun j.runs (run ∷ []) j.each (All-cons IsRun run [] is (All-nil IsRun));
   spelled = ap (λ xs. xs ++ spelling run) j.spelled ∙ ap (λ xs. flat_map spelling j.runs ++ xs) (sym (append-nil (spelling run))) ∙ sym (flat_map-append spelling j.runs (run ∷ []));
-  contents = ap (λ xs. xs ++ given run) j.contents ∙ ap (λ xs. flat_map given j.runs ++ xs) (sym (append-nil (given run))) ∙ sym (flat_map-append given j.runs (run ∷ []));
+  contents = ap (λ xs. xs ++ run_content run) j.contents ∙ ap (λ xs. flat_map run_content j.runs ++ xs) (sym (append-nil (run_content run))) ∙ sym (flat_map-append run_content j.runs (run ∷ []));
 }
 
 -- one run in front
-pub joined_cons : (bytes mask : List ℕ) (run : Run) → IsRun run → Joined bytes mask → Joined (spelling run ++ bytes) (given run ++ mask)
+pub joined_cons : (bytes mask : List ℕ) (run : MaskRun) → IsRun run → AreJoinedRuns bytes mask → AreJoinedRuns (spelling run ++ bytes) (run_content run ++ mask)
 joined_cons bytes mask run is j = record {
   runs = run ∷ j.runs;
   each = All-cons IsRun run j.runs is j.each;
   spelled = ap (λ xs. spelling run ++ xs) j.spelled;
-  contents = ap (λ xs. given run ++ xs) j.contents;
+  contents = ap (λ xs. run_content run ++ xs) j.contents;
 }
 
 -- the bytes up to the place after a piece that comes first from a place on
@@ -56,11 +56,11 @@ take_put xs ys piece rest at k n within e size =
 pub record StepsOver (bytes out now : List ℕ) (at filled taken n : ℕ) : Type 0 where
   pub within : at + taken ≤ length bytes
   pub room : filled + n ≤ length now
-  pub joined : Joined (take (at + taken) bytes) (take (filled + n) now)
+  pub joined : AreJoinedRuns (take (at + taken) bytes) (take (filled + n) now)
   pub some : 2 ≤ taken
 
-pub steps_over : (bytes out new : List ℕ) (at filled taken n : ℕ) → at ≤ length bytes → filled ≤ length out → Joined (take at bytes) (take filled out)
-    → Reads (take (length bytes - at) (drop at bytes)) (take (length out - filled) (drop filled out)) new (Taken taken n)
+pub steps_over : (bytes out new : List ℕ) (at filled taken n : ℕ) → at ≤ length bytes → filled ≤ length out → AreJoinedRuns (take at bytes) (take filled out)
+    → ReadsRun (take (length bytes - at) (drop at bytes)) (take (length out - filled) (drop filled out)) new (Taken taken n)
     → StepsOver bytes out (put_mid filled (length out - filled) out new) at filled taken n
 steps_over bytes out new at filled taken n within room j (part, (put, run)) =
     let left = take (length bytes - at) (drop at bytes) in
@@ -69,12 +69,12 @@ steps_over bytes out new at filled taken n within room j (part, (put, run)) =
     let size : n ≡ length part = run.filled_is ∙ sym (ap length run.gives) in
     let read = take_piece bytes (spelling run.run) (drop taken left) at taken within run.spelled run.taken_is in
     let wrote = take_put out new part (drop n old) filled (length out - filled) n room put size in
-    let more : Joined (take at bytes ++ spelling run.run) (take filled out ++ given run.run) = joined_more (take at bytes) (take filled out) run.run j run.is_run in
-    let mask : take (filled + n) now ≡ take filled out ++ given run.run = wrote.1 ∙ ap (λ xs. take filled out ++ xs) run.gives in
+    let more : AreJoinedRuns (take at bytes ++ spelling run.run) (take filled out ++ run_content run.run) = joined_more (take at bytes) (take filled out) run.run j run.is_run in
+    let mask : take (filled + n) now ≡ take filled out ++ run_content run.run = wrote.1 ∙ ap (λ xs. take filled out ++ xs) run.gives in
     record {
       within = read.0;
       room = wrote.0;
-      joined = subst (λ (xs : List ℕ). Joined xs (take (filled + n) now)) (sym read.1) (subst (λ (xs : List ℕ). Joined (take at bytes ++ spelling run.run) xs) (sym mask) more);
+      joined = subst (λ (xs : List ℕ). AreJoinedRuns xs (take (filled + n) now)) (sym read.1) (subst (λ (xs : List ℕ). AreJoinedRuns (take at bytes ++ spelling run.run) xs) (sym mask) more);
       some = omega (arith, run.taken_is);
     }
 
@@ -84,8 +84,8 @@ pub record Ends (bytes now : List ℕ) (n at : ℕ) : Type 0 where
   pub full : length now ≡ n
   pub runs : Runs (take (at + 2) bytes) now
 
-pub ends : (bytes out new : List ℕ) (at filled : ℕ) → at ≤ length bytes → filled ≤ length out → Joined (take at bytes) (take filled out)
-    → Reads (take (length bytes - at) (drop at bytes)) (take (length out - filled) (drop filled out)) new End
+pub ends : (bytes out new : List ℕ) (at filled : ℕ) → at ≤ length bytes → filled ≤ length out → AreJoinedRuns (take at bytes) (take filled out)
+    → ReadsRun (take (length bytes - at) (drop at bytes)) (take (length out - filled) (drop filled out)) new End
     → Ends bytes (put_mid filled (length out - filled) out new) (length out) at
 ends bytes out new at filled within room j (end, (full, none)) =
     let left = take (length bytes - at) (drop at bytes) in
@@ -97,7 +97,7 @@ ends bytes out new at filled within room j (end, (full, none)) =
     record {
       within = read.0;
       full = ap length same ∙ length-take-le filled out room ∙ omega arith;
-      runs = (take at bytes, (read.1, subst (Joined (take at bytes)) (sym same) j));
+      runs = (take at bytes, (read.1, subst (AreJoinedRuns (take at bytes)) (sym same) j));
     }
 
 -- the end mark ends the bytes
@@ -105,16 +105,16 @@ pub ends_whole : (bytes now : List ℕ) (n at : ℕ) → Ends bytes now n at →
 ends_whole bytes now n at e whole = subst (λ (xs : List ℕ). Runs xs now) (take_all (at + 2) bytes (omega arith)) e.runs
 
 -- a byte stands after the end mark
-pub ends_before : (bytes now : List ℕ) (n at : ℕ) → Ends bytes now n at → (at + 2 ≡ length bytes → ⊥) → FirstFault bytes n (at + 2)
+pub ends_before : (bytes now : List ℕ) (n at : ℕ) → Ends bytes now n at → (at + 2 ≡ length bytes → ⊥) → FirstRunFault bytes n (at + 2)
 ends_before bytes now n at e more = let within = e.within in after_end now (omega arith) e.runs e.full
 
 -- the step finds a fault
-pub stops_here : (bytes out : List ℕ) (at filled : ℕ) → at ≤ length bytes → filled ≤ length out → Joined (take at bytes) (take filled out)
-    → Faulty (take (length bytes - at) (drop at bytes)) (length (take (length out - filled) (drop filled out)))
-    → FirstFault bytes (length out) at
+pub stops_here : (bytes out : List ℕ) (at filled : ℕ) → at ≤ length bytes → filled ≤ length out → AreJoinedRuns (take at bytes) (take filled out)
+    → IsWrongRun (take (length bytes - at) (drop at bytes)) (length (take (length out - filled) (drop filled out)))
+    → FirstRunFault bytes (length out) at
 stops_here bytes out at filled within room j faulty =
     let size : length (take filled out) ≡ filled = length-take-le filled out room in
     let left : length (take (length out - filled) (drop filled out)) ≡ length out - length (take filled out) =
     ap length (take_rest out filled) ∙ length-drop filled out ∙ ap (λ n. length out - n) (sym size) in
     in_run (take filled out) within j (omega arith)
-    (subst (λ n. Faulty (drop at bytes) n) left (subst (λ (xs : List ℕ). Faulty xs (length (take (length out - filled) (drop filled out)))) (take_rest bytes at) faulty))
+    (subst (λ n. IsWrongRun (drop at bytes) n) left (subst (λ (xs : List ℕ). IsWrongRun xs (length (take (length out - filled) (drop filled out)))) (take_rest bytes at) faulty))

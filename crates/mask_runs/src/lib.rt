@@ -9,7 +9,7 @@ mod laws;
 mod read;
 mod write;
 
-pub use laws::{pieces_go_on, repeats_are_found, runs_are_determined};
+pub use laws::{bytes_are_runs_or_go_wrong, pieces_go_on, repeats_are_found, runs_are_determined};
 pub use read::{RunFault, read_runs};
 pub use write::{runs_len, write_runs};
 

@@ -2,8 +2,8 @@
 
 ghost use Rattle.std.specs.Prelude.{◌≡◌, ◌≢◌, ℕ, unsigned_abs, ◌<◌, ◌≤◌, ◌↔◌, List, length, take, replicate, slice_index, MatchBool, OnOk, IsOk};
 ghost use Rattle.mask_runs.specs.Runs.{Runs};
-ghost use Rattle.mask_runs.specs.Fault.{FirstFault, HasCount, end_count};
-ghost use Rattle.mask_runs.specs.Step.{Reads, ReadsBody};
+ghost use Rattle.mask_runs.specs.Fault.{FirstRunFault, HasRunCount, end_count};
+ghost use Rattle.mask_runs.specs.inside.Steps.{ReadsRun, ReadsRunBody};
 
 use byteorder::{ByteOrder, LittleEndian};
 
@@ -19,7 +19,7 @@ pub struct RunFault {
 
 /// What comes first in some bytes, where so much of a mask is still to come.
 #[derive(Clone, Copy)]
-enum Step {
+enum RunStep {
     /// A run of so many bytes, which gave so many bytes of the mask.
     Taken(usize, usize),
     /// The end mark, at the end of the mask.
@@ -54,52 +54,52 @@ fn fill_repeat(body: &[u8], part: &mut [u8]) -> bool
     true
 }
 
-/// Reads the run whose count, which stands first, is `count`; `part` takes what it gives.
-fn read_body(bytes: &[u8], count: i16, part: &mut [u8]) -> Step
-    requires count { HasCount count bytes.now }
+/// ReadsRun the run whose count, which stands first, is `count`; `part` takes what it gives.
+fn read_body(bytes: &[u8], count: i16, part: &mut [u8]) -> RunStep
+    requires count { HasRunCount count bytes.now }
     requires length { unsigned_abs count ≡ length part.old }
     requires some { 0 < length part.old }
     requires not_end { count ≢ end_count }
-    ensures { ReadsBody bytes.now count part.new result }
+    ensures { ReadsRunBody bytes.now count part.new result }
 {
     let body = &bytes[2..];
     let given = part.len();
     if count > 0 {
         if copy_literal(body, part) {
-            Step::Taken(2 + given, given)
+            RunStep::Taken(2 + given, given)
         } else {
-            Step::Fault
+            RunStep::Fault
         }
     } else if fill_repeat(body, part) {
-        Step::Taken(3, given)
+        RunStep::Taken(3, given)
     } else {
-        Step::Fault
+        RunStep::Fault
     }
 }
 
-/// Reads the run or the end mark that comes first; `rest` is what is still to come of the mask.
-fn read_run(bytes: &[u8], rest: &mut [u8]) -> Step
-    ensures { Reads bytes.now rest.old rest.new result }
+/// ReadsRun the run or the end mark that comes first; `rest` is what is still to come of the mask.
+fn read_run(bytes: &[u8], rest: &mut [u8]) -> RunStep
+    ensures { ReadsRun bytes.now rest.old rest.new result }
 {
     if bytes.len() < 2 {
-        return Step::Fault;
+        return RunStep::Fault;
     }
     let count = LittleEndian::read_i16(bytes);
     if count == i16::MIN {
         return if rest.is_empty() {
-            Step::End
+            RunStep::End
         } else {
-            Step::Fault
+            RunStep::Fault
         };
     }
     let given = usize::from(count.unsigned_abs());
     if given == 0 || given > rest.len() {
-        return Step::Fault;
+        return RunStep::Fault;
     }
     read_body(bytes, count, &mut rest[..given])
 }
 
-/// Reads the runs of a mask into `out`, which has the mask's length.
+/// ReadsRun the runs of a mask into `out`, which has the mask's length.
 ///
 /// After a fault `out` has any content.
 pub fn read_runs(bytes: &[u8], out: &mut [u8]) -> Result<(), RunFault>
@@ -107,17 +107,17 @@ pub fn read_runs(bytes: &[u8], out: &mut [u8]) -> Result<(), RunFault>
     ensures complete { (mask : List ℕ) → length mask ≡ length out.old → Runs bytes.now mask
         → IsOk result × (out.new ≡ mask) }
     ensures fault { (place : ℕ)
-        → (result ≡ Err (record { at = place })) ↔ FirstFault bytes.now (length out.old) place }
+        → (result ≡ Err (record { at = place })) ↔ FirstRunFault bytes.now (length out.old) place }
 {
     let mut at = 0;
     let mut filled = 0;
     loop {
         match read_run(&bytes[at..], &mut out[filled..]) {
-            Step::Taken(taken, given) => {
+            RunStep::Taken(taken, given) => {
                 at += taken;
                 filled += given;
             }
-            Step::End => {
+            RunStep::End => {
                 at += 2;
                 return if at == bytes.len() {
                     Ok(())
@@ -125,7 +125,7 @@ pub fn read_runs(bytes: &[u8], out: &mut [u8]) -> Result<(), RunFault>
                     Err(RunFault { at })
                 };
             }
-            Step::Fault => return Err(RunFault { at }),
+            RunStep::Fault => return Err(RunFault { at }),
         }
     }
 }

@@ -2,8 +2,8 @@
 
 ghost use Rattle.std.specs.Prelude.{◌≡◌, ◌^◌, ◌<◌, ◌≤◌, ◌++◌, min, length, drop};
 ghost use Rattle.mask_runs.specs.Runs.{Runs};
-ghost use Rattle.mask_runs.specs.Chosen.{equal_bytes, before_repeat, written, chosen_runs};
-ghost use Rattle.mask_runs.specs.Step.{IsFirst, piece_of, count_in, size_in};
+ghost use Rattle.mask_runs.specs.Chosen.{equal_bytes, before_repeat, piece_bytes, chosen_runs};
+ghost use Rattle.mask_runs.specs.inside.Steps.{IsFirstChoice, piece_of, count_in, size_in};
 
 use byteorder::{ByteOrder, LittleEndian};
 
@@ -75,7 +75,7 @@ fn literal_first(mask: &[u8]) -> usize
 /// The first piece of a mask that is not empty.
 fn first_choice(mask: &[u8]) -> Choice
     requires { 0 < length mask.now }
-    ensures { IsFirst mask.now result }
+    ensures { IsFirstChoice mask.now result }
 {
     let equal = equal_first(mask);
     if equal >= LEAST_REPEAT {
@@ -87,9 +87,9 @@ fn first_choice(mask: &[u8]) -> Choice
 
 /// Writes the run of the first piece of a mask.
 fn write_choice(choice: Choice, mask: &[u8], out: &mut [u8])
-    requires first { IsFirst mask.now choice }
+    requires first { IsFirstChoice mask.now choice }
     requires room { size_in choice ≤ length out.old }
-    ensures { out.new ≡ written (piece_of mask.now choice) ++ drop (size_in choice) out.old }
+    ensures { out.new ≡ piece_bytes (piece_of mask.now choice) ++ drop (size_in choice) out.old }
 {
     match choice {
         Choice::Literal(count) => {
@@ -120,9 +120,9 @@ pub fn runs_len(mask: &[u8]) -> usize
 
 /// Writes the chosen runs of a mask into `out`, which has the length that `runs_len` tells.
 ///
-/// At a place from which five or more bytes are equal, the run is a repeat of all of them. Else it is
-/// a literal up to the next such place, or up to the end of the mask. No run gives more than 32,767
-/// bytes. The end mark comes last.
+/// At a place from which five or more bytes are equal, the run is a repeat of all of them. Else it
+/// is a literal up to the next such place, or up to the end of the mask. No run gives more than
+/// 32,767 bytes. The end mark comes last.
 pub fn write_runs(mask: &[u8], out: &mut [u8])
     requires size { length mask.now ≤ 2 ^ 21 }
     requires room { length out.old ≡ length (chosen_runs mask.now) }

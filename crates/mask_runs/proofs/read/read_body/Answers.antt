@@ -1,7 +1,7 @@
 use Rattle.std.proofs.Common.{◌≡◌, ℕ, pos, ◌+◌, ◌-◌, ◌<◌, ◌≤◌, ◌<ℤ◌, ◌≤ℤ◌, List, length, take, drop, replicate, slice_index, ap, sym, ◌∙◌, subst, arith}
 use Rattle.std.proofs.lemmas.Int.{ints}
 use Rattle.std.proofs.lemmas.List.{take_rest}
-use Rattle.mask_runs.specs.Step.{TakesRun}
+use Rattle.mask_runs.specs.inside.Steps.{TakesRun}
 use Rattle.mask_runs.proofs.Reading.{bytes_below, literal_first, repeat_first}
 use Rattle.mask_runs.proofs.read.read_body.Goals as goal
 

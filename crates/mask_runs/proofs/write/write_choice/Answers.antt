@@ -1,6 +1,6 @@
 use Rattle.std.proofs.Common.{◌≤◌, subst, arith}
 use Rattle.std.proofs.lemmas.Int.{ints}
-use Rattle.mask_runs.specs.Step.{count_in}
+use Rattle.mask_runs.specs.inside.Steps.{count_in}
 use Rattle.mask_runs.proofs.Writing.{literal_written}
 use Rattle.mask_runs.proofs.write.write_choice.Goals as goal
 

@@ -2,8 +2,8 @@ use Rattle.std.proofs.Common.{◌≡◌, ◌+◌, ◌-◌, ◌++◌, List, ℕ, 
 use Rattle.std.proofs.lemmas.List.{take_rest}
 use borrow.Rule.Slice.PartMut.{put_mid}
 use Rattle.mask_runs.specs.Runs.{Runs}
-use Rattle.mask_runs.specs.Chosen.{written}
-use Rattle.mask_runs.specs.Step.{IsFirst, piece_of, size_in, count_in}
+use Rattle.mask_runs.specs.Chosen.{piece_bytes}
+use Rattle.mask_runs.specs.inside.Steps.{IsFirstChoice, piece_of, size_in, count_in}
 use Rattle.mask_runs.proofs.Reading.{bytes_below}
 use Rattle.mask_runs.proofs.Chosen.{chosen_are_runs}
 use Rattle.mask_runs.proofs.Writing.{Written, written_more, written_end}
@@ -15,9 +15,9 @@ loop-from-preserved c =
     let choice = c.first_choice-choice.result in
     let rest = take_rest mask c.loop-from.from in
     let left = take (length c.loop-from.out - c.loop-from.to) (drop c.loop-from.to c.loop-from.out) in
-    let first : IsFirst (drop c.loop-from.from mask) choice = subst (λ (xs : List ℕ). IsFirst xs choice) rest c.first_choice-choice.ensures in
-    let wrote : c.write_choice.new.out ≡ written (piece_of (drop c.loop-from.from mask) choice) ++ drop (size_in choice) left =
-    c.write_choice.ensures ∙ ap (λ (xs : List ℕ). written (piece_of xs choice) ++ drop (size_in choice) left) rest in
+    let first : IsFirstChoice (drop c.loop-from.from mask) choice = subst (λ (xs : List ℕ). IsFirstChoice xs choice) rest c.first_choice-choice.ensures in
+    let wrote : c.write_choice.new.out ≡ piece_bytes (piece_of (drop c.loop-from.from mask) choice) ++ drop (size_in choice) left =
+    c.write_choice.ensures ∙ ap (λ (xs : List ℕ). piece_bytes (piece_of xs choice) ++ drop (size_in choice) left) rest in
     let now = put_mid c.loop-from.to (length c.loop-from.out - c.loop-from.to) c.loop-from.out c.write_choice.new.out in
     let more = written_more mask c.loop-from.out c.write_choice.new.out (drop (size_in choice) left) c.loop-from.from c.loop-from.to choice c.loop-from-test.true c.loop-from.invariant first wrote c.write_choice.auto.out in
     subst (λ n. Written mask now (c.loop-from.from + n) (c.loop-from.to + c.size-to.result)) (sym c.given-from.ensures)

@@ -1,0 +1,9 @@
+pub mod Alike
+pub mod Blobs
+pub mod Fronts
+pub mod Heads
+pub mod Images
+pub mod Masks
+pub mod More
+pub mod Rasters
+pub mod Verdicts

@@ -1,0 +1,2 @@
+-- Words of the private functions: nothing here has to be believed.
+pub mod Steps
