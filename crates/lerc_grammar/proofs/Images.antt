@@ -14,7 +14,7 @@ use Rattle.lerc_header.specs.declared.header.Version.{Version}
 use Rattle.lerc_header.specs.declared.header.Version.TheVariants.{V3, V4}
 use Rattle.lerc_grammar.specs.declared.fault.BlobReason.{BlobReason}
 use Rattle.lerc_grammar.specs.declared.fault.BlobReason.TheVariants.{NotYet, BadSweep, PastEnd, Leftover}
-use Rattle.lerc_grammar.specs.Image.{Ends, IsFront, front_faults, AreEqual, one_list, IsBare, value_count, IsCoded, sweep, IsImage, empty, constant, ranges, coded, sweep_faults, Insides, insides, coded_of, behind_front, image_faults}
+use Rattle.lerc_grammar.specs.Image.{Ends, IsFront, front_faults, AreEqual, one_list, IsBare, value_count, IsCoded, sweep, IsImage, empty, constant, ranges, coded, sweep_faults, Insides, insides, coded_of, behind_front, image_faults_of, image_faults}
 use Rattle.lerc_grammar.proofs.Fronts.{split_front}
 use Rattle.lerc_grammar.proofs.Alike.{AreAlike, raster_deep}
 use Rattle.lerc_grammar.proofs.Rasters.{AreDeep, pixels_once}
@@ -110,11 +110,11 @@ empty-coded h front bytes r (sweep d e a n) =
 single-sweep : (h : Header) (bytes : List ℕ) → IsSingle (sweep_faults h bytes)
 single-sweep h bytes = single-unless (value_count h * bytes_of h.kind ≤ length bytes) PastEnd 0 _ (single-moved _ _ (single-ends Leftover (drop (value_count h * bytes_of h.kind) bytes)))
 
-single-coded : (h : Header) (marks : List Bool) (front : Option Ends) (bytes : List ℕ) → IsSingle (coded_of (insides h marks front) bytes)
-single-coded h marks front bytes =
+pub single-coded_of : (i : Insides) → ((rest : List ℕ) → IsSingle (i.sweep rest)) → (bytes : List ℕ) → IsSingle (coded_of i bytes)
+single-coded_of i single bytes =
     single-unless (0 < length bytes) PastEnd 0 _
     (single-unless (slice_index bytes 0 ≤ 1) BadSweep 0 _
-    (single-moved 1 _ (single-choice (slice_index bytes 0 ≡ 1) (sweep_faults h (drop 1 bytes)) (wrong NotYet 0) (single-sweep h (drop 1 bytes)) (single-wrong NotYet 0))))
+    (single-moved 1 _ (single-choice (slice_index bytes 0 ≡ 1) (i.sweep (drop 1 bytes)) (wrong NotYet 0) (single (drop 1 bytes)) (single-wrong NotYet 0))))
 
 -- ---- whole images
 
@@ -164,8 +164,11 @@ empty-image h bytes r (coded b l x f j i q c) =
     (empty-in_order (IsFront h h.version) (front_faults h h.version) (behind_front (insides h (marks_of r))) (front_part h) l x f i
     (empty-failed (AreEqual f) (ends Leftover x) (coded_of (insides h (marks_of r) f) x) q (empty-coded h f x r c))))
 
+pub single-image_of : (i : Option Ends → Insides) → ((front : Option Ends) (rest : List ℕ) → IsSingle ((i front).sweep rest)) → (h : Header) (bytes : List ℕ) → IsSingle (image_faults_of i h bytes)
+single-image_of i single h bytes =
+    single-choice (IsBare h) (ends Leftover bytes) (in_order (IsFront h h.version) (front_faults h h.version) (behind_front i) bytes) (single-ends Leftover bytes)
+    (single-in_order (IsFront h h.version) (front_faults h h.version) (behind_front i) (front_part h)
+    (λ x rest. single-choice (AreEqual x) (ends Leftover rest) (coded_of (i x) rest) (single-ends Leftover rest) (single-coded_of (i x) (single x) rest)) bytes)
+
 pub single-image : (h : Header) (marks : List Bool) (bytes : List ℕ) → IsSingle (image_faults h marks bytes)
-single-image h marks bytes =
-    single-choice (IsBare h) (ends Leftover bytes) (fronted h marks bytes) (single-ends Leftover bytes)
-    (single-in_order (IsFront h h.version) (front_faults h h.version) (behind_front (insides h marks)) (front_part h)
-    (λ x rest. single-choice (AreEqual x) (ends Leftover rest) (coded_of (insides h marks x) rest) (single-ends Leftover rest) (single-coded h marks x rest)) bytes)
+single-image h marks bytes = single-image_of (insides h marks) (λ front rest. single-sweep h rest) h bytes

@@ -7,3 +7,8 @@ pub mod Masks
 pub mod More
 pub mod Rasters
 pub mod Verdicts
+pub mod Exact
+pub mod Owed
+pub mod Lists
+pub mod Forms
+pub mod Bytes

@@ -1,8 +1,10 @@
+pub mod Blob
 pub mod Flat
 pub mod Header
-pub mod Mask
 pub mod Image
-pub mod Blob
-pub mod Verdict
-pub mod Near
 pub mod Laws
+pub mod Mask
+pub mod Near
+pub mod Outline
+pub mod Verdict
+pub mod inside

@@ -1,0 +1,31 @@
+-- How far the parts in front of runs and values reach.
+use Rattle.std.specs.Prelude.{◌≡◌, ℕ, pos, ◌+◌, ◌*◌, ◌<◌, ◌≤◌, ◌↔◌, Bool, true, false, IsTrue, List, [], ◌∷◌, length, take, Option}
+use Rattle.lerc_grammar.specs.declared.outline.ImageForm.{ImageForm}
+use Rattle.lerc_grammar.specs.declared.outline.ImageForm.TheVariants.{Ranges, Sweep}
+use Rattle.raster_values.specs.Kind.{bytes_of}
+use Rattle.lerc_header.specs.declared.header.Header.{Header}
+use Rattle.lerc_header.specs.declared.header.Version.{Version}
+use Rattle.lerc_header.specs.declared.header.Version.TheVariants.{V3, V4}
+use Rattle.lerc_header.specs.Head.{i32_at}
+use Rattle.lerc_grammar.specs.Mask.{IsAlike}
+use Rattle.lerc_grammar.specs.Image.{Ends, IsFront, AreEqual}
+
+-- the mask's length is n, and n bytes of runs follow it, which is none where all pixels are alike
+pub record IsMaskSpan (pixels valid : ℕ) (rest : List ℕ) (n : ℕ) : Type 0 where
+  pub there : 4 + n ≤ length rest
+  pub number : i32_at rest 0 ≡ pos n
+  pub alike : IsAlike pixels valid → n ≡ 0
+  pub mixed : ¬ IsAlike pixels valid → 0 < n
+
+-- the lists take so many bytes, and this tells whether they are equal
+pub record IsFrontSpan (h : Header) (rest : List ℕ) (used : ℕ) (equal : Bool) : Type 0 where
+  pub within : used ≤ length rest
+  pub front : Option Ends
+  pub stands : IsFront h h.version (take used rest) front
+  pub tells : IsTrue equal ↔ AreEqual front
+
+-- the form that is told behind the lists, which stand before this place of the blob
+abbrev pub IsFormBehind : Bool → ℕ → List ℕ → ImageForm → Type 0
+IsFormBehind true place rest form = (rest ≡ []) × (form ≡ Ranges)
+IsFormBehind false place rest form =
+    (values : List ℕ) × ((rest ≡ 1 ∷ values) × (form ≡ Sweep (place + 1)))
