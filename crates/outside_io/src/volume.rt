@@ -32,7 +32,8 @@ pub enum VolFile {
 /// Two files and one clock. A file that does not exist is a file of length 0.
 ///
 /// Each call but `moment` takes one moment of the clock, whatever it answers, and leaves the files of every
-/// earlier moment as they were. At the clock's end, 2^64 - 1, each of them answers Failed and changes nothing.
+/// earlier moment as they were. At the clock's end, 2^64 - 1, each of them answers Failed, and changes neither the
+/// clock nor the files; the count of faults may rise.
 /// A call on one file leaves the other as it was. What a crash inside a call leaves is an image of the moment
 /// before the call or of the moment after it.
 pub trait Volume {

@@ -1,9 +1,6 @@
 -- Sources and sinks in memory, as contracts see them.
-use Rattle.std.specs.Prelude.{ℕ, ◌+◌, ◌-◌, min, List, ◌++◌, take, drop}
-
--- A count after one more, which stays at its greatest, 2 ^ 64 - 1.
-abbrev pub one_more : ℕ → ℕ
-one_more count = min (count + 1) 18446744073709551615
+use Rattle.std.specs.Prelude.{ℕ, ◌-◌, List, ◌++◌, take, drop}
+use Rattle.outside_io.specs.streams.Faults.{one_more}
 
 -- A source: the bytes left, how many a call takes at most, the numbers of the calls that fail, the number of the next
 -- call and the count of faults.

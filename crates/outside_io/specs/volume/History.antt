@@ -26,7 +26,8 @@ pub record ReadsAt (file : List ℕ) (at n : ℕ) (old new : List ℕ) : Type 0 
   pub count : n ≡ min (length old) (length file - at)
   pub bytes : new ≡ take n (drop at file) ++ drop n old
 
--- A call takes one moment, and leaves the earlier ones as they were. At the clock's end it fails and changes nothing.
+-- A call takes one moment, and leaves the earlier ones as they were. At the clock's end it fails, and neither the
+-- clock nor the files change.
 pub record Ticks {T E : Type 0} (old new : History) (result : Result T E) : Type 0 where
   pub later : old.moment ≤ new.moment
   pub clock : new.moment ≡ min (old.moment + 1) (2 ^ 64 - 1)

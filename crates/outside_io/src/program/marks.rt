@@ -1,4 +1,4 @@
-ghost use Rattle.std.specs.Prelude.{◌≡◌, ◌+◌, ◌-◌, ◌<◌, ◌≤◌, ℕ, [], ◌∷◌, ◌++◌, Some, OnOk, OnErr, length, max, slice_get};
+ghost use Rattle.std.specs.Prelude.{◌≡◌, ◌+◌, ◌-◌, ◌<◌, ◌≤◌, ℕ, [], ◌∷◌, ◌++◌, Some, OnOk, OnErr, IsTrue, ◌↔◌, length, max, slice_get};
 
 use std::alloc::{AllocError, Global};
 use std::marker::Model;
@@ -38,6 +38,13 @@ impl Marks {
         ensures { result ≡ length self.now.marks }
     {
         self.items.len()
+    }
+
+    /// Whether there is none.
+    pub fn is_empty(&self) -> bool
+        ensures { IsTrue result ↔ (length self.now.marks ≡ 0) }
+    {
+        self.items.is_empty()
     }
 
     /// The mark with number i, counted from 0.
@@ -83,11 +90,11 @@ mod tests {
     #[test]
     fn marks_in_their_order(rt: HostRuntime) -> Result<(), Fail> {
         let mut marks = Marks::new(rt.alloc());
-        assert_eq!(rt; marks.len(), 0);
+        assert_eq!(rt; (marks.len(), marks.is_empty()), (0, true));
         assert_eq!(rt; marks.reserve(2), Ok(()));
         marks.add(40);
         marks.add(2);
-        assert_eq!(rt; marks.len(), 2);
+        assert_eq!(rt; (marks.len(), marks.is_empty()), (2, false));
         assert_eq!(rt; (marks.at(0), marks.at(1)), (40, 2));
         Ok(())
     }

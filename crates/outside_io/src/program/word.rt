@@ -107,6 +107,11 @@ mod tests {
             assert_eq!(rt; word.as_slice(), text.as_bytes());
             assert_eq!(rt; word.number(), want, "of {text}");
         }
+
+        // A word need be no text.
+        let word = Word::new(vec![in rt.alloc(); 0xff, b'1']?);
+        assert_eq!(rt; word.as_slice(), [0xff, b'1'].as_slice());
+        assert_eq!(rt; word.number(), None);
         Ok(())
     }
 }

@@ -148,6 +148,17 @@ mod tests {
     }
 
     #[test]
+    fn nothing_is_taken_behind_a_failure(rt: HostRuntime) -> Result<(), Fail> {
+        let failing = Bytes::of(rt.alloc(), b"\x01")?;
+        let mut source = MemSource::new(Bytes::of(rt.alloc(), TEXT)?, 2, failing);
+        let mut buf = [0; 6];
+        assert_eq!(rt; take_all(&mut source, &mut buf), Err(Failed));
+        assert_eq!(rt; take_all(&mut source, &mut buf), Ok(6));
+        assert_eq!(rt; &buf[..], b"ne byt".as_slice());
+        Ok(())
+    }
+
+    #[test]
     fn all_of_a_front(rt: HostRuntime) -> Result<(), Fail> {
         for piece in [1, 7] {
             assert!(rt; piece > 0);

@@ -23,10 +23,11 @@ pub trait Sink {
 }
 
 /// Gives all the bytes, in as many calls as the sink wants. It ends at the first failure, where the sink has taken
-/// a prefix of them. It takes no memory.
+/// a prefix of them. It gives no empty piece, and takes no memory.
 pub fn give_all<K: Sink>(sink: &mut K, bytes: &[u8]) -> Result<(), Failed>
     ensures ok { OnOk result (Holds (K.held sink.old) (K.held sink.new) bytes.now) }
     ensures err { OnErr result (HoldsPrefix (K.held sink.old) (K.held sink.new) bytes.now) }
+    ensures unchanged { length bytes.now ≡ 0 → sink.new ≡ sink.old }
     ensures counted { CountsFaults result (K.faults sink.old) (K.faults sink.new) }
 {
     let mut at = 0;

@@ -1,4 +1,4 @@
-ghost use Rattle.std.specs.Prelude.{◌≡◌, ℕ, ◌<◌, ◌≤◌, List, Option, IfOk, OnErr, Ok, length};
+ghost use Rattle.std.specs.Prelude.{◌≡◌, ℕ, ◌-◌, ◌<◌, ◌≤◌, List, Option, IfOk, OnErr, Ok, length};
 ghost use Rattle.outside_io.specs.streams.Faults.{CountsFaults};
 ghost use Rattle.outside_io.specs.streams.Source.{Takes, TakesFront, TakesUpTo, IsAtEnd};
 
@@ -27,12 +27,13 @@ pub trait Source {
 }
 
 /// Takes bytes until the buffer is full or none is left, and answers how many. It ends at the first failure, and
-/// the bytes taken up to there are lost.
+/// the bytes taken up to there, fewer than the buffer takes, are lost. It makes no call for no bytes.
 pub fn take_all<S: Source>(source: &mut S, buf: &mut [u8]) -> Result<usize, Failed>
     ensures within { IfOk result (λ n. n ≤ length buf.new) }
     ensures bytes { IfOk result (λ n. TakesFront (S.left source.old) (S.left source.new) n buf.new) }
     ensures end { IfOk result (λ n. n < length buf.new → IsAtEnd (S.left source.new)) }
-    ensures err { OnErr result (TakesUpTo (length buf.new) (S.left source.old) (S.left source.new)) }
+    ensures err { OnErr result (TakesUpTo (length buf.new - 1) (S.left source.old) (S.left source.new)) }
+    ensures unchanged { length buf.old ≡ 0 → source.new ≡ source.old }
     ensures counted { CountsFaults result (S.faults source.old) (S.faults source.new) }
 {
     let mut at = 0;

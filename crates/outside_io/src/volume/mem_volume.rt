@@ -1,9 +1,9 @@
 ghost use Rattle.std.specs.Prelude.{◌≡◌, ◌↔◌, ℕ, ◌+◌, ◌-◌, ◌^◌, ◌<◌, ◌≤◌, [], None, min, length, IsTrue, IfOk, IsErr, IsSomeAnd, OnOk, OnErr, Contains};
 ghost use Rattle.outside_io.specs.volume.Disk.{FailedCut, FailedWrite, IsDiskImage, Struck, change, file_of, shortened, synced, wrote};
-ghost use Rattle.outside_io.specs.streams.Faults.{CountsFaults};
+ghost use Rattle.outside_io.specs.streams.Faults.{CountsFaults, one_more};
 ghost use Rattle.outside_io.specs.volume.History.{ReadsAt, Ticks, contents, current};
 ghost use Rattle.outside_io.specs.volume.Pick.{IsPicked};
-ghost use Rattle.outside_io.specs.volume.Recorded.{Answers, MustFail, first_record, history_of, disk_after, sum_written};
+ghost use Rattle.outside_io.specs.volume.Recorded.{KeepsRecord, MustFail, MustFailToWrite, first_record, history_of, disk_after, sum_written};
 ghost use Rattle.outside_io.specs.inside.Effects.{Fits, EndsWithin};
 ghost use Rattle.outside_io.specs.volume.Sparse.{sparse_bytes};
 
@@ -45,7 +45,8 @@ impl Model for MemVolume {
 
 impl MemVolume {
     /// A volume whose files hold `bundle` and `journal`, with nothing pending on them. A call fails exactly where its
-    /// number is in `failing`, or not below `stop` or `calls`, or where it would write more than `room` bytes in all.
+    /// number is in `failing`, or not below `stop` or `calls`, or where it is a write after which more than `room` bytes
+    /// would have been written.
     /// All its memory is taken here; want of it is the only error.
     pub fn new(
         alloc: Global,
@@ -119,18 +120,23 @@ impl MemVolume {
         image(alloc, start, &self.log[..upto], &self.written, file, pick)
     }
 
-    // Whether the next call, which would write so many bytes, has to fail.
-    fn must_fail(&self, more: usize) -> bool
-        ensures { IsTrue result ↔ MustFail self.now more }
+    // Whether the next call has to fail, whatever it is.
+    fn must_fail(&self) -> bool
+        ensures { IsTrue result ↔ MustFail self.now }
     {
         let number = self.clock;
         if is_named(&self.failing, number) || is_reached(self.stop, number) {
             return true;
         }
-        if self.calls as u64 <= number || number == u64::MAX {
-            return true;
-        }
-        more > self.room - self.written.len()
+        self.calls as u64 <= number || number == u64::MAX
+    }
+
+    // Whether so many more bytes can be written.
+    fn has_room(&self, more: usize) -> bool
+        ensures exact { IsTrue result ↔ (sum_written self.now.effects + more ≤ self.now.room) }
+        ensures none { more ≡ 0 → IsTrue result }
+    {
+        more <= self.room - self.written.len()
     }
 
     // Takes the moment of a call that fails.
@@ -141,6 +147,7 @@ impl MemVolume {
         ensures counted { CountsFaults result self.old.faults self.new.faults }
         ensures kept { self.new ≡ record self.old { effects = self.new.effects; clock = self.new.clock; faults = self.new.faults } }
         ensures written { sum_written self.new.effects ≡ sum_written self.old.effects }
+        ensures one_fault { self.new.faults ≡ one_more self.old.faults }
     {
         self.faults = self.faults.saturating_add(1);
         if self.clock >= self.calls as u64 {
@@ -154,7 +161,8 @@ impl MemVolume {
 
     // Notes a call that must not fail.
     fn note(&mut self, ask: Ask, bytes: &[u8])
-        requires passes { MustFail self.old (length bytes.now) → ⊥ }
+        requires passes { MustFail self.old → ⊥ }
+        requires space { sum_written self.old.effects + length bytes.now ≤ self.old.room }
         requires fits { Fits ask (current (history_of self.old)) }
         requires end { EndsWithin ask (length bytes.now) }
         ensures disk { current (history_of self.new) ≡ disk_after ask bytes.now (current (history_of self.old)) }
@@ -178,9 +186,11 @@ impl MemVolume {
         ensures err { OnErr result (current (history_of self.new) ≡ current (history_of self.old)) }
         ensures time { Ticks (history_of self.old) (history_of self.new) result }
         ensures counted { CountsFaults result self.old.faults self.new.faults }
-        ensures answers { Answers self.old self.new (length bytes.now) result }
+        ensures fails { IsErr result ↔ MustFailToWrite self.old (length bytes.now) }
+        ensures fails_alone { length bytes.now ≡ 0 → IsErr result ↔ MustFail self.old }
+        ensures keeps { KeepsRecord self.old self.new (length bytes.now) result }
     {
-        if self.must_fail(bytes.len()) {
+        if self.must_fail() || !self.has_room(bytes.len()) {
             return self.fail();
         }
         self.note(ask, bytes);
@@ -247,7 +257,8 @@ impl Volume for MemVolume {
         ensures disk { current (history_of self.new) ≡ current (history_of self.old) }
         ensures time { Ticks (history_of self.old) (history_of self.new) result }
         ensures counted { CountsFaults result self.old.faults self.new.faults }
-        ensures exactly { Answers self.old self.new 0 result }
+        ensures fails { IsErr result ↔ MustFail self.old }
+        ensures keeps { KeepsRecord self.old self.new 0 result }
     {
         self.call(Ask::Look, &[])?;
         Ok(self.held_len(file))
@@ -259,7 +270,8 @@ impl Volume for MemVolume {
         ensures disk { current (history_of self.new) ≡ current (history_of self.old) }
         ensures time { Ticks (history_of self.old) (history_of self.new) result }
         ensures counted { CountsFaults result self.old.faults self.new.faults }
-        ensures exactly { Answers self.old self.new 0 result }
+        ensures fails { IsErr result ↔ MustFail self.old }
+        ensures keeps { KeepsRecord self.old self.new 0 result }
     {
         self.call(Ask::Look, &[])?;
         Ok(self.give(file, at, buf))
@@ -273,7 +285,8 @@ impl Volume for MemVolume {
         ensures crash { Struck file (wrote at bytes.now) (current (history_of self.old)) (current (history_of self.new)) }
         ensures time { Ticks (history_of self.old) (history_of self.new) result }
         ensures counted { CountsFaults result self.old.faults self.new.faults }
-        ensures exactly { Answers self.old self.new (length bytes.now) result }
+        ensures fails { IsErr result ↔ MustFailToWrite self.old (length bytes.now) }
+        ensures keeps { KeepsRecord self.old self.new (length bytes.now) result }
     {
         self.call(Ask::Write(file, at), bytes)
     }
@@ -285,7 +298,8 @@ impl Volume for MemVolume {
         ensures crash { Struck file (shortened len) (current (history_of self.old)) (current (history_of self.new)) }
         ensures time { Ticks (history_of self.old) (history_of self.new) result }
         ensures counted { CountsFaults result self.old.faults self.new.faults }
-        ensures exactly { Answers self.old self.new 0 result }
+        ensures fails { IsErr result ↔ MustFail self.old }
+        ensures keeps { KeepsRecord self.old self.new 0 result }
     {
         self.call(Ask::Cut(file, len), &[])
     }
@@ -296,7 +310,8 @@ impl Volume for MemVolume {
         ensures crash { Struck file (λ f. f) (current (history_of self.old)) (current (history_of self.new)) }
         ensures time { Ticks (history_of self.old) (history_of self.new) result }
         ensures counted { CountsFaults result self.old.faults self.new.faults }
-        ensures exactly { Answers self.old self.new 0 result }
+        ensures fails { IsErr result ↔ MustFail self.old }
+        ensures keeps { KeepsRecord self.old self.new 0 result }
     {
         self.call(Ask::Sync(file), &[])
     }
