@@ -1,8 +1,9 @@
-//! The outside of a program: where bytes come from and where they go to (`streams`), the two files of a store
-//! (`volume`), and the words, lines and reports of a command line (`program`). It stands on std and itoa.
+//! The outside of a program: where bytes come from and where they go to (`streams`), the two files
+//! of a store (`volume`), and the words, lines and reports of a command line (`program`). It
+//! stands on std and itoa.
 //!
-//! The contract that the layers above use: a call answers `Failed` only where the object's own count of
-//! faults rose in that call or stands at its greatest.
+//! The contract that the layers above use: a call answers `Failed` only where the object's own
+//! count of faults rose in that call or stands at its greatest.
 #![tactic(auto)]
 
 mod laws;

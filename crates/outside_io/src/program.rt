@@ -1,5 +1,5 @@
-//! What a program is given and what it ends with: the words of its command line, its lines, its marks
-//! and its report.
+//! What a program is given and what it ends with: the words of its command line, its lines, its
+//! marks and its report.
 
 mod line;
 mod marks;

@@ -1,4 +1,5 @@
-//! Where bytes come from and where they go to: the two traits, their forms in memory and over std, and bytes in memory.
+//! Where bytes come from and where they go to: the two traits, their forms in memory and over std,
+//! and bytes in memory.
 
 mod bytes;
 mod failed;

@@ -11,4 +11,5 @@ and_number n = 32 ∷ decimal n
 abbrev pub GivesLine : Option (List ℕ) → Option (List ℕ) → ℕ → ℕ → List ℕ → Type 0
 GivesLine old new faults_old faults_new line =
     (Holds old new line × (faults_new ≡ faults_old))
-    ⊎ (HoldsPrefix old new line × ((faults_old ≤ faults_new) × FailedBetween faults_old faults_new))
+    ⊎ (HoldsPrefix old new line
+    × ((faults_old ≤ faults_new) × FailedBetween faults_old faults_new))

@@ -2,7 +2,8 @@
 use Rattle.std.specs.Prelude.{◌+◌, min, ◌≡◌, ℕ, ◌≤◌, ◌<◌, ◌⊎◌, Result, Ok, Err}
 use Rattle.outside_io.specs.declared.streams.failed.Failed.{Failed}
 
--- an object failed in a call: its count of faults rose in it, or stands at its greatest, 2 ^ 64 - 1
+-- an object failed in a call: its count of faults rose in it, or stands at its greatest, 2 ^ 64 -
+-- 1
 abbrev pub FailedBetween : ℕ → ℕ → Type 0
 FailedBetween old new = (old < new) ⊎ (new ≡ 18446744073709551615)
 
@@ -15,8 +16,8 @@ CountsFaults (Err e) old new = (old ≤ new) × FailedBetween old new
 abbrev pub one_more : ℕ → ℕ
 one_more count = min (count + 1) 18446744073709551615
 
--- What an object's failure alone brings about: where it is so, the object failed; it is so where the count of faults
--- rose; and the count never falls.
+-- What an object's failure alone brings about: where it is so, the object failed; it is so where
+-- the count of faults rose; and the count never falls.
 pub record IsCause (P : Type 0) (old new : ℕ) : Type 0 where
   pub counts : old ≤ new
   pub failed : P → FailedBetween old new

@@ -15,7 +15,10 @@ unused = record { moment = 0; faults = 0 }
 
 -- what it says of its files is the same at each moment, and says nothing
 abbrev pub blind_history : Blind → History
-blind_history b = record { moment = b.moment; disk_at = λ _. record { bundle = settled []; journal = settled [] } }
+blind_history b = record {
+  moment = b.moment;
+  disk_at = λ _. record { bundle = settled []; journal = settled [] };
+}
 
 -- after one more call, which failed
 abbrev pub after_failure : Blind → Blind

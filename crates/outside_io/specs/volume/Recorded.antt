@@ -50,11 +50,17 @@ pub record Recorded : Type 0 where
 
 -- what the files held first
 abbrev pub first_of : SparseFile → SparseFile → Disk
-first_of bundle journal = record { bundle = settled (sparse_bytes bundle); journal = settled (sparse_bytes journal) }
+first_of bundle journal = record {
+  bundle = settled (sparse_bytes bundle);
+  journal = settled (sparse_bytes journal);
+}
 
 -- the disk at a moment is what the calls before it made of the first one
 abbrev pub history_of : Recorded → History
-history_of r = record { moment = r.clock; disk_at = λ t. replay (map clean (take t r.effects)) (first_of r.bundle r.journal) }
+history_of r = record {
+  moment = r.clock;
+  disk_at = λ t. replay (map clean (take t r.effects)) (first_of r.bundle r.journal);
+}
 
 -- a volume of which nothing has been asked
 abbrev pub first_record : SparseFile → SparseFile → List ℕ → Option ℕ → ℕ → ℕ → Recorded
@@ -70,19 +76,22 @@ first_record bundle journal failing stop calls room = record {
   room = room;
 }
 
--- The next call has to fail, whatever it is: its number was named, or is not below `stop` or `calls`, or the clock
--- stands at its end.
+-- The next call has to fail, whatever it is: its number was named, or is not below `stop` or
+-- `calls`, or the clock stands at its end.
 abbrev pub MustFail : Recorded → Type 0
 MustFail r =
-    Contains r.failing r.clock ⊎ (IsSomeAnd r.stop (λ from. from ≤ r.clock) ⊎ ((r.calls ≤ r.clock) ⊎ (r.clock ≡ 2 ^ 64 - 1)))
+    Contains r.failing r.clock
+    ⊎ (IsSomeAnd r.stop (λ from. from ≤ r.clock)
+    ⊎ ((r.calls ≤ r.clock) ⊎ (r.clock ≡ 2 ^ 64 - 1)))
 
 -- The next call has to fail where it is a write of so many bytes: `room` counts for writes alone.
 abbrev pub MustFailToWrite : Recorded → ℕ → Type 0
 MustFailToWrite r more = MustFail r ⊎ (r.room < sum_written r.effects + more)
 
--- What a call that writes so many bytes leaves as it is, how many bytes are written after it, and that a failure is
--- counted once.
-pub record KeepsRecord {T E : Type 0} (old new : Recorded) (more : ℕ) (result : Result T E) : Type 0 where
+-- What a call that writes so many bytes leaves as it is, how many bytes are written after it, and
+-- that a failure is counted once.
+pub record KeepsRecord {T E : Type 0} (old new : Recorded) (more : ℕ)
+    (result : Result T E) : Type 0 where
   pub kept : new ≡ record old { effects = new.effects; clock = new.clock; faults = new.faults }
   pub written : OnOk result (sum_written new.effects ≡ sum_written old.effects + more)
   pub none_written : OnErr result (sum_written new.effects ≡ sum_written old.effects)

@@ -7,7 +7,8 @@ use std::marker::Model;
 /// The greatest number of bytes of a line.
 const ROOM: usize = 192;
 
-/// A line of text, made without taking memory: at most 192 bytes. Contracts see the list of its bytes.
+/// A line of text, made without taking memory: at most 192 bytes. Contracts see the list of its
+/// bytes.
 #[derive(Drop)]
 pub struct Line {
     bytes: [u8; ROOM],
@@ -65,9 +66,11 @@ impl Line {
     }
 }
 
-/// Gives a line of which nobody is told whether the sink takes it, as the line that says why a program ends.
+/// Gives a line of which nobody is told whether the sink takes it, as the line that says why a
+/// program ends.
 pub fn give_line<K: Sink>(sink: &mut K, line: &Line)
-    ensures { GivesLine (K.held sink.old) (K.held sink.new) (K.faults sink.old) (K.faults sink.new) line.now }
+    ensures { GivesLine (K.held sink.old) (K.held sink.new) (K.faults sink.old)
+        (K.faults sink.new) line.now }
 {
     let _ = give_all(sink, line.as_slice());
 }

@@ -3,8 +3,9 @@ ghost use Rattle.std.specs.Prelude.{◌≡◌, ◌+◌, ◌-◌, ◌<◌, ◌≤
 use std::alloc::{AllocError, Global};
 use std::marker::Model;
 
-/// Marks of a program's work, as moments of a clock, in the order in which they were added. Contracts see the list
-/// of marks, and beside it how many more can be added without taking memory, the number `spare`.
+/// Marks of a program's work, as moments of a clock, in the order in which they were added.
+/// Contracts see the list of marks, and beside it how many more can be added without taking
+/// memory, the number `spare`.
 #[derive(Drop)]
 pub struct Marks {
     items: Vec<u64>,
@@ -55,10 +56,11 @@ impl Marks {
         self.items[i]
     }
 
-    /// Takes memory so that at least `count` more marks can be added. Want of memory is its only error, and changes
-    /// nothing.
+    /// Takes memory so that at least `count` more marks can be added. Want of memory is its only
+    /// error, and changes nothing.
     pub fn reserve(&mut self, count: usize) -> Result<(), AllocError>
-        ensures ok { OnOk result (self.new ≡ record self.old { spare = max self.old.spare count }) }
+        ensures ok { OnOk result
+            (self.new ≡ record self.old { spare = max self.old.spare count }) }
         ensures err { OnErr result (self.new ≡ self.old) }
     {
         if self.spare < count {

@@ -4,8 +4,8 @@ ghost use Rattle.std.specs.Prelude.{◌≤◌, IfSome, length};
 
 use std::io::{ErrorKind, Read, Write};
 
-/// Reads once. An interrupted call has read nothing, and is made again, 2^64 - 1 times in all. None where the reader
-/// fails.
+/// Reads once. An interrupted call has read nothing, and is made again, 2^64 - 1 times in all.
+/// None where the reader fails.
 pub(crate) fn read_some<F: Read>(reader: &mut F, buf: &mut [u8]) -> Option<usize>
     ensures { IfSome result (λ n. n ≤ length buf.new) }
 {

@@ -7,8 +7,8 @@ use std::io::Write;
 
 /// A writer of std as a sink. It tells nothing of its bytes.
 ///
-/// A write that was interrupted is made again. Any other error of the writer is a failure, and so is a piece that is
-/// not empty of which it takes nothing. Failures count up to 2^64 - 1.
+/// A write that was interrupted is made again. Any other error of the writer is a failure, and so
+/// is a piece that is not empty of which it takes nothing. Failures count up to 2^64 - 1.
 #[derive(Drop)]
 pub struct StdSink<W: Write> {
     writer: W,

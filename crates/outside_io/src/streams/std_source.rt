@@ -7,7 +7,8 @@ use std::io::Read;
 
 /// A reader of std as a source. It tells nothing of its bytes.
 ///
-/// A read that was interrupted is made again. Any other error of the reader is a failure, and counts up to 2^64 - 1.
+/// A read that was interrupted is made again. Any other error of the reader is a failure, and
+/// counts up to 2^64 - 1.
 #[derive(Drop)]
 pub struct StdSource<R: Read> {
     reader: R,

@@ -13,11 +13,12 @@ use std::rt::Files;
 
 /// Two files of the machine as a volume. It tells nothing of what they hold.
 ///
-/// Each file is opened at the first call that needs it, and made at its first write. A file that is not there has the
-/// length 0, and a sync of it or a cut of it to 0 is Ok. A sync puts the file's own data and length on the disk; the
-/// first sync of a file that this volume has made puts the names in its folder there, too, where the machine lets a
-/// folder be opened and synced. A call of the machine that was interrupted is made again. Whatever the machine refuses,
-/// memory too, is a failure, and failures count up to 2^64 - 1.
+/// Each file is opened at the first call that needs it, and made at its first write. A file that
+/// is not there has the length 0, and a sync of it or a cut of it to 0 is Ok. A sync puts the
+/// file's own data and length on the disk; the first sync of a file that this volume has made puts
+/// the names in its folder there, too, where the machine lets a folder be opened and synced. A
+/// call of the machine that was interrupted is made again. Whatever the machine refuses, memory
+/// too, is a failure, and failures count up to 2^64 - 1.
 #[derive(Drop)]
 pub struct FileVolume<R: Files + Drop> {
     files: R,
@@ -34,7 +35,8 @@ impl<R: Files + Drop> Model for FileVolume<R> {
 }
 
 impl<R: Files + Drop> FileVolume<R> {
-    /// The volume of the two files with these paths. It opens nothing yet. The clock and the count of faults begin at 0.
+    /// The volume of the two files with these paths. It opens nothing yet. The clock and the count
+    /// of faults begin at 0.
     pub fn new(files: R, path: String, journal: String) -> FileVolume<R>
         ensures { result ≡ unused }
     {
@@ -84,7 +86,8 @@ impl<R: Files + Drop> Backing<R> {
         }
     }
 
-    // The file where it is there. None where the machine refuses, and Some(None) where there is none.
+    // The file where it is there. None where the machine refuses, and Some(None) where there is
+    // none.
     fn open(&mut self, files: &R) -> Option<Option<&mut R::File>> {
         if self.file.is_none() {
             match opened(files, self.path.as_str(), false) {
@@ -160,8 +163,8 @@ fn opened<R: Files>(files: &R, path: &str, make: bool) -> io::Result<R::File> {
     options.open(files, path)
 }
 
-// Puts the names in the folder of this file on the disk. A machine that lets no folder be opened or synced has to be
-// trusted with them.
+// Puts the names in the folder of this file on the disk. A machine that lets no folder be opened
+// or synced has to be trusted with them.
 fn sync_folder<R: Files>(files: &R, path: &str) -> Option<()> {
     let synced = match File::open(files, folder_of(path)) {
         Ok(folder) => folder.sync_all(),

@@ -7,8 +7,8 @@ use super::tally::Tally;
 use crate::{Failed, VolFile, Volume};
 use std::marker::Model;
 
-/// The volume that fails at every call, and tells nothing. Each failure takes a moment and is counted, both up to
-/// 2^64 - 1.
+/// The volume that fails at every call, and tells nothing. Each failure takes a moment and is
+/// counted, both up to 2^64 - 1.
 #[derive(Drop)]
 pub struct NoVolume {
     tally: Tally,
@@ -52,7 +52,7 @@ impl Volume for NoVolume {
         ensures time { Ticks (blind_history self.old) (blind_history self.new) result }
         ensures counted { CountsFaults result self.old.faults self.new.faults }
     {
-        self.tally.end(None)
+        self.tally.end::<u64>(None)
     }
 
     fn read(&mut self, _file: VolFile, _at: u64, _buf: &mut [u8]) -> Result<usize, Failed>
@@ -62,7 +62,7 @@ impl Volume for NoVolume {
         ensures time { Ticks (blind_history self.old) (blind_history self.new) result }
         ensures counted { CountsFaults result self.old.faults self.new.faults }
     {
-        self.tally.end(None)
+        self.tally.end::<usize>(None)
     }
 
     fn write(&mut self, _file: VolFile, _at: u64, _bytes: &[u8]) -> Result<(), Failed>

@@ -46,7 +46,8 @@ impl Tally {
         self.clock < u64::MAX
     }
 
-    /// Ends a call that has its answer, or has failed: None. At the clock's end it fails in any case.
+    /// Ends a call that has its answer, or has failed: None. At the clock's end it fails in any
+    /// case.
     pub fn end<T: Drop>(&mut self, answer: Option<T>) -> Result<T, Failed>
         ensures answer { IfOk result (λ x. answer ≡ Some x) }
         ensures fails { answer ≡ None → IsErr result }
