@@ -7,5 +7,4 @@ pub mod Picked
 pub mod Pieces
 pub mod Replay
 pub mod Struck
-pub mod Takes
 pub mod Torn

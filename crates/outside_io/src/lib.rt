@@ -1,8 +1,9 @@
-//! The outside of a program: where bytes come from, where they go to, the two files of a store, and the words
-//! and reports of a command line. It stands on std alone.
+//! The outside of a program: where bytes come from and where they go to (`streams`), the two files
+//! of a store (`volume`), and the words, lines and reports of a command line (`program`). It
+//! stands on std and itoa.
 //!
-//! The contract that the layers above use: a call answers `Failed` only where the object's own count of
-//! faults rose in that call or stands at its greatest.
+//! The contract that the layers above use: a call answers `Failed` only where the object's own
+//! count of faults rose in that call or stands at its greatest.
 #![tactic(auto)]
 
 mod laws;
@@ -11,7 +12,7 @@ mod streams;
 mod volume;
 
 pub use laws::settled_has_one_image;
-pub use program::{Marks, Report, Word};
+pub use program::{Line, Marks, Report, Word, give_line};
 pub use streams::{
     Bytes, Failed, MemSink, MemSource, Sink, Source, StdSink, StdSource, give_all, take_all,
 };

@@ -1,4 +1,5 @@
--- The number that a word stands for: `0`, or one to ten ASCII digits of which the first is not `0`.
+-- The number that a word stands for: `0`, or one to ten ASCII digits of which the first is not
+-- `0`.
 use Rattle.std.specs.Prelude.{◌≡◌, ◌≢◌, ℕ, ◌+◌, ◌-◌, ◌*◌, ◌^◌, ◌≤◌, ◌<◌, List, [], ◌∷◌, length, slice_index, All}
 
 -- An ASCII digit, `0` (48) to `9` (57).

@@ -1,12 +1,9 @@
 -- Sources and sinks in memory, as contracts see them.
-use Rattle.std.specs.Prelude.{ℕ, ◌+◌, ◌-◌, min, List, ◌++◌, take, drop}
+use Rattle.std.specs.Prelude.{ℕ, ◌-◌, List, ◌++◌, take, drop}
+use Rattle.outside_io.specs.streams.Faults.{one_more}
 
--- A count after one more, which stays at its greatest, 2 ^ 64 - 1.
-abbrev pub one_more : ℕ → ℕ
-one_more count = min (count + 1) 18446744073709551615
-
--- A source: the bytes left, how many a call takes at most, the numbers of the calls that fail, the number of the next
--- call and the count of faults.
+-- A source: the bytes left, how many a call takes at most, the numbers of the calls that fail, the
+-- number of the next call and the count of faults.
 pub record SourceState : Type 0 where
   pub left : List ℕ
   pub piece : ℕ
@@ -22,8 +19,8 @@ after_take s n = record s { left = drop n s.left; call = one_more s.call }
 abbrev pub after_failed_take : SourceState → SourceState
 after_failed_take s = record s { call = one_more s.call; faults = one_more s.faults }
 
--- A sink: the bytes held, how many a call takes at most, the numbers of the calls that fail, how many more bytes can
--- be held, the number of the next call and the count of faults.
+-- A sink: the bytes held, how many a call takes at most, the numbers of the calls that fail, how
+-- many more bytes can be held, the number of the next call and the count of faults.
 pub record SinkState : Type 0 where
   pub held : List ℕ
   pub piece : ℕ
@@ -34,7 +31,11 @@ pub record SinkState : Type 0 where
 
 -- The sink after a call that took the first n of the bytes.
 abbrev pub after_give : SinkState → List ℕ → ℕ → SinkState
-after_give s bytes n = record s { held = s.held ++ take n bytes; free = s.free - n; call = one_more s.call }
+after_give s bytes n = record s {
+  held = s.held ++ take n bytes;
+  free = s.free - n;
+  call = one_more s.call;
+}
 
 -- The sink after a call that failed.
 abbrev pub after_failed_give : SinkState → SinkState

@@ -1,5 +1,6 @@
--- What a call on a sink leaves. The first two arguments of each word are the bytes held before and after the call,
--- None for a sink that does not tell them. No call changes whether a sink tells its bytes.
+-- What a call on a sink leaves. The first two arguments of each word are the bytes held before and
+-- after the call, None for a sink that does not tell them. No call changes whether a sink tells
+-- its bytes.
 use Rattle.std.specs.Prelude.{◌≡◌, ℕ, ◌≤◌, List, ◌++◌, length, take, Option, None, Some, Result, Ok, Err}
 use Rattle.outside_io.specs.declared.streams.failed.Failed.{Failed}
 

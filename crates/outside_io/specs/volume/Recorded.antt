@@ -2,6 +2,7 @@
 use Rattle.std.specs.Prelude.{◌≡◌, ◌↔◌, ◌⊎◌, ℕ, ◌+◌, ◌-◌, ◌^◌, ◌<◌, ◌≤◌, min, List, [], ◌∷◌, length, take, map, Option, IsSomeAnd, Result, IsErr, OnOk, OnErr, Contains}
 use Rattle.outside_io.specs.declared.volume.call_log.Ask.{Ask}
 use Rattle.outside_io.specs.declared.volume.call_log.Ask.TheVariants.{Look, Write, Cut, Sync}
+use Rattle.outside_io.specs.streams.Faults.{one_more}
 use Rattle.outside_io.specs.volume.Disk.{Disk, change, file_of, settled, shortened, synced, wrote}
 use Rattle.outside_io.specs.volume.History.{History}
 use Rattle.outside_io.specs.volume.Sparse.{SparseFile, as_byte, sparse_bytes}
@@ -49,11 +50,17 @@ pub record Recorded : Type 0 where
 
 -- what the files held first
 abbrev pub first_of : SparseFile → SparseFile → Disk
-first_of bundle journal = record { bundle = settled (sparse_bytes bundle); journal = settled (sparse_bytes journal) }
+first_of bundle journal = record {
+  bundle = settled (sparse_bytes bundle);
+  journal = settled (sparse_bytes journal);
+}
 
 -- the disk at a moment is what the calls before it made of the first one
 abbrev pub history_of : Recorded → History
-history_of r = record { moment = r.clock; disk_at = λ t. replay (map clean (take t r.effects)) (first_of r.bundle r.journal) }
+history_of r = record {
+  moment = r.clock;
+  disk_at = λ t. replay (map clean (take t r.effects)) (first_of r.bundle r.journal);
+}
 
 -- a volume of which nothing has been asked
 abbrev pub first_record : SparseFile → SparseFile → List ℕ → Option ℕ → ℕ → ℕ → Recorded
@@ -69,14 +76,24 @@ first_record bundle journal failing stop calls room = record {
   room = room;
 }
 
--- The next call, which would write so many bytes, has to fail: its number was named, or is not below `stop` or `calls`,
--- or the clock stands at its end, or more than `room` bytes would have been written.
-abbrev pub MustFail : Recorded → ℕ → Type 0
-MustFail r more = Contains r.failing r.clock ⊎ (IsSomeAnd r.stop (λ from. from ≤ r.clock) ⊎ ((r.calls ≤ r.clock) ⊎ ((r.clock ≡ 2 ^ 64 - 1) ⊎ (r.room < sum_written r.effects + more))))
+-- The next call has to fail, whatever it is: its number was named, or is not below `stop` or
+-- `calls`, or the clock stands at its end.
+abbrev pub MustFail : Recorded → Type 0
+MustFail r =
+    Contains r.failing r.clock
+    ⊎ (IsSomeAnd r.stop (λ from. from ≤ r.clock)
+    ⊎ ((r.calls ≤ r.clock) ⊎ (r.clock ≡ 2 ^ 64 - 1)))
 
--- When a call fails that would write so many bytes, and what it leaves as it is.
-pub record Answers {T E : Type 0} (old new : Recorded) (more : ℕ) (result : Result T E) : Type 0 where
-  pub fails : IsErr result ↔ MustFail old more
+-- The next call has to fail where it is a write of so many bytes: `room` counts for writes alone.
+abbrev pub MustFailToWrite : Recorded → ℕ → Type 0
+MustFailToWrite r more = MustFail r ⊎ (r.room < sum_written r.effects + more)
+
+-- What a call that writes so many bytes leaves as it is, how many bytes are written after it, and
+-- that a failure is counted once.
+pub record KeepsRecord {T E : Type 0} (old new : Recorded) (more : ℕ)
+    (result : Result T E) : Type 0 where
   pub kept : new ≡ record old { effects = new.effects; clock = new.clock; faults = new.faults }
   pub written : OnOk result (sum_written new.effects ≡ sum_written old.effects + more)
   pub none_written : OnErr result (sum_written new.effects ≡ sum_written old.effects)
+  pub same_faults : OnOk result (new.faults ≡ old.faults)
+  pub one_fault : OnErr result (new.faults ≡ one_more old.faults)

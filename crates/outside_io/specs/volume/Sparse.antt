@@ -2,7 +2,8 @@
 use Rattle.std.specs.Prelude.{ℕ, ◌+◌, ◌-◌, ◌≤◌, min, List, [], ◌∷◌, length, map, slice_index_or, nat_lt, if◌then◌else◌}
 use Rattle.std.specs.List.{range_with_len}
 
--- A number as a byte. It changes no byte; a definition speaks of every number, and a file holds bytes alone.
+-- A number as a byte. It changes no byte; a definition speaks of every number, and a file holds
+-- bytes alone.
 abbrev pub as_byte : ℕ → ℕ
 as_byte n = min n 255
 

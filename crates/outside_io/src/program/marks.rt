@@ -1,10 +1,11 @@
-ghost use Rattle.std.specs.Prelude.{◌≡◌, ◌+◌, ◌-◌, ◌<◌, ◌≤◌, ℕ, [], ◌∷◌, ◌++◌, Some, OnOk, OnErr, length, max, slice_get};
+ghost use Rattle.std.specs.Prelude.{◌≡◌, ◌+◌, ◌-◌, ◌<◌, ◌≤◌, ℕ, [], ◌∷◌, ◌++◌, Some, OnOk, OnErr, IsTrue, ◌↔◌, length, max, slice_get};
 
 use std::alloc::{AllocError, Global};
 use std::marker::Model;
 
-/// Marks of a program's work, as moments of a clock, in the order in which they were added. Contracts see the list
-/// of marks, and beside it how many more can be added without taking memory, the number `spare`.
+/// Marks of a program's work, as moments of a clock, in the order in which they were added.
+/// Contracts see the list of marks, and beside it how many more can be added without taking
+/// memory, the number `spare`.
 #[derive(Drop)]
 pub struct Marks {
     items: Vec<u64>,
@@ -40,6 +41,13 @@ impl Marks {
         self.items.len()
     }
 
+    /// Whether there is none.
+    pub fn is_empty(&self) -> bool
+        ensures { IsTrue result ↔ (length self.now.marks ≡ 0) }
+    {
+        self.items.is_empty()
+    }
+
     /// The mark with number i, counted from 0.
     pub fn at(&self, i: usize) -> u64
         requires { i < length self.now.marks }
@@ -48,10 +56,11 @@ impl Marks {
         self.items[i]
     }
 
-    /// Takes memory so that at least `count` more marks can be added. Want of memory is its only error, and changes
-    /// nothing.
+    /// Takes memory so that at least `count` more marks can be added. Want of memory is its only
+    /// error, and changes nothing.
     pub fn reserve(&mut self, count: usize) -> Result<(), AllocError>
-        ensures ok { OnOk result (self.new ≡ record self.old { spare = max self.old.spare count }) }
+        ensures ok { OnOk result
+            (self.new ≡ record self.old { spare = max self.old.spare count }) }
         ensures err { OnErr result (self.new ≡ self.old) }
     {
         if self.spare < count {
@@ -83,11 +92,11 @@ mod tests {
     #[test]
     fn marks_in_their_order(rt: HostRuntime) -> Result<(), Fail> {
         let mut marks = Marks::new(rt.alloc());
-        assert_eq!(rt; marks.len(), 0);
+        assert_eq!(rt; (marks.len(), marks.is_empty()), (0, true));
         assert_eq!(rt; marks.reserve(2), Ok(()));
         marks.add(40);
         marks.add(2);
-        assert_eq!(rt; marks.len(), 2);
+        assert_eq!(rt; (marks.len(), marks.is_empty()), (2, false));
         assert_eq!(rt; (marks.at(0), marks.at(1)), (40, 2));
         Ok(())
     }

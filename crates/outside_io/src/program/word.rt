@@ -45,8 +45,8 @@ impl Word {
         self.text.as_slice()
     }
 
-    /// The number that the word stands for: `0`, or one to ten ASCII digits of which the first is not `0`. Any other
-    /// word, also one with a sign, is none.
+    /// The number that the word stands for: `0`, or one to ten ASCII digits of which the first is
+    /// not `0`. Any other word, also one with a sign, is none.
     pub fn number(&self) -> Option<u64>
         ensures { (n : ℕ) → (result ≡ Some n) ↔ IsNumber self.now n }
     {
@@ -68,7 +68,8 @@ fn has_leading_zero(word: &[u8]) -> bool
 /// The sum of decimal digits by their places, where all the bytes are digits.
 fn decimal(digits: &[u8]) -> Option<u64>
     requires { length digits.now ≤ 10 }
-    ensures { (n : ℕ) → (result ≡ Some n) ↔ (All IsDigit digits.now × (decimal_value digits.now ≡ n)) }
+    ensures { (n : ℕ) → (result ≡ Some n)
+        ↔ (All IsDigit digits.now × (decimal_value digits.now ≡ n)) }
 {
     let mut value = 0;
     for digit in digits {
@@ -107,6 +108,11 @@ mod tests {
             assert_eq!(rt; word.as_slice(), text.as_bytes());
             assert_eq!(rt; word.number(), want, "of {text}");
         }
+
+        // A word need be no text.
+        let word = Word::new(vec![in rt.alloc(); 0xff, b'1']?);
+        assert_eq!(rt; word.as_slice(), [0xff, b'1'].as_slice());
+        assert_eq!(rt; word.number(), None);
         Ok(())
     }
 }

@@ -27,6 +27,21 @@ impl Bytes {
         })
     }
 
+    /// The bytes of the vector. It takes no memory.
+    pub fn from_vec(items: Vec<u8>) -> Bytes
+        ensures { result ≡ items.items }
+    {
+        Bytes { items }
+    }
+
+    /// The vector of the bytes. It takes no memory.
+    pub fn into_vec(self) -> Vec<u8>
+        ensures { result.items ≡ self }
+    {
+        let Bytes { items } = self;
+        items
+    }
+
     /// The bytes.
     pub fn as_slice(&self) -> &[u8]
         ensures { result.now ≡ self.now }
@@ -39,6 +54,13 @@ impl Bytes {
         ensures { result ≡ length self.now }
     {
         self.items.len()
+    }
+
+    /// Whether there is none.
+    pub fn is_empty(&self) -> bool
+        ensures { IsTrue result ↔ (length self.now ≡ 0) }
+    {
+        self.items.is_empty()
     }
 
     /// Whether one of the bytes is this number.
@@ -63,7 +85,10 @@ mod tests {
     fn bytes_are_a_copy(rt: HostRuntime) -> Result<(), Fail> {
         let bytes = Bytes::of(rt.alloc(), b"LGR1")?;
         assert_eq!(rt; bytes.as_slice(), b"LGR1".as_slice());
-        assert_eq!(rt; bytes.len(), 4);
+        assert_eq!(rt; (bytes.len(), bytes.is_empty()), (4, false));
+        let items = bytes.into_vec();
+        assert_eq!(rt; items.as_slice(), b"LGR1".as_slice());
+        assert_eq!(rt; Bytes::from_vec(items).as_slice(), b"LGR1".as_slice());
         Ok(())
     }
 }

@@ -9,8 +9,9 @@ use super::sink::Sink;
 use std::alloc::{AllocError, Global};
 use std::marker::Model;
 
-/// A sink in memory. It takes bytes in pieces of a greatest size, and fails at the calls that it was told and where
-/// no byte is free. All its memory is taken when it is made, and no call of `give` takes any.
+/// A sink in memory. It takes bytes in pieces of a greatest size, and fails at the calls that it
+/// was told and where no byte is free. All its memory is taken when it is made, and no call of
+/// `give` takes any.
 ///
 /// Its calls of `give` are numbered from 0, those with no bytes too.
 #[derive(Drop)]
@@ -38,13 +39,14 @@ impl Model for MemSink {
       faults = s.faults;
     } };
 
-    ghost invariant = { λ s. (0 < s.piece) × ((vec_len s.held ≤ s.room) × (s.room ≤ vec_capacity s.held)) };
+    ghost invariant = { λ s. (0 < s.piece) × ((vec_len s.held ≤ s.room)
+        × (s.room ≤ vec_capacity s.held)) };
 }
 
 impl MemSink {
-    /// An empty sink with room for `room` bytes, of which a call takes at most `piece`. The call with number k fails
-    /// exactly where k is one of the bytes `failing`, or where its bytes are not empty and no byte is free. Want of
-    /// memory is its only error.
+    /// An empty sink with room for `room` bytes, of which a call takes at most `piece`. The call
+    /// with number k fails exactly where k is one of the bytes `failing`, or where its bytes are
+    /// not empty and no byte is free. Want of memory is its only error.
     pub fn new(
         alloc: Global,
         piece: usize,
@@ -93,8 +95,10 @@ impl Sink for MemSink {
 
         // When it fails and how much it takes.
         ensures fails { IsErr result ↔
-            (Contains self.old.failing self.old.call ⊎ ((0 < length bytes.now) × (self.old.free ≡ 0))) }
-        ensures amount { IfOk result (λ n. n ≡ min (min self.old.piece self.old.free) (length bytes.now)) }
+            (Contains self.old.failing self.old.call
+            ⊎ ((0 < length bytes.now) × (self.old.free ≡ 0))) }
+        ensures amount { IfOk result (λ n. n ≡ min (min self.old.piece self.old.free)
+            (length bytes.now)) }
 
         // What stands after it.
         ensures after_ok { IfOk result (λ n. self.new ≡ after_give self.old bytes.now n) }

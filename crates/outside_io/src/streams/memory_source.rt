@@ -8,7 +8,8 @@ use super::failed::Failed;
 use super::source::Source;
 use std::marker::Model;
 
-/// A source over bytes in memory. It gives them in pieces of a greatest size, and fails at the calls that it was told.
+/// A source over bytes in memory. It gives them in pieces of a greatest size, and fails at the
+/// calls that it was told.
 ///
 /// Its calls of `take` are numbered from 0. A call with an empty buffer has no number.
 #[derive(Drop)]
@@ -39,11 +40,17 @@ impl Model for MemSource {
 }
 
 impl MemSource {
-    /// A source of these bytes, of which a call takes at most `piece`. The call with number k fails exactly where k
-    /// is one of the bytes `failing`.
+    /// A source of these bytes, of which a call takes at most `piece`. The call with number k
+    /// fails exactly where k is one of the bytes `failing`.
     pub fn new(bytes: Bytes, piece: usize, failing: Bytes) -> MemSource
         requires { 0 < piece }
-        ensures { result ≡ record { left = bytes; piece = piece; failing = failing; call = 0; faults = 0 } }
+        ensures { result ≡ record {
+          left = bytes;
+          piece = piece;
+          failing = failing;
+          call = 0;
+          faults = 0;
+        } }
     {
         MemSource {
             bytes,
@@ -70,12 +77,15 @@ impl Source for MemSource {
         ensures counted { CountsFaults result self.old.faults self.new.faults }
 
         // When it fails and how much it takes.
-        ensures fails { IsErr result ↔ ((0 < length buf.old) × Contains self.old.failing self.old.call) }
-        ensures amount { IfOk result (λ n. n ≡ min (min self.old.piece (length self.old.left)) (length buf.old)) }
+        ensures fails { IsErr result
+            ↔ ((0 < length buf.old) × Contains self.old.failing self.old.call) }
+        ensures amount { IfOk result (λ n. n ≡ min (min self.old.piece (length self.old.left))
+            (length buf.old)) }
 
         // What stands after it. The buffer changes in front alone.
         ensures rest { IfOk result (λ n. drop n buf.new ≡ drop n buf.old) }
-        ensures after_ok { IfOk result (λ n. 0 < length buf.old → self.new ≡ after_take self.old n) }
+        ensures after_ok { IfOk result (λ n. 0 < length buf.old
+            → self.new ≡ after_take self.old n) }
         ensures same_buffer { OnErr result (buf.new ≡ buf.old) }
         ensures after_err { OnErr result (self.new ≡ after_failed_take self.old) }
     {
@@ -106,7 +116,8 @@ mod tests {
 
     const TEXT: &[u8] = b"nine byte";
 
-    /// How many bytes a call with a buffer of 5 takes, or -1 where it fails, for five calls in a row.
+    /// How many bytes a call with a buffer of 5 takes, or -1 where it fails, for five calls in a
+    /// row.
     fn five_calls(
         rt: &impl Abort,
         alloc: Global,
@@ -144,6 +155,17 @@ mod tests {
             let counts = five_calls(&rt, rt.alloc(), piece, failing)?;
             assert_eq!(rt; counts, want, "pieces of {piece}");
         }
+        Ok(())
+    }
+
+    #[test]
+    fn nothing_is_taken_behind_a_failure(rt: HostRuntime) -> Result<(), Fail> {
+        let failing = Bytes::of(rt.alloc(), b"\x01")?;
+        let mut source = MemSource::new(Bytes::of(rt.alloc(), TEXT)?, 2, failing);
+        let mut buf = [0; 6];
+        assert_eq!(rt; take_all(&mut source, &mut buf), Err(Failed));
+        assert_eq!(rt; take_all(&mut source, &mut buf), Ok(6));
+        assert_eq!(rt; &buf[..], b"ne byt".as_slice());
         Ok(())
     }
 

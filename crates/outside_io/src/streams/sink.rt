@@ -14,7 +14,8 @@ pub trait Sink {
 
     /// Gives bytes to the sink, which takes some of them from the front, and answers how many.
     ///
-    /// A sink that can take nothing of a piece that is not empty answers `Failed`. `Failed` takes no byte.
+    /// A sink that can take nothing of a piece that is not empty answers `Failed`. `Failed` takes
+    /// no byte.
     fn give(&mut self, bytes: &[u8]) -> Result<usize, Failed>
         ensures within { IfOk result (λ n. n ≤ length bytes.now) }
         ensures some { IfOk result (λ n. 0 < length bytes.now → 0 < n) }
@@ -22,11 +23,12 @@ pub trait Sink {
         ensures counted { CountsFaults result (faults self.old) (faults self.new) };
 }
 
-/// Gives all the bytes, in as many calls as the sink wants. It ends at the first failure, where the sink has taken
-/// a prefix of them. It takes no memory.
+/// Gives all the bytes, in as many calls as the sink wants. It ends at the first failure, where
+/// the sink has taken a prefix of them. It gives no empty piece, and takes no memory.
 pub fn give_all<K: Sink>(sink: &mut K, bytes: &[u8]) -> Result<(), Failed>
     ensures ok { OnOk result (Holds (K.held sink.old) (K.held sink.new) bytes.now) }
     ensures err { OnErr result (HoldsPrefix (K.held sink.old) (K.held sink.new) bytes.now) }
+    ensures unchanged { length bytes.now ≡ 0 → sink.new ≡ sink.old }
     ensures counted { CountsFaults result (K.faults sink.old) (K.faults sink.new) }
 {
     let mut at = 0;

@@ -1,13 +1,14 @@
 ghost use Rattle.std.specs.Prelude.{◌≡◌, None};
 
 use super::failed::Failed;
+use super::retry::write_some;
 use super::sink::Sink;
 use std::io::Write;
 
 /// A writer of std as a sink. It tells nothing of its bytes.
 ///
-/// An error of the writer is a failure, and so is a piece that is not empty of which it takes nothing. Failures count
-/// up to 2^64 - 1.
+/// A write that was interrupted is made again. Any other error of the writer is a failure, and so
+/// is a piece that is not empty of which it takes nothing. Failures count up to 2^64 - 1.
 #[derive(Drop)]
 pub struct StdSink<W: Write> {
     writer: W,
@@ -30,10 +31,10 @@ impl<W: Write> Sink for StdSink<W> {
     ghost faults = { λ s. s.faults };
 
     fn give(&mut self, bytes: &[u8]) -> Result<usize, Failed> {
-        match self.writer.write(bytes) {
-            Ok(0) if !bytes.is_empty() => {}
-            Ok(n) => return Ok(n),
-            Err(_) => {}
+        if let Some(n) = write_some(&mut self.writer, bytes) {
+            if n > 0 || bytes.is_empty() {
+                return Ok(n);
+            }
         }
         self.faults = self.faults.saturating_add(1);
         Err(Failed)
@@ -44,7 +45,48 @@ impl<W: Write> Sink for StdSink<W> {
 mod tests {
     use super::*;
     use crate::give_all;
+    use std::io;
     use std::io::Cursor;
+
+    // It is interrupted so many times, then takes one byte, and then fails.
+    #[derive(Drop)]
+    struct BrokenWriter {
+        interruptions: u8,
+        taken: u8,
+    }
+
+    impl Write for BrokenWriter {
+        fn write(&mut self, bytes: &[u8]) -> io::Result<usize> {
+            if self.interruptions > 0 {
+                self.interruptions -= 1;
+                return Err(io::Error::from(io::ErrorKind::Interrupted));
+            }
+            if self.taken > 0 || bytes.is_empty() {
+                return Err(io::Error::from(io::ErrorKind::Other));
+            }
+            self.taken = bytes[0];
+            Ok(1)
+        }
+
+        fn flush(&mut self) -> io::Result<()> {
+            Ok(())
+        }
+    }
+
+    #[test]
+    fn an_interrupted_write_is_made_again(rt: HostRuntime) {
+        let mut sink = StdSink::new(BrokenWriter {
+            interruptions: 3,
+            taken: 0,
+        });
+        assert_eq!(rt; give_all(&mut sink, b""), Ok(()));
+        assert_eq!(rt; sink.writer.interruptions, 3);
+        assert_eq!(rt; give_all(&mut sink, b"ab"), Err(Failed));
+        assert_eq!(rt;
+            (sink.faults, sink.writer.taken, sink.writer.interruptions),
+            (1, b'a', 0)
+        );
+    }
 
     #[test]
     fn writes_until_the_writer_takes_nothing(rt: HostRuntime) {

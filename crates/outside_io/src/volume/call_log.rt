@@ -58,7 +58,9 @@ pub fn append(log: &mut Vec<Call>, written: &mut Vec<u8>, ask: Ask, bytes: &[u8]
     requires end { EndsWithin ask (length bytes.now) }
     requires log { vec_len log.old < vec_capacity log.old }
     requires written { vec_len written.old + length bytes.now ≤ vec_capacity written.old }
-    ensures effects { effects written.new.items log.new.items ≡ effects written.old.items log.old.items ++ (record { ask = ask; bytes = bytes.now }) ∷ [] }
+    ensures effects { effects written.new.items log.new.items
+        ≡ effects written.old.items log.old.items ++
+        (record { ask = ask; bytes = bytes.now }) ∷ [] }
     ensures pool { AllInPool (length written.new.items) log.new.items }
     ensures ends { AllEndWithin log.new.items }
     ensures octets { AreBytes written.new.items }
@@ -113,7 +115,8 @@ pub fn len_after(file: VolFile, ask: Ask, len: u64, count: usize) -> u64
 /// The file's length after these calls.
 pub fn len_of(log: &[Call], file: VolFile, first: u64) -> u64
     requires { AllEndWithin log.now }
-    ensures { (written : List ℕ) (d : Disk) → AllInPool (length written) log.now → AllFit (effects written log.now) d → first ≡ length (file_of file d).now
+    ensures { (written : List ℕ) (d : Disk) → AllInPool (length written) log.now
+        → AllFit (effects written log.now) d → first ≡ length (file_of file d).now
         → result ≡ length (file_of file (replay (effects written log.now) d)).now }
 {
     let mut len = first;
@@ -127,7 +130,8 @@ pub fn len_of(log: &[Call], file: VolFile, first: u64) -> u64
 pub fn synced_by(log: &[Call], file: VolFile) -> usize
     ensures within { result ≤ length log.now }
     ensures base { (written : List ℕ) (d : Disk) → (file_of file d).base ≡ (file_of file d).now
-        → (file_of file (replay (effects written log.now) d)).base ≡ (file_of file (replay (effects written (take result log.now)) d)).now }
+        → (file_of file (replay (effects written log.now) d)).base
+        ≡ (file_of file (replay (effects written (take result log.now)) d)).now }
 {
     let mut last = 0;
     for (i, call) in log.iter().enumerate() {
@@ -143,7 +147,8 @@ pub fn replay_over(log: &[Call], written: &[u8], file: VolFile, at: u64, buf: &m
     requires pool { AllInPool (length written.now) log.now }
     requires end { at + length buf.old < 2 ^ 64 }
     ensures { (k : ℕ) → k < length buf.old → slice_index buf.new k
-        ≡ byte_at (written_pieces file (effects written.now log.now)) (at + k) (slice_index buf.old k) }
+        ≡ byte_at (written_pieces file (effects written.now log.now)) (at + k)
+        (slice_index buf.old k) }
 {
     for call in log {
         if let Some(place) = call.ask.place_in(file) {
@@ -161,7 +166,8 @@ pub fn add_written(
     file: VolFile,
 ) -> Result<(), AllocError>
     requires { AllInPool (length written.now) log.now }
-    ensures { OnOk result (pieces_of pieces.new.items ≡ pieces_of pieces.old.items ++ written_pieces file (effects written.now log.now)) }
+    ensures { OnOk result (pieces_of pieces.new.items
+        ≡ pieces_of pieces.old.items ++ written_pieces file (effects written.now log.now)) }
 {
     for call in log {
         if let Some(at) = call.ask.place_in(file) {

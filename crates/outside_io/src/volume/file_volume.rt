@@ -2,23 +2,27 @@ ghost use Rattle.std.specs.Prelude.{◌≡◌, ◌≤◌, length, IfSome};
 ghost use Rattle.outside_io.specs.volume.Blind.{unused};
 
 use super::tally::Tally;
-use crate::{Failed, VolFile, Volume};
-use std::fs::{OpenFile, OpenOptions};
+use super::{VolFile, Volume};
+use crate::Failed;
+use crate::streams::read_some;
+use std::fs::{File, OpenFile, OpenOptions};
+use std::io;
 use std::io::{ErrorKind, Read, Seek, SeekFrom, Write};
 use std::marker::Model;
 use std::rt::Files;
 
 /// Two files of the machine as a volume. It tells nothing of what they hold.
 ///
-/// Each file is opened at the first call that needs it, and made at its first write. A file that is not there has the
-/// length 0, and a sync of it or a cut of it to 0 is Ok. A sync puts the file's own data and length on the disk, and
-/// says nothing of the folder. Whatever the machine refuses, memory too, is a failure, and failures count up to
-/// 2^64 - 1.
+/// Each file is opened at the first call that needs it, and made at its first write. A file that
+/// is not there has the length 0, and a sync of it or a cut of it to 0 is Ok. A sync puts the
+/// file's own data and length on the disk; the first sync of a file that this volume has made puts
+/// the names in its folder there, too, where the machine lets a folder be opened and synced. A
+/// call of the machine that was interrupted is made again. Whatever the machine refuses, memory
+/// too, is a failure, and failures count up to 2^64 - 1.
 #[derive(Drop)]
 pub struct FileVolume<R: Files + Drop> {
     files: R,
-    bundle: Backing<R>,
-    journal: Backing<R>,
+    pair: Pair<R>,
     tally: Tally,
 }
 
@@ -31,18 +35,35 @@ impl<R: Files + Drop> Model for FileVolume<R> {
 }
 
 impl<R: Files + Drop> FileVolume<R> {
-    /// The volume of the two files with these paths. It opens nothing yet. The clock and the count of faults begin at 0.
+    /// The volume of the two files with these paths. It opens nothing yet. The clock and the count
+    /// of faults begin at 0.
     pub fn new(files: R, path: String, journal: String) -> FileVolume<R>
         ensures { result ≡ unused }
     {
         FileVolume {
             files,
-            bundle: Backing { path, file: None },
-            journal: Backing {
-                path: journal,
-                file: None,
+            pair: Pair {
+                bundle: Backing::new(path),
+                journal: Backing::new(journal),
             },
             tally: Tally::new(),
+        }
+    }
+}
+
+// The two files of the machine.
+#[derive(Drop)]
+struct Pair<R: Files + Drop> {
+    bundle: Backing<R>,
+    journal: Backing<R>,
+}
+
+impl<R: Files + Drop> Pair<R> {
+    // The one place that says which file of the machine stands behind a file of the volume.
+    fn of(&mut self, file: VolFile) -> &mut Backing<R> {
+        match file {
+            VolFile::Bundle => &mut self.bundle,
+            VolFile::Journal => &mut self.journal,
         }
     }
 }
@@ -52,25 +73,43 @@ impl<R: Files + Drop> FileVolume<R> {
 struct Backing<R: Files + Drop> {
     path: String,
     file: Option<R::File>,
+    // It was made here, and its name was not yet synced.
+    is_new: bool,
 }
 
 impl<R: Files + Drop> Backing<R> {
-    // Opens the file where it is there, or makes it. None where the machine refuses, and Some(None) where there is none.
-    fn open(&mut self, files: &R, make: bool) -> Option<Option<&mut R::File>> {
+    fn new(path: String) -> Backing<R> {
+        Backing {
+            path,
+            file: None,
+            is_new: false,
+        }
+    }
+
+    // The file where it is there. None where the machine refuses, and Some(None) where there is
+    // none.
+    fn open(&mut self, files: &R) -> Option<Option<&mut R::File>> {
         if self.file.is_none() {
-            let mut options = OpenOptions::new();
-            options.read(true).write(true).create(make);
-            match options.open(files, self.path.as_str()) {
+            match opened(files, self.path.as_str(), false) {
                 Ok(file) => self.file = Some(file),
-                Err(error) if !make && error.kind() == ErrorKind::NotFound => return Some(None),
+                Err(error) if error.kind() == ErrorKind::NotFound => return Some(None),
                 Err(_) => return None,
             }
         }
         Some(self.file.as_mut())
     }
 
+    // The file, which is made where there is none.
+    fn open_or_make(&mut self, files: &R) -> Option<&mut R::File> {
+        if self.open(files)?.is_none() {
+            self.file = opened(files, self.path.as_str(), true).ok();
+            self.is_new = true;
+        }
+        self.file.as_mut()
+    }
+
     fn len(&mut self, files: &R) -> Option<u64> {
-        match self.open(files, false)? {
+        match self.open(files)? {
             Some(file) => file.seek(SeekFrom::End(0)).ok(),
             None => Some(0),
         }
@@ -82,7 +121,7 @@ impl<R: Files + Drop> Backing<R> {
         if at >= self.len(files)? {
             return Some(0);
         }
-        let Some(file) = self.open(files, false)? else {
+        let Some(file) = self.open(files)? else {
             return Some(0);
         };
         file.seek(SeekFrom::Start(at)).ok()?;
@@ -90,7 +129,7 @@ impl<R: Files + Drop> Backing<R> {
     }
 
     fn write(&mut self, files: &R, at: u64, bytes: &[u8]) -> Option<()> {
-        let file = self.open(files, true)??;
+        let file = self.open_or_make(files)?;
         file.seek(SeekFrom::Start(at)).ok()?;
         file.write_all(bytes).ok()
     }
@@ -99,17 +138,59 @@ impl<R: Files + Drop> Backing<R> {
         if len > self.len(files)? {
             return None;
         }
-        match self.open(files, false)? {
+        match self.open(files)? {
             Some(file) => file.set_len(len).ok(),
             None => Some(()),
         }
     }
 
     fn sync(&mut self, files: &R) -> Option<()> {
-        match self.open(files, false)? {
-            Some(file) => file.sync_data().ok(),
-            None => Some(()),
+        match self.open(files)? {
+            Some(file) => file.sync_data().ok()?,
+            None => return Some(()),
         }
+        if self.is_new {
+            sync_folder(files, self.path.as_str())?;
+            self.is_new = false;
+        }
+        Some(())
+    }
+}
+
+fn opened<R: Files>(files: &R, path: &str, make: bool) -> io::Result<R::File> {
+    let mut options = OpenOptions::new();
+    options.read(true).write(true).create(make);
+    options.open(files, path)
+}
+
+// Puts the names in the folder of this file on the disk. A machine that lets no folder be opened
+// or synced has to be trusted with them.
+fn sync_folder<R: Files>(files: &R, path: &str) -> Option<()> {
+    let synced = match File::open(files, folder_of(path)) {
+        Ok(folder) => folder.sync_all(),
+        Err(error) => Err(error),
+    };
+    match synced {
+        Ok(()) => Some(()),
+        Err(error) if is_no_folder_call(error.kind()) => Some(()),
+        Err(_) => None,
+    }
+}
+
+// The answers of a machine that opens or syncs no folder.
+fn is_no_folder_call(kind: ErrorKind) -> bool {
+    kind == ErrorKind::PermissionDenied
+        || kind == ErrorKind::IsADirectory
+        || kind == ErrorKind::InvalidInput
+        || kind == ErrorKind::Unsupported
+}
+
+// The folder that names the file of this path.
+fn folder_of(path: &str) -> &str {
+    match path.rsplit_once('/') {
+        Some(("", _)) => "/",
+        Some((folder, _)) => folder,
+        None => ".",
     }
 }
 
@@ -118,18 +199,14 @@ fn read_all<F: Read>(file: &mut F, buf: &mut [u8]) -> Option<usize>
     ensures { IfSome result (λ n. n ≤ length buf.old) }
 {
     let mut count = 0;
-    for _ in 0..u64::MAX {
-        if count == buf.len() {
-            return Some(count);
+    while count < buf.len() {
+        let more = read_some(file, &mut buf[count..])?;
+        if more == 0 {
+            break;
         }
-        match file.read(&mut buf[count..]) {
-            Ok(0) => return Some(count),
-            Ok(more) => count += more,
-            Err(error) if error.kind() == ErrorKind::Interrupted => {}
-            Err(_) => return None,
-        }
+        count += more;
     }
-    None
+    Some(count)
 }
 
 impl<R: Files + Drop> Volume for FileVolume<R> {
@@ -146,46 +223,46 @@ impl<R: Files + Drop> Volume for FileVolume<R> {
     ghost present = { λ _ h. nothing_told h };
 
     fn len(&mut self, file: VolFile) -> Result<u64, Failed> {
-        let answer = match file {
-            _ if !self.tally.has_time() => None,
-            VolFile::Bundle => self.bundle.len(&self.files),
-            VolFile::Journal => self.journal.len(&self.files),
+        let answer = if self.tally.has_time() {
+            self.pair.of(file).len(&self.files)
+        } else {
+            None
         };
         self.tally.end(answer)
     }
 
     fn read(&mut self, file: VolFile, at: u64, buf: &mut [u8]) -> Result<usize, Failed> {
-        let answer = match file {
-            _ if !self.tally.has_time() => None,
-            VolFile::Bundle => self.bundle.read(&self.files, at, buf),
-            VolFile::Journal => self.journal.read(&self.files, at, buf),
+        let answer = if self.tally.has_time() {
+            self.pair.of(file).read(&self.files, at, buf)
+        } else {
+            None
         };
         self.tally.end(answer)
     }
 
     fn write(&mut self, file: VolFile, at: u64, bytes: &[u8]) -> Result<(), Failed> {
-        let answer = match file {
-            _ if !self.tally.has_time() => None,
-            VolFile::Bundle => self.bundle.write(&self.files, at, bytes),
-            VolFile::Journal => self.journal.write(&self.files, at, bytes),
+        let answer = if self.tally.has_time() {
+            self.pair.of(file).write(&self.files, at, bytes)
+        } else {
+            None
         };
         self.tally.end(answer)
     }
 
     fn cut(&mut self, file: VolFile, len: u64) -> Result<(), Failed> {
-        let answer = match file {
-            _ if !self.tally.has_time() => None,
-            VolFile::Bundle => self.bundle.cut(&self.files, len),
-            VolFile::Journal => self.journal.cut(&self.files, len),
+        let answer = if self.tally.has_time() {
+            self.pair.of(file).cut(&self.files, len)
+        } else {
+            None
         };
         self.tally.end(answer)
     }
 
     fn sync(&mut self, file: VolFile) -> Result<(), Failed> {
-        let answer = match file {
-            _ if !self.tally.has_time() => None,
-            VolFile::Bundle => self.bundle.sync(&self.files),
-            VolFile::Journal => self.journal.sync(&self.files),
+        let answer = if self.tally.has_time() {
+            self.pair.of(file).sync(&self.files)
+        } else {
+            None
         };
         self.tally.end(answer)
     }
@@ -196,44 +273,4 @@ impl<R: Files + Drop> Volume for FileVolume<R> {
 }
 
 #[cfg(test)]
-mod tests {
-    use super::*;
-    use std::fs;
-    use std::test::Fail;
-
-    #[test]
-    fn files_of_the_machine_are_written_and_read_back(rt: HostRuntime) -> Result<(), Fail> {
-        let alloc = rt.alloc();
-        let _ = fs::remove_file(&rt, "file_volume_test.bundle");
-        let bundle = String::from_str(alloc, "file_volume_test.bundle")?;
-        let journal = String::from_str(alloc, "no_such_folder/file_volume_test.journal")?;
-        let mut vol = FileVolume::new(rt, bundle, journal);
-        let mut buf = [9; 6];
-
-        // No file is there yet.
-        assert_eq!(rt; vol.len(VolFile::Bundle), Ok(0));
-        assert_eq!(rt; vol.read(VolFile::Bundle, 0, &mut buf), Ok(0));
-        assert_eq!(rt; vol.cut(VolFile::Bundle, 0), Ok(()));
-        assert_eq!(rt; vol.sync(VolFile::Bundle), Ok(()));
-        assert!(rt; !fs::exists(&rt, "file_volume_test.bundle")?);
-
-        assert_eq!(rt; vol.write(VolFile::Bundle, 0, b"abcd"), Ok(()));
-        assert_eq!(rt; vol.write(VolFile::Bundle, 3, b"XY"), Ok(()));
-        assert_eq!(rt; vol.sync(VolFile::Bundle), Ok(()));
-        assert_eq!(rt; vol.cut(VolFile::Bundle, 4), Ok(()));
-        assert_eq!(rt; vol.cut(VolFile::Bundle, 5), Err(Failed));
-        assert_eq!(rt; vol.read(VolFile::Bundle, 1, &mut buf), Ok(3));
-        assert_eq!(rt; buf, [98, 99, 88, 9, 9, 9]);
-        assert_eq!(rt;
-            fs::read(&rt, "file_volume_test.bundle")?.as_slice(),
-            b"abcX".as_slice()
-        );
-
-        // The folder of the journal is not there.
-        assert_eq!(rt; vol.len(VolFile::Journal), Ok(0));
-        assert_eq!(rt; vol.write(VolFile::Journal, 0, b"a"), Err(Failed));
-        assert_eq!(rt; vol.moment(), 12);
-        fs::remove_file(&rt, "file_volume_test.bundle")?;
-        Ok(())
-    }
-}
+mod tests;

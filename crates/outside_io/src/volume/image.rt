@@ -19,8 +19,8 @@ pub enum Pick {
     Oldest,
     /// What a read gave.
     Newest,
-    /// What a read gave, with this byte in each place where a crash may leave anything: where the file was written
-    /// since its last sync, and past its length at that sync.
+    /// What a read gave, with this byte in each place where a crash may leave anything: where the
+    /// file was written since its last sync, and past its length at that sync.
     Torn(u8),
 }
 
@@ -36,7 +36,8 @@ pub fn image(
     requires pool { AllInPool (length written.now) log.now }
     requires ends { AllEndWithin log.now }
     requires octets { AreBytes written.now }
-    ensures { IfOk result (λ s. (d : Disk) → AllFit (effects written.now log.now) d → file_of file d ≡ settled (sparse_bytes start.now)
+    ensures { IfOk result (λ s. (d : Disk) → AllFit (effects written.now log.now) d
+        → file_of file d ≡ settled (sparse_bytes start.now)
         → IsPicked pick (file_of file (replay (effects written.now log.now) d)) (sparse_bytes s)) }
 {
     match pick {
@@ -57,7 +58,8 @@ fn held_after(
     requires pool { AllInPool (length written.now) log.now }
     requires ends { AllEndWithin log.now }
     requires octets { AreBytes written.now }
-    ensures { IfOk result (λ s. (d : Disk) → AllFit (effects written.now log.now) d → (file_of file d).now ≡ sparse_bytes start.now
+    ensures { IfOk result (λ s. (d : Disk) → AllFit (effects written.now log.now) d
+        → (file_of file d).now ≡ sparse_bytes start.now
         → sparse_bytes s ≡ (file_of file (replay (effects written.now log.now) d)).now) }
 {
     let len = len_of(log, file, start.len());
@@ -78,7 +80,8 @@ fn torn_at(
     requires pool { AllInPool (length written.now) log.now }
     requires ends { AllEndWithin log.now }
     requires octets { AreBytes written.now }
-    ensures { IfOk result (λ s. (d : Disk) → AllFit (effects written.now log.now) d → file_of file d ≡ settled (sparse_bytes start.now)
+    ensures { IfOk result (λ s. (d : Disk) → AllFit (effects written.now log.now) d
+        → file_of file d ≡ settled (sparse_bytes start.now)
         → IsTorn fill (file_of file (replay (effects written.now log.now) d)) (sparse_bytes s)) }
 {
     let synced = &log[..synced_by(log, file)];
@@ -96,8 +99,10 @@ fn fills_since(
     file: VolFile,
     fill: u8,
 ) -> Result<Vec<Piece>, AllocError>
-    ensures { IfOk result (λ v. (written : List ℕ) (d : Disk) → AllInPool (length written) log.now → AllFit (effects written log.now) d → (file_of file d).touched ≡ []
-        → pieces_of v.items ≡ fills fill (file_of file (replay (effects written log.now) d)).touched) }
+    ensures { IfOk result (λ v. (written : List ℕ) (d : Disk) → AllInPool (length written) log.now
+        → AllFit (effects written log.now) d → (file_of file d).touched ≡ []
+        → pieces_of v.items ≡ fills fill (file_of file
+        (replay (effects written log.now) d)).touched) }
 {
     let mut pieces = Vec::new(alloc);
     for call in log {

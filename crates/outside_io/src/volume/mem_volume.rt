@@ -1,9 +1,9 @@
 ghost use Rattle.std.specs.Prelude.{◌≡◌, ◌↔◌, ℕ, ◌+◌, ◌-◌, ◌^◌, ◌<◌, ◌≤◌, [], None, min, length, IsTrue, IfOk, IsErr, IsSomeAnd, OnOk, OnErr, Contains};
 ghost use Rattle.outside_io.specs.volume.Disk.{FailedCut, FailedWrite, IsDiskImage, Struck, change, file_of, shortened, synced, wrote};
-ghost use Rattle.outside_io.specs.streams.Faults.{CountsFaults};
+ghost use Rattle.outside_io.specs.streams.Faults.{CountsFaults, one_more};
 ghost use Rattle.outside_io.specs.volume.History.{ReadsAt, Ticks, contents, current};
 ghost use Rattle.outside_io.specs.volume.Pick.{IsPicked};
-ghost use Rattle.outside_io.specs.volume.Recorded.{Answers, MustFail, first_record, history_of, disk_after, sum_written};
+ghost use Rattle.outside_io.specs.volume.Recorded.{KeepsRecord, MustFail, MustFailToWrite, first_record, history_of, disk_after, sum_written};
 ghost use Rattle.outside_io.specs.inside.Effects.{Fits, EndsWithin};
 ghost use Rattle.outside_io.specs.volume.Sparse.{sparse_bytes};
 
@@ -13,8 +13,9 @@ use crate::{Failed, Start, VolFile, Volume};
 use std::alloc::{AllocError, Global};
 use std::marker::Model;
 
-/// A volume in memory, which keeps a record of its calls, so that it answers for every moment. It tells its contents.
-/// Its device calls are numbered from 0, and the clock is the number of the next one. No device call takes memory.
+/// A volume in memory, which keeps a record of its calls, so that it answers for every moment. It
+/// tells its contents. Its device calls are numbered from 0, and the clock is the number of the
+/// next one. No device call takes memory.
 #[derive(Drop)]
 pub struct MemVolume {
     bundle: Start,
@@ -44,9 +45,10 @@ impl Model for MemVolume {
 }
 
 impl MemVolume {
-    /// A volume whose files hold `bundle` and `journal`, with nothing pending on them. A call fails exactly where its
-    /// number is in `failing`, or not below `stop` or `calls`, or where it would write more than `room` bytes in all.
-    /// All its memory is taken here; want of it is the only error.
+    /// A volume whose files hold `bundle` and `journal`, with nothing pending on them. A call
+    /// fails exactly where its number is in `failing`, or not below `stop` or `calls`, or where it
+    /// is a write after which more than `room` bytes would have been written. All its memory is
+    /// taken here; want of it is the only error.
     pub fn new(
         alloc: Global,
         bundle: Start,
@@ -56,7 +58,8 @@ impl MemVolume {
         calls: usize,
         room: usize,
     ) -> Result<MemVolume, AllocError>
-        ensures { IfOk result (λ v. v ≡ first_record bundle journal failing.items stop calls room) }
+        ensures { IfOk result
+            (λ v. v ≡ first_record bundle journal failing.items stop calls room) }
     {
         let log = Vec::with_capacity(alloc, calls)?;
         let written = Vec::with_capacity(alloc, room)?;
@@ -78,14 +81,19 @@ impl MemVolume {
         })
     }
 
-    /// One image of that moment, which is not later than the clock, as a new volume with nothing pending. It has the
-    /// same `calls` and `room`, and nothing that makes it fail before them. Want of memory is the only error.
+    /// One image of that moment, which is not later than the clock, as a new volume with nothing
+    /// pending. It has the same `calls` and `room`, and nothing that makes it fail before them.
+    /// Want of memory is the only error.
     pub fn crash(&self, alloc: Global, moment: u64, pick: Pick) -> Result<MemVolume, AllocError>
         requires { moment ≤ self.now.clock }
-        ensures first_record { IfOk result (λ v. v ≡ first_record v.bundle v.journal [] None self.now.calls self.now.room) }
-        ensures bundle { IfOk result (λ v. IsPicked pick ((history_of self.now).disk_at moment).bundle (sparse_bytes v.bundle)) }
-        ensures journal { IfOk result (λ v. IsPicked pick ((history_of self.now).disk_at moment).journal (sparse_bytes v.journal)) }
-        ensures image { IfOk result (λ v. IsDiskImage ((history_of self.now).disk_at moment) (sparse_bytes v.bundle) (sparse_bytes v.journal)) }
+        ensures first_record { IfOk result (λ v. v
+            ≡ first_record v.bundle v.journal [] None self.now.calls self.now.room) }
+        ensures bundle { IfOk result (λ v. IsPicked pick
+            ((history_of self.now).disk_at moment).bundle (sparse_bytes v.bundle)) }
+        ensures journal { IfOk result (λ v. IsPicked pick
+            ((history_of self.now).disk_at moment).journal (sparse_bytes v.journal)) }
+        ensures image { IfOk result (λ v. IsDiskImage ((history_of self.now).disk_at moment)
+            (sparse_bytes v.bundle) (sparse_bytes v.journal)) }
     {
         let bundle = self.picked(alloc, VolFile::Bundle, moment, pick)?;
         let journal = self.picked(alloc, VolFile::Journal, moment, pick)?;
@@ -109,7 +117,8 @@ impl MemVolume {
         pick: Pick,
     ) -> Result<Start, AllocError>
         requires { moment ≤ self.now.clock }
-        ensures { IfOk result (λ s. IsPicked pick (file_of file ((history_of self.now).disk_at moment)) (sparse_bytes s)) }
+        ensures { IfOk result (λ s. IsPicked pick (file_of file
+            ((history_of self.now).disk_at moment)) (sparse_bytes s)) }
     {
         let upto = self.log.len().min(moment as usize);
         let start = match file {
@@ -119,18 +128,23 @@ impl MemVolume {
         image(alloc, start, &self.log[..upto], &self.written, file, pick)
     }
 
-    // Whether the next call, which would write so many bytes, has to fail.
-    fn must_fail(&self, more: usize) -> bool
-        ensures { IsTrue result ↔ MustFail self.now more }
+    // Whether the next call has to fail, whatever it is.
+    fn must_fail(&self) -> bool
+        ensures { IsTrue result ↔ MustFail self.now }
     {
         let number = self.clock;
         if is_named(&self.failing, number) || is_reached(self.stop, number) {
             return true;
         }
-        if self.calls as u64 <= number || number == u64::MAX {
-            return true;
-        }
-        more > self.room - self.written.len()
+        self.calls as u64 <= number || number == u64::MAX
+    }
+
+    // Whether so many more bytes can be written.
+    fn has_room(&self, more: usize) -> bool
+        ensures exact { IsTrue result ↔ (sum_written self.now.effects + more ≤ self.now.room) }
+        ensures none { more ≡ 0 → IsTrue result }
+    {
+        more <= self.room - self.written.len()
     }
 
     // Takes the moment of a call that fails.
@@ -139,8 +153,13 @@ impl MemVolume {
         ensures disk { current (history_of self.new) ≡ current (history_of self.old) }
         ensures time { Ticks (history_of self.old) (history_of self.new) result }
         ensures counted { CountsFaults result self.old.faults self.new.faults }
-        ensures kept { self.new ≡ record self.old { effects = self.new.effects; clock = self.new.clock; faults = self.new.faults } }
+        ensures kept { self.new ≡ record self.old {
+          effects = self.new.effects;
+          clock = self.new.clock;
+          faults = self.new.faults;
+        } }
         ensures written { sum_written self.new.effects ≡ sum_written self.old.effects }
+        ensures one_fault { self.new.faults ≡ one_more self.old.faults }
     {
         self.faults = self.faults.saturating_add(1);
         if self.clock >= self.calls as u64 {
@@ -154,15 +173,22 @@ impl MemVolume {
 
     // Notes a call that must not fail.
     fn note(&mut self, ask: Ask, bytes: &[u8])
-        requires passes { MustFail self.old (length bytes.now) → ⊥ }
+        requires passes { MustFail self.old → ⊥ }
+        requires space { sum_written self.old.effects + length bytes.now ≤ self.old.room }
         requires fits { Fits ask (current (history_of self.old)) }
         requires end { EndsWithin ask (length bytes.now) }
-        ensures disk { current (history_of self.new) ≡ disk_after ask bytes.now (current (history_of self.old)) }
+        ensures disk { current (history_of self.new)
+            ≡ disk_after ask bytes.now (current (history_of self.old)) }
         ensures time { self.new.clock ≡ self.old.clock + 1 }
         ensures room { self.old.clock < 2 ^ 64 - 1 }
-        ensures past { (t : ℕ) → t ≤ self.old.clock → (history_of self.new).disk_at t ≡ (history_of self.old).disk_at t }
-        ensures kept { self.new ≡ record self.old { effects = self.new.effects; clock = self.new.clock } }
-        ensures written { sum_written self.new.effects ≡ sum_written self.old.effects + length bytes.now }
+        ensures past { (t : ℕ) → t ≤ self.old.clock
+            → (history_of self.new).disk_at t ≡ (history_of self.old).disk_at t }
+        ensures kept { self.new ≡ record self.old {
+          effects = self.new.effects;
+          clock = self.new.clock;
+        } }
+        ensures written { sum_written self.new.effects
+            ≡ sum_written self.old.effects + length bytes.now }
     {
         append(&mut self.log, &mut self.written, ask, bytes);
         self.clock += 1;
@@ -174,13 +200,17 @@ impl MemVolume {
     fn call(&mut self, ask: Ask, bytes: &[u8]) -> Result<(), Failed>
         requires fits { Fits ask (current (history_of self.old)) }
         requires end { EndsWithin ask (length bytes.now) }
-        ensures ok { OnOk result (current (history_of self.new) ≡ disk_after ask bytes.now (current (history_of self.old))) }
-        ensures err { OnErr result (current (history_of self.new) ≡ current (history_of self.old)) }
+        ensures ok { OnOk result (current (history_of self.new)
+            ≡ disk_after ask bytes.now (current (history_of self.old))) }
+        ensures err { OnErr result (current (history_of self.new)
+            ≡ current (history_of self.old)) }
         ensures time { Ticks (history_of self.old) (history_of self.new) result }
         ensures counted { CountsFaults result self.old.faults self.new.faults }
-        ensures answers { Answers self.old self.new (length bytes.now) result }
+        ensures fails { IsErr result ↔ MustFailToWrite self.old (length bytes.now) }
+        ensures fails_alone { length bytes.now ≡ 0 → IsErr result ↔ MustFail self.old }
+        ensures keeps { KeepsRecord self.old self.new (length bytes.now) result }
     {
-        if self.must_fail(bytes.len()) {
+        if self.must_fail() || !self.has_room(bytes.len()) {
             return self.fail();
         }
         self.note(ask, bytes);
@@ -247,7 +277,8 @@ impl Volume for MemVolume {
         ensures disk { current (history_of self.new) ≡ current (history_of self.old) }
         ensures time { Ticks (history_of self.old) (history_of self.new) result }
         ensures counted { CountsFaults result self.old.faults self.new.faults }
-        ensures exactly { Answers self.old self.new 0 result }
+        ensures fails { IsErr result ↔ MustFail self.old }
+        ensures keeps { KeepsRecord self.old self.new 0 result }
     {
         self.call(Ask::Look, &[])?;
         Ok(self.held_len(file))
@@ -255,11 +286,13 @@ impl Volume for MemVolume {
 
     fn read(&mut self, file: VolFile, at: u64, buf: &mut [u8]) -> Result<usize, Failed>
         ensures bound { IfOk result (λ n. n ≤ length buf.old) }
-        ensures answer { IfOk result (λ n. ReadsAt (contents file (history_of self.old)) at n buf.old buf.new) }
+        ensures answer { IfOk result (λ n. ReadsAt
+            (contents file (history_of self.old)) at n buf.old buf.new) }
         ensures disk { current (history_of self.new) ≡ current (history_of self.old) }
         ensures time { Ticks (history_of self.old) (history_of self.new) result }
         ensures counted { CountsFaults result self.old.faults self.new.faults }
-        ensures exactly { Answers self.old self.new 0 result }
+        ensures fails { IsErr result ↔ MustFail self.old }
+        ensures keeps { KeepsRecord self.old self.new 0 result }
     {
         self.call(Ask::Look, &[])?;
         Ok(self.give(file, at, buf))
@@ -268,35 +301,47 @@ impl Volume for MemVolume {
     fn write(&mut self, file: VolFile, at: u64, bytes: &[u8]) -> Result<(), Failed>
         requires within { at ≤ length (contents file (history_of self.old)) }
         requires end { at + length bytes.now ≤ 2 ^ 62 }
-        ensures ok { OnOk result (current (history_of self.new) ≡ change file (wrote at bytes.now) (current (history_of self.old))) }
-        ensures err { OnErr result (current (history_of self.new) ≡ current (history_of self.old)) }
-        ensures crash { Struck file (wrote at bytes.now) (current (history_of self.old)) (current (history_of self.new)) }
+        ensures ok { OnOk result (current (history_of self.new)
+            ≡ change file (wrote at bytes.now) (current (history_of self.old))) }
+        ensures err { OnErr result (current (history_of self.new)
+            ≡ current (history_of self.old)) }
+        ensures crash { Struck file (wrote at bytes.now) (current (history_of self.old))
+            (current (history_of self.new)) }
         ensures time { Ticks (history_of self.old) (history_of self.new) result }
         ensures counted { CountsFaults result self.old.faults self.new.faults }
-        ensures exactly { Answers self.old self.new (length bytes.now) result }
+        ensures fails { IsErr result ↔ MustFailToWrite self.old (length bytes.now) }
+        ensures keeps { KeepsRecord self.old self.new (length bytes.now) result }
     {
         self.call(Ask::Write(file, at), bytes)
     }
 
     fn cut(&mut self, file: VolFile, len: u64) -> Result<(), Failed>
         requires { len ≤ length (contents file (history_of self.old)) }
-        ensures ok { OnOk result (current (history_of self.new) ≡ change file (shortened len) (current (history_of self.old))) }
-        ensures err { OnErr result (current (history_of self.new) ≡ current (history_of self.old)) }
-        ensures crash { Struck file (shortened len) (current (history_of self.old)) (current (history_of self.new)) }
+        ensures ok { OnOk result (current (history_of self.new)
+            ≡ change file (shortened len) (current (history_of self.old))) }
+        ensures err { OnErr result (current (history_of self.new)
+            ≡ current (history_of self.old)) }
+        ensures crash { Struck file (shortened len) (current (history_of self.old))
+            (current (history_of self.new)) }
         ensures time { Ticks (history_of self.old) (history_of self.new) result }
         ensures counted { CountsFaults result self.old.faults self.new.faults }
-        ensures exactly { Answers self.old self.new 0 result }
+        ensures fails { IsErr result ↔ MustFail self.old }
+        ensures keeps { KeepsRecord self.old self.new 0 result }
     {
         self.call(Ask::Cut(file, len), &[])
     }
 
     fn sync(&mut self, file: VolFile) -> Result<(), Failed>
-        ensures ok { OnOk result (current (history_of self.new) ≡ change file synced (current (history_of self.old))) }
-        ensures err { OnErr result (current (history_of self.new) ≡ current (history_of self.old)) }
-        ensures crash { Struck file (λ f. f) (current (history_of self.old)) (current (history_of self.new)) }
+        ensures ok { OnOk result (current (history_of self.new)
+            ≡ change file synced (current (history_of self.old))) }
+        ensures err { OnErr result (current (history_of self.new)
+            ≡ current (history_of self.old)) }
+        ensures crash { Struck file (λ f. f) (current (history_of self.old))
+            (current (history_of self.new)) }
         ensures time { Ticks (history_of self.old) (history_of self.new) result }
         ensures counted { CountsFaults result self.old.faults self.new.faults }
-        ensures exactly { Answers self.old self.new 0 result }
+        ensures fails { IsErr result ↔ MustFail self.old }
+        ensures keeps { KeepsRecord self.old self.new 0 result }
     {
         self.call(Ask::Sync(file), &[])
     }

@@ -1,11 +1,14 @@
-ghost use Rattle.std.specs.Prelude.{◌≡◌};
-ghost use Rattle.outside_io.specs.volume.Blind.{unused};
+ghost use Rattle.std.specs.Prelude.{◌≡◌, IsErr};
+ghost use Rattle.outside_io.specs.streams.Faults.{CountsFaults};
+ghost use Rattle.outside_io.specs.volume.Blind.{after_failure, blind_history, unused};
+ghost use Rattle.outside_io.specs.volume.History.{Ticks};
 
 use super::tally::Tally;
 use crate::{Failed, VolFile, Volume};
 use std::marker::Model;
 
-/// The volume that fails at every call, and tells nothing.
+/// The volume that fails at every call, and tells nothing. Each failure takes a moment and is
+/// counted, both up to 2^64 - 1.
 #[derive(Drop)]
 pub struct NoVolume {
     tally: Tally,
@@ -43,23 +46,49 @@ impl Volume for NoVolume {
 
     ghost present = { λ _ h. nothing_told h };
 
-    fn len(&mut self, _file: VolFile) -> Result<u64, Failed> {
+    fn len(&mut self, _file: VolFile) -> Result<u64, Failed>
+        ensures fails { IsErr result }
+        ensures after { self.new ≡ after_failure self.old }
+        ensures time { Ticks (blind_history self.old) (blind_history self.new) result }
+        ensures counted { CountsFaults result self.old.faults self.new.faults }
+    {
+        self.tally.end::<u64>(None)
+    }
+
+    fn read(&mut self, _file: VolFile, _at: u64, _buf: &mut [u8]) -> Result<usize, Failed>
+        ensures fails { IsErr result }
+        ensures same_buffer { _buf.new ≡ _buf.old }
+        ensures after { self.new ≡ after_failure self.old }
+        ensures time { Ticks (blind_history self.old) (blind_history self.new) result }
+        ensures counted { CountsFaults result self.old.faults self.new.faults }
+    {
+        self.tally.end::<usize>(None)
+    }
+
+    fn write(&mut self, _file: VolFile, _at: u64, _bytes: &[u8]) -> Result<(), Failed>
+        ensures fails { IsErr result }
+        ensures after { self.new ≡ after_failure self.old }
+        ensures time { Ticks (blind_history self.old) (blind_history self.new) result }
+        ensures counted { CountsFaults result self.old.faults self.new.faults }
+    {
         self.tally.end(None)
     }
 
-    fn read(&mut self, _file: VolFile, _at: u64, _buf: &mut [u8]) -> Result<usize, Failed> {
+    fn cut(&mut self, _file: VolFile, _len: u64) -> Result<(), Failed>
+        ensures fails { IsErr result }
+        ensures after { self.new ≡ after_failure self.old }
+        ensures time { Ticks (blind_history self.old) (blind_history self.new) result }
+        ensures counted { CountsFaults result self.old.faults self.new.faults }
+    {
         self.tally.end(None)
     }
 
-    fn write(&mut self, _file: VolFile, _at: u64, _bytes: &[u8]) -> Result<(), Failed> {
-        self.tally.end(None)
-    }
-
-    fn cut(&mut self, _file: VolFile, _len: u64) -> Result<(), Failed> {
-        self.tally.end(None)
-    }
-
-    fn sync(&mut self, _file: VolFile) -> Result<(), Failed> {
+    fn sync(&mut self, _file: VolFile) -> Result<(), Failed>
+        ensures fails { IsErr result }
+        ensures after { self.new ≡ after_failure self.old }
+        ensures time { Ticks (blind_history self.old) (blind_history self.new) result }
+        ensures counted { CountsFaults result self.old.faults self.new.faults }
+    {
         self.tally.end(None)
     }
 

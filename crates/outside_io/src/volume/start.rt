@@ -15,8 +15,9 @@ pub struct Piece {
     pub bytes: Bytes,
 }
 
-/// What a file in memory holds at first: pieces, later ones over earlier ones, and zeros elsewhere. So a long file
-/// needs memory for its pieces alone. Contracts see a length and a list of pieces.
+/// What a file in memory holds at first: pieces, later ones over earlier ones, and zeros
+/// elsewhere. So a long file needs memory for its pieces alone. Contracts see a length and a list
+/// of pieces.
 #[derive(Drop)]
 pub struct Start {
     len: u64,
@@ -62,10 +63,12 @@ impl Start {
         copy_of(alloc, &self.pieces)
     }
 
-    /// Fills the buffer with the bytes from `at` on. It costs the pieces and the buffer, not the file.
+    /// Fills the buffer with the bytes from `at` on. It costs the pieces and the buffer, not the
+    /// file.
     pub(crate) fn read(&self, at: u64, buf: &mut [u8])
         requires { at + length buf.old < 2 ^ 64 }
-        ensures { (k : ℕ) → k < length buf.old → slice_index buf.new k ≡ as_byte (byte_at self.now.pieces (at + k) 0) }
+        ensures { (k : ℕ) → k < length buf.old → slice_index buf.new k
+            ≡ as_byte (byte_at self.now.pieces (at + k) 0) }
     {
         buf.fill(0);
         pieces_over(&self.pieces, at, buf);
@@ -81,7 +84,8 @@ impl Start {
     ) -> Result<(), AllocError>
         ensures { OnOk result (self.new ≡ record {
           len = self.old.len;
-          pieces = (self.old.pieces ++ pieces_of pieces.items) ++ (from, replicate (self.old.len - from) fill) ∷ [];
+          pieces = (self.old.pieces ++ pieces_of pieces.items) ++
+              (from, replicate (self.old.len - from) fill) ∷ [];
         }) }
     {
         let bytes = filled(alloc, fill, self.len.saturating_sub(from) as usize)?;
@@ -102,7 +106,8 @@ pub(crate) fn filled(alloc: Global, fill: u8, count: usize) -> Result<Bytes, All
 // Lays the pieces over a buffer that stands from `at` on.
 fn pieces_over(pieces: &[Piece], at: u64, buf: &mut [u8])
     requires { at + length buf.old < 2 ^ 64 }
-    ensures { (k : ℕ) → k < length buf.old → slice_index buf.new k ≡ byte_at (pieces_of pieces.now) (at + k) (slice_index buf.old k) }
+    ensures { (k : ℕ) → k < length buf.old → slice_index buf.new k
+        ≡ byte_at (pieces_of pieces.now) (at + k) (slice_index buf.old k) }
 {
     for piece in pieces {
         lay_over(buf, at, piece.at, piece.bytes.as_slice());
@@ -112,7 +117,8 @@ fn pieces_over(pieces: &[Piece], at: u64, buf: &mut [u8])
 /// Lays the bytes that stand from `place` on over a buffer that stands from `at` on.
 pub(crate) fn lay_over(buf: &mut [u8], at: u64, place: u64, bytes: &[u8])
     requires { at + length buf.old < 2 ^ 64 }
-    ensures { (k : ℕ) → k < length buf.old → slice_index buf.new k ≡ byte_over place bytes.now (at + k) (slice_index buf.old k) }
+    ensures { (k : ℕ) → k < length buf.old → slice_index buf.new k
+        ≡ byte_over place bytes.now (at + k) (slice_index buf.old k) }
 {
     let low = at.max(place);
     let high = (at + buf.len() as u64).min(place.saturating_add(bytes.len() as u64));

@@ -1,5 +1,5 @@
-ghost use Rattle.std.specs.Prelude.{◌≡◌, ◌+◌, ◌-◌, ◌^◌, ◌<◌, ◌↔◌, IsTrue, IsSome, IsOk, Some, IfOk};
-ghost use Rattle.outside_io.specs.volume.Blind.{blind_history, unused};
+ghost use Rattle.std.specs.Prelude.{◌≡◌, ◌+◌, ◌-◌, ◌^◌, ◌<◌, ◌↔◌, IsTrue, IsSome, IsOk, IsErr, Some, None, IfOk, OnErr};
+ghost use Rattle.outside_io.specs.volume.Blind.{after_failure, blind_history, unused};
 ghost use Rattle.outside_io.specs.streams.Faults.{CountsFaults};
 ghost use Rattle.outside_io.specs.volume.History.{Ticks};
 
@@ -46,9 +46,12 @@ impl Tally {
         self.clock < u64::MAX
     }
 
-    /// Ends a call that has its answer, or has failed. At the clock's end it fails in any case.
+    /// Ends a call that has its answer, or has failed: None. At the clock's end it fails in any
+    /// case.
     pub fn end<T: Drop>(&mut self, answer: Option<T>) -> Result<T, Failed>
         ensures answer { IfOk result (λ x. answer ≡ Some x) }
+        ensures fails { answer ≡ None → IsErr result }
+        ensures failed { OnErr result (self.new ≡ after_failure self.old) }
         ensures succeeds { IsSome answer → self.old.moment < 2 ^ 64 - 1 → IsOk result }
         ensures time { Ticks (blind_history self.old) (blind_history self.new) result }
         ensures counted { CountsFaults result self.old.faults self.new.faults }

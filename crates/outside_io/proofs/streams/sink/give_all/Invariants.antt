@@ -5,6 +5,7 @@ use Rattle.outside_io.proofs.streams.sink.give_all.Given as goal
 abbrev pub invariant-loop-at : goal.invariant-loop-at
 invariant-loop-at g l = record {
   within : l.at ≤ length l.bytes;
+  unchanged : length l.bytes ≡ 0 → l.sink ≡ l.fn.sink;
   held : Holds (g.K.Sink.held l.fn.sink) (g.K.Sink.held l.sink) (take l.at l.bytes);
   faults : g.K.Sink.faults l.sink ≡ g.K.Sink.faults l.fn.sink;
 }

@@ -5,6 +5,7 @@ use Rattle.outside_io.proofs.streams.source.take_all.Given as goal
 abbrev pub invariant-loop-at : goal.invariant-loop-at
 invariant-loop-at g l = record {
   within : l.at ≤ length l.buf;
+  unchanged : length l.buf ≡ 0 → l.source ≡ l.fn.source;
   taken : TakesFront (g.S.Source.left l.fn.source) (g.S.Source.left l.source) l.at l.buf;
   faults : g.S.Source.faults l.source ≡ g.S.Source.faults l.fn.source;
 }

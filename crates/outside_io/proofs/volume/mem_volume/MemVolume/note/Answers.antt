@@ -18,8 +18,8 @@ noted c = record c.self.inside {
   clock = c.self.inside.clock + 1;
 }
 
-passes : (c : goal.After-self-3-1) → MustFail (recorded c.self.inside) (length c.args.bytes.now) → ⊥
-passes c must = c.requires.passes (subst (λ (r : Recorded). MustFail r (length c.args.bytes.now)) c.self.view_is must)
+passes : (c : goal.After-self-3-1) → MustFail (recorded c.self.inside) → ⊥
+passes c must = c.requires.passes (subst MustFail c.self.view_is must)
 
 fits : (c : goal.After-self-3-1) → Fits c.args.ask (current (history_of (recorded c.self.inside)))
 fits c = subst (λ (r : Recorded). Fits c.args.ask (current (history_of r))) (sym c.self.view_is) c.requires.fits
@@ -28,7 +28,8 @@ follows_noted : (c : goal.After-self-3-1) → Follows c.self.inside (noted c) (r
 follows_noted c =
     let a = c.self.inside in
     let below : a.clock < a.calls = elim (cases_lt a.clock a.calls) [ inl less ↦ less | inr past ↦ absurd (passes c (inr (inr (inl past)))) ] in
-    let within : sum_written (effects_of a) + length c.args.bytes.now ≤ a.room = elim (cases_lt a.room (sum_written (effects_of a) + length c.args.bytes.now)) [ inl more ↦ absurd (passes c (inr (inr (inr (inr more))))) | inr within ↦ within ] in
+    let within : sum_written (effects_of a) + length c.args.bytes.now ≤ a.room =
+    subst (λ (r : Recorded). sum_written r.effects + length c.args.bytes.now ≤ r.room) (sym c.self.view_is) c.requires.space in
     record {
       bundle = refl;
       journal = refl;
