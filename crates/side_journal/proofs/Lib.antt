@@ -1,0 +1,4 @@
+pub mod Closed
+pub mod Gates
+pub mod OneState
+pub mod Spells

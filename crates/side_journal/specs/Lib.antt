@@ -1,0 +1,10 @@
+pub use Rattle.bundle_index.specs.Entry
+pub use Rattle.bundle_index.specs.Header
+pub use Rattle.bundle_index.specs.Numbers
+pub use Rattle.byteorder.specs.Endian
+pub use Rattle.outside_io.specs.volume.Disk
+pub use Rattle.outside_io.specs.streams.Faults
+pub use Rattle.outside_io.specs.volume.History
+pub mod Bodies
+pub mod Says
+pub mod Steps
