@@ -1,6 +1,7 @@
 // The head of a list.
 
-ghost use Rattle.std.specs.Prelude.{◌≡◌, ◌+◌, ◌*◌, ◌≤◌, ◌↔◌, ◌++◌, ℕ, MatchResult, length, drop};
+ghost use Rattle.std.specs.Prelude.{◌≡◌, ◌+◌, ◌*◌, ◌≤◌, ◌↔◌, ◌++◌, ℕ};
+ghost use Rattle.std.specs.Prelude.{IfErr, MatchResult, length, drop};
 ghost use Rattle.byteorder.specs.Endian.{little_number};
 ghost use Rattle.bit_stuff.specs.Head.{IsHead, count_size, head_bytes, head_faults, head_size};
 ghost use Rattle.bit_stuff.specs.declared.heads.ListHead.{ListHead};
@@ -79,7 +80,7 @@ fn refused(reason: ListReason, at: usize) -> Result<(ListHead, usize), ListFault
 fn head_of(bytes: &[u8], want: u32) -> Result<(ListHead, usize), ListFault>
     ensures { MatchResult result
         (λ r. IsHead bytes.now r.0 r.1 × (r.0.count ≡ want))
-        (λ f. head_faults want bytes.now f.at f.reason) }
+        (λ f. (f.at ≤ length bytes.now) × head_faults want bytes.now f.at f.reason) }
 {
     if bytes.is_empty() {
         return refused(ListReason::Cut, 0);
@@ -124,6 +125,7 @@ pub fn read_head(bytes: &[u8], want: u32) -> Result<(ListHead, usize), ListFault
         (result ≡ Ok (record { 0 = head; 1 = used })) ↔ (IsHead bytes.now head used × (head.count ≡ want)) }
     ensures fault { (f : ListFault) →
         (result ≡ Err f) ↔ head_faults want bytes.now f.at f.reason }
+    ensures within { IfErr result (λ f. f.at ≤ length bytes.now) }
 {
     head_of(bytes, want)
 }

@@ -17,7 +17,7 @@ pub use laws::{
     written_bytes_are_stuffed,
 };
 pub use packing::stuff;
-pub use simple::{list_width, simple_len, write_simple};
+pub use simple::{digit_count, list_width, simple_len, write_simple};
 pub use unpacking::{stuffed_len, unstuff};
 
 #[cfg(test)]

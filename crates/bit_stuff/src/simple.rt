@@ -1,7 +1,8 @@
 // Lists in the simple form.
 
 ghost use Rattle.std.specs.Prelude.{◌≡◌, ◌+◌, ◌^◌, ◌<◌, ◌≤◌, ℕ, length, All};
-ghost use Rattle.bit_stuff.specs.Simple.{IsSimpleList, greatest_number, simple_bytes, width_of};
+ghost use Rattle.bit_stuff.specs.Simple.{IsSimpleList, binary_digits};
+ghost use Rattle.bit_stuff.specs.Simple.{greatest_number, simple_bytes, width_of};
 
 use crate::heads::{head_len, write_head};
 use crate::packing::stuff;
@@ -20,6 +21,14 @@ fn greatest(values: &[u32]) -> u32
     most
 }
 
+/// How many binary digits a number has: 0 has none.
+pub fn digit_count(n: u32) -> u32
+    ensures value { result ≡ binary_digits n }
+    ensures least { (k : ℕ) → n < 2 ^ k → result ≤ k }
+{
+    32 - n.leading_zeros()
+}
+
 /// The chosen width of a list: as many bits as its greatest value has binary digits, 0 where all
 /// values are 0 or there is none.
 pub fn list_width(values: &[u32]) -> u32
@@ -27,7 +36,7 @@ pub fn list_width(values: &[u32]) -> u32
     ensures holds { All (λ v. v < 2 ^ result) values.now }
     ensures least { (k : ℕ) → All (λ v. v < 2 ^ k) values.now → result ≤ k }
 {
-    32 - greatest(values).leading_zeros()
+    digit_count(greatest(values))
 }
 
 /// How many bytes `write_simple` takes for the values.

@@ -20,6 +20,8 @@ use Rattle.bit_stuff.proofs.StuffedLaws.{some_stuffed, stuffed_unique}
 use Rattle.lut_stuff.specs.Faults.{AreIndexes, body_faults, data_faults, entry_faults, index_faults, list_faults, size_faults, table_faults}
 use Rattle.lut_stuff.specs.Lists.{IsList, IsListOf, IsTabled, entry_at}
 use Rattle.lut_stuff.specs.Lists.IsList.{simple, table}
+use Rattle.lut_stuff.specs.inside.Indexes.{IsBody}
+use Rattle.lut_stuff.specs.inside.Indexes.IsBody.{plain, tabled}
 
 -- ---- the parts of a list
 
@@ -74,11 +76,6 @@ tabled_once a b s t width xs ys p q size joined =
       p.joined ∙ (λ i. (length (entries.1 i) + 1) ∷ (entries.0 i ++ indexes.0 i)) ∙ sym q.joined,
       p.named ∙ (λ i. map (entry_at (entries.1 i)) (indexes.1 i)) ∙ sym q.named,
     )
-
--- a list by its head
-pub data IsBody (head : ListHead) (back values : List ℕ) : Type 0 where
-  plain : head.table ≡ false → IsStuffed back head.width values → IsBody head back values
-  tabled : IsTrue head.table → IsTabled head.width back values → IsBody head back values
 
 pub record IsCut (bytes values : List ℕ) : Type 0 where
   pub head : ListHead

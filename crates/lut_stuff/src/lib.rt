@@ -6,5 +6,7 @@
 #![tactic(auto)]
 
 mod laws;
+mod reading;
 
 pub use laws::lists_stand_or_have_one_fault;
+pub use reading::read_list;
