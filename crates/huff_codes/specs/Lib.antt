@@ -1,0 +1,8 @@
+-- Codes, their lengths, tables and words; `inside` has the words of private functions.
+pub mod Sums
+pub mod Bits
+pub mod Tree
+pub mod Codes
+pub mod Words
+pub mod Written
+pub mod inside

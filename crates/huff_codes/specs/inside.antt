@@ -1,0 +1,7 @@
+-- Words of the private functions: nothing here has to be believed.
+pub mod Spans
+pub mod Stored
+pub mod Reading
+pub mod Places
+pub mod Nodes
+pub mod Forests

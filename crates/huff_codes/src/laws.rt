@@ -1,0 +1,33 @@
+//! Laws of the definitions, for the crates above. Each function does nothing: its contract is the
+//! law.
+
+ghost use Rattle.std.specs.Prelude.{◌≡◌, ◌≤◌, ℕ, List, Bool, All, length};
+ghost use Rattle.first_fault.specs.Parts.{IsPart};
+ghost use Rattle.huff_codes.specs.Tree.{lengths_of, used_count};
+ghost use Rattle.huff_codes.specs.Codes.{AreCodes, AreLengths, HasCode, IsPrefixFree, canonical_codes};
+ghost use Rattle.huff_codes.specs.Words.{AreWords, word_faults};
+ghost use Rattle.huff_codes.specs.Written.{AreWritten};
+
+/// Words of codes have one reading, whatever follows them; bytes that begin with words have no fault
+/// of them, and all others at most one.
+pub fn words_are_a_part()
+    ensures { (codes : List (List Bool)) (n : ℕ)
+        → IsPrefixFree codes → IsPart (AreWords codes n) (word_faults codes n) }
+{}
+
+/// The canonical codes of lengths whose shares fill all words are codes.
+pub fn canonical_codes_are_codes()
+    ensures { (lengths : List ℕ) → AreLengths lengths → AreCodes (canonical_codes lengths) }
+{}
+
+/// The lengths of two used symbols or more are lengths, where none is above 32.
+pub fn chosen_lengths_are_lengths()
+    ensures { (counts : List ℕ) → 2 ≤ used_count counts
+        → All (λ l. l ≤ 32) (lengths_of counts) → AreLengths (lengths_of counts) }
+{}
+
+/// What is written is words of its symbols.
+pub fn written_words_are_words()
+    ensures { (codes : List (List Bool)) (symbols bytes : List ℕ) → All (HasCode codes) symbols
+        → AreWritten codes symbols bytes → AreWords codes (length symbols) bytes symbols }
+{}
