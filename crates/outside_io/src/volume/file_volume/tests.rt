@@ -3,7 +3,7 @@ use std::alloc::Allocator;
 use std::cell::Cell;
 use std::fs;
 use std::fs::Metadata;
-use std::process::Abort;
+use std::rc::Rc;
 use std::test::Fail;
 
 const BOTH: [VolFile; 2] = [VolFile::Bundle, VolFile::Journal];
@@ -159,6 +159,12 @@ impl Drawer {
     }
 }
 
+#[derive(Clone, Copy)]
+enum Place {
+    File(VolFile),
+    Folder,
+}
+
 // A machine of two files and the folder that names them.
 #[derive(Drop)]
 struct Desk {
@@ -178,29 +184,38 @@ impl Desk {
         }
     }
 
-    fn drawer(&self, file: VolFile) -> &Drawer {
-        match file {
-            VolFile::Bundle => &self.bundle,
-            VolFile::Journal => &self.journal,
+    fn drawer(&self, place: Place) -> &Drawer {
+        match place {
+            Place::File(VolFile::Bundle) => &self.bundle,
+            Place::File(VolFile::Journal) => &self.journal,
+            Place::Folder => &self.folder,
         }
+    }
+
+    fn counts(&self, file: VolFile) -> Counts {
+        self.drawer(Place::File(file)).counts.get()
     }
 }
 
-#[derive(Clone, Copy)]
-struct Machine<'a> {
-    desk: &'a Desk,
+#[derive(Drop)]
+struct Machine {
+    desk: Rc<Desk>,
 }
 
 // An open file. Each call is interrupted once, and moves two bytes at most.
 #[derive(Drop)]
-struct Handle<'a> {
-    desk: &'a Desk,
-    drawer: &'a Drawer,
+struct Handle {
+    desk: Rc<Desk>,
+    place: Place,
     at: u64,
     calls: u32,
 }
 
-impl<'a> Handle<'a> {
+impl Handle {
+    fn drawer(&self) -> &Drawer {
+        self.desk.drawer(self.place)
+    }
+
     // Whether this call is interrupted, and whether it is the third of those that are not.
     fn turn(&mut self) -> (bool, bool) {
         self.calls = self.calls.wrapping_add(1);
@@ -212,7 +227,7 @@ fn error(kind: ErrorKind) -> io::Error {
     io::Error::from(kind)
 }
 
-impl<'a> Read for Handle<'a> {
+impl Read for Handle {
     fn read(&mut self, buf: &mut [u8]) -> io::Result<usize> {
         let (is_interrupted, is_late) = self.turn();
         if is_interrupted {
@@ -221,22 +236,22 @@ impl<'a> Read for Handle<'a> {
         if is_late && self.desk.fault.get() == Fault::ReadMidway {
             return Err(error(ErrorKind::Other));
         }
-        let mut counts = self.drawer.counts.get();
+        let mut counts = self.drawer().counts.get();
         counts.reads = counts.reads.wrapping_add(1);
-        self.drawer.counts.set(counts);
+        self.drawer().counts.set(counts);
         let n = self
-            .drawer
+            .drawer()
             .len()
             .saturating_sub(self.at)
             .min(2)
             .min(buf.len() as u64) as usize;
-        buf[..n].fill(self.drawer.letter);
+        buf[..n].fill(self.drawer().letter);
         self.at = self.at.wrapping_add(n as u64);
         Ok(n)
     }
 }
 
-impl<'a> Write for Handle<'a> {
+impl Write for Handle {
     fn write(&mut self, bytes: &[u8]) -> io::Result<usize> {
         let (is_interrupted, is_late) = self.turn();
         if is_interrupted {
@@ -245,12 +260,14 @@ impl<'a> Write for Handle<'a> {
         if is_late && self.desk.fault.get() == Fault::WriteMidway {
             return Err(error(ErrorKind::StorageFull));
         }
-        let mut counts = self.drawer.counts.get();
+        let mut counts = self.drawer().counts.get();
         counts.writes = counts.writes.wrapping_add(1);
-        self.drawer.counts.set(counts);
+        self.drawer().counts.set(counts);
         let n = bytes.len().min(2);
         self.at = self.at.wrapping_add(n as u64);
-        self.drawer.len.set(Some(self.drawer.len().max(self.at)));
+        self.drawer()
+            .len
+            .set(Some(self.drawer().len().max(self.at)));
         Ok(n)
     }
 
@@ -259,20 +276,20 @@ impl<'a> Write for Handle<'a> {
     }
 }
 
-impl<'a> Seek for Handle<'a> {
+impl Seek for Handle {
     fn seek(&mut self, to: SeekFrom) -> io::Result<u64> {
         if self.desk.fault.get() == Fault::Seek {
             return Err(error(ErrorKind::NotSeekable));
         }
         self.at = match to {
             SeekFrom::Start(at) => at,
-            _ => self.drawer.len(),
+            _ => self.drawer().len(),
         };
         Ok(self.at)
     }
 }
 
-impl<'a> OpenFile for Handle<'a> {
+impl OpenFile for Handle {
     fn metadata(&self) -> io::Result<Metadata> {
         Err(error(ErrorKind::Unsupported))
     }
@@ -281,18 +298,18 @@ impl<'a> OpenFile for Handle<'a> {
         if self.desk.fault.get() == Fault::Cut {
             return Err(error(ErrorKind::Other));
         }
-        let mut counts = self.drawer.counts.get();
+        let mut counts = self.drawer().counts.get();
         counts.cuts = counts.cuts.wrapping_add(1);
-        self.drawer.counts.set(counts);
-        self.drawer.len.set(Some(size));
+        self.drawer().counts.set(counts);
+        self.drawer().len.set(Some(size));
         Ok(())
     }
 
     fn sync_all(&self) -> io::Result<()> {
-        let mut counts = self.drawer.counts.get();
+        let mut counts = self.drawer().counts.get();
         counts.syncs = counts.syncs.wrapping_add(1);
-        self.drawer.counts.set(counts);
-        match (self.drawer.letter, self.desk.fault.get()) {
+        self.drawer().counts.set(counts);
+        match (self.drawer().letter, self.desk.fault.get()) {
             (b'/', Fault::SyncFolder) => Err(error(ErrorKind::Other)),
             (b'/', Fault::FolderCalls) => Err(error(ErrorKind::InvalidInput)),
             (b'/', _) => Ok(()),
@@ -306,19 +323,20 @@ impl<'a> OpenFile for Handle<'a> {
     }
 }
 
-impl<'a> Files for Machine<'a> {
-    type File = Handle<'a>;
+impl Files for Machine {
+    type File = Handle;
 
-    type Dir = Handle<'a>;
+    type Dir = Handle;
 
-    fn open_file(&self, how: &OpenOptions, path: &str) -> io::Result<Handle<'a>> {
-        let desk = self.desk;
-        let drawer = match path {
-            "shelf/b" => &desk.bundle,
-            "shelf/j" => &desk.journal,
-            "shelf" => &desk.folder,
+    fn open_file(&self, how: &OpenOptions, path: &str) -> io::Result<Handle> {
+        let place = match path {
+            "shelf/b" => Place::File(VolFile::Bundle),
+            "shelf/j" => Place::File(VolFile::Journal),
+            "shelf" => Place::Folder,
             _ => return Err(error(ErrorKind::NotFound)),
         };
+        let desk = self.desk.clone()?;
+        let drawer = desk.drawer(place);
         let mut counts = drawer.counts.get();
         counts.opens = counts.opens.wrapping_add(1);
         drawer.counts.set(counts);
@@ -339,13 +357,13 @@ impl<'a> Files for Machine<'a> {
         }
         Ok(Handle {
             desk,
-            drawer,
+            place,
             at: 0,
             calls: 0,
         })
     }
 
-    fn open_dir(&self, _path: &str) -> io::Result<Handle<'a>> {
+    fn open_dir(&self, _path: &str) -> io::Result<Handle> {
         Err(error(ErrorKind::Unsupported))
     }
 
@@ -382,18 +400,28 @@ impl<'a> Files for Machine<'a> {
     }
 }
 
-fn volume_on<'a>(rt: &HostRuntime, desk: &'a Desk) -> Result<FileVolume<Machine<'a>>, Fail> {
+// A machine whose files have this length, or are not there, and a volume of them.
+fn volume_on(
+    rt: &HostRuntime,
+    len: Option<u64>,
+    fault: Fault,
+) -> Result<(Rc<Desk>, FileVolume<Machine>), Fail> {
+    let Ok(desk) = Rc::new(rt.alloc(), Desk::new(len, fault)) else {
+        return Err(Fail::from("no memory"));
+    };
     let bundle = String::from_str(rt.alloc(), "shelf/b")?;
     let journal = String::from_str(rt.alloc(), "shelf/j")?;
-    Ok(FileVolume::new(Machine { desk }, bundle, journal))
+    let machine = Machine {
+        desk: desk.clone()?,
+    };
+    Ok((desk, FileVolume::new(machine, bundle, journal)))
 }
 
 #[test]
 fn each_call_goes_to_its_own_file_until_all_is_done(rt: HostRuntime) -> Result<(), Fail> {
     for file in BOTH {
-        let desk = Desk::new(None, Fault::Nothing);
-        let mut vol = volume_on(&rt, &desk)?;
-        let drawer = desk.drawer(file);
+        let (desk, mut vol) = volume_on(&rt, None, Fault::Nothing)?;
+        let drawer = desk.drawer(Place::File(file));
         let mut buf = [0; 5];
         assert_eq!(rt; vol.write(file, 0, b"abcde"), Ok(()));
         assert_eq!(rt; drawer.len.get(), Some(5));
@@ -411,8 +439,8 @@ fn each_call_goes_to_its_own_file_until_all_is_done(rt: HostRuntime) -> Result<(
             cuts: 1,
             syncs: 2,
         };
-        assert_eq!(rt; drawer.counts.get(), counts);
-        assert_eq!(rt; desk.drawer(other(file)).counts.get(), NONE);
+        assert_eq!(rt; desk.counts(file), counts);
+        assert_eq!(rt; desk.counts(other(file)), NONE);
         // The name of the file that was made is synced once.
         assert_eq!(rt;
             desk.folder.counts.get(),
@@ -429,8 +457,7 @@ fn each_call_goes_to_its_own_file_until_all_is_done(rt: HostRuntime) -> Result<(
 #[test]
 fn a_write_leaves_what_is_there(rt: HostRuntime) -> Result<(), Fail> {
     for file in BOTH {
-        let desk = Desk::new(Some(6), Fault::Nothing);
-        let mut vol = volume_on(&rt, &desk)?;
+        let (desk, mut vol) = volume_on(&rt, Some(6), Fault::Nothing)?;
         assert_eq!(rt; vol.write(file, 0, b"a"), Ok(()));
         assert_eq!(rt; vol.len(file), Ok(6));
         assert_eq!(rt; vol.sync(file), Ok(()));
@@ -451,8 +478,7 @@ fn what_the_machine_refuses_is_a_failure(rt: HostRuntime) -> Result<(), Fail> {
             (Fault::Cut, [true, true, true, false, true]),
             (Fault::Sync, [true, true, true, true, false]),
         ] {
-            let desk = Desk::new(Some(6), fault);
-            let mut vol = volume_on(&rt, &desk)?;
+            let (desk, mut vol) = volume_on(&rt, Some(6), fault)?;
             assert_eq!(rt; calls(&mut vol, file), want);
             assert_eq!(rt; vol.moment(), 5);
         }
@@ -468,8 +494,7 @@ fn a_new_name_is_synced_where_the_machine_can(rt: HostRuntime) -> Result<(), Fai
         (Fault::FolderCalls, Ok(()), 1, 1),
         (Fault::SyncFolder, Err(Failed), 2, 2),
     ] {
-        let desk = Desk::new(None, fault);
-        let mut vol = volume_on(&rt, &desk)?;
+        let (desk, mut vol) = volume_on(&rt, None, fault)?;
         assert_eq!(rt; vol.write(VolFile::Bundle, 0, b"a"), Ok(()));
         assert_eq!(rt; vol.sync(VolFile::Bundle), want);
         // A sync of the name that failed is made again.
