@@ -15,3 +15,6 @@ pub use laws::{
 };
 pub use reading::read_list;
 pub use writing::{table_len, write_table};
+
+#[cfg(test)]
+mod tests;
