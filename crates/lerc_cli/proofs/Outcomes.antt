@@ -2,7 +2,7 @@
 use Rattle.std.proofs.Common.{◌≡◌, ℕ, ◌<◌, ◌≤◌, ◌⊎◌, ◌↔◌, List, [], length, take, drop, ◌++◌, Option, Some, None, Result, Ok, Err, refl, sym, ap, subst, ◌∙◌, inl, inr, arith}
 use Rattle.std.specs.Prelude.{IfOk, IfErr}
 use Rattle.std.proofs.lemmas.List.{take-append-drop, append-nil, length-take-le}
-use Rattle.outside_io.specs.Source.{IsAtEnd, TakesFront}
+use Rattle.outside_io.specs.streams.Source.{IsAtEnd, TakesFront}
 use Rattle.raster_values.specs.Raster.{Pixels}
 use Rattle.lerc_header.specs.declared.header.Header.{Header}
 use Rattle.lerc_cli.specs.declared.stop.Stop.{Stop}

@@ -1,8 +1,8 @@
 -- What a command answers, and what it leaves of the objects that it is lent. What a source or a sink tells is None where
 -- it tells nothing.
 use Rattle.std.specs.Prelude.{◌≡◌, ℕ, ◌≤◌, ◌⊎◌, List, Option, IfSome, Result, Ok, Err}
-use Rattle.outside_io.specs.Faults.{FailedBetween}
-use Rattle.outside_io.specs.Sink.{Holds, HoldsPrefix}
+use Rattle.outside_io.specs.streams.Faults.{FailedBetween}
+use Rattle.outside_io.specs.streams.Sink.{Holds, HoldsPrefix}
 use Rattle.raster_values.specs.Raster.{Pixels}
 use Rattle.raster_values.specs.Grid.{grid_of}
 use Rattle.lerc_cli.specs.declared.stop.Stop.{Stop}

@@ -1,6 +1,6 @@
 ghost use Rattle.std.specs.Prelude.{◌≡◌, ◌≤◌, ◌↔◌, Some, IsTrue, IfOk, IfErr, OnOk, length, drop};
 ghost use Rattle.byteorder.specs.Endian.{little_number};
-ghost use Rattle.outside_io.specs.Source.{TakesUpTo, IsAtEnd};
+ghost use Rattle.outside_io.specs.streams.Source.{TakesUpTo, IsAtEnd};
 ghost use Rattle.raster_values.specs.Kind.{InRange};
 ghost use Rattle.raster_values.specs.Raster.{IsShape};
 ghost use Rattle.lerc_header.specs.Checksum.{sum_of};

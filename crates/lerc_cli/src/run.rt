@@ -1,6 +1,6 @@
 ghost use Rattle.std.specs.Prelude.{◌≡◌, ◌≢◌, ◌<◌, ◌≤◌, ◌⊎◌, ◌↔◌, ℕ, List, [], Some, Err, OnOk};
-ghost use Rattle.outside_io.specs.Faults.{FailedBetween};
-ghost use Rattle.outside_io.specs.Source.{TakesUpTo, IsAtEnd};
+ghost use Rattle.outside_io.specs.streams.Faults.{FailedBetween};
+ghost use Rattle.outside_io.specs.streams.Source.{TakesUpTo, IsAtEnd};
 ghost use Rattle.lerc_cli.specs.declared.stop.Stop.{Stop};
 ghost use Rattle.lerc_cli.specs.Blob.{IsBlob};
 ghost use Rattle.lerc_cli.specs.Command.{IsNoCommand};

@@ -1,9 +1,24 @@
+//! Two files and one clock: the trait, the volume in memory, the files of the machine, and the volume that has none.
+
 ghost use Rattle.std.specs.Prelude.{◌≡◌, ◌+◌, ◌^◌, ◌≤◌, ℕ, Bool, length, IsTrue, IfOk, OnOk, OnErr};
-ghost use Rattle.outside_io.specs.Disk.{FailedCut, FailedWrite, Struck, change, shortened, synced, wrote};
-ghost use Rattle.outside_io.specs.Faults.{CountsFaults};
-ghost use Rattle.outside_io.specs.History.{History, IsPresent, ReadsAt, Ticks, contents, current};
+ghost use Rattle.outside_io.specs.volume.Disk.{FailedCut, FailedWrite, Struck, change, shortened, synced, wrote};
+ghost use Rattle.outside_io.specs.streams.Faults.{CountsFaults};
+ghost use Rattle.outside_io.specs.volume.History.{History, IsPresent, ReadsAt, Ticks, contents, current};
+
+mod call_log;
+mod file_volume;
+mod image;
+mod mem_volume;
+mod no_volume;
+mod start;
+mod tally;
 
 use crate::Failed;
+pub use file_volume::FileVolume;
+pub use image::Pick;
+pub use mem_volume::MemVolume;
+pub use no_volume::NoVolume;
+pub use start::{Piece, Start};
 
 /// One of the two files of a volume.
 #[derive(Clone, Copy, Debug, PartialEq, Eq)]

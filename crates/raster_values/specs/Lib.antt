@@ -1,9 +1,13 @@
 -- What contracts of this crate cite.
-pub use Rattle.outside_io.specs.Faults.{CountsFaults}
-pub use Rattle.outside_io.specs.Sink.{Holds, HoldsPrefix}
-pub mod Kind
+pub use Rattle.outside_io.specs.streams.Faults.{CountsFaults}
+pub use Rattle.outside_io.specs.streams.Sink.{Holds, HoldsPrefix}
+pub mod PixelType
+pub use Rattle.raster_values.specs.PixelType as Kind
 pub mod Raster
 pub mod Places
 pub mod Grid
-pub mod View
-pub mod Pack
+pub mod Block
+pub mod Order
+pub mod Values
+pub mod Flat
+pub mod inside

@@ -6,14 +6,20 @@
 //! `grid_write` gives the one grid of the raster.
 #![tactic(auto)]
 
+mod blocks;
+mod cells;
 mod grid;
 mod kind;
 mod laws;
+mod order;
 mod raster;
 #[cfg(test)]
 mod tests;
 
 pub use grid::grid_write;
 pub use kind::PixelType;
-pub use laws::{by_place, determined, grid_determines, marks_one_place, writes_one_value};
+pub use laws::{
+    block_has_count, blocks_determine, blocks_partition, by_place, determined, grid_determines,
+    marks_one_place, order_is_one, pouring_is_one, pouring_leaves_others, writes_one_value,
+};
 pub use raster::{Raster, ShapeFault};

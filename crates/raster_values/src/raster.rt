@@ -1,15 +1,18 @@
-ghost use Rattle.std.specs.Prelude.{◌≡◌, ◌+◌, ◌-◌, ◌*◌, ◌<◌, ◌≤◌, ◌↔◌, IfOk, OnOk, OnErr, IsErrOf, true, length, replicate};
+ghost use Rattle.std.specs.Prelude.{◌≡◌, ◌+◌, ◌-◌, ◌*◌, ◌<◌, ◌≤◌, ◌↔◌, IfOk, OnOk, OnErr, IsErrOf, true, length, replicate, ◌++◌, drop, All, pos, false, get_or, ◌/◌, ℕ, None, is_some};
 ghost use Rattle.std.specs.List.{count_by};
-ghost use Rattle.outside_io.specs.Faults.{CountsFaults};
-ghost use Rattle.outside_io.specs.Sink.{Holds, HoldsPrefix};
-ghost use Rattle.raster_values.specs.Kind.{InRange};
+ghost use Rattle.outside_io.specs.streams.Faults.{CountsFaults};
+ghost use Rattle.outside_io.specs.streams.Sink.{Holds, HoldsPrefix};
+ghost use Rattle.raster_values.specs.PixelType.{InRange, bytes_of};
 ghost use Rattle.raster_values.specs.Raster.{IsRaster, HasZero, IsTooLarge, blank, filled, values_of, valid_count, valid_at, value_at, marked, written, InShape, IsValidAt};
 ghost use Rattle.raster_values.specs.Places.{ChangesMark, ChangesValue};
-ghost use Rattle.raster_values.specs.Grid.{marks_of, values_bytes};
-ghost use Rattle.raster_values.specs.View.{cleared};
+ghost use Rattle.raster_values.specs.Grid.{grid_marks, values_bytes};
+ghost use Rattle.raster_values.specs.Order.{FillsValid, IsMaskOf, MarksBits, PoursBytes, mask_bit};
+ghost use Rattle.raster_values.specs.Flat.{PutsFrom, value_in};
+ghost use Rattle.raster_values.specs.Block.{block_count, block_values, PoursBlock};
 
-use super::grid;
+use super::cells::Cells;
 use super::kind::PixelType;
+use super::{blocks, grid, order};
 use outside_io::{Failed, Sink};
 use std::alloc::{AllocError, Global};
 use std::marker::Model;
@@ -46,13 +49,12 @@ impl From<AllocError> for ShapeFault {
 /// A contract sees a raster as its `Pixels`.
 #[derive(Drop)]
 pub struct Raster {
-    kind: PixelType,
     rows: u32,
     cols: u32,
     depth: u32,
     // Both row by row, the values with the depths innermost. An invalid pixel's values are 0.
     marks: Vec<bool>,
-    values: Vec<i64>,
+    values: Cells,
 }
 
 impl Model for Raster {
@@ -60,7 +62,7 @@ impl Model for Raster {
 
     ghost Value = { Pixels };
 
-    ghost use Rattle.raster_values.specs.View.{seen, IsInside};
+    ghost use Rattle.raster_values.specs.inside.View.{seen, IsInside};
 
     ghost view = { seen };
 
@@ -86,15 +88,6 @@ fn count_marks(marks: &[bool]) -> usize
     marks.iter().filter(|m| **m).count()
 }
 
-/// Sets a run of values to 0.
-fn clear(values: &mut Vec<i64>, at: usize, count: usize)
-    requires { at + count ≤ length values.old.items }
-    ensures { values.new.items ≡ cleared values.old.items at count }
-{
-    let run = &mut values[at..at + count];
-    run.fill(0);
-}
-
 /// Sets every mark.
 fn fill_marks(marks: &mut Vec<bool>)
     ensures { marks.new.items ≡ replicate (length marks.old.items) true }
@@ -103,12 +96,14 @@ fn fill_marks(marks: &mut Vec<bool>)
     all.fill(true);
 }
 
-/// Sets every value to the one given.
-fn fill_values(values: &mut Vec<i64>, value: i64)
-    ensures { values.new.items ≡ replicate (length values.old.items) value }
+/// Sets the marks as the bits of a mask say, the highest of each byte first.
+fn mark_bits(marks: &mut [bool], mask: &[u8])
+    requires { length mask.now ≡ (length marks.old + 7) / 8 }
+    ensures { (k : ℕ) → k < length marks.old → get_or marks.new k false ≡ mask_bit mask.now k }
 {
-    let all = &mut values[..];
-    all.fill(value);
+    for k in 0..marks.len() {
+        marks[k] = (mask[k / 8] >> (7 - k % 8)) % 2 == 1;
+    }
 }
 
 impl Raster {
@@ -139,9 +134,8 @@ impl Raster {
             return Err(ShapeFault::TooLarge);
         }
         let marks = vec![in alloc; false; places as usize]?;
-        let values = vec![in alloc; 0i64; places as usize * depth as usize]?;
+        let values = Cells::new(alloc, kind, places as usize * depth as usize)?;
         Ok(Raster {
-            kind,
             rows,
             cols,
             depth,
@@ -155,7 +149,7 @@ impl Raster {
         ensures value { result ≡ self.now.kind }
         ensures sound { IsRaster self.now }
     {
-        self.kind
+        self.values.kind()
     }
 
     /// The number of rows, at least 1.
@@ -204,7 +198,8 @@ impl Raster {
         requires depth { d < self.now.depth }
         ensures { result ≡ value_at self.now row col d }
     {
-        self.values[offset(self.rows, self.cols, self.depth, row, col, d)]
+        self.values
+            .get(offset(self.rows, self.cols, self.depth, row, col, d))
     }
 
     /// Makes the pixel valid or invalid. A valid pixel that is made valid keeps its values, and an
@@ -219,7 +214,7 @@ impl Raster {
         let at = offset(self.rows, self.cols, depth, row, col, 0);
         self.marks[place] = valid;
         if !valid {
-            clear(&mut self.values, at, depth as usize);
+            self.values.clear(at, depth as usize);
         }
     }
 
@@ -233,7 +228,7 @@ impl Raster {
         ensures changes { ChangesValue self.old self.new row col d value }
     {
         let at = offset(self.rows, self.cols, self.depth, row, col, d);
-        self.values[at] = value;
+        self.values.set(at, value);
     }
 
     /// Makes every pixel valid, with one value of the raster's type at each depth.
@@ -242,14 +237,199 @@ impl Raster {
         ensures { self.new ≡ filled self.old value }
     {
         fill_marks(&mut self.marks);
-        fill_values(&mut self.values, value);
+        self.values.fill(value);
+    }
+
+    /// Makes every pixel of a raster of which none is valid valid, with the value 0 at each depth. The values
+    /// are 0 already, and are not touched.
+    pub fn mark_all(&mut self)
+        requires { valid_count self.old ≡ 0 }
+        ensures { self.new ≡ filled self.old (pos 0) }
+    {
+        fill_marks(&mut self.marks);
+    }
+
+    /// Makes the pixels of a raster of which none is valid valid where their bit of the mask is 1, with the
+    /// value 0 at each depth. The bits go row by row, the highest of each byte first; those behind the last
+    /// pixel are not looked at.
+    pub fn mark_from_bits(&mut self, mask: &[u8])
+        requires none { valid_count self.old ≡ 0 }
+        requires size { length mask.now ≡ (self.old.rows * self.old.cols + 7) / 8 }
+        ensures { MarksBits self.old self.new mask.now }
+    {
+        mark_bits(&mut self.marks, mask);
+    }
+
+    /// How many pixels of a block are valid: of the `side` rows and columns from (row, col) on, cut off at
+    /// the raster's lower and right edges.
+    pub fn block_valid_count(&self, row: u32, col: u32, side: u32) -> usize
+        requires { InShape self.now row col }
+        ensures value { result ≡ block_count self.now row col side }
+        ensures within { result ≤ side * side }
+    {
+        let high = side.min(self.rows - row);
+        let wide = side.min(self.cols - col);
+        blocks::count_rows(
+            &self.marks,
+            self.cols as usize,
+            row as usize,
+            col as usize,
+            high as usize,
+            wide as usize,
+        )
+    }
+
+    /// Puts the values at a depth of a block's valid pixels in front of `out`, row by row, and answers how
+    /// many these are. The rest of `out` stays.
+    pub fn gather_block(&self, row: u32, col: u32, side: u32, d: u32, out: &mut [i64]) -> usize
+        requires place { InShape self.now row col }
+        requires depth { d < self.now.depth }
+        requires room { side * side ≤ length out.old }
+        ensures count { result ≡ block_count self.now row col side }
+        ensures within { result ≤ side * side }
+        ensures values { out.new ≡ block_values self.now row col side d
+            ++ drop (block_count self.now row col side) out.old }
+    {
+        let high = side.min(self.rows - row);
+        let wide = side.min(self.cols - col);
+        blocks::gather_rows(
+            &self.marks,
+            &self.values,
+            self.depth as usize,
+            d as usize,
+            self.cols as usize,
+            row as usize,
+            col as usize,
+            high as usize,
+            wide as usize,
+            out,
+        )
+    }
+
+    /// Gives the valid pixels of a block these values at a depth, row by row. All else stays.
+    pub fn pour_block(&mut self, row: u32, col: u32, side: u32, d: u32, values: &[i64])
+        requires place { InShape self.old row col }
+        requires depth { d < self.old.depth }
+        requires count { length values.now ≡ block_count self.old row col side }
+        requires in_range { All (InRange self.old.kind) values.now }
+        ensures { PoursBlock self.old self.new row col side d values.now }
+    {
+        let high = side.min(self.rows - row);
+        let wide = side.min(self.cols - col);
+        let depth = self.depth;
+        let cols = self.cols;
+        blocks::pour_rows(
+            &self.marks,
+            depth as usize,
+            d as usize,
+            cols as usize,
+            row as usize,
+            col as usize,
+            high as usize,
+            wide as usize,
+            values,
+            &mut self.values,
+        );
+    }
+
+    /// The marks of the pixels from number `place` on: the pixels are numbered row by row, from 0.
+    pub fn marks_from(&self, place: usize, out: &mut [bool])
+        requires { place + length out.old ≤ self.now.rows * self.now.cols }
+        ensures room { length out.new ≡ length out.old }
+        ensures marks { (i : ℕ) → i < length out.old → get_or out.new i false
+            ≡ is_some (get_or self.now.pixels (place + i) None) }
+    {
+        order::copy_marks(&self.marks, place, out);
+    }
+
+    /// The values at a depth of the pixels from number `place` on, 0 of invalid ones.
+    pub fn values_from(&self, place: usize, d: u32, out: &mut [i64])
+        requires place { place + length out.old ≤ self.now.rows * self.now.cols }
+        requires depth { d < self.now.depth }
+        ensures room { length out.new ≡ length out.old }
+        ensures values { (i : ℕ) → i < length out.old → get_or out.new i (pos 0)
+            ≡ value_in self.now d (place + i) }
+    {
+        order::copy_values(&self.values, self.depth as usize, d as usize, place, out);
+    }
+
+    /// Gives the valid ones among the pixels from number `place` on these values at a depth, and
+    /// changes nothing else. The values at the places of invalid pixels are not looked at.
+    pub fn put_from(&mut self, place: usize, d: u32, values: &[i64])
+        requires place { place + length values.now ≤ self.old.rows * self.old.cols }
+        requires depth { d < self.old.depth }
+        requires in_range { All (InRange self.old.kind) values.now }
+        ensures { PutsFrom self.old self.new place d values.now }
+    {
+        let depth = self.depth;
+        order::put_values(
+            &self.marks,
+            depth as usize,
+            d as usize,
+            place,
+            values,
+            &mut self.values,
+        );
+    }
+
+    /// Gives each valid pixel this list of values, one for each depth. All else stays.
+    pub fn fill_valid(&mut self, values: &[i64])
+        requires count { length values.now ≡ self.old.depth }
+        requires in_range { All (InRange self.old.kind) values.now }
+        ensures { FillsValid self.old self.new values.now }
+    {
+        order::fill_marked(&self.marks, values, &mut self.values);
+    }
+
+    /// Gives the valid pixels the values that the bytes stand for, pixel by pixel and depth innermost.
+    /// All else stays.
+    pub fn pour(&mut self, bytes: &[u8])
+        requires { length bytes.now
+            ≡ valid_count self.old * self.old.depth * bytes_of self.old.kind }
+        ensures { PoursBytes self.old self.new bytes.now }
+    {
+        let depth = self.depth;
+        order::pour_bytes(&self.marks, depth as usize, bytes, &mut self.values);
+    }
+
+    /// Writes the bytes of the valid pixels' values, pixel by pixel and depth innermost.
+    pub fn value_bytes(&self, out: &mut [u8])
+        requires { length out.old
+            ≡ valid_count self.now * self.now.depth * bytes_of self.now.kind }
+        ensures { out.new ≡ values_bytes self.now.kind (values_of self.now.pixels) }
+    {
+        order::write_valid(&self.marks, self.depth as usize, &self.values, out);
+    }
+
+    /// Writes the raster's mask: a bit for each pixel, row by row and the highest of each byte first, 1
+    /// for a valid one. The bits behind the last pixel are 0.
+    pub fn mask_bytes(&self, out: &mut [u8])
+        requires { length out.old ≡ (self.now.rows * self.now.cols + 7) / 8 }
+        ensures { IsMaskOf self.now out.new }
+    {
+        order::bytes_of_marks(&self.marks, out);
+    }
+
+    /// A raster equal to this one.
+    pub fn copy(&self, alloc: Global) -> Result<Raster, AllocError>
+        ensures { IfOk result (λ r. r ≡ self.now) }
+    {
+        let mut marks = Vec::with_capacity(alloc, self.marks.len())?;
+        marks.extend_from_slice(&self.marks)?;
+        Ok(Raster {
+            rows: self.rows,
+            cols: self.cols,
+            depth: self.depth,
+            marks,
+            values: self.values.copy(alloc)?,
+        })
     }
 
     /// Gives a byte for each pixel, 1 for a valid one and 0 for an invalid one.
     pub(super) fn give_marks<K: Sink>(&self, sink: &mut K) -> Result<(), Failed>
-        ensures ok { OnOk result (Holds (K.held sink.old) (K.held sink.new) (marks_of self.now)) }
+        ensures ok { OnOk result (Holds (K.held sink.old) (K.held sink.new) (grid_marks self.now)) }
         ensures err { OnErr result
-            (HoldsPrefix (K.held sink.old) (K.held sink.new) (marks_of self.now)) }
+            (HoldsPrefix (K.held sink.old) (K.held sink.new) (grid_marks self.now)) }
         ensures counted { CountsFaults result (K.faults sink.old) (K.faults sink.new) }
     {
         grid::give_marks(&self.marks, sink)
@@ -263,6 +443,6 @@ impl Raster {
             (values_bytes self.now.kind (values_of self.now.pixels))) }
         ensures counted { CountsFaults result (K.faults sink.old) (K.faults sink.new) }
     {
-        grid::give_values(self.kind, self.depth, &self.marks, &self.values, sink)
+        grid::give_values(self.depth, &self.marks, &self.values, sink)
     }
 }

@@ -1,0 +1,3 @@
+-- Lemmas for who takes from sources and gives to sinks.
+pub mod Counts
+pub mod Gives

@@ -1,0 +1,58 @@
+ghost use Rattle.std.specs.Prelude.{◌≡◌, None};
+
+use super::failed::Failed;
+use super::sink::Sink;
+use std::io::Write;
+
+/// A writer of std as a sink. It tells nothing of its bytes.
+///
+/// An error of the writer is a failure, and so is a piece that is not empty of which it takes nothing. Failures count
+/// up to 2^64 - 1.
+#[derive(Drop)]
+pub struct StdSink<W: Write> {
+    writer: W,
+    faults: u64,
+}
+
+impl<W: Write> StdSink<W> {
+    /// The sink that writes to `writer`, with no fault yet.
+    pub fn new(writer: W) -> StdSink<W>
+        ensures faults { ⟦<StdSink<W> as Sink>⟧.faults result ≡ 0 }
+        ensures held { ⟦<StdSink<W> as Sink>⟧.held result ≡ None }
+    {
+        StdSink { writer, faults: 0 }
+    }
+}
+
+impl<W: Write> Sink for StdSink<W> {
+    ghost held = { λ _. None };
+
+    ghost faults = { λ s. s.faults };
+
+    fn give(&mut self, bytes: &[u8]) -> Result<usize, Failed> {
+        match self.writer.write(bytes) {
+            Ok(0) if !bytes.is_empty() => {}
+            Ok(n) => return Ok(n),
+            Err(_) => {}
+        }
+        self.faults = self.faults.saturating_add(1);
+        Err(Failed)
+    }
+}
+
+#[cfg(test)]
+mod tests {
+    use super::*;
+    use crate::give_all;
+    use std::io::Cursor;
+
+    #[test]
+    fn writes_until_the_writer_takes_nothing(rt: HostRuntime) {
+        let mut sink = StdSink::new(Cursor::new([0u8; 4]));
+        assert_eq!(rt; give_all(&mut sink, b"abc"), Ok(()));
+        assert_eq!(rt; sink.faults, 0);
+        assert_eq!(rt; give_all(&mut sink, b"de"), Err(Failed));
+        assert_eq!(rt; sink.faults, 1);
+        assert_eq!(rt; sink.writer.get_ref().as_slice(), b"abcd".as_slice());
+    }
+}

@@ -1,0 +1,89 @@
+-- The loops over the rows of a block.
+use Rattle.std.proofs.Common.{◌≡◌, ℕ, ◌+◌, ◌-◌, ◌*◌, ◌<◌, ◌≤◌, zero, suc, Bool, List, [], ◌++◌, length, take, sym, ap, ◌∙◌, subst, arith, length-append}
+use Rattle.std.specs.Prelude.{ℤ}
+use Rattle.std.specs.List.{flat_map, range_with_len}
+use Rattle.std.proofs.lemmas.List.{flat_map_more}
+use Rattle.std.proofs.Math.Nat.{mul-le-mul_left, mul-le-mul_right}
+use Rattle.raster_values.specs.inside.Runs.{run_places, run_values, rows_places, rows_values, Gathers, LeavesRun, LeavesRows}
+use Rattle.raster_values.proofs.Every.{every_range, same_flat_map}
+use Rattle.raster_values.proofs.RunSteps.{range_more, run_same, gathers_join}
+
+pub pieces_more : {Y : Type 0} (f : ℕ → List Y) (a n : ℕ) → flat_map f (range_with_len a (n + 1)) ≡ flat_map f (range_with_len a n) ++ f (a + n)
+pieces_more f a n = ap (flat_map f) (range_more a n) ∙ sym (flat_map_more f [] (range_with_len a n) (a + n))
+
+pieces_rise : {Y : Type 0} (f : ℕ → List Y) (a n more : ℕ) → length (flat_map f (range_with_len a n)) ≤ length (flat_map f (range_with_len a (n + more)))
+pieces_rise f a n zero = subst (λ m. length (flat_map f (range_with_len a n)) ≤ length (flat_map f (range_with_len a m))) (let e : n ≡ n + 0 = omega arith in e) (let same : length (flat_map f (range_with_len a n)) ≤ length (flat_map f (range_with_len a n)) = omega arith in same)
+pieces_rise f a n (suc more) =
+    let e : n + more + 1 ≡ n + suc more = omega arith in
+    let up : length (flat_map f (range_with_len a n)) ≤ length (flat_map f (range_with_len a (n + more + 1))) =
+    omega (arith, pieces_rise f a n more, ap length (pieces_more f a (n + more)), length-append (flat_map f (range_with_len a (n + more))) (f (a + (n + more)))) in
+    subst (λ m. length (flat_map f (range_with_len a n)) ≤ length (flat_map f (range_with_len a m))) e up
+
+-- the next piece is one of all
+pub piece_fits : {Y : Type 0} (f : ℕ → List Y) (a n all : ℕ) → n < all → length (flat_map f (range_with_len a n)) + length (f (a + n)) ≤ length (flat_map f (range_with_len a all))
+piece_fits f a n all below =
+    let e : n + 1 + (all - n - 1) ≡ all = omega arith in
+    let rise : length (flat_map f (range_with_len a (n + 1))) ≤ length (flat_map f (range_with_len a all)) =
+    subst (λ m. length (flat_map f (range_with_len a (n + 1))) ≤ length (flat_map f (range_with_len a m))) e (pieces_rise f a (n + 1) (all - n - 1)) in
+    omega (arith, rise, ap length (pieces_more f a n), length-append (flat_map f (range_with_len a n)) (f (a + n)))
+
+-- a row of a block lies within the marks
+pub row_inside : (i rows cols col wide size : ℕ) → i < rows → col + wide ≤ cols → rows * cols ≤ size → i * cols + col + wide ≤ size
+row_inside i rows cols col wide size below across within =
+    let up : suc i * cols ≤ rows * cols = mul-le-mul_right cols (omega arith) in
+    omega (arith, up)
+
+pub area_inside : (h row high wide cols size : ℕ) → h < high → wide ≤ cols → (row + high) * cols ≤ size → h * wide + wide ≤ size
+area_inside h row high wide cols size below across within =
+    let first : suc h * wide ≤ suc h * cols = mul-le-mul_left (suc h) across in
+    let second : suc h * cols ≤ (row + high) * cols = mul-le-mul_right cols (omega arith) in
+    omega (arith, first, second)
+
+pub area_more : (h high wide : ℕ) → h < high → h * wide + wide ≤ high * wide
+area_more h high wide below =
+    let up : suc h * wide ≤ high * wide = mul-le-mul_right wide (omega arith) in
+    omega (arith, up)
+
+pub count_more : (marks : List Bool) (cols row col h wide n found : ℕ) → n ≡ length (rows_places marks cols row col h wide) → found ≡ length (run_places marks ((row + h) * cols + col) wide)
+    → n + found ≡ length (rows_places marks cols row col (h + 1) wide)
+count_more marks cols row col h wide n found before here =
+    let f : ℕ → List ℕ = λ i. run_places marks (i * cols + col) wide in
+    let e : length (rows_places marks cols row col (h + 1) wide) ≡ length (rows_places marks cols row col h wide) + length (f (row + h)) = ap length (pieces_more f row h) ∙ length-append (flat_map f (range_with_len row h)) (f (row + h)) in
+    omega (arith, e)
+
+pub gather_more : (depth d : ℕ) (marks : List Bool) (values old mid new : List ℤ) (cols row col h wide n end : ℕ)
+    → Gathers (rows_values depth d marks values cols row col h wide) old mid 0 n → Gathers (run_values depth d marks values ((row + h) * cols + col) wide) mid new n end
+    → Gathers (rows_values depth d marks values cols row col (h + 1) wide) old new 0 end
+gather_more depth d marks values old mid new cols row col h wide n end before here =
+    let f : ℕ → List ℤ = λ i. run_values depth d marks values (i * cols + col) wide in
+    subst (λ vs. Gathers vs old new 0 end) (sym (pieces_more f row h)) (gathers_join (rows_values depth d marks values cols row col h wide) (f (row + h)) old mid new 0 n end before here)
+
+-- the rows above a run are as they were
+above_same : (depth d : ℕ) (marks : List Bool) (values new : List ℤ) (cols row col h wide : ℕ) → d < depth → col + wide ≤ cols
+    → LeavesRun depth d marks ((row + h) * cols + col) wide values new → rows_values depth d marks new cols row col h wide ≡ rows_values depth d marks values cols row col h wide
+above_same depth d marks values new cols row col h wide below across leaves =
+    same_flat_map (λ i. run_values depth d marks new (i * cols + col) wide) (λ i. run_values depth d marks values (i * cols + col) wide) (range_with_len row h)
+    (every_range (λ i. run_values depth d marks new (i * cols + col) wide ≡ run_values depth d marks values (i * cols + col) wide) row h (λ i lo hi.
+    run_same depth d marks values new (i * cols + col) wide (λ k from to.
+    leaves.rest k d below (λ after _ _ _.
+    let up : suc i * cols ≤ (row + h) * cols = mul-le-mul_right cols (omega arith) in
+    let no : ⊥ = omega (arith, up) in no))))
+
+pub pour_more : (depth d : ℕ) (marks : List Bool) (input values new : List ℤ) (cols row col h wide n end : ℕ) → d < depth → col + wide ≤ cols
+    → rows_values depth d marks values cols row col h wide ≡ take n input → LeavesRun depth d marks ((row + h) * cols + col) wide values new
+    → take n input ++ run_values depth d marks new ((row + h) * cols + col) wide ≡ take end input
+    → rows_values depth d marks new cols row col (h + 1) wide ≡ take end input
+pour_more depth d marks input values new cols row col h wide n end below across before leaves here =
+    let f : ℕ → List ℤ = λ i. run_values depth d marks new (i * cols + col) wide in
+    pieces_more f row h
+    ∙ ap (λ vs. vs ++ f (row + h)) (above_same depth d marks values new cols row col h wide below across leaves ∙ before)
+    ∙ here
+
+pub leaves_more : (depth d : ℕ) (marks : List Bool) (old values new : List ℤ) (cols row col h wide : ℕ)
+    → LeavesRows depth d marks cols row col h wide old values → LeavesRun depth d marks ((row + h) * cols + col) wide values new
+    → LeavesRows depth d marks cols row col (h + 1) wide old new
+leaves_more depth d marks old values new cols row col h wide before here = record {
+  rest = λ k e less out.
+      here.rest k e less (λ lo hi valid is. out (row + h) (omega arith) (omega arith) lo hi valid is)
+      ∙ before.rest k e less (λ i from to lo hi valid is. out i from (omega arith) lo hi valid is);
+}

@@ -1,0 +1,9 @@
+use Rattle.std.proofs.Common.{◌≤◌, ◌+◌, ◌-◌}
+use Rattle.raster_values.specs.inside.Runs.{run_values, Gathers}
+use Rattle.raster_values.proofs.blocks.gather_run.Given as goal
+
+abbrev pub invariant-loop-k : goal.invariant-loop-k
+invariant-loop-k l = record {
+  within : l.n ≤ l.at + (l.k - l.from);
+  gathered : Gathers (run_values l.depth l.d l.marks l.values.values l.from (l.k - l.from)) l.initial.out l.out l.at l.n;
+}

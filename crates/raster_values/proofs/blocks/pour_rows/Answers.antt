@@ -1,0 +1,46 @@
+use Rattle.std.proofs.Common.{◌≡◌, ◌+◌, ◌-◌, ◌*◌, ◌++◌, List, ℕ, length, take, arith, ap, sym, ◌∙◌, subst}
+use Rattle.std.specs.Prelude.{All}
+use Rattle.raster_values.specs.PixelType.{InRange}
+use Rattle.raster_values.specs.inside.Runs.{run_places, run_values, rows_places, rows_values, LeavesRun, LeavesRows}
+use Rattle.raster_values.proofs.RowSteps.{piece_fits, count_more, pour_more, leaves_more}
+use Rattle.raster_values.proofs.blocks.pour_rows.Goals as goal
+
+pub pour_run-n-requires-clause-room : goal.pour_run-n-requires-clause-room
+pour_run-n-requires-clause-room c =
+    let h = c.loop-i.i - c.args.row in
+    let at : c.loop-i.i ≡ c.args.row + h = omega arith in
+    let f : ℕ → List ℕ = λ i. run_places c.args.marks.now (i * c.args.cols + c.args.col) c.args.wide in
+    omega (arith, piece_fits f c.args.row h c.args.high (omega arith), ap (λ i. length (f i)) at, c.loop-i.invariant.found, c.requires.count)
+
+pub loop-i-preserved : goal.loop-i-preserved
+loop-i-preserved c =
+    let h = c.loop-i.i - c.args.row in
+    let at : c.loop-i.i ≡ c.args.row + h = omega arith in
+    let next : h + 1 ≡ c.loop-i.i + 1 - c.args.row = omega arith in
+    let depth = c.args.depth in
+    let d = c.args.d in
+    let marks = c.args.marks.now in
+    let cols = c.args.cols in
+    let row = c.args.row in
+    let col = c.args.col in
+    let wide = c.args.wide in
+    let end = c.pour_run-n.result in
+    let new = c.pour_run-n.new.values.values in
+    let old = c.loop-i.values.values in
+    let first = c.args.values.now.values in
+    let kind = c.args.values.now.kind in
+    let found : end ≡ c.loop-i.n + length (run_places marks ((row + h) * cols + col) wide) = c.pour_run-n.ensures.end ∙ ap (λ i. c.loop-i.n + length (run_places marks (i * cols + col) wide)) at in
+    let leaves : LeavesRun depth d marks ((row + h) * cols + col) wide old new = subst (λ i. LeavesRun depth d marks (i * cols + col) wide old new) at c.pour_run-n.ensures.rest in
+    let poured : take c.loop-i.n c.args.input.now ++ run_values depth d marks new ((row + h) * cols + col) wide ≡ take end c.args.input.now =
+    ap (λ i. take c.loop-i.n c.args.input.now ++ run_values depth d marks new (i * cols + col) wide) (sym at) ∙ c.pour_run-n.ensures.poured in
+    record {
+      found = found ∙ count_more marks cols row col h wide c.loop-i.n (length (run_places marks ((row + h) * cols + col) wide)) c.loop-i.invariant.found (λ _. length (run_places marks ((row + h) * cols + col) wide))
+          ∙ ap (λ m. length (rows_places marks cols row col m wide)) next;
+      poured = ap (λ m. rows_values depth d marks new cols row col m wide) (sym next)
+          ∙ pour_more depth d marks c.args.input.now old new cols row col h wide c.loop-i.n end c.requires.depth c.requires.across c.loop-i.invariant.poured leaves poured;
+      kind = c.pour_run-n.ensures.kind ∙ c.loop-i.invariant.kind;
+      in_range = λ before. subst (λ k. All (InRange k) new) c.loop-i.invariant.kind (c.pour_run-n.ensures.in_range (subst (λ k. All (InRange k) old) (sym c.loop-i.invariant.kind) (c.loop-i.invariant.in_range before)));
+      size = c.pour_run-n.ensures.size ∙ c.loop-i.invariant.size;
+      rest = subst (λ m. LeavesRows depth d marks cols row col m wide first new) next
+          (leaves_more depth d marks first old new cols row col h wide c.loop-i.invariant.rest leaves);
+    }

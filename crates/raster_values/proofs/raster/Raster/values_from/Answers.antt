@@ -1,0 +1,13 @@
+use Rattle.std.proofs.Common.{◌≡◌, ◌<◌, ◌≤◌, ◌+◌, ◌*◌, ap, ◌∙◌, sym, subst, length, get_or, arith}
+use Rattle.std.specs.Prelude.{pos}
+use Rattle.raster_values.specs.Raster.{Pixels}
+use Rattle.raster_values.specs.Flat.{value_in}
+use Rattle.raster_values.proofs.FlatViews.{value_flat, keeps_itself}
+use Rattle.raster_values.proofs.raster.Raster.values_from.Goals as goal
+
+pub returns-clause-values : goal.returns-clause-values
+returns-clause-values c i below =
+    let a = c.self.inside in
+    c.copy_values.ensures.values i below
+    ∙ subst (λ (r : Pixels). c.args.place + length c.args.out.now ≤ r.rows * r.cols → c.args.d < r.depth → get_or a.values.values ((c.args.place + i) * a.depth + c.args.d) (pos 0) ≡ value_in r c.args.d (c.args.place + i)) c.self.view_is
+    (λ within deep. sym (value_flat a a.values.values (c.args.place + i) c.args.d (keeps_itself a c.self.invariant) (omega (arith, within, below, c.self.invariant.marks)) deep)) c.requires.place c.requires.depth

@@ -1,0 +1,54 @@
+-- A raster in order: its values poured one behind the other, one list for every valid pixel, and its mask as bytes.
+use Rattle.std.specs.Prelude.{◌≡◌, ℕ, ℤ, pos, ◌+◌, ◌-◌, ◌*◌, ◌/◌, ◌%◌, ◌^◌, ◌<◌, ◌≤◌, Bool, false, List, length, get_or, map, None, is_some, nat_eq}
+use Rattle.std.specs.List.{range_with_len}
+use Rattle.raster_values.specs.Raster.{Pixels, IsRaster, InShape, IsValidAt, valid_at, value_at, values_of}
+use Rattle.raster_values.specs.Places.{SameShape}
+use Rattle.raster_values.specs.Block.{SameMask}
+use Rattle.raster_values.specs.Values.{AreValues}
+
+-- the valid pixels have these values, in order and depth innermost
+pub record PoursAll (old new : Pixels) (values : List ℤ) : Type 0 where
+  pub same : SameMask old new
+  pub poured : values_of new.pixels ≡ values
+
+-- each valid pixel has this list
+pub record FillsValid (old new : Pixels) (values : List ℤ) : Type 0 where
+  pub same : SameMask old new
+  pub each : (i j d : ℕ) → InShape old i j → IsValidAt old i j → d < old.depth → value_at new i j d ≡ get_or values d (pos 0)
+
+-- bit number k of a mask, the highest of each byte first
+abbrev pub mask_bit : List ℕ → ℕ → Bool
+mask_bit mask k = nat_eq (get_or mask (k / 8) 0 / 2 ^ (7 - k % 8) % 2) 1
+
+-- which of so many pixels the bits of a mask say to be valid: further bits are free
+unfoldable pub marks_in : ℕ → List ℕ → List Bool
+marks_in pixels mask = map (mask_bit mask) (range_with_len 0 pixels)
+
+-- the pixels whose bits are 1 are valid, and every value is 0
+pub record MarksBits (old new : Pixels) (mask : List ℕ) : Type 0 where
+  pub shape : SameShape old new
+  pub places : (i j : ℕ) → InShape old i j → valid_at new i j ≡ mask_bit mask (i * old.cols + j)
+  pub zeros : (i j d : ℕ) → InShape old i j → d < old.depth → value_at new i j d ≡ pos 0
+
+-- the bytes are the raster's mask, and the bits behind its last pixel are 0
+pub record IsMaskOf (r : Pixels) (mask : List ℕ) : Type 0 where
+  pub size : length mask ≡ (r.rows * r.cols + 7) / 8
+  pub bytes : (k : ℕ) → get_or mask k 0 < 256
+  pub bits : (k : ℕ) → k < r.rows * r.cols → mask_bit mask k ≡ is_some (get_or r.pixels k None)
+  pub spare : (k : ℕ) → r.rows * r.cols ≤ k → mask_bit mask k ≡ false
+
+-- the valid pixels have the values that the bytes stand for, in order and depth innermost
+pub record PoursBytes (old new : Pixels) (bytes : List ℕ) : Type 0 where
+  pub same : SameMask old new
+  pub poured : AreValues old.kind bytes (values_of new.pixels)
+
+-- no two rasters come of one filling, or of one marking
+abbrev pub FillingIsOne : Type 0
+FillingIsOne = (old r s : Pixels) (values : List ℤ) → IsRaster r → IsRaster s → FillsValid old r values → FillsValid old s values → r ≡ s
+
+abbrev pub MarkingIsOne : Type 0
+MarkingIsOne = (old r s : Pixels) (mask : List ℕ) → IsRaster r → IsRaster s → MarksBits old r mask → MarksBits old s mask → r ≡ s
+
+-- no two rasters come of one pouring in order
+abbrev pub PouringAllIsOne : Type 0
+PouringAllIsOne = (old r s : Pixels) (values : List ℤ) → IsRaster r → IsRaster s → PoursAll old r values → PoursAll old s values → r ≡ s

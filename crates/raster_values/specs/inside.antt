@@ -1,0 +1,8 @@
+-- Words of functions that this crate keeps to itself.
+pub mod Cleared
+pub mod View
+pub mod Pack
+pub mod Runs
+pub mod CellList
+pub mod CellView
+pub mod Ordered

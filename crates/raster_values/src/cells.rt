@@ -1,0 +1,169 @@
+ghost use Rattle.std.specs.Prelude.{◌≡◌, ◌+◌, ◌*◌, ◌<◌, ◌≤◌, ◌++◌, pos, IfOk, All, length, get_or, take, drop, replicate, slice_set};
+ghost use Rattle.raster_values.specs.PixelType.{InRange, bytes_of};
+ghost use Rattle.raster_values.specs.Grid.{values_bytes};
+ghost use Rattle.raster_values.specs.inside.CellList.{CellList, values_in};
+ghost use Rattle.raster_values.specs.inside.Cleared.{cleared};
+
+use super::grid::write_values;
+use super::kind::PixelType;
+use std::alloc::{AllocError, Global};
+use std::marker::Model;
+
+/// Values of one type, kept as the bytes that stand for them in a file.
+#[derive(Drop)]
+pub struct Cells {
+    kind: PixelType,
+    count: usize,
+    bytes: Vec<u8>,
+}
+
+impl Model for Cells {
+    ghost use Rattle.raster_values.specs.inside.CellList.{CellList};
+
+    ghost Value = { CellList };
+
+    ghost use Rattle.raster_values.specs.inside.CellView.{seen_cells, IsCells};
+
+    ghost view = { seen_cells };
+
+    ghost invariant = { IsCells };
+}
+
+/// Where the bytes of the value at a place begin.
+fn place(kind: PixelType, count: usize, at: usize) -> usize
+    requires few { count ≤ 16777216 }
+    requires within { at ≤ count }
+    ensures value { result ≡ at * bytes_of kind }
+    ensures within { result ≤ count * bytes_of kind }
+    ensures below { at < count → result + bytes_of kind ≤ count * bytes_of kind }
+{
+    at * kind.bytes()
+}
+
+/// Sets a run of bytes to 0.
+fn clear_bytes(bytes: &mut Vec<u8>, at: usize, count: usize)
+    requires { at + count ≤ length bytes.old.items }
+    ensures { bytes.new.items ≡ take at bytes.old.items
+        ++ (replicate count 0 ++ drop (at + count) bytes.old.items) }
+{
+    let run = &mut bytes[at..at + count];
+    run.fill(0);
+}
+
+/// Lays bytes over as many from `at` on.
+fn lay_bytes(bytes: &mut Vec<u8>, at: usize, run: &[u8])
+    requires { at + length run.now ≤ length bytes.old.items }
+    ensures { bytes.new.items ≡ take at bytes.old.items
+        ++ (run.now ++ drop (at + length run.now) bytes.old.items) }
+{
+    let place = &mut bytes[at..at + run.len()];
+    place.copy_from_slice(run);
+}
+
+impl Cells {
+    /// So many values 0.
+    pub fn new(alloc: Global, kind: PixelType, count: usize) -> Result<Cells, AllocError>
+        requires { count ≤ 16777216 }
+        ensures { IfOk result (λ c. c ≡ record { kind = kind; values = replicate count (pos 0) }) }
+    {
+        let bytes = vec![in alloc; 0u8; place(kind, count, count)]?;
+        Ok(Cells { kind, count, bytes })
+    }
+
+    /// The type of the values.
+    pub fn kind(&self) -> PixelType
+        ensures { result ≡ self.now.kind }
+    {
+        self.kind
+    }
+
+    /// The value at a place.
+    pub fn get(&self, at: usize) -> i64
+        requires { at < length self.now.values }
+        ensures value { result ≡ get_or self.now.values at (pos 0) }
+        ensures in_range { InRange self.now.kind result }
+    {
+        let from = place(self.kind, self.count, at);
+        self.kind.read_value(&self.bytes[from..])
+    }
+
+    /// Puts a run of values of the type in the place of as many from `at` on.
+    pub fn put_run(&mut self, at: usize, values: &[i64])
+        requires within { at + length values.now ≤ length self.old.values }
+        requires in_range { All (InRange self.old.kind) values.now }
+        ensures { self.new ≡ record self.old {
+          values = take at self.old.values
+              ++ (values.now ++ drop (at + length values.now) self.old.values);
+        } }
+    {
+        let kind = self.kind;
+        let from = place(kind, self.count, at);
+        write_values(kind, values, &mut self.bytes[from..]);
+    }
+
+    /// Puts the values that so many values' bytes stand for in the place of as many from `at` on.
+    pub fn put_bytes(&mut self, at: usize, count: usize, bytes: &[u8])
+        requires within { at + count ≤ length self.old.values }
+        requires size { length bytes.now ≡ count * bytes_of self.old.kind }
+        ensures { self.new ≡ record self.old {
+          values = take at self.old.values ++ (values_in self.old.kind count bytes.now
+              ++ drop (at + count) self.old.values);
+        } }
+    {
+        let from = place(self.kind, self.count, at);
+        lay_bytes(&mut self.bytes, from, bytes);
+    }
+
+    /// Values equal to these.
+    pub fn copy(&self, alloc: Global) -> Result<Cells, AllocError>
+        ensures { IfOk result (λ c. c ≡ self.now) }
+    {
+        let mut bytes = Vec::with_capacity(alloc, self.bytes.len())?;
+        bytes.extend_from_slice(&self.bytes)?;
+        Ok(Cells {
+            kind: self.kind,
+            count: self.count,
+            bytes,
+        })
+    }
+
+    /// The bytes of a run of values, one behind the other.
+    pub fn bytes_of_run(&self, at: usize, count: usize) -> &[u8]
+        requires { at + count ≤ length self.now.values }
+        ensures { result.now ≡ values_bytes self.now.kind (take count (drop at self.now.values)) }
+    {
+        let from = place(self.kind, self.count, at);
+        let end = place(self.kind, self.count, at + count);
+        &self.bytes[from..end]
+    }
+
+    /// Puts a value of the type at a place.
+    pub fn set(&mut self, at: usize, value: i64)
+        requires within { at < length self.old.values }
+        requires in_range { InRange self.old.kind value }
+        ensures { self.new ≡ record self.old { values = slice_set self.old.values at value } }
+    {
+        self.put_run(at, &[value]);
+    }
+
+    /// Sets a run of values to 0.
+    pub fn clear(&mut self, at: usize, count: usize)
+        requires { at + count ≤ length self.old.values }
+        ensures { self.new ≡ record self.old { values = cleared self.old.values at count } }
+    {
+        let from = place(self.kind, self.count, at);
+        let end = place(self.kind, self.count, at + count);
+        clear_bytes(&mut self.bytes, from, end - from);
+    }
+
+    /// Sets every value to one of the type.
+    pub fn fill(&mut self, value: i64)
+        requires { InRange self.old.kind value }
+        ensures { self.new ≡ record self.old { values = replicate (length self.old.values) value } }
+    {
+        let count = self.count;
+        for at in 0..count {
+            self.set(at, value);
+        }
+    }
+}
