@@ -1,2 +1,4 @@
 pub mod Lists
 pub mod ReadSteps
+pub mod Rising
+pub mod Tabled

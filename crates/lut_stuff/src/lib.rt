@@ -7,6 +7,14 @@
 
 mod laws;
 mod reading;
+mod writing;
 
-pub use laws::lists_stand_or_have_one_fault;
+pub use laws::{
+    entries_are_the_different_values, lists_stand_or_have_one_fault, simple_lists_are_lists,
+    table_bytes_are_a_list,
+};
 pub use reading::read_list;
+pub use writing::{table_len, write_table};
+
+#[cfg(test)]
+mod tests;

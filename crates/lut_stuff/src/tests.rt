@@ -1,0 +1,113 @@
+ghost use Rattle.std.specs.Prelude.{◌^◌, ◌<◌, ◌≤◌, length, All};
+
+use crate::{read_list, table_len, write_table};
+use bit_stuff::{ListFault, ListReason};
+use std::process::Abort;
+
+/// The bytes begin with a list of the values, which takes `used` of them.
+fn expect_list(rt: &impl Abort, bytes: &[u8], used: usize, values: &[u32]) {
+    let mut out = [77; 8];
+    assert!(rt; values.len() <= 8, "the row");
+    let out = &mut out[..values.len()];
+    assert!(rt; read_list(bytes, out) == Ok(used), "the length");
+    assert!(rt; &*out == values, "the values");
+}
+
+#[test]
+fn both_forms_are_read(rt: HostRuntime) {
+    expect_list(&rt, &[0x82, 0x03, 0x39], 3, &[1, 2, 3]);
+    expect_list(&rt, &[0x83, 0x04, 0x68, 0x01, 0xff], 4, &[0, 5, 5, 0]);
+    expect_list(&rt, &[0xa3, 0x04, 0x02, 0x05, 0x06, 0xff], 5, &[0, 5, 5, 0]);
+    // The same with the count in two and in four bytes, and with every spare bit set.
+    expect_list(&rt, &[0x63, 0x04, 0x00, 0x02, 0x05, 0x06], 6, &[0, 5, 5, 0]);
+    expect_list(&rt, &[0x23, 4, 0, 0, 0, 0x02, 0xfd, 0xf6], 8, &[0, 5, 5, 0]);
+    // Three entries have two digits, though their number with entry 0 has three.
+    expect_list(&rt, &[0xa2, 0x03, 0x04, 0x39, 0x39], 5, &[1, 2, 3]);
+    expect_list(&rt, &[0x80, 0x00], 2, &[]);
+    expect_list(&rt, &[0xa1, 0x00, 0x02, 0x01], 4, &[]);
+    expect_list(&rt, &[0x80, 0x02], 2, &[0, 0]);
+}
+
+/// Reading a list of four numbers meets this fault.
+fn expect_fault(rt: &impl Abort, bytes: &[u8], reason: ListReason, at: usize) {
+    let mut out = [0; 4];
+    assert!(rt;
+        read_list(bytes, &mut out) == Err(ListFault { reason, at }),
+        "at {at}"
+    );
+}
+
+#[test]
+fn each_fault_is_told_at_its_place(rt: HostRuntime) {
+    expect_fault(&rt, &[], ListReason::Cut, 0);
+    expect_fault(&rt, &[0xc2], ListReason::BadHead, 0);
+    expect_fault(&rt, &[0xe0, 0x03], ListReason::BadHead, 0);
+    expect_fault(&rt, &[0xa0], ListReason::BadTable, 0);
+    expect_fault(&rt, &[0xa0, 0x03, 0x02], ListReason::BadTable, 0);
+    expect_fault(&rt, &[0x82], ListReason::Cut, 1);
+    expect_fault(&rt, &[0x63, 0x04], ListReason::Cut, 1);
+    expect_fault(&rt, &[0x82, 0x03, 0x39], ListReason::BadCount, 1);
+    expect_fault(&rt, &[0xa3, 0x05, 0x00], ListReason::BadCount, 1);
+    expect_fault(&rt, &[0x83, 0x04, 0x68], ListReason::Cut, 2);
+    expect_fault(&rt, &[0x43, 0x04, 0x00, 0x68], ListReason::Cut, 3);
+    expect_fault(&rt, &[0xa3, 0x04], ListReason::Cut, 2);
+    expect_fault(&rt, &[0x23, 4, 0, 0, 0], ListReason::Cut, 5);
+    expect_fault(&rt, &[0xa3, 0x04, 0x01], ListReason::BadTable, 2);
+    expect_fault(&rt, &[0xa3, 0x04, 0x00], ListReason::BadTable, 2);
+    expect_fault(&rt, &[0xa3, 0x04, 0x03], ListReason::Cut, 3);
+    expect_fault(&rt, &[0xa3, 0x04, 0x05, 0x11], ListReason::Cut, 3);
+    expect_fault(&rt, &[0xa3, 0x04, 0x03, 0x11], ListReason::Cut, 4);
+    expect_fault(&rt, &[0xa3, 0x04, 0x03, 0x11, 0x03], ListReason::BadIndex, 4);
+    expect_fault(&rt, &[0x63, 4, 0, 0x03, 0x11, 0xc0], ListReason::BadIndex, 5);
+}
+
+/// The chosen list of the values in the table form is `want`.
+fn expect_table(rt: &impl Abort, values: &[u32], want: &[u8])
+    requires count { length values.now ≤ 1024 }
+    requires values { All (λ v. v < 2 ^ 31) values.now }
+{
+    let mut out = [0u8; 512];
+    assert!(rt; want.len() <= 512 && table_len(values) == Some(want.len()), "the length");
+    let out = &mut out[..want.len()];
+    write_table(values, out);
+    assert!(rt; &*out == want, "the bytes");
+}
+
+#[test]
+fn chosen_tables(rt: HostRuntime) {
+    expect_table(&rt, &[0, 5, 5, 0], &[0xa3, 0x04, 0x02, 0x05, 0x06]);
+    expect_table(&rt, &[5], &[0xa3, 0x01, 0x02, 0x05, 0x01]);
+    expect_table(&rt, &[9, 2], &[0xa4, 0x02, 0x03, 0x92, 0x06]);
+    expect_table(&rt, &[2, 3, 1], &[0xa2, 0x03, 0x04, 0x39, 0x1e]);
+    assert!(rt; table_len(&[0, 0]) == None);
+    assert!(rt; table_len(&[]) == None);
+}
+
+/// Writes 1, 2, 3 and so on, and 0 last.
+fn count_up(out: &mut [u32])
+    requires { length out.old ≤ 256 }
+    ensures { All (λ v. v < 2 ^ 31) out.new }
+{
+    let last = out.len();
+    for (i, value) in out.iter_mut().enumerate() {
+        *value = if i + 1 < last { i as u32 + 1 } else { 0 };
+    }
+}
+
+#[test]
+fn tables_of_254_different_values_and_not_of_255(rt: HostRuntime) {
+    let mut values = [0u32; 255];
+    count_up(&mut values);
+    let mut want = [0u8; 512];
+    want[0] = 0xa8;
+    want[1] = 0xff;
+    want[2] = 0xff;
+    for i in 0..254 {
+        want[3 + i] = i as u8 + 1;
+        want[257 + i] = i as u8 + 1;
+    }
+    expect_table(&rt, &values, &want);
+    let mut more = [0u32; 256];
+    count_up(&mut more);
+    assert!(rt; table_len(&more) == None);
+}
