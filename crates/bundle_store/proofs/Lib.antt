@@ -1,0 +1,15 @@
+pub mod Building
+pub mod Counting
+pub mod Fronts
+pub mod PutLaws
+pub mod Layouts
+pub mod Numbering
+pub mod Opening
+pub mod Padded
+pub mod Putting
+pub mod Recovering
+pub mod Refusals
+pub mod Region
+pub mod Rests
+pub mod Standing
+pub mod Unders

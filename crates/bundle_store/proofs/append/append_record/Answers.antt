@@ -1,0 +1,48 @@
+use Rattle.std.proofs.Common.{◌≡◌, inl, ℕ, ◌+◌, ◌<◌, ◌≤◌, List, length, ◌∙◌, arith}
+use Rattle.outside_io.specs.volume.Disk.{File, wrote}
+use Rattle.outside_io.specs.volume.History.{current}
+use Rattle.outside_io.specs.declared.volume.VolFile.TheVariants.{Bundle}
+use Rattle.outside_io.proofs.VolumeLemmas.Limits.{Limits, run_start, run_during, run_on, limits_wrote}
+use Rattle.outside_io.proofs.VolumeLemmas.Moments.{during_map}
+use Rattle.bundle_store.proofs.Fronts.{AsLong, Within, keeps_front, length_end}
+use Rattle.bundle_store.proofs.append.append_record.Goals as goal
+
+-- a write behind the front
+behind : (front : List ℕ) (f : File) (at : ℕ) (bytes : List ℕ) → Limits front (AsLong front) (Within front) f → length front ≤ at → length front ≤ length f.now → Limits front (AsLong front) (Within front) (wrote at bytes f)
+behind front f at bytes limits after long =
+    limits_wrote front (AsLong front) (Within front) f at bytes limits (λ n least most. omega arith) (λ i fixed. inl (let l : i < at = omega arith in l))
+
+pub returns-in_err-write-clause-during : goal.returns-in_err-write-clause-during
+returns-in_err-write-clause-during g c = λ told.
+    let old = g.V.Volume.history c.args.vol.now in
+    let front = (current old).bundle.now in
+    let at : c.args.end ≡ length front = c.requires.end told in
+    let start = run_start Bundle (AsLong front) (Within front) old (c.requires.settled told) (omega arith) in
+    let size = behind front _ c.args.end c.to_le_bytes-size.result start.limits (omega arith) (omega arith) in
+    during_map _ _ _ _ (keeps_front (current old)) (run_during Bundle _ _ _ _ _ _ _ start c.write.ensures.time (c.write.ensures.crash told) size)
+
+pub returns-in_err-write-2-clause-during : goal.returns-in_err-write-2-clause-during
+returns-in_err-write-2-clause-during g c = λ told.
+    let old = g.V.Volume.history c.args.vol.now in
+    let front = (current old).bundle.now in
+    let at : c.args.end ≡ length front = c.requires.end told in
+    let start = run_start Bundle (AsLong front) (Within front) old (c.requires.settled told) (omega arith) in
+    let size = behind front _ c.args.end c.to_le_bytes-size.result start.limits (omega arith) (omega arith) in
+    let one = run_on Bundle _ _ _ _ _ _ _ start c.write.ensures.time (c.write.ensures.crash told) size (c.in_ok-write.ensures.ok told) in
+    let next = length_end _ _ _ _ at (c.in_ok-write.ensures.ok told) in
+    let tile = behind front _ (c.args.end + 4) c.args.tile.now one.limits (omega arith) (omega arith) in
+    during_map _ _ _ _ (keeps_front (current old)) (run_during Bundle _ _ _ _ _ _ _ one c.write-2.ensures.time (c.write-2.ensures.crash (c.write.ensures.told ∙ told)) tile)
+
+pub returns-clause-during : goal.returns-clause-during
+returns-clause-during g c = λ told.
+    let old = g.V.Volume.history c.args.vol.now in
+    let front = (current old).bundle.now in
+    let at : c.args.end ≡ length front = c.requires.end told in
+    let start = run_start Bundle (AsLong front) (Within front) old (c.requires.settled told) (omega arith) in
+    let size = behind front _ c.args.end c.to_le_bytes-size.result start.limits (omega arith) (omega arith) in
+    let one = run_on Bundle _ _ _ _ _ _ _ start c.write.ensures.time (c.write.ensures.crash told) size (c.in_ok-write.ensures.ok told) in
+    let next = length_end _ _ _ _ at (c.in_ok-write.ensures.ok told) in
+    let tile = behind front _ (c.args.end + 4) c.args.tile.now one.limits (omega arith) (omega arith) in
+    let told_one = c.write.ensures.told ∙ told in
+    let two = run_on Bundle _ _ _ _ _ _ _ one c.write-2.ensures.time (c.write-2.ensures.crash told_one) tile (c.in_ok-write-2.ensures.ok told_one) in
+    during_map _ _ _ _ (keeps_front (current old)) (run_during Bundle _ _ _ _ _ _ _ two c.sync.ensures.time (c.sync.ensures.crash (c.write-2.ensures.told ∙ told_one)) two.limits)

@@ -1,0 +1,76 @@
+use Rattle.std.proofs.Common.{◌≡◌, ◌≢◌, ◌<◌, ◌≤◌, ◌⊎◌, inl, inr, refl, ℕ, suc, ◌+◌, List, [], ◌∷◌, ◌++◌, drop, get_or, length, take, sym, ap, ◌∙◌, subst, arith, rules}
+use Rattle.std.proofs.lemmas.Result.{on_ok_weaker}
+use Rattle.outside_io.specs.volume.Disk.{Disk, File, settled}
+use Rattle.outside_io.specs.volume.History.{During, contents, current}
+use Rattle.outside_io.proofs.VolumeLemmas.Moments.{during_end, during_join, during_map}
+use Rattle.side_journal.specs.declared.body.Body.TheVariants.{Build}
+use Rattle.side_journal.specs.Says.{IsOpen, SaysBuild}
+use Rattle.side_journal.specs.Bodies.{build_bytes}
+use Rattle.side_journal.proofs.Spells.{length-body_bytes, says_behind, says_body}
+use Rattle.bundle_store.specs.inside.Parts.{IsBegun}
+use Rattle.bundle_store.specs.inside.Table.{table_map}
+use Rattle.bundle_store.specs.Images.{EachImage, EmptyOr}
+use Rattle.bundle_store.specs.Layout.{layout}
+use Rattle.bundle_store.specs.Tiles.{TileMap, no_tiles, tiles}
+use Rattle.bundle_store.proofs.Layouts.{layout_bundle, layout_tiles}
+use Rattle.bundle_store.proofs.Recovering.{in_wiping, tiles_empty}
+use Rattle.bundle_store.proofs.Standing.{in_closed, in_gate, length-gated, weaker}
+use Rattle.bundle_store.proofs.build.begin.Goals as goal
+
+pub returns-in_err-prepare-clause-images : goal.returns-in_err-prepare-clause-images
+returns-in_err-prepare-clause-images g c = λ told.
+    let old = g.V.Volume.history c.args.vol.now in
+    let Pass = EachImage (λ map. map ≡ no_tiles) in
+    let bundle = (c.requires.quiet told).bundle ∙ ap settled (c.requires.empty told) in
+    let preparing = during_map _ Pass _ _ (λ d. in_closed [] (λ map. map ≡ no_tiles) (current old) d (inl refl) tiles_empty bundle) (c.prepare.ensures.during told) in
+    preparing
+
+pub returns-in_err-arm-clause-images : goal.returns-in_err-arm-clause-images
+returns-in_err-arm-clause-images g c = λ told.
+    let old = g.V.Volume.history c.args.vol.now in
+    let Pass = EachImage (λ map. map ≡ no_tiles) in
+    let bundle = (c.requires.quiet told).bundle ∙ ap settled (c.requires.empty told) in
+    let preparing = during_map _ Pass _ _ (λ d. in_closed [] (λ map. map ≡ no_tiles) (current old) d (inl refl) tiles_empty bundle) (c.prepare.ensures.during told) in
+    let told_1 = c.prepare.ensures.told ∙ told in
+    let bundle_1 = c.prepare.ensures.bundle told ∙ bundle in
+    let arming = during_join Pass _ _ _ preparing (during_map _ Pass _ _ (λ d. in_closed [] (λ map. map ≡ no_tiles) (current (g.V.Volume.history c.prepare.new.vol)) d (inl refl) tiles_empty bundle_1) (c.arm.ensures.during told_1)) in
+    arming
+
+pub open_gate-requires-clause-whole : goal.open_gate-requires-clause-whole
+open_gate-requires-clause-whole g c = λ told.
+    let told_1 = sym c.arm.ensures.told ∙ told in
+    ap (λ (d : Disk). length d.journal.now) (c.in_ok-arm.ensures.done told_1) ∙ ap (λ (n : ℕ). suc n) (length-body_bytes Build tt)
+
+pub returns-clause-journal : goal.returns-clause-journal
+returns-clause-journal g c = λ told.
+    let told_1 = c.prepare.ensures.told ∙ told in
+    let done = c.in_ok-arm.ensures.done told_1 in
+    let next = current (g.V.Volume.history c.arm.new.vol) in
+    let journal_2 : next.journal.now ≡ 0 ∷ build_bytes = ap (λ (d : Disk). d.journal.now) done in
+    let says : SaysBuild next.journal.now = subst SaysBuild (sym journal_2) (says_body 0 Build tt tt) in
+    on_ok_weaker c.open_gate.result (λ is.
+    let now = ap (λ (d : Disk). d.journal) is in
+    let bytes = ap (λ (f : File). f.now) now in
+    let moved = says_behind next.journal.now (1 ∷ drop 1 next.journal.now) (length-gated 1 next.journal.now says.whole) refl Build says in
+    record {
+      journal = now ∙ ap settled (sym bytes);
+      opened = record { whole = ap length bytes ∙ moved.whole; gate = λ shut. absurd (omega (arith, shut, ap (λ (l : List ℕ). get_or l 0 0) bytes)) };
+      says = subst SaysBuild (sym bytes) moved;
+    }) (c.open_gate.ensures.done (c.arm.ensures.told ∙ told_1))
+
+pub returns-clause-images : goal.returns-clause-images
+returns-clause-images g c = λ told.
+    let old = g.V.Volume.history c.args.vol.now in
+    let Pass = EachImage (λ map. map ≡ no_tiles) in
+    let bundle = (c.requires.quiet told).bundle ∙ ap settled (c.requires.empty told) in
+    let preparing = during_map _ Pass _ _ (λ d. in_closed [] (λ map. map ≡ no_tiles) (current old) d (inl refl) tiles_empty bundle) (c.prepare.ensures.during told) in
+    let told_1 = c.prepare.ensures.told ∙ told in
+    let bundle_1 = c.prepare.ensures.bundle told ∙ bundle in
+    let arming = during_join Pass _ _ _ preparing (during_map _ Pass _ _ (λ d. in_closed [] (λ map. map ≡ no_tiles) (current (g.V.Volume.history c.prepare.new.vol)) d (inl refl) tiles_empty bundle_1) (c.arm.ensures.during told_1)) in
+    let done = c.in_ok-arm.ensures.done told_1 in
+    let next = current (g.V.Volume.history c.arm.new.vol) in
+    let journal_2 : next.journal.now ≡ 0 ∷ build_bytes = ap (λ (d : Disk). d.journal.now) done in
+    let says : SaysBuild next.journal.now = subst SaysBuild (sym journal_2) (says_body 0 Build tt tt) in
+    let bundle_2 = ap (λ (d : Disk). d.bundle) done ∙ bundle_1 in
+    let opening = during_map _ Pass _ _ (λ d. in_gate [] next.journal.now Build no_tiles (λ map. map ≡ no_tiles) next d says.whole says (inl refl) tiles_empty refl refl bundle_2 refl) (c.open_gate.ensures.during (c.arm.ensures.told ∙ told_1)) in
+    during_join Pass _ _ _ arming opening

@@ -1,0 +1,55 @@
+use Rattle.std.proofs.Common.{◌≡◌, ◌≢◌, ◌<◌, ◌≤◌, ◌⊎◌, inl, inr, refl, ℕ, suc, ◌+◌, List, [], ◌∷◌, ◌++◌, drop, get_or, length, take, sym, ap, ◌∙◌, subst, arith, rules}
+use Rattle.std.proofs.lemmas.Result.{on_ok_weaker}
+use Rattle.outside_io.specs.volume.Disk.{Disk, File, settled}
+use Rattle.outside_io.specs.volume.History.{During, contents, current}
+use Rattle.outside_io.proofs.VolumeLemmas.Moments.{during_end, during_join, during_map}
+use Rattle.side_journal.specs.declared.body.Body.TheVariants.{Build}
+use Rattle.side_journal.specs.Says.{IsOpen, SaysBuild}
+use Rattle.side_journal.specs.Bodies.{build_bytes}
+use Rattle.side_journal.proofs.Spells.{length-body_bytes, says_behind, says_body}
+use Rattle.bundle_store.specs.inside.Parts.{IsBegun, KeepsJournal}
+use Rattle.bundle_store.specs.inside.Table.{table_map}
+use Rattle.bundle_store.specs.Images.{EachImage, EmptyOr}
+use Rattle.bundle_store.specs.Layout.{layout}
+use Rattle.bundle_store.specs.Tiles.{TileMap, no_tiles, tiles}
+use Rattle.bundle_store.proofs.Layouts.{layout_bundle, layout_tiles}
+use Rattle.bundle_store.proofs.Recovering.{in_wiping, tiles_empty}
+use Rattle.bundle_store.proofs.Standing.{in_closed, in_gate, weaker}
+use Rattle.bundle_store.proofs.build.build_empty.Goals as goal
+
+pub returns-in_err-begin-clause-images : goal.returns-in_err-begin-clause-images
+returns-in_err-begin-clause-images g c = λ told.
+    let old = g.V.Volume.history c.args.vol.now in
+    let map = table_map c.args.tiles.now c.args.table.now in
+    let Pass = EachImage (EmptyOr map) in
+    let beginning = during_map _ Pass _ _ (λ d. weaker (λ m. m ≡ no_tiles) (EmptyOr map) d (λ m same. inl same)) (c.begin.ensures.images told) in
+    beginning
+
+pub returns-in_err-lay_out-clause-images : goal.returns-in_err-lay_out-clause-images
+returns-in_err-lay_out-clause-images g c = λ told.
+    let old = g.V.Volume.history c.args.vol.now in
+    let map = table_map c.args.tiles.now c.args.table.now in
+    let Pass = EachImage (EmptyOr map) in
+    let beginning = during_map _ Pass _ _ (λ d. weaker (λ m. m ≡ no_tiles) (EmptyOr map) d (λ m same. inl same)) (c.begin.ensures.images told) in
+    let told_1 = c.begin.ensures.told ∙ told in
+    let next = current (g.V.Volume.history c.begin.new.vol) in
+    let begun : IsBegun next = c.in_ok-begin.ensures.journal told in
+    let laying = during_join Pass _ _ _ beginning (during_map _ Pass _ _ (λ d keeps. weaker (λ m. m ≡ no_tiles) (EmptyOr map) d (λ m same. inl same) (in_wiping next.journal.now next d begun.opened begun.says begun.journal keeps)) (c.lay_out.ensures.during told_1)) in
+    laying
+
+pub returns-clause-images : goal.returns-clause-images
+returns-clause-images g c = λ told.
+    let old = g.V.Volume.history c.args.vol.now in
+    let map = table_map c.args.tiles.now c.args.table.now in
+    let Pass = EachImage (EmptyOr map) in
+    let beginning = during_map _ Pass _ _ (λ d. weaker (λ m. m ≡ no_tiles) (EmptyOr map) d (λ m same. inl same)) (c.begin.ensures.images told) in
+    let told_1 = c.begin.ensures.told ∙ told in
+    let next = current (g.V.Volume.history c.begin.new.vol) in
+    let begun : IsBegun next = c.in_ok-begin.ensures.journal told in
+    let laying = during_join Pass _ _ _ beginning (during_map _ Pass _ _ (λ d keeps. weaker (λ m. m ≡ no_tiles) (EmptyOr map) d (λ m same. inl same) (in_wiping next.journal.now next d begun.opened begun.says begun.journal keeps)) (c.lay_out.ensures.during told_1)) in
+    let last = current (g.V.Volume.history c.lay_out.new.vol) in
+    let bundle = c.in_ok-lay_out.ensures.bundle told_1 in
+    let kept : KeepsJournal next last = during_end (KeepsJournal next) (g.V.Volume.history c.begin.new.vol) (g.V.Volume.history c.lay_out.new.vol) (c.lay_out.ensures.during told_1) in
+    let journal = ap (λ (f : File). f.now) kept.journal in
+    let closing = during_map _ Pass _ _ (λ d. in_gate (layout map) next.journal.now Build no_tiles (EmptyOr map) last d begun.says.whole begun.says (inr (layout_bundle map c.requires.tiles)) (inr (layout_tiles map c.requires.tiles)) refl (inl refl) bundle journal) (c.close_gate.ensures.during (c.lay_out.ensures.told ∙ told_1)) in
+    during_join Pass _ _ _ laying closing

@@ -1,0 +1,36 @@
+use Rattle.std.proofs.Common.{◌≡◌, inl, refl, false, List, [], length, sym, ap, subst, ◌∙◌}
+use Rattle.outside_io.specs.volume.Disk.{Disk}
+use Rattle.outside_io.specs.volume.History.{current}
+use Rattle.outside_io.proofs.VolumeLemmas.Moments.{during_join, during_map, started, stays_on}
+use Rattle.bundle_store.specs.inside.Table.{table_map}
+use Rattle.bundle_store.specs.Build.{last_tiles}
+use Rattle.bundle_store.specs.Images.{EachImage, EmptyOr}
+use Rattle.bundle_store.specs.Tiles.{TileMap, tiles}
+use Rattle.bundle_store.proofs.Recovering.{tiles_empty}
+use Rattle.bundle_store.proofs.Standing.{still_good}
+use Rattle.bundle_store.specs.Layout.{layout}
+use Rattle.bundle_store.proofs.Rests.{holds_rest, opens_layout}
+use Rattle.bundle_store.proofs.build.build_on.Goals as goal
+
+pub returns-in_err-len-clause-images : goal.returns-in_err-len-clause-images
+returns-in_err-len-clause-images g c = λ told.
+    let old = g.V.Volume.history c.args.vol.now in
+    let map = table_map c.args.tiles.now c.args.table.now in
+    let Pass : Disk → Type 0 = λ d. (current old).bundle.now ≡ [] → EachImage (EmptyOr map) d in
+    let start : Pass (current old) = λ is. still_good (EmptyOr map) (current old) (c.requires.quiet told) (c.requires.closed told) (inl (ap length is)) (inl (ap tiles is ∙ tiles_empty)) in
+    let measuring = stays_on Pass _ _ _ _ (started Pass old start) c.len.ensures.time (c.len.ensures.disk told) in
+    measuring
+
+pub returns-clause-images : goal.returns-clause-images
+returns-clause-images g c = λ told.
+    let old = g.V.Volume.history c.args.vol.now in
+    let map = table_map c.args.tiles.now c.args.table.now in
+    let Pass : Disk → Type 0 = λ d. (current old).bundle.now ≡ [] → EachImage (EmptyOr map) d in
+    let start : Pass (current old) = λ is. still_good (EmptyOr map) (current old) (c.requires.quiet told) (c.requires.closed told) (inl (ap length is)) (inl (ap tiles is ∙ tiles_empty)) in
+    let measuring = stays_on Pass _ _ _ _ (started Pass old start) c.len.ensures.time (c.len.ensures.disk told) in
+    during_join Pass _ _ _ measuring (during_map _ Pass _ _ (λ d each is. each) (c.build_empty.ensures.images (c.len.ensures.told ∙ told)))
+
+pub returns-clause-rest : goal.returns-clause-rest
+returns-clause-rest g c = λ told.
+    let map = table_map c.args.tiles.now c.args.table.now in
+    holds_rest (layout map) (current (g.V.Volume.history c.build_empty.new.vol)) (opens_layout map c.requires.tiles) (c.in_ok-build_empty.ensures.done (c.len.ensures.told ∙ told))

@@ -1,0 +1,41 @@
+use Rattle.std.proofs.Common.{◌≡◌, ◌<◌, ◌≤◌, ◌⊎◌, inl, inr, refl, ℕ, suc, List, ◌∷◌, ◌++◌, drop, length, sym, ap, ◌∙◌, arith, rules}
+use Rattle.outside_io.specs.volume.Disk.{Disk, File, settled}
+use Rattle.outside_io.specs.volume.History.{During, contents, current}
+use Rattle.outside_io.proofs.VolumeLemmas.Moments.{during_join, during_map}
+use Rattle.bundle_store.specs.Appended.{with_entry}
+use Rattle.bundle_store.specs.inside.Parts.{IsUnderWay}
+use Rattle.bundle_store.specs.Images.{EachImage}
+use Rattle.bundle_store.specs.Layout.{record_bytes}
+use Rattle.bundle_store.specs.Tiles.{IsBundle, TileMap, tiles}
+use Rattle.side_journal.specs.declared.body.Body.TheVariants.{Tile}
+use Rattle.side_journal.proofs.Spells.{says_behind}
+use Rattle.bundle_store.proofs.Standing.{in_gate, way_gated, weaker}
+use Rattle.bundle_store.proofs.put.apply.Goals as goal
+
+pub returns-in_err-open_gate-clause-images : goal.returns-in_err-open_gate-clause-images
+returns-in_err-open_gate-clause-images g c = λ told.
+    let old = g.V.Volume.history c.args.vol.now in
+    let b = (current old).bundle.now in
+    let j = (current old).journal.now in
+    let after = tiles (with_entry c.args.header.now c.args.slot c.args.entry b) in
+    let Either : TileMap → Type 0 = λ map. (map ≡ tiles b) ⊎ (map ≡ after) in
+    let Pass : Disk → Type 0 = λ d. IsBundle b → IsUnderWay b j c.args.slot c.args.entry c.args.header.now → EachImage Either d in
+    let opening = during_map _ Pass _ _ (λ d keeps is way. in_gate b j (Tile c.args.slot c.args.entry way.size c.args.header.now) after Either (current old) d (c.requires.whole told) way.says (inr is) (inl refl) (way.within, way.readable, refl) (inr refl) (c.requires.bundle told) refl keeps) (c.open_gate.ensures.during told) in
+    opening
+
+pub returns-clause-images : goal.returns-clause-images
+returns-clause-images g c = λ told.
+    let old = g.V.Volume.history c.args.vol.now in
+    let b = (current old).bundle.now in
+    let j = (current old).journal.now in
+    let after = tiles (with_entry c.args.header.now c.args.slot c.args.entry b) in
+    let Either : TileMap → Type 0 = λ map. (map ≡ tiles b) ⊎ (map ≡ after) in
+    let Pass : Disk → Type 0 = λ d. IsBundle b → IsUnderWay b j c.args.slot c.args.entry c.args.header.now → EachImage Either d in
+    let opening = during_map _ Pass _ _ (λ d keeps is way. in_gate b j (Tile c.args.slot c.args.entry way.size c.args.header.now) after Either (current old) d (c.requires.whole told) way.says (inr is) (inl refl) (way.within, way.readable, refl) (inr refl) (c.requires.bundle told) refl keeps) (c.open_gate.ensures.during told) in
+    let told_1 = c.open_gate.ensures.told ∙ told in
+    let done = c.in_ok-open_gate.ensures.done told in
+    let next = current (g.V.Volume.history c.open_gate.new.vol) in
+    let bundle = ap (λ (x : Disk). x.bundle.now) done in
+    let journal = ap (λ (x : Disk). x.journal.now) done in
+    let redoing = during_map _ Pass _ _ (λ d each is way. weaker (λ map. map ≡ tiles (with_entry c.args.header.now c.args.slot c.args.entry next.bundle.now)) Either d (λ map same. inr (same ∙ ap (λ (l : List ℕ). tiles (with_entry c.args.header.now c.args.slot c.args.entry l)) bundle)) (each (way_gated b next.bundle.now j next.journal.now 1 c.args.slot c.args.entry c.args.header.now bundle journal way))) (c.redo.ensures.images told_1) in
+    during_join Pass _ _ _ opening redoing

@@ -1,0 +1,45 @@
+use Rattle.std.proofs.Common.{◌≡◌, ◌<◌, ◌≤◌, ◌⊎◌, inl, inr, refl, ℕ, suc, ◌+◌, List, ◌∷◌, ◌++◌, drop, length, take, sym, ap, ◌∙◌, subst, arith, rules}
+use Rattle.outside_io.specs.volume.Disk.{Disk, File, settled}
+use Rattle.outside_io.specs.volume.History.{During, contents, current}
+use Rattle.outside_io.proofs.VolumeLemmas.Moments.{during_end, during_join, during_map}
+use Rattle.bundle_index.specs.Entry.{entry_at}
+use Rattle.bundle_index.specs.declared.entry.Entry.{Entry}
+use Rattle.side_journal.specs.declared.body.Body.{Body}
+use Rattle.side_journal.specs.declared.body.Body.TheVariants.{Tile}
+use Rattle.side_journal.specs.Bodies.{IsTile, tile_bytes}
+use Rattle.side_journal.proofs.Spells.{length-body_bytes, says_body}
+use Rattle.bundle_store.specs.Appended.{with_entry, put_entry, put_header, bundle_with_tile}
+use Rattle.bundle_store.specs.inside.Parts.{IsUnderWay}
+use Rattle.bundle_store.specs.inside.Table.{table_map}
+use Rattle.bundle_store.specs.Images.{EachImage, WithOrWithout}
+use Rattle.bundle_store.specs.Layout.{record_bytes}
+use Rattle.bundle_store.specs.Tiles.{IsBundle, TileMap, tiles, with_tile}
+use Rattle.bundle_store.proofs.Region.{front_bundle, front_tiles}
+use Rattle.bundle_store.proofs.Standing.{still_good, way_at, weaker}
+use Rattle.std.proofs.Common.{[]}
+use Rattle.bundle_store.specs.Images.{EmptyOr}
+use Rattle.bundle_store.specs.Layout.{layout}
+use Rattle.bundle_store.specs.Tiles.{no_tiles}
+use Rattle.bundle_store.proofs.Layouts.{layout_bundle, layout_tiles, length-nothing, nothing_fits}
+use Rattle.bundle_store.proofs.put.put_on_nothing.Goals as goal
+
+pub returns-in_err-build_empty-clause-images : goal.returns-in_err-build_empty-clause-images
+returns-in_err-build_empty-clause-images g c = λ told.
+    let Either = WithOrWithout c.args.slot c.args.tile.now no_tiles in
+    during_map _ (EachImage Either) _ _ (λ d. weaker (EmptyOr no_tiles) Either d (λ m either. elim either [ inl before ↦ inl before | inr after ↦ inl after ])) (c.build_empty.ensures.images told)
+
+pub put_on_bundle-requires-clause-len : goal.put_on_bundle-requires-clause-len
+put_on_bundle-requires-clause-len g c = λ told.
+    let done = c.in_ok-build_empty.ensures.done (sym c.build_empty.ensures.told ∙ told) in
+    sym length-nothing ∙ sym (ap (λ (f : File). length f.now) done.bundle_is)
+
+pub returns-clause-images : goal.returns-clause-images
+returns-clause-images g c = λ told.
+    let Either = WithOrWithout c.args.slot c.args.tile.now no_tiles in
+    let building = during_map _ (EachImage Either) _ _ (λ d. weaker (EmptyOr no_tiles) Either d (λ m either. elim either [ inl before ↦ inl before | inr after ↦ inl after ])) (c.build_empty.ensures.images told) in
+    let done = c.in_ok-build_empty.ensures.done told in
+    let next = current (g.V.Volume.history c.build_empty.new.vol) in
+    let bundle : next.bundle.now ≡ layout no_tiles = ap (λ (f : File). f.now) done.bundle_is in
+    let none : tiles next.bundle.now ≡ no_tiles = ap tiles bundle ∙ layout_tiles no_tiles nothing_fits in
+    let putting = during_map _ (EachImage Either) _ _ (λ d each. subst (λ (m : TileMap). EachImage (WithOrWithout c.args.slot c.args.tile.now m) d) none (each (subst IsBundle (sym bundle) (layout_bundle no_tiles nothing_fits)))) (c.put_on_bundle.ensures.images (c.build_empty.ensures.told ∙ told)) in
+    during_join (EachImage Either) _ _ _ building putting

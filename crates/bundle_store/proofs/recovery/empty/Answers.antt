@@ -1,0 +1,32 @@
+use Rattle.std.proofs.Common.{◌≡◌, ◌<◌, ◌≤◌, ◌⊎◌, inl, inr, refl, ℕ, suc, ◌+◌, List, [], ◌∷◌, ◌++◌, drop, length, take, sym, ap, ◌∙◌, subst, arith, rules}
+use Rattle.outside_io.specs.volume.Disk.{Disk, File, settled}
+use Rattle.outside_io.specs.volume.History.{During, contents, current}
+use Rattle.outside_io.proofs.VolumeLemmas.Images.{present_of}
+use Rattle.outside_io.specs.declared.volume.VolFile.TheVariants.{Bundle, Journal}
+use Rattle.outside_io.proofs.VolumeLemmas.Moments.{during_end, during_join, during_map, started, stays_on}
+use Rattle.bundle_store.specs.Appended.{with_entry}
+use Rattle.bundle_store.specs.inside.Parts.{EachKeeps, IsUnderWay}
+use Rattle.bundle_store.specs.Images.{EachImage}
+use Rattle.bundle_store.specs.Recover.{EachStandsForOneOf, IsRecovered}
+use Rattle.bundle_store.specs.Tiles.{TileMap, no_tiles, tiles}
+use Rattle.bundle_store.proofs.Recovering.{in_emptied, in_wiping, keeps_empty, keeps_start, keeps_tile, one_of, recovered_empty, recovered_tile}
+use Rattle.bundle_store.proofs.recovery.empty.Goals as goal
+
+pub returns-in_err-wipe-clause-images : goal.returns-in_err-wipe-clause-images
+returns-in_err-wipe-clause-images g c = λ told.
+    let old = g.V.Volume.history c.args.vol.now in
+    let j = (current old).journal.now in
+    let Pass = EachImage (λ map. map ≡ no_tiles) in
+    let wiping = during_map _ Pass _ _ (λ d. in_wiping j (current old) d (c.requires.opened told) (c.requires.says told) (c.requires.quiet told).journal) (c.wipe.ensures.during told) in
+    wiping
+
+pub returns-clause-images : goal.returns-clause-images
+returns-clause-images g c = λ told.
+    let old = g.V.Volume.history c.args.vol.now in
+    let j = (current old).journal.now in
+    let Pass = EachImage (λ map. map ≡ no_tiles) in
+    let wiping = during_map _ Pass _ _ (λ d. in_wiping j (current old) d (c.requires.opened told) (c.requires.says told) (c.requires.quiet told).journal) (c.wipe.ensures.during told) in
+    let done = c.in_ok-wipe.ensures.done told in
+    let bundle = ap (λ (d : Disk). d.bundle) done in
+    let journal = ap (λ (d : Disk). d.journal.now) done in
+    during_join Pass _ _ _ wiping (during_map _ Pass _ _ (λ d. in_emptied j (current (g.V.Volume.history c.wipe.new.vol)) d (c.requires.says told) bundle journal) (c.close_gate.ensures.during (c.wipe.ensures.told ∙ told)))

@@ -1,0 +1,108 @@
+-- What recovery answers and leaves.
+use Rattle.std.specs.Prelude.{◌≡◌, ◌⊎◌, ℕ, ◌<◌, ◌≤◌, List, length, Result, Ok, Err}
+use Rattle.outside_io.specs.volume.Disk.{Disk, IsImage, IsQuiet, settled}
+use Rattle.bundle_index.specs.declared.entry.Entry.{Entry}
+use Rattle.side_journal.specs.Says.{Fails, IsOpen, IsWrongAt, SaysBuild, SaysTile}
+use Rattle.bundle_store.specs.declared.fault.StoreFault.{StoreFault}
+use Rattle.bundle_store.specs.declared.fault.StoreFault.TheVariants.{Device, BadBundle, BadJournal, NoTile, Beyond, TileTooLarge, EmptyTile, Full, NotEmpty, OutOfMemory, Stopped}
+use Rattle.bundle_store.specs.declared.recovery.Recovery.{Recovery}
+use Rattle.bundle_store.specs.declared.recovery.Recovery.TheVariants.{Closed, Applied, Emptied}
+use Rattle.bundle_store.specs.Images.{StandsFor}
+use Rattle.bundle_store.specs.Tiles.{TileMap}
+
+-- an open journal of one tile, the bundle being long enough
+pub record AppliesTo (bundle journal : List ℕ) : Type 0 where
+  pub opened : IsOpen journal
+  pub slot : ℕ
+  pub entry : Entry
+  pub size : ℕ
+  pub header : List ℕ
+  pub says : SaysTile journal slot entry size header
+  pub within : size ≤ length bundle
+
+-- an open journal that names a length beyond the bundle's
+pub record IsTooShort (bundle journal : List ℕ) (found : ℕ) : Type 0 where
+  pub slot : ℕ
+  pub entry : Entry
+  pub header : List ℕ
+  pub says : SaysTile journal slot entry found header
+  pub short : length bundle < found
+
+-- the first test that an open journal beside this bundle fails
+abbrev pub Refuses : List ℕ → List ℕ → ℕ → ℕ → Type 0
+Refuses bundle journal place found = IsOpen journal × (Fails journal place found ⊎
+    ((place ≡ 24) × IsTooShort bundle journal found))
+
+-- What each answer says of both files, as they are read after the syncs. No two hold of the same
+-- files.
+abbrev pub RecoverySays : List ℕ → List ℕ → Result Recovery StoreFault → Type 0
+RecoverySays bundle journal (Ok Closed) = ¬ IsOpen journal
+RecoverySays bundle journal (Ok Applied) = AppliesTo bundle journal
+RecoverySays bundle journal (Ok Emptied) = IsOpen journal × SaysBuild journal
+RecoverySays bundle journal (Err Device) = Unit {0}
+RecoverySays bundle journal (Err (BadJournal place found)) = Refuses bundle journal place found
+RecoverySays bundle journal (Err (BadBundle place found)) = ⊥
+RecoverySays bundle journal (Err NoTile) = ⊥
+RecoverySays bundle journal (Err (Beyond entry got)) = ⊥
+RecoverySays bundle journal (Err (TileTooLarge at len)) = ⊥
+RecoverySays bundle journal (Err (EmptyTile at)) = ⊥
+RecoverySays bundle journal (Err (Full len)) = ⊥
+RecoverySays bundle journal (Err (NotEmpty len)) = ⊥
+RecoverySays bundle journal (Err OutOfMemory) = ⊥
+RecoverySays bundle journal (Err Stopped) = ⊥
+
+-- nothing is pending on either file, which hold what they held
+abbrev pub synced_disk : Disk → Disk
+synced_disk d = record { bundle = settled d.bundle.now; journal = settled d.journal.now }
+
+-- An image stands for what one of the images of this disk stood for, if that one was sound.
+pub record StandsForOneOf (old : Disk) (b j : List ℕ) : Type 0 where
+  pub bundle : List ℕ
+  pub journal : List ℕ
+  pub bundle_is : IsImage old.bundle bundle
+  pub journal_is : IsImage old.journal journal
+  pub same : (map : TileMap) → StandsFor bundle journal map → StandsFor b j map
+
+-- each image does
+abbrev pub EachStandsForOneOf : Disk → Disk → Type 0
+EachStandsForOneOf old now = (b j : List ℕ) → IsImage now.bundle b → IsImage now.journal j →
+    StandsForOneOf old b j
+
+-- nothing is pending, the journal does not count, and the disk stands for what these files stood
+-- for
+pub record IsRecovered (bundle journal : List ℕ) (d : Disk) : Type 0 where
+  pub quiet : IsQuiet d
+  pub closed : ¬ IsOpen d.journal.now
+  pub same : (map : TileMap) → StandsFor bundle journal map →
+      StandsFor d.bundle.now d.journal.now map
+
+-- where recovery is refused for the journal
+abbrev pub OnBadJournal : {X : Type 0} → Result X StoreFault → Type 0 → Type 0
+OnBadJournal (Ok x) P = Unit {0}
+OnBadJournal (Err Device) P = Unit {0}
+OnBadJournal (Err (BadJournal place found)) P = P
+OnBadJournal (Err (BadBundle place found)) P = Unit {0}
+OnBadJournal (Err NoTile) P = Unit {0}
+OnBadJournal (Err (Beyond entry got)) P = Unit {0}
+OnBadJournal (Err (TileTooLarge at len)) P = Unit {0}
+OnBadJournal (Err (EmptyTile at)) P = Unit {0}
+OnBadJournal (Err (Full len)) P = Unit {0}
+OnBadJournal (Err (NotEmpty len)) P = Unit {0}
+OnBadJournal (Err OutOfMemory) P = Unit {0}
+OnBadJournal (Err Stopped) P = Unit {0}
+
+-- The kept numbers of a refusal of a recovery fail the test of their place, over whatever volume.
+-- That the bundle is shorter than the length found at 24 is said only where the volume tells its
+-- contents.
+abbrev pub RecoverFails : StoreFault → Type 0
+RecoverFails Device = Unit {0}
+RecoverFails (BadJournal place found) = IsWrongAt place found ⊎ (place ≡ 24)
+RecoverFails (BadBundle place found) = ⊥
+RecoverFails NoTile = ⊥
+RecoverFails (Beyond entry got) = ⊥
+RecoverFails (TileTooLarge at len) = ⊥
+RecoverFails (EmptyTile at) = ⊥
+RecoverFails (Full len) = ⊥
+RecoverFails (NotEmpty len) = ⊥
+RecoverFails OutOfMemory = ⊥
+RecoverFails Stopped = ⊥

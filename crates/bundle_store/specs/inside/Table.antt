@@ -1,0 +1,44 @@
+-- The table of the number of each slot's last tile, and the map that it shows.
+use Rattle.std.specs.Prelude.{◌≡◌, ℕ, ◌+◌, ◌<◌, ◌==◌, if◌then◌else◌, List, length, get_or, Option, Some, None}
+use Rattle.bundle_index.specs.declared.entry.Entry.{Entry}
+use Rattle.bundle_store.specs.declared.tile_rec.TileRec.{TileRec}
+use Rattle.bundle_store.specs.Build.{bytes_at}
+use Rattle.bundle_store.specs.Session.{IsFirstEmpty, IsFirstLarge}
+use Rattle.bundle_store.specs.Tiles.{TileMap}
+use Rattle.bundle_store.specs.declared.fault.StoreFault.{StoreFault}
+use Rattle.bundle_store.specs.declared.fault.StoreFault.TheVariants.{Device, BadBundle, BadJournal, NoTile, Beyond, TileTooLarge, EmptyTile, Full, NotEmpty, OutOfMemory, Stopped}
+
+-- the tile of a number, if there is one
+abbrev pub tile_of_number : List TileRec → Option ℕ → Option (List ℕ)
+tile_of_number tiles None = None
+tile_of_number tiles (Some number) = Some (bytes_at tiles number)
+
+-- the map that a table of numbers shows
+abbrev pub table_map : List TileRec → List (Option ℕ) → TileMap
+table_map tiles table slot = tile_of_number tiles (get_or table slot None)
+
+-- the table's numbers are numbers of tiles
+abbrev pub IsTable : List TileRec → List (Option ℕ) → Type 0
+IsTable tiles table = (slot number : ℕ) → get_or table slot None ≡ Some number →
+    number < length tiles
+
+-- the entry of a tile whose record stands behind so many bytes of records, by the tile's size; 0
+-- for none
+abbrev pub entry_of_size : ℕ → ℕ → Entry
+entry_of_size before size =
+    if size == 0 then (let e : Entry = record { offset = 0; size = 0 } in e)
+    else record { offset = 131136 + before + 4; size = size }
+
+-- the first tile that no bundle can hold, and no other cause
+abbrev pub TilesFail : List TileRec → StoreFault → Type 0
+TilesFail tiles (EmptyTile at) = IsFirstEmpty tiles at
+TilesFail tiles (TileTooLarge at len) = IsFirstLarge tiles at len
+TilesFail tiles Device = ⊥
+TilesFail tiles (BadBundle at number) = ⊥
+TilesFail tiles (BadJournal at number) = ⊥
+TilesFail tiles NoTile = ⊥
+TilesFail tiles (Beyond entry got) = ⊥
+TilesFail tiles (Full len) = ⊥
+TilesFail tiles (NotEmpty len) = ⊥
+TilesFail tiles OutOfMemory = ⊥
+TilesFail tiles Stopped = ⊥

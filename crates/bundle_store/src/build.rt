@@ -1,0 +1,144 @@
+ghost use Rattle.std.specs.Prelude.{◌≡◌, ◌⊎◌, ◌∷◌, ◌<◌, [], length, IsTrue, IsErrOf, IfOk, IfErr, OnOk};
+ghost use Rattle.outside_io.specs.declared.volume.VolFile.TheVariants.{Bundle, Journal};
+ghost use Rattle.outside_io.specs.volume.Disk.{IsQuiet, settled};
+ghost use Rattle.outside_io.specs.streams.Faults.{CountsFaults};
+ghost use Rattle.outside_io.specs.volume.History.{During, contents, current};
+ghost use Rattle.side_journal.specs.Says.{IsOpen, SaysBuild};
+ghost use Rattle.bundle_store.specs.inside.Parts.{IsAtRest, IsBegun};
+ghost use Rattle.bundle_store.specs.inside.Table.{IsTable, TilesFail, table_map};
+ghost use Rattle.bundle_store.specs.Build.{EachFits, last_tiles};
+ghost use Rattle.bundle_store.specs.Causes.{CountsDevice, OnRefusal, UnlessDevice};
+ghost use Rattle.bundle_store.specs.Session.{BuildFails, KeepsLength};
+ghost use Rattle.bundle_store.specs.Images.{EachImage, EmptyOr, HoldsClosed};
+ghost use Rattle.bundle_store.specs.Layout.{layout};
+ghost use Rattle.bundle_store.specs.Tiles.{AreTiles, Opens, no_tiles};
+
+use crate::laying::lay_out;
+use crate::{StoreFault, TileRec};
+use outside_io::{Failed, VolFile, Volume};
+use side_journal::{Body, arm, close_gate, open_gate, prepare};
+use std::alloc::{AllocError, Global};
+
+/// Opens the journal of a bundle that is being built, beside an empty bundle.
+fn begin<V: Volume>(vol: &mut V) -> Result<(), Failed>
+    requires empty { IsTrue (V.told vol.old) → contents Bundle (V.history vol.old) ≡ [] }
+    requires quiet { IsTrue (V.told vol.old) → IsQuiet (current (V.history vol.old)) }
+    requires closed { IsTrue (V.told vol.old) → ¬ IsOpen (contents Journal (V.history vol.old)) }
+    ensures bundle { IsTrue (V.told vol.old) → (current (V.history vol.new)).bundle
+        ≡ (current (V.history vol.old)).bundle }
+    ensures journal { IsTrue (V.told vol.old) →
+        OnOk result (IsBegun (current (V.history vol.new))) }
+    ensures images { IsTrue (V.told vol.old) → During (EachImage (λ map. map ≡ no_tiles))
+        (V.history vol.old) (V.history vol.new) }
+    ensures told { V.told vol.new ≡ V.told vol.old }
+    ensures counted { CountsFaults result (V.faults vol.old) (V.faults vol.new) }
+{
+    prepare(vol)?;
+    arm(vol, &Body::Build)?;
+    open_gate(vol)
+}
+
+/// Builds a bundle of the tiles that the table numbers in the place of an empty one.
+pub(crate) fn build_empty<V: Volume>(
+    vol: &mut V,
+    tiles: &[TileRec],
+    table: &[Option<usize>],
+) -> Result<(), Failed>
+    requires table { IsTable tiles.now table.now }
+    requires tiles { AreTiles (table_map tiles.now table.now) }
+    requires empty { IsTrue (V.told vol.old) → contents Bundle (V.history vol.old) ≡ [] }
+    requires quiet { IsTrue (V.told vol.old) → IsQuiet (current (V.history vol.old)) }
+    requires closed { IsTrue (V.told vol.old) → ¬ IsOpen (contents Journal (V.history vol.old)) }
+    ensures done { IsTrue (V.told vol.old) →
+        OnOk result (HoldsClosed (layout (table_map tiles.now table.now))
+        (current (V.history vol.new))) }
+    ensures images { IsTrue (V.told vol.old) →
+        During (EachImage (EmptyOr (table_map tiles.now table.now))) (V.history vol.old)
+        (V.history vol.new) }
+    ensures told { V.told vol.new ≡ V.told vol.old }
+    ensures counted { CountsFaults result (V.faults vol.old) (V.faults vol.new) }
+{
+    begin(vol)?;
+    lay_out(vol, tiles, table)?;
+    close_gate(vol)
+}
+
+/// For each slot the number of its last tile.
+pub(crate) fn number_tiles(
+    alloc: Global,
+    tiles: &[TileRec],
+) -> Result<Vec<Option<usize>>, AllocError>
+    ensures table { IfOk result (λ t. IsTable tiles.now t.items) }
+    ensures long { IfOk result (λ t. length t.items ≡ 16384) }
+    ensures last { IfOk result (λ t. table_map tiles.now t.items ≡ last_tiles tiles.now) }
+{
+    let mut table = Vec::with_capacity(alloc, 16384)?;
+    table.resize(16384, None)?;
+    for number in 0..tiles.len() {
+        let slot = tiles[number].slot.number() as usize;
+        table[slot] = Some(number);
+    }
+    Ok(table)
+}
+
+/// The first tile that is empty or too large.
+pub(crate) fn check_tiles(tiles: &[TileRec]) -> Result<(), StoreFault>
+    ensures fits { OnOk result (EachFits tiles.now) }
+    ensures answers { IfErr result (λ f. TilesFail tiles.now f) }
+{
+    for at in 0..tiles.len() {
+        let len = tiles[at].bytes.len();
+        if len == 0 {
+            return Err(StoreFault::EmptyTile { at: at as u64 });
+        }
+        if len > 16777215 {
+            return Err(StoreFault::TileTooLarge {
+                at: at as u64,
+                len: len as u64,
+            });
+        }
+    }
+    Ok(())
+}
+
+/// Builds the bundle, if the file is empty.
+pub(crate) fn build_on<V: Volume>(
+    vol: &mut V,
+    tiles: &[TileRec],
+    table: &[Option<usize>],
+) -> Result<(), StoreFault>
+    requires table { IsTable tiles.now table.now }
+    requires tiles { AreTiles (table_map tiles.now table.now) }
+    requires fits { EachFits tiles.now }
+    requires opens { IsTrue (V.told vol.old) → Opens (contents Bundle (V.history vol.old)) }
+    requires quiet { IsTrue (V.told vol.old) → IsQuiet (current (V.history vol.old)) }
+    requires closed { IsTrue (V.told vol.old) → ¬ IsOpen (contents Journal (V.history vol.old)) }
+    ensures done { IsTrue (V.told vol.old) →
+        OnOk result (HoldsClosed (layout (table_map tiles.now table.now))
+        (current (V.history vol.new))) }
+    ensures answers { IfErr result (λ f. BuildFails tiles.now f) }
+    ensures empty { IsTrue (V.told vol.old) → OnOk result (contents Bundle (V.history vol.old)
+        ≡ []) }
+    ensures not_empty { IsTrue (V.told vol.old) →
+        IfErr result (λ f. KeepsLength (length (contents Bundle (V.history vol.old))) f) }
+    ensures kept { IsTrue (V.told vol.old) → OnRefusal result
+        (During (λ d. d ≡ current (V.history vol.old)) (V.history vol.old) (V.history vol.new)) }
+    ensures beside { IsTrue (V.told vol.old) → 0 < length (contents Bundle (V.history vol.old)) →
+        During (λ d. d ≡ current (V.history vol.old)) (V.history vol.old) (V.history vol.new) }
+    ensures rest { IsTrue (V.told vol.old) → UnlessDevice result
+        (IsAtRest (current (V.history vol.new))) }
+    ensures running { ¬ IsErrOf result StoreFault.Stopped }
+    ensures images { IsTrue (V.told vol.old) → During (λ d. contents Bundle (V.history vol.old)
+        ≡ []
+        → EachImage (EmptyOr (table_map tiles.now table.now)) d) (V.history vol.old)
+        (V.history vol.new) }
+    ensures told { V.told vol.new ≡ V.told vol.old }
+    ensures counted { CountsDevice result (V.faults vol.old) (V.faults vol.new) }
+{
+    let len = vol.len(VolFile::Bundle)?;
+    if len != 0 {
+        return Err(StoreFault::NotEmpty { len });
+    }
+    build_empty(vol, tiles, table)?;
+    Ok(())
+}

@@ -1,0 +1,132 @@
+//! The check of a bundle: each entry, and the number in front of each tile.
+
+ghost use Rattle.std.specs.Prelude.{◌≡◌, ◌+◌, ◌*◌, ◌^◌, ◌<◌, ◌≤◌, ◌==◌, ℕ, None, length, IsTrue, IfOk, if◌then◌else◌};
+ghost use Rattle.outside_io.specs.declared.volume.VolFile.TheVariants.{Bundle};
+ghost use Rattle.outside_io.specs.streams.Faults.{CountsFaults};
+ghost use Rattle.outside_io.specs.volume.History.{During, contents, current};
+ghost use Rattle.bundle_index.specs.Entry.{IsEntry, place_of};
+ghost use Rattle.bundle_index.specs.Numbers.{u64_at};
+ghost use Rattle.bundle_store.specs.Check.{Reports, is_bad};
+ghost use Rattle.bundle_store.specs.inside.Checking.{IsSmall, NextReport, SameEntries};
+
+use bundle_index::{Entry, Slot};
+use byteorder::{ByteOrder, LittleEndian};
+use outside_io::{Failed, VolFile, Volume};
+
+/// What a check of a bundle has found.
+#[derive(Clone, Copy, Debug, PartialEq, Eq)]
+pub struct CheckReport {
+    /// How many slots have a tile.
+    pub tiles: u32,
+    /// How many bytes these tiles have.
+    pub bytes: u64,
+    /// How many of their entries are bad.
+    pub bad: u32,
+    /// The first of these slots.
+    pub first_bad: Option<Slot>,
+}
+
+/// The place of the first tile: behind the header, the index and the tile's own size.
+const FIRST_TILE: u64 = 131140;
+
+/// Whether the entry is bad, in a bundle of `len` bytes.
+fn is_bad_entry<V: Volume>(vol: &mut V, entry: Entry, len: u64) -> Result<bool, Failed>
+    requires entry { IsEntry entry }
+    requires len { IsTrue (V.told vol.old) → len ≡ length (contents Bundle (V.history vol.old)) }
+    ensures value { IsTrue (V.told vol.old) →
+        IfOk result (λ b. b ≡ is_bad (contents Bundle (V.history vol.old)) entry) }
+    ensures during { IsTrue (V.told vol.old) → During (λ d. d ≡ current (V.history vol.old))
+        (V.history vol.old) (V.history vol.new) }
+    ensures told { V.told vol.new ≡ V.told vol.old }
+    ensures counted { CountsFaults result (V.faults vol.old) (V.faults vol.new) }
+{
+    if entry.size == 0 {
+        return Ok(false);
+    }
+    if entry.offset < FIRST_TILE || entry.offset + entry.size as u64 > len {
+        return Ok(true);
+    }
+    let mut size = [0; 4];
+    vol.read(VolFile::Bundle, entry.offset - 4, &mut size)?;
+    Ok(LittleEndian::read_u32(&size) != entry.size)
+}
+
+/// The report with one slot more.
+fn with_slot(report: &CheckReport, number: u16, size: u32, bad: bool) -> CheckReport
+    requires number { number < 16384 }
+    requires size { size < 2 ^ 24 }
+    requires small { IsSmall number report.now }
+    ensures next { NextReport number size bad report.now result }
+    ensures small { IsSmall (number + 1) result }
+{
+    CheckReport {
+        tiles: if size == 0 {
+            report.tiles
+        } else {
+            report.tiles + 1
+        },
+        bytes: report.bytes + size as u64,
+        bad: if bad { report.bad + 1 } else { report.bad },
+        first_bad: if bad && report.first_bad.is_none() {
+            Slot::of_number(number)
+        } else {
+            report.first_bad
+        },
+    }
+}
+
+/// The report with the 512 slots from `first` on, whose entries are these bytes.
+fn check_part<V: Volume>(
+    vol: &mut V,
+    part: &[u8; 4096],
+    first: u16,
+    len: u64,
+    report: CheckReport,
+) -> Result<CheckReport, Failed>
+    requires first { first + 512 ≤ 16384 }
+    requires small { IsSmall first report }
+    requires part { IsTrue (V.told vol.old) →
+        SameEntries part.now first (contents Bundle (V.history vol.old)) }
+    requires len { IsTrue (V.told vol.old) → len ≡ length (contents Bundle (V.history vol.old)) }
+    requires report { IsTrue (V.told vol.old) →
+        Reports (contents Bundle (V.history vol.old)) first report }
+    ensures small { IfOk result (λ r. IsSmall (first + 512) r) }
+    ensures report { IsTrue (V.told vol.old) →
+        IfOk result (λ r. Reports (contents Bundle (V.history vol.old)) (first + 512) r) }
+    ensures during { IsTrue (V.told vol.old) → During (λ d. d ≡ current (V.history vol.old))
+        (V.history vol.old) (V.history vol.new) }
+    ensures told { V.told vol.new ≡ V.told vol.old }
+    ensures counted { CountsFaults result (V.faults vol.old) (V.faults vol.new) }
+{
+    let mut all = report;
+    for i in 0..512 {
+        let entry = Entry::unpack(LittleEndian::read_u64(&part[8 * i..]));
+        let bad = is_bad_entry(vol, entry, len)?;
+        all = with_slot(&all, first + i as u16, entry.size, bad);
+    }
+    Ok(all)
+}
+
+/// The report of a bundle of `len` bytes. The index is read in parts of 4,096 bytes.
+pub(crate) fn check_index<V: Volume>(vol: &mut V, len: u64) -> Result<CheckReport, Failed>
+    requires len { IsTrue (V.told vol.old) → len ≡ length (contents Bundle (V.history vol.old)) }
+    ensures report { IsTrue (V.told vol.old) →
+        IfOk result (λ r. Reports (contents Bundle (V.history vol.old)) 16384 r) }
+    ensures during { IsTrue (V.told vol.old) → During (λ d. d ≡ current (V.history vol.old))
+        (V.history vol.old) (V.history vol.new) }
+    ensures told { V.told vol.new ≡ V.told vol.old }
+    ensures counted { CountsFaults result (V.faults vol.old) (V.faults vol.new) }
+{
+    let mut all = CheckReport {
+        tiles: 0,
+        bytes: 0,
+        bad: 0,
+        first_bad: None,
+    };
+    for number in 0..32u16 {
+        let mut part = [0; 4096];
+        vol.read(VolFile::Bundle, 64 + 4096 * number as u64, &mut part)?;
+        all = check_part(vol, &part, 512 * number, len, all)?;
+    }
+    Ok(all)
+}

@@ -1,0 +1,57 @@
+// Laws of the definitions, for the crates above. Each function does nothing: its contract is the
+// law.
+
+ghost use Rattle.std.specs.Prelude.{◌≡◌, ◌++◌, ◌+◌, ◌^◌, ◌<◌, ◌≤◌, ℕ, List, [], length};
+ghost use Rattle.bundle_index.specs.Entry.{entry_at};
+ghost use Rattle.bundle_store.specs.declared.tile_rec.TileRec.{TileRec};
+ghost use Rattle.bundle_store.specs.Appended.{bundle_after_put};
+ghost use Rattle.bundle_store.specs.Build.{map_after};
+ghost use Rattle.bundle_store.specs.Check.{bad_count};
+ghost use Rattle.bundle_store.specs.Images.{StandsFor};
+ghost use Rattle.bundle_store.specs.Layout.{layout};
+ghost use Rattle.bundle_store.specs.Tiles.{AreTiles, IsBundle, IsReadable, Opens, TileMap, no_tiles, tiles, with_tile};
+
+/// An image stands for one map at most.
+pub fn images_stand_for_one_map()
+    ensures { (bundle journal : List ℕ) (one two : TileMap) →
+        StandsFor bundle journal one → StandsFor bundle journal two → one ≡ two }
+{}
+
+/// A new bundle of a map is one, and its tiles are the map.
+pub fn layouts_hold_their_map()
+    ensures bundle { (map : TileMap) → AreTiles map → IsBundle (layout map) }
+    ensures tiles { (map : TileMap) → AreTiles map → tiles (layout map) ≡ map }
+{}
+
+/// An empty file has no tiles.
+pub fn empty_files_have_no_tiles()
+    ensures { tiles [] ≡ no_tiles }
+{}
+
+/// A put on a readable bundle leaves a readable one, with the one tile replaced.
+pub fn puts_replace_one_tile()
+    ensures readable { (bundle tile : List ℕ) (slot : ℕ) → IsReadable bundle → slot < 16384 →
+        0 < length tile → length tile < 2 ^ 24 → length bundle + 4 + length tile ≤ 2 ^ 40 →
+        IsReadable (bundle_after_put bundle slot tile) }
+    ensures tiles { (bundle tile : List ℕ) (slot : ℕ) → IsReadable bundle → slot < 16384 →
+        0 < length tile → length tile < 2 ^ 24 → length bundle + 4 + length tile ≤ 2 ^ 40 →
+        tiles (bundle_after_put bundle slot tile) ≡ with_tile slot tile (tiles bundle) }
+{}
+
+/// Lists of tiles one after the other are as good as one list.
+pub fn lists_of_tiles_join()
+    ensures { (map : TileMap) (first second : List TileRec) →
+        map_after map (first ++ second) ≡ map_after (map_after map first) second }
+{}
+
+/// A bundle that opens and has no bad entry is readable.
+pub fn bundles_without_bad_entries_are_readable()
+    ensures { (bundle : List ℕ) → Opens bundle → bad_count bundle 16384 ≡ 0 → IsReadable bundle }
+{}
+
+/// The tiles of a readable bundle are all there.
+pub fn readable_bundles_have_their_tiles()
+    ensures { (bundle : List ℕ) (slot : ℕ) → IsReadable bundle → slot < 16384 →
+        0 < (entry_at bundle slot).size →
+        (entry_at bundle slot).offset + (entry_at bundle slot).size ≤ length bundle }
+{}

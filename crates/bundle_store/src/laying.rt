@@ -1,0 +1,225 @@
+ghost use Rattle.std.specs.Prelude.{◌≡◌, ◌+◌, ◌*◌, ◌^◌, ◌<◌, ◌≤◌, ◌++◌, [], length, IsTrue, IfOk, OnOk};
+ghost use Rattle.outside_io.specs.declared.volume.VolFile.TheVariants.{Bundle, Journal};
+ghost use Rattle.outside_io.specs.volume.Disk.{IsQuiet, settled};
+ghost use Rattle.outside_io.specs.streams.Faults.{CountsFaults};
+ghost use Rattle.outside_io.specs.volume.History.{During, contents, current};
+ghost use Rattle.bundle_index.specs.Entry.{IsEntry};
+ghost use Rattle.bundle_index.specs.Header.{fresh_header, bytes_left_behind};
+ghost use Rattle.bundle_store.specs.inside.Parts.{Extends, KeepsJournal};
+ghost use Rattle.bundle_store.specs.inside.Table.{IsTable, entry_of_size, table_map};
+ghost use Rattle.bundle_store.specs.Layout.{entries, greatest_size, layout, record_of, records, size_of, record_bytes};
+ghost use Rattle.bundle_store.specs.Tiles.{AreTiles};
+
+use crate::TileRec;
+use bundle_index::{BundleHeader, Entry};
+use byteorder::{ByteOrder, LittleEndian};
+use outside_io::{Failed, VolFile, Volume};
+
+/// The place of the first record.
+const RECORDS: u64 = 131136;
+
+/// How many bytes the slot's tile has; 0 for none.
+fn len_at(tiles: &[TileRec], table: &[Option<usize>], slot: usize) -> usize
+    requires table { IsTable tiles.now table.now }
+    ensures { result ≡ size_of (table_map tiles.now table.now slot) }
+{
+    if slot >= table.len() {
+        return 0;
+    }
+    match table[slot] {
+        Some(number) => tiles[number].bytes.len(),
+        None => 0,
+    }
+}
+
+/// How many bytes the record of a tile of `len` bytes has; 0 for no tile.
+fn record_len(len: usize) -> u64
+    requires { len < 2 ^ 24 }
+    ensures { result ≡ bytes_left_behind len }
+{
+    if len == 0 { 0 } else { len as u64 + 4 }
+}
+
+/// The entry of a tile of `len` bytes whose record stands behind so many bytes of records.
+fn entry_for(len: usize, before: u64) -> Entry
+    requires size { len < 2 ^ 24 }
+    requires room { before < 2 ^ 39 }
+    ensures value { result ≡ entry_of_size before len }
+    ensures fits { IsEntry result }
+{
+    if len == 0 {
+        return Entry { offset: 0, size: 0 };
+    }
+    Entry {
+        offset: RECORDS + before + 4,
+        size: len as u32,
+    }
+}
+
+/// The greatest size of a tile, and how many bytes the records have.
+fn measure(tiles: &[TileRec], table: &[Option<usize>]) -> (u32, u64)
+    requires table { IsTable tiles.now table.now }
+    requires tiles { AreTiles (table_map tiles.now table.now) }
+    ensures greatest { result.0 ≡ greatest_size (table_map tiles.now table.now) 16384 }
+    ensures total { result.1 ≡ length (records (table_map tiles.now table.now) 16384) }
+    ensures room { result.1 < 2 ^ 39 }
+{
+    let mut most = 0;
+    let mut total = 0;
+    for slot in 0..16384 {
+        let len = len_at(tiles, table, slot);
+        most = len.max(most);
+        total += record_len(len);
+    }
+    (most as u32, total)
+}
+
+/// A record behind the bundle's end.
+fn write_record<V: Volume>(vol: &mut V, at: u64, tile: &[u8]) -> Result<(), Failed>
+    requires size { length tile.now < 2 ^ 24 }
+    requires room { at + 4 + length tile.now ≤ 2 ^ 40 }
+    requires end { IsTrue (V.told vol.old) → at ≡ length (contents Bundle (V.history vol.old)) }
+    ensures done { IsTrue (V.told vol.old) → OnOk result (Extends (current (V.history vol.old))
+        (current (V.history vol.new)) (record_bytes tile.now)) }
+    ensures during { IsTrue (V.told vol.old) → During (KeepsJournal (current (V.history vol.old)))
+        (V.history vol.old) (V.history vol.new) }
+    ensures told { V.told vol.new ≡ V.told vol.old }
+    ensures counted { CountsFaults result (V.faults vol.old) (V.faults vol.new) }
+{
+    let size = (tile.len() as u32).to_le_bytes();
+    vol.write(VolFile::Bundle, at, &size)?;
+    vol.write(VolFile::Bundle, at + 4, tile)
+}
+
+/// The record of the slot's tile, if it has one, and where the next one begins.
+fn write_slot<V: Volume>(
+    vol: &mut V,
+    tiles: &[TileRec],
+    table: &[Option<usize>],
+    slot: usize,
+    at: u64,
+) -> Result<u64, Failed>
+    requires table { IsTable tiles.now table.now }
+    requires tiles { AreTiles (table_map tiles.now table.now) }
+    requires room { at < 2 ^ 39 }
+    requires end { IsTrue (V.told vol.old) → at ≡ length (contents Bundle (V.history vol.old)) }
+    ensures done { IsTrue (V.told vol.old) → OnOk result (Extends (current (V.history vol.old))
+        (current (V.history vol.new)) (record_of (table_map tiles.now table.now slot))) }
+    ensures next { IfOk result (λ n. n ≡ at + length
+        (record_of (table_map tiles.now table.now slot))) }
+    ensures during { IsTrue (V.told vol.old) → During (KeepsJournal (current (V.history vol.old)))
+        (V.history vol.old) (V.history vol.new) }
+    ensures told { V.told vol.new ≡ V.told vol.old }
+    ensures counted { CountsFaults result (V.faults vol.old) (V.faults vol.new) }
+{
+    if slot >= table.len() {
+        return Ok(at);
+    }
+    let Some(number) = table[slot] else {
+        return Ok(at);
+    };
+    let tile = tiles[number].bytes.as_slice();
+    write_record(vol, at, tile)?;
+    Ok(at + 4 + tile.len() as u64)
+}
+
+/// The records by slot, behind the index.
+fn write_records<V: Volume>(
+    vol: &mut V,
+    tiles: &[TileRec],
+    table: &[Option<usize>],
+) -> Result<(), Failed>
+    requires table { IsTable tiles.now table.now }
+    requires tiles { AreTiles (table_map tiles.now table.now) }
+    requires end { IsTrue (V.told vol.old) → length (contents Bundle (V.history vol.old))
+        ≡ 131136 }
+    ensures done { IsTrue (V.told vol.old) → OnOk result (Extends (current (V.history vol.old))
+        (current (V.history vol.new)) (records (table_map tiles.now table.now) 16384)) }
+    ensures during { IsTrue (V.told vol.old) → During (KeepsJournal (current (V.history vol.old)))
+        (V.history vol.old) (V.history vol.new) }
+    ensures told { V.told vol.new ≡ V.told vol.old }
+    ensures counted { CountsFaults result (V.faults vol.old) (V.faults vol.new) }
+{
+    let mut at = RECORDS;
+    for slot in 0..16384 {
+        at = write_slot(vol, tiles, table, slot, at)?;
+    }
+    Ok(())
+}
+
+/// The entries of 1,024 slots from `first` on, behind so many bytes of records; how many there are
+/// then.
+fn spell_part(
+    tiles: &[TileRec],
+    table: &[Option<usize>],
+    first: usize,
+    before: u64,
+    part: &mut [u8; 8192],
+) -> u64
+    requires table { IsTable tiles.now table.now }
+    requires tiles { AreTiles (table_map tiles.now table.now) }
+    requires first { first + 1024 ≤ 16384 }
+    requires before { before ≡ length (records (table_map tiles.now table.now) first) }
+    ensures part { entries (table_map tiles.now table.now) (first + 1024) ≡ entries
+        (table_map tiles.now table.now) first ++ part.new }
+    ensures end { result ≡ length (records (table_map tiles.now table.now) (first + 1024)) }
+{
+    let mut end = before;
+    for i in 0..1024 {
+        let len = len_at(tiles, table, first + i);
+        let word = entry_for(len, end).pack();
+        LittleEndian::write_u64(&mut part[8 * i..], word);
+        end += record_len(len);
+    }
+    end
+}
+
+/// The index, behind the header, in parts of 8,192 bytes.
+fn write_index<V: Volume>(
+    vol: &mut V,
+    tiles: &[TileRec],
+    table: &[Option<usize>],
+) -> Result<(), Failed>
+    requires table { IsTable tiles.now table.now }
+    requires tiles { AreTiles (table_map tiles.now table.now) }
+    requires end { IsTrue (V.told vol.old) → length (contents Bundle (V.history vol.old)) ≡ 64 }
+    ensures done { IsTrue (V.told vol.old) → OnOk result (Extends (current (V.history vol.old))
+        (current (V.history vol.new)) (entries (table_map tiles.now table.now) 16384)) }
+    ensures during { IsTrue (V.told vol.old) → During (KeepsJournal (current (V.history vol.old)))
+        (V.history vol.old) (V.history vol.new) }
+    ensures told { V.told vol.new ≡ V.told vol.old }
+    ensures counted { CountsFaults result (V.faults vol.old) (V.faults vol.new) }
+{
+    let mut before = 0;
+    for number in 0..16 {
+        let mut part = [0; 8192];
+        before = spell_part(tiles, table, 1024 * number, before, &mut part);
+        vol.write(VolFile::Bundle, 64 + 8192 * number as u64, &part)?;
+    }
+    Ok(())
+}
+
+/// Writes header, index and records of the tiles that the table numbers into the empty bundle, and
+/// syncs it.
+pub(crate) fn lay_out<V: Volume>(
+    vol: &mut V,
+    tiles: &[TileRec],
+    table: &[Option<usize>],
+) -> Result<(), Failed>
+    requires table { IsTable tiles.now table.now }
+    requires tiles { AreTiles (table_map tiles.now table.now) }
+    requires empty { IsTrue (V.told vol.old) → contents Bundle (V.history vol.old) ≡ [] }
+    ensures bundle { IsTrue (V.told vol.old) → OnOk result ((current (V.history vol.new)).bundle
+        ≡ settled (layout (table_map tiles.now table.now))) }
+    ensures during { IsTrue (V.told vol.old) → During (KeepsJournal (current (V.history vol.old)))
+        (V.history vol.old) (V.history vol.new) }
+    ensures told { V.told vol.new ≡ V.told vol.old }
+    ensures counted { CountsFaults result (V.faults vol.old) (V.faults vol.new) }
+{
+    let (most, total) = measure(tiles, table);
+    let header = BundleHeader::fresh(most, RECORDS + total).bytes();
+    vol.write(VolFile::Bundle, 0, &header)?;
+    write_index(vol, tiles, table)?;
+    write_records(vol, tiles, table)?;
+    vol.sync(VolFile::Bundle)
+}

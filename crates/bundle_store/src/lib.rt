@@ -1,0 +1,36 @@
+//! Bundles of tiles over a volume: sessions that open, read, put, build and check, and the
+//! recovery of what a crash leaves. It stands on `outside_io`, `bundle_index`, `side_journal` and
+//! `byteorder`.
+//!
+//! The contract that the layer above uses: at each moment of a put, a build and a recovery each
+//! image that a crash may leave stands for the map of tiles before the call or after it.
+#![tactic(auto)]
+
+mod append;
+mod build;
+mod check;
+mod fault;
+mod laws;
+mod laying;
+mod overlay;
+mod put;
+mod reading;
+mod recovery;
+mod redo;
+mod session;
+mod syncs;
+mod tile_rec;
+
+pub use check::CheckReport;
+pub use fault::StoreFault;
+pub use laws::{
+    bundles_without_bad_entries_are_readable, empty_files_have_no_tiles, images_stand_for_one_map,
+    layouts_hold_their_map, lists_of_tiles_join, puts_replace_one_tile,
+    readable_bundles_have_their_tiles,
+};
+pub use recovery::{Recovery, recover};
+pub use session::Session;
+pub use tile_rec::TileRec;
+
+#[cfg(test)]
+mod tests;

@@ -1,0 +1,165 @@
+ghost use Rattle.std.specs.Prelude.{◌≡◌, ◌≤◌, ◌∷◌, [], drop, IsTrue, IfErr, OnOk};
+ghost use Rattle.outside_io.specs.declared.volume.VolFile.TheVariants.{Bundle, Journal};
+ghost use Rattle.outside_io.specs.volume.Disk.{IsQuiet, settled};
+ghost use Rattle.outside_io.specs.streams.Faults.{CountsFaults};
+ghost use Rattle.bundle_index.specs.Entry.{IsEntry};
+ghost use Rattle.outside_io.specs.volume.History.{During, contents, current};
+ghost use Rattle.side_journal.specs.Says.{IsOpen, SaysBody, SaysBuild, SaysTile};
+ghost use Rattle.side_journal.specs.Bodies.{IsBody};
+ghost use Rattle.bundle_store.specs.Causes.{CountsDevice};
+ghost use Rattle.bundle_store.specs.inside.Parts.{EachKeeps};
+ghost use Rattle.bundle_store.specs.Images.{EachImage};
+ghost use Rattle.bundle_store.specs.Recover.{EachStandsForOneOf, IsRecovered, OnBadJournal, RecoverFails, RecoverySays, synced_disk};
+ghost use Rattle.bundle_store.specs.Tiles.{no_tiles};
+
+use crate::StoreFault;
+use crate::redo::redo;
+use crate::syncs::{sync_both, wipe};
+use bundle_index::{BundleHeader, Entry, Slot};
+use outside_io::{Failed, VolFile, Volume};
+use side_journal::{Body, JournalState, close_gate, read_journal};
+
+/// What recovery has done.
+#[derive(Clone, Copy, Debug, PartialEq, Eq)]
+pub enum Recovery {
+    /// Nothing: the journal did not count.
+    Closed,
+    /// The journal's tile was put.
+    Applied,
+    /// A bundle that was being built is empty again.
+    Emptied,
+}
+
+/// Empties a bundle that was being built, and closes the journal.
+fn empty<V: Volume>(vol: &mut V) -> Result<(), Failed>
+    requires quiet { IsTrue (V.told vol.old) → IsQuiet (current (V.history vol.old)) }
+    requires opened { IsTrue (V.told vol.old) → IsOpen (contents Journal (V.history vol.old)) }
+    requires says { IsTrue (V.told vol.old) → SaysBuild (contents Journal (V.history vol.old)) }
+    ensures done { IsTrue (V.told vol.old) → OnOk result (current (V.history vol.new) ≡ record {
+      bundle = settled [];
+      journal = settled (0 ∷ drop 1 (contents Journal (V.history vol.old)));
+    }) }
+    ensures images { IsTrue (V.told vol.old) → During (EachImage (λ map. map ≡ no_tiles))
+        (V.history vol.old) (V.history vol.new) }
+    ensures told { V.told vol.new ≡ V.told vol.old }
+    ensures counted { CountsFaults result (V.faults vol.old) (V.faults vol.new) }
+{
+    wipe(vol)?;
+    close_gate(vol)
+}
+
+/// Puts the tile of an open journal, unless the bundle is too short for it.
+fn finish_tile<V: Volume>(
+    vol: &mut V,
+    header: &BundleHeader,
+    slot: Slot,
+    entry: Entry,
+    length: u64,
+) -> Result<Recovery, StoreFault>
+    requires entry { IsEntry entry }
+    requires quiet { IsTrue (V.told vol.old) → IsQuiet (current (V.history vol.old)) }
+    requires opened { IsTrue (V.told vol.old) → IsOpen (contents Journal (V.history vol.old)) }
+    requires says { IsTrue (V.told vol.old) →
+        SaysTile (contents Journal (V.history vol.old)) slot entry length header.now }
+    ensures says { IsTrue (V.told vol.old) → RecoverySays (contents Bundle (V.history vol.old))
+        (contents Journal (V.history vol.old)) result }
+    ensures images { IsTrue (V.told vol.old) →
+        During (EachKeeps (contents Bundle (V.history vol.old)) (contents Journal
+        (V.history vol.old))) (V.history vol.old) (V.history vol.new) }
+    ensures done { IsTrue (V.told vol.old) →
+        OnOk result (IsRecovered (contents Bundle (V.history vol.old)) (contents Journal
+        (V.history vol.old)) (current (V.history vol.new))) }
+    ensures answers { IfErr result (λ f. RecoverFails f) }
+    ensures refused { IsTrue (V.told vol.old) → OnBadJournal result (current (V.history vol.new)
+        ≡ current (V.history vol.old)) }
+    ensures told { V.told vol.new ≡ V.told vol.old }
+    ensures counted { CountsDevice result (V.faults vol.old) (V.faults vol.new) }
+{
+    if vol.len(VolFile::Bundle)? < length {
+        return Err(StoreFault::BadJournal {
+            place: 24,
+            found: length,
+        });
+    }
+    redo(vol, header, slot, entry)?;
+    Ok(Recovery::Applied)
+}
+
+/// Does what an open journal says.
+fn follow<V: Volume>(vol: &mut V, body: &Body) -> Result<Recovery, StoreFault>
+    requires body { IsBody body.now }
+    requires quiet { IsTrue (V.told vol.old) → IsQuiet (current (V.history vol.old)) }
+    requires opened { IsTrue (V.told vol.old) → IsOpen (contents Journal (V.history vol.old)) }
+    requires says { IsTrue (V.told vol.old) →
+        SaysBody (contents Journal (V.history vol.old)) body.now }
+    ensures says { IsTrue (V.told vol.old) → RecoverySays (contents Bundle (V.history vol.old))
+        (contents Journal (V.history vol.old)) result }
+    ensures images { IsTrue (V.told vol.old) →
+        During (EachKeeps (contents Bundle (V.history vol.old)) (contents Journal
+        (V.history vol.old))) (V.history vol.old) (V.history vol.new) }
+    ensures done { IsTrue (V.told vol.old) →
+        OnOk result (IsRecovered (contents Bundle (V.history vol.old)) (contents Journal
+        (V.history vol.old)) (current (V.history vol.new))) }
+    ensures answers { IfErr result (λ f. RecoverFails f) }
+    ensures refused { IsTrue (V.told vol.old) → OnBadJournal result (current (V.history vol.new)
+        ≡ current (V.history vol.old)) }
+    ensures told { V.told vol.new ≡ V.told vol.old }
+    ensures counted { CountsDevice result (V.faults vol.old) (V.faults vol.new) }
+{
+    match body {
+        Body::Tile {
+            slot,
+            entry,
+            length,
+            header,
+        } => finish_tile(vol, header, *slot, *entry, *length),
+        Body::Build => {
+            empty(vol)?;
+            Ok(Recovery::Emptied)
+        }
+    }
+}
+
+/// Does what the journal says, nothing being pending.
+fn finish<V: Volume>(vol: &mut V) -> Result<Recovery, StoreFault>
+    requires quiet { IsTrue (V.told vol.old) → IsQuiet (current (V.history vol.old)) }
+    ensures says { IsTrue (V.told vol.old) → RecoverySays (contents Bundle (V.history vol.old))
+        (contents Journal (V.history vol.old)) result }
+    ensures images { IsTrue (V.told vol.old) →
+        During (EachKeeps (contents Bundle (V.history vol.old)) (contents Journal
+        (V.history vol.old))) (V.history vol.old) (V.history vol.new) }
+    ensures done { IsTrue (V.told vol.old) →
+        OnOk result (IsRecovered (contents Bundle (V.history vol.old)) (contents Journal
+        (V.history vol.old)) (current (V.history vol.new))) }
+    ensures answers { IfErr result (λ f. RecoverFails f) }
+    ensures refused { IsTrue (V.told vol.old) → OnBadJournal result (current (V.history vol.new)
+        ≡ current (V.history vol.old)) }
+    ensures told { V.told vol.new ≡ V.told vol.old }
+    ensures counted { CountsDevice result (V.faults vol.old) (V.faults vol.new) }
+{
+    match read_journal(vol)? {
+        JournalState::Closed => Ok(Recovery::Closed),
+        JournalState::Bad { place, found } => Err(StoreFault::BadJournal { place, found }),
+        JournalState::Open(body) => follow(vol, &body),
+    }
+}
+
+/// Makes whole what a crash left. It may itself be cut off by a crash.
+pub fn recover<V: Volume>(vol: &mut V) -> Result<Recovery, StoreFault>
+    ensures says { IsTrue (V.told vol.old) → RecoverySays (contents Bundle (V.history vol.old))
+        (contents Journal (V.history vol.old)) result }
+    ensures images { IsTrue (V.told vol.old) →
+        During (EachStandsForOneOf (current (V.history vol.old))) (V.history vol.old)
+        (V.history vol.new) }
+    ensures done { IsTrue (V.told vol.old) →
+        OnOk result (IsRecovered (contents Bundle (V.history vol.old)) (contents Journal
+        (V.history vol.old)) (current (V.history vol.new))) }
+    ensures answers { IfErr result (λ f. RecoverFails f) }
+    ensures refused { IsTrue (V.told vol.old) → OnBadJournal result (current (V.history vol.new)
+        ≡ synced_disk (current (V.history vol.old))) }
+    ensures told { V.told vol.new ≡ V.told vol.old }
+    ensures counted { CountsDevice result (V.faults vol.old) (V.faults vol.new) }
+{
+    sync_both(vol)?;
+    finish(vol)
+}

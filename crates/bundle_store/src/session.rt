@@ -1,0 +1,284 @@
+ghost use Rattle.std.specs.Prelude.{◌≡◌, ◌↔◌, ◌⊎◌, ◌+◌, ◌^◌, ◌<◌, ◌≤◌, [], false, true, None, Some, length, IsTrue, IsErrOf, IfOk, IfErr, OnOk};
+ghost use Rattle.outside_io.specs.declared.volume.VolFile.TheVariants.{Bundle, Journal};
+ghost use Rattle.outside_io.specs.volume.History.{During, contents, current};
+ghost use Rattle.bundle_index.specs.Entry.{entry_at};
+ghost use Rattle.bundle_store.specs.Causes.{CountsDevice, OnRefusal, UnlessDevice};
+ghost use Rattle.bundle_store.specs.Check.{Reports};
+ghost use Rattle.bundle_store.specs.Appended.{bundle_after_put};
+ghost use Rattle.bundle_store.specs.Build.{EachFits, last_tiles};
+ghost use Rattle.bundle_store.specs.Layout.{layout};
+ghost use Rattle.bundle_store.specs.Images.{EachImage, EmptyOr, HoldsClosed, WithOrWithout};
+ghost use Rattle.bundle_store.specs.Tiles.{IsReadable, tiles};
+ghost use Rattle.bundle_store.specs.Session.{BuildFails, GetFails, GetGives, GetRefuses, IsReadyToPut, KeepsLength, OpenFails, OpenRefuses, PutFails, Serves};
+
+use crate::build::{build_on, check_tiles, number_tiles};
+use crate::check::check_index;
+use crate::put::put_tile;
+use crate::reading::{header_fault_of, read_entry};
+use crate::{CheckReport, StoreFault, TileRec};
+use bundle_index::{Entry, Slot};
+use outside_io::{Bytes, VolFile, Volume};
+use std::alloc::Global;
+use std::marker::Model;
+
+/// An open bundle. It holds no volume: each call takes the one on which it was opened.
+#[derive(Drop)]
+pub struct Session {
+    alloc: Global,
+    stopped: bool,
+}
+
+impl Model for Session {
+    ghost use Rattle.bundle_store.specs.Session.{SessionState};
+
+    ghost Value = { SessionState };
+
+    ghost view = { λ s. record { stopped = s.stopped } };
+}
+
+impl Session {
+    /// Opens the bundle. A file of length 0 is a bundle without tiles. Device, or BadBundle where
+    /// the length or a field of the header fails a reader's test.
+    pub fn open<V: Volume>(alloc: Global, vol: &mut V) -> Result<Session, StoreFault>
+        ensures ok { IsTrue (V.told vol.old) → IfOk result
+            (λ s. Serves s (contents Bundle (V.history vol.old))) }
+        ensures running { IfOk result (λ s. s.stopped ≡ false) }
+        ensures refused { IsTrue (V.told vol.old) →
+            IfErr result (λ f. OpenRefuses (contents Bundle (V.history vol.old)) f) }
+        ensures answers { IfErr result (λ f. OpenFails f) }
+        ensures during { IsTrue (V.told vol.old) → During (λ d. d ≡ current (V.history vol.old))
+            (V.history vol.old) (V.history vol.new) }
+        ensures told { V.told vol.new ≡ V.told vol.old }
+        ensures counted { CountsDevice result (V.faults vol.old) (V.faults vol.new) }
+    {
+        let len = vol.len(VolFile::Bundle)?;
+        if len == 0 {
+            return Ok(Session {
+                alloc,
+                stopped: false,
+            });
+        }
+        if len < 131136 {
+            return Err(StoreFault::BadBundle {
+                place: len,
+                found: len,
+            });
+        }
+        match header_fault_of(vol)? {
+            Some(fault) => Err(StoreFault::BadBundle {
+                place: fault.place,
+                found: fault.found,
+            }),
+            None => Ok(Session {
+                alloc,
+                stopped: false,
+            }),
+        }
+    }
+
+    /// The bundle's length in bytes. Device, Stopped.
+    pub fn length<V: Volume>(&self, vol: &mut V) -> Result<u64, StoreFault>
+        requires serves { IsTrue (V.told vol.old) → self.now.stopped ≡ false →
+            Serves self.now (contents Bundle (V.history vol.old)) }
+        ensures value { IsTrue (V.told vol.old) →
+            IfOk result (λ n. n ≡ length (contents Bundle (V.history vol.old))) }
+        ensures stopped { IsErrOf result StoreFault.Stopped ↔ (self.now.stopped ≡ true) }
+        ensures answers { IfErr result (λ f. (f ≡ StoreFault.Device) ⊎ (f ≡ StoreFault.Stopped)) }
+        ensures during { IsTrue (V.told vol.old) → During (λ d. d ≡ current (V.history vol.old))
+            (V.history vol.old) (V.history vol.new) }
+        ensures idle { self.now.stopped ≡ true → vol.new ≡ vol.old }
+        ensures told { V.told vol.new ≡ V.told vol.old }
+        ensures counted { CountsDevice result (V.faults vol.old) (V.faults vol.new) }
+    {
+        if self.stopped {
+            return Err(StoreFault::Stopped);
+        }
+        Ok(vol.len(VolFile::Bundle)?)
+    }
+
+    /// Looks at each entry, and at the number in front of each tile. Device, Stopped.
+    pub fn check<V: Volume>(&self, vol: &mut V) -> Result<CheckReport, StoreFault>
+        requires serves { IsTrue (V.told vol.old) → self.now.stopped ≡ false →
+            Serves self.now (contents Bundle (V.history vol.old)) }
+        ensures report { IsTrue (V.told vol.old) →
+            IfOk result (λ r. Reports (contents Bundle (V.history vol.old)) 16384 r) }
+        ensures stopped { IsErrOf result StoreFault.Stopped ↔ (self.now.stopped ≡ true) }
+        ensures answers { IfErr result (λ f. (f ≡ StoreFault.Device) ⊎ (f ≡ StoreFault.Stopped)) }
+        ensures during { IsTrue (V.told vol.old) → During (λ d. d ≡ current (V.history vol.old))
+            (V.history vol.old) (V.history vol.new) }
+        ensures idle { self.now.stopped ≡ true → vol.new ≡ vol.old }
+        ensures told { V.told vol.new ≡ V.told vol.old }
+        ensures counted { CountsDevice result (V.faults vol.old) (V.faults vol.new) }
+    {
+        if self.stopped {
+            return Err(StoreFault::Stopped);
+        }
+        let len = vol.len(VolFile::Bundle)?;
+        Ok(check_index(vol, len)?)
+    }
+
+    /// The entry at the slot's place; that of an empty file is 0. Device, Stopped.
+    pub fn entry<V: Volume>(&self, vol: &mut V, slot: Slot) -> Result<Entry, StoreFault>
+        requires serves { IsTrue (V.told vol.old) → self.now.stopped ≡ false →
+            Serves self.now (contents Bundle (V.history vol.old)) }
+        ensures value { IsTrue (V.told vol.old) →
+            IfOk result (λ e. e ≡ entry_at (contents Bundle (V.history vol.old)) slot) }
+        ensures stopped { IsErrOf result StoreFault.Stopped ↔ (self.now.stopped ≡ true) }
+        ensures answers { IfErr result (λ f. (f ≡ StoreFault.Device) ⊎ (f ≡ StoreFault.Stopped)) }
+        ensures during { IsTrue (V.told vol.old) → During (λ d. d ≡ current (V.history vol.old))
+            (V.history vol.old) (V.history vol.new) }
+        ensures idle { self.now.stopped ≡ true → vol.new ≡ vol.old }
+        ensures told { V.told vol.new ≡ V.told vol.old }
+        ensures counted { CountsDevice result (V.faults vol.old) (V.faults vol.new) }
+    {
+        if self.stopped {
+            return Err(StoreFault::Stopped);
+        }
+        Ok(read_entry(vol, slot)?)
+    }
+
+    /// The bytes of the slot's tile. In this order Stopped, Device for the entry, NoTile,
+    /// OutOfMemory, Device for the tile, Beyond.
+    pub fn get<V: Volume>(&self, vol: &mut V, slot: Slot) -> Result<Bytes, StoreFault>
+        requires serves { IsTrue (V.told vol.old) → self.now.stopped ≡ false →
+            Serves self.now (contents Bundle (V.history vol.old)) }
+        ensures ok { IsTrue (V.told vol.old) → IfOk result (λ tile. GetGives (contents Bundle
+            (V.history vol.old)) slot tile) }
+        ensures tile { IsTrue (V.told vol.old) →
+            IfOk result (λ tile. tiles (contents Bundle (V.history vol.old)) slot ≡ Some tile) }
+        ensures none { IsTrue (V.told vol.old) → IsErrOf result StoreFault.NoTile →
+            tiles (contents Bundle (V.history vol.old)) slot ≡ None }
+        ensures stopped { IsErrOf result StoreFault.Stopped ↔ (self.now.stopped ≡ true) }
+        ensures refused { IsTrue (V.told vol.old) →
+            IfErr result (λ f. GetRefuses (contents Bundle (V.history vol.old)) slot f) }
+        ensures answers { IfErr result (λ f. GetFails f) }
+        ensures during { IsTrue (V.told vol.old) → During (λ d. d ≡ current (V.history vol.old))
+            (V.history vol.old) (V.history vol.new) }
+        ensures idle { self.now.stopped ≡ true → vol.new ≡ vol.old }
+        ensures told { V.told vol.new ≡ V.told vol.old }
+        ensures counted { CountsDevice result (V.faults vol.old) (V.faults vol.new) }
+    {
+        if self.stopped {
+            return Err(StoreFault::Stopped);
+        }
+        let entry = read_entry(vol, slot)?;
+        if entry.size == 0 {
+            return Err(StoreFault::NoTile);
+        }
+        let size = entry.size as usize;
+        let mut tile = Vec::with_capacity(self.alloc, size)?;
+        tile.resize(size, 0)?;
+        let got = vol.read(VolFile::Bundle, entry.offset, &mut tile)?;
+        if got < size {
+            return Err(StoreFault::Beyond {
+                entry,
+                got: got as u64,
+            });
+        }
+        Ok(Bytes::from_vec(tile))
+    }
+
+    /// Puts the tile into the slot. In this order Stopped, EmptyTile, TileTooLarge, Device for the
+    /// length, Full, Device. After Device the put stands or does not, and the session is stopped:
+    /// `recover` is called, and a new session opened.
+    pub fn put_blob<V: Volume>(
+        &mut self,
+        vol: &mut V,
+        slot: Slot,
+        tile: &[u8],
+    ) -> Result<(), StoreFault>
+        requires ready { IsTrue (V.told vol.old) → self.old.stopped ≡ false →
+            IsReadyToPut self.old (current (V.history vol.old)) }
+        ensures done { IsTrue (V.told vol.old) →
+            OnOk result (HoldsClosed (bundle_after_put (contents Bundle
+            (V.history vol.old)) slot tile.now) (current (V.history vol.new))) }
+        ensures stopped { IsErrOf result StoreFault.Stopped ↔ (self.old.stopped ≡ true) }
+        ensures stops { self.new.stopped ≡ true ↔ ((self.old.stopped ≡ true) ⊎
+            IsErrOf result StoreFault.Device) }
+        ensures answers { IfErr result (λ f. PutFails (length tile.now) f) }
+        ensures fits { OnOk result ((0 < length tile.now) × (length tile.now ≤ 16777215)) }
+        ensures room { IsTrue (V.told vol.old) →
+            OnOk result (length (contents Bundle (V.history vol.old)) + 4 + length tile.now
+            ≤ 2 ^ 40) }
+        ensures full { IsTrue (V.told vol.old) →
+            IfErr result (λ f. KeepsLength (length (contents Bundle (V.history vol.old))) f) }
+        ensures images { IsTrue (V.told vol.old) → During (λ d. self.old.stopped ≡ false →
+            IsReadable (contents Bundle (V.history vol.old))
+            → EachImage (WithOrWithout slot tile.now
+            (tiles (contents Bundle (V.history vol.old)))) d) (V.history vol.old)
+            (V.history vol.new) }
+        ensures kept { IsTrue (V.told vol.old) → OnRefusal result
+            (During (λ d. d ≡ current (V.history vol.old)) (V.history vol.old)
+            (V.history vol.new)) }
+        ensures ready { IsTrue (V.told vol.old) → self.old.stopped ≡ false → UnlessDevice result
+            (IsReadyToPut self.new (current (V.history vol.new))) }
+        ensures idle { self.old.stopped ≡ true → vol.new ≡ vol.old }
+        ensures told { V.told vol.new ≡ V.told vol.old }
+        ensures counted { CountsDevice result (V.faults vol.old) (V.faults vol.new) }
+    {
+        if self.stopped {
+            return Err(StoreFault::Stopped);
+        }
+        if tile.is_empty() {
+            return Err(StoreFault::EmptyTile { at: 0 });
+        }
+        if tile.len() > 16777215 {
+            return Err(StoreFault::TileTooLarge {
+                at: 0,
+                len: tile.len() as u64,
+            });
+        }
+        let put = put_tile(vol, slot, tile);
+        if let Err(StoreFault::Device) = put {
+            self.stopped = true;
+        }
+        put
+    }
+
+    /// Builds a bundle of each slot's last tile in the place of an empty file. In this order
+    /// Stopped, the first tile that is empty or too large, OutOfMemory, Device for the length,
+    /// NotEmpty, Device. After Device the session is stopped: `recover` is called, and a new
+    /// session opened.
+    pub fn build<V: Volume>(&mut self, vol: &mut V, tiles: &[TileRec]) -> Result<(), StoreFault>
+        requires ready { IsTrue (V.told vol.old) → self.old.stopped ≡ false →
+            IsReadyToPut self.old (current (V.history vol.old)) }
+        ensures done { IsTrue (V.told vol.old) →
+            OnOk result (HoldsClosed (layout (last_tiles tiles.now))
+            (current (V.history vol.new))) }
+        ensures stopped { IsErrOf result StoreFault.Stopped ↔ (self.old.stopped ≡ true) }
+        ensures stops { self.new.stopped ≡ true ↔ ((self.old.stopped ≡ true) ⊎
+            IsErrOf result StoreFault.Device) }
+        ensures answers { IfErr result (λ f. BuildFails tiles.now f) }
+        ensures fits { OnOk result (EachFits tiles.now) }
+        ensures empty { IsTrue (V.told vol.old) → OnOk result (contents Bundle (V.history vol.old)
+            ≡ []) }
+        ensures not_empty { IsTrue (V.told vol.old) →
+            IfErr result (λ f. KeepsLength (length (contents Bundle (V.history vol.old))) f) }
+        ensures beside { IsTrue (V.told vol.old) →
+            0 < length (contents Bundle (V.history vol.old)) →
+            During (λ d. d ≡ current (V.history vol.old)) (V.history vol.old) (V.history vol.new) }
+        ensures images { IsTrue (V.told vol.old) → During (λ d. self.old.stopped ≡ false →
+            contents Bundle (V.history vol.old) ≡ []
+            → EachImage (EmptyOr (last_tiles tiles.now)) d) (V.history vol.old)
+            (V.history vol.new) }
+        ensures kept { IsTrue (V.told vol.old) → OnRefusal result
+            (During (λ d. d ≡ current (V.history vol.old)) (V.history vol.old)
+            (V.history vol.new)) }
+        ensures ready { IsTrue (V.told vol.old) → self.old.stopped ≡ false → UnlessDevice result
+            (IsReadyToPut self.new (current (V.history vol.new))) }
+        ensures idle { self.old.stopped ≡ true → vol.new ≡ vol.old }
+        ensures told { V.told vol.new ≡ V.told vol.old }
+        ensures counted { CountsDevice result (V.faults vol.old) (V.faults vol.new) }
+    {
+        if self.stopped {
+            return Err(StoreFault::Stopped);
+        }
+        check_tiles(tiles)?;
+        let table = number_tiles(self.alloc, tiles)?;
+        let built = build_on(vol, tiles, table.as_slice());
+        if let Err(StoreFault::Device) = built {
+            self.stopped = true;
+        }
+        built
+    }
+}
