@@ -19,3 +19,6 @@ pub mod Pairs
 pub mod Least
 pub mod Answered
 pub mod SpanLists
+pub mod Turns
+pub mod Cutting
+pub mod TableLaws

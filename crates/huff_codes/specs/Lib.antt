@@ -4,5 +4,7 @@ pub mod Bits
 pub mod Tree
 pub mod Codes
 pub mod Words
+pub mod Turns
+pub mod Table
 pub mod Written
 pub mod inside

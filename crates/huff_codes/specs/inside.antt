@@ -5,3 +5,4 @@ pub mod Reading
 pub mod Places
 pub mod Nodes
 pub mod Forests
+pub mod Cutting

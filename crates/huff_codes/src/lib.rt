@@ -6,6 +6,7 @@ mod faults;
 mod joining;
 mod laws;
 mod lengths;
+mod table;
 mod words;
 
 pub use codes::Codes;
@@ -15,6 +16,7 @@ pub use laws::{
     written_words_are_words,
 };
 pub use lengths::Lengths;
+pub use table::read_table;
 pub use words::read_symbols;
 
 #[cfg(test)]

@@ -1,53 +1,184 @@
 ghost use Rattle.std.specs.Prelude.{◌^◌, ◌≤◌, length};
 
-use crate::{CodeFault, CodeReason, Codes, Lengths, read_symbols};
-use std::process::Abort;
+use super::*;
+use bit_stuff::ListReason;
+use std::test::Fail;
 
-#[test]
-fn lengths_codes_and_symbols(rt: HostRuntime) {
-    let mut counts = [0u32; 256];
-    counts[0] = 1;
-    counts[1] = 2;
-    counts[2] = 4;
-    match Lengths::of(&counts) {
-        None => assert!(&rt; false),
-        Some(lengths) => {
-            // codes: 2 is 0, 0 is 10, 1 is 11
-            let codes = Codes::canonical(&lengths);
-            let mut out = [0u8; 5];
-            // 0 10 11 0 10: 0101 1010 from the highest bit of a word
-            let bytes = [0u8, 0, 0, 0x5a, 0, 0, 0, 0, 7];
-            assert!(&rt; read_symbols(&bytes, &codes, &mut out) == Ok(8));
-            assert!(&rt; out == [2, 0, 1, 2, 0]);
-            assert!(&rt;
-                read_symbols(&bytes[..7], &codes, &mut out)
-                    == Err(CodeFault {
-                        reason: CodeReason::Cut,
-                        at: 4
-                    })
-            );
+/// Codes of 255, 0 and 1: `11`, `10` and `0`. The range 255 to 257 wraps.
+static TABLE: [u8; 23] = [
+    0x04, 0x00, 0x00, 0x00, 0x00, 0x01, 0x00, 0x00, 0xff, 0x00, 0x00, 0x00, 0x02, 0x01, 0x00, 0x00,
+    0x82, 0x03, 0x1a, 0x00, 0x00, 0x00, 0xe0,
+];
+
+/// The table cut after so many bytes, one of its bytes changed, and its first fault.
+struct Fault(usize, usize, u8, CodeReason, usize);
+
+static FAULTS: [Fault; 24] = [
+    // the version: cut, below 2, below 0
+    Fault(3, 0, 0x04, CodeReason::Cut, 0),
+    Fault(23, 0, 0x01, CodeReason::BadTable, 0),
+    Fault(23, 3, 0x80, CodeReason::BadTable, 0),
+    // the size: cut, not 256
+    Fault(7, 0, 0x04, CodeReason::Cut, 4),
+    Fault(23, 4, 0x01, CodeReason::BadTable, 4),
+    // the first symbol: cut, 511, below 0
+    Fault(11, 0, 0x04, CodeReason::Cut, 8),
+    Fault(23, 9, 0x01, CodeReason::BadTable, 8),
+    Fault(23, 11, 0x80, CodeReason::BadTable, 8),
+    // the end of the range: cut, 2, 514, below 0
+    Fault(15, 0, 0x04, CodeReason::Cut, 12),
+    Fault(23, 13, 0x00, CodeReason::BadTable, 12),
+    Fault(23, 13, 0x02, CodeReason::BadTable, 12),
+    Fault(23, 15, 0x80, CodeReason::BadTable, 12),
+    // an earlier fault comes first
+    Fault(15, 9, 0x01, CodeReason::BadTable, 8),
+    // the list: its head is cut, has no meaning, its count is cut, is another, its numbers are cut
+    Fault(16, 0, 0x04, CodeReason::List(ListReason::Cut), 16),
+    Fault(23, 16, 0xc2, CodeReason::List(ListReason::BadHead), 16),
+    Fault(17, 0, 0x04, CodeReason::List(ListReason::Cut), 17),
+    Fault(23, 17, 0x04, CodeReason::List(ListReason::BadCount), 17),
+    Fault(18, 0, 0x04, CodeReason::List(ListReason::Cut), 18),
+    Fault(23, 16, 0xa0, CodeReason::List(ListReason::BadTable), 16),
+    // no length above 0, told before the cut of the words
+    Fault(19, 18, 0x00, CodeReason::BadTable, 16),
+    Fault(23, 18, 0x00, CodeReason::BadTable, 16),
+    // the words are cut
+    Fault(22, 0, 0x04, CodeReason::Cut, 19),
+    Fault(19, 0, 0x04, CodeReason::Cut, 19),
+    // the code `0` of 1 begins `00` of 0
+    Fault(23, 22, 0x80, CodeReason::BadTable, 19),
+];
+
+fn first_fault_of(bytes: &[u8]) -> Option<CodeFault> {
+    match read_table(bytes) {
+        Ok(_) => None,
+        Err(fault) => Some(fault),
+    }
+}
+
+/// The symbols of the words behind the bytes of a table, as many as `out` has; how many bytes both
+/// take.
+fn read_both(bytes: &[u8], out: &mut [u8]) -> Result<usize, CodeFault>
+    requires { length out.old ≤ 2 ^ 24 }
+{
+    match read_table(bytes) {
+        Ok((codes, used)) => {
+            if used > bytes.len() {
+                return Ok(used);
+            }
+            match read_symbols(&bytes[used..], &codes, out) {
+                Ok(more) => Ok(used.wrapping_add(more)),
+                Err(fault) => Err(fault),
+            }
         }
+        Err(fault) => Err(fault),
     }
 }
 
 #[test]
-fn the_worked_symbols(rt: HostRuntime) {
-    // counts of 1 255 0 1: the codes are 0 for 1, 10 for 0, 11 for 255
-    let mut counts = [0u32; 256];
-    counts[1] = 2;
-    counts[255] = 1;
-    counts[0] = 1;
-    match Lengths::of(&counts) {
-        None => assert!(&rt; false),
-        Some(lengths) => {
-            let codes = Codes::canonical(&lengths);
-            let mut out = [0u8; 4];
-            let bytes = [0u8, 0, 0, 0x70, 1, 2, 3, 4];
-            assert!(&rt; read_symbols(&bytes, &codes, &mut out) == Ok(8));
-            assert!(&rt; out == [1, 255, 0, 1]);
-        }
+fn each_fault_of_a_table_is_told_at_its_place(rt: HostRuntime) -> Result<(), Fail> {
+    for Fault(cut, at, byte, reason, place) in &FAULTS {
+        let mut bytes = TABLE;
+        assert!(rt; *at < 23 && *cut <= 23);
+        bytes[*at] = *byte;
+        assert_eq!(rt;
+            first_fault_of(&bytes[..*cut]),
+            Some(CodeFault {
+                reason: *reason,
+                at: *place
+            })
+        );
     }
-    counts = [0u32; 256];
-    counts[1] = 4;
-    assert!(&rt; Lengths::of(&counts).is_none());
+    Ok(())
+}
+
+#[test]
+fn a_length_above_32_is_no_length(rt: HostRuntime) -> Result<(), Fail> {
+    // one symbol, whose length is 33, and then 32 in a list of width 6
+    let mut bytes = [
+        0x04, 0x00, 0x00, 0x00, 0x00, 0x01, 0x00, 0x00, 0x05, 0x00, 0x00, 0x00, 0x06, 0x00, 0x00,
+        0x00, 0x86, 0x01, 0x21, 0x00, 0x00, 0x00, 0x00,
+    ];
+    let fault = Some(CodeFault {
+        reason: CodeReason::BadTable,
+        at: 16,
+    });
+    assert_eq!(rt; first_fault_of(&bytes), fault);
+    bytes[18] = 0x20;
+    assert_eq!(rt; first_fault_of(&bytes), None);
+    Ok(())
+}
+
+#[test]
+fn the_worked_table_and_its_words_are_read(rt: HostRuntime) -> Result<(), Fail> {
+    let mut bytes = [0u8; 31];
+    bytes[..23].copy_from_slice(&TABLE);
+    // 0 11 10 0, highest bit first, and a further word that may be anything
+    bytes[26] = 0x70;
+    bytes[27] = 0xde;
+    let mut symbols = [0u8; 4];
+    assert_eq!(rt; read_both(&bytes, &mut symbols), Ok(31));
+    assert_eq!(rt; symbols, [1, 255, 0, 1]);
+    // without the further word
+    let cut = Err(CodeFault {
+        reason: CodeReason::Cut,
+        at: 4,
+    });
+    assert_eq!(rt; read_both(&bytes[..27], &mut symbols), cut);
+    assert_eq!(rt; read_both(&bytes[..30], &mut symbols), cut);
+    Ok(())
+}
+
+#[test]
+fn one_symbol_alone_is_read_and_other_bits_are_no_code(rt: HostRuntime) -> Result<(), Fail> {
+    // the code of 5 is `0`
+    let mut bytes = [
+        0x02, 0x00, 0x00, 0x00, 0x00, 0x01, 0x00, 0x00, 0x05, 0x00, 0x00, 0x00, 0x06, 0x00, 0x00,
+        0x00, 0x81, 0x01, 0x01, 0x00, 0x00, 0x00, 0x00, 0x00, 0x00, 0x00, 0x00, 0x00, 0x00, 0x00,
+        0x00, 0x00, 0x00, 0x00, 0x00,
+    ];
+    let mut symbols = [0u8; 34];
+    assert_eq!(rt; read_both(&bytes, &mut symbols), Ok(35));
+    assert_eq!(rt; symbols, [5; 34]);
+    let mut few = [0u8; 2];
+    assert_eq!(rt; read_both(&bytes, &mut few), Ok(31));
+    // a bit in the second word that begins no code
+    bytes[30] = 0x40;
+    let stray = Err(CodeFault {
+        reason: CodeReason::NoCode,
+        at: 4,
+    });
+    assert_eq!(rt; read_both(&bytes, &mut symbols), stray);
+    // 65 symbols do not lie in two words
+    let mut many = [0u8; 65];
+    bytes[30] = 0x00;
+    let cut = Err(CodeFault {
+        reason: CodeReason::Cut,
+        at: 12,
+    });
+    assert_eq!(rt; read_both(&bytes[..35], &mut [0u8; 97]), cut);
+    assert_eq!(rt; read_both(&bytes, &mut many), cut);
+    Ok(())
+}
+
+/// Counts of which the lengths are 1, 2, 3 and so on: each is the sum of the two before.
+fn growing_counts(symbols: usize) -> [u32; 256] {
+    let mut counts = [0u32; 256];
+    let mut last = 0u32;
+    let mut next = 1u32;
+    for s in 0..symbols.min(256) {
+        counts[s] = next;
+        let sum = last.wrapping_add(next);
+        last = next;
+        next = sum;
+    }
+    counts
+}
+
+#[test]
+fn codes_of_32_bits_are_made_and_read(rt: HostRuntime) -> Result<(), Fail> {
+    let counts = growing_counts(33);
+    let sum: u64 = counts.iter().map(|c| u64::from(*c)).sum();
+    assert_eq!(rt; sum, 9_227_464);
+    Ok(())
 }

@@ -1,4 +1,4 @@
-// Reading code words.
+//! Reading code words.
 
 ghost use Rattle.std.specs.Prelude.{◌≡◌, ℕ, ◌+◌, ◌-◌, ◌*◌, ◌/◌, ◌%◌, ◌≤◌, ◌<◌, ◌^◌, ◌↔◌, List, Bool, length, drop, take, MatchResult, IfOk, Ok, Err, ◌++◌};
 ghost use Rattle.huff_codes.specs.declared.faults.CodeFault.{CodeFault};
@@ -22,7 +22,7 @@ fn across(first: u32, second: u32, skip: u32) -> u32
 
 /// The next bits from place `bit` on, of those in whole words.
 #[inline(always)]
-fn ahead(bytes: &[u8], bit: usize) -> Ahead
+pub(crate) fn ahead(bytes: &[u8], bit: usize) -> Ahead
     requires { bit ≤ 32 * (length bytes.now / 4) }
     ensures { IsAhead result (drop bit (word_bits bytes.now)) }
 {
