@@ -7,10 +7,9 @@ pub mod Masks
 pub mod More
 pub mod Verdicts
 pub mod Exact
-pub mod Owed
 pub mod Lists
+pub mod Counts
 pub mod Existing
-pub mod BlobDecided
 pub mod ImageDecided
 pub mod Cases
 pub mod MaskDecided
