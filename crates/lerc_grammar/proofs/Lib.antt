@@ -8,6 +8,7 @@ pub mod More
 pub mod Verdicts
 pub mod Exact
 pub mod Lists
+pub mod Looking
 pub mod Counts
 pub mod Existing
 pub mod ImageDecided

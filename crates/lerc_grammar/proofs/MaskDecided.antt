@@ -29,31 +29,29 @@ which_alike : (pixels valid : ℕ) → IsAlike pixels valid → (mark : Bool) ×
 which_alike pixels valid (inl e) = (false, e)
 which_alike pixels valid (inr e) = (true, e)
 
+-- no bytes behind the length
+pub alike_stands : (pixels valid : ℕ) (bytes : List ℕ) (mark : Bool) → 4 ≤ length bytes → valid ≡ cond mark pixels 0 → i32_at bytes 0 ≡ pos 0 → IsMask pixels valid (take 4 bytes) (replicate pixels mark)
+alike_stands pixels valid bytes mark long is number = alike mark is (length-take-le 4 bytes long) (number_kept 4 bytes (omega arith) long ∙ number) refl
+
+-- runs behind it
+pub mixed_stands : (pixels valid : ℕ) (bytes mask : List ℕ) (n : ℕ) → ¬ IsAlike pixels valid → i32_at bytes 0 ≡ pos n → 4 + n ≤ length bytes → Runs (take n (drop 4 bytes)) mask → length mask ≡ mask_size pixels
+    → count_of (marks_in pixels mask) ≡ valid → IsMask pixels valid (take (4 + n) bytes) (marks_in pixels mask)
+mixed_stands pixels valid bytes mask n other number long runs size count =
+    let part = take (4 + n) bytes in
+    let cut : length part ≡ 4 + n = length-take-le (4 + n) bytes long in
+    let back : drop 4 part ≡ take n (drop 4 bytes) = drop-take 4 n bytes in
+    mixed mask other (omega (arith, cut)) (number_kept (4 + n) bytes (omega arith) long ∙ number ∙ ap pos (let t : n ≡ length (drop 4 part) = omega (arith, cut, length-drop 4 part) in t))
+    (subst (λ (u : List ℕ). Runs u mask) (sym back) runs) size refl count
+
 in_alike : (pixels valid : ℕ) (bytes : List ℕ) → 4 ≤ length bytes → IsAlike pixels valid → i32_at bytes 0 ≡ pos 0 → InFront (IsMask pixels valid) bytes
 in_alike pixels valid bytes long same number =
     let mark = which_alike pixels valid same in
-    record {
-      front = take 4 bytes;
-      rest = drop 4 bytes;
-      value = replicate pixels mark.0;
-      joined = sym (take-append-drop 4 bytes);
-      stands = alike mark.0 mark.1 (length-take-le 4 bytes long) (number_kept 4 bytes (omega arith) long ∙ number) refl;
-    }
+    record { front = take 4 bytes; rest = drop 4 bytes; value = replicate pixels mark.0; joined = sym (take-append-drop 4 bytes); stands = alike_stands pixels valid bytes mark.0 long mark.1 number }
 
 in_mixed : (pixels valid : ℕ) (bytes mask : List ℕ) (n : ℕ) → ¬ IsAlike pixels valid → i32_at bytes 0 ≡ pos n → 4 + n ≤ length bytes → Runs (take n (drop 4 bytes)) mask → length mask ≡ mask_size pixels
     → count_of (marks_in pixels mask) ≡ valid → InFront (IsMask pixels valid) bytes
 in_mixed pixels valid bytes mask n other number long runs size count =
-    let part = take (4 + n) bytes in
-    let cut : length part ≡ 4 + n = length-take-le (4 + n) bytes long in
-    let back : drop 4 part ≡ take n (drop 4 bytes) = drop-take 4 n bytes in
-    record {
-      front = part;
-      rest = drop (4 + n) bytes;
-      value = marks_in pixels mask;
-      joined = sym (take-append-drop (4 + n) bytes);
-      stands = mixed mask other (omega (arith, cut)) (number_kept (4 + n) bytes (omega arith) long ∙ number ∙ ap pos (let t : n ≡ length (drop 4 part) = omega (arith, cut, length-drop 4 part) in t))
-          (subst (λ (u : List ℕ). Runs u mask) (sym back) runs) size refl count;
-    }
+    record { front = take (4 + n) bytes; rest = drop (4 + n) bytes; value = marks_in pixels mask; joined = sym (take-append-drop (4 + n) bytes); stands = mixed_stands pixels valid bytes mask n other number long runs size count }
 
 inside_decided : (pixels valid : ℕ) (bytes : List ℕ) (n : ℕ) → ¬ IsAlike pixels valid → i32_at bytes 0 ≡ pos n → 4 + n ≤ length bytes → AreBytes bytes → MaskOr pixels valid bytes (runs_faults pixels valid (take n (drop 4 bytes)))
 inside_decided pixels valid bytes n other number long are = which (runs_decided (take n (drop 4 bytes)) (mask_size pixels) (all_bytes _ (bytes_in_take n (drop 4 bytes) (bytes_in_drop 4 bytes are))))
