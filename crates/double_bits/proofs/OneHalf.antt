@@ -3,7 +3,7 @@ use Rattle.std.proofs.Common.{◌≡◌, ℕ, ℤ, ◌+◌, ◌*◌, ◌^◌, �
 use Rattle.std.proofs.lemmas.Nat.{pow_pos}
 use Rattle.std.proofs.Math.Nat.{eq_of_mul-eq-mul_right}
 use Rattle.double_bits.specs.Halves.{HalfDouble, signed, sign, exponent, fraction}
-use Rattle.double_bits.specs.Magnitude.{IsMagnitude, IsZeroMagnitude, IsNormalMagnitude}
+use Rattle.double_bits.specs.inside.Magnitude.{IsMagnitude, IsZeroMagnitude, IsNormalMagnitude}
 use Rattle.double_bits.proofs.Signs.{half_to}
 
 one_magnitude : (x f a b : ℕ) → IsMagnitude x f a → IsMagnitude x f b → a ≡ b

@@ -2,7 +2,7 @@
 use Rattle.std.proofs.Common.{◌≡◌, ℕ, ◌+◌, ◌-◌, ◌*◌, ◌/◌, ◌%◌, ◌^◌, ◌<◌, ◌≤◌, zero, suc, sym, ap, ◌∙◌, arith, ⊎_elim, ◌⊎◌, inr}
 use Rattle.std.proofs.lemmas.Nat.{pow-add, pow_pos, div_below}
 use Rattle.std.proofs.Math.Nat.{pow-le-pow_right, mul-le-mul_right, mul-le-mul_left, mul_assoc, eq_of_mul-eq-mul_right, mul-mod_left}
-use Rattle.double_bits.specs.Magnitude.{IsMagnitude, IsZeroMagnitude, IsNormalMagnitude}
+use Rattle.double_bits.specs.inside.Magnitude.{IsMagnitude, IsZeroMagnitude, IsNormalMagnitude}
 
 -- x is too small for any whole number but 0
 pub too_small : (n x m a : ℕ) → x + 53 ≤ n → m < 2 ^ 53 → 0 < m → a * 2 ^ n ≡ m * 2 ^ x → ⊥

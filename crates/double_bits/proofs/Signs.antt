@@ -5,7 +5,7 @@ use Rattle.std.proofs.lemmas.Int.{unsigned_abs-mul}
 use Rattle.std.proofs.lemmas.Nat.{pow_pos}
 use Rattle.std.proofs.Math.Nat.{mul-le-mul_right}
 use Rattle.double_bits.specs.Halves.{HalfDouble, IsTwiceZero, IsTwiceNormal, signed, sign, exponent, fraction}
-use Rattle.double_bits.specs.Magnitude.{IsMagnitude, IsZeroMagnitude, IsNormalMagnitude}
+use Rattle.double_bits.specs.inside.Magnitude.{IsMagnitude, IsZeroMagnitude, IsNormalMagnitude}
 
 pub abs-signed : (s a : ℕ) → unsigned_abs (signed s a) ≡ a
 abs-signed zero a = refl

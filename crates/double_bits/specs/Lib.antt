@@ -1,2 +1,3 @@
 pub mod Halves
-pub mod Magnitude
+pub mod Bits
+pub mod inside

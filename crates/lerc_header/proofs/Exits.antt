@@ -1,6 +1,5 @@
 -- The exits of a function that answers `Some` exactly where some value has a property.
-use Rattle.std.proofs.Common.{◌≡◌, refl, sym, ap, subst, ◌↔◌, Option, Some, None, Result, Ok, IsErr, IfOk}
-use Rattle.std.specs.Option.{ok_or}
+use Rattle.std.proofs.Common.{◌≡◌, refl, sym, ap, subst, ◌↔◌, Option, Some, None}
 
 -- no value has it
 pub none_exit : {A : Type 0} (P : A → Type 0) → ((x : A) → P x → ⊥) → (r : Option A) → r ≡ None → (x : A) → (r ≡ Some x) ↔ P x
@@ -30,24 +29,3 @@ failed_exit Q T v exact fails = none_exit (λ x. Q x × T x) (λ x h. fails (sub
 
 pub untested_exit : {A : Type 0} (Q T : A → Type 0) → ((x : A) → (◌≡◌ {A = Option A} None (Some x)) ↔ Q x) → (r : Option A) → r ≡ None → (x : A) → (r ≡ Some x) ↔ (Q x × T x)
 untested_exit Q T exact r e = none_exit (λ x. Q x × T x) (λ x h. none_of Q exact x h.0) r e
-
--- ---- the same answer as a `Result`
-
-pub as_result : {A E : Type 0} (P : A → Type 0) (err : E) (o : Option A) → ((x : A) → (o ≡ Some x) ↔ P x) → (x : A) → (◌≡◌ {A = Result A E} (ok_or o err) (Ok x)) ↔ P x
-as_result {A = A} {E = E} P err None exact x = (
-  λ is. cc,
-  λ h. absurd (none_of P exact x h),
-)
-as_result {A = A} {E = E} P err (Some v) exact x = (
-  λ is. let same : v ≡ x = cc in subst P same (some_has P v exact),
-  λ h. ap Ok (some_of P v exact x h),
-)
-
-pub as_refusal : {A E : Type 0} (P : A → Type 0) (err : E) (o : Option A) → ((x : A) → (o ≡ Some x) ↔ P x) → IsErr (ok_or o err) ↔ ((x : A) → P x → ⊥)
-as_refusal P err None exact = (λ is x h. none_of P exact x h, λ never. refl)
-as_refusal P err (Some v) exact = (λ is. cc, λ never. absurd (never v (some_has P v exact)))
-
--- what follows for an answer `Ok`
-pub of_result : {A E : Type 0} (P Q : A → Type 0) (err : E) (o : Option A) → ((x : A) → (o ≡ Some x) ↔ P x) → ((x : A) → P x → Q x) → IfOk (ok_or o err) Q
-of_result P Q err None exact gives = tt
-of_result P Q err (Some v) exact gives = gives v (some_has P v exact)

@@ -14,7 +14,7 @@ use Rattle.lerc_header.specs.Head.{HeadAt, HasRange, RangeAt, i32_at, double_at,
 
 -- ---- at most one header
 
-number_once : (a b : ℕ) (z : ℤ) → z ≡ pos a → z ≡ pos b → a ≡ b
+pub number_once : (a b : ℕ) (z : ℤ) → z ≡ pos a → z ≡ pos b → a ≡ b
 number_once a b z f g = let e : pos a ≡ pos b = sym f ∙ g in cc
 
 version_once : (v w : Version) → number_of v ≡ number_of w → v ≡ w

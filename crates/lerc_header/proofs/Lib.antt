@@ -1,6 +1,13 @@
-mod CountsAt
-mod Exits
+pub mod DecidedHeads
+pub mod FaultLemmas
+pub mod Fronts
 pub mod HeadLemmas
-mod Parts
+pub mod Lawful
+pub mod LongerHeads
+pub mod Prefixes
+pub mod WrittenHeads
+mod Exits
+mod LaidLemmas
 mod Ranges
+mod ReadParts
 mod Words

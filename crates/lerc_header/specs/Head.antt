@@ -1,5 +1,5 @@
 -- The header of a LERC2 blob, versions 3 and 4: which bytes stand for it.
-use Rattle.std.specs.Prelude.{◌≡◌, ℕ, ℤ, pos, ◌+◌, ◌*◌, ◌%◌, ◌<◌, ◌≤◌, ◌≤ℤ◌, ◌*ℤ◌, ◌⊎◌, List, codes, length, take, drop}
+use Rattle.std.specs.Prelude.{◌≡◌, ◌≢◌, ℕ, ℤ, pos, ◌+◌, ◌*◌, ◌%◌, ◌<◌, ◌≤◌, ◌≤ℤ◌, ◌*ℤ◌, ◌⊎◌, List, codes, length, take, drop}
 use Rattle.byteorder.specs.Endian.{little_number, twos_complement}
 use Rattle.raster_values.specs.Kind.{InRange, code_of}
 use Rattle.raster_values.specs.Raster.{IsShape}
@@ -45,9 +45,12 @@ depth_at V4 bytes = i32_at bytes 22
 
 -- ---- the header
 
--- twice an error of 0.5, or of a whole number from 1 to 2 ^ 32 - 1
-abbrev pub IsStep : ℕ → Type 0
-IsStep n = (n ≡ 1) ⊎ ((n % 2 ≡ 0) × (2 ≤ n) × (n ≤ 8589934590))
+-- twice an error that a header may declare: 1 for the error 0.5, else an even number, for a whole
+-- error from 1 to 2 ^ 32 - 1
+pub record IsTwiceError (n : ℕ) : Type 0 where
+  pub above : 0 < n
+  pub below : n ≤ 8589934590
+  pub even : n ≢ 1 → n % 2 ≡ 0
 
 -- zMin at this place and zMax behind it are whole numbers of the type, zMax not below zMin
 pub record HasRange (bytes : List ℕ) (place : ℕ) (kind : PixelType) (least greatest : ℤ) : Type 0 where
@@ -85,5 +88,5 @@ pub record HeadAt (bytes : List ℕ) (h : Header) : Type 0 where
   pub kind : i32_at bytes (34 + shift h.version) ≡ pos (code_of h.kind)
   -- the step is twice maxZError
   pub step : HalfDouble (double_at bytes (38 + shift h.version)) (pos h.step)
-  pub step_allowed : IsStep h.step
+  pub step_allowed : IsTwiceError h.step
   pub range : RangeAt bytes (46 + shift h.version) h.kind h.valid h.least h.greatest

@@ -1,7 +1,12 @@
 pub use Rattle.byteorder.specs.Endian
+pub use Rattle.double_bits.specs.Bits
 pub use Rattle.double_bits.specs.Halves
+pub use Rattle.first_fault.specs.Faults
+pub use Rattle.first_fault.specs.Parts
 pub use Rattle.raster_values.specs.Kind
 pub use Rattle.raster_values.specs.Raster
 pub mod Checksum
-pub mod Counts
 pub mod Head
+pub mod HeadFaults
+pub mod Written
+pub mod inside

@@ -1,5 +1,6 @@
 use super::*;
 use raster_values::PixelType;
+use std::process::Abort;
 
 // One u8 pixel, 7.
 const CONSTANT: [u8; 66] = [
@@ -101,81 +102,178 @@ fn headers_are_read_whole(rt: HostRuntime) {
     assert_eq!(rt; read_header(&CONSTANT), Ok(SEVEN));
     assert_eq!(rt; read_header(&CONSTANT[..62]), Ok(SEVEN));
     let block = Header {
-        version: Version::V3,
         checksum: 0x59a4_a957,
-        rows: 1,
         cols: 4,
-        depth: 1,
         valid: 4,
-        side: 8,
         size: 72,
         kind: PixelType::I16,
         step: 2,
         least: 10,
         greatest: 13,
+        ..SEVEN
     };
     assert_eq!(rt; read_header(&BLOCK), Ok(block));
+    let depths = Header {
+        version: Version::V4,
+        checksum: 0x7d70_5182,
+        depth: 2,
+        size: 89,
+        greatest: 103,
+        ..block
+    };
+    assert_eq!(rt; read_header(&DEPTHS), Ok(depths));
+    assert_eq!(rt; read_header(&DEPTHS[..66]), Ok(depths));
 }
 
 #[test]
 fn minus_zero_and_unused_ranges_are_read(rt: HostRuntime) {
+    let zero = Header {
+        least: 0,
+        greatest: 0,
+        ..SEVEN
+    };
     let mut zeros = CONSTANT;
     zeros[46..54].copy_from_slice(&[0, 0, 0, 0, 0, 0, 0, 0x80]);
     zeros[54..62].copy_from_slice(&[0; 8]);
-    assert_eq!(rt;
-        read_header(&zeros),
-        Ok(Header {
-            least: 0,
-            greatest: 0,
-            ..SEVEN
-        })
-    );
+    assert_eq!(rt; read_header(&zeros), Ok(zero));
     let mut none = CONSTANT;
     none[22] = 0;
     none[46..62].copy_from_slice(&[0xff; 16]);
-    assert_eq!(rt;
-        read_header(&none),
-        Ok(Header {
-            valid: 0,
-            least: 0,
-            greatest: 0,
-            ..SEVEN
-        })
-    );
+    assert_eq!(rt; read_header(&none), Ok(Header { valid: 0, ..zero }));
+}
+
+// The fault of a header with two bytes changed.
+fn fault_of(
+    rt: &impl Abort,
+    blob: &[u8],
+    first: (usize, u8),
+    second: (usize, u8),
+) -> Option<BlobFault> {
+    let mut bytes = [0; 66];
+    assert!(rt; blob.len() >= 66 && first.0 < 66 && second.0 < 66);
+    bytes.copy_from_slice(&blob[..66]);
+    bytes[first.0] = first.1;
+    bytes[second.0] = second.1;
+    read_header(&bytes).err()
 }
 
 #[test]
-fn other_bytes_are_refused(rt: HostRuntime) {
-    let refused = Err(BlobFault {
-        reason: BlobReason::NotYet,
-        place: 0,
-    });
-    assert_eq!(rt; read_header(&CONSTANT[..61]), refused);
-    assert_eq!(rt; read_header(&DEPTHS), refused);
-    for (first, second, what) in [
-        ((0, 0x6c), (0, 0x6c), "key"),
-        ((6, 6), (6, 6), "version 6"),
-        ((14, 0), (14, 0), "no rows"),
-        ((17, 0x80), (17, 0x80), "negative rows"),
-        ((18, 0), (18, 0), "no cols"),
-        ((15, 0x10), (19, 0x10), "4097 rows and cols"),
-        ((22, 2), (22, 2), "valid count 2 of 1"),
-        ((26, 0), (26, 0), "side 0"),
-        ((30, 65), (30, 65), "size 65"),
-        ((30, 1), (33, 8), "size 2 ^ 27 + 1"),
-        ((34, 6), (34, 6), "type 6"),
-        ((34, 8), (34, 8), "type 8"),
-        ((44, 0xd0), (44, 0xd0), "error 0.25"),
-        ((44, 0xf8), (44, 0xf8), "error 1.5"),
-        ((44, 0xf0), (45, 0x41), "error 2 ^ 32"),
-        ((52, 0x1e), (52, 0x1e), "zMin 7.5"),
-        ((60, 0x70), (60, 0x70), "zMax 256"),
-        ((52, 0x20), (52, 0x20), "zMin 8 above zMax 7"),
+fn fields_of_version_3_fail_at_their_places(rt: HostRuntime) {
+    for (first, second, reason, place) in [
+        ((0, 0x6c), (0, 0x6c), BlobReason::BadKey, 0),
+        ((6, 6), (6, 6), BlobReason::BadVersion, 6),
+        ((9, 1), (9, 1), BlobReason::BadVersion, 6),
+        ((14, 0), (14, 0), BlobReason::BadRows, 14),
+        ((17, 0x80), (17, 0x80), BlobReason::BadRows, 14),
+        ((18, 0), (18, 0), BlobReason::BadCols, 18),
+        // 4,097 rows and columns
+        ((15, 0x10), (19, 0x10), BlobReason::TooLarge, 18),
+        ((22, 2), (22, 2), BlobReason::BadCount, 22),
+        ((25, 0x80), (25, 0x80), BlobReason::BadCount, 22),
+        ((26, 0), (26, 0), BlobReason::BadBlockSize, 26),
+        // 65, and 2 ^ 27 + 1
+        ((30, 65), (30, 65), BlobReason::BadBlobSize, 30),
+        ((30, 1), (33, 8), BlobReason::BadBlobSize, 30),
+        ((34, 6), (34, 6), BlobReason::FloatPixels, 34),
+        ((34, 7), (34, 7), BlobReason::FloatPixels, 34),
+        ((34, 8), (34, 8), BlobReason::BadType, 34),
+        ((37, 0x80), (37, 0x80), BlobReason::BadType, 34),
+        // 0.25, 1.5 and 2 ^ 32
+        ((44, 0xd0), (44, 0xd0), BlobReason::BadError, 38),
+        ((44, 0xf8), (44, 0xf8), BlobReason::BadError, 38),
+        ((44, 0xf0), (45, 0x41), BlobReason::BadError, 38),
+        // zMin 7.5; zMax 256; zMin 8 above zMax 7
+        ((52, 0x1e), (52, 0x1e), BlobReason::BadRange, 46),
+        ((60, 0x70), (60, 0x70), BlobReason::BadRange, 54),
+        ((52, 0x20), (52, 0x20), BlobReason::BadRange, 54),
+        // two fields: the first one
+        ((18, 0), (34, 6), BlobReason::BadCols, 18),
+        ((44, 0xd0), (60, 0x70), BlobReason::BadError, 38),
     ] {
-        let mut bytes = CONSTANT;
-        assert!(rt; first.0 < 66 && second.0 < 66);
-        bytes[first.0] = first.1;
-        bytes[second.0] = second.1;
-        assert_eq!(rt; read_header(&bytes), refused, "{what}");
+        assert_eq!(rt;
+            fault_of(&rt, &CONSTANT, first, second),
+            Some(BlobFault { reason, place })
+        );
+    }
+}
+
+#[test]
+fn fields_of_version_4_fail_at_their_places(rt: HostRuntime) {
+    for (first, second, reason, place) in [
+        ((14, 0), (14, 0), BlobReason::BadRows, 14),
+        ((18, 0), (18, 0), BlobReason::BadCols, 18),
+        // 0, and 65,537
+        ((22, 0), (22, 0), BlobReason::BadDepth, 22),
+        ((22, 1), (24, 1), BlobReason::BadDepth, 22),
+        // 4 columns become 8,388,612 of two depths
+        ((20, 0x80), (20, 0x80), BlobReason::TooLarge, 22),
+        ((26, 5), (26, 5), BlobReason::BadCount, 26),
+        ((30, 0), (30, 0), BlobReason::BadBlockSize, 30),
+        ((34, 69), (34, 69), BlobReason::BadBlobSize, 34),
+        ((38, 6), (38, 6), BlobReason::FloatPixels, 38),
+        ((38, 8), (38, 8), BlobReason::BadType, 38),
+        ((48, 0xd0), (48, 0xd0), BlobReason::BadError, 42),
+        // zMin 10.5; zMax 6,750,208
+        ((56, 0x25), (56, 0x25), BlobReason::BadRange, 50),
+        ((65, 0x41), (65, 0x41), BlobReason::BadRange, 58),
+    ] {
+        assert_eq!(rt;
+            fault_of(&rt, &DEPTHS, first, second),
+            Some(BlobFault { reason, place })
+        );
+    }
+}
+
+#[test]
+fn cut_headers_are_truncated_at_their_length(rt: HostRuntime) {
+    for n in 0..62usize {
+        let fault = BlobFault {
+            reason: BlobReason::Truncated,
+            place: n as u64,
+        };
+        assert_eq!(rt; read_header(&CONSTANT[..n]), Err(fault));
+    }
+    for n in 0..66usize {
+        let fault = BlobFault {
+            reason: BlobReason::Truncated,
+            place: n as u64,
+        };
+        assert_eq!(rt; read_header(&DEPTHS[..n]), Err(fault));
+    }
+    // The key is looked at once ten bytes are there.
+    let fault = BlobFault {
+        reason: BlobReason::BadKey,
+        place: 0,
+    };
+    assert_eq!(rt; read_header(&[0; 10]), Err(fault));
+}
+
+// The header of a blob is written as it stands there, and nothing behind it.
+fn check_written(rt: &impl Abort, blob: &[u8]) {
+    let mut out = [0xee; 66];
+    match read_header(blob) {
+        Ok(header) => {
+            let length = write_header(&header, &mut out);
+            assert!(rt; length <= 66 && length <= blob.len());
+            assert_eq!(rt; length, header.version.head_length());
+            assert!(rt; out[..length] == blob[..length]);
+            assert!(rt; out[length..].iter().all(|byte| *byte == 0xee));
+        }
+        Err(_) => assert!(rt; false, "no header"),
+    }
+}
+
+#[test]
+fn headers_are_written_as_they_stand_in_blobs(rt: HostRuntime) {
+    check_written(&rt, &CONSTANT);
+    check_written(&rt, &BLOCK);
+    check_written(&rt, &DEPTHS);
+    check_written(&rt, &EMPTY);
+}
+
+#[test]
+fn steps_are_twice_an_error(rt: HostRuntime) {
+    for (error, step) in [(0, 1), (1, 2), (2, 4), (4_294_967_295, 8_589_934_590)] {
+        assert_eq!(rt; Step::of(error).get(), step);
     }
 }

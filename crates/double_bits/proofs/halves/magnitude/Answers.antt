@@ -1,5 +1,5 @@
 use Rattle.std.proofs.Common.{◌≡◌, ◌+◌, ◌-◌, ◌*◌, ◌/◌, ◌^◌, ◌<◌, Some, arith, ap, subst, inl, inr}
-use Rattle.double_bits.specs.Magnitude.{IsMagnitude}
+use Rattle.double_bits.specs.inside.Magnitude.{IsMagnitude}
 use Rattle.double_bits.proofs.Powers.{no_magnitude, magnitude_gives, gives_magnitude, unshifted, kept, quotient_only, quotient_small}
 use Rattle.double_bits.proofs.halves.magnitude.Goals as goal
 use Rattle.double_bits.proofs.halves.magnitude.Goals.{then-exponent-lt-LEAST_EXPONENT-via-then-exponent-lt-LEAST_EXPONENT, then-exponent-lt-LEAST_EXPONENT-via-else-exponent-lt-LEAST_EXPONENT+then-exponent-gt-GREATEST_EXPONENT}

@@ -1,0 +1,4 @@
+-- Words of private functions.
+pub mod Laid
+pub mod Parts
+pub mod Tails
