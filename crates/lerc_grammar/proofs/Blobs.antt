@@ -11,7 +11,7 @@ use Rattle.lerc_grammar.specs.declared.fault.BlobReason.TheVariants.{BadChecksum
 use Rattle.first_fault.specs.Faults.{wrong, moved}
 use Rattle.lerc_grammar.specs.Mask.{IsMask, mask_faults}
 use Rattle.lerc_grammar.specs.Image.{IsImage, image_faults}
-use Rattle.lerc_grammar.specs.Flat.{marks_of}
+use Rattle.raster_values.specs.Flat.{marks_of}
 use Rattle.lerc_grammar.specs.Blob.{Blob, IsJoinOf, BlobParts, body_faults, blob_faults}
 use Rattle.lerc_grammar.specs.Laws.{NoTwoRasters}
 use Rattle.lerc_grammar.proofs.Fronts.{split_front}

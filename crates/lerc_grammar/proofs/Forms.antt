@@ -1,5 +1,5 @@
 -- The form of an image: one at most, and none where there is a fault.
-use Rattle.std.proofs.Common.{◌≡◌, ℕ, ◌+◌, ◌-◌, ◌*◌, ◌<◌, ◌≤◌, Bool, true, false, List, [], ◌∷◌, ◌++◌, length, take, drop, Option, Some, None, refl, sym, ap, ◌∙◌, subst, arith, ◌⊎◌, inl, inr}
+use Rattle.std.proofs.Common.{◌≡◌, suc, ℕ, ◌+◌, ◌-◌, ◌*◌, ◌<◌, ◌≤◌, Bool, true, false, List, [], ◌∷◌, ◌++◌, length, take, drop, Option, Some, None, refl, sym, ap, ◌∙◌, subst, arith, ◌⊎◌, inl, inr}
 use Rattle.std.specs.Prelude.{slice_index, IsTrue, ◌↔◌}
 use Rattle.std.proofs.lemmas.List.{append-nil, length-append, length-take-le, take-append-drop, take_rest}
 use Rattle.first_fault.specs.Faults.{Faults, none, wrong, choice, unless, moved, in_order, ends}
@@ -20,11 +20,14 @@ use Rattle.lerc_grammar.proofs.Images.{front_part, single-image_of}
 
 -- ---- what the reader finds
 
+pub untrue : (b : Bool) (P : Type 0) → b ≡ false → IsTrue b ↔ P → ¬ P
+untrue b P is tells p = absurd (let no_ : true ≡ false = sym (tells.1 p) ∙ is in cc)
+
 not_bare : (h : Header) → ¬ (h.valid ≡ 0) → ¬ (h.least ≡ h.greatest) → ¬ IsBare h
 not_bare h some other (inl e) = some e
 not_bare h some other (inr e) = other e
 
-lists_of : (h : Header) (rest behind : List ℕ) (used : ℕ) (equal : Bool) (s : IsFrontSpan h rest used equal) → take (length rest - used) (drop used rest) ≡ behind → HasLists h rest s.front behind
+abbrev lists_of : (h : Header) (rest behind : List ℕ) (used : ℕ) (equal : Bool) (s : IsFrontSpan h rest used equal) → take (length rest - used) (drop used rest) ≡ behind → HasLists h rest s.front behind
 lists_of h rest behind used equal s e = record {
   lists = take used rest;
   joined = sym (take-append-drop used rest) ∙ ap (λ u. take used rest ++ u) (sym (take_rest rest used) ∙ e);
@@ -34,15 +37,12 @@ lists_of h rest behind used equal s e = record {
 pub form_found : (h : Header) (rest : List ℕ) (used place : ℕ) (equal : Bool) (form : ImageForm) → ¬ (h.valid ≡ 0) → ¬ (h.least ≡ h.greatest)
     → IsFrontSpan h rest used equal → IsFormBehind equal (place + used) (take (length rest - used) (drop used rest)) form → IsFormOf h (place + length rest) rest form
 form_found h rest used place true form some other s (nothing, is) =
-    subst (IsFormOf h (place + length rest) rest) (sym is) (not_bare h some other, (s.front, (s.tells.0 tt, lists_of h rest [] used true s nothing)))
+    subst (IsFormOf h (place + length rest) rest) (sym is) (not_bare h some other, (s.front, (s.tells.0 refl, lists_of h rest [] used true s nothing)))
 form_found h rest used place false form some other s (values, (joined, is)) =
     let size : length rest ≡ used + (1 + length values) =
-    ap length (lists_of h rest (1 ∷ values) used false s joined).joined ∙ length-append (take used rest) (1 ∷ values) ∙ (let t : length (take used rest) + suc_of (length values) ≡ used + (1 + length values) = omega (arith, length-take-le used rest s.within) in t) in
+    ap length (lists_of h rest (1 ∷ values) used false s joined).joined ∙ length-append (take used rest) (1 ∷ values) ∙ (let t : length (take used rest) + suc (length values) ≡ used + (1 + length values) = omega (arith, length-take-le used rest s.within) in t) in
     subst (IsFormOf h (place + length rest) rest) (sym is)
-    (not_bare h some other, (s.front, ((λ e. s.tells.1 e), (values, (lists_of h rest (1 ∷ values) used false s joined, omega (arith, size))))))
-  where
-    suc_of : ℕ → ℕ
-    suc_of n = n + 1
+    (not_bare h some other, (s.front, ((λ e. untrue false (AreEqual s.front) refl s.tells e), (values, (lists_of h rest (1 ∷ values) used false s joined, omega (arith, size))))))
 
 tested : (equal : Bool) (front : Option Ends) (f g : Faults BlobReason) (p : ℕ) (r : BlobReason) → IsTrue equal ↔ AreEqual front → choice (IsTrue equal) f g p r → choice (AreEqual front) f g p r
 tested equal front f g p r tells (inl w) = inl (tells.0 w.0, w.1)
@@ -139,3 +139,12 @@ one_form h blob mask =
           λ i. record { reason = same.1 i; place = same.0 i };
       either = λ form f x y. empty-moved place (image_faults_of outside h rest) (empty-form h (length blob) rest form x) f.place f.reason y;
     }
+
+-- a fault of the image, told from the blob's first byte
+pub later_fault : (h : Header) (blob : List ℕ) (mask : MaskForm) (n : ℕ) (f g : BlobFault) → n ≡ image_place h mask
+    → image_faults_of outside h (take (length blob - n) (drop n blob)) f.place f.reason → g ≡ record { reason = f.reason; place = n + f.place }
+    → image_part_faults h blob mask g.place g.reason
+later_fault h blob mask n f g is w e =
+    let there : image_faults_of outside h (drop (image_place h mask) blob) f.place f.reason =
+    subst (λ (k : ℕ). image_faults_of outside h (drop k blob) f.place f.reason) is (subst (λ (u : List ℕ). image_faults_of outside h u f.place f.reason) (take_rest blob n) w) in
+    subst (λ (x : BlobFault). image_part_faults h blob mask x.place x.reason) (sym e) (f.place, (ap (λ k. k + f.place) is, there))

@@ -6,9 +6,10 @@ use Rattle.first_fault.specs.Faults.{Faults, none, wrong, choice, unless, moved,
 use Rattle.first_fault.specs.Parts.{IsPart, IsSingle, IsEmpty}
 use Rattle.first_fault.proofs.Parts.{single-none, single-wrong, single-choice, single-unless, single-moved, single-ends, single-in_order, passed, empty-choice, empty-failed, empty-moved, empty-ends, empty-in_order, same_rest}
 use Rattle.raster_values.specs.declared.kind.PixelType.{PixelType}
-use Rattle.raster_values.specs.Kind.{bytes_of}
+use Rattle.raster_values.specs.PixelType.{bytes_of}
 use Rattle.raster_values.specs.Raster.{Pixels, values_of}
-use Rattle.lerc_grammar.specs.Flat.{marks_of, AreValues, EachValid}
+use Rattle.raster_values.specs.Flat.{marks_of, EachValid}
+use Rattle.raster_values.specs.Values.{AreValues}
 use Rattle.lerc_header.specs.declared.header.Header.{Header}
 use Rattle.lerc_header.specs.declared.header.Version.{Version}
 use Rattle.lerc_header.specs.declared.header.Version.TheVariants.{V3, V4}
@@ -16,13 +17,10 @@ use Rattle.lerc_grammar.specs.declared.fault.BlobReason.{BlobReason}
 use Rattle.lerc_grammar.specs.declared.fault.BlobReason.TheVariants.{NotYet, BadSweep, PastEnd, Leftover}
 use Rattle.lerc_grammar.specs.Image.{Ends, IsFront, front_faults, AreEqual, one_list, IsBare, value_count, IsCoded, sweep, IsImage, empty, constant, ranges, coded, sweep_faults, Insides, insides, coded_of, behind_front, image_faults_of, image_faults}
 use Rattle.lerc_grammar.proofs.Fronts.{split_front}
-use Rattle.lerc_grammar.proofs.Alike.{AreAlike, raster_deep}
-use Rattle.lerc_grammar.proofs.Rasters.{AreDeep, pixels_once}
-
--- ---- values as they are
-
-pub values_once : (kind : PixelType) (bytes : List ℕ) (xs ys : List ℤ) → length xs ≡ length ys → AreValues kind bytes xs → AreValues kind bytes ys → xs ≡ ys
-values_once kind bytes xs ys long a b = ext_get_or (pos 0) xs ys long (λ i below. a.each i below ∙ sym (b.each i (omega (arith, long, below))))
+use Rattle.raster_values.proofs.Spelled.{values_once}
+use Rattle.raster_values.proofs.Deep.{raster_deep}
+use Rattle.lerc_grammar.proofs.Alike.{AreAlike}
+use Rattle.raster_values.proofs.Deep.{AreDeep, pixels_once}
 
 -- ---- the lists before the values
 
@@ -32,7 +30,7 @@ front_once h V4 a b s t x y (e1, (x_is, (l1, (g1, va)))) (e2, (y_is, (l2, (g2, v
     let n1 : length (e1.least ++ e1.greatest) ≡ h.depth + h.depth = omega (arith, length-append e1.least e1.greatest, l1, g1) in
     let n2 : length (e2.least ++ e2.greatest) ≡ h.depth + h.depth = omega (arith, length-append e2.least e2.greatest, l2, g2) in
     let same : a ≡ b = split_front a b s t (va.size ∙ ap (λ n. n * bytes_of h.kind) (n1 ∙ sym n2) ∙ sym vb.size) e in
-    let lists : e1.least ++ e1.greatest ≡ e2.least ++ e2.greatest = values_once h.kind b _ _ (n1 ∙ sym n2) (subst (λ u. AreValues h.kind u (e1.least ++ e1.greatest)) same va) vb in
+    let lists : e1.least ++ e1.greatest ≡ e2.least ++ e2.greatest = values_once h.kind b _ _ (subst (λ u. AreValues h.kind u (e1.least ++ e1.greatest)) same va) vb in
     let least : e1.least ≡ e2.least = sym (take_at e1.least e1.greatest h.depth l1) ∙ ap (take h.depth) lists ∙ take_at e2.least e2.greatest h.depth l2 in
     let greatest : e1.greatest ≡ e2.greatest = sym (drop_at e1.least e1.greatest h.depth l1) ∙ ap (drop h.depth) lists ∙ drop_at e2.least e2.greatest h.depth l2 in
     (same, x_is ∙ (λ i. Some (record { least = least i; greatest = greatest i })) ∙ sym y_is)
@@ -85,7 +83,7 @@ by_each h r s alike P one x y =
 coded_once : (h : Header) (front : Option Ends) (bytes : List ℕ) (r s : Pixels) → AreAlike h r s → IsCoded h front bytes r → IsCoded h front bytes s → r.pixels ≡ s.pixels
 coded_once h front bytes r s alike (sweep d e a n) (sweep d' e' a' n') =
     let same : d ≡ d' = ap (drop 1) (sym e ∙ e') in
-    by_values h r s alike (values_once h.kind d' (values_of r.pixels) (values_of s.pixels) (n ∙ sym n') (subst (λ u. AreValues h.kind u (values_of r.pixels)) same a) a')
+    by_values h r s alike (values_once h.kind d' (values_of r.pixels) (values_of s.pixels) (subst (λ u. AreValues h.kind u (values_of r.pixels)) same a) a')
 
 -- ---- no fault in what is coded
 

@@ -5,10 +5,14 @@ pub mod Heads
 pub mod Images
 pub mod Masks
 pub mod More
-pub mod Rasters
 pub mod Verdicts
 pub mod Exact
-pub mod Owed
 pub mod Lists
+pub mod Looking
+pub mod Counts
+pub mod Existing
+pub mod ImageDecided
+pub mod Cases
+pub mod MaskDecided
 pub mod Forms
 pub mod Bytes

@@ -1,34 +1,27 @@
 -- The two lists before the values: as bytes and as values.
-use Rattle.std.proofs.Common.{◌≡◌, suc, ℕ, ℤ, ◌+◌, ◌*◌, ◌≤◌, Bool, true, false, List, [], ◌∷◌, ◌++◌, Option, get_or, length, take, drop, Some, refl, sym, ap, ◌∙◌, subst, arith, All}
+use Rattle.std.proofs.Common.{◌≡◌, ℕ, ℤ, ◌+◌, ◌*◌, ◌≤◌, Bool, true, false, List, ◌++◌, Option, get_or, length, take, drop, Some, refl, sym, ap, ◌∙◌, subst, arith, All}
 use Rattle.std.specs.Prelude.{◌↔◌, IsTrue, ◌-◌}
 use Rattle.std.proofs.lemmas.List.{length-append, length-take-le, length-drop, take-append-drop, take-take, drop-take, take_at, drop_at}
-use Rattle.std.proofs.lemmas.List.Concat.{flat_map-append, flat_map-cons}
+use Rattle.std.proofs.lemmas.List.Concat.{flat_map-append}
 use Rattle.std.proofs.lemmas.List.Elements.{All-take, All-drop}
 use Rattle.first_fault.specs.Parts.{AreBytes}
 use Rattle.raster_values.specs.declared.kind.PixelType.{PixelType}
-use Rattle.raster_values.specs.Kind.{bytes_of, value_bytes, complement_of, InRange}
+use Rattle.raster_values.specs.PixelType.{bytes_of, value_bytes, InRange}
 use Rattle.raster_values.specs.Grid.{values_bytes}
-use Rattle.lerc_grammar.specs.Flat.{AreValues}
+use Rattle.raster_values.specs.Values.{AreValues}
 use Rattle.lerc_header.specs.declared.header.Header.{Header}
 use Rattle.lerc_header.specs.declared.header.Version.{Version}
 use Rattle.lerc_header.specs.declared.header.Version.TheVariants.{V3, V4}
 use Rattle.lerc_grammar.specs.Image.{Ends, IsFront, AreEqual}
 use Rattle.lerc_grammar.specs.inside.Spans.{IsFrontSpan}
-use Rattle.lerc_grammar.proofs.Images.{values_once}
-use Rattle.lerc_grammar.proofs.Owed.{values_there, written_values, length-little_bytes}
+use Rattle.raster_values.proofs.Spelled.{values_once, written_values, values_there}
+use Rattle.raster_values.proofs.Pack.{length-values_bytes}
 use Rattle.lerc_grammar.proofs.Bytes.{bytes_in_take}
 
-length-values_bytes : (kind : PixelType) (values : List ℤ) → length (values_bytes kind values) ≡ length values * bytes_of kind
-length-values_bytes kind [] = let t : ◌≡◌ {A = ℕ} 0 (0 * bytes_of kind) = omega arith in t
-length-values_bytes kind (v ∷ vs) =
-    ap length (flat_map-cons (value_bytes kind) v vs) ∙ length-append (value_bytes kind v) (values_bytes kind vs)
-    ∙ (λ i. length-little_bytes (bytes_of kind) (complement_of (bytes_of kind) v) i + length-values_bytes kind vs i)
-    ∙ (let t : bytes_of kind + length vs * bytes_of kind ≡ suc (length vs) * bytes_of kind = omega arith in t)
-
 -- the bytes of values stand for one list
-values_bytes_once : (kind : PixelType) (xs ys : List ℤ) → length xs ≡ length ys → All (InRange kind) xs → All (InRange kind) ys → values_bytes kind xs ≡ values_bytes kind ys → xs ≡ ys
-values_bytes_once kind xs ys long all_x all_y e =
-    values_once kind (values_bytes kind ys) xs ys long (subst (λ u. AreValues kind u xs) e (written_values kind xs all_x)) (written_values kind ys all_y)
+values_bytes_once : (kind : PixelType) (xs ys : List ℤ) → All (InRange kind) xs → All (InRange kind) ys → values_bytes kind xs ≡ values_bytes kind ys → xs ≡ ys
+values_bytes_once kind xs ys all_x all_y e =
+    values_once kind (values_bytes kind ys) xs ys (subst (λ u. AreValues kind u xs) e (written_values kind xs all_x)) (written_values kind ys all_y)
 
 -- bytes are those of two lists of n values, and which
 pub record TwoLists (kind : PixelType) (n : ℕ) (bytes : List ℕ) : Type 0 where
@@ -71,7 +64,7 @@ two_lists kind n bytes are size =
 pub same_bytes : (kind : PixelType) (n : ℕ) (bytes : List ℕ) (l : TwoLists kind n bytes) → (l.least ≡ l.greatest) ↔ (take (n * bytes_of kind) bytes ≡ drop (n * bytes_of kind) bytes)
 same_bytes kind n bytes l =
     (λ e. l.least_bytes ∙ ap (values_bytes kind) e ∙ sym l.greatest_bytes,
-    λ e. values_bytes_once kind l.least l.greatest (l.least_long ∙ sym l.greatest_long) l.least_in l.greatest_in (sym l.least_bytes ∙ e ∙ l.greatest_bytes))
+    λ e. values_bytes_once kind l.least l.greatest l.least_in l.greatest_in (sym l.least_bytes ∙ e ∙ l.greatest_bytes))
 
 pub front_span_v4 : (h : Header) (rest : List ℕ) (size : ℕ) (equal : Bool) → h.version ≡ V4 → AreBytes rest → size ≡ h.depth * bytes_of h.kind → size + size ≤ length rest
     → IsTrue equal ↔ (take size rest ≡ take (2 * size - size) (drop size rest)) → IsFrontSpan h rest (2 * size) equal

@@ -2,7 +2,7 @@
 use Rattle.std.specs.Prelude.{◌≡◌, ℕ, ◌*◌, List, ◌++◌, length, drop}
 use Rattle.first_fault.specs.Faults.{Faults, wrong, unless, moved, in_order}
 use Rattle.raster_values.specs.Raster.{Pixels, IsRaster, valid_count}
-use Rattle.lerc_grammar.specs.Flat.{marks_of}
+use Rattle.raster_values.specs.Flat.{marks_of}
 use Rattle.lerc_header.specs.declared.header.Header.{Header}
 use Rattle.lerc_header.specs.Head.{HeadAt, head_length}
 use Rattle.lerc_header.specs.Checksum.{sum_of}

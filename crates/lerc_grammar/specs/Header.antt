@@ -1,7 +1,7 @@
 -- The first fault of a header: of its tests in their order the first one that fails.
 use Rattle.std.specs.Prelude.{◌≡◌, ℕ, ℤ, pos, ◌+◌, ◌*ℤ◌, ◌≤ℤ◌, ◌⊎◌, List, codes, take}
 use Rattle.raster_values.specs.declared.kind.PixelType.{PixelType}
-use Rattle.raster_values.specs.Kind.{InRange, code_of}
+use Rattle.raster_values.specs.PixelType.{InRange, code_of}
 use Rattle.double_bits.specs.Halves.{HalfDouble}
 use Rattle.lerc_header.specs.declared.header.Version.{Version}
 use Rattle.lerc_header.specs.declared.header.Version.TheVariants.{V3, V4}

@@ -1,9 +1,10 @@
 -- The image of a blob: what stands behind the mask.
 use Rattle.std.specs.Prelude.{◌≡◌, ◌≢◌, ℕ, ℤ, ◌+◌, ◌*◌, ◌<◌, ◌≤◌, ◌⊎◌, Bool, List, [], ◌∷◌, ◌++◌, length, drop, replicate, slice_index, Option, Some, None}
 use Rattle.first_fault.specs.Faults.{Faults, none, wrong, choice, unless, moved, in_order, ends}
-use Rattle.raster_values.specs.Kind.{bytes_of}
+use Rattle.raster_values.specs.PixelType.{bytes_of}
 use Rattle.raster_values.specs.Raster.{Pixels, values_of}
-use Rattle.lerc_grammar.specs.Flat.{AreValues, EachValid}
+use Rattle.raster_values.specs.Values.{AreValues}
+use Rattle.raster_values.specs.Flat.{EachValid}
 use Rattle.lerc_header.specs.declared.header.Header.{Header}
 use Rattle.lerc_header.specs.declared.header.Version.{Version}
 use Rattle.lerc_header.specs.declared.header.Version.TheVariants.{V3, V4}

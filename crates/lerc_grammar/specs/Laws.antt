@@ -2,6 +2,7 @@
 use Rattle.std.specs.Prelude.{◌≡◌, ℕ, List, ◌++◌}
 use Rattle.raster_values.specs.Raster.{Pixels}
 use Rattle.lerc_grammar.specs.declared.fault.BlobReason.{BlobReason}
+use Rattle.first_fault.specs.Parts.{AreBytes}
 use Rattle.lerc_grammar.specs.Blob.{Blob}
 use Rattle.lerc_grammar.specs.Verdict.{FirstFault, Verdict, More, IsVerdict}
 
@@ -22,3 +23,7 @@ OneVerdict = (bytes : List ℕ) (v w : Verdict) → IsVerdict bytes v → IsVerd
 abbrev pub VerdictStays : Type 0
 VerdictStays = (bytes more : List ℕ) (v : Verdict) →
     IsVerdict bytes v → ¬ (v ≡ More) → IsVerdict (bytes ++ more) v
+
+-- and there is one, whatever the bytes are
+abbrev pub SomeVerdict : Type 0
+SomeVerdict = (bytes : List ℕ) → AreBytes bytes → (v : Verdict) × IsVerdict bytes v

@@ -1,5 +1,4 @@
 pub mod Blob
-pub mod Flat
 pub mod Header
 pub mod Image
 pub mod Laws

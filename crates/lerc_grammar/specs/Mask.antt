@@ -5,7 +5,7 @@ use Rattle.std.specs.List.{count_by}
 use Rattle.first_fault.specs.Faults.{Faults, none, wrong, choice, unless, moved}
 use Rattle.mask_runs.specs.Runs.{Runs}
 use Rattle.mask_runs.specs.Fault.{FirstRunFault}
-use Rattle.lerc_grammar.specs.Flat.{marks_in}
+use Rattle.raster_values.specs.Order.{marks_in}
 use Rattle.lerc_header.specs.Head.{i32_at}
 use Rattle.lerc_grammar.specs.declared.fault.BlobReason.{BlobReason}
 use Rattle.lerc_grammar.specs.declared.fault.BlobReason.TheVariants.{BadMaskLength, BadRun, BadMaskCount, MaskMissing, PastEnd}

@@ -1,7 +1,7 @@
 -- How near two rasters are. `step` is twice the error that a blob's header declares.
 use Rattle.std.specs.Prelude.{◌≡◌, ℕ, ℤ, ◌*◌, ◌<◌, ◌≤◌, ◌-ℤ◌, unsigned_abs, true, false, length, get_or}
 use Rattle.raster_values.specs.Raster.{Pixels, InShape, IsValidAt, value_at}
-use Rattle.lerc_grammar.specs.Flat.{marks_of}
+use Rattle.raster_values.specs.Flat.{marks_of}
 
 -- two values differ by half a step at most
 abbrev pub IsNear : ℕ → ℤ → ℤ → Type 0

@@ -1,7 +1,7 @@
 //! What stands in a blob before its runs and its values: the forms of its mask and of its image.
 
 ghost use Rattle.std.specs.Prelude.{◌≡◌, ◌≢◌, ◌^◌, ℕ, pos, ◌≤◌, ◌+◌, ◌*◌, ◌<◌, ◌⊎◌, IsTrue, ◌↔◌, IfOk, IfErr, List, [], length, drop, take, Option, Some, None, ◌∷◌, ◌++◌};
-ghost use Rattle.raster_values.specs.Kind.{bytes_of};
+ghost use Rattle.raster_values.specs.PixelType.{bytes_of};
 ghost use Rattle.first_fault.specs.Faults.{choice, ends, none};
 ghost use Rattle.lerc_header.specs.Head.{HeadAt, i32_at, head_length};
 ghost use Rattle.lerc_grammar.specs.Mask.{IsAlike, mask_faults_of};
@@ -245,6 +245,13 @@ fn form_behind(rest: &[u8], equal: bool, place: usize) -> Result<ImageForm, Blob
     }
 }
 
+/// Whether all values are one.
+fn is_level(header: &Header) -> bool
+    ensures { IsTrue result ↔ (header.now.least ≡ header.now.greatest) }
+{
+    header.least == header.greatest
+}
+
 /// The form of the image, whose bytes stand from this place of the blob on.
 fn form_at(rest: &[u8], header: &Header, place: usize) -> Result<ImageForm, BlobFault>
     requires depth { header.now.depth ≤ 65536 }
@@ -258,7 +265,7 @@ fn form_at(rest: &[u8], header: &Header, place: usize) -> Result<ImageForm, Blob
     if header.valid == 0 {
         return ended(ImageForm::Empty, rest);
     }
-    if header.least == header.greatest {
+    if is_level(header) {
         return ended(ImageForm::Constant, rest);
     }
     let (used, equal) = front_span(rest, header)?;

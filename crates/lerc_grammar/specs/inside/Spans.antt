@@ -2,7 +2,7 @@
 use Rattle.std.specs.Prelude.{◌≡◌, ℕ, pos, ◌+◌, ◌*◌, ◌<◌, ◌≤◌, ◌↔◌, Bool, true, false, IsTrue, List, [], ◌∷◌, length, take, Option}
 use Rattle.lerc_grammar.specs.declared.outline.ImageForm.{ImageForm}
 use Rattle.lerc_grammar.specs.declared.outline.ImageForm.TheVariants.{Ranges, Sweep}
-use Rattle.raster_values.specs.Kind.{bytes_of}
+use Rattle.raster_values.specs.PixelType.{bytes_of}
 use Rattle.lerc_header.specs.declared.header.Header.{Header}
 use Rattle.lerc_header.specs.declared.header.Version.{Version}
 use Rattle.lerc_header.specs.declared.header.Version.TheVariants.{V3, V4}

@@ -1,0 +1,54 @@
+-- What the parts of a blob leave in the raster, and why there is none.
+use Rattle.std.specs.Prelude.{◌≡◌, ℕ, ℤ, ◌+◌, ◌*◌, List, length, drop, take}
+use Rattle.first_fault.specs.Faults.{Faults}
+use Rattle.mask_runs.specs.Runs.{Runs}
+use Rattle.raster_values.specs.declared.kind.PixelType.{PixelType}
+use Rattle.raster_values.specs.Raster.{Pixels, values_of}
+use Rattle.raster_values.specs.Values.{AreValues}
+use Rattle.raster_values.specs.Flat.{EachValid, marks_of}
+use Rattle.raster_values.specs.Order.{marks_in}
+use Rattle.lerc_header.specs.declared.header.Header.{Header}
+use Rattle.lerc_grammar.specs.declared.fault.BlobReason.{BlobReason}
+use Rattle.lerc_grammar.specs.Mask.{mask_size, count_of}
+use Rattle.lerc_grammar.specs.Image.{value_count}
+use Rattle.lerc_decode.specs.declared.body.BodyStop.{BodyStop}
+use Rattle.lerc_decode.specs.declared.body.BodyStop.TheVariants.{Fault, OutOfMemory}
+
+-- it is one of these faults; want of memory may be at any time
+abbrev pub IsStopOf : Faults BlobReason → BodyStop → Type 0
+IsStopOf faults (Fault f) = faults f.place f.reason
+IsStopOf faults OutOfMemory = Unit {0}
+
+-- the raster has the header's type and shape
+pub record HasHeadShape (h : Header) (r : Pixels) : Type 0 where
+  pub kind : h.kind ≡ r.kind
+  pub rows : h.rows ≡ r.rows
+  pub cols : h.cols ≡ r.cols
+  pub depth : h.depth ≡ r.depth
+
+-- the pixels are valid that these runs say, as many as there are to be
+pub record IsMarkedBy (pixels valid : ℕ) (runs : List ℕ) (r : Pixels) : Type 0 where
+  pub mask : List ℕ
+  pub runs_of : Runs runs mask
+  pub size : length mask ≡ mask_size pixels
+  pub marks : marks_of r ≡ marks_in pixels mask
+  pub count : count_of (marks_in pixels mask) ≡ valid
+
+-- the image is filled in: type, shape and marks are as they were
+pub record KeepsMarks (old new : Pixels) : Type 0 where
+  pub kind : old.kind ≡ new.kind
+  pub rows : old.rows ≡ new.rows
+  pub cols : old.cols ≡ new.cols
+  pub depth : old.depth ≡ new.depth
+  pub marks : marks_of old ≡ marks_of new
+
+-- each valid pixel has the list that the bytes stand for
+pub record IsFilledWith (kind : PixelType) (bytes : List ℕ) (r : Pixels) : Type 0 where
+  pub list : List ℤ
+  pub stands : AreValues kind bytes list
+  pub each : EachValid r (λ values. values ≡ list)
+
+-- the valid pixels have the values that the bytes stand for
+pub record IsSwept (h : Header) (bytes : List ℕ) (r : Pixels) : Type 0 where
+  pub stands : AreValues h.kind bytes (values_of r.pixels)
+  pub count : length (values_of r.pixels) ≡ value_count h

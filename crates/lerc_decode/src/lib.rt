@@ -1,0 +1,4 @@
+//! A decoder that takes a blob in pieces of any size.
+#![tactic(auto)]
+
+mod body;
