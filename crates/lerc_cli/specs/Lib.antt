@@ -1,5 +1,8 @@
+pub mod Answer
+pub mod Arguments
 pub mod Blob
 pub mod Command
-pub mod Constant
+pub mod Outside
 pub mod Run
 pub mod Stop
+pub mod inside

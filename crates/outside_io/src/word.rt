@@ -31,6 +31,13 @@ impl Word {
         })
     }
 
+    /// The word of these bytes, which need not be text. It takes no memory.
+    pub fn new(bytes: Vec<u8>) -> Word
+        ensures { result ≡ bytes.items }
+    {
+        Word { text: bytes }
+    }
+
     /// The bytes of the word.
     pub fn as_slice(&self) -> &[u8]
         ensures { result.now ≡ self.now }
