@@ -1,14 +1,15 @@
 #!/bin/sh
-# Runs the built program through bin/lerc_cli, or the program that it is given, and compares what it ends with, what it
-# gives to standard output and what to standard error. It needs sh, the core utilities, od and cmp. Its last line is
-# 'N passed, M failed'.
+# Runs the built program through bin/lerc_cli, or the program that it is given, and compares what it
+# ends with, what it gives to standard output and what to standard error. It needs sh, the core
+# utilities, od and cmp. Its last line is 'N passed, M failed'.
 #
 # A case is one call of `expect`, with standard input as it is redirected there:
 #
 #     expect NAME STATUS OUTPUT LINE HOW WORD..  <INPUT
 #
-# OUTPUT is the file that standard output has to be like, LINE the one line of standard error (empty: none), and HOW
-# one of the functions of 'Ways to run it'. The files and the lines of the cases stand in 'What is given and wanted'.
+# OUTPUT is the file that standard output has to be like, LINE the one line of standard error (empty:
+# none), and HOW one of the functions of 'Ways to run it'. The files and the lines of the cases stand in
+# 'What is given and wanted'.
 set -u
 
 here=$(cd "$(dirname "$0")/.." && pwd) || exit 1
@@ -109,7 +110,8 @@ bytes 4c 47 52 31 01 01 00 00 00 01 00 00 00 01 00 00 00 01 07 >grid
 head -c 65 blob >short
 { cat blob; bytes 00; } >longer
 
-# A blob that Esri's library wrote: 100 rows and 257 columns of -32768 in two bytes. Its grid has 77,117 bytes.
+# A blob that Esri's library wrote: 100 rows and 257 columns of -32768 in two bytes. Its grid has 77,117
+# bytes, more than a pipe holds.
 {
     bytes 4c 65 72 63 32 20 03 00 00 00 27 b7 0f af 64 00 00 00 01 01 00 00 64 64 00 00 08 00 00 00
     bytes 42 00 00 00 02 00 00 00 00 00 00 00 00 00 e0 3f 00 00 00 00 00 00 e0 c0
@@ -159,7 +161,7 @@ expect 'decode: a blob with a grid of 77,117 bytes' 0 wide_grid '' plainly - dec
 expect 'decode: from a pipe in two pieces' 0 grid '' in_pieces - decode
 expect 'decode: through a link, from another folder' 0 grid '' through_a_link - decode <blob
 for path in '' 'a b' "$bad_text" "$long"; do
-    expect "decode: a path of ${#path} characters is not looked at" 0 grid '' plainly "$path" decode <blob
+    expect "decode: a path of ${#path} bytes is not looked at" 0 grid '' plainly "$path" decode <blob
 done
 for input in changed short longer nothing grid; do
     expect "decode: no blob, $input" 2 nothing "$not_yet" plainly - decode <"$input"

@@ -6,7 +6,8 @@ use Rattle.lerc_cli.specs.declared.stop.Stop.{Stop}
 use Rattle.lerc_cli.specs.declared.stop.Stop.TheVariants.{Usage, Refused, Source, Output, Volume, OutOfMemory}
 use Rattle.lerc_cli.specs.Stop.{End, line_of, status_at, status_of}
 use Rattle.lerc_cli.specs.Answer.{Given, Ends}
-use Rattle.lerc_cli.specs.Outside.{IsCause, GivesLine}
+use Rattle.outside_io.specs.program.Line.{GivesLine}
+use Rattle.outside_io.specs.streams.Faults.{IsCause}
 use Rattle.lerc_cli.specs.Run.{GivesLineOf, OfOutput}
 
 pub never_usage : (c : Command) (g : Given) (n : ℕ) (end : End) (same : Type 0) (held held_new : Option (List ℕ)) (f f_new : ℕ)

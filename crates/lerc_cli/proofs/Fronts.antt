@@ -1,12 +1,12 @@
 -- What reading the front of a source tells of the whole.
 use Rattle.std.proofs.Common.{◌≡◌, ℕ, ◌<◌, ◌≤◌, List, [], length, take, drop, ◌++◌, Option, Some, None, true, rules, Result, Ok, Err, refl, sym, ap, subst, ◌∙◌, arith}
 use Rattle.std.specs.Prelude.{IfOk, IfErr, IsTrue}
-use Rattle.outside_io.specs.Sink.{Holds}
-use Rattle.outside_io.proofs.Gives.{Holds_none}
+use Rattle.outside_io.specs.streams.Sink.{Holds}
+use Rattle.outside_io.proofs.StreamLemmas.Gives.{Holds_none}
 use Rattle.lerc_cli.specs.declared.command.Command.TheVariants.{Decode}
 use Rattle.lerc_cli.specs.Run.{Gained, OfOutput, given}
 use Rattle.std.proofs.lemmas.List.{take-append-drop, append-nil, length-take-le}
-use Rattle.outside_io.specs.Source.{IsAtEnd, TakesFront}
+use Rattle.outside_io.specs.streams.Source.{IsAtEnd, TakesFront}
 use Rattle.raster_values.specs.Raster.{Pixels}
 use Rattle.lerc_header.specs.declared.header.Header.{Header}
 use Rattle.lerc_cli.specs.declared.stop.Stop.{Stop}

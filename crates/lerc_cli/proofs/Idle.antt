@@ -1,7 +1,7 @@
 -- An object that a command does not touch is left as its contract says.
 use Rattle.std.proofs.Common.{ℕ, List, [], Option, Bool, Err, refl, subst, arith}
 use Rattle.std.specs.Prelude.{IsTrue, IsFalse}
-use Rattle.outside_io.specs.History.{History}
+use Rattle.outside_io.specs.volume.History.{History}
 use Rattle.lerc_cli.specs.declared.command.Command.{Command}
 use Rattle.lerc_cli.specs.declared.stop.Stop.TheVariants.{Volume}
 use Rattle.lerc_cli.specs.Command.{calls_volume}

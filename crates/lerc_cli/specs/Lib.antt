@@ -2,7 +2,6 @@ pub mod Answer
 pub mod Arguments
 pub mod Blob
 pub mod Command
-pub mod Outside
 pub mod Run
 pub mod Stop
 pub mod inside

@@ -1,10 +1,10 @@
 -- What a run leaves of the objects that it is lent, whatever it answers. What an object tells is None,
 -- or false, where it tells nothing.
 use Rattle.std.specs.Prelude.{◌≡◌, ℕ, ◌≤◌, List, [], length, Option, Some, None, IfSome, Bool, IsTrue, IsFalse, if◌then◌else◌, Ok, Err}
-use Rattle.outside_io.specs.History.{History, contents}
+use Rattle.outside_io.specs.volume.History.{History, contents}
 use Rattle.outside_io.specs.declared.volume.VolFile.TheVariants.{Bundle, Journal}
-use Rattle.outside_io.specs.Sink.{Holds, HoldsPrefix}
-use Rattle.outside_io.specs.Source.{TakesUpTo, IsAtEnd}
+use Rattle.outside_io.specs.streams.Sink.{Holds, HoldsPrefix}
+use Rattle.outside_io.specs.streams.Source.{TakesUpTo, IsAtEnd}
 use Rattle.raster_values.specs.Raster.{Pixels, IsRaster}
 use Rattle.raster_values.specs.Grid.{grid_of}
 use Rattle.lerc_cli.specs.declared.command.Command.{Command}
@@ -14,7 +14,8 @@ use Rattle.lerc_cli.specs.Blob.{Blob, IsBlob}
 use Rattle.lerc_cli.specs.Command.{reads_source, calls_volume, makes_updates}
 use Rattle.lerc_cli.specs.Stop.{End, line_of, status_at, status_of}
 use Rattle.lerc_cli.specs.Answer.{Files, Given, Ends, HasHead}
-use Rattle.lerc_cli.specs.Outside.{IsCause, GivesLine}
+use Rattle.outside_io.specs.program.Line.{GivesLine}
+use Rattle.outside_io.specs.streams.Faults.{IsCause}
 
 -- what a volume tells of its files as a run starts
 abbrev pub files_of : Bool → History → Option Files

@@ -1,5 +1,6 @@
 -- How a run ends: its status, and the one line that is given to the error output.
-use Rattle.std.specs.Prelude.{ℕ, List, [], ◌∷◌, ◌++◌, codes, decimal, Result, Ok, Err}
+use Rattle.std.specs.Prelude.{ℕ, List, [], ◌∷◌, ◌++◌, codes, Result, Ok, Err}
+use Rattle.outside_io.specs.program.Line.{and_number}
 use Rattle.lerc_cli.specs.declared.stop.Reason.{Reason}
 use Rattle.lerc_cli.specs.declared.stop.Reason.TheVariants.{NotYet}
 use Rattle.lerc_cli.specs.declared.stop.Stop.{Stop}
@@ -21,10 +22,6 @@ status_of OutOfMemory = 6
 abbrev pub status_at : End → ℕ
 status_at (Ok x) = 0
 status_at (Err stop) = status_of stop
-
--- a blank, and the digits of a number
-abbrev pub and_number : ℕ → List ℕ
-and_number n = 32 ∷ decimal n
 
 abbrev pub name_of : Reason → List ℕ
 name_of NotYet = codes "NotYet"

@@ -1,13 +1,13 @@
 ghost use Rattle.std.specs.Prelude.{◌≡◌, ◌≢◌, ◌≤◌, ◌↔◌, Some, Err, IsTrue, IfOk, IfErr, OnOk, length, drop};
 ghost use Rattle.byteorder.specs.Endian.{little_number};
-ghost use Rattle.outside_io.specs.Source.{TakesUpTo, IsAtEnd};
+ghost use Rattle.outside_io.specs.streams.Source.{TakesUpTo, IsAtEnd};
 ghost use Rattle.raster_values.specs.Kind.{InRange};
 ghost use Rattle.raster_values.specs.Raster.{IsShape};
 ghost use Rattle.lerc_header.specs.Checksum.{sum_of};
 ghost use Rattle.lerc_header.specs.declared.header.Header.{Header};
 ghost use Rattle.lerc_cli.specs.inside.Constant.{IsConstant, SaysConstant, constant_raster};
 ghost use Rattle.lerc_cli.specs.inside.Reads.{ReadsBlob};
-ghost use Rattle.lerc_cli.specs.Outside.{IsCause};
+ghost use Rattle.outside_io.specs.streams.Faults.{IsCause};
 ghost use Rattle.lerc_cli.specs.declared.stop.Stop.{Stop};
 
 use crate::stop::{Fault, Reason, Stop};

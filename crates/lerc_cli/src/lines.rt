@@ -1,10 +1,9 @@
 ghost use Rattle.std.specs.Prelude.{◌≡◌, ◌+◌, ◌≤◌, [], ◌++◌, length};
-ghost use Rattle.lerc_cli.specs.Outside.{GivesLine};
+ghost use Rattle.outside_io.specs.program.Line.{GivesLine};
 ghost use Rattle.lerc_cli.specs.Stop.{line_of, name_of, text_of};
 
-use crate::line::Line;
 use crate::stop::{Fault, Reason, Stop};
-use outside_io::{Sink, give_all};
+use outside_io::{Line, Sink, give_line};
 
 const USAGE: &[u8] =
     b"usage: PATH encode V E, decode, info, build V E N, put V E N, get R C, get R C raw, list, check, recover, sample START COUNT";
@@ -73,6 +72,5 @@ pub fn tell<E: Sink>(stop: Stop, err: &mut E)
     ensures { GivesLine (E.held err.old) (E.held err.new) (E.faults err.old) (E.faults err.new)
         (line_of stop) }
 {
-    let line = stop_line(stop);
-    let _ = give_all(err, line.as_slice());
+    give_line(err, &stop_line(stop));
 }

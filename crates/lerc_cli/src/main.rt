@@ -12,7 +12,6 @@ mod blob;
 mod command;
 mod decode;
 mod laws;
-mod line;
 mod lines;
 mod program;
 mod run;

@@ -3,7 +3,7 @@ ghost use Rattle.std.specs.Process.{exit_status};
 ghost use Rattle.lerc_cli.specs.declared.command.Command.{Command};
 ghost use Rattle.lerc_cli.specs.declared.stop.Stop.{Stop};
 ghost use Rattle.lerc_cli.specs.Command.{IsSpelled, IsNoCommand};
-ghost use Rattle.lerc_cli.specs.Outside.{GivesLine};
+ghost use Rattle.outside_io.specs.program.Line.{GivesLine};
 ghost use Rattle.lerc_cli.specs.Run.{IsUnread, OfRun};
 ghost use Rattle.lerc_cli.specs.Stop.{line_of};
 

@@ -1,12 +1,13 @@
 ghost use Rattle.std.specs.Prelude.{◌≡◌, ◌≢◌, ◌⊎◌, ◌↔◌, ℕ, List, [], Some, Ok, Err, length};
-ghost use Rattle.outside_io.specs.Sink.{Holds};
-ghost use Rattle.outside_io.specs.Source.{IsAtEnd};
+ghost use Rattle.outside_io.specs.streams.Sink.{Holds};
+ghost use Rattle.outside_io.specs.streams.Source.{IsAtEnd};
 ghost use Rattle.lerc_cli.specs.declared.command.Command.{Command};
 ghost use Rattle.lerc_cli.specs.declared.stop.Stop.{Stop};
 ghost use Rattle.lerc_cli.specs.Answer.{IsOutput};
 ghost use Rattle.lerc_cli.specs.Blob.{IsBlob};
 ghost use Rattle.lerc_cli.specs.Command.{IsSpelled, IsNoCommand};
-ghost use Rattle.lerc_cli.specs.Outside.{IsCause, GivesLine};
+ghost use Rattle.outside_io.specs.program.Line.{GivesLine};
+ghost use Rattle.outside_io.specs.streams.Faults.{IsCause};
 ghost use Rattle.lerc_cli.specs.Run.{OfSource, OfOutput, OfVolume, OfRun, GivesLineOf, files_of, given};
 ghost use Rattle.lerc_cli.specs.Run.{GivesGrid, GivesGridPrefix, ToldNoBlob, ToldHead};
 ghost use Rattle.lerc_cli.specs.Stop.{status_of, status_at, line_of};

@@ -2,7 +2,7 @@
 //! The blobs and grids are worked by hand or written by Esri's own library, and the lines are those of
 //! the program's documents.
 
-ghost use Rattle.std.specs.Prelude.{◌<◌, Some};
+ghost use Rattle.std.specs.Prelude.{◌<◌, None};
 
 use crate::arguments::{Arguments, command_words};
 use crate::run::run;
@@ -149,14 +149,14 @@ fn other_input_and_other_words_are_refused(rt: HostRuntime) -> Result<(), Fail> 
     Ok(())
 }
 
-/// Arguments in memory.
+/// Arguments in memory. What they are is for the run of the test to compare.
 #[derive(Drop)]
 struct ListedArguments {
     listed: Vec<Word>,
 }
 
 impl Arguments for ListedArguments {
-    ghost texts = { λ a. Some a.listed.items };
+    ghost texts = { λ _. None };
 
     fn text_at(&self, number: usize, buf: &mut [u8]) -> Result<usize, FillError> {
         let Some(word) = self.listed.get(number) else {

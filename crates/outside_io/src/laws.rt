@@ -1,5 +1,5 @@
 ghost use Rattle.std.specs.Prelude.{◌≡◌, ℕ, List};
-ghost use Rattle.outside_io.specs.Disk.{AreBytes, IsImage, settled};
+ghost use Rattle.outside_io.specs.volume.Disk.{AreBytes, IsImage, settled};
 
 /// The law of a file of which nothing is pending: a crash leaves of it what a read gives, and nothing else.
 pub fn settled_has_one_image()

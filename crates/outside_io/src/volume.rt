@@ -1,9 +1,24 @@
+//! Two files and one clock: the trait, the volume in memory, the files of the machine, and the volume that has none.
+
 ghost use Rattle.std.specs.Prelude.{◌≡◌, ◌+◌, ◌^◌, ◌≤◌, ℕ, Bool, length, IsTrue, IfOk, OnOk, OnErr};
-ghost use Rattle.outside_io.specs.Disk.{FailedCut, FailedWrite, Struck, change, shortened, synced, wrote};
-ghost use Rattle.outside_io.specs.Faults.{CountsFaults};
-ghost use Rattle.outside_io.specs.History.{History, IsPresent, ReadsAt, Ticks, contents, current};
+ghost use Rattle.outside_io.specs.volume.Disk.{FailedCut, FailedWrite, Struck, change, shortened, synced, wrote};
+ghost use Rattle.outside_io.specs.streams.Faults.{CountsFaults};
+ghost use Rattle.outside_io.specs.volume.History.{History, IsPresent, ReadsAt, Ticks, contents, current};
+
+mod call_log;
+mod file_volume;
+mod image;
+mod mem_volume;
+mod no_volume;
+mod start;
+mod tally;
 
 use crate::Failed;
+pub use file_volume::FileVolume;
+pub use image::Pick;
+pub use mem_volume::MemVolume;
+pub use no_volume::NoVolume;
+pub use start::{Piece, Start};
 
 /// One of the two files of a volume.
 #[derive(Clone, Copy, Debug, PartialEq, Eq)]
@@ -17,7 +32,8 @@ pub enum VolFile {
 /// Two files and one clock. A file that does not exist is a file of length 0.
 ///
 /// Each call but `moment` takes one moment of the clock, whatever it answers, and leaves the files of every
-/// earlier moment as they were. At the clock's end, 2^64 - 1, each of them answers Failed and changes nothing.
+/// earlier moment as they were. At the clock's end, 2^64 - 1, each of them answers Failed, and changes neither the
+/// clock nor the files; the count of faults may rise.
 /// A call on one file leaves the other as it was. What a crash inside a call leaves is an image of the moment
 /// before the call or of the moment after it.
 pub trait Volume {

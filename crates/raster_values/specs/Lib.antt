@@ -1,6 +1,6 @@
 -- What contracts of this crate cite.
-pub use Rattle.outside_io.specs.Faults.{CountsFaults}
-pub use Rattle.outside_io.specs.Sink.{Holds, HoldsPrefix}
+pub use Rattle.outside_io.specs.streams.Faults.{CountsFaults}
+pub use Rattle.outside_io.specs.streams.Sink.{Holds, HoldsPrefix}
 pub mod Kind
 pub mod Raster
 pub mod Places

@@ -1,7 +1,7 @@
 ghost use Rattle.std.specs.Prelude.{◌≡◌, ◌+◌, ◌-◌, ◌*◌, ◌<◌, ◌≤◌, ◌↔◌, IfOk, OnOk, OnErr, IsErrOf, true, length, replicate};
 ghost use Rattle.std.specs.List.{count_by};
-ghost use Rattle.outside_io.specs.Faults.{CountsFaults};
-ghost use Rattle.outside_io.specs.Sink.{Holds, HoldsPrefix};
+ghost use Rattle.outside_io.specs.streams.Faults.{CountsFaults};
+ghost use Rattle.outside_io.specs.streams.Sink.{Holds, HoldsPrefix};
 ghost use Rattle.raster_values.specs.Kind.{InRange};
 ghost use Rattle.raster_values.specs.Raster.{IsRaster, HasZero, IsTooLarge, blank, filled, values_of, valid_count, valid_at, value_at, marked, written, InShape, IsValidAt};
 ghost use Rattle.raster_values.specs.Places.{ChangesMark, ChangesValue};

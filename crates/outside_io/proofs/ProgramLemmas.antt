@@ -1,0 +1,2 @@
+-- Lemmas for who reads words.
+pub mod Digits

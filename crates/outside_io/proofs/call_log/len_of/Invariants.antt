@@ -1,9 +1,0 @@
-use Rattle.std.proofs.Common.{◌≡◌, ℕ, List, length, take}
-use Rattle.outside_io.specs.Disk.{Disk, file_of}
-use Rattle.outside_io.specs.Recorded.{AllFit, replay}
-use Rattle.outside_io.specs.Steps.{AllInPool, steps}
-use Rattle.outside_io.proofs.call_log.len_of.Given as goal
-
-abbrev pub invariant-loop-call : goal.invariant-loop-call
-invariant-loop-call l = (written : List ℕ) (d : Disk) → AllInPool (length written) l.log → AllFit (steps written l.log) d → l.first ≡ length (file_of l.file d).now
-    → l.len ≡ length (file_of l.file (replay (steps written (take l.call-index l.log)) d)).now

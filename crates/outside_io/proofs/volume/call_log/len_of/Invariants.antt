@@ -1,0 +1,9 @@
+use Rattle.std.proofs.Common.{◌≡◌, ℕ, List, length, take}
+use Rattle.outside_io.specs.volume.Disk.{Disk, file_of}
+use Rattle.outside_io.specs.inside.Effects.{AllFit, AllInPool, effects}
+use Rattle.outside_io.specs.volume.Recorded.{replay}
+use Rattle.outside_io.proofs.volume.call_log.len_of.Given as goal
+
+abbrev pub invariant-loop-call : goal.invariant-loop-call
+invariant-loop-call l = (written : List ℕ) (d : Disk) → AllInPool (length written) l.log → AllFit (effects written l.log) d → l.first ≡ length (file_of l.file d).now
+    → l.len ≡ length (file_of l.file (replay (effects written (take l.call-index l.log)) d)).now

@@ -1,9 +1,0 @@
-use Rattle.std.proofs.Common.{◌≡◌, take, All}
-use Rattle.outside_io.specs.Word.{IsDigit, decimal_value}
-use Rattle.outside_io.proofs.word.decimal.Given as goal
-
-abbrev pub invariant-loop-digit : goal.invariant-loop-digit
-invariant-loop-digit l = record {
-  digits : All IsDigit (take l.digit-index l.digits);
-  value : l.value ≡ decimal_value (take l.digit-index l.digits);
-}

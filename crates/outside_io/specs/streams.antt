@@ -1,0 +1,5 @@
+-- What the contracts of sources and sinks cite.
+pub mod Faults
+pub mod Memory
+pub mod Sink
+pub mod Source

@@ -1,0 +1,34 @@
+//! A call of std's reader or writer that is made again where it was interrupted.
+
+ghost use Rattle.std.specs.Prelude.{◌≤◌, IfSome, length};
+
+use std::io::{ErrorKind, Read, Write};
+
+/// Reads once. An interrupted call has read nothing, and is made again, 2^64 - 1 times in all. None where the reader
+/// fails.
+pub(crate) fn read_some<F: Read>(reader: &mut F, buf: &mut [u8]) -> Option<usize>
+    ensures { IfSome result (λ n. n ≤ length buf.new) }
+{
+    for _ in 0..u64::MAX {
+        match reader.read(buf) {
+            Ok(n) => return Some(n),
+            Err(error) if error.kind() == ErrorKind::Interrupted => {}
+            Err(_) => return None,
+        }
+    }
+    None
+}
+
+/// Writes once, as `read_some` reads.
+pub(crate) fn write_some<F: Write>(writer: &mut F, bytes: &[u8]) -> Option<usize>
+    ensures { IfSome result (λ n. n ≤ length bytes.now) }
+{
+    for _ in 0..u64::MAX {
+        match writer.write(bytes) {
+            Ok(n) => return Some(n),
+            Err(error) if error.kind() == ErrorKind::Interrupted => {}
+            Err(_) => return None,
+        }
+    }
+    None
+}

@@ -1,0 +1,116 @@
+ghost use Rattle.std.specs.Prelude.{◌≡◌, IsErr};
+ghost use Rattle.outside_io.specs.streams.Faults.{CountsFaults};
+ghost use Rattle.outside_io.specs.volume.Blind.{after_failure, blind_history, unused};
+ghost use Rattle.outside_io.specs.volume.History.{Ticks};
+
+use super::tally::Tally;
+use crate::{Failed, VolFile, Volume};
+use std::marker::Model;
+
+/// The volume that fails at every call, and tells nothing. Each failure takes a moment and is counted, both up to
+/// 2^64 - 1.
+#[derive(Drop)]
+pub struct NoVolume {
+    tally: Tally,
+}
+
+impl Model for NoVolume {
+    ghost use Rattle.outside_io.specs.volume.Blind.{Blind};
+
+    ghost Value = { Blind };
+
+    ghost view = { λ v. v.tally };
+}
+
+impl NoVolume {
+    /// The clock and the count of faults begin at 0.
+    pub fn new() -> NoVolume
+        ensures { result ≡ unused }
+    {
+        NoVolume {
+            tally: Tally::new(),
+        }
+    }
+}
+
+impl Volume for NoVolume {
+    ghost use Rattle.std.specs.Prelude.{false};
+    ghost use Rattle.outside_io.specs.volume.Blind.{blind_history};
+    ghost use Rattle.outside_io.specs.inside.Present.{nothing_told};
+
+    ghost told = { λ _. false };
+
+    ghost history = { blind_history };
+
+    ghost faults = { λ v. v.faults };
+
+    ghost present = { λ _ h. nothing_told h };
+
+    fn len(&mut self, _file: VolFile) -> Result<u64, Failed>
+        ensures fails { IsErr result }
+        ensures after { self.new ≡ after_failure self.old }
+        ensures time { Ticks (blind_history self.old) (blind_history self.new) result }
+        ensures counted { CountsFaults result self.old.faults self.new.faults }
+    {
+        self.tally.end(None)
+    }
+
+    fn read(&mut self, _file: VolFile, _at: u64, _buf: &mut [u8]) -> Result<usize, Failed>
+        ensures fails { IsErr result }
+        ensures same_buffer { _buf.new ≡ _buf.old }
+        ensures after { self.new ≡ after_failure self.old }
+        ensures time { Ticks (blind_history self.old) (blind_history self.new) result }
+        ensures counted { CountsFaults result self.old.faults self.new.faults }
+    {
+        self.tally.end(None)
+    }
+
+    fn write(&mut self, _file: VolFile, _at: u64, _bytes: &[u8]) -> Result<(), Failed>
+        ensures fails { IsErr result }
+        ensures after { self.new ≡ after_failure self.old }
+        ensures time { Ticks (blind_history self.old) (blind_history self.new) result }
+        ensures counted { CountsFaults result self.old.faults self.new.faults }
+    {
+        self.tally.end(None)
+    }
+
+    fn cut(&mut self, _file: VolFile, _len: u64) -> Result<(), Failed>
+        ensures fails { IsErr result }
+        ensures after { self.new ≡ after_failure self.old }
+        ensures time { Ticks (blind_history self.old) (blind_history self.new) result }
+        ensures counted { CountsFaults result self.old.faults self.new.faults }
+    {
+        self.tally.end(None)
+    }
+
+    fn sync(&mut self, _file: VolFile) -> Result<(), Failed>
+        ensures fails { IsErr result }
+        ensures after { self.new ≡ after_failure self.old }
+        ensures time { Ticks (blind_history self.old) (blind_history self.new) result }
+        ensures counted { CountsFaults result self.old.faults self.new.faults }
+    {
+        self.tally.end(None)
+    }
+
+    fn moment(&self) -> u64 {
+        self.tally.moment()
+    }
+}
+
+#[cfg(test)]
+mod tests {
+    use super::*;
+
+    #[test]
+    fn each_call_fails(rt: HostRuntime) {
+        let mut vol = NoVolume::new();
+        let mut buf = [7; 2];
+        assert_eq!(rt; vol.len(VolFile::Bundle), Err(Failed));
+        assert_eq!(rt; vol.read(VolFile::Journal, 0, &mut buf), Err(Failed));
+        assert_eq!(rt; vol.write(VolFile::Bundle, 0, b"ab"), Err(Failed));
+        assert_eq!(rt; vol.cut(VolFile::Journal, 0), Err(Failed));
+        assert_eq!(rt; vol.sync(VolFile::Bundle), Err(Failed));
+        assert_eq!(rt; vol.moment(), 5);
+        assert_eq!(rt; buf, [7; 2]);
+    }
+}
