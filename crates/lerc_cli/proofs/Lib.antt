@@ -1,2 +1,7 @@
 mod Blobs
-mod Outcomes
+mod Ends
+mod Exact
+mod Fronts
+mod Idle
+mod Once
+mod Words

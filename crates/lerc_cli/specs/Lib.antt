@@ -1,5 +1,7 @@
+pub mod Answer
+pub mod Arguments
 pub mod Blob
 pub mod Command
-pub mod Constant
 pub mod Run
 pub mod Stop
+pub mod inside

@@ -1,70 +1,130 @@
--- What a command answers, and what it leaves of the objects that it is lent. What a source or a sink tells is None where
--- it tells nothing.
-use Rattle.std.specs.Prelude.{◌≡◌, ℕ, ◌≤◌, ◌⊎◌, List, Option, IfSome, Result, Ok, Err}
-use Rattle.outside_io.specs.streams.Faults.{FailedBetween}
+-- What a run leaves of the objects that it is lent, whatever it answers. What an object tells is None,
+-- or false, where it tells nothing.
+use Rattle.std.specs.Prelude.{◌≡◌, ℕ, ◌≤◌, List, [], length, Option, Some, None, IfSome, Bool, IsTrue, IsFalse, if◌then◌else◌, Ok, Err}
+use Rattle.outside_io.specs.volume.History.{History, contents}
+use Rattle.outside_io.specs.declared.volume.VolFile.TheVariants.{Bundle, Journal}
 use Rattle.outside_io.specs.streams.Sink.{Holds, HoldsPrefix}
-use Rattle.raster_values.specs.Raster.{Pixels}
+use Rattle.outside_io.specs.streams.Source.{TakesUpTo, IsAtEnd}
+use Rattle.raster_values.specs.Raster.{Pixels, IsRaster}
 use Rattle.raster_values.specs.Grid.{grid_of}
-use Rattle.lerc_cli.specs.declared.stop.Stop.{Stop}
-use Rattle.lerc_cli.specs.declared.stop.Stop.TheVariants.{Refused, Source, Output, OutOfMemory}
+use Rattle.lerc_cli.specs.declared.command.Command.{Command}
+use Rattle.lerc_cli.specs.declared.command.Command.TheVariants.{Decode}
+use Rattle.lerc_cli.specs.declared.stop.Stop.TheVariants.{Usage, Refused, Source, Output, Volume, OutOfMemory}
 use Rattle.lerc_cli.specs.Blob.{Blob, IsBlob}
+use Rattle.lerc_cli.specs.Command.{reads_source, calls_volume, makes_updates}
+use Rattle.lerc_cli.specs.Stop.{End, line_of, status_at, status_of}
+use Rattle.lerc_cli.specs.Answer.{Files, Given, Ends, HasHead}
+use Rattle.outside_io.specs.program.Line.{GivesLine}
+use Rattle.outside_io.specs.streams.Faults.{IsCause}
 
--- the bytes, where they are told, are a blob with this raster
-abbrev pub ToldBlob : Option (List ℕ) → Pixels → Type 0
-ToldBlob input r = IfSome input (λ bytes. Blob bytes r)
+-- what a volume tells of its files as a run starts
+abbrev pub files_of : Bool → History → Option Files
+files_of told h =
+    if told then Some (record { bundle = contents Bundle h; journal = contents Journal h }) else None
+
+abbrev pub given : Option (List ℕ) → Option Files → Given
+given input files = record { input = input; files = files }
+
+-- ---- the source
+
+-- how many bytes a command takes at most: one behind the longest input that it reads
+abbrev pub most_taken : Command → ℕ
+most_taken Decode = 67
+
+-- The first type says that the source is as it was.
+pub record OfSource (c : Command) (end : End) (same : Type 0) (left_old left_new : Option (List ℕ))
+    (faults_old faults_new : ℕ) : Type 0 where
+  pub cause : IsCause (end ≡ Err Source) faults_old faults_new
+  pub taken : TakesUpTo (most_taken c) left_old left_new
+  pub whole : IsTrue (reads_source c) → end ≡ Ok tt → IsAtEnd left_new
+  pub idle : IsFalse (reads_source c) → same
+
+-- ---- the output
+
+-- the output has gained the bytes, or where it failed a prefix of them
+abbrev pub Gained : End → Option (List ℕ) → Option (List ℕ) → List ℕ → Type 0
+Gained (Err Output) old new bytes = HoldsPrefix old new bytes
+Gained end old new bytes = Holds old new bytes
+
+-- the run stopped before the output began
+abbrev pub StopsBeforeOutput : End → Type 0
+StopsBeforeOutput (Err Usage) = Unit {0}
+StopsBeforeOutput (Err (Refused fault)) = Unit {0}
+StopsBeforeOutput (Err Source) = Unit {0}
+StopsBeforeOutput (Err OutOfMemory) = Unit {0}
+StopsBeforeOutput end = ⊥
+
+-- The first type says that the output is as it was.
+pub record OfOutput (c : Command) (g : Given) (n : ℕ) (end : End) (same : Type 0)
+    (held_old held_new : Option (List ℕ)) (faults_old faults_new : ℕ) : Type 0 where
+  pub cause : IsCause (end ≡ Err Output) faults_old faults_new
+  pub gave : (output : List ℕ) × (Ends c g n end output × Gained end held_old held_new output)
+  pub idle : StopsBeforeOutput end → same
+
+-- ---- the volume
+
+-- The first type says that the volume is as it was.
+pub record OfVolume (c : Command) (end : End) (same : Type 0) (marks : List ℕ)
+    (told_old told_new : Bool) (old new : History) (faults_old faults_new : ℕ) : Type 0 where
+  pub cause : IsCause (end ≡ Err Volume) faults_old faults_new
+  pub told : told_new ≡ told_old
+  pub later : old.moment ≤ new.moment
+  pub idle : IsFalse (calls_volume c) → same
+  pub unmarked : IsFalse (makes_updates c) → marks ≡ []
+
+-- ---- the error output
+
+-- The line of the stop, and none where all went well. The first type says that the error output is as
+-- it was.
+abbrev pub GivesLineOf : End → Type 0 → Option (List ℕ) → Option (List ℕ) → ℕ → ℕ → Type 0
+GivesLineOf (Ok x) same old new faults_old faults_new = same
+GivesLineOf (Err stop) same old new faults_old faults_new =
+    GivesLine old new faults_old faults_new (line_of stop)
+
+-- ---- all of it
+
+-- What a run of a command leaves, and what it ends with: it ends in one way, which says the rest.
+pub record OfRun (c : Command) (status : ℕ) (marks : List ℕ)
+    (same_source : Type 0) (left_old left_new : Option (List ℕ)) (taking_old taking_new : ℕ)
+    (same_output : Type 0) (held_old held_new : Option (List ℕ)) (giving_old giving_new : ℕ)
+    (same_volume : Type 0) (told_old told_new : Bool) (old new : History)
+    (calling_old calling_new : ℕ)
+    (same_error : Type 0) (said_old said_new : Option (List ℕ)) (saying_old saying_new : ℕ)
+    : Type 0 where
+  pub end : End
+  pub status_is : status ≡ status_at end
+  pub source : OfSource c end same_source left_old left_new taking_old taking_new
+  pub output : OfOutput c (given left_old (files_of told_old old)) (length marks) end same_output
+      held_old held_new giving_old giving_new
+  pub volume : OfVolume c end same_volume marks told_old told_new old new calling_old calling_new
+  pub line : GivesLineOf end same_error said_old said_new saying_old saying_new
+
+-- Memory for the words was refused: the line of that is all that was given.
+pub record IsUnread (status : ℕ) (same_source same_output same_volume : Type 0)
+    (said_old said_new : Option (List ℕ)) (saying_old saying_new : ℕ) : Type 0 where
+  pub status_is : status ≡ status_of OutOfMemory
+  pub source : same_source
+  pub output : same_output
+  pub volume : same_volume
+  pub line : GivesLine said_old said_new saying_old saying_new (line_of OutOfMemory)
+
+-- ---- of `decode` in its own words
+
+-- the output has gained the grid of a raster, which is the blob's where the bytes are told
+abbrev pub GivesGrid : Option (List ℕ) → Option (List ℕ) → Option (List ℕ) → Type 0
+GivesGrid input old new =
+    (r : Pixels) × (IsRaster r × IfSome input (λ bytes. Blob bytes r) × Holds old new (grid_of r))
+
+-- the output has gained a prefix of such a grid
+abbrev pub GivesGridPrefix : Option (List ℕ) → Option (List ℕ) → Option (List ℕ) → Type 0
+GivesGridPrefix input old new =
+    (r : Pixels) × (IsRaster r × IfSome input (λ bytes. Blob bytes r)
+    × HoldsPrefix old new (grid_of r))
 
 -- the bytes, where they are told, are no blob
 abbrev pub ToldNoBlob : Option (List ℕ) → Type 0
 ToldNoBlob input = IfSome input (λ bytes. ¬ IsBlob bytes)
 
--- the output has gained the grid of the blob's raster
-abbrev pub GivesGrid : Option (List ℕ) → Option (List ℕ) → Option (List ℕ) → Type 0
-GivesGrid input old new = (r : Pixels) × (ToldBlob input r × Holds old new (grid_of r))
-
--- the output has gained a prefix of that grid
-abbrev pub GivesGridPrefix : Option (List ℕ) → Option (List ℕ) → Option (List ℕ) → Type 0
-GivesGridPrefix input old new = (r : Pixels) × (ToldBlob input r × HoldsPrefix old new (grid_of r))
-
--- a line was given whole, or the sink failed and has taken a prefix of it
-abbrev pub GivesLine : Option (List ℕ) → Option (List ℕ) → ℕ → ℕ → List ℕ → Type 0
-GivesLine old new faults_old faults_new line =
-    (Holds old new line × (faults_new ≡ faults_old)) ⊎ (HoldsPrefix old new line × ((faults_old ≤ faults_new) × FailedBetween faults_old faults_new))
-
--- ---- a command's answer, before it is a status
-
--- the source failed exactly where the answer says so
-abbrev pub CountsSource : {X : Type 0} → Result X Stop → ℕ → ℕ → Type 0
-CountsSource (Err Source) old new = (old ≤ new) × FailedBetween old new
-CountsSource _ old new = new ≡ old
-
--- the output failed exactly where the answer says so
-abbrev pub CountsOutput : {X : Type 0} → Result X Stop → ℕ → ℕ → Type 0
-CountsOutput (Err Output) old new = (old ≤ new) × FailedBetween old new
-CountsOutput _ old new = new ≡ old
-
--- the stop is one that the input or memory gives, and no object
-abbrev pub IsOfInput : Stop → Type 0
-IsOfInput Refused = Unit {0}
-IsOfInput OutOfMemory = Unit {0}
-IsOfInput _ = ⊥
-
--- a raster was read, or none is there
-abbrev pub ReadsBlob : Option (List ℕ) → Result Pixels Stop → Type 0
-ReadsBlob input (Ok r) = ToldBlob input r
-ReadsBlob input (Err Refused) = ToldNoBlob input
-ReadsBlob input (Err Source) = Unit {0}
-ReadsBlob input (Err OutOfMemory) = Unit {0}
-ReadsBlob input _ = ⊥
-
--- what a command gave of its output
-abbrev pub GivesOutput : {X : Type 0} → Option (List ℕ) → Result X Stop → Option (List ℕ) → Option (List ℕ) → Type 0
-GivesOutput input (Ok x) old new = GivesGrid input old new
-GivesOutput input (Err Output) old new = GivesGridPrefix input old new
-GivesOutput input (Err Refused) old new = ToldNoBlob input × (new ≡ old)
-GivesOutput input _ old new = new ≡ old
-
--- a stop before the output began left it alone
-abbrev pub LeavesOutput : {X K : Type 0} → Result X Stop → K → K → Type 0
-LeavesOutput (Ok x) old new = Unit {0}
-LeavesOutput (Err Output) old new = Unit {0}
-LeavesOutput _ old new = new ≡ old
+-- the bytes, where they are told, begin with a whole lawful header
+abbrev pub ToldHead : Option (List ℕ) → Type 0
+ToldHead input = IfSome input HasHead

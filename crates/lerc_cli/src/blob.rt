@@ -1,15 +1,16 @@
-ghost use Rattle.std.specs.Prelude.{◌≡◌, ◌≤◌, ◌↔◌, Some, IsTrue, IfOk, IfErr, OnOk, length, drop};
+ghost use Rattle.std.specs.Prelude.{◌≡◌, ◌≢◌, ◌≤◌, ◌↔◌, Some, Err, IsTrue, IfOk, IfErr, OnOk, length, drop};
 ghost use Rattle.byteorder.specs.Endian.{little_number};
 ghost use Rattle.outside_io.specs.streams.Source.{TakesUpTo, IsAtEnd};
 ghost use Rattle.raster_values.specs.Kind.{InRange};
 ghost use Rattle.raster_values.specs.Raster.{IsShape};
 ghost use Rattle.lerc_header.specs.Checksum.{sum_of};
 ghost use Rattle.lerc_header.specs.declared.header.Header.{Header};
-ghost use Rattle.lerc_cli.specs.Blob.{HasOneRaster};
-ghost use Rattle.lerc_cli.specs.Constant.{IsConstant, SaysConstant, constant_raster};
-ghost use Rattle.lerc_cli.specs.Run.{CountsSource, ReadsBlob, IsOfInput};
+ghost use Rattle.lerc_cli.specs.inside.Constant.{IsConstant, SaysConstant, constant_raster};
+ghost use Rattle.lerc_cli.specs.inside.Reads.{ReadsBlob};
+ghost use Rattle.outside_io.specs.streams.Faults.{IsCause};
+ghost use Rattle.lerc_cli.specs.declared.stop.Stop.{Stop};
 
-use crate::stop::Stop;
+use crate::stop::{Fault, Reason, Stop};
 use byteorder::{ByteOrder, LittleEndian};
 use lerc_header::{Header, checksum, read_header};
 use outside_io::{Source, take_all};
@@ -25,8 +26,14 @@ const MASK_LENGTH: usize = 62;
 /// Where the bytes begin that the checksum covers.
 const COVERED: usize = 14;
 
-/// Whether the header says that the blob ends behind the mask's length, that every pixel is valid and that each has one
-/// value.
+/// The one refusal so far.
+const NO_BLOB: Fault = Fault {
+    reason: Reason::NotYet,
+    place: 0,
+};
+
+/// Whether the header says that the blob ends behind the mask's length, that every pixel is valid and
+/// that each has one value.
 fn says_constant(header: &Header) -> bool
     ensures { IsTrue result ↔ SaysConstant header.now }
 {
@@ -89,19 +96,19 @@ fn filled_raster(alloc: Global, header: Header) -> Result<Raster, Stop>
 /// The raster of a blob.
 fn raster_of(alloc: Global, bytes: &[u8]) -> Result<Raster, Stop>
     ensures blob { ReadsBlob (Some bytes.now) result }
-    ensures stops { IfErr result IsOfInput }
+    ensures source { result ≢ Err Stop.Source }
 {
     match constant_header(bytes) {
         Some(header) => filled_raster(alloc, header),
-        None => Err(Stop::Refused),
+        None => Err(Stop::Refused(NO_BLOB)),
     }
 }
 
-/// Reads the raster of the blob that is all that the source has. It takes at most 67 bytes, since no blob of this form
-/// has more than 66. Where memory is refused nothing is said of the input.
+/// Reads the raster of the blob that is all that the source has. It takes at most 67 bytes, since no
+/// blob of this form has more than 66. Memory is wanted only where a lawful header stands whole.
 pub fn read_blob<S: Source>(alloc: Global, src: &mut S) -> Result<Raster, Stop>
     ensures blob { ReadsBlob (S.left src.old) result }
-    ensures source { CountsSource result (S.faults src.old) (S.faults src.new) }
+    ensures source { IsCause (result ≡ Err Stop.Source) (S.faults src.old) (S.faults src.new) }
     ensures taken { TakesUpTo 67 (S.left src.old) (S.left src.new) }
     ensures end { OnOk result (IsAtEnd (S.left src.new)) }
 {
@@ -111,8 +118,3 @@ pub fn read_blob<S: Source>(alloc: Global, src: &mut S) -> Result<Raster, Stop>
         Err(_) => Err(Stop::Source),
     }
 }
-
-/// A law: no bytes have two rasters.
-pub fn one_raster()
-    ensures { HasOneRaster }
-{}

@@ -5,7 +5,7 @@ ghost use Rattle.lerc_cli.specs.declared.command.Command.{Command};
 use outside_io::Word;
 
 /// What the program is asked to do.
-#[derive(Clone, Copy, Debug, PartialEq, Eq)]
+#[derive(Clone, Copy)]
 pub enum Command {
     /// Reads one blob, and gives its grid.
     Decode,

@@ -1,66 +1,106 @@
-ghost use Rattle.std.specs.Prelude.{◌≡◌, ◌≢◌, ◌<◌, ◌≤◌, ◌⊎◌, ◌↔◌, ℕ, List, [], Some, Err, OnOk};
-ghost use Rattle.outside_io.specs.streams.Faults.{FailedBetween};
-ghost use Rattle.outside_io.specs.streams.Source.{TakesUpTo, IsAtEnd};
+ghost use Rattle.std.specs.Prelude.{◌≡◌, ◌≢◌, ◌⊎◌, ◌↔◌, ℕ, List, [], Some, Ok, Err, length};
+ghost use Rattle.outside_io.specs.streams.Sink.{Holds};
+ghost use Rattle.outside_io.specs.streams.Source.{IsAtEnd};
+ghost use Rattle.lerc_cli.specs.declared.command.Command.{Command};
 ghost use Rattle.lerc_cli.specs.declared.stop.Stop.{Stop};
+ghost use Rattle.lerc_cli.specs.Answer.{IsOutput};
 ghost use Rattle.lerc_cli.specs.Blob.{IsBlob};
-ghost use Rattle.lerc_cli.specs.Command.{IsNoCommand};
-ghost use Rattle.lerc_cli.specs.Run.{CountsSource, CountsOutput, GivesOutput, LeavesOutput, GivesGrid, GivesGridPrefix, GivesLine, ToldNoBlob};
-ghost use Rattle.lerc_cli.specs.Stop.{line_of, status_of};
+ghost use Rattle.lerc_cli.specs.Command.{IsSpelled, IsNoCommand};
+ghost use Rattle.outside_io.specs.program.Line.{GivesLine};
+ghost use Rattle.outside_io.specs.streams.Faults.{IsCause};
+ghost use Rattle.lerc_cli.specs.Run.{OfSource, OfOutput, OfVolume, OfRun, GivesLineOf, files_of, given};
+ghost use Rattle.lerc_cli.specs.Run.{GivesGrid, GivesGridPrefix, ToldNoBlob, ToldHead};
+ghost use Rattle.lerc_cli.specs.Stop.{status_of, status_at, line_of};
 
-use crate::blob::read_blob;
 use crate::command::{Command, command_of};
+use crate::decode::decode;
 use crate::lines::tell;
 use crate::stop::Stop;
 use outside_io::{Marks, Report, Sink, Source, Volume, Word};
-use raster_values::grid_write;
 use std::alloc::Global;
 
-/// Reads one blob from the source, and gives its grid to the output.
-fn decode<S: Source, K: Sink>(alloc: Global, src: &mut S, out: &mut K) -> Result<(), Stop>
-    ensures used { result ≢ Err Stop.Usage }
-    ensures source { CountsSource result (S.faults src.old) (S.faults src.new) }
-    ensures output { CountsOutput result (K.faults out.old) (K.faults out.new) }
-    ensures given { GivesOutput (S.left src.old) result (K.held out.old) (K.held out.new) }
-    ensures left { LeavesOutput result out.old out.new }
-    ensures taken { TakesUpTo 67 (S.left src.old) (S.left src.new) }
-    ensures end { OnOk result (IsAtEnd (S.left src.new)) }
-{
-    let raster = read_blob(alloc, src)?;
-    match grid_write(&raster, out) {
-        Ok(()) => Ok(()),
-        Err(_) => Err(Stop::Output),
-    }
-}
-
-/// Does what the words say.
-fn perform<S: Source, K: Sink>(
+/// Does the command.
+fn perform<S: Source, K: Sink, V: Volume>(
     alloc: Global,
-    words: &[Word],
+    command: Command,
     src: &mut S,
     out: &mut K,
+    vol: &mut V,
+    marks: &mut Marks,
 ) -> Result<(), Stop>
-    ensures usage { (result ≡ Err Stop.Usage) ↔ IsNoCommand words.now }
-    ensures untaken { result ≡ Err Stop.Usage → src.new ≡ src.old }
-    ensures source { CountsSource result (S.faults src.old) (S.faults src.new) }
-    ensures output { CountsOutput result (K.faults out.old) (K.faults out.new) }
-    ensures given { GivesOutput (S.left src.old) result (K.held out.old) (K.held out.new) }
-    ensures left { LeavesOutput result out.old out.new }
-    ensures taken { TakesUpTo 67 (S.left src.old) (S.left src.new) }
-    ensures end { OnOk result (IsAtEnd (S.left src.new)) }
+    requires { marks.old.marks ≡ [] }
+    ensures source { OfSource command result (src.new ≡ src.old)
+        (S.left src.old) (S.left src.new) (S.faults src.old) (S.faults src.new) }
+    ensures output { OfOutput command
+        (given (S.left src.old) (files_of (V.told vol.old) (V.history vol.old)))
+        (length marks.new.marks) result (out.new ≡ out.old)
+        (K.held out.old) (K.held out.new) (K.faults out.old) (K.faults out.new) }
+    ensures volume { OfVolume command result (vol.new ≡ vol.old) marks.new.marks
+        (V.told vol.old) (V.told vol.new) (V.history vol.old) (V.history vol.new)
+        (V.faults vol.old) (V.faults vol.new) }
 {
-    let Some(command) = command_of(words) else {
-        return Err(Stop::Usage);
-    };
     match command {
         Command::Decode => decode(alloc, src, out),
     }
 }
 
-/// Does all that the program does: finds the command of the words, does it, and answers the status that the program
-/// ends with.
+/// Does what the words say.
+fn act<S: Source, K: Sink, V: Volume>(
+    alloc: Global,
+    words: &[Word],
+    src: &mut S,
+    out: &mut K,
+    vol: &mut V,
+    marks: &mut Marks,
+) -> Result<(), Stop>
+    requires { marks.old.marks ≡ [] }
+    ensures usage { (result ≡ Err Stop.Usage) ↔ IsNoCommand words.now }
+    ensures spelled { result ≢ Err Stop.Usage → (c : Command) × IsSpelled c words.now }
+    ensures unused { result ≡ Err Stop.Usage → (src.new ≡ src.old) × (out.new ≡ out.old)
+        × (vol.new ≡ vol.old) × (marks.new ≡ marks.old) }
+    ensures source_cause { IsCause (result ≡ Err Stop.Source)
+        (S.faults src.old) (S.faults src.new) }
+    ensures output_cause { IsCause (result ≡ Err Stop.Output)
+        (K.faults out.old) (K.faults out.new) }
+    ensures volume_cause { IsCause (result ≡ Err Stop.Volume)
+        (V.faults vol.old) (V.faults vol.new) }
+    ensures source { (c : Command) → IsSpelled c words.now → OfSource c result (src.new ≡ src.old)
+        (S.left src.old) (S.left src.new) (S.faults src.old) (S.faults src.new) }
+    ensures output { (c : Command) → IsSpelled c words.now → OfOutput c
+        (given (S.left src.old) (files_of (V.told vol.old) (V.history vol.old)))
+        (length marks.new.marks) result (out.new ≡ out.old)
+        (K.held out.old) (K.held out.new) (K.faults out.old) (K.faults out.new) }
+    ensures volume { (c : Command) → IsSpelled c words.now
+        → OfVolume c result (vol.new ≡ vol.old) marks.new.marks
+        (V.told vol.old) (V.told vol.new) (V.history vol.old) (V.history vol.new)
+        (V.faults vol.old) (V.faults vol.new) }
+{
+    match command_of(words) {
+        Some(command) => perform(alloc, command, src, out, vol, marks),
+        None => Err(Stop::Usage),
+    }
+}
+
+/// The status of an end, whose line is given.
+fn ended_status<E: Sink>(ended: Result<(), Stop>, err: &mut E) -> u8
+    ensures status { result ≡ status_at ended }
+    ensures line { GivesLineOf ended (err.new ≡ err.old)
+        (E.held err.old) (E.held err.new) (E.faults err.old) (E.faults err.new) }
+{
+    match ended {
+        Ok(()) => 0,
+        Err(stop) => {
+            tell(stop, err);
+            stop.status()
+        }
+    }
+}
+
+/// Does all that the program does: finds the command of the words, does it, and answers the status
+/// that the program ends with.
 ///
-/// The one command so far is `decode`: it reads a whole blob of version 3 in which every pixel is valid and has one
-/// value, and gives its grid.
+/// The one command so far is `decode`: it reads a whole blob of version 3 in which every pixel is
+/// valid and has one value, and gives its grid.
 ///
 /// | status | it comes |
 /// |---|---|
@@ -69,10 +109,11 @@ fn perform<S: Source, K: Sink>(
 /// | 2 | where the input is no such blob |
 /// | 3 | exactly where the source failed |
 /// | 4 | exactly where the output failed, which has then gained a prefix of the grid |
-/// | 6 | where memory was refused |
+/// | 5 | exactly where the volume failed, which `decode` does not call |
+/// | 6 | where memory was refused, which is wanted only behind a whole lawful header |
 ///
-/// On a status other than 0 one line is given to `err`. The faults of `err` change nothing. The volume is not called,
-/// and there are no marks.
+/// On a status other than 0 one line is given to `err`. The faults of `err` change nothing. There are
+/// no marks.
 pub fn run<S: Source, K: Sink, E: Sink, V: Volume>(
     alloc: Global,
     words: &[Word],
@@ -83,43 +124,57 @@ pub fn run<S: Source, K: Sink, E: Sink, V: Volume>(
 ) -> Report
     // The words come first.
     ensures usage { (result.status ≡ 1) ↔ IsNoCommand words.now }
-    ensures usage_takes_nothing { result.status ≡ 1 → src.new ≡ src.old }
+    ensures spelled { result.status ≢ 1 → (c : Command) × IsSpelled c words.now }
+    ensures unused { result.status ≡ 1 → (src.new ≡ src.old) × (out.new ≡ out.old)
+        × (vol.new ≡ vol.old) × (result.marks.marks ≡ []) }
 
     // An object that fails gives its status, and nothing else gives it.
-    ensures source_failed { result.status ≡ 3 → FailedBetween (S.faults src.old) (S.faults src.new) }
-    ensures source_rose { S.faults src.old < S.faults src.new → result.status ≡ 3 }
-    ensures source_counts { S.faults src.old ≤ S.faults src.new }
-    ensures output_failed { result.status ≡ 4 → FailedBetween (K.faults out.old) (K.faults out.new) }
-    ensures output_rose { K.faults out.old < K.faults out.new → result.status ≡ 4 }
-    ensures output_counts { K.faults out.old ≤ K.faults out.new }
+    ensures source_failed { IsCause (result.status ≡ 3) (S.faults src.old) (S.faults src.new) }
+    ensures output_failed { IsCause (result.status ≡ 4) (K.faults out.old) (K.faults out.new) }
+    ensures volume_failed { IsCause (result.status ≡ 5) (V.faults vol.old) (V.faults vol.new) }
 
-    // A whole input that the source tells decides between its grid and a refusal.
-    ensures exact { (input : List ℕ) → S.left src.old ≡ Some input
-        → (result.status ≡ 0) ⊎ (result.status ≡ 2) → (result.status ≡ 0) ↔ IsBlob input }
-    ensures decoded { result.status ≡ 0 → GivesGrid (S.left src.old) (K.held out.old) (K.held out.new) }
-    ensures refused { result.status ≡ 2 → ToldNoBlob (S.left src.old) }
+    // The command that the words spell ends in one way, which says all the rest.
+    ensures ran { (c : Command) → IsSpelled c words.now → OfRun c result.status result.marks.marks
+        (src.new ≡ src.old) (S.left src.old) (S.left src.new) (S.faults src.old) (S.faults src.new)
+        (out.new ≡ out.old) (K.held out.old) (K.held out.new) (K.faults out.old) (K.faults out.new)
+        (vol.new ≡ vol.old) (V.told vol.old) (V.told vol.new)
+        (V.history vol.old) (V.history vol.new) (V.faults vol.old) (V.faults vol.new)
+        (err.new ≡ err.old) (E.held err.old) (E.held err.new)
+        (E.faults err.old) (E.faults err.new) }
 
-    // What stands afterwards.
-    ensures cut_short { result.status ≡ 4 → GivesGridPrefix (S.left src.old) (K.held out.old) (K.held out.new) }
-    ensures nothing_given { result.status ≢ 0 → result.status ≢ 4 → out.new ≡ out.old }
-    ensures taken { TakesUpTo 67 (S.left src.old) (S.left src.new) }
-    ensures read_to_end { result.status ≡ 0 → IsAtEnd (S.left src.new) }
-    ensures line { (stop : Stop) → result.status ≡ status_of stop
-        → GivesLine (E.held err.old) (E.held err.new) (E.faults err.old) (E.faults err.new) (line_of stop) }
+    // A told input that has an output gets it, unless an object fails or memory is refused.
+    ensures complete { (c : Command) → IsSpelled c words.now
+        → (input : List ℕ) → S.left src.old ≡ Some input → (n : ℕ) (output : List ℕ)
+        → IsOutput c
+        (given (S.left src.old) (files_of (V.told vol.old) (V.history vol.old))) n output
+        → result.status ≢ 3 → result.status ≢ 4 → result.status ≢ 5 → result.status ≢ 6
+        → (result.status ≡ 0) × Holds (K.held out.old) (K.held out.new) output }
+
+    // One line tells of each stop.
+    ensures no_other_status { (result.status ≡ 0)
+        ⊎ ((stop : Stop) × (result.status ≡ status_of stop)) }
+    ensures usage_line { result.status ≡ 1
+        → GivesLine (E.held err.old) (E.held err.new) (E.faults err.old) (E.faults err.new)
+        (line_of Stop.Usage) }
     ensures no_line { result.status ≡ 0 → err.new ≡ err.old }
-    ensures no_other_status { (result.status ≡ 0) ⊎ ((stop : Stop) × (result.status ≡ status_of stop)) }
-    ensures volume { vol.new ≡ vol.old }
-    ensures no_marks { result.marks.marks ≡ [] }
+
+    // What follows for `decode`.
+    ensures exact { IsSpelled Command.Decode words.now
+        → (input : List ℕ) → S.left src.old ≡ Some input
+        → (result.status ≡ 0) ⊎ (result.status ≡ 2) → (result.status ≡ 0) ↔ IsBlob input }
+    ensures decoded { IsSpelled Command.Decode words.now → result.status ≡ 0
+        → GivesGrid (S.left src.old) (K.held out.old) (K.held out.new) × IsAtEnd (S.left src.new) }
+    ensures refused { IsSpelled Command.Decode words.now → result.status ≡ 2
+        → ToldNoBlob (S.left src.old) }
+    ensures cut_short { IsSpelled Command.Decode words.now → result.status ≡ 4
+        → GivesGridPrefix (S.left src.old) (K.held out.old) (K.held out.new) }
+    ensures wanted { IsSpelled Command.Decode words.now → result.status ≡ 6
+        → ToldHead (S.left src.old) }
+    ensures nothing_given { IsSpelled Command.Decode words.now
+        → result.status ≢ 0 → result.status ≢ 4 → out.new ≡ out.old }
 {
-    let status = match perform(alloc, words, src, out) {
-        Ok(()) => 0,
-        Err(stop) => {
-            tell(stop, err);
-            stop.status()
-        }
-    };
-    Report {
-        status,
-        marks: Marks::new(alloc),
-    }
+    let mut marks = Marks::new(alloc);
+    let ended = act(alloc, words, src, out, vol, &mut marks);
+    let status = ended_status(ended, err);
+    Report { status, marks }
 }

@@ -1,17 +1,33 @@
 ghost use Rattle.std.specs.Prelude.{◌≡◌};
 ghost use Rattle.lerc_cli.specs.Stop.{status_of};
 
+/// Why an input is refused.
+#[derive(Clone, Copy)]
+pub enum Reason {
+    /// It is not of the one form that is read so far.
+    NotYet,
+}
+
+/// A reason, and the place in the input where it stands.
+#[derive(Clone, Copy)]
+pub struct Fault {
+    pub reason: Reason,
+    pub place: u64,
+}
+
 /// Why a run did not give its output whole.
-#[derive(Clone, Copy, Debug, PartialEq, Eq)]
+#[derive(Clone, Copy)]
 pub enum Stop {
     /// The words are no command.
     Usage,
     /// The input is not what the command reads.
-    Refused,
+    Refused(Fault),
     /// The source failed.
     Source,
     /// The output failed.
     Output,
+    /// The volume failed.
+    Volume,
     /// Memory was refused.
     OutOfMemory,
 }
@@ -23,9 +39,10 @@ impl Stop {
     {
         match self {
             Stop::Usage => 1,
-            Stop::Refused => 2,
+            Stop::Refused(_) => 2,
             Stop::Source => 3,
             Stop::Output => 4,
+            Stop::Volume => 5,
             Stop::OutOfMemory => 6,
         }
     }

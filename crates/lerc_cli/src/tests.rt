@@ -1,11 +1,14 @@
-//! What `run` gives, whatever the pieces and whichever call fails. The blobs and grids are worked by hand or written
-//! by Esri's own library, and the lines are those of the program's documents.
+//! What `run` gives, whatever the pieces and whichever call fails, and which words a command line has.
+//! The blobs and grids are worked by hand or written by Esri's own library, and the lines are those of
+//! the program's documents.
 
-ghost use Rattle.std.specs.Prelude.{◌<◌};
+ghost use Rattle.std.specs.Prelude.{◌<◌, None};
 
+use crate::arguments::{Arguments, command_words};
 use crate::run::run;
 use outside_io::{Bytes, MemSink, MemSource, NoVolume, Word};
 use std::alloc::{AllocError, Global};
+use std::env::FillError;
 use std::test::Fail;
 
 /// A blob of one unsigned byte, 7.
@@ -46,7 +49,8 @@ struct Left {
     err: MemSink,
 }
 
-/// Runs over a source of these bytes and an output, each with its pieces and the numbers of its failing calls.
+/// Runs over a source of these bytes and an output, each with its pieces and the numbers of its failing
+/// calls.
 fn left_by(
     alloc: Global,
     words: &[&str],
@@ -141,6 +145,53 @@ fn other_input_and_other_words_are_refused(rt: HostRuntime) -> Result<(), Fail> 
         assert_eq!(rt; left.status, 1);
         assert_eq!(rt; left.out.held().len(), 0);
         assert_eq!(rt; left.err.held(), USAGE);
+    }
+    Ok(())
+}
+
+/// Arguments in memory. What they are is for the run of the test to compare.
+#[derive(Drop)]
+struct ListedArguments {
+    listed: Vec<Word>,
+}
+
+impl Arguments for ListedArguments {
+    ghost texts = { λ _. None };
+
+    fn text_at(&self, number: usize, buf: &mut [u8]) -> Result<usize, FillError> {
+        let Some(word) = self.listed.get(number) else {
+            return Err(FillError::NotPresent);
+        };
+        let text = word.as_slice();
+        if text.len() > buf.len() {
+            return Err(FillError::TooLong);
+        }
+        buf[..text.len()].copy_from_slice(text);
+        Ok(text.len())
+    }
+}
+
+#[test]
+fn words_are_the_bytes_behind_name_and_path(rt: HostRuntime) -> Result<(), Fail> {
+    let long = [b'x'; 700];
+    let texts = [
+        b"lerc_cli".as_slice(),
+        b"-",
+        b"",
+        &[0xff, 0xfe],
+        &long,
+        b"decode",
+    ];
+    for count in 0..texts.len() {
+        let mut listed = Vec::new(rt.alloc());
+        for text in &texts[..count] {
+            listed.push(Word::new(Vec::from_slice(rt.alloc(), text)?))?;
+        }
+        let words = command_words(rt.alloc(), &ListedArguments { listed })?;
+        assert_eq!(rt; words.len(), count.saturating_sub(2), "of {count} texts");
+        for (word, text) in words.iter().zip(texts.iter().skip(2)) {
+            assert_eq!(rt; word.as_slice(), *text);
+        }
     }
     Ok(())
 }

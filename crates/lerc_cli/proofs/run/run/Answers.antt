@@ -1,16 +1,73 @@
-use Rattle.std.proofs.Common.{◌≡◌, sym, ◌∙◌, arith}
-use Rattle.lerc_cli.proofs.Outcomes.{above_zero, exact_err, exact_ok, same_stop}
+use Rattle.std.proofs.Common.{ap, sym, ◌∙◌, rules}
+use Rattle.lerc_cli.specs.Stop.{status_at}
+use Rattle.lerc_cli.specs.declared.command.Command.TheVariants.{Decode}
+use Rattle.lerc_cli.proofs.Ends.{ok_at, output_status, some_status, source_status, unsaid, usage_said, usage_status, volume_status}
+use Rattle.lerc_cli.proofs.Exact.{complete, cut_short, decoded, exact, nothing_given, refused, wanted}
 use Rattle.lerc_cli.proofs.run.run.Goals as goal
-use Rattle.lerc_cli.proofs.run.run.Goals.{in-Ok, in-Err}
+
+pub returns-clause-usage : goal.returns-clause-usage
+returns-clause-usage g c = (
+  λ one. c.act-ended.ensures.usage.0 (usage_status _ _ c.ended_status-status.ensures.status one),
+  λ none. c.ended_status-status.ensures.status ∙ ap status_at (c.act-ended.ensures.usage.1 none),
+)
+
+pub returns-clause-spelled : goal.returns-clause-spelled
+returns-clause-spelled g c = λ other. c.act-ended.ensures.spelled (λ stopped. other (c.ended_status-status.ensures.status ∙ ap status_at stopped))
+
+pub returns-clause-unused : goal.returns-clause-unused
+returns-clause-unused g c = λ one.
+    let u = c.act-ended.ensures.unused (usage_status _ _ c.ended_status-status.ensures.status one) in
+    (u.0, u.1, u.2, ap (λ m. m.marks) u.3 ∙ ap (λ m. m.marks) c.new-marks.ensures)
+
+pub returns-clause-source_failed : goal.returns-clause-source_failed
+returns-clause-source_failed g c = source_status _ _ _ _ c.ended_status-status.ensures.status c.act-ended.ensures.source_cause
+
+pub returns-clause-output_failed : goal.returns-clause-output_failed
+returns-clause-output_failed g c = output_status _ _ _ _ c.ended_status-status.ensures.status c.act-ended.ensures.output_cause
+
+pub returns-clause-volume_failed : goal.returns-clause-volume_failed
+returns-clause-volume_failed g c = volume_status _ _ _ _ c.ended_status-status.ensures.status c.act-ended.ensures.volume_cause
+
+pub returns-clause-ran : goal.returns-clause-ran
+returns-clause-ran g c = λ command spelled. record {
+  end = _;
+  status_is = c.ended_status-status.ensures.status;
+  source = c.act-ended.ensures.source command spelled;
+  output = c.act-ended.ensures.output command spelled;
+  volume = c.act-ended.ensures.volume command spelled;
+  line = c.ended_status-status.ensures.line;
+}
+
+pub returns-clause-complete : goal.returns-clause-complete
+returns-clause-complete g c = λ command spelled input told n output has.
+    complete command _ input _ n _ _ _ output _ _ _ _ _ told c.ended_status-status.ensures.status has (c.act-ended.ensures.output command spelled)
+
+pub returns-clause-no_other_status : goal.returns-clause-no_other_status
+returns-clause-no_other_status g c = some_status _ _ c.ended_status-status.ensures.status
+
+pub returns-clause-usage_line : goal.returns-clause-usage_line
+returns-clause-usage_line g c = λ one. usage_said _ _ _ _ _ _ (usage_status _ _ c.ended_status-status.ensures.status one) c.ended_status-status.ensures.line
+
+pub returns-clause-no_line : goal.returns-clause-no_line
+returns-clause-no_line g c = λ zero. unsaid _ _ _ _ _ _ (ok_at _ (sym c.ended_status-status.ensures.status ∙ zero)) c.ended_status-status.ensures.line
 
 pub returns-clause-exact : goal.returns-clause-exact
-returns-clause-exact g c = λ input told which. elim c.match-perform.branch [
-  | in-Ok w ↦ exact_ok _ _ _ input _ told w.status-is w.in-Ok.ensures.given
-  | in-Err w ↦ exact_err (Unit {0}) _ _ _ input _ w.in-Err.stop told (w.status-is ∙ w.status-status.ensures) which w.in-Err.ensures.given
-]
+returns-clause-exact g c = λ spelled input told which. exact _ input _ _ _ _ _ _ _ _ _ told c.ended_status-status.ensures.status which (c.act-ended.ensures.output Decode spelled)
 
-pub returns-clause-line : goal.returns-clause-line
-returns-clause-line g c = λ stop is. elim c.match-perform.branch [
-  | in-Ok w ↦ absurd (omega (arith, w.status-is, is, above_zero stop))
-  | in-Err w ↦ (let same : w.in-Err.stop ≡ stop = same_stop w.in-Err.stop stop (sym (w.status-is ∙ w.status-status.ensures) ∙ is) in rw (w.err-is, ← same) w.tell.ensures)
-]
+pub returns-clause-decoded : goal.returns-clause-decoded
+returns-clause-decoded g c = λ spelled zero. (
+  decoded _ _ _ _ _ _ _ _ _ _ c.ended_status-status.ensures.status zero (c.act-ended.ensures.output Decode spelled),
+  (c.act-ended.ensures.source Decode spelled).whole (search rules) (ok_at _ (sym c.ended_status-status.ensures.status ∙ zero)),
+)
+
+pub returns-clause-refused : goal.returns-clause-refused
+returns-clause-refused g c = λ spelled two. refused _ _ _ _ _ _ _ _ _ _ c.ended_status-status.ensures.status two (c.act-ended.ensures.output Decode spelled)
+
+pub returns-clause-cut_short : goal.returns-clause-cut_short
+returns-clause-cut_short g c = λ spelled four. cut_short _ _ _ _ _ _ _ _ _ _ c.ended_status-status.ensures.status four (c.act-ended.ensures.output Decode spelled)
+
+pub returns-clause-wanted : goal.returns-clause-wanted
+returns-clause-wanted g c = λ spelled six. wanted _ _ _ _ _ _ _ _ _ _ c.ended_status-status.ensures.status six (c.act-ended.ensures.output Decode spelled)
+
+pub returns-clause-nothing_given : goal.returns-clause-nothing_given
+returns-clause-nothing_given g c = λ spelled zero four. nothing_given _ _ _ _ _ _ _ _ _ _ c.ended_status-status.ensures.status zero four (c.act-ended.ensures.output Decode spelled)

@@ -1,0 +1,92 @@
+-- What the end of `decode` tells of its input and its output.
+use Rattle.std.proofs.Common.{◌≡◌, ℕ, ◌⊎◌, ◌↔◌, List, Option, Some, Ok, Err, sym, ap, subst, ◌∙◌, inl, inr, arith}
+use Rattle.std.specs.Prelude.{◌≢◌}
+use Rattle.outside_io.specs.streams.Sink.{Holds, HoldsPrefix}
+use Rattle.lerc_cli.specs.declared.command.Command.{Command}
+use Rattle.lerc_cli.specs.declared.command.Command.TheVariants.{Decode}
+use Rattle.lerc_cli.specs.declared.stop.Stop.TheVariants.{Usage, Refused, Source, Output, Volume, OutOfMemory}
+use Rattle.lerc_cli.specs.Blob.{IsBlob}
+use Rattle.lerc_cli.specs.Stop.{End, status_at}
+use Rattle.lerc_cli.specs.Answer.{Ends, Files, Given, IsOutput}
+use Rattle.lerc_cli.specs.Run.{OfOutput, given, Gained, GivesGrid, GivesGridPrefix, ToldHead, ToldNoBlob}
+use Rattle.lerc_cli.proofs.Ends.{ok_at, refused_at, output_at, memory_at}
+use Rattle.lerc_cli.proofs.Once.{answers_once}
+
+decides : (input : List ℕ) (files : Option Files) (n status : ℕ) (end : End) (output : List ℕ) → status ≡ status_at end → (status ≡ 0) ⊎ (status ≡ 2)
+    → Ends Decode (given (Some input) files) n end output → (status ≡ 0) ↔ IsBlob input
+decides input files n status (Ok x) output is which e = (λ zero. (e.0, e.1.1), λ b. is)
+decides input files n status (Err (Refused f)) output is which e = (λ zero. absurd (omega arith), λ b. absurd (e.0.2 b))
+decides input files n status (Err Usage) output is which e = absurd e
+decides input files n status (Err Source) output is which e = absurd (elim which [ inl z ↦ omega arith | inr z ↦ omega arith ])
+decides input files n status (Err Output) output is which e = absurd (elim which [ inl z ↦ omega arith | inr z ↦ omega arith ])
+decides input files n status (Err Volume) output is which e = absurd (elim which [ inl z ↦ omega arith | inr z ↦ omega arith ])
+decides input files n status (Err OutOfMemory) output is which e = absurd (elim which [ inl z ↦ omega arith | inr z ↦ omega arith ])
+
+pub exact : (left : Option (List ℕ)) (input : List ℕ) (files : Option Files) (n status : ℕ) (end : End) (same : Type 0) (held held_new : Option (List ℕ)) (f f_new : ℕ)
+    → left ≡ Some input → status ≡ status_at end → (status ≡ 0) ⊎ (status ≡ 2) → OfOutput Decode (given left files) n end same held held_new f f_new → (status ≡ 0) ↔ IsBlob input
+exact left input files n status end same held held_new f f_new told is which out =
+    decides input files n status end out.gave.0 is which (subst (λ (x : Option (List ℕ)). Ends Decode (given x files) n end out.gave.0) told out.gave.1.0)
+
+-- ---- the same at a known end
+
+at_end : (g : Given) (n : ℕ) (end other : End) (same : Type 0) (held held_new : Option (List ℕ)) (f f_new : ℕ) → end ≡ other
+    → OfOutput Decode g n end same held held_new f f_new → OfOutput Decode g n other same held held_new f f_new
+at_end g n end other same held held_new f f_new is out = subst (λ (x : End). OfOutput Decode g n x same held held_new f f_new) is out
+
+pub decoded : (left : Option (List ℕ)) (files : Option Files) (n status : ℕ) (end : End) (same : Type 0) (held held_new : Option (List ℕ)) (f f_new : ℕ)
+    → status ≡ status_at end → status ≡ 0 → OfOutput Decode (given left files) n end same held held_new f f_new → GivesGrid left held held_new
+decoded left files n status end same held held_new f f_new is zero out =
+    let here = at_end (given left files) n end (Ok tt) same held held_new f f_new (ok_at end (sym is ∙ zero)) out in
+    let e = here.gave.1.0 in (e.0, (e.1.0, e.1.1, subst (Holds held held_new) e.1.2 here.gave.1.1))
+
+pub cut_short : (left : Option (List ℕ)) (files : Option Files) (n status : ℕ) (end : End) (same : Type 0) (held held_new : Option (List ℕ)) (f f_new : ℕ)
+    → status ≡ status_at end → status ≡ 4 → OfOutput Decode (given left files) n end same held held_new f f_new → GivesGridPrefix left held held_new
+cut_short left files n status end same held held_new f f_new is four out =
+    let here = at_end (given left files) n end (Err Output) same held held_new f f_new (output_at end (sym is ∙ four)) out in
+    let e = here.gave.1.0 in (e.0, (e.1.0, e.1.1, subst (HoldsPrefix held held_new) e.1.2 here.gave.1.1))
+
+pub refused : (left : Option (List ℕ)) (files : Option Files) (n status : ℕ) (end : End) (same : Type 0) (held held_new : Option (List ℕ)) (f f_new : ℕ)
+    → status ≡ status_at end → status ≡ 2 → OfOutput Decode (given left files) n end same held held_new f f_new → ToldNoBlob left
+refused left files n status end same held held_new f f_new is two out =
+    let r = refused_at end (sym is ∙ two) in
+    let here = at_end (given left files) n end (Err (Refused r.0)) same held held_new f f_new r.1 out in here.gave.1.0.0.2
+
+pub wanted : (left : Option (List ℕ)) (files : Option Files) (n status : ℕ) (end : End) (same : Type 0) (held held_new : Option (List ℕ)) (f f_new : ℕ)
+    → status ≡ status_at end → status ≡ 6 → OfOutput Decode (given left files) n end same held held_new f f_new → ToldHead left
+wanted left files n status end same held held_new f f_new is six out =
+    let here = at_end (given left files) n end (Err OutOfMemory) same held held_new f f_new (memory_at end (sym is ∙ six)) out in here.gave.1.0.0
+
+pub nothing_given : (left : Option (List ℕ)) (files : Option Files) (n status : ℕ) (end : End) (same : Type 0) (held held_new : Option (List ℕ)) (f f_new : ℕ)
+    → status ≡ status_at end → status ≢ 0 → status ≢ 4 → OfOutput Decode (given left files) n end same held held_new f f_new → same
+nothing_given left files n status (Ok x) same held held_new f f_new is zero four out = absurd (zero is)
+nothing_given left files n status (Err Usage) same held held_new f f_new is zero four out = out.idle tt
+nothing_given left files n status (Err (Refused g)) same held held_new f f_new is zero four out = out.idle tt
+nothing_given left files n status (Err Source) same held held_new f f_new is zero four out = out.idle tt
+nothing_given left files n status (Err Output) same held held_new f f_new is zero four out = absurd (four is)
+nothing_given left files n status (Err Volume) same held held_new f f_new is zero four out =
+    absurd (let never = out.gave.1.0.0 in cc)
+nothing_given left files n status (Err OutOfMemory) same held held_new f f_new is zero four out = out.idle tt
+
+-- ---- a told input that has an output gets it
+
+completes : (c : Command) (input : List ℕ) (files : Option Files) (n m status : ℕ) (end : End) (output given_out : List ℕ) (held held_new : Option (List ℕ)) → status ≡ status_at end
+    → IsOutput c (given (Some input) files) n output → Ends c (given (Some input) files) m end given_out → Gained end held held_new given_out
+    → status ≢ 3 → status ≢ 4 → status ≢ 5 → status ≢ 6 → (status ≡ 0) × Holds held held_new output
+completes c input files n m status (Ok x) output given_out held held_new is has e gained s o v w =
+    let once = answers_once c input files n m (Ok x) (Ok x) output given_out tt tt has e in (is, subst (Holds held held_new) (sym once.1) gained)
+completes c input files n m status (Err Usage) output given_out held held_new is has e gained s o v w = absurd e
+completes c input files n m status (Err (Refused f)) output given_out held held_new is has e gained s o v w =
+    let once = answers_once c input files n m (Ok tt) (Err (Refused f)) output given_out tt tt has e in absurd (let never = ap status_at once.0 in omega arith)
+completes c input files n m status (Err Source) output given_out held held_new is has e gained s o v w = absurd (s is)
+completes c input files n m status (Err Output) output given_out held held_new is has e gained s o v w = absurd (o is)
+completes c input files n m status (Err Volume) output given_out held held_new is has e gained s o v w = absurd (v is)
+completes c input files n m status (Err OutOfMemory) output given_out held held_new is has e gained s o v w = absurd (w is)
+
+pub complete : (c : Command) (left : Option (List ℕ)) (input : List ℕ) (files : Option Files) (n m status : ℕ) (end : End) (output : List ℕ) (same : Type 0) (held held_new : Option (List ℕ)) (f f_new : ℕ)
+    → left ≡ Some input → status ≡ status_at end → IsOutput c (given left files) n output → OfOutput c (given left files) m end same held held_new f f_new
+    → status ≢ 3 → status ≢ 4 → status ≢ 5 → status ≢ 6 → (status ≡ 0) × Holds held held_new output
+complete c left input files n m status end output same held held_new f f_new told is has out =
+    completes c input files n m status end output out.gave.0 held held_new is
+    (subst (λ (x : Option (List ℕ)). IsOutput c (given x files) n output) told has)
+    (subst (λ (x : Option (List ℕ)). Ends c (given x files) m end out.gave.0) told out.gave.1.0)
+    out.gave.1.1

@@ -1,0 +1,43 @@
+-- One command of words, and one answer of a command.
+use Rattle.std.proofs.Common.{◌≡◌, Ok, Err, refl, sym, ap, ◌∙◌}
+use Rattle.raster_values.specs.Grid.{grid_of}
+use Rattle.lerc_cli.specs.declared.command.Command.{Command}
+use Rattle.lerc_cli.specs.declared.command.Command.TheVariants.{Decode}
+use Rattle.lerc_cli.specs.declared.stop.Fault.{Fault}
+use Rattle.lerc_cli.specs.declared.stop.Stop.TheVariants.{Usage, Refused, Source, Output, Volume, OutOfMemory}
+use Rattle.lerc_cli.specs.Answer.{AnswersOnce}
+use Rattle.lerc_cli.specs.Command.{SpellsOne}
+use Rattle.lerc_cli.proofs.Blobs.{one_raster}
+
+-- the commands that are built
+pub only_command : (c : Command) → c ≡ Decode
+only_command Decode = refl
+
+pub spells_one : SpellsOne
+spells_one Decode Decode words one other = refl
+
+same_fault : (f g : Fault) → f.reason ≡ g.reason → f.place ≡ g.place → f ≡ g
+same_fault f g reason place = λ i. record { reason = reason i; place = place i }
+
+pub answers_once : (c : Command) → AnswersOnce c
+answers_once Decode input files n m (Ok x) (Ok y) output another _ _ a b =
+    (refl, a.1.2 ∙ ap grid_of (one_raster input a.0 b.0 a.1.1 b.1.1) ∙ sym b.1.2)
+answers_once Decode input files n m (Ok x) (Err (Refused f)) output another _ _ a b = absurd (b.0.2 (a.0, a.1.1))
+answers_once Decode input files n m (Err (Refused f)) (Ok y) output another _ _ a b = absurd (a.0.2 (b.0, b.1.1))
+answers_once Decode input files n m (Err (Refused f)) (Err (Refused g)) output another _ _ a b =
+    (ap (λ h. Err (Refused h)) (same_fault f g (a.0.0 ∙ sym b.0.0) (a.0.1 ∙ sym b.0.1)), a.1 ∙ sym b.1)
+answers_once Decode input files n m (Err Usage) other output another answer _ a b = absurd answer
+answers_once Decode input files n m (Err Source) other output another answer _ a b = absurd answer
+answers_once Decode input files n m (Err Output) other output another answer _ a b = absurd answer
+answers_once Decode input files n m (Err Volume) other output another answer _ a b = absurd answer
+answers_once Decode input files n m (Err OutOfMemory) other output another answer _ a b = absurd answer
+answers_once Decode input files n m (Ok x) (Err Usage) output another _ answer a b = absurd answer
+answers_once Decode input files n m (Ok x) (Err Source) output another _ answer a b = absurd answer
+answers_once Decode input files n m (Ok x) (Err Output) output another _ answer a b = absurd answer
+answers_once Decode input files n m (Ok x) (Err Volume) output another _ answer a b = absurd answer
+answers_once Decode input files n m (Ok x) (Err OutOfMemory) output another _ answer a b = absurd answer
+answers_once Decode input files n m (Err (Refused f)) (Err Usage) output another _ answer a b = absurd answer
+answers_once Decode input files n m (Err (Refused f)) (Err Source) output another _ answer a b = absurd answer
+answers_once Decode input files n m (Err (Refused f)) (Err Output) output another _ answer a b = absurd answer
+answers_once Decode input files n m (Err (Refused f)) (Err Volume) output another _ answer a b = absurd answer
+answers_once Decode input files n m (Err (Refused f)) (Err OutOfMemory) output another _ answer a b = absurd answer

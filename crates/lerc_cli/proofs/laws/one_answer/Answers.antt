@@ -1,0 +1,5 @@
+use Rattle.lerc_cli.proofs.Once.{answers_once}
+use Rattle.lerc_cli.proofs.laws.one_answer.Goals as goal
+
+pub returns : goal.returns
+returns c = answers_once

@@ -1,0 +1,5 @@
+use Rattle.lerc_cli.proofs.Once.{spells_one}
+use Rattle.lerc_cli.proofs.laws.one_command.Goals as goal
+
+pub returns : goal.returns
+returns c = spells_one

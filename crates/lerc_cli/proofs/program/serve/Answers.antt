@@ -1,0 +1,9 @@
+use Rattle.std.proofs.Common.{inr, subst, sym, ◌∙◌}
+use Rattle.lerc_cli.specs.Command.{IsSpelled}
+use Rattle.lerc_cli.proofs.Words.{told_words}
+use Rattle.lerc_cli.proofs.program.serve.Goals as goal
+
+pub returns-in-Ok-clause-ran : goal.returns-in-Ok-clause-ran
+returns-in-Ok-clause-ran g c = λ texts told command spelled.
+    let words_are = c.deref.ensures.value ∙ told_words _ texts _ told c.in-Ok.ensures in
+    inr (c.run.result.marks.marks, rw c.exit_code.ensures (c.run.ensures.ran command (subst (IsSpelled command) (sym words_are) spelled)))

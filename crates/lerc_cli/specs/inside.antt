@@ -1,0 +1,3 @@
+-- The words of functions that the program keeps to itself.
+pub mod Constant
+pub mod Reads

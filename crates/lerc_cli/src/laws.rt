@@ -1,0 +1,21 @@
+//! Laws over the definitions.
+
+ghost use Rattle.lerc_cli.specs.declared.command.Command.{Command};
+ghost use Rattle.lerc_cli.specs.Answer.{AnswersOnce};
+ghost use Rattle.lerc_cli.specs.Blob.{HasOneRaster};
+ghost use Rattle.lerc_cli.specs.Command.{SpellsOne};
+
+/// No bytes have two rasters.
+pub fn one_raster()
+    ensures { HasOneRaster }
+{}
+
+/// Words spell at most one command.
+pub fn one_command()
+    ensures { SpellsOne }
+{}
+
+/// A told input has one answer of each command.
+pub fn one_answer()
+    ensures { (c : Command) → AnswersOnce c }
+{}

@@ -1,0 +1,187 @@
+#!/bin/sh
+# Runs the built program through bin/lerc_cli, or the program that it is given, and compares what it
+# ends with, what it gives to standard output and what to standard error. It needs sh, the core
+# utilities, od and cmp. Its last line is 'N passed, M failed'.
+#
+# A case is one call of `expect`, with standard input as it is redirected there:
+#
+#     expect NAME STATUS OUTPUT LINE HOW WORD..  <INPUT
+#
+# OUTPUT is the file that standard output has to be like, LINE the one line of standard error (empty:
+# none), and HOW one of the functions of 'Ways to run it'. The files and the lines of the cases stand in
+# 'What is given and wanted'.
+set -u
+
+here=$(cd "$(dirname "$0")/.." && pwd) || exit 1
+program=${1:-$here/bin/lerc_cli}
+room=$(mktemp -d) || exit 1
+trap 'rm -rf "$room"' EXIT
+cd "$room" || exit 1
+passed=0
+failed=0
+
+# ---- Comparing
+
+# Shows a file's first bytes, where a case has failed.
+show() {
+    echo "    $1:" >&2
+    od -A d -t x1z "$2" | head -n 20 >&2
+}
+
+# Counts a case: its name, and whether it holds.
+count() {
+    if [ "$2" = yes ]; then
+        passed=$((passed + 1))
+        echo "ok: $1"
+    else
+        failed=$((failed + 1))
+        echo "FAILED: $1"
+    fi
+}
+
+expect() {
+    name=$1 status=$2 output=$3 line=$4 how=$5
+    shift 5
+    : >out
+    : >err
+    "$how" "$@"
+    got=$?
+    if [ -n "$line" ]; then printf '%s\n' "$line" >line; else : >line; fi
+    if [ "$got" -eq "$status" ] && cmp -s out "$output" && cmp -s err line; then
+        count "$name" yes
+    else
+        count "$name" no
+        echo "    status $got, wanted $status" >&2
+        show 'standard output' out
+        show 'standard error' err
+    fi
+}
+
+# ---- Ways to run it
+
+plainly() { "$program" "$@" >out 2>err; }
+
+# Its output is closed, or takes no byte, or is a pipe of which nobody reads more than a byte.
+output_closed() { "$program" "$@" >&- 2>err; }
+output_full() { "$program" "$@" >/dev/full 2>err; }
+output_unread() {
+    { "$program" "$@" 2>err; echo $? >ended; } | head -c 1 >/dev/null
+    read -r ended <ended
+    return "$ended"
+}
+
+# Its error output is closed, or takes no byte.
+error_closed() { "$program" "$@" >out 2>&-; }
+error_full() { "$program" "$@" >out 2>/dev/full; }
+
+# Its input is closed.
+input_closed() { "$program" "$@" >out 2>err <&-; }
+
+# Its input comes through a pipe, in two pieces.
+in_pieces() {
+    { head -c 10 blob; sleep 0.2; tail -c +11 blob; } | "$program" "$@" >out 2>err
+}
+
+# It is called from another folder through a link.
+through_a_link() {
+    ln -sf "$program" linked
+    (cd / && "$room/linked" "$@") >out 2>err
+}
+
+# ---- What is given and wanted
+
+# Writes bytes that are given in hexadecimal.
+bytes() {
+    for byte; do
+        printf "\\$(printf '%03o' "0x$byte")"
+    done
+}
+
+# A blob of one unsigned byte, 7, and its grid.
+{
+    bytes 4c 65 72 63 32 20 03 00 00 00 c0 66 45 59 01 00 00 00 01 00 00 00 01 00 00 00 08 00 00 00
+    bytes 42 00 00 00 01 00 00 00 00 00 00 00 00 00 e0 3f 00 00 00 00 00 00 1c 40
+    bytes 00 00 00 00 00 00 1c 40 00 00 00 00
+} >blob
+bytes 4c 47 52 31 01 01 00 00 00 01 00 00 00 01 00 00 00 01 07 >grid
+
+# The same with another last byte, without its last byte, and with a byte behind it.
+{ head -c 65 blob; bytes 01; } >changed
+head -c 65 blob >short
+{ cat blob; bytes 00; } >longer
+
+# A blob that Esri's library wrote: 100 rows and 257 columns of -32768 in two bytes. Its grid has 77,117
+# bytes, more than a pipe holds.
+{
+    bytes 4c 65 72 63 32 20 03 00 00 00 27 b7 0f af 64 00 00 00 01 01 00 00 64 64 00 00 08 00 00 00
+    bytes 42 00 00 00 02 00 00 00 00 00 00 00 00 00 e0 3f 00 00 00 00 00 00 e0 c0
+    bytes 00 00 00 00 00 00 e0 c0 00 00 00 00
+} >wide
+{
+    bytes 4c 47 52 31 02 64 00 00 00 01 01 00 00 01 00 00 00
+    yes | head -c 25700 | tr 'y\n' '\001\001'
+    yes | head -c 51400 | tr 'y\n' '\000\200'
+} >wide_grid
+
+: >nothing
+bad_text=$(printf '\377\376')
+long=$(printf '%5000s' '' | tr ' ' 'x')
+
+usage='usage: PATH encode V E, decode, info, build V E N, put V E N, get R C, get R C raw, list, check, recover, sample START COUNT'
+not_yet='refused: NotYet at 0'
+no_source='source failed'
+no_output='output failed'
+
+# ---- Words
+
+# Builds the program where it is not current.
+"$program" - decode <blob >/dev/null
+
+expect 'no word at all is no command' 1 nothing "$usage" plainly <blob
+expect 'a path alone is no command' 1 nothing "$usage" plainly - <blob
+expect 'the path comes first' 1 nothing "$usage" plainly decode - <blob
+expect 'an unknown word' 1 nothing "$usage" plainly - unknown <blob
+expect 'an empty word' 1 nothing "$usage" plainly - '' <blob
+expect 'a word with a blank behind it' 1 nothing "$usage" plainly - 'decode ' <blob
+expect 'a word in capitals' 1 nothing "$usage" plainly - DECODE <blob
+expect 'a word that is no UTF-8' 1 nothing "$usage" plainly - "$bad_text" <blob
+expect 'a word of 5,000 bytes' 1 nothing "$usage" plainly - "$long" <blob
+expect 'a second word' 1 nothing "$usage" plainly - decode x <blob
+expect 'a second word that is empty' 1 nothing "$usage" plainly - decode '' <blob
+expect 'a second word that is no UTF-8' 1 nothing "$usage" plainly - decode "$bad_text" <blob
+for command in encode info build put get list check recover sample; do
+    expect "a command that is not built yet: $command" 1 nothing "$usage" plainly - "$command" <blob
+done
+expect 'words come before a failing source' 1 nothing "$usage" input_closed - x
+
+# ---- decode
+
+expect 'decode: a blob' 0 grid '' plainly - decode <blob
+expect 'decode: a blob with a grid of 77,117 bytes' 0 wide_grid '' plainly - decode <wide
+expect 'decode: from a pipe in two pieces' 0 grid '' in_pieces - decode
+expect 'decode: through a link, from another folder' 0 grid '' through_a_link - decode <blob
+for path in '' 'a b' "$bad_text" "$long"; do
+    expect "decode: a path of ${#path} bytes is not looked at" 0 grid '' plainly "$path" decode <blob
+done
+for input in changed short longer nothing grid; do
+    expect "decode: no blob, $input" 2 nothing "$not_yet" plainly - decode <"$input"
+done
+
+expect 'decode: a folder as the input' 3 nothing "$no_source" plainly - decode </
+expect 'decode: a closed input' 3 nothing "$no_source" input_closed - decode
+expect 'decode: a closed output' 4 nothing "$no_output" output_closed - decode <blob
+expect 'decode: a full output' 4 nothing "$no_output" output_full - decode <blob
+expect 'decode: an output that nobody reads' 4 nothing "$no_output" output_unread - decode <wide
+expect 'decode: no blob and a closed output' 2 nothing "$not_yet" output_closed - decode <short
+
+# ---- A failing error output changes nothing
+
+for way in error_closed error_full; do
+    expect "$way: a blob" 0 grid '' "$way" - decode <blob
+    expect "$way: no blob" 2 nothing '' "$way" - decode <short
+    expect "$way: no command" 1 nothing '' "$way" - x <blob
+    expect "$way: a folder as the input" 3 nothing '' "$way" - decode </
+done
+
+echo "$passed passed, $failed failed"
+[ "$failed" -eq 0 ]
