@@ -110,7 +110,8 @@ fn a_folder_is_no_file(rt: HostRuntime) -> Result<(), Fail> {
 enum Fault {
     Nothing,
     Open,
-    Seek,
+    SeekStart,
+    SeekEnd,
     ReadMidway,
     WriteMidway,
     Cut,
@@ -278,13 +279,14 @@ impl Write for Handle {
 
 impl Seek for Handle {
     fn seek(&mut self, to: SeekFrom) -> io::Result<u64> {
-        if self.desk.fault.get() == Fault::Seek {
+        let (at, fault) = match to {
+            SeekFrom::Start(at) => (at, Fault::SeekStart),
+            _ => (self.drawer().len(), Fault::SeekEnd),
+        };
+        if self.desk.fault.get() == fault {
             return Err(error(ErrorKind::NotSeekable));
         }
-        self.at = match to {
-            SeekFrom::Start(at) => at,
-            _ => self.drawer().len(),
-        };
+        self.at = at;
         Ok(self.at)
     }
 }
@@ -472,7 +474,8 @@ fn what_the_machine_refuses_is_a_failure(rt: HostRuntime) -> Result<(), Fail> {
         for (fault, want) in [
             (Fault::Nothing, [true; 5]),
             (Fault::Open, [false; 5]),
-            (Fault::Seek, [false, false, false, false, true]),
+            (Fault::SeekStart, [true, false, false, true, true]),
+            (Fault::SeekEnd, [false, false, true, false, true]),
             (Fault::ReadMidway, [true, false, true, true, true]),
             (Fault::WriteMidway, [true, true, false, true, true]),
             (Fault::Cut, [true, true, true, false, true]),
