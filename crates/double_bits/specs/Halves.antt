@@ -29,7 +29,8 @@ pub record IsTwiceZero (bits : ℕ) (h : ℤ) : Type 0 where
 pub record IsTwiceNormal (bits : ℕ) (h : ℤ) : Type 0 where
   pub exponent_above : 0 < exponent bits
   pub exponent_below : exponent bits < 2047
-  pub value : h *ℤ pos (2 ^ 1074) ≡ signed (sign bits) ((2 ^ 52 + fraction bits) * 2 ^ exponent bits)
+  pub value :
+      h *ℤ pos (2 ^ 1074) ≡ signed (sign bits) ((2 ^ 52 + fraction bits) * 2 ^ exponent bits)
   pub small : unsigned_abs h < 2 ^ 34
 
 -- The double with these bits is a whole number or a half, below 2 ^ 33 in absolute value, and h is

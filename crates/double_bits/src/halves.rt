@@ -67,10 +67,11 @@ fn bits_of_magnitude(twice: u64) -> u64
     ((HALF_EXPONENT + top) << 52) + fraction
 }
 
-/// The bits of the double whose value is half of this number: the bits that `halves_of` reads as it.
+/// The bits of the double whose value is half of this number: the bits that `halves_of` reads as
+/// it.
 ///
-/// The number is below 2 ^ 34 in absolute value. 0 is written as +0; for every other number no other
-/// bits have this value. It takes no memory.
+/// The number is below 2 ^ 34 in absolute value. 0 is written as +0; for every other number no
+/// other bits have this value. It takes no memory.
 pub fn bits_of(halves: i64) -> u64
     requires { unsigned_abs halves < 2 ^ 34 }
     ensures exact { HalfDouble result halves }

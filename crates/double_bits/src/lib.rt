@@ -1,8 +1,8 @@
 //! Doubles as bit patterns: IEEE 754 binary64 numbers that are whole numbers or halves.
 //!
 //! It stands on nothing and does no floating-point arithmetic. The layer above uses two contracts:
-//! `halves_of` answers `Some(h)` exactly where `h` is twice the value of the double with these bits, and
-//! `bits_of` gives such bits for each `h` below 2 ^ 34 in absolute value.
+//! `halves_of` answers `Some(h)` exactly where `h` is twice the value of the double with these
+//! bits, and `bits_of` gives such bits for each `h` below 2 ^ 34 in absolute value.
 #![tactic(auto)]
 
 mod halves;

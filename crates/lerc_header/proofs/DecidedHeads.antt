@@ -1,15 +1,14 @@
 -- Bytes begin with a header or have a first fault: each test is decided.
-use Rattle.std.proofs.Common.{◌≡◌, ℕ, ℤ, pos, negsuc, ◌+◌, ◌*◌, ◌/◌, ◌%◌, ◌<◌, ◌≤◌, ◌≤ℤ◌, ◌*ℤ◌, zero, suc, List, [], ◌∷◌, length, take, refl, sym, ap, ◌∙◌, subst, arith, ◌⊎◌, inl, inr, ⊎_elim}
+use Rattle.std.proofs.Common.{◌≡◌, ℕ, ℤ, pos, negsuc, ◌+◌, ◌*◌, ◌/◌, ◌%◌, ◌<◌, ◌≤◌, ◌≤ℤ◌, ◌*ℤ◌, zero, suc, List, [], ◌∷◌, length, take, refl, ap, ◌∙◌, subst, arith, ◌⊎◌, inl, inr, ⊎_elim}
 use Rattle.std.specs.Prelude.{codes, ◌≢◌, ◌-ℤ◌}
 use Rattle.std.proofs.lemmas.Int.{ints, by_lt_z}
 use Rattle.std.proofs.lemmas.Bool.{cases_eq, cases_lt}
-use Rattle.first_fault.specs.Faults.{Faults, none, wrong, choice, unless}
+use Rattle.first_fault.specs.Faults.{Faults, none, wrong, choice}
 use Rattle.first_fault.specs.Parts.{HasFault}
 use Rattle.first_fault.proofs.Decided.{decided_unless}
 use Rattle.raster_values.specs.declared.kind.PixelType.{PixelType}
 use Rattle.raster_values.specs.declared.kind.PixelType.TheVariants.{I8, U8, I16, U16, I32, U32}
 use Rattle.raster_values.specs.Kind.{InRange, least_of, greatest_of, code_of}
-use Rattle.raster_values.specs.Raster.{IsShape}
 use Rattle.double_bits.specs.Halves.{HalfDouble}
 use Rattle.double_bits.proofs.HalfBits.{half_or_none}
 use Rattle.double_bits.proofs.OneHalf.{one_half}
@@ -18,10 +17,9 @@ use Rattle.lerc_header.specs.declared.fault.BlobReason.TheVariants.{Truncated, B
 use Rattle.lerc_header.specs.declared.header.Version.{Version}
 use Rattle.lerc_header.specs.declared.header.Version.TheVariants.{V3, V4}
 use Rattle.lerc_header.specs.declared.header.Header.{Header}
-use Rattle.lerc_header.specs.Head.{HeadAt, RangeAt, IsTwiceError, i32_at, u32_at, double_at, shift, head_length, depth_at, number_of}
-use Rattle.lerc_header.specs.HeadFaults.{HasKey, HasVersion, key_tests, key_faults, IsWithin, pixels_at, values_at, HasKind, HasStep, HasWhole, HasLeast, HasEnds, HasNone, field_faults, whole_faults, header_faults}
+use Rattle.lerc_header.specs.Head.{HeadAt, RangeAt, IsTwiceError, i32_at, u32_at, double_at, shift, head_length, depth_at}
+use Rattle.lerc_header.specs.HeadFaults.{HasKey, HasVersion, key_tests, key_faults, IsWithin, pixels_at, values_at, HasKind, HasStep, HasLeast, HasEnds, HasNone, field_faults, whole_faults, header_faults}
 use Rattle.lerc_header.proofs.HeadLemmas.{number_once, kind_once}
-use Rattle.lerc_header.proofs.FaultLemmas.{in_key_tests}
 use Rattle.lerc_header.proofs.ReadParts.{IsValueAt, not_least, not_ends, pixels_found}
 use Rattle.lerc_header.specs.declared.reading.Shape.{Shape}
 use Rattle.lerc_header.specs.declared.reading.Counts.{Counts}
@@ -200,9 +198,9 @@ ends_dec v bytes kind has front = ends_in v bytes kind has front (eq_dec (i32_at
 
 -- ---- the header of fields that stand
 
-pub record IsFound (v : Version) (bytes : List ℕ) (h : Header) : Type 0 where
-  pub head : HeadAt bytes h
-  pub version : h.version ≡ v
+-- the bytes begin with this header, which is of this version
+abbrev pub IsFound : Version → List ℕ → Header → Type 0
+IsFound v bytes h = HeadAt bytes h × (h.version ≡ v)
 
 shape_found : (v : Version) (bytes : List ℕ) → pos 1 ≤ℤ i32_at bytes 14 → pos 1 ≤ℤ i32_at bytes 18 → IsWithin (pos 1) (pos 65536) (depth_at v bytes) → values_at v bytes ≤ℤ pos 16777216 → (s : Shape) × IsShapeAt v bytes s
 shape_found v bytes t1 t2 t3 t4 =
@@ -295,8 +293,8 @@ found_head v bytes key version long s is c are kind has step range = (
     least = range.least;
     greatest = range.greatest;
   },
-  record {
-    head = record {
+  (
+    record {
       long = long;
       key = key;
       version = version;
@@ -316,9 +314,9 @@ found_head v bytes key version long s is c are kind has step range = (
       step = step.1.0;
       step_allowed = step.1.1;
       range = range.range;
-    };
-    version = refl;
-  },
+    },
+    refl,
+  ),
 )
 
 -- ---- a header, or its first fault
@@ -365,15 +363,14 @@ key_decided behind bytes go =
     decided_choice (HasVersion bytes V3) (behind V3) _ (eq_dec (i32_at bytes 6) (pos 3)) (λ three. go V3 key three) (λ no_three.
     decided_choice (HasVersion bytes V4) (behind V4) (wrong BadVersion 6) (eq_dec (i32_at bytes 6) (pos 4)) (λ four. go V4 key four) (λ no_four. inr (has_wrong BadVersion 6))))
 
-pub record IsKeyed (bytes : List ℕ) (v : Version) : Type 0 where
-  pub key : HasKey bytes
-  pub version : HasVersion bytes v
+abbrev pub IsKeyed : List ℕ → Version → Type 0
+IsKeyed bytes v = HasKey bytes × HasVersion bytes v
 
 pub key_or_fault : (bytes : List ℕ) → ((v : Version) × IsKeyed bytes v) ⊎ HasFault (key_faults bytes)
-key_or_fault bytes = key_decided (λ v. none) bytes (λ v key version. inl (v, record { key = key; version = version }))
+key_or_fault bytes = key_decided (λ v. none) bytes (λ v key version. inl (v, (key, version)))
 
 only_head : (v : Version) (bytes : List ℕ) (f : Faults BlobReason) → ((h : Header) × IsFound v bytes h) ⊎ HasFault f → ((h : Header) × HeadAt bytes h) ⊎ HasFault f
-only_head v bytes f (inl h) = inl (h.0, h.1.head)
+only_head v bytes f (inl h) = inl (h.0, h.1.0)
 only_head v bytes f (inr w) = inr w
 
 length_dec : (a b : ℕ) → IsDecidable (a ≤ b)

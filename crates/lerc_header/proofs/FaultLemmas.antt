@@ -1,7 +1,7 @@
 -- A header has no fault, and bytes have one first fault at most.
 use Rattle.std.proofs.Common.{◌≡◌, ℕ, ℤ, pos, ◌+◌, ◌*◌, ◌≤◌, ◌≤ℤ◌, ◌*ℤ◌, List, length, refl, sym, ap, ◌∙◌, subst, arith, ◌⊎◌, inl, inr}
 use Rattle.std.proofs.lemmas.Int.{ints}
-use Rattle.first_fault.specs.Faults.{Faults, none, wrong, choice, unless}
+use Rattle.first_fault.specs.Faults.{Faults, none, wrong}
 use Rattle.first_fault.specs.Parts.{IsSingle, IsEmpty}
 use Rattle.first_fault.proofs.Parts.{single-none, single-wrong, single-choice, single-unless, empty-choice, empty-failed}
 use Rattle.raster_values.specs.declared.kind.PixelType.{PixelType}
@@ -14,7 +14,7 @@ use Rattle.lerc_header.specs.declared.header.Version.{Version}
 use Rattle.lerc_header.specs.declared.header.Version.TheVariants.{V3, V4}
 use Rattle.lerc_header.specs.declared.header.Header.{Header}
 use Rattle.lerc_header.specs.Head.{HeadAt, RangeAt, i32_at, double_at, shift, head_length, depth_at}
-use Rattle.lerc_header.specs.HeadFaults.{HasKey, HasVersion, key_tests, key_faults, IsWithin, pixels_at, values_at, HasStep, HasWhole, HasLeast, HasEnds, HasNone, field_faults, whole_faults, header_faults}
+use Rattle.lerc_header.specs.HeadFaults.{HasKey, HasVersion, key_tests, key_faults, IsWithin, pixels_at, values_at, HasStep, HasLeast, HasEnds, HasNone, field_faults, whole_faults, header_faults}
 use Rattle.lerc_header.proofs.HeadLemmas.{number_once}
 
 -- ---- at most one first fault

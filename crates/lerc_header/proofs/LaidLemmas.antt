@@ -1,5 +1,5 @@
 -- Bytes laid over a list, one part behind the other.
-use Rattle.std.proofs.Common.{◌≡◌, ℕ, ◌+◌, ◌-◌, ◌≤◌, List, [], ◌++◌, length, take, drop, refl, sym, ap, ◌∙◌, subst, arith}
+use Rattle.std.proofs.Common.{◌≡◌, ℕ, ◌+◌, ◌-◌, ◌≤◌, List, [], ◌++◌, length, take, drop, sym, ap, ◌∙◌, arith}
 use Rattle.std.proofs.lemmas.List.{append_assoc, append-nil, length-append, length-drop, length-take-le, drop-drop, drop_all, take_at, take_rest, take-append-drop}
 use Rattle.std.proofs.Math.Seq.{drop-append_seam}
 use borrow.Rule.Slice.PartMut.{put_mid}

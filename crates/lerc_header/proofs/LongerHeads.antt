@@ -1,5 +1,5 @@
 -- A longer list of bytes has the same first fault, but for one of bytes that were cut.
-use Rattle.std.proofs.Common.{◌≡◌, ℕ, ℤ, pos, ◌+◌, ◌<◌, ◌≤◌, ◌≤ℤ◌, ◌*ℤ◌, List, ◌++◌, length, take, drop, refl, sym, ap, ◌∙◌, subst, arith, ◌⊎◌, inl, inr}
+use Rattle.std.proofs.Common.{◌≡◌, ℕ, ℤ, pos, ◌+◌, ◌<◌, ◌≤◌, ◌≤ℤ◌, ◌*ℤ◌, List, ◌++◌, length, take, drop, refl, sym, ◌∙◌, subst, arith, ◌⊎◌, inl, inr}
 use Rattle.std.proofs.lemmas.Bool.{cases_lt}
 use Rattle.std.proofs.lemmas.List.{length-append, length-take-le, take-append-drop}
 use Rattle.first_fault.specs.Faults.{Faults, none, wrong, choice, unless}
@@ -7,12 +7,12 @@ use Rattle.raster_values.specs.declared.kind.PixelType.{PixelType}
 use Rattle.raster_values.specs.Kind.{InRange, code_of}
 use Rattle.double_bits.specs.Halves.{HalfDouble}
 use Rattle.lerc_header.specs.declared.fault.BlobReason.{BlobReason}
-use Rattle.lerc_header.specs.declared.fault.BlobReason.TheVariants.{Truncated, BadKey, BadVersion, BadRows, BadCols, BadDepth, TooLarge, BadCount, BadBlockSize, BadBlobSize, FloatPixels, BadType, BadError, BadRange}
+use Rattle.lerc_header.specs.declared.fault.BlobReason.TheVariants.{Truncated, BadVersion, BadRows, BadCols, BadDepth, TooLarge, BadCount, BadBlockSize, BadBlobSize, FloatPixels, BadType, BadError, BadRange}
 use Rattle.lerc_header.specs.declared.header.Version.{Version}
 use Rattle.lerc_header.specs.declared.header.Version.TheVariants.{V3, V4}
 use Rattle.lerc_header.specs.declared.header.Header.{Header}
 use Rattle.lerc_header.specs.Head.{HeadAt, i32_at, double_at, shift, head_length, depth_at, IsTwiceError}
-use Rattle.lerc_header.specs.HeadFaults.{HasKey, HasVersion, key_tests, key_faults, IsWithin, field_faults, whole_faults, header_faults}
+use Rattle.lerc_header.specs.HeadFaults.{HasVersion, key_tests, key_faults, IsWithin, field_faults, whole_faults, header_faults}
 use Rattle.lerc_header.proofs.FaultLemmas.{in_key_tests}
 use Rattle.lerc_header.proofs.Prefixes.{HaveSame, same_front, same_back, same_depth}
 
@@ -136,3 +136,11 @@ cut_head n bytes h head few = go (cases_lt n 10)
     go : (n < 10) ⊎ (10 ≤ n) → header_faults (take n bytes) n Truncated
     go (inl early) = cut_early n (take n bytes) long early
     go (inr ten) = cut_at n (take n bytes) (drop n bytes) h long (subst (λ u. HeadAt u h) (sym (take-append-drop n bytes)) head) few ten
+
+-- ---- key and version, and the other fields, on their own
+
+pub key_more : (a s : List ℕ) (p : ℕ) (r : BlobReason) → 10 ≤ length a → key_faults a p r → key_faults (a ++ s) p r
+key_more a s p r long w = same_key a (a ++ s) (same_front 10 a s (omega arith) long) p r w
+
+pub fields_more : (v : Version) (a s : List ℕ) (p : ℕ) (r : BlobReason) → head_length v ≤ length a → field_faults v a p r → field_faults v (a ++ s) p r
+fields_more v a s p r long w = same_fields v a (a ++ s) (same_front (head_length v) a s (omega arith) long) p r w

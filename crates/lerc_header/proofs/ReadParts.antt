@@ -1,10 +1,9 @@
 -- The parts of the reader, put together.
-use Rattle.std.proofs.Common.{◌≡◌, ℕ, ℤ, pos, ◌+◌, ◌*◌, ◌<◌, ◌≤◌, ◌≤ℤ◌, ◌*ℤ◌, List, length, refl, sym, ap, ◌∙◌, subst, arith, ◌⊎◌, inl, inr, ◌↔◌, Result, Ok, Err, IfOk}
+use Rattle.std.proofs.Common.{◌≡◌, ℕ, ℤ, pos, ◌+◌, ◌*◌, ◌<◌, ◌≤◌, ◌≤ℤ◌, ◌*ℤ◌, List, refl, sym, ap, ◌∙◌, subst, arith, ◌⊎◌, inl, inr, ◌↔◌, Result, Ok, Err, IfOk}
 use Rattle.std.specs.Prelude.{IfErr, IsErrAnd}
 use Rattle.std.proofs.lemmas.Int.{ints}
 use Rattle.raster_values.specs.declared.kind.PixelType.{PixelType}
-use Rattle.raster_values.specs.declared.kind.PixelType.TheVariants.{I8, U8, I16, U16, I32, U32}
-use Rattle.raster_values.specs.Kind.{InRange, code_of}
+use Rattle.raster_values.specs.Kind.{InRange}
 use Rattle.double_bits.specs.Halves.{HalfDouble}
 use Rattle.double_bits.proofs.OneHalf.{one_half}
 use Rattle.lerc_header.specs.declared.fault.BlobReason.{BlobReason}
@@ -15,8 +14,8 @@ use Rattle.lerc_header.specs.declared.header.Version.TheVariants.{V3, V4}
 use Rattle.lerc_header.specs.declared.header.Header.{Header}
 use Rattle.lerc_header.specs.declared.reading.Shape.{Shape}
 use Rattle.lerc_header.specs.declared.reading.Counts.{Counts}
-use Rattle.lerc_header.specs.Head.{HeadAt, RangeAt, i32_at, double_at, shift, head_length, depth_at}
-use Rattle.lerc_header.specs.HeadFaults.{HasKind, IsWithin, pixels_at, values_at, HasWhole, HasLeast, HasEnds, HasNone, field_faults, header_faults}
+use Rattle.lerc_header.specs.Head.{HeadAt, RangeAt, i32_at, double_at, shift}
+use Rattle.lerc_header.specs.HeadFaults.{HasKind, pixels_at, values_at, HasLeast, HasEnds, HasNone, field_faults, header_faults}
 use Rattle.lerc_header.specs.inside.Parts.{IsShapeAt, AreCountsAt, IsStepAt}
 use Rattle.lerc_header.specs.inside.Tails.{count_faults, kind_faults, step_faults, range_faults}
 use Rattle.lerc_header.proofs.FaultLemmas.{code_below, single-header, empty-header}

@@ -1,5 +1,5 @@
 -- The bytes that are written for a header: the header stands on them, whatever follows.
-use Rattle.std.proofs.Common.{◌≡◌, ℕ, ℤ, pos, ◌+◌, ◌-◌, ◌*◌, ◌^◌, ◌<◌, ◌≤◌, ◌*ℤ◌, List, [], ◌++◌, length, take, drop, refl, sym, ap, ◌∙◌, subst, arith, ◌⊎◌, inl, inr}
+use Rattle.std.proofs.Common.{◌≡◌, ℕ, ℤ, pos, ◌+◌, ◌*◌, ◌^◌, ◌<◌, ◌≤◌, ◌*ℤ◌, List, ◌++◌, length, take, drop, refl, sym, ap, ◌∙◌, subst, arith, inl, inr}
 use Rattle.std.specs.Prelude.{codes, unsigned_abs}
 use Rattle.std.proofs.lemmas.Int.{ints, unsigned_abs-mul}
 use Rattle.std.proofs.lemmas.Bool.Decides.{nat_tests}
@@ -21,7 +21,7 @@ use Rattle.lerc_header.specs.declared.header.Version.{Version}
 use Rattle.lerc_header.specs.declared.header.Version.TheVariants.{V3, V4}
 use Rattle.lerc_header.specs.declared.header.Header.{Header}
 use Rattle.lerc_header.specs.Head.{HeadAt, RangeAt, i32_at, u32_at, double_at, number_of, shift, head_length, depth_at}
-use Rattle.lerc_header.specs.Written.{IsHeader, AreEnds, depth_bytes, shape_bytes, counts_bytes, doubles_bytes, field_bytes, front_bytes, head_bytes}
+use Rattle.lerc_header.specs.Written.{IsHeader, AreEnds, depth_bytes, shape_bytes, counts_bytes, doubles_bytes, field_bytes, head_bytes}
 use Rattle.lerc_header.proofs.FaultLemmas.{code_below}
 
 -- ---- values are small

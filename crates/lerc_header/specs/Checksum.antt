@@ -21,10 +21,13 @@ pub record Sums : Type 0 where
   pub first : ℕ
   pub second : ℕ
 
--- the sums after a group of n words: the first takes their sum; the second takes the first n times, and
--- the word at i, which the first has from then on, n - i times
+-- the sums after a group of n words: the first takes their sum; the second takes the first n
+-- times, and the word at i, which the first has from then on, n - i times
 abbrev pub after_group : Sums → List ℕ → Sums
-after_group s ws = record { first = folded (s.first + sum ws); second = folded (s.second + length ws * s.first + weighted ws) }
+after_group s ws = record {
+  first = folded (s.first + sum ws);
+  second = folded (s.second + length ws * s.first + weighted ws);
+}
 
 -- the sums after n groups of 359 words, of which the last may be shorter
 abbrev pub after_groups : ℕ → Sums → List ℕ → Sums
@@ -33,12 +36,17 @@ after_groups (suc n) s ws = after_groups n (after_group s (take 359 ws)) (drop 3
 
 -- the sums after all groups, the fewest that hold all words; both begin at 65535
 abbrev pub groups_of : List ℕ → Sums
-groups_of bytes = after_groups ((length bytes / 2 + 358) / 359) (record { first = 65535; second = 65535 }) (words bytes)
+groups_of bytes =
+    after_groups ((length bytes / 2 + 358) / 359) (record { first = 65535; second = 65535 })
+    (words bytes)
 
 -- an odd last byte counts as a word of the byte times 256, behind all groups
 abbrev pub after_last : Sums → List ℕ → Sums
 after_last s bytes = if nat_eq (length bytes % 2) 0 then s else
-    record { first = s.first + 256 * slice_index bytes (length bytes - 1); second = s.second + (s.first + 256 * slice_index bytes (length bytes - 1)) }
+    record {
+      first = s.first + 256 * slice_index bytes (length bytes - 1);
+      second = s.second + (s.first + 256 * slice_index bytes (length bytes - 1));
+    }
 
 -- each sum is folded once more; the first is the lower half of the checksum, the second the upper
 abbrev pub joined : Sums → ℕ

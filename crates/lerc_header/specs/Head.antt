@@ -53,7 +53,8 @@ pub record IsTwiceError (n : ℕ) : Type 0 where
   pub even : n ≢ 1 → n % 2 ≡ 0
 
 -- zMin at this place and zMax behind it are whole numbers of the type, zMax not below zMin
-pub record HasRange (bytes : List ℕ) (place : ℕ) (kind : PixelType) (least greatest : ℤ) : Type 0 where
+pub record HasRange (bytes : List ℕ) (place : ℕ) (kind : PixelType) (least greatest : ℤ) :
+    Type 0 where
   pub z_min : HalfDouble (double_at bytes place) (pos 2 *ℤ least)
   pub least_in_range : InRange kind least
   pub z_max : HalfDouble (double_at bytes (place + 8)) (pos 2 *ℤ greatest)

@@ -1,5 +1,5 @@
--- The first fault of a header: of its tests, in their order, the first one that fails. Each line is a
--- line of the table of fields in docs/FORMATS.md.
+-- The first fault of a header: of its tests, in their order, the first one that fails. Each line
+-- is a line of the table of fields in docs/FORMATS.md.
 use Rattle.std.specs.Prelude.{◌≡◌, ℕ, ℤ, pos, ◌+◌, ◌*ℤ◌, ◌≤◌, ◌≤ℤ◌, ◌⊎◌, List, codes, length, take}
 use Rattle.first_fault.specs.Faults.{Faults, none, wrong, choice, unless}
 use Rattle.raster_values.specs.declared.kind.PixelType.{PixelType}

@@ -10,8 +10,8 @@ use Rattle.lerc_header.specs.declared.header.Version.TheVariants.{V3, V4}
 use Rattle.lerc_header.specs.declared.header.Header.{Header}
 use Rattle.lerc_header.specs.Head.{number_of, head_length, IsTwiceError}
 
--- the least and the greatest of the valid values are values of the type, in order; both are 0 where no
--- pixel is valid
+-- the least and the greatest of the valid values are values of the type, in order; both are 0
+-- where no pixel is valid
 abbrev pub AreEnds : PixelType → ℕ → ℤ → ℤ → Type 0
 AreEnds kind valid least greatest =
     ((0 < valid) × InRange kind least × InRange kind greatest × (least ≤ℤ greatest))
@@ -40,7 +40,8 @@ depth_bytes V4 depth = little_bytes 4 depth
 -- the doubles maxZError, zMin and zMax
 abbrev pub doubles_bytes : Header → List ℕ
 doubles_bytes h = little_bytes 8 (half_bits (pos h.step))
-    ++ (little_bytes 8 (half_bits (pos 2 *ℤ h.least)) ++ little_bytes 8 (half_bits (pos 2 *ℤ h.greatest)))
+    ++ (little_bytes 8 (half_bits (pos 2 *ℤ h.least))
+    ++ little_bytes 8 (half_bits (pos 2 *ℤ h.greatest)))
 
 -- from the valid count to the type
 abbrev pub counts_bytes : Header → List ℕ
@@ -55,7 +56,8 @@ unfoldable pub field_bytes : Header → List ℕ
 field_bytes h = shape_bytes h ++ (counts_bytes h ++ doubles_bytes h)
 
 abbrev pub front_bytes : Header → List ℕ
-front_bytes h = codes "Lerc2 " ++ (little_bytes 4 (number_of h.version) ++ little_bytes 4 h.checksum)
+front_bytes h =
+    codes "Lerc2 " ++ (little_bytes 4 (number_of h.version) ++ little_bytes 4 h.checksum)
 
 unfoldable pub head_bytes : Header → List ℕ
 head_bytes h = front_bytes h ++ field_bytes h

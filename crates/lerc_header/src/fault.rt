@@ -69,8 +69,8 @@ pub enum BlobReason {
     Leftover,
 }
 
-/// The first fault of a blob: the reason, and the place of the field that fails, counted in bytes from
-/// the blob's first.
+/// The first fault of a blob: the reason, and the place of the field that fails, counted in bytes
+/// from the blob's first.
 #[derive(Clone, Copy, Debug, PartialEq, Eq)]
 pub struct BlobFault {
     pub reason: BlobReason,

@@ -59,13 +59,15 @@ fn add_groups(bytes: &[u8]) -> (u32, u32)
     (sum1, sum2)
 }
 
-/// The checksum of these bytes: Fletcher's sum of 32 bits over words of two bytes, the higher first.
+/// The checksum of these bytes: Fletcher's sum of 32 bits over words of two bytes, the higher
+/// first.
 ///
-/// Two sums begin at 65535. For each word the first takes the word and the second takes the first. After
-/// every 359 words, and after the last of a shorter group, each sum is folded: its upper bits are added
-/// to its lower 16. An odd last byte counts as a word of the byte times 256, taken after that. Then each
-/// sum is folded once more, and the second stands above the first. A blob's own checksum is that of its
-/// bytes from 14 on, which follow the field itself. It takes no memory, for bytes of any length.
+/// Two sums begin at 65535. For each word the first takes the word and the second takes the first.
+/// After every 359 words, and after the last of a shorter group, each sum is folded: its upper
+/// bits are added to its lower 16. An odd last byte counts as a word of the byte times 256, taken
+/// after that. Then each sum is folded once more, and the second stands above the first. A blob's
+/// own checksum is that of its bytes from 14 on, which follow the field itself. It takes no
+/// memory, for bytes of any length.
 pub fn checksum(bytes: &[u8]) -> u32
     ensures { result ≡ sum_of bytes.now }
 {

@@ -40,7 +40,8 @@ pub struct Header {
     pub version: Version,
     /// The checksum that the header holds, of the blob's bytes from 14 on.
     pub checksum: u32,
-    /// How many rows, columns and depths the raster has; at most 2 ^ 24 values. Version 3 has depth 1.
+    /// How many rows, columns and depths the raster has; at most 2 ^ 24 values. Version 3 has
+    /// depth 1.
     pub rows: u32,
     pub cols: u32,
     pub depth: u32,

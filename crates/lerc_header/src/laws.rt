@@ -1,4 +1,5 @@
-//! Laws of the definitions, for the crates above. Each function does nothing: its contract is the law.
+//! Laws of the definitions, for the crates above. Each function does nothing: its contract is the
+//! law.
 
 ghost use Rattle.std.specs.Prelude.{◌≡◌, ℕ, ◌+◌, ◌<◌, ◌≤◌, ◌⊎◌, ◌++◌, List, length, take, drop};
 ghost use Rattle.first_fault.specs.Parts.{IsSingle, IsEmpty, HasFault, AreBytes};
@@ -24,7 +25,8 @@ pub fn bytes_have_one_first_fault()
 
 /// Bytes that begin with a header have no fault of it.
 pub fn headers_have_no_fault()
-    ensures header { (bytes : List ℕ) (h : Header) → HeadAt bytes h → IsEmpty (header_faults bytes) }
+    ensures header { (bytes : List ℕ) (h : Header) → HeadAt bytes h →
+        IsEmpty (header_faults bytes) }
     ensures key { (bytes : List ℕ) (v : Version) → HasKey bytes → HasVersion bytes v →
         IsEmpty (key_faults bytes) }
     ensures fields { (bytes : List ℕ) (h : Header) → HeadAt bytes h →
@@ -34,6 +36,16 @@ pub fn headers_have_no_fault()
 /// Any bytes begin with a header or have a first fault.
 pub fn bytes_have_a_header_or_a_fault()
     ensures { (bytes : List ℕ) → ((h : Header) × HeadAt bytes h) ⊎ HasFault (header_faults bytes) }
+{}
+
+/// Any bytes have a key and a version or a fault of them; and where these stand and as many bytes are
+/// there as the version's header has, they are a header or have a fault of its fields.
+pub fn fields_stand_or_fail()
+    ensures key { (bytes : List ℕ) →
+        ((v : Version) × (HasKey bytes × HasVersion bytes v)) ⊎ HasFault (key_faults bytes) }
+    ensures fields { (v : Version) (bytes : List ℕ) → HasKey bytes → HasVersion bytes v →
+        head_length v ≤ length bytes →
+        ((h : Header) × (HeadAt bytes h × (h.version ≡ v))) ⊎ HasFault (field_faults v bytes) }
 {}
 
 /// The numbers of a header that bytes begin with pass every test.
@@ -48,21 +60,27 @@ pub fn headers_depend_on_their_bytes()
         HeadAt (bytes ++ more) h → HeadAt bytes h }
 {}
 
-/// More bytes have the same first fault, but for bytes that were cut; and all bytes that end within a
-/// header are cut at their length.
+/// More bytes have the same first fault, but for bytes that were cut; and all bytes that end
+/// within a header are cut at their length.
 pub fn first_faults_stay()
     ensures more { (bytes more : List ℕ) (place : ℕ) (reason : BlobReason) →
         ¬ (reason ≡ Truncated) → header_faults bytes place reason →
         header_faults (bytes ++ more) place reason }
+    ensures key { (bytes more : List ℕ) (place : ℕ) (reason : BlobReason) →
+        10 ≤ length bytes → key_faults bytes place reason → key_faults (bytes ++ more) place reason }
+    ensures fields { (v : Version) (bytes more : List ℕ) (place : ℕ) (reason : BlobReason) →
+        head_length v ≤ length bytes → field_faults v bytes place reason →
+        field_faults v (bytes ++ more) place reason }
     ensures cut { (bytes : List ℕ) (h : Header) (n : ℕ) → HeadAt bytes h →
         n < head_length h.version → header_faults (take n bytes) n Truncated }
 {}
 
-/// The bytes of a header are as many as its version says, the header stands on them, whatever follows,
-/// and those behind the checksum do not depend on it.
+/// The bytes of a header are as many as its version says, the header stands on them, whatever
+/// follows, and those behind the checksum do not depend on it.
 pub fn head_bytes_are_a_header()
     ensures length { (h : Header) → length (head_bytes h) ≡ head_length h.version }
     ensures stand { (h : Header) (rest : List ℕ) → IsHeader h → HeadAt (head_bytes h ++ rest) h }
     ensures covered { (h : Header) → drop 14 (head_bytes h) ≡ field_bytes h }
-    ensures checksum { (h : Header) (sum : ℕ) → field_bytes (record h { checksum = sum }) ≡ field_bytes h }
+    ensures checksum { (h : Header) (sum : ℕ) →
+        field_bytes (record h { checksum = sum }) ≡ field_bytes h }
 {}

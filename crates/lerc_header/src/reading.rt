@@ -235,7 +235,8 @@ fn value_at(bytes: &[u8], place: usize, kind: PixelType) -> Option<i64>
     }
 }
 
-/// The least and the greatest value of the valid pixels, which are not looked at where there is none.
+/// The least and the greatest value of the valid pixels, which are not looked at where there is
+/// none.
 fn range_at(
     version: Version,
     bytes: &[u8],
@@ -245,7 +246,8 @@ fn range_at(
     requires long { head_length version ≤ length bytes.now }
     requires kind { HasKind version bytes.now kind }
     requires valid { i32_at bytes.now (22 + shift version) ≡ pos valid }
-    ensures ok { IfOk result (λ ends. RangeAt bytes.now (46 + shift version) kind valid ends.0 ends.1) }
+    ensures ok { IfOk result (λ ends.
+        RangeAt bytes.now (46 + shift version) kind valid ends.0 ends.1) }
     ensures fault { IfErr result (λ f. range_faults version bytes.now f.place f.reason) }
 {
     if valid == 0 {
@@ -345,17 +347,18 @@ fn first_of(bytes: &[u8]) -> Result<Header, BlobFault>
 
 /// The header of version 3 or 4 with which the bytes begin, or its first fault.
 ///
-/// The fields are taken in the order of their places, each with its tests; the first that fails is the
-/// fault, and its place the field's. Where the bytes end before it, the fault is `Truncated` at their
-/// length: before ten bytes there is no key and no version, and before the header's 62 or 66 bytes no
-/// other field is looked at. Places and tests are in docs/FORMATS.md. Where no pixel is valid, zMin and
-/// zMax are not looked at; the checksum is not tested. It takes no memory.
+/// The fields are taken in the order of their places, each with its tests; the first that fails is
+/// the fault, and its place the field's. Where the bytes end before it, the fault is `Truncated`
+/// at their length: before ten bytes there is no key and no version, and before the header's 62 or
+/// 66 bytes no other field is looked at. Places and tests are in docs/FORMATS.md. Where no pixel
+/// is valid, zMin and zMax are not looked at; the checksum is not tested. It takes no memory.
 pub fn read_header(bytes: &[u8]) -> Result<Header, BlobFault>
     ensures ok { (h : Header) → (result ≡ Ok h) ↔ HeadAt bytes.now h }
     ensures fault { (f : BlobFault) → (result ≡ Err f) ↔ header_faults bytes.now f.place f.reason }
     ensures lawful { IfOk result (λ h. IsHeader h) }
     ensures pixels { IfOk result (λ h. h.rows * h.cols ≤ 16777216) }
-    ensures in_range { IfOk result (λ h. InRange h.kind h.least × InRange h.kind h.greatest × (h.least ≤ℤ h.greatest)) }
+    ensures in_range { IfOk result (λ h.
+        InRange h.kind h.least × InRange h.kind h.greatest × (h.least ≤ℤ h.greatest)) }
 {
     first_of(bytes)
 }

@@ -6,8 +6,8 @@ ghost use Rattle.lerc_header.specs.Written.{step_of};
 
 use std::marker::Model;
 
-/// How far apart two values lie that a blob can tell: twice its maxZError. It is 1 where no value may
-/// change, and an even number from 2 to 2 ^ 33 - 2 else.
+/// How far apart two values lie that a blob can tell: twice its maxZError. It is 1 where no value
+/// may change, and an even number from 2 to 2 ^ 33 - 2 else.
 #[derive(Clone, Copy, Debug, PartialEq, Eq)]
 pub struct Step {
     twice: u64,

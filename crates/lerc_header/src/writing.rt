@@ -103,11 +103,11 @@ fn put_doubles(header: &Header, out: &mut [u8], place: usize) -> usize
     put_double(out, place, bits_of(2 * header.greatest))
 }
 
-/// Lays the bytes of a header over the front of `out`, and answers how many they are: 62 in version 3,
-/// 66 in version 4. The bytes behind them stay.
+/// Lays the bytes of a header over the front of `out`, and answers how many they are: 62 in
+/// version 3, 66 in version 4. The bytes behind them stay.
 ///
-/// The header passes the tests that a header that is read passes (`IsHeader`). Zeros are written as +0.
-/// It takes no memory.
+/// The header passes the tests that a header that is read passes (`IsHeader`). Zeros are written
+/// as +0. It takes no memory.
 pub fn write_header(header: &Header, out: &mut [u8; 66]) -> usize
     requires { IsHeader header.now }
     ensures length { result ≡ head_length header.now.version }

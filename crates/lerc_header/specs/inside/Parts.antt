@@ -1,5 +1,5 @@
 -- What the parts of the reader have found.
-use Rattle.std.specs.Prelude.{◌≡◌, ℕ, ℤ, pos, ◌+◌, ◌*◌, ◌<◌, ◌≤◌, List}
+use Rattle.std.specs.Prelude.{◌≡◌, ℕ, pos, ◌+◌, ◌*◌, ◌<◌, ◌≤◌, List}
 use Rattle.raster_values.specs.Raster.{IsShape}
 use Rattle.double_bits.specs.Halves.{HalfDouble}
 use Rattle.lerc_header.specs.declared.header.Version.{Version}

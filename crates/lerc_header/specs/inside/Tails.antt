@@ -14,11 +14,13 @@ range_faults v bytes =
     none)
 
 abbrev pub step_faults : Version → List ℕ → Faults BlobReason
-step_faults v bytes = unless (HasStep v bytes) (wrong BadError (38 + shift v)) (range_faults v bytes)
+step_faults v bytes =
+    unless (HasStep v bytes) (wrong BadError (38 + shift v)) (range_faults v bytes)
 
 abbrev pub kind_faults : Version → List ℕ → Faults BlobReason
 kind_faults v bytes =
-    unless (¬ IsWithin (pos 6) (pos 7) (i32_at bytes (34 + shift v))) (wrong FloatPixels (34 + shift v))
+    unless (¬ IsWithin (pos 6) (pos 7) (i32_at bytes (34 + shift v)))
+    (wrong FloatPixels (34 + shift v))
     (unless (IsWithin (pos 0) (pos 5) (i32_at bytes (34 + shift v))) (wrong BadType (34 + shift v))
     (step_faults v bytes))
 

@@ -1,9 +1,9 @@
-use Rattle.std.proofs.Common.{◌≡◌, ℕ, ℤ, pos, ◌+◌, ◌*◌, sym, ap, ◌∙◌, arith}
+use Rattle.std.proofs.Common.{◌≡◌, pos, ◌+◌, sym, ap, ◌∙◌, arith}
 use Rattle.std.specs.Prelude.{unsigned_abs}
 use Rattle.std.proofs.lemmas.Int.{ints}
 use mir.Syntax.{w32}
 use mir.Val.{to_z, of_z}
-use Rattle.lerc_header.specs.Head.{i32_at, shift}
+use Rattle.lerc_header.specs.Head.{i32_at}
 use Rattle.lerc_header.proofs.ReadParts.{shift_below}
 use Rattle.lerc_header.proofs.reading.counts_at.Goals as goal
 

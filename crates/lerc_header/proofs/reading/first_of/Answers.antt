@@ -1,4 +1,4 @@
-use Rattle.std.proofs.Common.{◌≡◌, refl, sym, subst, inl, inr, arith, Result}
+use Rattle.std.proofs.Common.{refl, sym, subst, inl, inr, arith, Result}
 use Rattle.std.specs.Prelude.{IfErr}
 use Rattle.lerc_header.specs.declared.header.Header.{Header}
 use Rattle.lerc_header.specs.declared.header.Version.TheVariants.{V3, V4}

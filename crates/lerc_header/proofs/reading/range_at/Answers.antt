@@ -1,4 +1,4 @@
-use Rattle.std.proofs.Common.{◌≡◌, ℤ, ◌+◌, ◌≤ℤ◌, ◌*ℤ◌, pos, refl, sym, ap, ◌∙◌, subst, arith, Result}
+use Rattle.std.proofs.Common.{◌≡◌, ℤ, ◌+◌, ◌≤ℤ◌, sym, subst, arith, Result}
 use Rattle.std.specs.Prelude.{IfErr}
 use Rattle.std.proofs.lemmas.Int.{ints}
 use mir.Syntax.{w64}

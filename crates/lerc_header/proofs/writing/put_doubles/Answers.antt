@@ -1,8 +1,8 @@
-use Rattle.std.proofs.Common.{◌≡◌, ℤ, pos, ◌*ℤ◌, ◌++◌, ◌<◌, ◌^◌, sym, ap, ◌∙◌, subst, arith}
+use Rattle.std.proofs.Common.{◌≡◌, pos, ◌*ℤ◌, ◌++◌, ◌<◌, ◌^◌, sym, ap, ◌∙◌, subst, arith}
 use Rattle.std.specs.Prelude.{unsigned_abs}
 use Rattle.std.proofs.lemmas.Int.{ints}
 use mir.Syntax.{w64}
-use mir.Val.{to_z, of_z}
+use mir.Val.{to_z}
 use Rattle.byteorder.specs.Endian.{little_bytes}
 use Rattle.double_bits.specs.Bits.{half_bits}
 use Rattle.lerc_header.specs.inside.Laid.{AreLaid}

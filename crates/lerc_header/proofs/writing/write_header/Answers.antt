@@ -1,7 +1,6 @@
 use Rattle.std.proofs.Common.{◌≡◌, ◌++◌, drop, sym, subst}
 use Rattle.lerc_header.specs.Head.{HeadAt}
 use Rattle.lerc_header.specs.Written.{front_bytes, shape_bytes, counts_bytes, doubles_bytes, field_bytes, head_bytes}
-use Rattle.lerc_header.specs.inside.Laid.{AreLaid}
 use Rattle.lerc_header.proofs.LaidLemmas.{laid_join, laid_front}
 use Rattle.lerc_header.proofs.WrittenHeads.{head_stands}
 use Rattle.lerc_header.proofs.writing.write_header.Goals as goal
