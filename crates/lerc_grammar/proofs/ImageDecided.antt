@@ -16,8 +16,8 @@ use Rattle.raster_values.proofs.Blank.{none_on}
 use Rattle.lerc_header.specs.declared.header.Header.{Header}
 use Rattle.lerc_header.specs.declared.header.Version.{Version}
 use Rattle.lerc_header.specs.declared.header.Version.TheVariants.{V3, V4}
-use Rattle.lerc_grammar.specs.declared.fault.BlobReason.{BlobReason}
-use Rattle.lerc_grammar.specs.declared.fault.BlobReason.TheVariants.{NotYet, BadSweep, PastEnd, Leftover}
+use Rattle.lerc_header.specs.declared.fault.BlobReason.{BlobReason}
+use Rattle.lerc_header.specs.declared.fault.BlobReason.TheVariants.{NotYet, BadSweep, PastEnd, Leftover}
 use Rattle.lerc_grammar.specs.Mask.{count_of}
 use Rattle.lerc_grammar.specs.Image.{Ends, IsFront, front_faults, AreEqual, one_list, IsBare, value_count, IsCoded, sweep, IsImage, empty, constant, ranges, coded, sweep_faults, Insides, insides, coded_of, behind_front, image_faults}
 use Rattle.lerc_grammar.proofs.Bytes.{bytes_in_take, bytes_in_drop}

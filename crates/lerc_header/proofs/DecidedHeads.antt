@@ -8,7 +8,7 @@ use Rattle.first_fault.specs.Parts.{HasFault}
 use Rattle.first_fault.proofs.Decided.{decided_unless}
 use Rattle.raster_values.specs.declared.kind.PixelType.{PixelType}
 use Rattle.raster_values.specs.declared.kind.PixelType.TheVariants.{I8, U8, I16, U16, I32, U32}
-use Rattle.raster_values.specs.Kind.{InRange, least_of, greatest_of, code_of}
+use Rattle.raster_values.specs.PixelType.{InRange, type_least, type_greatest, code_of}
 use Rattle.raster_values.specs.Raster.{IsShape}
 use Rattle.double_bits.specs.Halves.{HalfDouble}
 use Rattle.double_bits.proofs.HalfBits.{half_or_none}
@@ -156,7 +156,7 @@ value_in bytes place kind h z is e (inr u) = inr (λ y w.
     u (subst (InRange kind) equal w.1)))
 
 value_half : (bytes : List ℕ) (place : ℕ) (kind : PixelType) (h : ℤ) → HalfDouble (double_at bytes place) h → ((z : ℤ) × (h ≡ pos 2 *ℤ z)) ⊎ ((z : ℤ) → h ≡ pos 2 *ℤ z → ⊥) → HasValue bytes place kind
-value_half bytes place kind h is (inl z) = value_in bytes place kind h z.0 is z.1 (both_dec (least_of kind ≤ℤ z.0) (z.0 ≤ℤ greatest_of kind) (le_dec (least_of kind) z.0) (le_dec z.0 (greatest_of kind)))
+value_half bytes place kind h is (inl z) = value_in bytes place kind h z.0 is z.1 (both_dec (type_least kind ≤ℤ z.0) (z.0 ≤ℤ type_greatest kind) (le_dec (type_least kind) z.0) (le_dec z.0 (type_greatest kind)))
 value_half bytes place kind h is (inr never) = inr (λ y w. never y (one_half (double_at bytes place) h (pos 2 *ℤ y) is w.0))
 
 value_of_half : (bytes : List ℕ) (place : ℕ) (kind : PixelType) → ((h : ℤ) × HalfDouble (double_at bytes place) h) ⊎ ((h : ℤ) → ¬ HalfDouble (double_at bytes place) h) → HasValue bytes place kind
