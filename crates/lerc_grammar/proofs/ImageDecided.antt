@@ -51,6 +51,10 @@ no_value : (p : Option (List ℤ)) → is_some p ≡ false → IfSome p (λ valu
 no_value None e = tt
 no_value (Some values) e = cc
 
+-- where no mark is set no pixel has values
+pub none_each : (r : Pixels) → count_of (marks_of r) ≡ 0 → EachValid r (λ values. ⊥)
+none_each r nothing = λ k below. no_value (get_or r.pixels k None) (sym (get_or-map is_some r.pixels k None false below) ∙ none_on (marks_of r) nothing k)
+
 none_valid : (h : Header) (marks : List Bool) → IsMarked h marks → h.valid ≡ 0 → HasImage h marks []
 none_valid h marks m z =
     let nothing : count_of marks ≡ 0 = m.count ∙ z in
