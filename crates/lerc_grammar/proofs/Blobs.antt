@@ -7,14 +7,14 @@ use Rattle.lerc_header.specs.declared.header.Header.{Header}
 use Rattle.lerc_header.specs.Head.{HeadAt, head_length}
 use Rattle.lerc_header.specs.Checksum.{sum_of}
 use Rattle.lerc_header.proofs.HeadLemmas.{one_head}
-use Rattle.lerc_grammar.specs.declared.fault.BlobReason.TheVariants.{BadChecksum}
+use Rattle.lerc_header.specs.declared.fault.BlobReason.TheVariants.{BadChecksum}
 use Rattle.first_fault.specs.Faults.{wrong, moved}
 use Rattle.lerc_grammar.specs.Mask.{IsMask, mask_faults}
 use Rattle.lerc_grammar.specs.Image.{IsImage, image_faults}
 use Rattle.raster_values.specs.Flat.{marks_of}
 use Rattle.lerc_grammar.specs.Blob.{Blob, IsJoinOf, BlobParts, body_faults, blob_faults}
 use Rattle.lerc_grammar.specs.Laws.{NoTwoRasters}
-use Rattle.lerc_grammar.proofs.Fronts.{split_front}
+use Rattle.lerc_grammar.proofs.Bytes.{split_front}
 use Rattle.lerc_grammar.proofs.Masks.{mask_part}
 use Rattle.lerc_grammar.proofs.Alike.{AreAlike}
 use Rattle.lerc_grammar.proofs.Images.{one_image, empty-image, single-image}

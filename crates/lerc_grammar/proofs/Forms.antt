@@ -6,9 +6,9 @@ use Rattle.first_fault.specs.Faults.{Faults, none, wrong, choice, unless, moved,
 use Rattle.first_fault.specs.Parts.{IsPart, IsSingle, IsEmpty}
 use Rattle.first_fault.proofs.Parts.{single-none, single-moved, empty-choice, empty-failed, empty-moved, empty-ends, empty-in_order, same_rest}
 use Rattle.lerc_header.specs.declared.header.Header.{Header}
-use Rattle.lerc_grammar.specs.declared.fault.BlobReason.{BlobReason}
-use Rattle.lerc_grammar.specs.declared.fault.BlobReason.TheVariants.{NotYet, BadSweep, PastEnd, Leftover}
-use Rattle.lerc_grammar.specs.declared.fault.BlobFault.{BlobFault}
+use Rattle.lerc_header.specs.declared.fault.BlobReason.{BlobReason}
+use Rattle.lerc_header.specs.declared.fault.BlobReason.TheVariants.{NotYet, BadSweep, PastEnd, Leftover}
+use Rattle.lerc_header.specs.declared.fault.BlobFault.{BlobFault}
 use Rattle.lerc_grammar.specs.declared.outline.MaskForm.{MaskForm}
 use Rattle.lerc_grammar.specs.declared.outline.ImageForm.{ImageForm}
 use Rattle.lerc_grammar.specs.declared.outline.ImageForm.TheVariants.{Empty, Constant, Ranges, Sweep, Blocks, Delta, Plain}

@@ -16,8 +16,8 @@ use Rattle.raster_values.proofs.Blank.{none_on}
 use Rattle.lerc_header.specs.declared.header.Header.{Header}
 use Rattle.lerc_header.specs.declared.header.Version.{Version}
 use Rattle.lerc_header.specs.declared.header.Version.TheVariants.{V3, V4}
-use Rattle.lerc_grammar.specs.declared.fault.BlobReason.{BlobReason}
-use Rattle.lerc_grammar.specs.declared.fault.BlobReason.TheVariants.{NotYet, BadSweep, PastEnd, Leftover}
+use Rattle.lerc_header.specs.declared.fault.BlobReason.{BlobReason}
+use Rattle.lerc_header.specs.declared.fault.BlobReason.TheVariants.{NotYet, BadSweep, PastEnd, Leftover}
 use Rattle.lerc_grammar.specs.Mask.{count_of}
 use Rattle.lerc_grammar.specs.Image.{Ends, IsFront, front_faults, AreEqual, one_list, IsBare, value_count, IsCoded, sweep, IsImage, empty, constant, ranges, coded, sweep_faults, Insides, insides, coded_of, behind_front, image_faults}
 use Rattle.lerc_grammar.proofs.Bytes.{bytes_in_take, bytes_in_drop}
@@ -50,6 +50,10 @@ ends_here bytes (inr more) go = inr (record { place = 0; reason = Leftover; faul
 no_value : (p : Option (List ℤ)) → is_some p ≡ false → IfSome p (λ values. ⊥)
 no_value None e = tt
 no_value (Some values) e = cc
+
+-- where no mark is set no pixel has values
+pub none_each : (r : Pixels) → count_of (marks_of r) ≡ 0 → EachValid r (λ values. ⊥)
+none_each r nothing = λ k below. no_value (get_or r.pixels k None) (sym (get_or-map is_some r.pixels k None false below) ∙ none_on (marks_of r) nothing k)
 
 none_valid : (h : Header) (marks : List Bool) → IsMarked h marks → h.valid ≡ 0 → HasImage h marks []
 none_valid h marks m z =

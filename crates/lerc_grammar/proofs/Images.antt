@@ -13,10 +13,10 @@ use Rattle.raster_values.specs.Values.{AreValues}
 use Rattle.lerc_header.specs.declared.header.Header.{Header}
 use Rattle.lerc_header.specs.declared.header.Version.{Version}
 use Rattle.lerc_header.specs.declared.header.Version.TheVariants.{V3, V4}
-use Rattle.lerc_grammar.specs.declared.fault.BlobReason.{BlobReason}
-use Rattle.lerc_grammar.specs.declared.fault.BlobReason.TheVariants.{NotYet, BadSweep, PastEnd, Leftover}
+use Rattle.lerc_header.specs.declared.fault.BlobReason.{BlobReason}
+use Rattle.lerc_header.specs.declared.fault.BlobReason.TheVariants.{NotYet, BadSweep, PastEnd, Leftover}
 use Rattle.lerc_grammar.specs.Image.{Ends, IsFront, front_faults, AreEqual, one_list, IsBare, value_count, IsCoded, sweep, IsImage, empty, constant, ranges, coded, sweep_faults, Insides, insides, coded_of, behind_front, image_faults_of, image_faults}
-use Rattle.lerc_grammar.proofs.Fronts.{split_front}
+use Rattle.lerc_grammar.proofs.Bytes.{split_front}
 use Rattle.raster_values.proofs.Spelled.{values_once}
 use Rattle.raster_values.proofs.Deep.{raster_deep}
 use Rattle.lerc_grammar.proofs.Alike.{AreAlike}

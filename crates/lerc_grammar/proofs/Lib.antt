@@ -1,13 +1,12 @@
 pub mod Alike
 pub mod Blobs
-pub mod Fronts
-pub mod Heads
 pub mod Images
 pub mod Masks
 pub mod More
 pub mod Verdicts
 pub mod Exact
 pub mod Lists
+pub mod BlobDecided
 pub mod Looking
 pub mod Counts
 pub mod Existing

@@ -12,7 +12,7 @@ use Rattle.raster_values.specs.Values.{AreValues}
 use Rattle.lerc_header.specs.declared.header.Header.{Header}
 use Rattle.lerc_header.specs.declared.header.Version.{Version}
 use Rattle.lerc_header.specs.declared.header.Version.TheVariants.{V3, V4}
-use Rattle.lerc_grammar.specs.Image.{Ends, IsFront, AreEqual}
+use Rattle.lerc_grammar.specs.Image.{Ends, IsFront, AreEqual, one_list}
 use Rattle.lerc_grammar.specs.inside.Spans.{IsFrontSpan}
 use Rattle.raster_values.proofs.Spelled.{values_once, written_values, values_there}
 use Rattle.raster_values.proofs.Pack.{length-values_bytes}
@@ -84,3 +84,27 @@ front_span_v4 h rest size equal v are size_is long tells =
       stands = subst (λ (w : Version). IsFront h w bytes front) (sym v) (record { least = l.least; greatest = l.greatest }, (refl, (l.least_long, (l.greatest_long, l.values))));
       tells = (λ yes. same.1 (least ∙ tells.0 yes ∙ sym greatest), λ e. tells.1 (sym least ∙ same.0 e ∙ greatest));
     }
+
+-- ---- an image that ends behind its lists
+
+front_length : (h : Header) (v : Version) (rest : List ℕ) (front : Option Ends) → IsFront h v rest front → AreEqual front → length rest ≡ h.depth * bytes_of h.kind + h.depth * bytes_of h.kind
+front_length h V3 rest front f equal = absurd (subst AreEqual f.1 equal)
+front_length h V4 rest front (e, (is, (l, (g, values)))) equal =
+    let n : length (e.least ++ e.greatest) ≡ h.depth + h.depth = omega (arith, length-append e.least e.greatest, l, g) in
+    values.size ∙ ap (λ k. k * bytes_of h.kind) n ∙ (let t : (h.depth + h.depth) * bytes_of h.kind ≡ h.depth * bytes_of h.kind + h.depth * bytes_of h.kind = omega arith in t)
+
+front_least : (h : Header) (v : Version) (rest : List ℕ) (front : Option Ends) → IsFront h v rest front → AreEqual front → (l : TwoLists h.kind h.depth rest) → l.least ≡ one_list front
+front_least h V3 rest front f equal l = absurd (subst AreEqual f.1 equal)
+front_least h V4 rest front (e, (is, (le, (ge, values)))) equal l =
+    let joins : l.least ++ l.greatest ≡ e.least ++ e.greatest = values_once h.kind rest _ _ l.values values in
+    sym (take_at l.least l.greatest h.depth l.least_long) ∙ ap (take h.depth) joins ∙ take_at e.least e.greatest h.depth le ∙ ap one_list (sym is)
+
+pub front_list_long : (h : Header) (rest : List ℕ) (front : Option Ends) → IsFront h h.version rest front → AreEqual front → length rest ≡ h.depth * bytes_of h.kind + h.depth * bytes_of h.kind
+front_list_long h rest front f equal = front_length h h.version rest front f equal
+
+pub first_list : (h : Header) (rest : List ℕ) (front : Option Ends) (list : List ℤ) → AreBytes rest → IsFront h h.version rest front → AreEqual front
+    → AreValues h.kind (take (h.depth * bytes_of h.kind) rest) list → list ≡ one_list front
+first_list h rest front list are f equal values =
+    let l = two_lists h.kind h.depth rest are (front_length h h.version rest front f equal) in
+    let first : list ≡ l.least = values_once h.kind (values_bytes h.kind l.least) list l.least (subst (λ u. AreValues h.kind u list) l.least_bytes values) (written_values h.kind l.least l.least_in) in
+    first ∙ front_least h h.version rest front f equal l

@@ -5,8 +5,8 @@ use Rattle.std.proofs.lemmas.List.{append_assoc, length-append}
 use Rattle.first_fault.specs.Faults.{Faults, none, wrong, choice, moved, ends}
 use Rattle.lerc_header.specs.declared.header.Header.{Header}
 use Rattle.lerc_header.specs.Head.{i32_at}
-use Rattle.lerc_grammar.specs.declared.fault.BlobReason.{BlobReason}
-use Rattle.lerc_grammar.specs.declared.fault.BlobReason.TheVariants.{BadMaskLength, MaskMissing, PastEnd, Leftover}
+use Rattle.lerc_header.specs.declared.fault.BlobReason.{BlobReason}
+use Rattle.lerc_header.specs.declared.fault.BlobReason.TheVariants.{BadMaskLength, MaskMissing, PastEnd, Leftover}
 use Rattle.lerc_grammar.specs.Mask.{IsAlike, IsMaskLength, mask_faults_of, length_of, mixed_of, counted_of, in_mask_of, runs_faults, mask_faults}
 use Rattle.lerc_grammar.specs.Image.{Ends, IsFront, AreEqual, IsBare, sweep_faults, Insides, insides, outside, coded_of, behind_front, image_faults_of, image_faults}
 use Rattle.lerc_grammar.specs.Outline.{HasLists}

@@ -10,12 +10,12 @@ use Rattle.mask_runs.specs.Fault.{FirstRunFault}
 use Rattle.mask_runs.proofs.Decided.{RunsOrFault, runs_decided}
 use Rattle.raster_values.specs.Order.{marks_in}
 use Rattle.lerc_header.specs.Head.{i32_at}
-use Rattle.lerc_grammar.specs.declared.fault.BlobReason.{BlobReason}
-use Rattle.lerc_grammar.specs.declared.fault.BlobReason.TheVariants.{BadMaskLength, BadMaskCount, BadRun, MaskMissing, PastEnd}
+use Rattle.lerc_header.specs.declared.fault.BlobReason.{BlobReason}
+use Rattle.lerc_header.specs.declared.fault.BlobReason.TheVariants.{BadMaskLength, BadMaskCount, BadRun, MaskMissing, PastEnd}
 use Rattle.lerc_grammar.specs.Mask.{IsMask, alike, mixed, IsAlike, IsMaskLength, mask_size, count_of, runs_faults, in_mask_of, mask_faults}
 use Rattle.lerc_grammar.proofs.Bytes.{all_bytes, bytes_in_take, bytes_in_drop}
 use Rattle.lerc_grammar.proofs.Cases.{Decided, decide_le, decide_nat, decide_int, decide_or, some_nat, its_fault, or_moved, or_failing}
-use Rattle.lerc_grammar.proofs.Fronts.{i32_front}
+use Rattle.lerc_header.proofs.Fronts.{i32_front}
 use Rattle.lerc_grammar.proofs.Masks.{length_faults, mixed_faults, counted_faults}
 
 abbrev MaskOr : ℕ → ℕ → List ℕ → Faults BlobReason → Type 0

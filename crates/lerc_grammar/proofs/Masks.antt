@@ -5,12 +5,14 @@ use Rattle.std.proofs.lemmas.List.{length-append, length-drop, drop-append-le, t
 use Rattle.mask_runs.specs.Runs.{Runs, end_mark}
 use Rattle.mask_runs.proofs.Stops.{one_mask, one_fault, runs_or_fault}
 use Rattle.lerc_header.specs.Head.{i32_at}
-use Rattle.lerc_grammar.specs.declared.fault.BlobReason.{BlobReason}
-use Rattle.lerc_grammar.specs.declared.fault.BlobReason.TheVariants.{BadMaskLength, BadMaskCount, MaskMissing, PastEnd}
+use Rattle.lerc_header.specs.declared.fault.BlobReason.{BlobReason}
+use Rattle.lerc_header.specs.declared.fault.BlobReason.TheVariants.{BadMaskLength, BadMaskCount, MaskMissing, PastEnd}
 use Rattle.first_fault.specs.Faults.{Faults, none, wrong, choice, unless, moved}
 use Rattle.lerc_grammar.specs.Mask.{IsMask, alike, mixed, IsAlike, IsMaskLength, mask_size, count_of, in_runs, miscounted, runs_faults, in_mask_of, counted_of, mixed_of, length_of, mask_faults}
 use Rattle.raster_values.specs.Order.{marks_in}
-use Rattle.lerc_grammar.proofs.Fronts.{i32_front, split_front, number_once}
+use Rattle.lerc_header.proofs.Fronts.{i32_front}
+use Rattle.lerc_grammar.proofs.Bytes.{split_front}
+use Rattle.lerc_header.proofs.HeadLemmas.{number_once}
 use Rattle.first_fault.specs.Parts.{IsPart, IsSingle, IsEmpty}
 use Rattle.first_fault.proofs.Parts.{single-none, single-choice, single-unless, single-moved, passed, failed}
 

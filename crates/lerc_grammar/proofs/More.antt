@@ -5,10 +5,11 @@ use Rattle.lerc_header.specs.declared.header.Header.{Header}
 use Rattle.lerc_header.specs.declared.header.Version.{Version}
 use Rattle.lerc_header.specs.Head.{HeadAt, head_length}
 use Rattle.lerc_header.proofs.HeadLemmas.{one_head}
-use Rattle.lerc_grammar.specs.declared.fault.BlobReason.{BlobReason}
-use Rattle.lerc_grammar.specs.Header.{HasKey, HasVersion}
+use Rattle.lerc_header.specs.declared.fault.BlobReason.{BlobReason}
+use Rattle.lerc_header.specs.HeadFaults.{HasKey, HasVersion}
 use Rattle.lerc_grammar.specs.Verdict.{FirstFault, of_key, of_field, of_blob, IsMore, Done}
-use Rattle.lerc_grammar.proofs.Heads.{head_of_take, head_in_take, empty-key, one_version}
+use Rattle.lerc_header.proofs.Prefixes.{head_of_take, head_in_take}
+use Rattle.lerc_header.proofs.FaultLemmas.{empty-key, one_version}
 use Rattle.lerc_grammar.proofs.Verdicts.{take_same, version_of, no_key_fault, no_field_fault, done_head, fault_stays, verdict_stays}
 
 -- fewer bytes than ten

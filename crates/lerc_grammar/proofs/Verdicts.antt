@@ -6,13 +6,14 @@ use Rattle.lerc_header.specs.declared.header.Header.{Header}
 use Rattle.lerc_header.specs.declared.header.Version.{Version}
 use Rattle.lerc_header.specs.Head.{HeadAt, head_length}
 use Rattle.lerc_header.proofs.HeadLemmas.{one_head}
-use Rattle.lerc_grammar.specs.declared.fault.BlobReason.{BlobReason}
-use Rattle.lerc_grammar.specs.Header.{HasKey, HasVersion, key_faults, field_faults}
+use Rattle.lerc_header.specs.declared.fault.BlobReason.{BlobReason}
+use Rattle.lerc_header.specs.HeadFaults.{HasKey, HasVersion, key_faults, field_faults}
 use Rattle.lerc_grammar.specs.Blob.{Blob, blob_faults}
 use Rattle.lerc_grammar.specs.Verdict.{FirstFault, of_key, of_field, of_blob, IsDone, More, Done, Fault}
 use Rattle.lerc_grammar.specs.Laws.{OneFirstFault, OneVerdict, VerdictStays}
 use Rattle.lerc_grammar.proofs.Blobs.{single-blob, blob_or_fault, one_raster}
-use Rattle.lerc_grammar.proofs.Heads.{HaveSame, same_front, head_of_take, head_in_take, single-key, single-fields, empty-key, empty-fields, one_version}
+use Rattle.lerc_header.proofs.Prefixes.{HaveSame, same_front, head_of_take, head_in_take}
+use Rattle.lerc_header.proofs.FaultLemmas.{single-key, single-fields, empty-key, empty-fields, one_version}
 use Rattle.first_fault.specs.Parts.{IsEmpty}
 
 -- ---- what the first bytes say

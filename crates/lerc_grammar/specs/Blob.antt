@@ -6,8 +6,8 @@ use Rattle.raster_values.specs.Flat.{marks_of}
 use Rattle.lerc_header.specs.declared.header.Header.{Header}
 use Rattle.lerc_header.specs.Head.{HeadAt, head_length}
 use Rattle.lerc_header.specs.Checksum.{sum_of}
-use Rattle.lerc_grammar.specs.declared.fault.BlobReason.{BlobReason}
-use Rattle.lerc_grammar.specs.declared.fault.BlobReason.TheVariants.{BadChecksum}
+use Rattle.lerc_header.specs.declared.fault.BlobReason.{BlobReason}
+use Rattle.lerc_header.specs.declared.fault.BlobReason.TheVariants.{BadChecksum}
 use Rattle.lerc_grammar.specs.Mask.{IsMask, mask_faults}
 use Rattle.lerc_grammar.specs.Image.{IsImage, image_faults}
 

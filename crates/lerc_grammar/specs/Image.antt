@@ -8,8 +8,8 @@ use Rattle.raster_values.specs.Flat.{EachValid}
 use Rattle.lerc_header.specs.declared.header.Header.{Header}
 use Rattle.lerc_header.specs.declared.header.Version.{Version}
 use Rattle.lerc_header.specs.declared.header.Version.TheVariants.{V3, V4}
-use Rattle.lerc_grammar.specs.declared.fault.BlobReason.{BlobReason}
-use Rattle.lerc_grammar.specs.declared.fault.BlobReason.TheVariants.{NotYet, BadSweep, PastEnd, Leftover}
+use Rattle.lerc_header.specs.declared.fault.BlobReason.{BlobReason}
+use Rattle.lerc_header.specs.declared.fault.BlobReason.TheVariants.{NotYet, BadSweep, PastEnd, Leftover}
 
 -- how many values an image has
 abbrev pub value_count : Header → ℕ

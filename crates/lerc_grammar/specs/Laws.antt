@@ -1,7 +1,7 @@
 -- What holds of the definitions. Each is the contract of a function in src/laws.rt.
 use Rattle.std.specs.Prelude.{◌≡◌, ℕ, List, ◌++◌}
 use Rattle.raster_values.specs.Raster.{Pixels}
-use Rattle.lerc_grammar.specs.declared.fault.BlobReason.{BlobReason}
+use Rattle.lerc_header.specs.declared.fault.BlobReason.{BlobReason}
 use Rattle.first_fault.specs.Parts.{AreBytes}
 use Rattle.lerc_grammar.specs.Blob.{Blob}
 use Rattle.lerc_grammar.specs.Verdict.{FirstFault, Verdict, More, IsVerdict}

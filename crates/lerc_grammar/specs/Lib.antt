@@ -1,5 +1,4 @@
 pub mod Blob
-pub mod Header
 pub mod Image
 pub mod Laws
 pub mod Mask

@@ -7,8 +7,8 @@ use Rattle.mask_runs.specs.Runs.{Runs}
 use Rattle.mask_runs.specs.Fault.{FirstRunFault}
 use Rattle.raster_values.specs.Order.{marks_in}
 use Rattle.lerc_header.specs.Head.{i32_at}
-use Rattle.lerc_grammar.specs.declared.fault.BlobReason.{BlobReason}
-use Rattle.lerc_grammar.specs.declared.fault.BlobReason.TheVariants.{BadMaskLength, BadRun, BadMaskCount, MaskMissing, PastEnd}
+use Rattle.lerc_header.specs.declared.fault.BlobReason.{BlobReason}
+use Rattle.lerc_header.specs.declared.fault.BlobReason.TheVariants.{BadMaskLength, BadRun, BadMaskCount, MaskMissing, PastEnd}
 
 -- how many bytes hold one bit for each of so many pixels
 abbrev pub mask_size : ℕ → ℕ

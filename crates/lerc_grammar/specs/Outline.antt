@@ -4,8 +4,8 @@ use Rattle.first_fault.specs.Faults.{Faults, none, wrong, unless, moved, in_orde
 use Rattle.lerc_header.specs.declared.header.Header.{Header}
 use Rattle.lerc_header.specs.Head.{HeadAt, i32_at, head_length}
 use Rattle.lerc_header.specs.Checksum.{sum_of}
-use Rattle.lerc_grammar.specs.declared.fault.BlobReason.{BlobReason}
-use Rattle.lerc_grammar.specs.declared.fault.BlobReason.TheVariants.{BadChecksum, Truncated}
+use Rattle.lerc_header.specs.declared.fault.BlobReason.{BlobReason}
+use Rattle.lerc_header.specs.declared.fault.BlobReason.TheVariants.{BadChecksum, Truncated}
 use Rattle.lerc_grammar.specs.declared.outline.MaskForm.{MaskForm}
 use Rattle.lerc_grammar.specs.declared.outline.MaskForm.TheVariants.{Empty as NoneValid, Full, Runs}
 use Rattle.lerc_grammar.specs.declared.outline.ImageForm.{ImageForm}

@@ -4,9 +4,9 @@ use Rattle.raster_values.specs.Raster.{Pixels}
 use Rattle.lerc_header.specs.declared.header.Header.{Header}
 use Rattle.lerc_header.specs.declared.header.Version.{Version}
 use Rattle.lerc_header.specs.Head.{HeadAt, head_length}
-use Rattle.lerc_grammar.specs.declared.fault.BlobReason.{BlobReason}
-use Rattle.lerc_grammar.specs.declared.fault.BlobReason.TheVariants.{Truncated, Leftover}
-use Rattle.lerc_grammar.specs.Header.{HasKey, HasVersion, key_faults, field_faults}
+use Rattle.lerc_header.specs.declared.fault.BlobReason.{BlobReason}
+use Rattle.lerc_header.specs.declared.fault.BlobReason.TheVariants.{Truncated, Leftover}
+use Rattle.lerc_header.specs.HeadFaults.{HasKey, HasVersion, key_faults, field_faults}
 use Rattle.lerc_grammar.specs.Blob.{Blob, blob_faults}
 
 -- A fault is decided late: that of key and version by ten bytes, that of another field of the header by

@@ -1,6 +1,6 @@
 //! Laws of the definitions.
 
-ghost use Rattle.lerc_grammar.specs.Laws.{NoTwoRasters, OneFirstFault, OneVerdict, VerdictStays};
+ghost use Rattle.lerc_grammar.specs.Laws.{NoTwoRasters, OneFirstFault, OneVerdict, SomeVerdict, VerdictStays};
 
 /// A law: no bytes have two rasters.
 pub fn no_two_rasters()
@@ -20,4 +20,9 @@ pub fn one_verdict()
 /// A law: a verdict other than More stays, whatever follows.
 pub fn verdicts_stay()
     ensures { VerdictStays }
+{}
+
+/// A law: bytes have a verdict.
+pub fn some_verdict()
+    ensures { SomeVerdict }
 {}

@@ -7,14 +7,13 @@ ghost use Rattle.lerc_header.specs.Head.{HeadAt, i32_at, head_length};
 ghost use Rattle.lerc_grammar.specs.Mask.{IsAlike, mask_faults_of};
 ghost use Rattle.lerc_grammar.specs.Image.{Ends, IsBare, front_faults, outside, image_faults_of, coded_of};
 ghost use Rattle.lerc_grammar.specs.Outline.{IsFormOf, IsImageForm, IsMaskForm, image_part_faults, image_place, mask_part_faults};
-ghost use Rattle.lerc_grammar.specs.declared.fault.BlobFault.{BlobFault};
+ghost use Rattle.lerc_header.specs.declared.fault.BlobFault.{BlobFault};
 ghost use Rattle.lerc_grammar.specs.declared.outline.ImageForm.{ImageForm};
 ghost use Rattle.lerc_grammar.specs.declared.outline.MaskForm.{MaskForm};
 ghost use Rattle.lerc_grammar.specs.inside.Spans.{IsFormBehind, IsFrontSpan, IsMaskSpan};
 
-use crate::fault::{BlobFault, BlobReason};
 use byteorder::{ByteOrder, LittleEndian};
-use lerc_header::{Header, Version};
+use lerc_header::{BlobFault, BlobReason, Header, Version};
 
 /// The form of a blob's mask.
 #[derive(Clone, Copy, Debug, PartialEq, Eq)]
@@ -108,16 +107,6 @@ fn mask_span(rest: &[u8], pixels: u64, valid: u64) -> Result<u32, BlobFault>
     Ok(size)
 }
 
-/// How many bytes a header of this version takes.
-fn head_len(version: Version) -> usize
-    ensures { result ≡ head_length version }
-{
-    match version {
-        Version::V3 => 62,
-        Version::V4 => 66,
-    }
-}
-
 /// The form of the mask, or what is wrong with it first.
 fn first_mask_form(blob: &[u8], header: &Header) -> Result<MaskForm, BlobFault>
     requires long { head_length header.now.version ≤ length blob.now }
@@ -125,7 +114,7 @@ fn first_mask_form(blob: &[u8], header: &Header) -> Result<MaskForm, BlobFault>
     ensures fault { IfErr result (λ f.
         mask_part_faults header.now blob.now f.place f.reason) }
 {
-    let head = head_len(header.version);
+    let head = header.version.head_length();
     let pixels = u64::from(header.rows) * u64::from(header.cols);
     let len = match mask_span(&blob[head..], pixels, u64::from(header.valid)) {
         Ok(len) => len,
@@ -280,7 +269,7 @@ fn place_behind(header: &Header, mask: &MaskForm) -> usize
     ensures value { result ≡ image_place header.now mask.now }
     ensures few { result < 2 ^ 33 }
 {
-    let head = head_len(header.version) + 4;
+    let head = header.version.head_length() + 4;
     match *mask {
         MaskForm::Empty => head,
         MaskForm::Full => head,

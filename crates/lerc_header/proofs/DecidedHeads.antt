@@ -1,14 +1,15 @@
 -- Bytes begin with a header or have a first fault: each test is decided.
-use Rattle.std.proofs.Common.{◌≡◌, ℕ, ℤ, pos, negsuc, ◌+◌, ◌*◌, ◌/◌, ◌%◌, ◌<◌, ◌≤◌, ◌≤ℤ◌, ◌*ℤ◌, zero, suc, List, [], ◌∷◌, length, take, refl, ap, ◌∙◌, subst, arith, ◌⊎◌, inl, inr, ⊎_elim}
+use Rattle.std.proofs.Common.{◌≡◌, ℕ, ℤ, pos, negsuc, ◌+◌, ◌*◌, ◌/◌, ◌%◌, ◌<◌, ◌≤◌, ◌≤ℤ◌, ◌*ℤ◌, zero, suc, List, [], ◌∷◌, length, take, refl, sym, ap, ◌∙◌, subst, arith, ◌⊎◌, inl, inr, ⊎_elim}
 use Rattle.std.specs.Prelude.{codes, ◌≢◌, ◌-ℤ◌}
 use Rattle.std.proofs.lemmas.Int.{ints, by_lt_z}
 use Rattle.std.proofs.lemmas.Bool.{cases_eq, cases_lt}
-use Rattle.first_fault.specs.Faults.{Faults, none, wrong, choice}
+use Rattle.first_fault.specs.Faults.{Faults, none, wrong, choice, unless}
 use Rattle.first_fault.specs.Parts.{HasFault}
 use Rattle.first_fault.proofs.Decided.{decided_unless}
 use Rattle.raster_values.specs.declared.kind.PixelType.{PixelType}
 use Rattle.raster_values.specs.declared.kind.PixelType.TheVariants.{I8, U8, I16, U16, I32, U32}
-use Rattle.raster_values.specs.Kind.{InRange, least_of, greatest_of, code_of}
+use Rattle.raster_values.specs.PixelType.{InRange, type_least, type_greatest, code_of}
+use Rattle.raster_values.specs.Raster.{IsShape}
 use Rattle.double_bits.specs.Halves.{HalfDouble}
 use Rattle.double_bits.proofs.HalfBits.{half_or_none}
 use Rattle.double_bits.proofs.OneHalf.{one_half}
@@ -17,9 +18,10 @@ use Rattle.lerc_header.specs.declared.fault.BlobReason.TheVariants.{Truncated, B
 use Rattle.lerc_header.specs.declared.header.Version.{Version}
 use Rattle.lerc_header.specs.declared.header.Version.TheVariants.{V3, V4}
 use Rattle.lerc_header.specs.declared.header.Header.{Header}
-use Rattle.lerc_header.specs.Head.{HeadAt, RangeAt, IsTwiceError, i32_at, u32_at, double_at, shift, head_length, depth_at}
-use Rattle.lerc_header.specs.HeadFaults.{HasKey, HasVersion, key_tests, key_faults, IsWithin, pixels_at, values_at, HasKind, HasStep, HasLeast, HasEnds, HasNone, field_faults, whole_faults, header_faults}
+use Rattle.lerc_header.specs.Head.{HeadAt, RangeAt, IsTwiceError, i32_at, u32_at, double_at, shift, head_length, depth_at, number_of}
+use Rattle.lerc_header.specs.HeadFaults.{HasKey, HasVersion, key_tests, key_faults, IsWithin, pixels_at, values_at, HasKind, HasStep, HasWhole, HasLeast, HasEnds, HasNone, field_faults, whole_faults, header_faults}
 use Rattle.lerc_header.proofs.HeadLemmas.{number_once, kind_once}
+use Rattle.lerc_header.proofs.FaultLemmas.{in_key_tests}
 use Rattle.lerc_header.proofs.ReadParts.{IsValueAt, not_least, not_ends, pixels_found}
 use Rattle.lerc_header.specs.declared.reading.Shape.{Shape}
 use Rattle.lerc_header.specs.declared.reading.Counts.{Counts}
@@ -154,7 +156,7 @@ value_in bytes place kind h z is e (inr u) = inr (λ y w.
     u (subst (InRange kind) equal w.1)))
 
 value_half : (bytes : List ℕ) (place : ℕ) (kind : PixelType) (h : ℤ) → HalfDouble (double_at bytes place) h → ((z : ℤ) × (h ≡ pos 2 *ℤ z)) ⊎ ((z : ℤ) → h ≡ pos 2 *ℤ z → ⊥) → HasValue bytes place kind
-value_half bytes place kind h is (inl z) = value_in bytes place kind h z.0 is z.1 (both_dec (least_of kind ≤ℤ z.0) (z.0 ≤ℤ greatest_of kind) (le_dec (least_of kind) z.0) (le_dec z.0 (greatest_of kind)))
+value_half bytes place kind h is (inl z) = value_in bytes place kind h z.0 is z.1 (both_dec (type_least kind ≤ℤ z.0) (z.0 ≤ℤ type_greatest kind) (le_dec (type_least kind) z.0) (le_dec z.0 (type_greatest kind)))
 value_half bytes place kind h is (inr never) = inr (λ y w. never y (one_half (double_at bytes place) h (pos 2 *ℤ y) is w.0))
 
 value_of_half : (bytes : List ℕ) (place : ℕ) (kind : PixelType) → ((h : ℤ) × HalfDouble (double_at bytes place) h) ⊎ ((h : ℤ) → ¬ HalfDouble (double_at bytes place) h) → HasValue bytes place kind
@@ -198,9 +200,9 @@ ends_dec v bytes kind has front = ends_in v bytes kind has front (eq_dec (i32_at
 
 -- ---- the header of fields that stand
 
--- the bytes begin with this header, which is of this version
-abbrev pub IsFound : Version → List ℕ → Header → Type 0
-IsFound v bytes h = HeadAt bytes h × (h.version ≡ v)
+pub record IsFound (v : Version) (bytes : List ℕ) (h : Header) : Type 0 where
+  pub head : HeadAt bytes h
+  pub version : h.version ≡ v
 
 shape_found : (v : Version) (bytes : List ℕ) → pos 1 ≤ℤ i32_at bytes 14 → pos 1 ≤ℤ i32_at bytes 18 → IsWithin (pos 1) (pos 65536) (depth_at v bytes) → values_at v bytes ≤ℤ pos 16777216 → (s : Shape) × IsShapeAt v bytes s
 shape_found v bytes t1 t2 t3 t4 =
@@ -293,8 +295,8 @@ found_head v bytes key version long s is c are kind has step range = (
     least = range.least;
     greatest = range.greatest;
   },
-  (
-    record {
+  record {
+    head = record {
       long = long;
       key = key;
       version = version;
@@ -314,9 +316,9 @@ found_head v bytes key version long s is c are kind has step range = (
       step = step.1.0;
       step_allowed = step.1.1;
       range = range.range;
-    },
-    refl,
-  ),
+    };
+    version = refl;
+  },
 )
 
 -- ---- a header, or its first fault
@@ -363,14 +365,15 @@ key_decided behind bytes go =
     decided_choice (HasVersion bytes V3) (behind V3) _ (eq_dec (i32_at bytes 6) (pos 3)) (λ three. go V3 key three) (λ no_three.
     decided_choice (HasVersion bytes V4) (behind V4) (wrong BadVersion 6) (eq_dec (i32_at bytes 6) (pos 4)) (λ four. go V4 key four) (λ no_four. inr (has_wrong BadVersion 6))))
 
-abbrev pub IsKeyed : List ℕ → Version → Type 0
-IsKeyed bytes v = HasKey bytes × HasVersion bytes v
+pub record IsKeyed (bytes : List ℕ) (v : Version) : Type 0 where
+  pub key : HasKey bytes
+  pub version : HasVersion bytes v
 
 pub key_or_fault : (bytes : List ℕ) → ((v : Version) × IsKeyed bytes v) ⊎ HasFault (key_faults bytes)
-key_or_fault bytes = key_decided (λ v. none) bytes (λ v key version. inl (v, (key, version)))
+key_or_fault bytes = key_decided (λ v. none) bytes (λ v key version. inl (v, record { key = key; version = version }))
 
 only_head : (v : Version) (bytes : List ℕ) (f : Faults BlobReason) → ((h : Header) × IsFound v bytes h) ⊎ HasFault f → ((h : Header) × HeadAt bytes h) ⊎ HasFault f
-only_head v bytes f (inl h) = inl (h.0, h.1.0)
+only_head v bytes f (inl h) = inl (h.0, h.1.head)
 only_head v bytes f (inr w) = inr w
 
 length_dec : (a b : ℕ) → IsDecidable (a ≤ b)

@@ -8,7 +8,7 @@ use Rattle.raster_values.specs.Values.{AreValues}
 use Rattle.raster_values.specs.Flat.{EachValid, marks_of}
 use Rattle.raster_values.specs.Order.{marks_in}
 use Rattle.lerc_header.specs.declared.header.Header.{Header}
-use Rattle.lerc_grammar.specs.declared.fault.BlobReason.{BlobReason}
+use Rattle.lerc_header.specs.declared.fault.BlobReason.{BlobReason}
 use Rattle.lerc_grammar.specs.Mask.{mask_size, count_of}
 use Rattle.lerc_grammar.specs.Image.{value_count}
 use Rattle.lerc_decode.specs.declared.body.BodyStop.{BodyStop}

@@ -1,6 +1,6 @@
 use Rattle.std.proofs.Common.{sym, subst}
 use Rattle.lerc_grammar.specs.Image.{outside, image_faults_of}
-use Rattle.lerc_grammar.specs.declared.fault.BlobFault.{BlobFault}
+use Rattle.lerc_header.specs.declared.fault.BlobFault.{BlobFault}
 use Rattle.lerc_grammar.proofs.Forms.{untrue, form_found, form_fault}
 use Rattle.lerc_grammar.proofs.outline.form_at.Goals as goal
 

@@ -1,4 +1,4 @@
-use Rattle.lerc_grammar.specs.declared.fault.BlobFault.{BlobFault}
+use Rattle.lerc_header.specs.declared.fault.BlobFault.{BlobFault}
 use Rattle.lerc_grammar.specs.Outline.{IsImageForm, image_part_faults}
 use Rattle.lerc_grammar.proofs.Exact.{exactly_ok, exactly_err}
 use Rattle.lerc_grammar.proofs.Forms.{one_form}
