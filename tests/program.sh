@@ -13,7 +13,7 @@
 set -u
 
 here=$(cd "$(dirname "$0")/.." && pwd) || exit 1
-program=${1:-$here/bin/lerc_cli}
+program=$(readlink -f "${1:-$here/bin/lerc_cli}")
 room=$(mktemp -d) || exit 1
 trap 'rm -rf "$room"' EXIT
 cd "$room" || exit 1
