@@ -21,13 +21,13 @@ use Rattle.raster_values.proofs.BlockLaws.{has_count}
 
 -- ---- places
 
-picks_flat : {A X Y : Type 0} (f : X → Y) (q : X → Bool) (g : A → List X) (xs : List A) → map f (filter q (flat_map g xs)) ≡ flat_map (λ i. map f (filter q (g i))) xs
+pub picks_flat : {A X Y : Type 0} (f : X → Y) (q : X → Bool) (g : A → List X) (xs : List A) → map f (filter q (flat_map g xs)) ≡ flat_map (λ i. map f (filter q (g i))) xs
 picks_flat f q g [] = refl
 picks_flat f q g (x ∷ xs) =
     ap (λ ys. map f (filter q ys)) (flat_map-cons g x xs) ∙ ap (map f) (filter-append q (g x) (flat_map g xs)) ∙ map-append f (filter q (g x)) (filter q (flat_map g xs))
     ∙ ap (λ ys. map f (filter q (g x)) ++ ys) (picks_flat f q g xs) ∙ sym (flat_map-cons (λ i. map f (filter q (g i))) x xs)
 
-picks_same : {X : Type 0} (f : X → ℤ) (q : X → Bool) (g : ℕ → X) (F : ℕ → ℤ) (Q : ℕ → Bool) (c s n : ℕ)
+pub picks_same : {X : Type 0} (f : X → ℤ) (q : X → Bool) (g : ℕ → X) (F : ℕ → ℤ) (Q : ℕ → Bool) (c s n : ℕ)
     → ((k : ℕ) → k < n → q (g (c + k)) ≡ Q (s + k)) → ((k : ℕ) → k < n → f (g (c + k)) ≡ F (s + k))
     → map f (filter q (map g (range_with_len c n))) ≡ map F (filter Q (range_with_len s n))
 picks_same f q g F Q c s zero hq hf = refl

@@ -1,5 +1,5 @@
 -- How the vectors stand for the numbered pixels of a raster.
-use Rattle.std.proofs.Common.{◌≡◌, ℕ, ◌+◌, ◌*◌, ◌/◌, ◌<◌, ◌≤◌, Bool, true, false, List, [], length, get_or, Option, None, refl, sym, ap, ◌∙◌, subst, arith}
+use Rattle.std.proofs.Common.{◌≡◌, ℕ, ◌+◌, ◌*◌, ◌/◌, ◌<◌, ◌≤◌, Bool, true, false, List, [], ◌∷◌, length, get_or, drop, map, Option, None, refl, sym, ap, ◌∙◌, subst, arith}
 use Rattle.std.specs.Prelude.{ℤ, pos, All, unwrap_or, is_some}
 use Rattle.std.proofs.lemmas.List.{get_or_past}
 use Rattle.std.proofs.lemmas.Nat.{mul-add-lt}
@@ -33,7 +33,7 @@ keeps_itself a h = record { values = h.values; in_range = h.in_range; zeros = h.
 pub mark_flat : (a : Inside) (k : ℕ) → is_some (get_or (seen a).pixels k None) ≡ get_or a.marks.items k false
 mark_flat a k = valid-pixels_of a.depth a.marks.items a.values.values k
 
-same_mask : (a : Inside) (vs : List ℤ) → SameMask (seen a) (with_values a vs)
+pub same_mask : (a : Inside) (vs : List ℤ) → SameMask (seen a) (with_values a vs)
 same_mask a vs = record {
   shape = record { kind = refl; rows = refl; cols = refl; depth = refl };
   places = λ i j within. valid-pixels_of a.depth a.marks.items vs (i * a.cols + j) ∙ sym (valid-pixels_of a.depth a.marks.items a.values.values (i * a.cols + j));
@@ -87,15 +87,18 @@ pours_keep a vs h size fits kept = record {
   zeros = λ k e below less off. kept.rest k e less off ∙ h.zeros k e below less off;
 }
 
-keeps_inside : (a : Inside) (vs : List ℤ) → IsInside a → KeepsValues a a.marks.items vs → IsRaster (with_values a vs)
+pub keeps_inside : (a : Inside) (vs : List ℤ) → IsInside a → KeepsValues a a.marks.items vs → IsRaster (with_values a vs)
 keeps_inside a vs h keeps = sound (record a { values = record a.values { values = vs } }) (record { shape = h.shape; marks = h.marks; values = keeps.values; in_range = keeps.in_range; zeros = keeps.zeros })
+
+pub values_stand : (a : Inside) (vs : List ℤ) → IsInside a → KeepsValues a a.marks.items vs
+    → AreValues a.values.kind (values_bytes a.values.kind (values_of (pixels_of a.depth a.marks.items vs))) (values_of (pixels_of a.depth a.marks.items vs))
+values_stand a vs h keeps = written_values a.values.kind (values_of (pixels_of a.depth a.marks.items vs)) (values_in_range a.values.kind a.depth (pixels_of a.depth a.marks.items vs) (keeps_inside a vs h keeps).each)
 
 pub pours_bytes : (a : Inside) (bytes : List ℕ) (vs : List ℤ) → IsInside a → KeepsValues a a.marks.items vs → values_bytes a.values.kind (values_of (pixels_of a.depth a.marks.items vs)) ≡ bytes
     → PoursBytes (seen a) (with_values a vs) bytes
 pours_bytes a bytes vs h keeps poured = record {
   same = same_mask a vs;
-  poured = subst (λ xs. AreValues a.values.kind xs (values_of (pixels_of a.depth a.marks.items vs))) poured
-      (written_values a.values.kind (values_of (pixels_of a.depth a.marks.items vs)) (values_in_range a.values.kind a.depth (pixels_of a.depth a.marks.items vs) (keeps_inside a vs h keeps).each));
+  poured = subst (λ xs. AreValues a.values.kind xs (values_of (pixels_of a.depth a.marks.items vs))) poured (values_stand a vs h keeps);
 }
 
 -- ---- how many values
@@ -112,3 +115,11 @@ mask_is a mask h size are bits = record {
   bits = λ k below. bits k ∙ sym (mark_flat a k);
   spare = λ k past. bits k ∙ get_or_past a.marks.items k false (omega (arith, h.marks));
 }
+
+-- ---- marks
+
+pub marks_of-pixels_of : (depth : ℕ) (ms : List Bool) (vs : List ℤ) → map is_some (pixels_of depth ms vs) ≡ ms
+unfolding pixels_of
+marks_of-pixels_of depth [] vs = refl
+marks_of-pixels_of depth (true ∷ ms) vs = ap (λ bs. true ∷ bs) (marks_of-pixels_of depth ms (drop depth vs))
+marks_of-pixels_of depth (false ∷ ms) vs = ap (λ bs. false ∷ bs) (marks_of-pixels_of depth ms (drop depth vs))

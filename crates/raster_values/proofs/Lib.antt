@@ -21,3 +21,10 @@ pub mod OrderSteps
 pub mod Poured
 pub mod Deep
 pub mod FlatViews
+pub mod Taken
+pub mod TakenRuns
+pub mod GridParts
+pub mod Revalued
+pub mod NumberedBlocks
+pub mod GridLaws
+pub mod GridDecided

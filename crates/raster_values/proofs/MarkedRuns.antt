@@ -172,3 +172,18 @@ fits_more kind depth at start end from size marks vs h full so =
     ap length (back_more depth at start end marks vs h) ∙ length-append (take ((end - start) * depth) (drop (start * depth) vs)) (back_values depth end marks vs)
     ∙ ap (λ n. n + length (back_values depth end marks vs)) (length-take-le ((end - start) * depth) (drop (start * depth) vs) (omega (arith, length-drop (start * depth) vs))) in
     omega (arith, ap (λ n. from + n * bytes_of kind) count, so, add-mul ((end - start) * depth) (length (back_values depth end marks vs)) (bytes_of kind))
+
+-- no more values than the vector has
+pub values_few : (depth : ℕ) (marks : List Bool) (vs : List ℤ) → length (values_of (pixels_of depth marks vs)) ≤ length vs
+values_few depth [] vs = omega (arith, ap length (no_values depth vs))
+values_few depth (m ∷ marks) vs =
+    let first : length (first_values depth m vs) ≤ length (take depth vs) =
+    elim m as (λ b. length (unwrap_or (cond b (Some (take depth vs)) None) []) ≤ length (take depth vs)) [ true ↦ omega arith | false ↦ omega arith ] in
+    omega (
+      arith,
+      ap length (next_values depth m marks vs),
+      length-append (first_values depth m vs) (values_of (pixels_of depth marks (drop depth vs))),
+      values_few depth marks (drop depth vs),
+      ap length (take-append-drop depth vs),
+      length-append (take depth vs) (drop depth vs),
+    )

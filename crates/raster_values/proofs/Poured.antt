@@ -1,8 +1,8 @@
 -- The loops that take the bytes of marked pixels' values, or give them, run by run.
 use Rattle.std.proofs.Common.{◌≡◌, ℕ, ◌+◌, ◌-◌, ◌*◌, ◌<◌, ◌≤◌, zero, Bool, List, [], ◌++◌, length, get_or, take, drop, refl, sym, ap, ◌∙◌, subst, arith, ⊎_elim, append_assoc}
 use Rattle.std.specs.Prelude.{ℤ, pos, All}
-use Rattle.std.proofs.lemmas.List.{append-nil, take_all, take-append-drop, length-take-le, length-drop, length-take, get_or-take, get_or-drop, get_or_past, drop-drop}
-use Rattle.std.proofs.lemmas.Slice.{take-put_mid}
+use Rattle.std.proofs.lemmas.List.{append-nil, length-append, take_all, take-append-drop, length-take-le, length-drop, length-take, get_or-take, get_or-drop, get_or_past, drop-drop}
+use Rattle.std.proofs.lemmas.Slice.{take-put_mid, drop-put_mid}
 use Rattle.std.proofs.lemmas.Bool.{cases_lt}
 use Rattle.std.proofs.lemmas.Grind.{flat_map-append}
 use Rattle.std.proofs.Math.Seq.{take-add}
@@ -165,3 +165,71 @@ written_all kind depth marks vs size out at from past all h =
 pub piece_long : (from m : ℕ) (bytes : List ℕ) → from + m ≤ length bytes → length (take (from + m - from) (drop from bytes)) ≡ m
 piece_long from m bytes within =
     length-take-le (from + m - from) (drop from bytes) (omega (arith, length-drop from bytes)) ∙ (let e : from + m - from ≡ m = omega arith in e)
+
+-- ---- runs put one behind the other
+
+-- what stays the same
+pub record Kept (kind : PixelType) (depth : ℕ) (marks : List Bool) (old vs : List ℤ) : Type 0 where
+  pub size : length vs ≡ length old
+  pub in_range : All (InRange kind) old → All (InRange kind) vs
+  pub rest : KeepsUnmarked depth marks old vs
+
+pub kept_itself : (kind : PixelType) (depth : ℕ) (marks : List Bool) (old : List ℤ) → Kept kind depth marks old old
+kept_itself kind depth marks old = record { size = refl; in_range = λ h. h; rest = record { rest = λ k d below off. refl } }
+
+pub kept_run : (kind : PixelType) (depth at start end : ℕ) (marks : List Bool) (old vs : List ℤ) (run : List ℕ) → length old ≡ length marks * depth → AreRuns marks at start end → AreBytes run
+    → Kept kind depth marks old vs → Kept kind depth marks old (bytes_put kind vs (start * depth) ((end - start) * depth) run)
+kept_run kind depth at start end marks old vs run full runs are h =
+    let count = (end - start) * depth in
+    let full_now : length vs ≡ length marks * depth = h.size ∙ full in
+    let in_ : start * depth + count ≤ length vs = run_within depth at start end (length vs) marks runs full_now in
+    record {
+      size = length-bytes_put kind vs (start * depth) count run in_ ∙ h.size;
+      in_range = λ before. bytes_put_in_range kind vs (start * depth) count run (h.in_range before) are;
+      rest = subst (KeepsUnmarked depth marks old) (sym (put_as_run kind vs (start * depth) count run)) (put_rest depth at start end marks old vs (values_in kind count run) runs full_now (length-values_in kind count run) h.rest);
+    }
+
+-- the first runs have the values that were read
+pub record Fills (kind : PixelType) (depth : ℕ) (marks : List Bool) (size : ℕ) (read : List ℕ) (old vs : List ℤ) (at : ℕ) : Type 0 where
+  pub within : at ≤ length marks
+  pub kept : Kept kind depth marks old vs
+  pub fits : length read + length (back_values depth at marks old) * bytes_of kind ≡ size
+  pub front : values_bytes kind (front_values depth at marks vs) ≡ read
+
+pub fills_start : (kind : PixelType) (depth : ℕ) (marks : List Bool) (old : List ℤ) → Fills kind depth marks (length (values_of (pixels_of depth marks old)) * bytes_of kind) [] old old 0
+fills_start kind depth marks old = record {
+  within = omega arith;
+  kept = kept_itself kind depth marks old;
+  fits = let e : length (back_values depth 0 marks old) * bytes_of kind ≡ length (values_of (pixels_of depth marks old)) * bytes_of kind = ap (λ vs. length vs * bytes_of kind) (back_all depth marks old) in omega arith;
+  front = ap (values_bytes kind) (none_before depth marks old);
+}
+
+pub fills_next : (kind : PixelType) (depth : ℕ) (marks : List Bool) (size : ℕ) (read : List ℕ) (old vs : List ℤ) (at start end : ℕ) (run : List ℕ) → length old ≡ length marks * depth → AreRuns marks at start end → AreBytes run
+    → length run ≡ (end - start) * depth * bytes_of kind → Fills kind depth marks size read old vs at
+    → Fills kind depth marks size (read ++ run) old (bytes_put kind vs (start * depth) ((end - start) * depth) run) end
+fills_next kind depth marks size read old vs at start end run full runs are long h =
+    let count = (end - start) * depth in
+    let full_now : length vs ≡ length marks * depth = h.kept.size ∙ full in
+    record {
+      within = runs.within;
+      kept = kept_run kind depth at start end marks old vs run full runs are h.kept;
+      fits = ap (λ n. n + length (back_values depth end marks old) * bytes_of kind) (length-append read run ∙ ap (λ n. length read + n) long) ∙ fits_more kind depth at start end (length read) size marks old runs full h.fits;
+      front = ap (λ ws. values_bytes kind (front_values depth end marks ws)) (put_as_run kind vs (start * depth) count run)
+          ∙ ap (values_bytes kind) (put_front depth at start end marks vs (values_in kind count run) runs full_now (length-values_in kind count run))
+          ∙ flat_map-append (value_bytes kind) (front_values depth at marks vs) (values_in kind count run)
+          ∙ ap (λ xs. xs ++ values_bytes kind (values_in kind count run)) h.front
+          ∙ ap (λ xs. read ++ xs) (bytes_of_values kind count run are long);
+    }
+
+pub filled_all : (kind : PixelType) (depth : ℕ) (marks : List Bool) (size : ℕ) (read : List ℕ) (old vs : List ℤ) (at : ℕ) → length marks ≤ at → Fills kind depth marks size read old vs at
+    → values_bytes kind (values_of (pixels_of depth marks vs)) ≡ read
+filled_all kind depth marks size read old vs at past h = ap (values_bytes kind) (sym (all_before depth at marks vs past)) ∙ h.front
+
+-- a vector's bytes with some of them replaced
+pub put_whole : {X : Type 0} (a e : ℕ) (xs ys : List X) → a ≤ e → e ≤ length xs → length ys ≡ e - a → put_mid a (e - a) xs ys ≡ take a xs ++ (ys ++ drop e xs)
+put_whole a e xs ys order within long =
+    let n : a + length ys ≡ e = omega arith in
+    sym (take-append-drop (a + length ys) (put_mid a (e - a) xs ys))
+    ∙ ap (λ zs. zs ++ drop (a + length ys) (put_mid a (e - a) xs ys)) (take-put_mid a (e - a) xs ys (a + length ys) refl (omega arith))
+    ∙ ap (λ zs. (take a xs ++ ys) ++ zs) (drop-put_mid a (e - a) xs ys (a + length ys) (omega arith) (omega arith) long)
+    ∙ ap (λ m. (take a xs ++ ys) ++ drop m xs) n ∙ append_assoc (take a xs) ys (drop e xs)

@@ -198,3 +198,11 @@ bytes_laid kind vs old bytes at count from within is start size are =
     ∙ ap (λ xs. values_bytes kind (take at vs) ++ xs) (sym (flat_map-append (value_bytes kind) run (drop (at + length run) vs)))
     ∙ sym (flat_map-append (value_bytes kind) (take at vs) (run ++ drop (at + length run) vs))
     ∙ ap (values_bytes kind) (sym (put_as_run kind vs at count bytes))
+
+pub few_bytes : (kind : PixelType) → bytes_of kind ≤ 4
+few_bytes I8 = omega arith
+few_bytes U8 = omega arith
+few_bytes I16 = omega arith
+few_bytes U16 = omega arith
+few_bytes I32 = omega arith
+few_bytes U32 = omega arith

@@ -1,8 +1,12 @@
 -- A raster by the numbers of its pixels: row by row, from 0.
-use Rattle.std.specs.Prelude.{◌≡◌, ◌≤◌, true, ℕ, ℤ, pos, ◌+◌, ◌-◌, ◌*◌, ◌<◌, Bool, false, List, [], length, get_or, map, min, Option, Some, None, is_some, unwrap_or, IfSome}
-use Rattle.std.specs.List.{filter, flat_map, range_with_len}
-use Rattle.raster_values.specs.Raster.{Pixels}
-use Rattle.raster_values.specs.Block.{SameMask}
+use Rattle.std.specs.Prelude.{◌≡◌, ◌≤◌, ◌<◌, ℕ, ℤ, pos, ◌+◌, ◌-◌, ◌*◌, Bool, true, false, List, [], ◌∷◌, length, get_or, take, drop, map, min, Option, Some, None, is_some, unwrap_or, IfSome, All}
+use Rattle.std.specs.List.{count_by, filter, flat_map, range_with_len}
+use Rattle.raster_values.specs.declared.kind.PixelType.{PixelType}
+use Rattle.raster_values.specs.PixelType.{InRange}
+use Rattle.raster_values.specs.Raster.{Pixels, IsRaster, IsShape, values_of}
+use Rattle.raster_values.specs.Places.{SameShape}
+use Rattle.raster_values.specs.Block.{SameMask, block_values}
+use Rattle.raster_values.specs.Order.{MarksBits, IsMaskOf, marks_in}
 
 -- which pixels are valid
 abbrev pub marks_of : Pixels → List Bool
@@ -42,3 +46,52 @@ block_numbers r row col side = flat_map (λ i. map (λ j. i * r.cols + j) (range
 -- those of its valid pixels
 abbrev pub valid_numbers : Pixels → ℕ → ℕ → ℕ → List ℕ
 valid_numbers r row col side = filter (λ k. get_or (marks_of r) k false) (block_numbers r row col side)
+
+-- ---- rasters there are
+
+-- pixels with these marks and these values in order
+abbrev pub pixels_with : ℕ → List Bool → List ℤ → List (Option (List ℤ))
+pixels_with depth [] values = []
+pixels_with depth (true ∷ marks) values = Some (take depth values) ∷ pixels_with depth marks (drop depth values)
+pixels_with depth (false ∷ marks) values = None ∷ pixels_with depth marks values
+
+-- a raster with other values in range, which differs in these alone
+pub record ChangesValues (r new : Pixels) (g : ℕ → ℕ → ℤ → ℤ) : Type 0 where
+  pub raster : IsRaster new
+  pub shape : SameShape r new
+  pub marks : marks_of new ≡ marks_of r
+  pub values : (k d : ℕ) → k < length r.pixels → get_or (marks_of r) k false ≡ true → d < r.depth → value_in new d k ≡ g k d (value_in r d k)
+
+-- the valid pixels of a raster may be given any values of its type
+abbrev pub ValuesMayChange : Type 0
+ValuesMayChange = (r : Pixels) (g : ℕ → ℕ → ℤ → ℤ) → IsRaster r
+    → ((k d : ℕ) → k < length r.pixels → get_or (marks_of r) k false ≡ true → d < r.depth → InRange r.kind (g k d (value_in r d k))) → ChangesValues r (revalued r g) g
+
+pub record HasInOrder (r : Pixels) (marks : List Bool) (values : List ℤ) : Type 0 where
+  pub raster : IsRaster r
+  pub has_marks : marks_of r ≡ marks
+  pub has_values : values_of r.pixels ≡ values
+
+-- there is a raster of each shape with any marks, and as many values of its type as they ask for
+abbrev pub RasterInOrder : Type 0
+RasterInOrder = (kind : PixelType) (rows cols depth : ℕ) (marks : List Bool) (values : List ℤ) → IsShape rows cols depth → length marks ≡ rows * cols → All (InRange kind) values
+    → length values ≡ count_by (λ mark. mark) marks * depth
+    → HasInOrder (record { kind = kind; rows = rows; cols = cols; depth = depth; pixels = pixels_with depth marks values }) marks values
+
+-- and one: type, shape, marks and the values in order determine a raster
+abbrev pub OrderDetermines : Type 0
+OrderDetermines = (r s : Pixels) → IsRaster r → IsRaster s → SameShape r s → marks_of r ≡ marks_of s → values_of r.pixels ≡ values_of s.pixels → r ≡ s
+
+-- ---- laws of blocks and masks
+
+-- a block's values are those of its numbered valid pixels
+abbrev pub BlockIsNumbered : Type 0
+BlockIsNumbered = (r : Pixels) (row col side d : ℕ) → block_values r row col side d ≡ map (value_in r d) (valid_numbers r row col side)
+
+-- a raster marked by a mask has the marks that the mask's bits say
+abbrev pub MarkedByBits : Type 0
+MarkedByBits = (old new : Pixels) (mask : List ℕ) → IsRaster new → MarksBits old new mask → marks_of new ≡ marks_in (old.rows * old.cols) mask
+
+-- and a raster's mask says its marks
+abbrev pub MaskSaysMarks : Type 0
+MaskSaysMarks = (r : Pixels) (mask : List ℕ) → IsRaster r → IsMaskOf r mask → marks_in (r.rows * r.cols) mask ≡ marks_of r

@@ -10,4 +10,5 @@ pub mod Block
 pub mod Order
 pub mod Values
 pub mod Flat
+pub mod ReadGrid
 pub mod inside

@@ -6,3 +6,5 @@ pub mod Runs
 pub mod CellList
 pub mod CellView
 pub mod Ordered
+pub mod Heads
+pub mod TakenRun

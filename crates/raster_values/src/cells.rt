@@ -2,10 +2,13 @@ ghost use Rattle.std.specs.Prelude.{◌≡◌, ◌+◌, ◌*◌, ◌<◌, ◌≤
 ghost use Rattle.raster_values.specs.PixelType.{InRange, bytes_of};
 ghost use Rattle.raster_values.specs.Grid.{values_bytes};
 ghost use Rattle.raster_values.specs.inside.CellList.{CellList, values_in};
+ghost use Rattle.outside_io.specs.streams.Faults.{CountsFaults};
+ghost use Rattle.raster_values.specs.inside.TakenRun.{Laid, PutsRun, TakesRun};
 ghost use Rattle.raster_values.specs.inside.Cleared.{cleared};
 
 use super::grid::write_values;
 use super::kind::PixelType;
+use outside_io::{Failed, Source, take_all};
 use std::alloc::{AllocError, Global};
 use std::marker::Model;
 
@@ -60,6 +63,23 @@ fn lay_bytes(bytes: &mut Vec<u8>, at: usize, run: &[u8])
     place.copy_from_slice(run);
 }
 
+/// Takes bytes over those from `from` to `end`, and answers how many.
+fn take_into<S: Source>(
+    src: &mut S,
+    bytes: &mut Vec<u8>,
+    from: usize,
+    end: usize,
+) -> Result<usize, Failed>
+    requires order { from ≤ end }
+    requires within { end ≤ length bytes.old.items }
+    ensures taken { Laid from end bytes.old.items bytes.new.items (λ run. TakesRun result
+        (S.left src.old) (S.left src.new) run) }
+    ensures counted { CountsFaults result (S.faults src.old) (S.faults src.new) }
+{
+    let run = &mut bytes[from..end];
+    take_all(src, run)
+}
+
 impl Cells {
     /// So many values 0.
     pub fn new(alloc: Global, kind: PixelType, count: usize) -> Result<Cells, AllocError>
@@ -112,6 +132,24 @@ impl Cells {
     {
         let from = place(self.kind, self.count, at);
         lay_bytes(&mut self.bytes, from, bytes);
+    }
+
+    /// Takes the bytes of a run of values from a source, and answers how many there were. The values are
+    /// then those that the bytes stand for, where they are all there.
+    pub fn take_run<S: Source>(
+        &mut self,
+        src: &mut S,
+        at: usize,
+        count: usize,
+    ) -> Result<usize, Failed>
+        requires { at + count ≤ length self.old.values }
+        ensures put { PutsRun self.old self.new at count (λ run. TakesRun result (S.left src.old)
+            (S.left src.new) run) }
+        ensures counted { CountsFaults result (S.faults src.old) (S.faults src.new) }
+    {
+        let from = place(self.kind, self.count, at);
+        let end = place(self.kind, self.count, at + count);
+        take_into(src, &mut self.bytes, from, end)
     }
 
     /// Values equal to these.

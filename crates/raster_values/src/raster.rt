@@ -1,19 +1,22 @@
-ghost use Rattle.std.specs.Prelude.{◌≡◌, ◌+◌, ◌-◌, ◌*◌, ◌<◌, ◌≤◌, ◌↔◌, IfOk, OnOk, OnErr, IsErrOf, true, length, replicate, ◌++◌, drop, All, pos, false, get_or, ◌/◌, ℕ, None, is_some};
+ghost use Rattle.std.specs.Prelude.{◌≡◌, ◌+◌, ◌-◌, ◌*◌, ◌<◌, ◌≤◌, ◌↔◌, IfOk, OnOk, OnErr, IsErrOf, true, length, replicate, ◌++◌, drop, All, pos, false, get_or, ◌/◌, ◌^◌, ℕ, List, None, is_some, IfErr};
 ghost use Rattle.std.specs.List.{count_by};
 ghost use Rattle.outside_io.specs.streams.Faults.{CountsFaults};
 ghost use Rattle.outside_io.specs.streams.Sink.{Holds, HoldsPrefix};
 ghost use Rattle.raster_values.specs.PixelType.{InRange, bytes_of};
 ghost use Rattle.raster_values.specs.Raster.{IsRaster, HasZero, IsTooLarge, blank, filled, values_of, valid_count, valid_at, value_at, marked, written, InShape, IsValidAt};
-ghost use Rattle.raster_values.specs.Places.{ChangesMark, ChangesValue};
+ghost use Rattle.raster_values.specs.Places.{SameShape, ChangesMark, ChangesValue};
 ghost use Rattle.raster_values.specs.Grid.{grid_marks, values_bytes};
 ghost use Rattle.raster_values.specs.Order.{FillsValid, IsMaskOf, MarksBits, PoursBytes, mask_bit};
-ghost use Rattle.raster_values.specs.Flat.{PutsFrom, value_in};
-ghost use Rattle.raster_values.specs.Block.{block_count, block_values, PoursBlock};
+ghost use Rattle.raster_values.specs.Flat.{PutsFrom, marks_of, value_in};
+ghost use Rattle.raster_values.specs.ReadGrid.{AreMarks, TookBytes, TookSome, IsToldFault, CountsGridStop, mark_faults, value_faults};
+ghost use Rattle.raster_values.specs.Values.{AreValues};
+ghost use Rattle.raster_values.specs.Block.{SameMask, block_count, block_values, PoursBlock};
 
 use super::cells::Cells;
 use super::kind::PixelType;
-use super::{blocks, grid, order};
-use outside_io::{Failed, Sink};
+use super::reading::GridStop;
+use super::{blocks, grid, order, reading};
+use outside_io::{Failed, Sink, Source};
 use std::alloc::{AllocError, Global};
 use std::marker::Model;
 use thiserror::Error;
@@ -423,6 +426,41 @@ impl Raster {
             marks,
             values: self.values.copy(alloc)?,
         })
+    }
+
+    /// Takes the marks of a raster of which no pixel is valid: a byte for each.
+    pub(super) fn take_marks<S: Source>(&mut self, src: &mut S, at: u64) -> Result<(), GridStop>
+        requires at { at < 2 ^ 61 }
+        requires none { valid_count self.old ≡ 0 }
+        ensures shape { SameShape self.old self.new }
+        ensures ok { OnOk result ((bytes : List ℕ)
+            × (AreMarks (self.old.rows * self.old.cols) bytes (marks_of self.new)
+            × TookBytes (S.left src.old) (S.left src.new) bytes)) }
+        ensures err { IfErr result (λ stop. IsToldFault
+            (mark_faults (self.old.rows * self.old.cols)) (S.left src.old) at stop) }
+        ensures some { OnErr result (TookSome (S.left src.old) (S.left src.new)) }
+        ensures counted { CountsGridStop result (S.faults src.old) (S.faults src.new) }
+    {
+        reading::take_marks(src, at, &mut self.marks)
+    }
+
+    /// Takes the bytes of the valid pixels' values.
+    pub(super) fn take_values<S: Source>(&mut self, src: &mut S, at: u64) -> Result<(), GridStop>
+        requires { at < 2 ^ 62 }
+        ensures sound { IsRaster self.new }
+        ensures mask { SameMask self.old self.new }
+        ensures marks { marks_of self.new ≡ marks_of self.old }
+        ensures ok { OnOk result ((bytes : List ℕ)
+            × (AreValues self.old.kind bytes (values_of self.new.pixels)
+            × TookBytes (S.left src.old) (S.left src.new) bytes)) }
+        ensures err { IfErr result (λ stop. IsToldFault (value_faults
+            (valid_count self.old * self.old.depth * bytes_of self.old.kind))
+            (S.left src.old) at stop) }
+        ensures some { OnErr result (TookSome (S.left src.old) (S.left src.new)) }
+        ensures counted { CountsGridStop result (S.faults src.old) (S.faults src.new) }
+    {
+        let depth = self.depth;
+        reading::take_values(src, at, &self.marks, depth as usize, &mut self.values)
     }
 
     /// Gives a byte for each pixel, 1 for a valid one and 0 for an invalid one.

@@ -1,0 +1,27 @@
+-- A run of values taken from a source.
+use Rattle.std.specs.Prelude.{◌≡◌, ℕ, ◌+◌, ◌-◌, ◌*◌, ◌<◌, ◌≤◌, List, ◌++◌, length, get_or, take, drop, Option, Result, Ok, Err}
+use Rattle.outside_io.specs.declared.streams.failed.Failed.{Failed}
+use Rattle.outside_io.specs.streams.Source.{TakesFront, TakesUpTo, IsAtEnd}
+use Rattle.raster_values.specs.PixelType.{bytes_of}
+use Rattle.raster_values.specs.inside.CellList.{CellList, values_in}
+
+-- as many bytes as the run has were taken, or fewer and then none is left
+abbrev pub TakesRun : Result ℕ Failed → Option (List ℕ) → Option (List ℕ) → List ℕ → Type 0
+TakesRun (Ok n) old new run = (n ≤ length run) × (TakesFront old new n run × (n < length run → IsAtEnd new))
+TakesRun (Err e) old new run = TakesUpTo (length run) old new
+
+-- some bytes were laid over those from `from` to `end`, of which P holds
+pub record Laid (from end : ℕ) (old new : List ℕ) (P : List ℕ → Type 0) : Type 0 where
+  pub run : List ℕ
+  pub size : length run ≡ end - from
+  pub small : (i : ℕ) → get_or run i 0 < 256
+  pub laid : new ≡ take from old ++ (run ++ drop end old)
+  pub of_run : P run
+
+-- the same of values
+pub record PutsRun (old new : CellList) (at count : ℕ) (P : List ℕ → Type 0) : Type 0 where
+  pub run : List ℕ
+  pub size : length run ≡ count * bytes_of old.kind
+  pub small : (i : ℕ) → get_or run i 0 < 256
+  pub put : new ≡ record old { values = take at old.values ++ (values_in old.kind count run ++ drop (at + count) old.values) }
+  pub of_run : P run

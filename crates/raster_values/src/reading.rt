@@ -1,0 +1,328 @@
+//! Grid files read.
+
+ghost use Rattle.std.specs.Prelude.{◌≡◌, ℕ, ◌+◌, ◌-◌, ◌*◌, ◌^◌, ◌<◌, ◌≤◌, ◌↔◌, ◌++◌, List, IfOk, IfErr, OnOk, OnErr, IsTrue, MatchResult, length, get_or, take, drop, map, nat_eq, All};
+ghost use Rattle.raster_values.specs.PixelType.{InRange, bytes_of};
+ghost use Rattle.raster_values.specs.Raster.{blank, values_of};
+ghost use Rattle.raster_values.specs.inside.View.{pixels_of};
+ghost use Rattle.raster_values.specs.inside.Ordered.{KeepsUnmarked};
+ghost use Rattle.raster_values.specs.inside.Heads.{IsSizeFault};
+ghost use Rattle.raster_values.specs.Grid.{values_bytes};
+ghost use Rattle.raster_values.specs.ReadGrid.{IsHead, AreMarks, AreLawful, TookBytes, TookGrid, TookSome, IsToldFault, CountsGridStop, number_at, magic_faults, head_faults, mark_faults, value_faults, grid_faults};
+
+use super::cells::Cells;
+use super::grid::run_end;
+use super::kind::PixelType;
+use super::raster::Raster;
+use byteorder::{ByteOrder, LittleEndian};
+use outside_io::{Failed, Source, take_all};
+use std::alloc::Global;
+
+/// How many bytes are taken from a source at once.
+const PIECE: usize = 4096;
+
+const MAGIC: [u8; 4] = *b"LGR1";
+
+/// Why bytes do not begin with a grid.
+#[derive(Clone, Copy, Debug, PartialEq, Eq)]
+pub enum GridReason {
+    /// The bytes end before the grid does.
+    Truncated,
+    /// The first four bytes are not `LGR1`.
+    BadMagic,
+    /// The type's number is above 5.
+    BadType,
+    /// The number of rows, columns or depths is 0.
+    BadSize,
+    /// There are more than 65,536 depths, or more than 2^24 values.
+    TooLarge,
+    /// A mark is neither 0 nor 1.
+    BadMark,
+}
+
+/// What is wrong first in bytes that do not begin with a grid, and where.
+#[derive(Clone, Copy, Debug, PartialEq, Eq)]
+pub struct GridFault {
+    pub reason: GridReason,
+    pub place: u64,
+}
+
+/// Why no grid was read.
+#[derive(Clone, Copy, Debug, PartialEq, Eq)]
+pub enum GridStop {
+    /// The bytes do not begin with a grid.
+    Fault(GridFault),
+    /// The source failed.
+    Source,
+    /// There is no memory for the raster.
+    OutOfMemory,
+}
+
+impl From<Failed> for GridStop {
+    ghost use Rattle.raster_values.specs.declared.reading.GridStop.TheVariants.{Source};
+
+    ghost from_gives = { λ _ e. e ≡ Source };
+
+    fn from(_: Failed) -> GridStop {
+        GridStop::Source
+    }
+}
+
+impl From<GridFault> for GridStop {
+    ghost use Rattle.raster_values.specs.declared.reading.GridStop.TheVariants.{Fault};
+
+    ghost from_gives = { λ f e. e ≡ Fault f };
+
+    fn from(fault: GridFault) -> GridStop {
+        GridStop::Fault(fault)
+    }
+}
+
+/// What the first 17 bytes of a grid say.
+#[derive(Clone, Copy)]
+pub struct Head {
+    pub kind: PixelType,
+    pub rows: u32,
+    pub cols: u32,
+    pub depth: u32,
+}
+
+/// A fault at a place.
+fn fault(reason: GridReason, place: usize) -> GridFault
+    ensures reason { result.reason ≡ reason }
+    ensures place { result.place ≡ place }
+{
+    GridFault {
+        reason,
+        place: place as u64,
+    }
+}
+
+/// Whether a raster of the shape is small enough.
+fn is_allowed(rows: u32, cols: u32, depth: u32) -> bool
+    requires { 0 < depth }
+    ensures { IsTrue result ↔ ((depth ≤ 65536) × (rows * cols * depth ≤ 16777216)) }
+{
+    let places = rows as u64 * cols as u64;
+    depth <= 65536 && places <= 16777216 && places * depth as u64 <= 16777216
+}
+
+/// The number at a place of the head, which is there and is not 0.
+fn size_at(bytes: &[u8], at: usize) -> Result<u32, GridFault>
+    requires length { length bytes.now ≤ 17 }
+    requires at { at ≤ 13 }
+    ensures ok { IfOk result (λ n. (at + 4 ≤ length bytes.now) × ((n ≡ number_at bytes.now at) × (0 < n))) }
+    ensures err { IfErr result (λ f. IsSizeFault bytes.now at f.place f.reason) }
+{
+    if bytes.len() < at + 4 {
+        return Err(fault(GridReason::Truncated, bytes.len()));
+    }
+    let size = LittleEndian::read_u32(&bytes[at..]);
+    if size == 0 {
+        return Err(fault(GridReason::BadSize, at));
+    }
+    Ok(size)
+}
+
+/// The head that the bytes are, of which 17 are needed and looked at.
+fn head_of(bytes: &[u8]) -> Result<Head, GridFault>
+    requires { length bytes.now ≤ 17 }
+    ensures { MatchResult result (λ h. IsHead bytes.now h)
+        (λ f. magic_faults bytes.now f.place f.reason × (f.place ≤ 17)) }
+{
+    let cut = fault(GridReason::Truncated, bytes.len());
+    if bytes.len() < 4 {
+        return Err(cut);
+    }
+    if bytes[..4] != MAGIC[..] {
+        return Err(fault(GridReason::BadMagic, 0));
+    }
+    if bytes.len() < 5 {
+        return Err(cut);
+    }
+    let Some(kind) = PixelType::of_code(bytes[4]) else {
+        return Err(fault(GridReason::BadType, 4));
+    };
+    let rows = size_at(bytes, 5)?;
+    let cols = size_at(bytes, 9)?;
+    let depth = size_at(bytes, 13)?;
+    if !is_allowed(rows, cols, depth) {
+        return Err(fault(GridReason::TooLarge, 13));
+    }
+    Ok(Head {
+        kind,
+        rows,
+        cols,
+        depth,
+    })
+}
+
+/// A fault whose place counts from `at`.
+fn stop_at(at: u64, fault: GridFault) -> GridStop
+    requires { at + fault.place < 2 ^ 64 }
+    ensures { result ≡ GridStop.Fault (record { reason = fault.reason; place = at + fault.place }) }
+{
+    GridStop::Fault(GridFault {
+        reason: fault.reason,
+        place: at + fault.place,
+    })
+}
+
+/// Takes the head of a grid.
+fn take_head<S: Source>(src: &mut S, at: u64) -> Result<Head, GridStop>
+    requires { at < 2 ^ 60 }
+    ensures ok { IfOk result (λ h. (bytes : List ℕ) × (IsHead bytes h
+        × TookBytes (S.left src.old) (S.left src.new) bytes)) }
+    ensures err { IfErr result (λ stop. IsToldFault head_faults (S.left src.old) at stop) }
+    ensures some { OnErr result (TookSome (S.left src.old) (S.left src.new)) }
+    ensures counted { CountsGridStop result (S.faults src.old) (S.faults src.new) }
+{
+    let mut head = [0; 17];
+    let n = take_all(src, &mut head)?;
+    match head_of(&head[..n]) {
+        Ok(head) => Ok(head),
+        Err(fault) => Err(stop_at(at, fault)),
+    }
+}
+
+/// Takes so many marks as the buffer is long.
+fn take_piece<S: Source>(src: &mut S, at: u64, buffer: &mut [u8]) -> Result<(), GridStop>
+    requires at { at < 2 ^ 62 }
+    requires few { length buffer.old ≤ 4096 }
+    ensures ok { OnOk result (TookBytes (S.left src.old) (S.left src.new) buffer.new
+        × AreLawful (length buffer.new) buffer.new) }
+    ensures err { IfErr result (λ stop. IsToldFault (mark_faults (length buffer.old)) (S.left src.old) at stop) }
+    ensures some { OnErr result (TookSome (S.left src.old) (S.left src.new)) }
+    ensures counted { CountsGridStop result (S.faults src.old) (S.faults src.new) }
+{
+    let n = take_all(src, buffer)?;
+    let wrong = first_wrong(&buffer[..n]);
+    if wrong < n {
+        return Err(stop_at(at, fault(GridReason::BadMark, wrong)));
+    }
+    if n < buffer.len() {
+        return Err(stop_at(at, fault(GridReason::Truncated, n)));
+    }
+    Ok(())
+}
+
+/// The place of the first byte that is no mark, and the number of bytes where there is none.
+fn first_wrong(bytes: &[u8]) -> usize
+    ensures within { result ≤ length bytes.now }
+    ensures before { (k : ℕ) → k < result → get_or bytes.now k 0 ≤ 1 }
+    ensures wrong { result < length bytes.now → 1 < get_or bytes.now result 0 }
+{
+    for (k, byte) in bytes.iter().enumerate() {
+        if *byte > 1 {
+            return k;
+        }
+    }
+    bytes.len()
+}
+
+/// Takes a mark for each pixel.
+pub(super) fn take_marks<S: Source>(
+    src: &mut S,
+    at: u64,
+    marks: &mut [bool],
+) -> Result<(), GridStop>
+    requires at { at < 2 ^ 61 }
+    requires few { length marks.old ≤ 16777216 }
+    ensures ok { OnOk result ((bytes : List ℕ) × (AreMarks (length marks.old) bytes marks.new
+        × TookBytes (S.left src.old) (S.left src.new) bytes)) }
+    ensures err { IfErr result (λ stop. IsToldFault (mark_faults (length marks.old)) (S.left src.old) at stop) }
+    ensures some { OnErr result (TookSome (S.left src.old) (S.left src.new)) }
+    ensures counted { CountsGridStop result (S.faults src.old) (S.faults src.new) }
+{
+    let mut buffer = [0; PIECE];
+    let mut done = 0;
+    while done < marks.len() {
+        let want = PIECE.min(marks.len() - done);
+        let piece = &mut buffer[..want];
+        take_piece(src, at + done as u64, piece)?;
+        set_marks(piece, marks, done);
+        done += want;
+    }
+    Ok(())
+}
+
+/// Sets the marks from `from` on as the bytes say.
+fn set_marks(bytes: &[u8], marks: &mut [bool], from: usize)
+    requires { from + length bytes.now ≤ length marks.old }
+    ensures { marks.new ≡ take from marks.old ++ (map (λ b. nat_eq b 1) bytes.now ++ drop (from + length bytes.now) marks.old) }
+{
+    for (i, byte) in bytes.iter().enumerate() {
+        marks[from + i] = *byte == 1;
+    }
+}
+
+/// Takes the values of the marked pixels, which are zeros so far, run by run.
+pub(super) fn take_values<S: Source>(
+    src: &mut S,
+    at: u64,
+    marks: &[bool],
+    depth: usize,
+    values: &mut Cells,
+) -> Result<(), GridStop>
+    requires at { at < 2 ^ 62 }
+    requires size { length values.old.values ≡ length marks.now * depth }
+    requires few { length values.old.values ≤ 16777216 }
+    ensures kind { values.new.kind ≡ values.old.kind }
+    ensures in_range { All (InRange values.old.kind) values.old.values
+        → All (InRange values.old.kind) values.new.values }
+    ensures size { length values.new.values ≡ length values.old.values }
+    ensures rest { KeepsUnmarked depth marks.now values.old.values values.new.values }
+    ensures ok { OnOk result (TookBytes (S.left src.old) (S.left src.new)
+        (values_bytes values.old.kind (values_of (pixels_of depth marks.now values.new.values)))) }
+    ensures err { IfErr result (λ stop. IsToldFault (value_faults
+        (length (values_of (pixels_of depth marks.now values.old.values)) * bytes_of values.old.kind))
+        (S.left src.old) at stop) }
+    ensures some { OnErr result (TookSome (S.left src.old) (S.left src.new)) }
+    ensures counted { CountsGridStop result (S.faults src.old) (S.faults src.new) }
+{
+    let size = values.kind().bytes();
+    let mut done = 0;
+    let mut from = 0;
+    while done < marks.len() {
+        let start = run_end(marks, done, false);
+        let end = run_end(marks, start, true);
+        let count = (end - start) * depth;
+        let n = values.take_run(src, start * depth, count)?;
+        if n < count * size {
+            return Err(stop_at(at, fault(GridReason::Truncated, from + n)));
+        }
+        from += n;
+        done = end;
+    }
+    Ok(())
+}
+
+/// The raster of a head, of which no pixel is valid. A head has a shape of its own, so only memory may be
+/// wanting.
+fn blank_raster(alloc: Global, head: Head) -> Result<Raster, GridStop>
+    ensures ok { IfOk result (λ r. r ≡ blank head.kind head.rows head.cols head.depth) }
+    ensures err { IfErr result (λ stop. stop ≡ GridStop.OutOfMemory) }
+{
+    match Raster::new(alloc, head.kind, head.rows, head.cols, head.depth) {
+        Ok(raster) => Ok(raster),
+        Err(_) => Err(GridStop::OutOfMemory),
+    }
+}
+
+/// Reads a grid from the source, and takes the grid's bytes alone.
+///
+/// A fault is the first one of the bytes that are left, its place counted from `at`, the place of the first
+/// of them. After any refusal some bytes are taken.
+pub fn grid_read<S: Source>(alloc: Global, src: &mut S, at: u64) -> Result<Raster, GridStop>
+    requires { at < 2 ^ 60 }
+    ensures ok { IfOk result (λ r. TookGrid (S.left src.old) (S.left src.new) r) }
+    ensures fault { IfErr result (λ stop. IsToldFault grid_faults (S.left src.old) at stop) }
+    ensures some { OnErr result (TookSome (S.left src.old) (S.left src.new)) }
+    ensures counted { CountsGridStop result (S.faults src.old) (S.faults src.new) }
+{
+    let head = take_head(src, at)?;
+    let mut raster = blank_raster(alloc, head)?;
+    raster.take_marks(src, at + 17)?;
+    let behind = at + 17 + head.rows as u64 * head.cols as u64;
+    raster.take_values(src, behind)?;
+    Ok(raster)
+}
