@@ -1,7 +1,7 @@
 ghost use Rattle.std.specs.Prelude.{◌^◌, ◌<◌, ◌≤◌, length, All};
 
 use crate::{read_list, table_len, write_table};
-use bit_stuff::{ListFault, ListReason};
+use bit_stuff::{ListFault, ListReason, unstuff};
 use std::process::Abort;
 
 /// The bytes begin with a list of the values, which takes `used` of them.
@@ -96,31 +96,25 @@ fn chosen_tables(rt: HostRuntime) {
     assert!(rt; table_len(&[]) == None);
 }
 
-/// Writes 1, 2, 3 and so on, and 0 last.
-fn count_up(out: &mut [u32])
-    requires { length out.old ≤ 256 }
-    ensures { All (λ v. v < 2 ^ 31) out.new }
-{
-    let last = out.len();
-    for (i, value) in out.iter_mut().enumerate() {
-        *value = if i + 1 < last { i as u32 + 1 } else { 0 };
-    }
-}
-
 #[test]
 fn tables_of_254_different_values_and_not_of_255(rt: HostRuntime) {
-    let mut values = [0u32; 255];
-    count_up(&mut values);
+    let mut bytes = [0u8; 256];
     let mut want = [0u8; 512];
     want[0] = 0xa8;
     want[1] = 0xff;
     want[2] = 0xff;
     for i in 0..254 {
+        bytes[i] = i as u8 + 1;
         want[3 + i] = i as u8 + 1;
         want[257 + i] = i as u8 + 1;
     }
+    let mut values = [0u32; 255];
+    unstuff(&bytes[..255], 8, &mut values);
+    assert!(rt; values.iter().all(|v| *v < 2147483648));
     expect_table(&rt, &values, &want);
+    bytes[254] = 255;
     let mut more = [0u32; 256];
-    count_up(&mut more);
+    unstuff(&bytes, 8, &mut more);
+    assert!(rt; more.iter().all(|v| *v < 2147483648));
     assert!(rt; table_len(&more) == None);
 }

@@ -1,0 +1,266 @@
+-- Steps of reading a block.
+use Rattle.std.proofs.Common.{◌≡◌, ℕ, zero, suc, ℤ, pos, negsuc, ◌+◌, ◌-◌, ◌*◌, ◌/◌, ◌%◌, ◌^◌, ◌<◌, ◌≤◌, ◌+ℤ◌, ◌*ℤ◌, ◌≤ℤ◌, ◌⊎◌, List, [], ◌∷◌, ◌++◌, length, get_or, slice_index, take, drop, map, replicate, refl, sym, ap, ◌∙◌, subst, inl, inr, arith}
+use Rattle.std.specs.Prelude.{All, Result, Ok, Err, MatchResult, IfOk, ◌↔◌, Option, Some, None, set}
+use Rattle.std.specs.Int.{int_min}
+use Rattle.std.proofs.Math.Seq.{take-add}
+use Rattle.std.proofs.lemmas.Bool.{cases_lt}
+use Rattle.std.proofs.lemmas.Int.{ints, clamps}
+use Rattle.std.proofs.lemmas.List.{length-drop, length-map, length-take-le, take-append-drop}
+use Rattle.std.proofs.lemmas.List.Elements.{All-from_get_or, All-map, All-replicate}
+use Rattle.std.proofs.lemmas.Simd.{map-map}
+use Rattle.byteorder.specs.Endian.{little_number}
+use Rattle.byteorder.specs.Numbers.{little_from-lt, little_from-take}
+use Rattle.first_fault.specs.Faults.{Faults, moved}
+use Rattle.first_fault.specs.Parts.{AreBytes}
+use Rattle.raster_values.specs.declared.kind.PixelType.{PixelType}
+use Rattle.raster_values.specs.declared.kind.PixelType.TheVariants.{I8, U8, I16, U16, I32, U32}
+use Rattle.raster_values.specs.PixelType.{InRange, Spells, bytes_of, value_of}
+use Rattle.raster_values.specs.Values.{AreValues}
+use Rattle.raster_values.proofs.Spelled.{value_fits}
+use Rattle.bit_stuff.specs.declared.heads.ListReason.{ListReason}
+use Rattle.bit_stuff.proofs.Numbers.{bytes_drop}
+use Rattle.lane_kernels.specs.Kernels.{IsQuantised, IsSmall, capped_sums}
+use Rattle.lut_stuff.specs.Faults.{list_faults}
+use Rattle.lut_stuff.specs.Lists.{IsList, IsListOf}
+use Rattle.lut_stuff.proofs.Below.{list_below}
+use Rattle.micro_block.specs.declared.context.BlockFault.{BlockFault}
+use Rattle.micro_block.specs.declared.context.BlockReason.{BlockReason}
+use Rattle.micro_block.specs.declared.context.BlockReason.TheVariants as reasons
+use Rattle.micro_block.specs.Block.{IsBlock, IsOffset, offset_type, offset_types}
+use Rattle.micro_block.specs.Block as forms
+use Rattle.micro_block.specs.Faults.{block_faults, code_faults, form_faults, offset_faults, raw_faults, tag_faults, told_of_list}
+use Rattle.micro_block.specs.Frame.{Frame, IsBlockStep}
+use Rattle.micro_block.specs.Near.{stands_for}
+use Rattle.micro_block.specs.inside.Tagged.{HasConstant, HasSteps, HasStuffed, HasTagged, IsTagged, as_raw, as_stuffed, as_zero, as_constant}
+use Rattle.micro_block.proofs.Blocks.{block_part, of_tag}
+
+-- what is said of an answer that is a fault
+pub told : (r : Result ℕ BlockFault) (Q : ℕ → Type 0) (F : BlockFault → Type 0) (f : BlockFault) → r ≡ Err f → F f → MatchResult r Q F
+told r Q F f e fault = subst (λ (u : Result ℕ BlockFault). MatchResult u Q F) (sym e) fault
+
+-- what is said of the answer of a part behind the first n bytes
+pub told_behind : (n : ℕ) (part r : Result ℕ BlockFault) (Q' Q : ℕ → Type 0) (F' F : BlockFault → Type 0) → MatchResult part (λ used. r ≡ Ok (n + used)) (λ f. r ≡ Err (record { reason = f.reason; at = n + f.at }))
+    → MatchResult part Q' F' → ((used : ℕ) → Q' used → Q (n + used)) → ((f : BlockFault) → F' f → F (record { reason = f.reason; at = n + f.at })) → MatchResult r Q F
+told_behind n (Ok used) r Q' Q F' F is part good bad = subst (λ (u : Result ℕ BlockFault). MatchResult u Q F) (sym is) (good used part)
+told_behind n (Err f) r Q' Q F' F is part good bad = subst (λ (u : Result ℕ BlockFault). MatchResult u Q F) (sym is) (bad f part)
+
+-- ---- values
+
+-- every value of a type is small
+pub value_small : (kind : PixelType) (v : ℤ) → InRange kind v → (negsuc 2147483647 ≤ℤ v) × (v ≤ℤ pos 4294967295)
+value_small I8 v h = (omega (arith, ints), omega (arith, ints))
+value_small U8 v h = (omega (arith, ints), omega (arith, ints))
+value_small I16 v h = (omega (arith, ints), omega (arith, ints))
+value_small U16 v h = (omega (arith, ints), omega (arith, ints))
+value_small I32 v h = (omega (arith, ints), omega (arith, ints))
+value_small U32 v h = (omega (arith, ints), omega (arith, ints))
+
+pub is_small : (kind : PixelType) (v : ℤ) → InRange kind v → IsSmall v
+is_small kind v h = let s = value_small kind v h in omega (arith, ints, s)
+
+pub wide_quantised : (qs : List ℕ) (wide : List ℤ) → wide ≡ map pos qs → All (λ q. q < 2 ^ 31) qs → All IsQuantised wide
+wide_quantised qs wide e below =
+    subst (λ (u : List ℤ). All IsQuantised u) (sym e)
+    (All-map IsQuantised pos qs (All-from_get_or (λ q. IsQuantised (pos q)) qs 0 (λ i lt. let b = below i 0 lt in (omega (arith, ints), omega (arith, ints, b)))))
+
+pub steps_values : (qs : List ℕ) (wide out : List ℤ) (offset far top : ℤ) (step : ℕ) → far ≡ pos step → wide ≡ map pos qs → out ≡ capped_sums wide offset far top → out ≡ map (stands_for step top offset) qs
+steps_values qs wide out offset far top step e w o =
+    o ∙ (λ i. capped_sums (w i) offset (e i) top) ∙ map-map (λ q. int_min (offset +ℤ q *ℤ pos step) top) pos qs
+
+pub step_small : (step : ℕ) → IsBlockStep step → (1 ≤ step) × (step ≤ 8589934590)
+step_small step (inl one) = (omega (arith, one), omega (arith, one))
+step_small step (inr even) = (omega (arith, even.1.0), even.1.1)
+
+-- the same, of numbers as the code reads them again
+pub steps_read : (qs : List ℕ) (wide out : List ℤ) (x far t offset top : ℤ) (step : ℕ) → x ≡ offset → far ≡ pos step → t ≡ top → wide ≡ map pos qs → out ≡ capped_sums wide x far t → out ≡ map (stands_for step top offset) qs
+steps_read qs wide out x far t offset top step ex ef et w o = steps_values qs wide out offset far top step ef w (o ∙ (λ i. capped_sums wide (ex i) far (et i)))
+
+-- ---- an offset and a list
+
+pub stuffed_told : (f : Frame) (type : PixelType) (bytes rest : List ℕ) (offset : ℤ) (values : List ℤ) (part r : Result ℕ BlockFault) → bytes_of type ≤ length bytes → rest ≡ drop (bytes_of type) bytes → Spells type bytes offset
+    → MatchResult part (λ k. r ≡ Ok (bytes_of type + k)) (λ w. r ≡ Err (record { reason = w.reason; at = bytes_of type + w.at }))
+    → MatchResult part (λ k. HasSteps f offset rest k values) (λ w. (w.at ≤ length rest) × told_of_list (list_faults f.count rest) w.at w.reason)
+    → MatchResult r (λ k. HasStuffed f type bytes k values) (λ w. (w.at ≤ length bytes) × offset_faults f 1 type bytes w.at w.reason)
+stuffed_told f type bytes rest offset values part r room behind spells is read =
+    told_behind (bytes_of type) part r (λ k. HasSteps f offset rest k values) (λ k. HasStuffed f type bytes k values)
+    (λ w. (w.at ≤ length rest) × told_of_list (list_faults f.count rest) w.at w.reason) (λ w. (w.at ≤ length bytes) × offset_faults f 1 type bytes w.at w.reason) is read
+    (λ k s. record { room = room; offset = offset; spells = spells; taken = k; size = refl; steps = subst (λ (u : List ℕ). HasSteps f offset u k values) behind s })
+    (λ w x. (omega (arith, room, x.0, ap length behind, length-drop (bytes_of type) bytes), inl (room, inl (refl, (w.at, (refl, subst (λ (u : List ℕ). told_of_list (list_faults f.count u) w.at w.reason) behind x.1))))))
+
+-- ---- what follows a tag
+
+spelled_front : (type : PixelType) (bytes : List ℕ) (offset : ℤ) → bytes_of type ≤ length bytes → Spells type bytes offset → Spells type (take (bytes_of type) bytes) offset
+spelled_front type bytes offset room s = s ∙ ap (value_of type) (sym (little_from-take 0 (bytes_of type) (bytes_of type) bytes (omega arith)))
+
+offset_read : (kind type : PixelType) (code : ℕ) (bytes : List ℕ) (offset : ℤ) → offset_type kind code ≡ Some type → bytes_of type ≤ length bytes → Spells type bytes offset → IsOffset kind code (take (bytes_of type) bytes) offset
+offset_read kind type code bytes offset e room s = record { type = type; coded = e; size = length-take-le (bytes_of type) bytes room; spells = spelled_front type bytes offset room s }
+
+pub stuffed_tagged : (f : Frame) (tag : ℕ) (type : PixelType) (bytes : List ℕ) (k : ℕ) (values : List ℤ) → tag % 4 ≡ 1 → offset_type f.kind (tag / 64) ≡ Some type → HasStuffed f type bytes k values → HasTagged f tag bytes (1 + k) values
+stuffed_tagged f tag type bytes k values form e s = record {
+  taken = k;
+  size = refl;
+  room = omega (arith, s.size, s.room, s.steps.room, length-drop (bytes_of type) bytes);
+  tagged = as_stuffed form (take (bytes_of type) bytes) (take s.taken (drop (bytes_of type) bytes)) s.offset s.steps.qs
+  (ap (λ (n : ℕ). take n bytes) s.size ∙ take-add (bytes_of type) s.taken bytes)
+  (offset_read f.kind type (tag / 64) bytes s.offset e s.room s.spells) s.steps.list s.steps.values_are;
+}
+
+pub constant_tagged : (f : Frame) (tag : ℕ) (type : PixelType) (bytes : List ℕ) (k : ℕ) (values : List ℤ) → tag % 4 ≡ 3 → offset_type f.kind (tag / 64) ≡ Some type → HasConstant type bytes k f.count values → HasTagged f tag bytes (1 + k) values
+constant_tagged f tag type bytes k values form e h = record {
+  taken = k;
+  size = refl;
+  room = h.room;
+  tagged = as_constant form h.offset (subst (λ (n : ℕ). IsOffset f.kind (tag / 64) (take n bytes) h.offset) (sym h.size) (offset_read f.kind type (tag / 64) bytes h.offset e (omega (arith, h.size, h.room)) h.spells)) h.same;
+}
+
+pub raw_tagged : (f : Frame) (tag : ℕ) (bytes : List ℕ) (k : ℕ) (values : List ℤ) → tag % 4 ≡ 0 → length values ≡ f.count → (k ≤ length bytes) × AreValues f.kind (take k bytes) values → HasTagged f tag bytes (1 + k) values
+raw_tagged f tag bytes k values form count h = record { taken = k; size = refl; room = h.0; tagged = as_raw form count h.1 }
+
+pub offset_wrong : (f : Frame) (tag : ℕ) (type : PixelType) (bytes : List ℕ) (at : ℕ) (r : BlockReason) → ¬ (tag % 4 ≡ 0) → ¬ (tag % 4 ≡ 2) → offset_type f.kind (tag / 64) ≡ Some type
+    → offset_faults f (tag % 4) type bytes at r → form_faults f tag bytes (1 + at) r
+offset_wrong f tag type bytes at r not_raw not_zero e w =
+    inr (not_raw, inr (not_zero, subst (λ (o : Option PixelType). code_faults f (tag % 4) o bytes (1 + at) r) (sym e) (at, (refl, w))))
+
+-- ---- the block
+
+pub tag_stands : (f : Frame) (bytes rest : List ℕ) (tag used : ℕ) (values : List ℤ) → 0 < length bytes → tag ≡ slice_index bytes 0 → rest ≡ drop 1 bytes → tag / 4 % 16 ≡ f.col / 8 % 16 → HasTagged f tag rest used values
+    → (used ≤ length bytes) × IsBlock f (take used bytes) values
+tag_stands f [] rest tag used values there first behind column h = absurd (omega (arith, there))
+tag_stands f (b ∷ bytes) rest tag used values there first behind column h =
+    let longer : used ≡ suc h.taken = omega (arith, h.size) in
+    let within : suc h.taken ≤ length (b ∷ bytes) = omega (arith, h.room, ap length behind) in
+    let stands : IsBlock f (tag ∷ take h.taken rest) values = of_tag f tag (take h.taken rest) values column h.tagged in
+    (omega (arith, longer, within), subst (λ (u : List ℕ). IsBlock f u values) ((λ i. first i ∷ take h.taken (behind i)) ∙ ap (λ (n : ℕ). take n (b ∷ bytes)) (sym longer)) stands)
+
+pub tag_wrong : (f : Frame) (bytes rest : List ℕ) (tag at : ℕ) (r : BlockReason) → 0 < length bytes → tag ≡ slice_index bytes 0 → rest ≡ drop 1 bytes → tag / 4 % 16 ≡ f.col / 8 % 16
+    → (at ≤ 1 + length rest) × form_faults f tag rest at r → (at ≤ length bytes) × block_faults f bytes at r
+unfolding block_faults
+tag_wrong f bytes rest tag at r there first behind column w =
+    (
+      omega (arith, w.0, there, ap length behind, length-drop 1 bytes),
+      inl (there, subst (λ (t : ℕ). tag_faults f t (drop 1 bytes) at r) first (subst (λ (u : List ℕ). tag_faults f tag u at r) behind (inl (column, w.1)))),
+    )
+
+pub no_tag : (f : Frame) (bytes : List ℕ) (at : ℕ) (r : BlockReason) → ¬ (0 < length bytes) → at ≡ 0 → r ≡ reasons.Cut → (at ≤ length bytes) × block_faults f bytes at r
+unfolding block_faults
+no_tag f bytes at r none_ place why = (omega (arith, place), inr (none_, (place, why)))
+
+pub other_column : (f : Frame) (bytes : List ℕ) (at : ℕ) (r : BlockReason) → 0 < length bytes → ¬ (slice_index bytes 0 / 4 % 16 ≡ f.col / 8 % 16) → at ≡ 0 → r ≡ reasons.BadTag → (at ≤ length bytes) × block_faults f bytes at r
+unfolding block_faults
+other_column f bytes at r there other place why = (omega (arith, place), inl (there, inr (other, (place, why))))
+
+pub tag_told : (f : Frame) (bytes rest : List ℕ) (tag : ℕ) (values : List ℤ) (r : Result ℕ BlockFault) → 0 < length bytes → tag ≡ slice_index bytes 0 → rest ≡ drop 1 bytes → tag / 4 % 16 ≡ f.col / 8 % 16
+    → MatchResult r (λ k. HasTagged f tag rest k values) (λ w. (w.at ≤ 1 + length rest) × form_faults f tag rest w.at w.reason)
+    → MatchResult r (λ k. (k ≤ length bytes) × IsBlock f (take k bytes) values) (λ w. (w.at ≤ length bytes) × block_faults f bytes w.at w.reason)
+tag_told f bytes rest tag values (Ok k) there first behind column read = tag_stands f bytes rest tag k values there first behind column read
+tag_told f bytes rest tag values (Err w) there first behind column read = tag_wrong f bytes rest tag w.at w.reason there first behind column read
+
+-- ---- the clauses of the reader
+
+abbrev Read : Frame → List ℕ → List ℤ → Result ℕ BlockFault → Type 0
+Read f bytes values r = MatchResult r (λ k. (k ≤ length bytes) × IsBlock f (take k bytes) values) (λ w. (w.at ≤ length bytes) × block_faults f bytes w.at w.reason)
+
+pub read_ok : (f : Frame) (bytes : List ℕ) (values : List ℤ) (r : Result ℕ BlockFault) → Read f bytes values r → IfOk r (λ k. (k ≤ length bytes) × IsBlock f (take k bytes) values)
+read_ok f bytes values (Ok k) read = read
+read_ok f bytes values (Err w) read = tt
+
+pub read_complete : (f : Frame) (bytes : List ℕ) (values : List ℤ) (r : Result ℕ BlockFault) → Read f bytes values r
+    → (front rest : List ℕ) (xs : List ℤ) → bytes ≡ front ++ rest → IsBlock f front xs → (r ≡ Ok (length front)) × (values ≡ xs)
+read_complete f bytes values (Ok k) read front rest xs joined block =
+    let same = (block_part f).once (take k bytes) front (drop k bytes) rest values xs read.1 block (take-append-drop k bytes ∙ joined) in
+    (ap (λ (m : ℕ). Ok m) (sym (length-take-le k bytes read.0) ∙ ap length same.0), same.1)
+read_complete f bytes values (Err w) read front rest xs joined block =
+    absurd ((block_part f).either front rest xs w.at w.reason block (subst (λ (u : List ℕ). block_faults f u w.at w.reason) joined read.1))
+
+same_err : (r : Result ℕ BlockFault) (g h : BlockFault) → r ≡ Err g → r ≡ Err h → g ≡ h
+same_err r g h e d = cc
+
+pub read_fault : (f : Frame) (bytes : List ℕ) (values : List ℤ) (r : Result ℕ BlockFault) → Read f bytes values r → (w : BlockFault) → (r ≡ Err w) ↔ block_faults f bytes w.at w.reason
+read_fault f bytes values (Ok k) read w =
+    ((λ e. absurd (cc)), λ x. absurd ((block_part f).either (take k bytes) (drop k bytes) values w.at w.reason read.1 (subst (λ (u : List ℕ). block_faults f u w.at w.reason) (sym (take-append-drop k bytes)) x)))
+read_fault f bytes values (Err g) read w =
+    let there : Err g ≡ Err w → block_faults f bytes w.at w.reason = λ e. subst (λ (h : BlockFault). block_faults f bytes h.at h.reason) (same_err (Err g) g w refl e) read.1 in
+    let back : block_faults f bytes w.at w.reason → Err g ≡ Err w = λ x. let same = (block_part f).single bytes g.at w.at g.reason w.reason read.1 x in λ i. Err (record { reason = same.1 i; at = same.0 i }) in
+    (there, back)
+
+-- ---- the values are the type's
+
+type_within : (kind type : PixelType) (v : ℤ) → InRange type v → ((z : ℤ) → InRange type z → InRange kind z) → InRange kind v
+type_within kind type v h to = to v h
+
+some_is : (x y : PixelType) → Some x ≡ Some y → x ≡ y
+some_is x y e = cc
+
+-- each type in which an offset may stand lies within the pixel type
+pub offset_fits : (kind type : PixelType) (code : ℕ) (v : ℤ) → offset_type kind code ≡ Some type → InRange type v → InRange kind v
+offset_fits I8 type zero v e h = subst (λ (t : PixelType). InRange t v) (sym (some_is I8 type e)) h
+offset_fits I8 type (suc zero) v e h = subst (λ (t : PixelType). InRange t v) (sym (some_is I8 type e)) h
+offset_fits I8 type (suc (suc zero)) v e h = subst (λ (t : PixelType). InRange t v) (sym (some_is I8 type e)) h
+offset_fits I8 type (suc (suc (suc zero))) v e h = subst (λ (t : PixelType). InRange t v) (sym (some_is I8 type e)) h
+offset_fits I8 type (suc (suc (suc (suc code)))) v e h = absurd (cc)
+offset_fits U8 type zero v e h = subst (λ (t : PixelType). InRange t v) (sym (some_is U8 type e)) h
+offset_fits U8 type (suc zero) v e h = subst (λ (t : PixelType). InRange t v) (sym (some_is U8 type e)) h
+offset_fits U8 type (suc (suc zero)) v e h = subst (λ (t : PixelType). InRange t v) (sym (some_is U8 type e)) h
+offset_fits U8 type (suc (suc (suc zero))) v e h = subst (λ (t : PixelType). InRange t v) (sym (some_is U8 type e)) h
+offset_fits U8 type (suc (suc (suc (suc code)))) v e h = absurd (cc)
+offset_fits I16 type zero v e h = subst (λ (t : PixelType). InRange t v) (sym (some_is I16 type e)) h
+offset_fits I16 type (suc zero) v e h = let k : InRange U8 v = subst (λ (t : PixelType). InRange t v) (sym (some_is U8 type e)) h in (omega (arith, ints, k), omega (arith, ints, k))
+offset_fits I16 type (suc (suc zero)) v e h = let k : InRange I8 v = subst (λ (t : PixelType). InRange t v) (sym (some_is I8 type e)) h in (omega (arith, ints, k), omega (arith, ints, k))
+offset_fits I16 type (suc (suc (suc code))) v e h = absurd (cc)
+offset_fits U16 type zero v e h = subst (λ (t : PixelType). InRange t v) (sym (some_is U16 type e)) h
+offset_fits U16 type (suc zero) v e h = let k : InRange U8 v = subst (λ (t : PixelType). InRange t v) (sym (some_is U8 type e)) h in (omega (arith, ints, k), omega (arith, ints, k))
+offset_fits U16 type (suc (suc code)) v e h = absurd (cc)
+offset_fits I32 type zero v e h = subst (λ (t : PixelType). InRange t v) (sym (some_is I32 type e)) h
+offset_fits I32 type (suc zero) v e h = let k : InRange U16 v = subst (λ (t : PixelType). InRange t v) (sym (some_is U16 type e)) h in (omega (arith, ints, k), omega (arith, ints, k))
+offset_fits I32 type (suc (suc zero)) v e h = let k : InRange I16 v = subst (λ (t : PixelType). InRange t v) (sym (some_is I16 type e)) h in (omega (arith, ints, k), omega (arith, ints, k))
+offset_fits I32 type (suc (suc (suc zero))) v e h = let k : InRange U8 v = subst (λ (t : PixelType). InRange t v) (sym (some_is U8 type e)) h in (omega (arith, ints, k), omega (arith, ints, k))
+offset_fits I32 type (suc (suc (suc (suc code)))) v e h = absurd (cc)
+offset_fits U32 type zero v e h = subst (λ (t : PixelType). InRange t v) (sym (some_is U32 type e)) h
+offset_fits U32 type (suc zero) v e h = let k : InRange U16 v = subst (λ (t : PixelType). InRange t v) (sym (some_is U16 type e)) h in (omega (arith, ints, k), omega (arith, ints, k))
+offset_fits U32 type (suc (suc zero)) v e h = let k : InRange U8 v = subst (λ (t : PixelType). InRange t v) (sym (some_is U8 type e)) h in (omega (arith, ints, k), omega (arith, ints, k))
+offset_fits U32 type (suc (suc (suc code))) v e h = absurd (cc)
+
+zero_fits : (kind : PixelType) → InRange kind (pos 0)
+zero_fits I8 = (omega (arith, ints), omega (arith, ints))
+zero_fits U8 = (omega (arith, ints), omega (arith, ints))
+zero_fits I16 = (omega (arith, ints), omega (arith, ints))
+zero_fits U16 = (omega (arith, ints), omega (arith, ints))
+zero_fits I32 = (omega (arith, ints), omega (arith, ints))
+zero_fits U32 = (omega (arith, ints), omega (arith, ints))
+
+spelled_fits : (type : PixelType) (bytes : List ℕ) (v : ℤ) → AreBytes bytes → Spells type bytes v → InRange type v
+spelled_fits type bytes v are s = subst (λ (z : ℤ). InRange type z) (sym s) (value_fits type (little_number (bytes_of type) bytes) (little_from-lt 0 (bytes_of type) bytes are))
+
+front_bytes : (a b : List ℕ) → AreBytes (a ++ b) → AreBytes a
+front_bytes [] b are i = omega arith
+front_bytes (x ∷ a) b are zero = are zero
+front_bytes (x ∷ a) b are (suc i) = front_bytes a b (λ k. are (suc k)) i
+
+offset_in : (kind : PixelType) (code : ℕ) (bytes : List ℕ) (v : ℤ) → AreBytes bytes → IsOffset kind code bytes v → InRange kind v
+offset_in kind code bytes v are o = offset_fits kind o.type code v o.coded (spelled_fits o.type bytes v are o.spells)
+
+stands_in : (kind : PixelType) (step q : ℕ) (top v : ℤ) → InRange kind top → InRange kind v → InRange kind (stands_for step top v q)
+stands_in kind step q top v ht hv = (omega (arith, ints, clamps, ht, hv), omega (arith, ints, clamps, ht, hv))
+
+-- the values of a block are the type's, where its top is
+pub block_in_range : (f : Frame) (bytes : List ℕ) (values : List ℤ) → AreBytes bytes → InRange f.kind f.top → IsBlock f bytes values → All (InRange f.kind) values
+block_in_range f bytes values are top (forms.raw tag code rest joined t count v) =
+    let rest_are : AreBytes rest = λ i. subst (λ (u : List ℕ). AreBytes u) joined are (suc i) in
+    All-from_get_or (InRange f.kind) values (pos 0) (λ i lt. subst (λ (z : ℤ). InRange f.kind z) (sym (v.each i lt))
+    (value_fits f.kind (little_number (bytes_of f.kind) (drop (i * bytes_of f.kind) rest)) (little_from-lt 0 (bytes_of f.kind) (drop (i * bytes_of f.kind) rest) (bytes_drop (i * bytes_of f.kind) rest rest_are))))
+block_in_range f bytes values are top (forms.stuffed tag code front back offset qs joined t o count list e) =
+    let rest_are : AreBytes (front ++ back) = λ i. subst (λ (u : List ℕ). AreBytes u) joined are (suc i) in
+    let low : InRange f.kind offset = offset_in f.kind code front offset (front_bytes front back rest_are) o in
+    subst (λ (u : List ℤ). All (InRange f.kind) u) (sym e)
+    (All-map (InRange f.kind) (stands_for f.step f.top offset) qs (All-from_get_or (λ q. InRange f.kind (stands_for f.step f.top offset q)) qs 0 (λ i lt. stands_in f.kind f.step (get_or qs i 0) f.top offset top low)))
+block_in_range f bytes values are top (forms.zero tag code joined t e) = subst (λ (u : List ℤ). All (InRange f.kind) u) (sym e) (All-replicate (InRange f.kind) f.count (pos 0) (zero_fits f.kind))
+block_in_range f bytes values are top (forms.constant tag code front offset joined t o e) =
+    let rest_are : AreBytes front = λ i. subst (λ (u : List ℕ). AreBytes u) joined are (suc i) in
+    subst (λ (u : List ℤ). All (InRange f.kind) u) (sym e) (All-replicate (InRange f.kind) f.count offset (offset_in f.kind code front offset rest_are o))
+
+take_bytes : (n : ℕ) (bytes : List ℕ) → AreBytes bytes → AreBytes (take n bytes)
+take_bytes n bytes are = front_bytes (take n bytes) (drop n bytes) (subst (λ (u : List ℕ). AreBytes u) (sym (take-append-drop n bytes)) are)
+
+pub read_in_range : (f : Frame) (bytes : List ℕ) (values : List ℤ) (r : Result ℕ BlockFault) → AreBytes bytes → InRange f.kind f.top → Read f bytes values r → IfOk r (λ _. All (InRange f.kind) values)
+read_in_range f bytes values (Ok k) are top read = block_in_range f (take k bytes) values (take_bytes k bytes are) top read.1
+read_in_range f bytes values (Err w) are top read = tt

@@ -1,0 +1,123 @@
+-- The sizes of the forms by numbers alone.
+use Rattle.std.proofs.Common.{◌≡◌, ℕ, suc, ◌+◌, ◌*◌, ◌<◌, ℤ, Bool, true, false, List, [], ◌∷◌, length, get_or, map, refl, sym, ap, subst, ◌∙◌, arith, length-append, inl, inr, ◌≤◌}
+use Rattle.std.specs.Prelude.{Option, Some, None, not, ◌&&◌, nat_eq, nat_lt, nat_le, unsigned_abs, unwrap_or, MatchOption, if◌then◌else◌}
+use Rattle.std.specs.Option.{option_map}
+use Rattle.std.proofs.lemmas.List.{length-map}
+use Rattle.raster_values.specs.declared.kind.PixelType.{PixelType}
+use Rattle.raster_values.specs.PixelType.{bytes_of}
+use Rattle.raster_values.proofs.Pack.{length-value_bytes, length-values_bytes}
+use Rattle.bit_stuff.specs.Stuffed.{stuffed_size}
+use Rattle.bit_stuff.specs.Head.{head_size}
+use Rattle.bit_stuff.specs.Simple.{greatest_number, simple_bytes, binary_digits, width_of}
+use Rattle.bit_stuff.proofs.HeadLaws.{length-simple_bytes}
+use Rattle.micro_block.specs.Fewest.{allowed, first_least, IsFirstLeast}
+use Rattle.micro_block.specs.Near.{quantised}
+use Rattle.micro_block.specs.inside.Sizes.{closed_sizes, table_form, tabled_size, AreEnds, IsFound}
+use Rattle.lut_stuff.specs.Tables.{distinct_above_0, table_bytes, table_size}
+use Rattle.lut_stuff.proofs.Tabled.{distinct_some}
+use Rattle.std.proofs.lemmas.Bool.{cases_lt, lt-ltb}
+use Rattle.micro_block.specs.Choice as choice
+use Rattle.micro_block.specs.Choice.{Form, least_value, quantised_values, narrow_type, offset_bytes, form_bytes, forms, is_flat, is_stuffable, chosen_form, block_bytes}
+use Rattle.micro_block.proofs.Steps.{by_sizes, sized}
+
+sized_allowed : {A : Type 0} (size : A → ℕ) (b : Bool) (x : A) (n : ℕ) → size x ≡ n → allowed b n ≡ option_map size (allowed b x)
+sized_allowed size true x n e = ap Some (sym e)
+sized_allowed size false x n e = refl
+
+and_false : (b : Bool) → (b && false) ≡ false
+and_false true = refl
+and_false false = refl
+
+abbrev pub size_of : PixelType → ℕ → ℕ → List ℤ → Form → ℕ
+size_of kind col step values form = length (form_bytes kind col step values form)
+
+pub length_constant : (kind : PixelType) (col step : ℕ) (values : List ℤ) → size_of kind col step values choice.constant ≡ 1 + bytes_of (narrow_type kind (least_value values))
+unfolding form_bytes offset_bytes
+length_constant kind col step values = let e = length-value_bytes (narrow_type kind (least_value values)) (least_value values) in omega (arith, e)
+
+pub length_raw : (kind : PixelType) (col step : ℕ) (values : List ℤ) → size_of kind col step values choice.raw ≡ 1 + length values * bytes_of kind
+unfolding form_bytes
+length_raw kind col step values = let e = length-values_bytes kind values in omega (arith, e)
+
+length_simple : (kind : PixelType) (col step : ℕ) (values : List ℤ)
+    → size_of kind col step values choice.simple ≡ 1 + (bytes_of (narrow_type kind (least_value values)) + (head_size (length values) + stuffed_size (length values) (binary_digits (greatest_number (quantised_values step values)))))
+unfolding form_bytes offset_bytes
+length_simple kind col step values =
+    let e = length-value_bytes (narrow_type kind (least_value values)) (least_value values) in
+    let l = length-simple_bytes (quantised_values step values) in
+    let n : length (quantised_values step values) ≡ length values = length-map values (quantised step (least_value values)) in
+    let both : head_size (length (quantised_values step values)) + stuffed_size (length (quantised_values step values)) (width_of (quantised_values step values)) ≡ head_size (length values) + stuffed_size (length values) (width_of (quantised_values step values)) = ap (λ k. head_size k + stuffed_size k (width_of (quantised_values step values))) n in
+    ap suc (length-append (offset_bytes kind (least_value values)) (simple_bytes (quantised_values step values)) ∙ ap (λ k. k + length (simple_bytes (quantised_values step values))) e ∙ ap (λ k. bytes_of (narrow_type kind (least_value values)) + k) (l ∙ both))
+    ∙ (let t : suc (bytes_of (narrow_type kind (least_value values)) + (head_size (length values) + stuffed_size (length values) (width_of (quantised_values step values)))) ≡ 1 + (bytes_of (narrow_type kind (least_value values)) + (head_size (length values) + stuffed_size (length values) (width_of (quantised_values step values)))) = omega arith in t)
+
+length_zero : (kind : PixelType) (col step : ℕ) (values : List ℤ) → size_of kind col step values choice.zero ≡ 1
+unfolding form_bytes
+length_zero kind col step values = refl
+
+length_table : (kind : PixelType) (col step : ℕ) (values : List ℤ) → size_of kind col step values choice.table ≡ table_form kind (least_value values) (length (table_bytes (quantised_values step values)))
+unfolding form_bytes offset_bytes
+length_table kind col step values =
+    let e = length-value_bytes (narrow_type kind (least_value values)) (least_value values) in
+    ap suc (length-append (offset_bytes kind (least_value values)) (table_bytes (quantised_values step values)) ∙ ap (λ k. k + length (table_bytes (quantised_values step values))) e)
+    ∙ (let t : suc (bytes_of (narrow_type kind (least_value values)) + length (table_bytes (quantised_values step values))) ≡ 1 + (bytes_of (narrow_type kind (least_value values)) + length (table_bytes (quantised_values step values))) = omega arith in t)
+
+some_above : (g : ℕ) → not (nat_eq g 0) ≡ true → 0 < g
+some_above g h = elim (cases_lt 0 g) [ | inl some ↦ some | inr none ↦ absurd (zero_test g (let e : g ≡ 0 = omega (arith, none) in e) h) ]
+  where
+    zero_test : (g : ℕ) → g ≡ 0 → not (nat_eq g 0) ≡ true → ⊥
+    zero_test g e h = let t : true ≡ false = sym h ∙ ap (λ k. not (nat_eq k 0)) e in cc
+
+tabled_by : (size : Form → ℕ) (kind : PixelType) (m : ℤ) (len d : ℕ) (a b c : Bool) → size choice.table ≡ table_form kind m len → (a ≡ true → nat_lt 0 d ≡ true)
+    → option_map (table_form kind m) (if a && b then (if nat_lt 0 d && c then Some len else None) else None) ≡ option_map size (allowed (a && (b && c)) choice.table)
+tabled_by size kind m len d false b c e some = refl
+tabled_by size kind m len d true false c e some = refl
+tabled_by size kind m len d true true false e some = ap (λ t. option_map (table_form kind m) (if t && false then Some len else None)) (some refl)
+tabled_by size kind m len d true true true e some = ap (λ t. option_map (table_form kind m) (if t && true then Some len else None)) (some refl) ∙ ap Some (sym e)
+
+pub closed : (kind : PixelType) (col step : ℕ) (values : List ℤ) → closed_sizes kind (length values) (least_value values) (greatest_number (quantised_values step values)) (tabled_size step values) ≡ map (option_map (size_of kind col step values)) (forms step values)
+closed kind col step values =
+    let size = size_of kind col step values in
+    λ i. sized_allowed size (is_flat step values && nat_eq (unsigned_abs (least_value values)) 0) choice.zero 1 (length_zero kind col step values) i
+    ∷ sized_allowed size (is_flat step values && nat_lt 0 (length values)) choice.constant _ (length_constant kind col step values) i
+    ∷ Some (sym (length_raw kind col step values) i)
+    ∷ sized_allowed size (not (is_flat step values) && is_stuffable step values) choice.simple _ (length_simple kind col step values) i
+    ∷ tabled_by size kind (least_value values) (length (table_bytes (quantised_values step values))) (distinct_above_0 (quantised_values step values)) (not (is_flat step values)) (is_stuffable step values) (nat_le (distinct_above_0 (quantised_values step values)) 254)
+    (length_table kind col step values) (λ t. lt-ltb 0 (distinct_above_0 (quantised_values step values)) (distinct_some (quantised_values step values) (some_above (greatest_number (quantised_values step values)) t))) i
+    ∷ []
+
+-- the form of the first least of the sizes is the chosen one
+pub chosen_at : (kind : PixelType) (col step : ℕ) (values : List ℤ) (k n : ℕ) → IsFirstLeast (λ m. m) (closed_sizes kind (length values) (least_value values) (greatest_number (quantised_values step values)) (tabled_size step values)) k n
+    → get_or (forms step values) k None ≡ Some (chosen_form kind col step values)
+unfolding chosen_form
+chosen_at kind col step values k n is =
+    let on = subst (λ sizes. IsFirstLeast (λ m. m) sizes k n) (closed kind col step values) is in
+    some_there (get_or (forms step values) k None) refl (sym (sized (size_of kind col step values) (forms step values) k) ∙ on.there) on
+  where
+    some_there : (c : Option Form) → get_or (forms step values) k None ≡ c → option_map (size_of kind col step values) (get_or (forms step values) k None) ≡ Some n
+        → IsFirstLeast (λ m. m) (map (option_map (size_of kind col step values)) (forms step values)) k n
+        → get_or (forms step values) k None ≡ Some (unwrap_or (first_least (size_of kind col step values) (forms step values)) choice.raw)
+    some_there None e there on = absurd (let t : None ≡ Some n = sym (ap (option_map (size_of kind col step values)) e) ∙ there in cc)
+    some_there (Some form) e there on = e ∙ ap (λ c. Some (unwrap_or c choice.raw)) (sym (by_sizes (size_of kind col step values) (forms step values) k n form e on))
+
+-- and its length is that size
+pub chosen_size : (kind : PixelType) (col step : ℕ) (values : List ℤ) (k n : ℕ) → IsFirstLeast (λ m. m) (closed_sizes kind (length values) (least_value values) (greatest_number (quantised_values step values)) (tabled_size step values)) k n
+    → length (block_bytes kind col step values) ≡ n
+unfolding block_bytes
+chosen_size kind col step values k n is =
+    let on = subst (λ sizes. IsFirstLeast (λ m. m) sizes k n) (closed kind col step values) is in
+    let at = chosen_at kind col step values k n is in
+    same_some (length (form_bytes kind col step values (chosen_form kind col step values))) n
+    (sym (ap (option_map (size_of kind col step values)) at) ∙ sym (sized (size_of kind col step values) (forms step values) k) ∙ on.there)
+  where
+    same_some : (a b : ℕ) → Some a ≡ Some b → a ≡ b
+    same_some a b e = cc
+
+pub found : (kind : PixelType) (col step : ℕ) (values : List ℤ) (sizes : List (Option ℕ)) (least greatest : ℤ) (most : ℕ) (tabled : Option ℕ) (first : Option (ℕ × ℕ)) (p : ℕ × ℕ)
+    → 0 < step → AreEnds kind values least greatest → most ≡ quantised step least greatest → tabled ≡ tabled_size step values → sizes ≡ closed_sizes kind (length values) least most tabled
+    → MatchOption first ((i n : ℕ) → get_or sizes i None ≡ Some n → ⊥) (λ q. IsFirstLeast (λ m. m) sizes q.0 q.1) → p ≡ unwrap_or first (2, 0)
+    → IsFound kind col step values p
+found kind col step values sizes least greatest most tabled None p some ends most_is tabled_is sizes_is none e = absurd (none 2 (1 + length values * bytes_of kind) (ap (λ xs. get_or xs 2 None) sizes_is))
+found kind col step values sizes least greatest most tabled (Some q) p some ends most_is tabled_is sizes_is is_first e =
+    let all : sizes ≡ closed_sizes kind (length values) (least_value values) (greatest_number (quantised_values step values)) (tabled_size step values) = sizes_is ∙ (λ i. closed_sizes kind (length values) (ends.least_is i) ((most_is ∙ ends.most step some) i) (tabled_is i)) in
+    let is = subst (λ xs. IsFirstLeast (λ m. m) xs q.0 q.1) all is_first in
+    subst (IsFound kind col step values) (sym e) (record { form = chosen_at kind col step values q.0 q.1 is; size = chosen_size kind col step values q.0 q.1 is })

@@ -1,0 +1,10 @@
+pub mod Blocks
+pub mod BlockSteps
+pub mod Fewest
+pub mod Near
+pub mod Written
+pub mod Fast
+pub mod Steps
+pub mod Closed
+pub mod Range
+pub mod SizeSteps

@@ -1,0 +1,10 @@
+pub mod Frame
+pub mod Near
+pub mod Fewest
+pub mod Choice
+pub mod Block
+pub mod Faults
+pub mod inside
+pub use Rattle.raster_values.specs.PixelType
+pub use Rattle.raster_values.specs.Values
+pub use Rattle.lut_stuff.specs.Lists

@@ -1,0 +1,213 @@
+// How long a block is in each form.
+
+ghost use Rattle.std.specs.Prelude.{◌≡◌, ℕ, ℤ, ◌+◌, ◌≤◌, ◌<◌, ◌^◌, ◌≤ℤ◌, length, map, Some, None, All, IfSome};
+ghost use Rattle.bit_stuff.specs.Head.{head_size};
+ghost use Rattle.bit_stuff.specs.Stuffed.{stuffed_size};
+ghost use Rattle.bit_stuff.specs.Simple.{binary_digits};
+ghost use Rattle.raster_values.specs.PixelType.{InRange};
+ghost use Rattle.micro_block.specs.Choice as choice;
+ghost use Rattle.micro_block.specs.Fewest.{allowed};
+ghost use Rattle.lut_stuff.specs.Tables.{table_size};
+ghost use Rattle.micro_block.specs.Near.{quantised};
+ghost use Rattle.micro_block.specs.inside.Sizes.{closed_sizes, tabled_size, AreEnds, IsFound};
+ghost use Rattle.micro_block.specs.Frame.{IsBlockCtx};
+ghost use Rattle.lane_kernels.specs.Kernels.{IsSmall};
+ghost use Rattle.bit_stuff.specs.Simple.{greatest_number};
+
+use crate::context::BlockCtx;
+use crate::first::first_least;
+use crate::quantising::quantised_value;
+use bit_stuff::{digit_count, head_len, stuffed_len};
+use lut_stuff::table_len;
+use lane_kernels::range;
+use raster_values::PixelType;
+
+fn holds(kind: PixelType, value: i64) -> bool
+    ensures { result ≡ choice.holds kind value }
+{
+    kind.least() <= value && value <= kind.greatest()
+}
+
+/// The narrowest type in which the offset may stand.
+fn narrow_type(kind: PixelType, value: i64) -> PixelType
+    ensures { result ≡ choice.narrow_type kind value }
+{
+    match kind {
+        PixelType::I8 | PixelType::U8 => kind,
+        PixelType::I16 => {
+            if holds(PixelType::I8, value) {
+                PixelType::I8
+            } else if holds(PixelType::U8, value) {
+                PixelType::U8
+            } else {
+                kind
+            }
+        }
+        PixelType::U16 => {
+            if holds(PixelType::U8, value) {
+                PixelType::U8
+            } else {
+                kind
+            }
+        }
+        PixelType::I32 => {
+            if holds(PixelType::U8, value) {
+                PixelType::U8
+            } else if holds(PixelType::I16, value) {
+                PixelType::I16
+            } else if holds(PixelType::U16, value) {
+                PixelType::U16
+            } else {
+                kind
+            }
+        }
+        PixelType::U32 => {
+            if holds(PixelType::U8, value) {
+                PixelType::U8
+            } else if holds(PixelType::U16, value) {
+                PixelType::U16
+            } else {
+                kind
+            }
+        }
+    }
+}
+
+fn some_where(test: bool, size: usize) -> Option<usize>
+    ensures { result ≡ allowed test size }
+{
+    if test { Some(size) } else { None }
+}
+
+/// How many bytes the simple list of `count` numbers takes, the greatest of which is `most`.
+fn list_size(count: usize, most: u64) -> usize
+    requires count { count ≤ 256 }
+    requires most { most < 2 ^ 30 }
+    ensures value { result ≡ head_size count + stuffed_size count (binary_digits most) }
+    ensures few { result ≤ 2000 }
+{
+    head_len(count as u32) + stuffed_len(count, digit_count(most as u32))
+}
+
+/// How many bytes the block of `count` values takes in each form, the least of which is `least` and the
+/// greatest of which has `most` steps: None where the form may not be.
+fn form_sizes(
+    count: usize,
+    kind: PixelType,
+    least: i64,
+    most: u64,
+    tabled: Option<usize>,
+) -> [Option<usize>; 5]
+    requires few { count ≤ 256 }
+    requires tabled { IfSome tabled (λ n. n ≤ 2000) }
+    ensures { result ≡ closed_sizes kind count least most tabled }
+{
+    let flat = most == 0;
+    let offset = narrow_type(kind, least).bytes();
+    let stuffable = !flat && most < 1 << 30;
+    let simple = if stuffable {
+        Some(1 + offset + list_size(count, most))
+    } else {
+        None
+    };
+    [
+        some_where(flat && least == 0, 1),
+        some_where(flat && count > 0, 1 + offset),
+        Some(1 + count * kind.bytes()),
+        simple,
+        tabled.map(|n| 1 + offset + n),
+    ]
+}
+
+/// The least and the greatest of the values, and 0 and 0 of none.
+fn ends(values: &[i64], kind: PixelType) -> (i64, i64)
+    requires in_range { All (InRange kind) values.now }
+    ensures { AreEnds kind values.now result.0 result.1 }
+{
+    match range(values) {
+        Some((least, greatest)) => (least, greatest),
+        None => (0, 0),
+    }
+}
+
+/// Writes the number of steps of each value from `least`.
+fn steps_of(values: &[i64], least: i64, step: u64, out: &mut [u32])
+    requires lengths { length out.old ≡ length values.now }
+    requires small { All IsSmall values.now }
+    requires small_least { IsSmall least }
+    requires order { All (λ v. least ≤ℤ v) values.now }
+    requires step { (0 < step) × (step ≤ 8589934592) }
+    requires few { All (λ v. quantised step least v < 2 ^ 30) values.now }
+    ensures { out.new ≡ map (quantised step least) values.now }
+{
+    for (i, value) in values.iter().enumerate() {
+        out[i] = quantised_value(*value, least, step) as u32;
+    }
+}
+
+/// How many bytes the list takes in the table form, with room for the numbers of steps.
+fn table_of(values: &[i64], least: i64, step: u64, qs: &mut [u32]) -> Option<usize>
+    requires count { length values.now ≤ 256 }
+    requires lengths { length qs.old ≡ length values.now }
+    requires small { All IsSmall values.now }
+    requires small_least { IsSmall least }
+    requires order { All (λ v. least ≤ℤ v) values.now }
+    requires step { (0 < step) × (step ≤ 8589934592) }
+    requires few { All (λ v. quantised step least v < 2 ^ 30) values.now }
+    ensures value { result ≡ table_size (map (quantised step least) values.now) }
+    ensures short { IfSome result (λ n. n ≤ 2000) }
+{
+    steps_of(values, least, step, qs);
+    table_len(qs)
+}
+
+/// How many bytes the list takes in the table form, where it may stand.
+fn tabled_len(
+    values: &[i64],
+    kind: PixelType,
+    least: i64,
+    most: u64,
+    step: u64,
+) -> Option<usize>
+    requires count { length values.now ≤ 256 }
+    requires in_range { All (InRange kind) values.now }
+    requires step { (0 < step) × (step ≤ 8589934592) }
+    requires least { least ≡ choice.least_value values.now }
+    requires most { most ≡ greatest_number (choice.quantised_values step values.now) }
+    ensures value { result ≡ tabled_size step values.now }
+    ensures short { IfSome result (λ n. n ≤ 2000) }
+{
+    if most == 0 || most >= 1 << 30 {
+        return None;
+    }
+    let mut qs = [0; 256];
+    table_of(values, least, step, &mut qs[..values.len()])
+}
+
+/// The place, in the order of the forms, of the form that is chosen for the values, and the length of
+/// the block.
+fn found(values: &[i64], kind: PixelType, step: u64) -> (usize, usize)
+    requires few { length values.now ≤ 256 }
+    requires in_range { All (InRange kind) values.now }
+    requires step { (0 < step) × (step ≤ 8589934592) }
+    ensures { (col : ℕ) → IsFound kind col step values.now result }
+{
+    let (least, greatest) = ends(values, kind);
+    let most = quantised_value(greatest, least, step);
+    let tabled = tabled_len(values, kind, least, most, step);
+    let sizes = form_sizes(values.len(), kind, least, most, tabled);
+    first_least(&sizes).unwrap_or((2, 0))
+}
+
+/// How many bytes the chosen block of the values takes: that of the fewest bytes among the forms zero,
+/// constant, raw, stuffed with a simple list and stuffed with a table, of which the first where two take
+/// as many.
+pub fn block_len(values: &[i64], ctx: &BlockCtx) -> usize
+    requires few { length values.now ≤ 256 }
+    requires ctx { IsBlockCtx ctx.now }
+    requires in_range { All (InRange ctx.now.kind) values.now }
+    requires capped { All (λ v. v ≤ℤ ctx.now.top) values.now }
+    ensures { result ≡ length (choice.block_bytes ctx.now.kind ctx.now.col ctx.now.step values.now) }
+{
+    found(values, ctx.kind, ctx.step).1
+}
