@@ -5,6 +5,7 @@ ghost use Rattle.std.specs.Prelude.{◌≡◌, ◌≤◌, ℕ, List, Bool, All, 
 ghost use Rattle.first_fault.specs.Parts.{IsPart};
 ghost use Rattle.huff_codes.specs.Tree.{lengths_of, used_count};
 ghost use Rattle.huff_codes.specs.Codes.{AreCodes, AreLengths, HasCode, IsPrefixFree, canonical_codes};
+ghost use Rattle.huff_codes.specs.Table.{IsCoding, IsTable, coding_faults, table_faults};
 ghost use Rattle.huff_codes.specs.Words.{AreWords, word_faults};
 ghost use Rattle.huff_codes.specs.Written.{AreWritten};
 
@@ -13,6 +14,18 @@ ghost use Rattle.huff_codes.specs.Written.{AreWritten};
 pub fn words_are_a_part()
     ensures { (codes : List (List Bool)) (n : ℕ)
         → IsPrefixFree codes → IsPart (AreWords codes n) (word_faults codes n) }
+{}
+
+/// Tables have one reading, whatever follows them; bytes that begin with a table have no fault of it,
+/// and all others at most one. So have a table and words behind it.
+pub fn tables_are_a_part()
+    ensures table { IsPart IsTable table_faults }
+    ensures coding { (n : ℕ) → IsPart (IsCoding n) (coding_faults n) }
+{}
+
+/// The codes of a table are codes: of which none is the front of another.
+pub fn tables_have_codes()
+    ensures { (bytes : List ℕ) (codes : List (List Bool)) → IsTable bytes codes → AreCodes codes }
 {}
 
 /// The canonical codes of lengths whose shares fill all words are codes.

@@ -1,4 +1,8 @@
-//! Code lengths, code tables and code words.
+//! Code lengths, code tables and code words, read; the lengths and the codes that are chosen.
+//!
+//! The crate stands on `bit_stuff` and `lut_stuff` for its lists, and takes no memory. What the layer
+//! above uses: bytes are read exactly where they begin with a table of codes, or with the words of
+//! some symbols, and else their first fault is told.
 #![tactic(auto)]
 
 mod codes;
@@ -12,8 +16,8 @@ mod words;
 pub use codes::Codes;
 pub use faults::{CodeFault, CodeReason};
 pub use laws::{
-    canonical_codes_are_codes, chosen_lengths_are_lengths, words_are_a_part,
-    written_words_are_words,
+    canonical_codes_are_codes, chosen_lengths_are_lengths, tables_are_a_part, tables_have_codes,
+    words_are_a_part, written_words_are_words,
 };
 pub use lengths::Lengths;
 pub use table::read_table;
