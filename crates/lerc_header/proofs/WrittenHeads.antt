@@ -12,7 +12,7 @@ use Rattle.byteorder.specs.Endian.{little_number, little_bytes, twos_complement}
 use Rattle.byteorder.specs.Numbers.{little_number-reads_back}
 use Rattle.raster_values.specs.declared.kind.PixelType.{PixelType}
 use Rattle.raster_values.specs.declared.kind.PixelType.TheVariants.{I8, U8, I16, U16, I32, U32}
-use Rattle.raster_values.specs.Kind.{InRange, code_of}
+use Rattle.raster_values.specs.PixelType.{InRange, code_of}
 use Rattle.raster_values.specs.Raster.{IsShape}
 use Rattle.double_bits.specs.Bits.{half_bits}
 use Rattle.double_bits.specs.Halves.{HalfDouble}

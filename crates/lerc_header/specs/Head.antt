@@ -1,7 +1,7 @@
 -- The header of a LERC2 blob, versions 3 and 4: which bytes stand for it.
 use Rattle.std.specs.Prelude.{◌≡◌, ◌≢◌, ℕ, ℤ, pos, ◌+◌, ◌*◌, ◌%◌, ◌<◌, ◌≤◌, ◌≤ℤ◌, ◌*ℤ◌, ◌⊎◌, List, codes, length, take, drop}
 use Rattle.byteorder.specs.Endian.{little_number, twos_complement}
-use Rattle.raster_values.specs.Kind.{InRange, code_of}
+use Rattle.raster_values.specs.PixelType.{InRange, code_of}
 use Rattle.raster_values.specs.Raster.{IsShape}
 use Rattle.double_bits.specs.Halves.{HalfDouble}
 use Rattle.raster_values.specs.declared.kind.PixelType.{PixelType}

@@ -3,7 +3,7 @@
 use Rattle.std.specs.Prelude.{◌≡◌, ℕ, ℤ, pos, ◌+◌, ◌*ℤ◌, ◌≤◌, ◌≤ℤ◌, ◌⊎◌, List, codes, length, take}
 use Rattle.first_fault.specs.Faults.{Faults, none, wrong, choice, unless}
 use Rattle.raster_values.specs.declared.kind.PixelType.{PixelType}
-use Rattle.raster_values.specs.Kind.{InRange, code_of}
+use Rattle.raster_values.specs.PixelType.{InRange, code_of}
 use Rattle.double_bits.specs.Halves.{HalfDouble}
 use Rattle.lerc_header.specs.declared.header.Version.{Version}
 use Rattle.lerc_header.specs.declared.header.Version.TheVariants.{V3, V4}

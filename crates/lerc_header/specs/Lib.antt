@@ -3,7 +3,7 @@ pub use Rattle.double_bits.specs.Bits
 pub use Rattle.double_bits.specs.Halves
 pub use Rattle.first_fault.specs.Faults
 pub use Rattle.first_fault.specs.Parts
-pub use Rattle.raster_values.specs.Kind
+pub use Rattle.raster_values.specs.PixelType
 pub use Rattle.raster_values.specs.Raster
 pub mod Checksum
 pub mod Head

@@ -2,7 +2,7 @@
 use Rattle.std.specs.Prelude.{◌≡◌, ℕ, ℤ, pos, ◌+◌, ◌*◌, ◌^◌, ◌<◌, ◌≤◌, ◌≤ℤ◌, ◌*ℤ◌, ◌⊎◌, zero, suc, List, [], ◌++◌, codes}
 use Rattle.byteorder.specs.Endian.{little_bytes}
 use Rattle.raster_values.specs.declared.kind.PixelType.{PixelType}
-use Rattle.raster_values.specs.Kind.{InRange, code_of}
+use Rattle.raster_values.specs.PixelType.{InRange, code_of}
 use Rattle.raster_values.specs.Raster.{IsShape}
 use Rattle.double_bits.specs.Bits.{half_bits}
 use Rattle.lerc_header.specs.declared.header.Version.{Version}

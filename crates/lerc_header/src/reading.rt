@@ -2,7 +2,7 @@
 
 ghost use Rattle.std.specs.Prelude.{◌≡◌, ℕ, ℤ, pos, ◌+◌, ◌*◌, ◌<◌, ◌≤◌, ◌≤ℤ◌, ◌*ℤ◌, ◌↔◌, ◌⊎◌, IsTrue, IsNone, IfOk, IfErr, length};
 ghost use Rattle.raster_values.specs.declared.kind.PixelType.{PixelType};
-ghost use Rattle.raster_values.specs.Kind.{InRange, code_of};
+ghost use Rattle.raster_values.specs.PixelType.{InRange, code_of};
 ghost use Rattle.raster_values.specs.Raster.{IsShape};
 ghost use Rattle.double_bits.specs.Halves.{HalfDouble};
 ghost use Rattle.lerc_header.specs.declared.fault.BlobFault.{BlobFault};

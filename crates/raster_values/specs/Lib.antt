@@ -2,7 +2,6 @@
 pub use Rattle.outside_io.specs.streams.Faults.{CountsFaults}
 pub use Rattle.outside_io.specs.streams.Sink.{Holds, HoldsPrefix}
 pub mod PixelType
-pub use Rattle.raster_values.specs.PixelType as Kind
 pub mod Raster
 pub mod Places
 pub mod Grid
