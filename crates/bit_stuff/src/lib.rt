@@ -1,7 +1,7 @@
 //! Stuffed numbers, and lists of them in the simple form.
 //!
-//! It stands on `byteorder` alone and takes no memory. The layer above uses one contract: stuffed
-//! bytes are one large number, cut into fields of one width.
+//! It stands on `byteorder` and on the words of `first_fault`, and takes no memory. The layer above
+//! uses one contract: stuffed bytes are one large number, cut into fields of one width.
 #![tactic(auto)]
 
 mod heads;
