@@ -1,0 +1,5 @@
+pub mod Numbers
+pub mod Predictors
+pub mod Marks
+pub mod SymbolLaws
+pub mod Bytes

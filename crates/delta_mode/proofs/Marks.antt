@@ -1,0 +1,51 @@
+-- Rasters of one mask, by the numbers of their pixels.
+use Rattle.std.proofs.Common.{◌≡◌, ◌≢◌, ℕ, ℤ, pos, ◌+◌, ◌-◌, ◌*◌, ◌/◌, ◌%◌, ◌<◌, ◌≤◌, Bool, true, false, List, [], length, get_or, Option, Some, None, refl, sym, ap, ◌∙◌, subst, arith, inl, inr}
+use Rattle.std.specs.Prelude.{is_some, unwrap_or, IfSome, All}
+use Rattle.std.proofs.lemmas.Bool.{cases_lt}
+use Rattle.std.proofs.lemmas.List.{get_or_past}
+use Rattle.std.proofs.Math.Nat.{mod-lt}
+use Rattle.raster_values.specs.declared.kind.PixelType.{PixelType}
+use Rattle.raster_values.specs.declared.kind.PixelType.TheVariants.{I8, U8, I16, U16, I32, U32}
+use Rattle.raster_values.specs.PixelType.{InRange}
+use Rattle.raster_values.specs.Raster.{Pixels, IsRaster, IsPixel, InShape, valid_at}
+use Rattle.raster_values.specs.Block.{SameMask}
+use Rattle.raster_values.specs.Flat.{value_in}
+use Rattle.delta_mode.specs.Deltas.{is_valid}
+
+pub zero_in_range : (kind : PixelType) → InRange kind (pos 0)
+zero_in_range I8 = (omega arith, omega arith)
+zero_in_range U8 = (omega arith, omega arith)
+zero_in_range I16 = (omega arith, omega arith)
+zero_in_range U16 = (omega arith, omega arith)
+zero_in_range I32 = (omega arith, omega arith)
+zero_in_range U32 = (omega arith, omega arith)
+
+value_of_pixel : (kind : PixelType) (depth : ℕ) (p : Option (List ℤ)) (d : ℕ) → IsPixel kind depth p → InRange kind (get_or (unwrap_or p []) d (pos 0))
+value_of_pixel kind depth None d h = zero_in_range kind
+value_of_pixel kind depth (Some values) d h = elim (cases_lt d (length values)) [
+  | inl lt ↦ h.1 d (pos 0) lt
+  | inr ge ↦ subst (InRange kind) (sym (get_or_past values d (pos 0) ge)) (zero_in_range kind)
+]
+
+-- every value is one of the type, 0 where there is none
+pub value_in_range : (r : Pixels) (d k : ℕ) → IsRaster r → InRange r.kind (value_in r d k)
+value_in_range r d k h = elim (cases_lt k (length r.pixels)) [
+  | inl lt ↦ value_of_pixel r.kind r.depth (get_or r.pixels k None) d (h.each k lt)
+  | inr ge ↦ subst (λ p. InRange r.kind (get_or (unwrap_or p []) d (pos 0))) (sym (get_or_past r.pixels k None ge)) (zero_in_range r.kind)
+]
+
+-- a pixel's row and column, by its number
+row_and_col : (k rows cols : ℕ) → k < rows * cols → (k / cols < rows) × ((k % cols < cols) × (k / cols * cols + k % cols ≡ k))
+row_and_col k rows cols lt = grind arith
+
+pub same_marks : (r s : Pixels) → IsRaster r → IsRaster s → SameMask r s → (k : ℕ) → is_valid s k ≡ is_valid r k
+same_marks r s hr hs same k = elim (cases_lt k (r.rows * r.cols)) [
+  | inl lt ↦
+      let at = row_and_col k r.rows r.cols lt in
+      let here = same.places (k / r.cols) (k % r.cols) (at.0, at.1.0) in
+      ap (λ n. is_some (get_or s.pixels n None)) (sym at.1.1 ∙ ap (λ c. k / r.cols * c + k % r.cols) same.shape.cols) ∙ here
+      ∙ ap (λ n. is_some (get_or r.pixels n None)) at.1.1
+  | inr ge ↦
+      let sizes : s.rows * s.cols ≡ r.rows * r.cols = ap (λ n. n * s.cols) (sym same.shape.rows) ∙ ap (λ n. r.rows * n) (sym same.shape.cols) in
+      ap is_some (get_or_past s.pixels k None (omega (arith, hs.places, sizes))) ∙ sym (ap is_some (get_or_past r.pixels k None (omega (arith, hr.places))))
+]

@@ -1,0 +1,6 @@
+-- Symbols of numbers, predictors, and the symbols of rasters in delta and plain mode.
+pub use Rattle.raster_values.specs.Flat
+pub use Rattle.raster_values.specs.Block
+pub mod Symbols
+pub mod Deltas
+pub mod Laws

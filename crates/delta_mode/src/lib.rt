@@ -1,0 +1,15 @@
+//! Delta and plain mode: the symbols of rasters of bytes. It stands on `raster_values` alone and takes
+//! no memory.
+//!
+//! The contract that the layer above uses: a pixel's symbol is that of its value less its predictor,
+//! one equation per pixel; symbols of all depths have one raster.
+#![tactic(auto)]
+
+mod laws;
+mod plain;
+
+pub use laws::{symbols_have_one_depth, symbols_have_one_raster};
+pub use plain::plain_of;
+
+#[cfg(test)]
+mod tests;

@@ -1,0 +1,30 @@
+//! Plain mode: the symbols of all values, pixel by pixel and depth innermost.
+
+ghost use Rattle.std.specs.Prelude.{◌≡◌, ◌+◌, ◌*◌, ◌%◌, map, length};
+ghost use Rattle.raster_values.specs.Raster.{valid_count};
+ghost use Rattle.delta_mode.specs.Symbols.{IsByteType};
+ghost use Rattle.delta_mode.specs.Deltas.{ArePlain};
+
+use raster_values::{PixelType, Raster};
+
+/// Adds 128 to each byte, modulo 256.
+fn add_bias(bytes: &mut [u8])
+    ensures { bytes.new ≡ map (λ b. (b + 128) % 256) bytes.old }
+{
+    for i in 0..bytes.len() {
+        bytes[i] = bytes[i].wrapping_add(128);
+    }
+}
+
+/// The symbols of the valid pixels' values, pixel by pixel and depth innermost, in plain mode.
+pub fn plain_of(raster: &Raster, out: &mut [u8])
+    requires kind { IsByteType raster.now.kind }
+    requires count { length out.old ≡ valid_count raster.now * raster.now.depth }
+    ensures { ArePlain raster.now out.new }
+{
+    raster.value_bytes(out);
+    match raster.kind() {
+        PixelType::I8 => add_bias(out),
+        _ => {}
+    }
+}
