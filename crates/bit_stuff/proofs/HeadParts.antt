@@ -58,10 +58,10 @@ head_part n = record {
 -- ---- decided
 
 tests_lt : (m n : ℕ) → (m < n) ⊎ (¬ (m < n))
-tests_lt m n = elim (cases_lt m n) [ | inl below ↦ inl below | inr past ↦ inr (λ below. omega (arith, below, past)) ]
+tests_lt m n = elim (cases_lt m n) [ inl below ↦ inl below | inr past ↦ inr (λ below. omega (arith, below, past)) ]
 
 tests_le : (m n : ℕ) → (m ≤ n) ⊎ (¬ (m ≤ n))
-tests_le m n = elim (cases_lt n m) [ | inl past ↦ inr (λ below. omega (arith, below, past)) | inr below ↦ inl below ]
+tests_le m n = elim (cases_lt n m) [ inl past ↦ inr (λ below. omega (arith, below, past)) | inr below ↦ inl below ]
 
 tests_same : (m n : ℕ) → (m ≡ n) ⊎ (¬ (m ≡ n))
 tests_same m n = elim (cases_lt m n) [
@@ -74,7 +74,7 @@ tests_same m n = elim (cases_lt m n) [
 
 tests_table : (bytes : List ℕ) → (table_bit bytes ≡ 1 → 0 < width_bits bytes) ⊎ (¬ (table_bit bytes ≡ 1 → 0 < width_bits bytes))
 tests_table bytes = elim (tests_same (table_bit bytes) 1) [
-  | inl set ↦ elim (tests_lt 0 (width_bits bytes)) [ | inl wide ↦ inl (λ _. wide) | inr no_width ↦ inr (λ f. no_width (f set)) ]
+  | inl set ↦ elim (tests_lt 0 (width_bits bytes)) [ inl wide ↦ inl (λ _. wide) | inr no_width ↦ inr (λ f. no_width (f set)) ]
   | inr clear ↦ inl (λ set. absurd (clear set))
 ]
 

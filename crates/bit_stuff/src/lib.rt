@@ -12,9 +12,9 @@ mod unpacking;
 
 pub use heads::{ListFault, ListHead, ListReason, head_len, read_head, write_head};
 pub use laws::{
-    clear_bytes_are_written_bytes, heads_stand_or_have_one_fault, length_is_monotone, simple_bytes_are_a_list,
-    simple_lists_have_one_list, stuffed_bytes_have_one_list, stuffed_values_are_below,
-    written_bytes_are_stuffed,
+    clear_bytes_are_written_bytes, heads_stand_or_have_one_fault, length_is_monotone,
+    simple_bytes_are_a_list, simple_lists_have_one_list, stuffed_bytes_have_one_list,
+    stuffed_values_are_below, written_bytes_are_stuffed,
 };
 pub use packing::stuff;
 pub use simple::{digit_count, list_width, simple_len, write_simple};

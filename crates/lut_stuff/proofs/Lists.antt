@@ -204,7 +204,7 @@ list_part n = record {
 -- ---- decided
 
 tests_le : (m n : ℕ) → (m ≤ n) ⊎ (¬ (m ≤ n))
-tests_le m n = elim (cases_lt n m) [ | inl past ↦ inr (λ below. omega (arith, below, past)) | inr below ↦ inl below ]
+tests_le m n = elim (cases_lt n m) [ inl past ↦ inr (λ below. omega (arith, below, past)) | inr below ↦ inl below ]
 
 tests_flag : (b : Bool) → IsTrue b ⊎ (¬ IsTrue b)
 tests_flag true = inl refl
@@ -257,7 +257,7 @@ table_front n head (size ∷ back) set there two room_e room_i fine =
       back = drop si after;
       values = map (entry_at es.0) is.0;
       joined = ap (λ (u : List ℕ). size ∷ u)
-      (sym (take-append-drop se back) ∙ ap (λ (u : List ℕ). take se back ++ u) (sym (take-append-drop si after)) ∙ sym (append_assoc (take se back) (take si after) (drop si after)));
+          (sym (take-append-drop se back) ∙ ap (λ (u : List ℕ). take se back ++ u) (sym (take-append-drop si after)) ∙ sym (append_assoc (take se back) (take si after) (drop si after)));
       counted = length-map is.0 (entry_at es.0) ∙ counted;
       body = tabled set (record {
         entries = es.0;
@@ -337,17 +337,17 @@ unfolding list_faults
 list_decided n bytes are = elim (head_decided n bytes are) [
   | inl h ↦ elim (body_decided n h.value h.rest) [
     | inl b ↦ inl (record {
-        front = h.front ++ b.front;
-        rest = b.back;
-        value = b.values;
-        joined = h.joined ∙ ap (λ (u : List ℕ). h.front ++ u) b.joined ∙ sym (append_assoc h.front b.front b.back);
-        stands = (b.counted, body_list h.front b.front b.values h.value (h.stands.0, h.stands.1 ∙ sym b.counted) b.body);
-      })
+      front = h.front ++ b.front;
+      rest = b.back;
+      value = b.values;
+      joined = h.joined ∙ ap (λ (u : List ℕ). h.front ++ u) b.joined ∙ sym (append_assoc h.front b.front b.back);
+      stands = (b.counted, body_list h.front b.front b.values h.value (h.stands.0, h.stands.1 ∙ sym b.counted) b.body);
+    })
     | inr w ↦ inr (record {
-        place = length h.front + w.place;
-        reason = w.reason;
-        fault = inr (record { front = h.front; rest = h.rest; value = h.value; joined = h.joined; stands = h.stands; later = (w.place, (refl, w.fault)) });
-      })
+      place = length h.front + w.place;
+      reason = w.reason;
+      fault = inr (record { front = h.front; rest = h.rest; value = h.value; joined = h.joined; stands = h.stands; later = (w.place, (refl, w.fault)) });
+    })
   ]
   | inr w ↦ inr (record { place = w.place; reason = w.reason; fault = inl w.fault })
 ]

@@ -74,9 +74,9 @@ tabled_is values below some few = record {
   some = omega (arith, some, distinct_is values);
   stuffed_entries = stuffed_bytes-stuffed (width_of values) (entries_of values) (entries_fit values below);
   stuffed_indexes = subst (λ (k : ℕ). IsStuffed (stuffed_bytes (binary_digits (distinct_above_0 values)) (map (index_in (entries_of values)) values)) (binary_digits k) (map (index_in (entries_of values)) values)) (distinct_is values)
-  (stuffed_bytes-stuffed (binary_digits (distinct_above_0 values)) (map (index_in (entries_of values)) values) (indexes_fit values few));
+      (stuffed_bytes-stuffed (binary_digits (distinct_above_0 values)) (map (index_in (entries_of values)) values) (indexes_fit values few));
   within = All-map (λ i. i < length (entries_of values) + 1) (index_in (entries_of values)) values
-  (All-from_get_or (λ v. index_in (entries_of values) v < length (entries_of values) + 1) values 0 (λ i lt. omega (arith, index_within (entries_of values) (get_or values i 0))));
+      (All-from_get_or (λ v. index_in (entries_of values) v < length (entries_of values) + 1) values 0 (λ i lt. omega (arith, index_within (entries_of values) (get_or values i 0))));
   named = map_named (entries_of values) values (λ i lt. entry_named (entries_of values) (get_or values i 0) (entries_rising values) (entries_have values (get_or values i 0) (has_at values i lt)));
 }
 

@@ -69,7 +69,7 @@ fn read_indexes(bytes: &[u8], table: &[u32], out: &mut [u32]) -> Result<usize, L
     ensures { MatchResult result
         (λ used. HasIndexes table.now (length table.now - 1) bytes.now used out.new)
         (λ f. (f.at ≡ 0)
-            × index_faults (length out.old) (length table.now - 1) bytes.now f.at f.reason) }
+        × index_faults (length out.old) (length table.now - 1) bytes.now f.at f.reason) }
 {
     let used = read_numbers(bytes, digit_count(table.len() as u32 - 1), out)?;
     if look_up(table, out) {
@@ -110,7 +110,7 @@ fn read_tabled(
     ensures { MatchResult result
         (λ used. (used ≤ length bytes.now) × IsTabled width (size ∷ take used bytes.now) out.new)
         (λ f. (f.at ≤ length bytes.now)
-            × entry_faults (length out.old) width (size - 1) bytes.now f.at f.reason) }
+        × entry_faults (length out.old) width (size - 1) bytes.now f.at f.reason) }
 {
     let table = &mut table[..size];
     let used = read_entries(bytes, width, table)?;
@@ -124,7 +124,7 @@ fn read_table(bytes: &[u8], width: u32, out: &mut [u32]) -> Result<usize, ListFa
     ensures { MatchResult result
         (λ used. (used ≤ length bytes.now) × IsTabled width (take used bytes.now) out.new)
         (λ f. (f.at ≤ length bytes.now)
-            × table_faults (length out.old) width bytes.now f.at f.reason) }
+        × table_faults (length out.old) width bytes.now f.at f.reason) }
 {
     if bytes.is_empty() {
         return refused(ListReason::Cut, 0);
@@ -144,7 +144,7 @@ fn read_body(bytes: &[u8], head: ListHead, out: &mut [u32]) -> Result<usize, Lis
     ensures { MatchResult result
         (λ used. (used ≤ length bytes.now) × IsBody head (take used bytes.now) out.new)
         (λ f. (f.at ≤ length bytes.now)
-            × body_faults (length out.old) head bytes.now f.at f.reason) }
+        × body_faults (length out.old) head bytes.now f.at f.reason) }
 {
     if head.table {
         read_table(bytes, head.width, out)

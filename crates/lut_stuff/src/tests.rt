@@ -57,8 +57,18 @@ fn each_fault_is_told_at_its_place(rt: HostRuntime) {
     expect_fault(&rt, &[0xa3, 0x04, 0x03], ListReason::Cut, 3);
     expect_fault(&rt, &[0xa3, 0x04, 0x05, 0x11], ListReason::Cut, 3);
     expect_fault(&rt, &[0xa3, 0x04, 0x03, 0x11], ListReason::Cut, 4);
-    expect_fault(&rt, &[0xa3, 0x04, 0x03, 0x11, 0x03], ListReason::BadIndex, 4);
-    expect_fault(&rt, &[0x63, 4, 0, 0x03, 0x11, 0xc0], ListReason::BadIndex, 5);
+    expect_fault(
+        &rt,
+        &[0xa3, 0x04, 0x03, 0x11, 0x03],
+        ListReason::BadIndex,
+        4,
+    );
+    expect_fault(
+        &rt,
+        &[0x63, 4, 0, 0x03, 0x11, 0xc0],
+        ListReason::BadIndex,
+        5,
+    );
 }
 
 /// The chosen list of the values in the table form is `want`.
@@ -67,7 +77,10 @@ fn expect_table(rt: &impl Abort, values: &[u32], want: &[u8])
     requires values { All (λ v. v < 2 ^ 31) values.now }
 {
     let mut out = [0u8; 512];
-    assert!(rt; want.len() <= 512 && table_len(values) == Some(want.len()), "the length");
+    assert!(rt;
+        want.len() <= 512 && table_len(values) == Some(want.len()),
+        "the length"
+    );
     let out = &mut out[..want.len()];
     write_table(values, out);
     assert!(rt; &*out == want, "the bytes");

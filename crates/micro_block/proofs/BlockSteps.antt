@@ -101,8 +101,8 @@ stuffed_tagged f tag type bytes k values form e s = record {
   size = refl;
   room = omega (arith, s.size, s.room, s.steps.room, length-drop (bytes_of type) bytes);
   tagged = as_stuffed form (take (bytes_of type) bytes) (take s.taken (drop (bytes_of type) bytes)) s.offset s.steps.qs
-  (ap (λ (n : ℕ). take n bytes) s.size ∙ take-add (bytes_of type) s.taken bytes)
-  (offset_read f.kind type (tag / 64) bytes s.offset e s.room s.spells) s.steps.list s.steps.values_are;
+      (ap (λ (n : ℕ). take n bytes) s.size ∙ take-add (bytes_of type) s.taken bytes)
+      (offset_read f.kind type (tag / 64) bytes s.offset e s.room s.spells) s.steps.list s.steps.values_are;
 }
 
 pub constant_tagged : (f : Frame) (tag : ℕ) (type : PixelType) (bytes : List ℕ) (k : ℕ) (values : List ℤ) → tag % 4 ≡ 3 → offset_type f.kind (tag / 64) ≡ Some type → HasConstant type bytes k f.count values → HasTagged f tag bytes (1 + k) values
@@ -135,11 +135,10 @@ tag_stands f (b ∷ bytes) rest tag used values there first behind column h =
 pub tag_wrong : (f : Frame) (bytes rest : List ℕ) (tag at : ℕ) (r : BlockReason) → 0 < length bytes → tag ≡ slice_index bytes 0 → rest ≡ drop 1 bytes → tag / 4 % 16 ≡ f.col / 8 % 16
     → (at ≤ 1 + length rest) × form_faults f tag rest at r → (at ≤ length bytes) × block_faults f bytes at r
 unfolding block_faults
-tag_wrong f bytes rest tag at r there first behind column w =
-    (
-      omega (arith, w.0, there, ap length behind, length-drop 1 bytes),
-      inl (there, subst (λ (t : ℕ). tag_faults f t (drop 1 bytes) at r) first (subst (λ (u : List ℕ). tag_faults f tag u at r) behind (inl (column, w.1)))),
-    )
+tag_wrong f bytes rest tag at r there first behind column w = (
+  omega (arith, w.0, there, ap length behind, length-drop 1 bytes),
+  inl (there, subst (λ (t : ℕ). tag_faults f t (drop 1 bytes) at r) first (subst (λ (u : List ℕ). tag_faults f tag u at r) behind (inl (column, w.1)))),
+)
 
 pub no_tag : (f : Frame) (bytes : List ℕ) (at : ℕ) (r : BlockReason) → ¬ (0 < length bytes) → at ≡ 0 → r ≡ reasons.Cut → (at ≤ length bytes) × block_faults f bytes at r
 unfolding block_faults

@@ -215,7 +215,7 @@ block_part f = record {
 -- ---- decided
 
 tests_le : (m n : ℕ) → (m ≤ n) ⊎ (¬ (m ≤ n))
-tests_le m n = elim (cases_lt n m) [ | inl past ↦ inr (λ below. omega (arith, below, past)) | inr below ↦ inl below ]
+tests_le m n = elim (cases_lt n m) [ inl past ↦ inr (λ below. omega (arith, below, past)) | inr below ↦ inl below ]
 
 tests_same : (m n : ℕ) → (m ≡ n) ⊎ (¬ (m ≡ n))
 tests_same m n = elim (cases_lt m n) [
@@ -264,21 +264,21 @@ offset_decided f tag rest type are not_raw not_zero e =
     elim (tests_same (tag % 4) 1) [
       | inl form ↦ elim (list_decided f.count (drop size rest) (bytes_drop size rest are)) [
         | inl l ↦ inl (record {
-            front = take size rest ++ l.front;
-            back = l.rest;
-            values = map (stands_for f.step f.top (value_of type (little_number size (take size rest)))) l.value;
-            joined = sym (take-append-drop size rest) ∙ ap (λ (u : List ℕ). take size rest ++ u) l.joined ∙ sym (append_assoc (take size rest) l.front l.rest);
-            tagged = as_stuffed form (take size rest) l.front (value_of type (little_number size (take size rest))) l.value refl (offset_front f.kind (tag / 64) rest type e room) l.stands refl;
-          })
+          front = take size rest ++ l.front;
+          back = l.rest;
+          values = map (stands_for f.step f.top (value_of type (little_number size (take size rest)))) l.value;
+          joined = sym (take-append-drop size rest) ∙ ap (λ (u : List ℕ). take size rest ++ u) l.joined ∙ sym (append_assoc (take size rest) l.front l.rest);
+          tagged = as_stuffed form (take size rest) l.front (value_of type (little_number size (take size rest))) l.value refl (offset_front f.kind (tag / 64) rest type e room) l.stands refl;
+        })
         | inr w ↦ inr (record { place = size + w.place; reason = reasons.List w.reason; fault = inl (form, (w.place, (refl, (w.reason, (w.fault, refl))))) })
       ]
       | inr other ↦ inl (record {
-          front = take size rest;
-          back = drop size rest;
-          values = replicate f.count (value_of type (little_number size (take size rest)));
-          joined = sym (take-append-drop size rest);
-          tagged = as_constant (last_form (tag % 4) (omega arith) not_raw other not_zero) (value_of type (little_number size (take size rest))) (offset_front f.kind (tag / 64) rest type e room) refl;
-        })
+        front = take size rest;
+        back = drop size rest;
+        values = replicate f.count (value_of type (little_number size (take size rest)));
+        joined = sym (take-append-drop size rest);
+        tagged = as_constant (last_form (tag % 4) (omega arith) not_raw other not_zero) (value_of type (little_number size (take size rest))) (offset_front f.kind (tag / 64) rest type e room) refl;
+      })
     ])
   where
     last_form : (n : ℕ) → n < 4 → ¬ (n ≡ 0) → ¬ (n ≡ 1) → ¬ (n ≡ 2) → n ≡ 3
@@ -317,11 +317,11 @@ block_decided f bytes are =
     decided_unless (tag / 4 % 16 ≡ f.col / 8 % 16) (wrong reasons.BadTag 0) (form_faults f tag rest) (tests_same (tag / 4 % 16) (f.col / 8 % 16)) (record { place = 0; reason = reasons.BadTag; fault = (refl, refl) }) (λ column.
     elim (form_decided f tag rest (bytes_drop 1 bytes are)) [
       | inl h ↦ inl (record {
-          front = tag ∷ h.front;
-          rest = h.back;
-          value = h.values;
-          joined = bytes_behind bytes are there ∙ ap (λ (u : List ℕ). tag ∷ u) h.joined;
-          stands = of_tag f tag h.front h.values column h.tagged;
-        })
+        front = tag ∷ h.front;
+        rest = h.back;
+        value = h.values;
+        joined = bytes_behind bytes are there ∙ ap (λ (u : List ℕ). tag ∷ u) h.joined;
+        stands = of_tag f tag h.front h.values column h.tagged;
+      })
       | inr w ↦ inr w
     ]))

@@ -62,7 +62,7 @@ length_table kind col step values =
     ∙ (let t : suc (bytes_of (narrow_type kind (least_value values)) + length (table_bytes (quantised_values step values))) ≡ 1 + (bytes_of (narrow_type kind (least_value values)) + length (table_bytes (quantised_values step values))) = omega arith in t)
 
 some_above : (g : ℕ) → not (nat_eq g 0) ≡ true → 0 < g
-some_above g h = elim (cases_lt 0 g) [ | inl some ↦ some | inr none ↦ absurd (zero_test g (let e : g ≡ 0 = omega (arith, none) in e) h) ]
+some_above g h = elim (cases_lt 0 g) [ inl some ↦ some | inr none ↦ absurd (zero_test g (let e : g ≡ 0 = omega (arith, none) in e) h) ]
   where
     zero_test : (g : ℕ) → g ≡ 0 → not (nat_eq g 0) ≡ true → ⊥
     zero_test g e h = let t : true ≡ false = sym h ∙ ap (λ k. not (nat_eq k 0)) e in cc

@@ -74,7 +74,7 @@ fn read_raw(bytes: &[u8], ctx: &BlockCtx, out: &mut [i64]) -> Result<usize, Bloc
     ensures { MatchResult result
         (λ used. (used ≤ length bytes.now) × AreValues ctx.now.kind (take used bytes.now) out.new)
         (λ f. (f.at ≡ 0)
-            × raw_faults (frame_of ctx.now (length out.old)) bytes.now f.at f.reason) }
+        × raw_faults (frame_of ctx.now (length out.old)) bytes.now f.at f.reason) }
 {
     let used = out.len() * ctx.kind.bytes();
     if bytes.len() < used {
@@ -133,7 +133,7 @@ fn read_steps(
     ensures { MatchResult result
         (λ used. HasSteps (frame_of ctx.now (length out.old)) offset bytes.now used out.new)
         (λ f. (f.at ≤ length bytes.now)
-            × told_of_list (list_faults (length out.old) bytes.now) f.at f.reason) }
+        × told_of_list (list_faults (length out.old) bytes.now) f.at f.reason) }
 {
     match read_list(bytes, qs) {
         Ok(used) => {
@@ -161,7 +161,7 @@ fn read_stuffed(
     ensures { MatchResult result
         (λ used. HasStuffed (frame_of ctx.now (length out.old)) kind bytes.now used out.new)
         (λ f. (f.at ≤ length bytes.now)
-            × offset_faults (frame_of ctx.now (length out.old)) 1 kind bytes.now f.at f.reason) }
+        × offset_faults (frame_of ctx.now (length out.old)) 1 kind bytes.now f.at f.reason) }
 {
     let size = kind.bytes();
     if bytes.len() < size {
@@ -183,7 +183,7 @@ fn read_listed(
     ensures { MatchResult result
         (λ used. HasStuffed (frame_of ctx.now (length out.old)) kind bytes.now used out.new)
         (λ f. (f.at ≤ length bytes.now)
-            × offset_faults (frame_of ctx.now (length out.old)) 1 kind bytes.now f.at f.reason) }
+        × offset_faults (frame_of ctx.now (length out.old)) 1 kind bytes.now f.at f.reason) }
 {
     let count = out.len();
     if count <= 64 {
@@ -213,7 +213,7 @@ fn read_offset(
     ensures { MatchResult result
         (λ used. HasTagged (frame_of ctx.now (length out.old)) tag bytes.now used out.new)
         (λ f. (f.at ≤ 1 + length bytes.now)
-            × form_faults (frame_of ctx.now (length out.old)) tag bytes.now f.at f.reason) }
+        × form_faults (frame_of ctx.now (length out.old)) tag bytes.now f.at f.reason) }
 {
     if tag % 4 == 1 {
         behind(1, read_listed(bytes, ctx, kind, out))
@@ -223,18 +223,13 @@ fn read_offset(
 }
 
 /// Reads what follows a tag; places and lengths count from the tag.
-fn read_tagged(
-    bytes: &[u8],
-    tag: u8,
-    ctx: &BlockCtx,
-    out: &mut [i64],
-) -> Result<usize, BlockFault>
+fn read_tagged(bytes: &[u8], tag: u8, ctx: &BlockCtx, out: &mut [i64]) -> Result<usize, BlockFault>
     requires few { length out.old ≤ 1024 }
     requires ctx { IsBlockCtx ctx.now }
     ensures { MatchResult result
         (λ used. HasTagged (frame_of ctx.now (length out.old)) tag bytes.now used out.new)
         (λ f. (f.at ≤ 1 + length bytes.now)
-            × form_faults (frame_of ctx.now (length out.old)) tag bytes.now f.at f.reason) }
+        × form_faults (frame_of ctx.now (length out.old)) tag bytes.now f.at f.reason) }
 {
     if tag % 4 == 0 {
         return behind(1, read_raw(bytes, ctx, out));
@@ -255,9 +250,9 @@ fn read_form(bytes: &[u8], ctx: &BlockCtx, out: &mut [i64]) -> Result<usize, Blo
     requires ctx { IsBlockCtx ctx.now }
     ensures { MatchResult result
         (λ used. (used ≤ length bytes.now)
-            × IsBlock (frame_of ctx.now (length out.old)) (take used bytes.now) out.new)
+        × IsBlock (frame_of ctx.now (length out.old)) (take used bytes.now) out.new)
         (λ f. (f.at ≤ length bytes.now)
-            × block_faults (frame_of ctx.now (length out.old)) bytes.now f.at f.reason) }
+        × block_faults (frame_of ctx.now (length out.old)) bytes.now f.at f.reason) }
 {
     if bytes.is_empty() {
         return refused(BlockReason::Cut, 0);

@@ -18,8 +18,8 @@ use crate::context::BlockCtx;
 use crate::first::first_least;
 use crate::quantising::quantised_value;
 use bit_stuff::{digit_count, head_len, stuffed_len};
-use lut_stuff::table_len;
 use lane_kernels::range;
+use lut_stuff::table_len;
 use raster_values::PixelType;
 
 fn holds(kind: PixelType, value: i64) -> bool
@@ -162,13 +162,7 @@ fn table_of(values: &[i64], least: i64, step: u64, qs: &mut [u32]) -> Option<usi
 }
 
 /// How many bytes the list takes in the table form, where it may stand.
-fn tabled_len(
-    values: &[i64],
-    kind: PixelType,
-    least: i64,
-    most: u64,
-    step: u64,
-) -> Option<usize>
+fn tabled_len(values: &[i64], kind: PixelType, least: i64, most: u64, step: u64) -> Option<usize>
     requires count { length values.now ≤ 256 }
     requires in_range { All (InRange kind) values.now }
     requires step { (0 < step) × (step ≤ 8589934592) }

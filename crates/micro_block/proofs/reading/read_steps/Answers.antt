@@ -20,5 +20,5 @@ returns-in-Ok c =
       qs = c.read_list.new.out;
       list = (c.read_list.auto.out ∙ c.requires.room, c.in-Ok.ensures.ok.1);
       values_are = steps_read c.read_list.new.out c.widen.new.out c.plus_capped.new.out (to_z w64 (of_z w64 c.args.offset)) (to_z w64 (of_z w64 c.signed.result)) (to_z w64 (of_z w64 ctx.top)) c.args.offset ctx.top ctx.step
-      (to_z-of_z w64 c.args.offset c.ranges.offset) (to_z-of_z w64 c.signed.result step_fits ∙ c.signed.ensures) (to_z-of_z w64 ctx.top top_fits) c.widen.ensures c.plus_capped.ensures;
+          (to_z-of_z w64 c.args.offset c.ranges.offset) (to_z-of_z w64 c.signed.result step_fits ∙ c.signed.ensures) (to_z-of_z w64 ctx.top top_fits) c.widen.ensures c.plus_capped.ensures;
     }
