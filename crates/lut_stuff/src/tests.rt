@@ -98,23 +98,25 @@ fn chosen_tables(rt: HostRuntime) {
 
 #[test]
 fn tables_of_254_different_values_and_not_of_255(rt: HostRuntime) {
-    let mut bytes = [0u8; 256];
+    let mut few = [0u8; 255];
+    let mut many = [0u8; 256];
     let mut want = [0u8; 512];
     want[0] = 0xa8;
     want[1] = 0xff;
     want[2] = 0xff;
     for i in 0..254 {
-        bytes[i] = i as u8 + 1;
+        few[i] = i as u8 + 1;
+        many[i] = i as u8 + 1;
         want[3 + i] = i as u8 + 1;
         want[257 + i] = i as u8 + 1;
     }
     let mut values = [0u32; 255];
-    unstuff(&bytes[..255], 8, &mut values);
+    unstuff(&few, 8, &mut values);
     assert!(rt; values.iter().all(|v| *v < 2147483648));
     expect_table(&rt, &values, &want);
-    bytes[254] = 255;
+    many[254] = 255;
     let mut more = [0u32; 256];
-    unstuff(&bytes, 8, &mut more);
+    unstuff(&many, 8, &mut more);
     assert!(rt; more.iter().all(|v| *v < 2147483648));
     assert!(rt; table_len(&more) == None);
 }
