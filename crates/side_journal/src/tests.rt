@@ -1,6 +1,7 @@
+ghost use Rattle.side_journal.specs.Bodies.{IsBody};
+
 use crate::{Body, JournalState, arm, close_gate, open_gate, prepare, read_journal};
-use bundle_index::{BundleHeader, Entry, Slot};
-use outside_io::{Bytes, MemVolume, Pick, Piece, Start, VolFile, Volume};
+use outside_io::{Bytes, Failed, MemVolume, Pick, Piece, Start, VolFile, Volume};
 use std::alloc::Global;
 use std::process::Abort;
 use std::test::Fail;
@@ -24,64 +25,66 @@ fn beside(alloc: Global, journal: &[u8], stop: Option<u64>) -> Result<MemVolume,
     Ok(volume)
 }
 
-/// The journal of the first put of 66 bytes into the last slot, behind its gate.
-fn first_put() -> Result<Body, Fail> {
-    Ok(Body::Tile {
-        slot: Slot::of(127, 127).ok_or("slot")?,
-        entry: Entry {
-            offset: 131140,
-            size: 66,
-        },
-        length: 131206,
-        header: BundleHeader::fresh(66, 131206),
-    })
+/// Arms the journal with the body; then, by the number of steps, opens it and closes it again.
+fn make<V: Volume>(vol: &mut V, body: &Body, steps: u64) -> Result<(), Failed>
+    requires { IsBody body.now }
+{
+    vol.sync(VolFile::Journal)?;
+    match read_journal(vol)? {
+        JournalState::Closed => {}
+        _ => return Err(Failed),
+    }
+    prepare(vol)?;
+    arm(vol, body)?;
+    if steps == 0 {
+        return Ok(());
+    }
+    open_gate(vol)?;
+    if steps == 1 {
+        return Ok(());
+    }
+    close_gate(vol)
 }
 
-/// Whether a crash at one of these moments leaves an open journal.
-fn is_open_after(alloc: Global, vol: &MemVolume, from: u64, to: u64) -> Result<bool, Fail> {
-    for moment in from..to {
-        for pick in [Pick::Oldest, Pick::Newest, Pick::Torn(0), Pick::Torn(255)] {
-            let mut image = vol.crash(alloc, moment, pick)?;
-            if !matches!(&read_journal(&mut image), Ok(JournalState::Closed)) {
-                return Ok(true);
-            }
+/// How many of the four images of a moment have a journal that is not closed.
+fn count(alloc: Global, vol: &MemVolume, moment: u64) -> Result<u32, Fail> {
+    let mut open = 0;
+    for pick in [Pick::Oldest, Pick::Newest, Pick::Torn(0), Pick::Torn(255)] {
+        if moment > vol.moment() {
+            return Err("moment".into());
+        }
+        let mut image = vol.crash(alloc, moment, pick)?;
+        if !matches!(&read_journal(&mut image), Ok(JournalState::Closed)) && open < 4 {
+            open += 1;
         }
     }
-    Ok(false)
+    Ok(open)
 }
+
+// The journal of the first put of 66 bytes into the last slot, but for the header, open.
+const FIRST_PUT: [u8; 96] =
+    *b"\x01LBJRNL1\x01\x00\xff\x3f\x00\x00\x00\x00\x44\x00\x02\x00\x00\x42\x00\x00\x86\x00\x02\x00\x00\x00\x00\x00________________________________________________________________";
 
 #[test]
 fn the_bytes_of_a_put(rt: HostRuntime) -> Result<(), Fail> {
     let alloc = rt.alloc();
-    let mut vol = beside(alloc, &[], None)?;
-    let body = first_put()?;
-    assert!(rt; prepare(&mut vol).is_ok());
-    assert!(rt; arm(&mut vol, &body).is_ok());
+    let mut vol = beside(alloc, &FIRST_PUT, None)?;
+    let Ok(JournalState::Open(body)) = read_journal(&mut vol) else {
+        return Err("open".into());
+    };
+    let mut other = beside(alloc, &[], None)?;
+    assert!(rt; make(&mut other, &body, 0).is_ok());
     let mut bytes = [9; 97];
-    assert_eq!(rt; vol.read(VolFile::Journal, 0, &mut bytes).ok(), Some(96));
-    let front =
-        b"\x00LBJRNL1\x01\x00\xff\x3f\x00\x00\x00\x00\x44\x00\x02\x00\x00\x42\x00\x00\x86\x00\x02\x00\x00\x00\x00\x00";
-    assert_eq!(rt; &bytes[..32], front.as_slice());
-    let header = BundleHeader::fresh(66, 131206).bytes();
-    assert_eq!(rt; &bytes[32..96], header.as_slice());
-    assert!(rt; open_gate(&mut vol).is_ok());
-    let state = read_journal(&mut vol);
-    assert!(rt;
-        matches!(
-            &state,
-            Ok(JournalState::Open(Body::Tile { length: 131206, .. }))
-        )
-    );
-    assert!(rt; close_gate(&mut vol).is_ok());
-    assert!(rt; matches!(&read_journal(&mut vol), Ok(JournalState::Closed)));
+    assert_eq!(rt; other.read(VolFile::Journal, 0, &mut bytes).ok(), Some(96));
+    assert_eq!(rt; bytes[0], 0);
+    assert_eq!(rt; &bytes[1..96], &FIRST_PUT[1..]);
     Ok(())
 }
 
 #[test]
 fn the_first_test_that_fails(rt: HostRuntime) -> Result<(), Fail> {
     let alloc = rt.alloc();
-    let mut whole =
-        *b"\x01LBJRNL1\x01\x00\xff\x3f\x00\x00\x00\x00\x44\x00\x02\x00\x00\x42\x00\x00\x86\x00\x02\x00\x00\x00\x00\x00________________________________________________________________";
+    let mut whole = FIRST_PUT;
     let mut vol = beside(alloc, &whole, None)?;
     assert!(rt; matches!(&read_journal(&mut vol), Ok(JournalState::Open(_))));
     for (at, field, place, found) in [
@@ -113,31 +116,26 @@ fn the_first_test_that_fails(rt: HostRuntime) -> Result<(), Fail> {
 #[test]
 fn no_crash_leaves_an_open_journal_before_the_gate(rt: HostRuntime) -> Result<(), Fail> {
     let alloc = rt.alloc();
-    let body = first_put()?;
-    for stop in 0..7 {
+    for stop in 0..9 {
         let mut vol = beside(alloc, &[255], Some(stop))?;
-        let prepared = prepare(&mut vol).is_ok();
-        assert!(rt; prepared == (stop >= 4));
-        if prepared {
-            assert!(rt; arm(&mut vol, &body).is_ok() == (stop >= 6));
+        assert!(rt; make(&mut vol, &Body::Build, 0).is_ok() == (stop >= 8));
+        for moment in 0..9 {
+            if moment <= vol.moment() {
+                assert_eq!(rt; count(alloc, &vol, moment)?, 0);
+            }
         }
-        assert!(rt; !is_open_after(alloc, &vol, 0, vol.moment() + 1)?);
     }
     Ok(())
 }
 
 #[test]
-fn no_crash_leaves_an_open_journal_behind_the_closed_gate(rt: HostRuntime) -> Result<(), Fail> {
+fn each_gate_is_synced(rt: HostRuntime) -> Result<(), Fail> {
     let alloc = rt.alloc();
-    let body = Body::Build;
     let mut vol = beside(alloc, &[0], None)?;
-    assert!(rt; prepare(&mut vol).is_ok());
-    assert!(rt; arm(&mut vol, &body).is_ok());
-    let armed = vol.moment();
-    assert!(rt; open_gate(&mut vol).is_ok());
-    assert!(rt; is_open_after(alloc, &vol, vol.moment(), vol.moment() + 1)?);
-    assert!(rt; close_gate(&mut vol).is_ok());
-    assert!(rt; !is_open_after(alloc, &vol, 0, armed + 1)?);
-    assert!(rt; !is_open_after(alloc, &vol, vol.moment(), vol.moment() + 1)?);
+    assert!(rt; make(&mut vol, &Body::Build, 2).is_ok());
+    assert_eq!(rt; vol.moment(), 12);
+    for (moment, open) in [(8, 0), (9, 2), (10, 4), (11, 2), (12, 0)] {
+        assert_eq!(rt; count(alloc, &vol, moment)?, open);
+    }
     Ok(())
 }
