@@ -1,14 +1,12 @@
 -- Canonical codes: their shares lie side by side, so none is the front of another.
-use Rattle.std.proofs.Common.{◌≡◌, ◌≢◌, ℕ, zero, suc, ◌+◌, ◌-◌, ◌*◌, ◌/◌, ◌%◌, ◌^◌, ◌<◌, ◌≤◌, ◌⊎◌, ◌&&◌, ◌||◌, nat_eq, nat_lt, Bool, true, false, cond, List, [], ◌∷◌, length, take, slice_index, refl, sym, ap, ◌∙◌, subst, inl, inr, arith}
-use Rattle.std.proofs.lemmas.Bool.{cases_Bool, cases_eq, cases_lt, false≢true, eqb-true, eqb-false, eq-eqb, ne_eqb, ltb-true, ltb-false, lt-ltb, le-ltb, and_parts, and_from, and_left, and_right, or_cases, or_left, or_right}
-use Rattle.std.proofs.lemmas.Bool.Decides.{nat_tests}
-use Rattle.std.proofs.lemmas.List.{get_or_past}
+use Rattle.std.proofs.Common.{◌≡◌, ◌≢◌, ℕ, ◌+◌, ◌-◌, ◌*◌, ◌/◌, ◌^◌, ◌<◌, ◌≤◌, ◌⊎◌, ◌&&◌, ◌||◌, nat_eq, nat_lt, true, cond, List, slice_index, refl, sym, ap, ◌∙◌, inl, inr, arith}
+use Rattle.std.proofs.lemmas.Bool.{cases_Bool, cases_eq, cases_lt, false≢true, eqb-true, eq-eqb, ne_eqb, ltb-true, lt-ltb, and_parts, and_from, or_cases, or_left, or_right}
 use Rattle.std.proofs.lemmas.Nat.{pow_pos, le-div, shr_split}
 use Rattle.huff_codes.specs.Sums.{sum_below}
 use Rattle.huff_codes.specs.Tree.{share, shares}
-use Rattle.huff_codes.specs.Bits.{bits_of, BeginsWith}
+use Rattle.huff_codes.specs.Bits.{BeginsWith}
 use Rattle.huff_codes.specs.Codes.{AreLengths, is_earlier, start_of, canonical_code}
-use Rattle.huff_codes.proofs.Kraft.{sum-le, sum-add, sum-one, share-zero, share-pos}
+use Rattle.huff_codes.proofs.Kraft.{sum-le, sum-add, sum-one, share-pos}
 use Rattle.huff_codes.proofs.BitLists.{front_is_taken, same_top}
 
 -- what is_earlier tests

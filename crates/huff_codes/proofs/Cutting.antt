@@ -1,15 +1,14 @@
 -- The codes of a table are cut out of its words, and these are the codes of the table.
-use Rattle.std.proofs.Common.{◌≡◌, ◌≢◌, ℕ, zero, suc, ◌+◌, ◌-◌, ◌*◌, ◌/◌, ◌%◌, ◌^◌, ◌<◌, ◌≤◌, ◌⊎◌, Bool, List, [], ◌∷◌, ◌++◌, length, get_or, map, take, drop, slice_index, slice_set, replicate, refl, sym, ap, ◌∙◌, subst, inl, inr, arith, get_or-set_same, get_or-set_other}
+use Rattle.std.proofs.Common.{◌≡◌, ◌≢◌, ℕ, zero, suc, ◌+◌, ◌^◌, ◌<◌, ◌≤◌, Bool, List, [], ◌∷◌, ◌++◌, length, get_or, take, drop, slice_index, slice_set, replicate, refl, sym, ap, ◌∙◌, subst, inl, inr, arith, get_or-set_same, get_or-set_other}
 use Rattle.std.specs.Prelude.{All, HoldsAt, SomeIndex, sum}
-use Rattle.std.specs.List.{range_with_len}
 use Rattle.std.proofs.lemmas.Bool.{cases_lt, cases_eq}
-use Rattle.std.proofs.lemmas.List.{length-append, length-take, length-take-le, length-drop, length-set, length-replicate, take_all, take-take, take-append-drop, get_or_past, get_or_default, get_or-replicate}
+use Rattle.std.proofs.lemmas.List.{length-take, length-take-le, length-drop, length-set, length-replicate, take_all, take-take, take-append-drop, get_or_past, get_or_default, get_or-replicate}
 use Rattle.std.proofs.lemmas.List.FromFn.{map-range_with_len_more}
 use Rattle.std.proofs.lemmas.List.Sums.{sum_by_more, sum_by_more_le, sum_by-take-le}
 use Rattle.std.proofs.Math.Seq.{take-add}
-use Rattle.huff_codes.specs.Bits.{bits_of, word_bits, BeginsWith}
+use Rattle.huff_codes.specs.Bits.{bits_of, word_bits}
 use Rattle.huff_codes.specs.Codes.{code_at}
-use Rattle.huff_codes.specs.Words.{joined_codes, word_count}
+use Rattle.huff_codes.specs.Words.{joined_codes}
 use Rattle.huff_codes.specs.Table.{HaveLengths, HoldCodes, symbol_in, symbols_in, words_size}
 use Rattle.huff_codes.specs.declared.codes.Code.{Code}
 use Rattle.huff_codes.specs.declared.codes.Ahead.{Ahead}

@@ -1,11 +1,11 @@
 -- Codes as they are held, against bits.
-use Rattle.std.proofs.Common.{◌≡◌, ℕ, zero, suc, ◌+◌, ◌-◌, ◌*◌, ◌/◌, ◌%◌, ◌^◌, ◌<◌, ◌≤◌, ◌⊎◌, Bool, true, false, List, [], ◌∷◌, ◌++◌, length, map, get_or, take, drop, refl, sym, ap, ◌∙◌, subst, inl, inr, arith}
+use Rattle.std.proofs.Common.{◌≡◌, ℕ, ◌<◌, ◌≤◌, Bool, true, false, List, [], ◌++◌, length, get_or, take, drop, refl, sym, ap, ◌∙◌, subst, inl, inr, arith}
 use Rattle.std.specs.Prelude.{All, HoldsAt, SomeIndex, IsTrue, ◌↔◌}
 use Rattle.std.specs.Bool.{MatchBool}
-use Rattle.std.proofs.lemmas.Bool.{cases_lt, cases_eq, false≢true}
-use Rattle.std.proofs.lemmas.List.{length-append, length-map, length-take, length-take-le, take_at, take-take, take_all, take-append-drop, take-append-le, get_or-map, get_or_past, append-nil, nil_from_length}
+use Rattle.std.proofs.lemmas.Bool.{cases_lt, false≢true}
+use Rattle.std.proofs.lemmas.List.{length-append, length-map, length-take, length-take-le, take_at, take-take, take_all, take-append-drop, get_or-map, get_or_past, append-nil, nil_from_length}
 use Rattle.huff_codes.specs.Bits.{bits_of, BeginsWith}
-use Rattle.huff_codes.specs.Codes.{code_at, HasCode, AreCodes, IsPrefixFree}
+use Rattle.huff_codes.specs.Codes.{code_at, HasCode}
 use Rattle.huff_codes.specs.declared.codes.Code.{Code}
 use Rattle.huff_codes.specs.declared.codes.Ahead.{Ahead}
 use Rattle.huff_codes.specs.inside.Spans.{no_code}

@@ -1,12 +1,10 @@
 -- Kraft's sum of the lengths of a tree.
-use Rattle.std.proofs.Common.{◌≡◌, ℕ, zero, suc, ◌+◌, ◌-◌, ◌*◌, ◌/◌, ◌%◌, ◌^◌, ◌<◌, ◌≤◌, ◌⊎◌, ◌||◌, nat_eq, Bool, true, false, cond, IsTrue, List, [], ◌∷◌, length, slice_index, refl, sym, ap, ◌∙◌, subst, inl, inr, arith}
-use Rattle.std.proofs.lemmas.Bool.{cases_Bool, false≢true, eqb-true, eqb-false, eq-eqb, ne_eqb, or_cases, or_parts, or_from, or_left, or_right}
-use Rattle.std.proofs.lemmas.Bool.Decides.{nat_tests}
-use Rattle.std.proofs.lemmas.Nat.{pow-add, pow_pos}
+use Rattle.std.proofs.Common.{◌≡◌, ℕ, zero, suc, ◌+◌, ◌-◌, ◌*◌, ◌^◌, ◌<◌, ◌≤◌, ◌||◌, nat_eq, true, false, cond, refl, sym, ap, ◌∙◌, inl, inr, arith}
+use Rattle.std.proofs.lemmas.Bool.{cases_Bool, eqb-true, eqb-false, eq-eqb, ne_eqb, or_from, or_left, or_right}
 use Rattle.std.proofs.Math.Nat.{pow-suc}
 use Rattle.huff_codes.specs.Sums.{sum_below}
 use Rattle.huff_codes.specs.inside.Forests.{IsApart, IsWhole}
-use Rattle.huff_codes.specs.Tree.{Tree, leaf, join, has_leaf, joins_of, share, shares}
+use Rattle.huff_codes.specs.Tree.{Tree, leaf, join, has_leaf, joins_of, share}
 
 pub sum-zero : (f : ℕ → ℕ) → sum_below 0 f ≡ 0
 unfolding sum_below

@@ -1,11 +1,11 @@
 -- The canonical codes in the words of counting: the first is all zeros, each next one is the one before plus 1, with zeros appended.
-use Rattle.std.proofs.Common.{◌≡◌, ◌≢◌, ℕ, zero, suc, ◌+◌, ◌-◌, ◌*◌, ◌/◌, ◌^◌, ◌<◌, ◌≤◌, ◌⊎◌, ◌&&◌, ◌||◌, nat_eq, Bool, true, false, cond, List, slice_index, refl, sym, ap, ◌∙◌, subst, inl, inr, arith}
-use Rattle.std.proofs.lemmas.Bool.{cases_Bool, cases_eq, cases_lt, false≢true, eq-eqb, ne_eqb}
+use Rattle.std.proofs.Common.{◌≡◌, ◌≢◌, ℕ, ◌+◌, ◌-◌, ◌*◌, ◌/◌, ◌^◌, ◌<◌, ◌≤◌, nat_eq, cond, List, slice_index, refl, sym, ap, ◌∙◌, inl, inr, arith}
+use Rattle.std.proofs.lemmas.Bool.{cases_Bool, cases_eq, false≢true, eq-eqb, ne_eqb}
 use Rattle.std.proofs.lemmas.Nat.{pow-add, pow_pos, shr_high}
 use Rattle.huff_codes.specs.Sums.{sum_below}
-use Rattle.huff_codes.specs.Tree.{share, shares}
+use Rattle.huff_codes.specs.Tree.{share}
 use Rattle.huff_codes.specs.Codes.{is_earlier, start_of}
-use Rattle.huff_codes.proofs.Kraft.{sum-same, sum-add, sum-one, sum-none, share-pos}
+use Rattle.huff_codes.proofs.Kraft.{sum-same, sum-add, sum-one, share-pos}
 use Rattle.huff_codes.proofs.Canonical.{IsEarlier, before_of, start-is, before-in, before-out, earlier_from, earlier_to}
 
 -- b comes right behind a: what comes before b is a and what comes before a

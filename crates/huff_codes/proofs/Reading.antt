@@ -1,13 +1,11 @@
 -- Reading symbols one after the other.
-use Rattle.std.proofs.Common.{◌≡◌, ℕ, zero, suc, ◌+◌, ◌-◌, ◌*◌, ◌/◌, ◌%◌, ◌^◌, ◌<◌, ◌≤◌, ◌⊎◌, Bool, true, false, List, [], ◌∷◌, ◌++◌, length, get_or, take, drop, refl, sym, ap, ◌∙◌, subst, inl, inr, arith}
-use Rattle.std.specs.Prelude.{All}
-use Rattle.std.proofs.lemmas.Bool.{cases_lt}
-use Rattle.std.proofs.lemmas.List.{length-append, length-take, length-take-le, length-drop, take_at, take-take, take_all, take-append-drop, drop_at, drop-drop, append_assoc, append-nil}
+use Rattle.std.proofs.Common.{◌≡◌, ℕ, ◌+◌, ◌*◌, ◌/◌, ◌<◌, ◌≤◌, Bool, List, [], ◌∷◌, ◌++◌, length, take, drop, refl, sym, ap, ◌∙◌, subst, inl, inr, arith}
+use Rattle.std.proofs.lemmas.List.{length-append, length-take-le, take_at, take-take, take-append-drop, drop_at, drop-drop, append_assoc, append-nil}
 use Rattle.std.proofs.lemmas.List.Elements.{All-nil, All-push}
-use Rattle.huff_codes.specs.Bits.{bits_of, word_bits, BeginsWith}
+use Rattle.huff_codes.specs.Bits.{word_bits}
 use Rattle.huff_codes.specs.Codes.{code_at, HasCode}
 use Rattle.huff_codes.specs.declared.faults.CodeFault.{CodeFault}
-use Rattle.huff_codes.specs.declared.faults.CodeReason.TheVariants.{Cut, NoCode}
+use Rattle.huff_codes.specs.declared.faults.CodeReason.TheVariants.{Cut}
 use Rattle.huff_codes.specs.Words.{joined_codes, word_count, whole_end, AreWords, ArePassed, IsStuck, word_faults}
 use Rattle.huff_codes.specs.inside.Reading.{HaveReached, IsNext, IsStop}
 use Rattle.huff_codes.proofs.Windows.{length-word_bits, word-take}

@@ -1,12 +1,12 @@
 -- Where codes begin, on the way through the symbols.
-use Rattle.std.proofs.Common.{◌≡◌, ◌≢◌, ℕ, zero, suc, ◌+◌, ◌-◌, ◌*◌, ◌/◌, ◌^◌, ◌<◌, ◌≤◌, ◌⊎◌, ◌&&◌, ◌||◌, nat_eq, nat_lt, Bool, true, false, cond, List, [], ◌∷◌, length, slice_index, get_or, take, refl, sym, ap, ◌∙◌, subst, inl, inr, arith}
-use Rattle.std.proofs.lemmas.Bool.{cases_Bool, cases_eq, cases_lt, false≢true, eqb-true, eqb-false, eq-eqb, ne_eqb, ltb-true, ltb-false, lt-ltb, le-ltb, and_parts, and_from, and_left, and_right, or_cases, or_left, or_right, or_from}
+use Rattle.std.proofs.Common.{◌≡◌, ◌≢◌, ℕ, ◌+◌, ◌^◌, ◌<◌, ◌≤◌, ◌&&◌, ◌||◌, nat_eq, nat_lt, Bool, true, false, cond, List, slice_index, refl, sym, ap, ◌∙◌, inl, inr, arith}
+use Rattle.std.proofs.lemmas.Bool.{cases_Bool, cases_lt, eq-eqb, ne_eqb, ltb-false, lt-ltb, le-ltb, and_right}
 use Rattle.std.proofs.lemmas.Bool.Decides.{nat_tests}
 use Rattle.huff_codes.specs.Sums.{sum_below}
-use Rattle.huff_codes.specs.Tree.{share, shares}
+use Rattle.huff_codes.specs.Tree.{share}
 use Rattle.huff_codes.specs.Codes.{AreLengths, is_earlier, start_of}
 use Rattle.huff_codes.specs.inside.Places.{is_counted, counted_share, place_of}
-use Rattle.huff_codes.proofs.Kraft.{sum-zero, sum-more, sum-same, sum-add, sum-one, sum-none, share-zero}
+use Rattle.huff_codes.proofs.Kraft.{sum-more, sum-same, sum-add, sum-one, sum-none, share-zero}
 use Rattle.huff_codes.proofs.Canonical.{start_fits}
 
 pub place_is_start : (lengths : List ℕ) (s : ℕ) → place_of lengths s (slice_index lengths s) ≡ start_of lengths s

@@ -1,25 +1,21 @@
 -- Tables have one reading, and one first fault.
-use Rattle.std.proofs.Common.{◌≡◌, ◌≢◌, ℕ, zero, suc, ◌+◌, ◌-◌, ◌*◌, ◌/◌, ◌%◌, ◌<◌, ◌≤◌, ◌⊎◌, Bool, List, [], ◌∷◌, ◌++◌, length, get_or, map, take, drop, slice_index, refl, sym, ap, ◌∙◌, subst, inl, inr, arith, ℤ, pos, ◌≤ℤ◌, ◌<ℤ◌, ◌+ℤ◌}
-use Rattle.std.specs.Prelude.{All, SomeIndex, sum}
-use Rattle.std.specs.List.{range_with_len}
-use Rattle.std.proofs.lemmas.Bool.{cases_lt, cases_eq}
+use Rattle.std.proofs.Common.{◌≡◌, ◌≢◌, ℕ, zero, suc, ◌+◌, ◌-◌, ◌<◌, ◌≤◌, ◌⊎◌, Bool, List, [], ◌∷◌, ◌++◌, length, take, drop, slice_index, refl, sym, ap, ◌∙◌, subst, inl, inr, arith, ℤ, pos, ◌≤ℤ◌}
+use Rattle.std.specs.Prelude.{SomeIndex}
+use Rattle.std.proofs.lemmas.Bool.{cases_eq}
 use Rattle.std.proofs.lemmas.Int.{ints}
-use Rattle.std.proofs.lemmas.List.{length-append, length-take-le, take_at, take-append-le, take-append-drop, append_assoc, append_cancel_left, ext_get_or, get_or_past, drop-append-le, length-drop}
+use Rattle.std.proofs.lemmas.List.{length-append, length-take-le, take_at, take-append-drop, append_assoc, append_cancel_left, ext_get_or, drop-append-le, length-drop}
 use Rattle.std.proofs.lemmas.List.FromFn.{map-range_with_len_more}
 use Rattle.byteorder.specs.Endian.{little_number, twos_complement}
 use Rattle.byteorder.specs.Numbers.{little_from-take}
 use Rattle.first_fault.specs.Faults.{Faults, none, wrong, unless}
-use Rattle.first_fault.specs.Parts.{IsSingle, IsPart, InFront}
-use Rattle.first_fault.proofs.Parts.{single-unless, single-none, single-wrong, passed, failed, same_rest}
+use Rattle.first_fault.specs.Parts.{IsSingle, IsPart}
+use Rattle.first_fault.proofs.Parts.{single-unless, single-none, single-wrong, passed}
 use Rattle.bit_stuff.specs.declared.heads.ListReason.{ListReason}
-use Rattle.lut_stuff.specs.Lists.{IsListOf}
 use Rattle.lut_stuff.specs.Faults.{list_faults}
 use Rattle.lut_stuff.proofs.Lists.{list_part}
-use Rattle.huff_codes.specs.Bits.{word_bits, BeginsWith}
 use Rattle.huff_codes.specs.Codes.{code_at, HasCode, IsPrefixFree, AreCodes}
-use Rattle.huff_codes.specs.Words.{joined_codes, word_count, AreWords, word_faults}
-use Rattle.huff_codes.specs.Turns.{InTurn}
-use Rattle.huff_codes.specs.Table.{int_at, IsRange, IsFirst, IsEnd, number_faults, end_faults, first_faults, symbols_faults, range_faults, HaveLengths, IsLengthList, as_list_faults, length_faults, symbol_in, symbols_in, words_size, HoldCodes, AreCodeWords, prefix_faults, code_faults, AreRangeCodes, range_code_faults, IsTable, table_faults, IsCoding, coding_faults}
+use Rattle.huff_codes.specs.Words.{joined_codes, AreWords, word_faults}
+use Rattle.huff_codes.specs.Table.{int_at, IsRange, IsFirst, IsEnd, number_faults, end_faults, first_faults, symbols_faults, range_faults, HaveLengths, IsLengthList, length_faults, symbol_in, symbols_in, words_size, HoldCodes, AreCodeWords, prefix_faults, code_faults, AreRangeCodes, range_code_faults, IsTable, table_faults, IsCoding, coding_faults}
 use Rattle.huff_codes.specs.declared.table.SymbolRange.{SymbolRange}
 use Rattle.huff_codes.specs.declared.faults.CodeReason.{CodeReason}
 use Rattle.huff_codes.specs.declared.faults.CodeReason.TheVariants.{Cut, BadTable, List as InList}

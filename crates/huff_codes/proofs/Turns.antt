@@ -1,6 +1,6 @@
 -- A part and behind it another are a part.
 use Rattle.std.proofs.Common.{◌≡◌, ℕ, ◌+◌, ◌≤◌, List, ◌++◌, length, get_or, take, drop, refl, sym, ap, ◌∙◌, subst, arith, ◌⊎◌, inl, inr}
-use Rattle.std.proofs.lemmas.List.{append_assoc, length-append, length-take-le, length-drop, take-append-drop, get_or-append-add}
+use Rattle.std.proofs.lemmas.List.{append_assoc, length-take-le, length-drop, take-append-drop, get_or-append-add}
 use Rattle.std.proofs.Math.Seq.{take-add}
 use Rattle.first_fault.specs.Faults.{Faults, in_order, moved}
 use Rattle.first_fault.specs.Parts.{IsSingle, IsPart, IsDecided, AreBytes, InFront, HasFault}

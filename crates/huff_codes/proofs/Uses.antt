@@ -1,11 +1,11 @@
 -- How many symbols are used, and what holds of their lengths.
-use Rattle.std.proofs.Common.{◌≡◌, ◌≢◌, ℕ, zero, suc, ◌+◌, ◌<◌, ◌≤◌, ◌⊎◌, ◌↔◌, nat_eq, Bool, true, false, cond, List, [], ◌∷◌, length, slice_index, refl, sym, ap, ◌∙◌, subst, inl, inr, arith}
+use Rattle.std.proofs.Common.{◌≡◌, ◌≢◌, ℕ, zero, suc, ◌<◌, ◌≤◌, nat_eq, Bool, cond, List, length, slice_index, refl, sym, ap, ◌∙◌, subst, inl, inr, arith}
 use Rattle.std.specs.Prelude.{All}
 use Rattle.std.proofs.lemmas.Bool.{cases_Bool, eqb-true, eqb-false, eq-eqb, ne_eqb}
 use Rattle.huff_codes.specs.Sums.{sum_below}
-use Rattle.huff_codes.specs.Tree.{Tree, leaf, with_tree, used_below, used_count, lengths_of, shares}
+use Rattle.huff_codes.specs.Tree.{leaf, with_tree, used_below, used_count, lengths_of}
 use Rattle.huff_codes.specs.Codes.{AreLengths}
-use Rattle.huff_codes.proofs.Kraft.{sum-zero, sum-suc, sum-more}
+use Rattle.huff_codes.proofs.Kraft.{sum-zero, sum-suc}
 use Rattle.huff_codes.proofs.Forest.{used-zero, used-suc, length_with_tree, length-lengths_of, kraft_of_lengths}
 
 pub use_at : List ℕ → ℕ → ℕ

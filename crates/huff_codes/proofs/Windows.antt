@@ -1,13 +1,11 @@
 -- The bits of words, and windows into them.
-use Rattle.std.proofs.Common.{◌≡◌, ℕ, zero, suc, ◌+◌, ◌-◌, ◌*◌, ◌/◌, ◌%◌, ◌^◌, ◌<◌, ◌≤◌, ◌⊎◌, nat_eq, Bool, true, false, cond, List, [], ◌∷◌, ◌++◌, length, take, drop, refl, sym, ap, ◌∙◌, subst, inl, inr, arith}
-use Rattle.std.proofs.lemmas.List.{length-append, length-take, length-take-le, length-drop, take_at, take-take, take_all, take-append-drop, take-append-le, drop-append-le, drop-drop, drop_at, drop_all, append_assoc, append-nil, take_rest, drop-take}
-use Rattle.std.proofs.lemmas.Nat.{pow-add, pow_pos, shr-shr, shr_below, shr_high, mod_low, mod-pow-add, field_of, mod_below}
-use Rattle.std.proofs.Math.Nat.{pow-suc, mod-lt, div-one, mod-eq_of_lt}
+use Rattle.std.proofs.Common.{◌≡◌, ℕ, zero, suc, ◌+◌, ◌-◌, ◌*◌, ◌/◌, ◌%◌, ◌^◌, ◌<◌, ◌≤◌, nat_eq, Bool, List, [], ◌∷◌, ◌++◌, length, take, drop, refl, sym, ap, ◌∙◌, inl, inr, arith}
+use Rattle.std.proofs.lemmas.List.{length-append, length-take-le, length-drop, take_at, take-take, take_all, take-append-le, drop-append-le, drop-drop, drop_at, drop_all, append_assoc, append-nil, take_rest, drop-take}
+use Rattle.std.proofs.lemmas.Nat.{pow_pos, shr-shr, shr_high, mod_low, mod-pow-add, field_of}
 use Rattle.std.proofs.lemmas.Bool.{cases_lt}
 use Rattle.byteorder.specs.Endian.{little_number}
 use Rattle.byteorder.specs.Numbers.{little_from-take}
-use Rattle.huff_codes.specs.Bits.{bits_of, word_bits, BeginsWith}
-use Rattle.huff_codes.specs.declared.codes.Ahead.{Ahead}
+use Rattle.huff_codes.specs.Bits.{bits_of, word_bits}
 use Rattle.huff_codes.specs.inside.Stored.{IsAhead}
 use Rattle.huff_codes.proofs.BitLists.{bits-zero, bits-suc, length-bits, take-bits}
 

@@ -1,20 +1,19 @@
 -- Words have one reading, and one first fault.
-use Rattle.std.proofs.Common.{◌≡◌, ℕ, zero, suc, ◌+◌, ◌-◌, ◌*◌, ◌/◌, ◌%◌, ◌^◌, ◌<◌, ◌≤◌, ◌⊎◌, ◌↔◌, Bool, true, false, List, [], ◌∷◌, ◌++◌, length, get_or, take, drop, refl, sym, ap, ◌∙◌, subst, inl, inr, arith, Ok, Err, Result}
-use Rattle.std.specs.Prelude.{All, MatchResult, IfOk}
+use Rattle.std.proofs.Common.{◌≡◌, ℕ, ◌+◌, ◌*◌, ◌/◌, ◌<◌, ◌≤◌, Bool, List, [], ◌∷◌, ◌++◌, length, take, drop, refl, sym, ap, ◌∙◌, subst, inl, inr, arith}
+use Rattle.std.specs.Prelude.{All}
 use Rattle.std.proofs.lemmas.Bool.{cases_lt}
-use Rattle.std.proofs.lemmas.List.{length-append, length-take, length-take-le, length-drop, take_at, take-take, take_all, take-append-le, take-append-drop, drop_at, drop-drop, append_assoc, append-nil, append_cancel_left, nil_from_length}
-use Rattle.std.proofs.lemmas.List.Elements.{All-nil, All-push, All-head, All-tail}
-use Rattle.huff_codes.specs.Bits.{bits_of, word_bits, BeginsWith}
-use Rattle.huff_codes.specs.Codes.{code_at, HasCode, IsPrefixFree, AreCodes}
-use Rattle.huff_codes.specs.declared.faults.CodeFault.{CodeFault}
+use Rattle.std.proofs.lemmas.List.{length-append, take_at, take-append-le, take-append-drop, append_assoc, append-nil, append_cancel_left, nil_from_length}
+use Rattle.std.proofs.lemmas.List.Elements.{All-head, All-tail}
+use Rattle.huff_codes.specs.Bits.{word_bits, BeginsWith}
+use Rattle.huff_codes.specs.Codes.{code_at, HasCode, IsPrefixFree}
 use Rattle.huff_codes.specs.declared.faults.CodeReason.{CodeReason}
-use Rattle.huff_codes.specs.declared.faults.CodeReason.TheVariants.{Cut, BadTable, NoCode, List as InList}
-use Rattle.first_fault.specs.Faults.{Faults, none, wrong, choice, unless}
+use Rattle.huff_codes.specs.declared.faults.CodeReason.TheVariants.{Cut, NoCode}
+use Rattle.first_fault.specs.Faults.{none, wrong}
 use Rattle.first_fault.specs.Parts.{IsSingle, IsPart}
 use Rattle.first_fault.proofs.Parts.{single-choice, single-wrong, single-unless, single-none}
-use Rattle.huff_codes.specs.Words.{joined_codes, word_count, whole_end, AreWords, ArePassed, IsStuck, IsBegun, next_faults, further_faults, passed_faults, word_faults}
-use Rattle.huff_codes.proofs.Windows.{length-word_bits, word-take}
-use Rattle.huff_codes.proofs.Reading.{joined_codes-nil, joined_codes-cons, joined_codes-append}
+use Rattle.huff_codes.specs.Words.{joined_codes, word_count, whole_end, AreWords, ArePassed, IsStuck, IsBegun, further_faults, passed_faults, word_faults}
+use Rattle.huff_codes.proofs.Windows.{word-take}
+use Rattle.huff_codes.proofs.Reading.{joined_codes-nil, joined_codes-cons}
 
 -- of two fronts of one list, the longer begins with the shorter
 front_of : (xs s ys t : List Bool) → xs ++ s ≡ ys ++ t → length xs ≤ length ys → BeginsWith ys xs

@@ -1,13 +1,9 @@
 -- What is written is read back, and what eight bits tell.
-use Rattle.std.proofs.Common.{◌≡◌, ℕ, zero, suc, ◌+◌, ◌-◌, ◌*◌, ◌/◌, ◌^◌, ◌<◌, ◌≤◌, ◌⊎◌, Bool, true, false, List, [], ◌∷◌, ◌++◌, length, take, drop, replicate, refl, sym, ap, ◌∙◌, subst, inl, inr, arith}
+use Rattle.std.proofs.Common.{ℕ, ◌+◌, ◌-◌, ◌*◌, Bool, false, List, length, replicate, refl, ◌∙◌, arith}
 use Rattle.std.specs.Prelude.{All}
-use Rattle.std.proofs.lemmas.List.{length-append, take-take, take_at, take-append-drop, append_assoc}
-use Rattle.huff_codes.specs.Bits.{bits_of, word_bits, BeginsWith}
-use Rattle.huff_codes.specs.Codes.{code_at, HasCode, IsPrefixFree}
-use Rattle.huff_codes.specs.Words.{joined_codes, word_count, AreWords, IsStuck}
-use Rattle.huff_codes.specs.Written.{IsFilled, AreWritten}
-use Rattle.huff_codes.proofs.BitLists.{take-bits, length-bits}
-use Rattle.huff_codes.proofs.WordLaws.{one_symbol}
+use Rattle.huff_codes.specs.Codes.{HasCode}
+use Rattle.huff_codes.specs.Words.{joined_codes, word_count, AreWords}
+use Rattle.huff_codes.specs.Written.{AreWritten}
 
 -- written words are words of their symbols, so reading gives the symbols back
 pub written_are_words : (codes : List (List Bool)) (symbols bytes : List ℕ) → All (HasCode codes) symbols → AreWritten codes symbols bytes → AreWords codes (length symbols) bytes symbols

@@ -1,5 +1,5 @@
 -- Cutting the codes of a table out of its words, one after the other.
-use Rattle.std.specs.Prelude.{ℕ, ◌≡◌, ◌+◌, ◌-◌, ◌*◌, ◌/◌, ◌%◌, ◌^◌, ◌<◌, ◌≤◌, Bool, List, [], length}
+use Rattle.std.specs.Prelude.{ℕ, ◌≡◌, ◌+◌, ◌-◌, ◌%◌, ◌<◌, ◌≤◌, Bool, List, [], length}
 use Rattle.std.specs.Prelude.{take, drop, get_or, slice_index, sum, All}
 use Rattle.huff_codes.specs.Bits.{word_bits}
 use Rattle.huff_codes.specs.declared.codes.Code.{Code}

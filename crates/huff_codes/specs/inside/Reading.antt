@@ -1,5 +1,5 @@
 -- Reading one symbol after the other.
-use Rattle.std.specs.Prelude.{ℕ, ◌≡◌, ◌*◌, ◌/◌, ◌⊎◌, Bool, List, ◌++◌, length, drop, All}
+use Rattle.std.specs.Prelude.{ℕ, ◌≡◌, Bool, List, ◌++◌, length, drop, All}
 use Rattle.huff_codes.specs.Bits.{word_bits, BeginsWith}
 use Rattle.huff_codes.specs.Codes.{code_at, HasCode}
 use Rattle.huff_codes.specs.Words.{joined_codes, next_faults}

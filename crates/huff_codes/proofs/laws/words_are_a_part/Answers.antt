@@ -1,4 +1,3 @@
-use Rattle.std.proofs.Common.{refl}
 use Rattle.huff_codes.proofs.WordLaws.{words_part}
 use Rattle.huff_codes.proofs.laws.words_are_a_part.Goals as goal
 

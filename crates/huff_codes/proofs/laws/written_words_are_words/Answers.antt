@@ -1,4 +1,3 @@
-use Rattle.std.proofs.Common.{refl}
 use Rattle.huff_codes.proofs.WrittenBack.{written_are_words}
 use Rattle.huff_codes.proofs.laws.written_words_are_words.Goals as goal
 

@@ -1,10 +1,9 @@
-use Rattle.std.proofs.Common.{◌≡◌, ◌≢◌, ℕ, ◌+◌, ◌^◌, ◌<◌, ◌≤◌, ◌⊎◌, inl, inr, List, length, get_or, slice_index, slice_set, ap, sym, ◌∙◌, subst, get_or-set_other, get_or-set_same, below_more, refl, arith}
+use Rattle.std.proofs.Common.{◌≡◌, ℕ, ◌+◌, ◌<◌, inl, inr, List, length, get_or, slice_index, slice_set, ap, sym, ◌∙◌, subst, get_or-set_other, get_or-set_same, arith}
 use Rattle.std.proofs.lemmas.Bool.{cases_eq}
 use Rattle.std.proofs.lemmas.List.{length-set}
 use Rattle.huff_codes.specs.Tree.{share}
 use Rattle.huff_codes.specs.Codes.{AreLengths, start_of}
 use Rattle.huff_codes.specs.inside.Places.{place_of, IsCanonical}
-use Rattle.huff_codes.specs.declared.codes.Code.{Code}
 use Rattle.huff_codes.proofs.Sides.{place_is_start, place_same, place_other, start-lt}
 use Rattle.huff_codes.proofs.lengths.assigned.Goals as goal
 

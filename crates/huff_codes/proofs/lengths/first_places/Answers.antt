@@ -1,6 +1,5 @@
-use Rattle.std.proofs.Common.{◌≡◌, ◌≢◌, ℕ, ◌+◌, ◌<◌, length, slice_index, slice_set, get_or-set_other, get_or-set_same, below_more, arith}
+use Rattle.std.proofs.Common.{◌≢◌, ◌<◌, length, get_or-set_other, get_or-set_same, below_more, arith}
 use Rattle.std.proofs.lemmas.List.{length-set}
-use Rattle.huff_codes.specs.inside.Places.{place_of}
 use Rattle.huff_codes.proofs.lengths.first_places.Goals as goal
 
 pub loop-l-preserved : goal.loop-l-preserved

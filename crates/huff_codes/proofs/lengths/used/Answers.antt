@@ -1,4 +1,4 @@
-use Rattle.std.proofs.Common.{◌≡◌, ◌≢◌, ℕ, ◌+◌, ◌<◌, ◌≤◌, slice_index, sym, ap, ◌∙◌, arith}
+use Rattle.std.proofs.Common.{◌≡◌, ◌≢◌, ℕ, slice_index, sym, ap, ◌∙◌, arith}
 use Rattle.huff_codes.specs.Sums.{sum_below}
 use Rattle.huff_codes.proofs.Kraft.{sum-zero, sum-more}
 use Rattle.huff_codes.proofs.Uses.{use_at, used-is, use-none, use-some}

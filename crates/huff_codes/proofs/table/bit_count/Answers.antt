@@ -1,5 +1,4 @@
-use Rattle.std.proofs.Common.{◌≡◌, ◌*◌, ◌≤◌, length, get_or, arith}
-use Rattle.std.specs.Prelude.{sum}
+use Rattle.std.proofs.Common.{arith}
 use Rattle.std.proofs.lemmas.List.Sums.{sum_by_more_le, sum_by-le}
 use Rattle.huff_codes.proofs.table.bit_count.Goals as goal
 

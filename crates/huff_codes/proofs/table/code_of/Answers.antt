@@ -1,7 +1,6 @@
-use Rattle.std.proofs.Common.{◌≡◌, ℕ, ◌+◌, ◌<◌, ◌≤◌, ◌-◌, ◌*◌, ◌/◌, ◌%◌, ◌^◌, ap, sym, ◌∙◌, arith}
+use Rattle.std.proofs.Common.{◌≡◌, ◌+◌, ◌<◌, ◌≤◌, ◌-◌, ◌*◌, ◌/◌, ◌%◌, ◌^◌, ap, ◌∙◌, arith}
 use Rattle.std.proofs.lemmas.Nat.{pow_pos, shr_split, shr_high}
 use Rattle.std.proofs.Math.Nat.{mod-eq_of_lt}
-use Rattle.huff_codes.specs.inside.Stored.{code_bits}
 use Rattle.huff_codes.proofs.Held.{code_bits-is}
 use Rattle.huff_codes.proofs.BitLists.{same_from_top}
 use Rattle.huff_codes.proofs.table.code_of.Goals as goal

@@ -1,7 +1,6 @@
-use Rattle.std.proofs.Common.{rules, ◌≡◌, ◌+◌, ◌*◌, ◌<◌, ◌≤◌, List, length, refl, arith}
-use Rattle.std.specs.Prelude.{sum}
+use Rattle.std.proofs.Common.{refl, arith}
 use Rattle.std.proofs.lemmas.List.Sums.{sum_by-le}
-use Rattle.huff_codes.proofs.Cutting.{cut_none, cut_more, before_within, before-le, enough_bits}
+use Rattle.huff_codes.proofs.Cutting.{cut_none, cut_more, before_within, before-le}
 use Rattle.huff_codes.proofs.table.cut_codes.Goals as goal
 
 pub loop-k-init : goal.loop-k-init

@@ -1,4 +1,4 @@
-use Rattle.std.proofs.Common.{rules, ◌≡◌, ◌+◌, ◌-◌, ◌≤◌, length, take, drop, ap, sym, ◌∙◌, arith, negsuc, pos, ◌≤ℤ◌, ◌<ℤ◌, FitsSigned, to_z, of_z, w32, w64}
+use Rattle.std.proofs.Common.{rules, ◌≡◌, ◌∙◌, arith, FitsSigned, to_z, of_z, w32, w64}
 use Rattle.std.proofs.lemmas.Int.{ints}
 use Rattle.huff_codes.proofs.table.number_at.Goals as goal
 

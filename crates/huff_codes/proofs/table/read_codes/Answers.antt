@@ -1,9 +1,9 @@
-use Rattle.std.proofs.Common.{rules, ◌≡◌, ◌+◌, ◌*◌, ◌/◌, ◌<◌, ◌≤◌, List, Bool, length, take, refl, ap, sym, ◌∙◌, subst, arith, inl, inr}
+use Rattle.std.proofs.Common.{◌≡◌, ◌+◌, ◌*◌, ◌/◌, ◌≤◌, length, take, refl, sym, subst, arith, inl}
 use Rattle.std.specs.Prelude.{sum}
 use Rattle.std.proofs.lemmas.List.{length-take-le}
 use Rattle.std.proofs.lemmas.List.Sums.{sum_by-le}
 use Rattle.huff_codes.specs.Codes.{IsPrefixFree}
-use Rattle.huff_codes.specs.Table.{HoldCodes, AreCodeWords, words_size, code_faults}
+use Rattle.huff_codes.specs.Table.{HoldCodes, words_size, code_faults}
 use Rattle.huff_codes.specs.declared.faults.CodeFault.{CodeFault}
 use Rattle.huff_codes.specs.inside.Stored.{codes_held}
 use Rattle.huff_codes.proofs.Cutting.{cut_some, cut_bits_of, hold_from_cut}

@@ -1,7 +1,6 @@
-use Rattle.std.proofs.Common.{rules, ◌≡◌, ◌≤◌, List, length, take, drop, refl, sym, ◌∙◌, subst, arith, inl, inr}
+use Rattle.std.proofs.Common.{◌≤◌, length, take, drop, refl, sym, ◌∙◌, subst, arith, inr}
 use Rattle.std.proofs.lemmas.Bool.{MatchBool-at_false}
 use Rattle.std.proofs.lemmas.List.{take-append-drop}
-use Rattle.lut_stuff.specs.Lists.{IsListOf}
 use Rattle.huff_codes.specs.Table.{HaveLengths, length_faults}
 use Rattle.huff_codes.specs.declared.faults.CodeFault.{CodeFault}
 use Rattle.huff_codes.proofs.table.read_lengths.Goals as goal

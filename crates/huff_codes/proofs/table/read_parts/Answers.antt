@@ -1,4 +1,4 @@
-use Rattle.std.proofs.Common.{rules, ◌≡◌, ◌+◌, ◌-◌, ◌≤◌, List, length, take, drop, refl, ap, sym, ◌∙◌, subst, arith, inl, inr}
+use Rattle.std.proofs.Common.{◌-◌, length, take, drop, sym, subst, inl}
 use Rattle.std.proofs.lemmas.List.{take_rest}
 use Rattle.huff_codes.specs.Table.{IsRange, AreRangeCodes, range_faults, range_code_faults, table_faults}
 use Rattle.huff_codes.specs.declared.faults.CodeFault.{CodeFault}

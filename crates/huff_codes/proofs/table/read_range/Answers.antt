@@ -1,7 +1,7 @@
-use Rattle.std.proofs.Common.{rules, ℕ, ℤ, ◌≡◌, ◌+◌, ◌<◌, ◌≤◌, length, take, ap, sym, ◌∙◌, subst, arith, pos, negsuc, ◌≤ℤ◌, ◌<ℤ◌, to_z, of_z, w64}
+use Rattle.std.proofs.Common.{rules, ℕ, ℤ, ◌≡◌, ◌+◌, arith, pos, negsuc, ◌≤ℤ◌, ◌<ℤ◌, to_z, of_z, w64}
 use Rattle.std.proofs.lemmas.Int.{ints}
 use Rattle.huff_codes.specs.declared.table.SymbolRange.{SymbolRange}
-use Rattle.huff_codes.specs.Table.{int_at, IsRange}
+use Rattle.huff_codes.specs.Table.{int_at}
 use Rattle.huff_codes.proofs.TableLaws.{range_from}
 use Rattle.huff_codes.proofs.table.read_range.Goals as goal
 

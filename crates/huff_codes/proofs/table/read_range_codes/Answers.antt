@@ -1,6 +1,6 @@
-use Rattle.std.proofs.Common.{rules, ◌≡◌, ◌+◌, ◌-◌, ◌≤◌, List, length, take, drop, refl, ap, sym, ◌∙◌, subst, arith, inl, inr}
+use Rattle.std.proofs.Common.{◌-◌, ◌≤◌, length, take, drop, ap, sym, subst, arith, inl}
 use Rattle.std.proofs.lemmas.List.{take_rest, length-drop}
-use Rattle.huff_codes.specs.Table.{IsLengthList, AreCodeWords, AreRangeCodes, length_faults, code_faults, range_code_faults}
+use Rattle.huff_codes.specs.Table.{IsLengthList, AreCodeWords, length_faults, code_faults, range_code_faults}
 use Rattle.huff_codes.specs.declared.faults.CodeFault.{CodeFault}
 use Rattle.huff_codes.proofs.Turns.{turn_read, turn_fault}
 use Rattle.huff_codes.proofs.table.read_range_codes.Goals as goal

@@ -1,7 +1,6 @@
-use Rattle.std.proofs.Common.{◌≡◌, ℕ, ◌+◌, ◌*◌, ◌/◌, ◌<◌, ◌≤◌, List, [], ◌∷◌, ◌++◌, length, take, drop, refl, sym, ap, ◌∙◌, subst, arith, slice_set, get_or}
-use Rattle.std.proofs.lemmas.List.{take_all, take_more_set, length-take-le, length-set, set-get_or}
+use Rattle.std.proofs.Common.{◌≡◌, ℕ, ◌+◌, ◌*◌, ◌/◌, ◌<◌, List, length, take, drop, refl, sym, subst, arith, slice_set, get_or}
+use Rattle.std.proofs.lemmas.List.{take_all, take_more_set, length-take-le, length-set}
 use Rattle.huff_codes.specs.Bits.{word_bits}
-use Rattle.huff_codes.specs.Words.{AreWords, word_faults}
 use Rattle.huff_codes.specs.inside.Reading.{HaveReached}
 use Rattle.huff_codes.proofs.Reading.{reach_none, reach_within, reach_more, are_words, stop_fault, end_fault}
 use Rattle.huff_codes.proofs.words.read_all.Goals as goal

@@ -1,8 +1,4 @@
-use Rattle.std.proofs.Common.{◌≡◌, ◌*◌, ◌++◌, ◌≤◌, length, take, drop}
-use Rattle.std.specs.Prelude.{All}
-use Rattle.huff_codes.specs.Bits.{word_bits}
-use Rattle.huff_codes.specs.Codes.{HasCode}
-use Rattle.huff_codes.specs.Words.{joined_codes}
+use Rattle.std.proofs.Common.{◌*◌, ◌≤◌, take}
 use Rattle.huff_codes.specs.inside.Reading.{HaveReached}
 use Rattle.huff_codes.proofs.words.read_all.Given as goal
 

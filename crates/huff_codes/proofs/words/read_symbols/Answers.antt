@@ -1,4 +1,4 @@
-use Rattle.std.proofs.Common.{◌≡◌, ℕ, length, subst, arith}
+use Rattle.std.proofs.Common.{ℕ, length, subst}
 use Rattle.huff_codes.specs.Words.{AreWords, word_faults}
 use Rattle.huff_codes.proofs.Answered.{IsAnswered, answer_complete, answer_fault}
 use Rattle.huff_codes.proofs.WordLaws.{words_part}
