@@ -46,10 +46,7 @@ fn feed_once<S: Source>(
 }
 
 /// Feeds the decoder from a source until nothing more is decided, or the source ends or fails.
-fn feed_from<S: Source>(
-    src: &mut S,
-    decoder: &mut Decoder,
-) -> Result<(), Failed>
+fn feed_from<S: Source>(src: &mut S, decoder: &mut Decoder) -> Result<(), Failed>
     requires { IsStageOf decoder.old.taken decoder.old.stage }
     ensures counted { CountsFaults result (S.faults src.old) (S.faults src.new) }
     ensures fed { OnOk result (Follows decoder.new.stage (Joins (S.left src.old) (S.left src.new) decoder.old.taken decoder.new.taken)) }
@@ -78,10 +75,7 @@ fn answer(finished: Result<Raster, DecodeFault>) -> Result<Raster, FromFault>
 }
 
 /// Decodes the blob that comes first of the source's bytes. `Ok` takes its bytes alone.
-pub fn decode_from<S: Source>(
-    alloc: Global,
-    src: &mut S,
-) -> Result<Raster, FromFault>
+pub fn decode_from<S: Source>(alloc: Global, src: &mut S) -> Result<Raster, FromFault>
     ensures counted { CountsSource result (S.faults src.old) (S.faults src.new) }
     ensures told { IsDecoded result (S.left src.old) (S.left src.new) }
 {

@@ -31,8 +31,11 @@ wrong_here : (bytes : List ℕ) (n : ℕ) (rest : List ℕ) (s : RunsSoFar bytes
 wrong_here bytes n rest s w =
     let back : drop (length s.front) bytes ≡ rest = ap (drop (length s.front)) s.joined ∙ drop_at s.front rest (length s.front) refl in
     let there : take (length s.front) bytes ≡ s.front = ap (take (length s.front)) s.joined ∙ take_at s.front rest (length s.front) refl in
-    inr (length s.front, in_run s.mask (omega (arith, ap length s.joined, length-append s.front rest))
-    (subst (λ (u : List ℕ). AreJoinedRuns u s.mask) (sym there) s.runs) s.short (subst (λ (u : List ℕ). IsWrongRun u (n - length s.mask)) (sym back) w))
+    inr (
+      length s.front,
+      in_run s.mask (omega (arith, ap length s.joined, length-append s.front rest))
+          (subst (λ (u : List ℕ). AreJoinedRuns u s.mask) (sym there) s.runs) s.short (subst (λ (u : List ℕ). IsWrongRun u (n - length s.mask)) (sym back) w),
+    )
 
 -- a run comes next
 run_next : (bytes : List ℕ) (n : ℕ) (rest part : List ℕ) (taken filled : ℕ) (s : RunsSoFar bytes n rest) → TakesRun rest part taken filled → filled ≤ n - length s.mask → RunsSoFar bytes n (drop taken rest)
