@@ -8,6 +8,7 @@ use Rattle.std.proofs.lemmas.Bool.{cases_lt}
 use Rattle.std.proofs.lemmas.Bool.Decides.{nat_tests}
 use Rattle.first_fault.specs.Faults.{Faults, none, moved, wrong, unless}
 use Rattle.outside_io.specs.streams.Source.{TakesFront, TakesUpTo, IsAtEnd}
+use Rattle.outside_io.proofs.StreamLemmas.Takes.{TakesUpTo_wider}
 use Rattle.raster_values.specs.declared.reading.GridReason.{GridReason}
 use Rattle.raster_values.specs.declared.reading.GridReason.TheVariants.{Truncated, BadMark}
 use Rattle.raster_values.specs.declared.reading.GridFault.{GridFault}
@@ -193,9 +194,9 @@ values_cut size bytes rest fewer end =
 -- ---- what `take_all` answers
 
 pub takes_run : (result : Result ℕ Failed) (old new : Option (List ℕ)) (run : List ℕ) → IfOk result (λ n. n ≤ length run) → IfOk result (λ n. TakesFront old new n run)
-    → IfOk result (λ n. n < length run → IsAtEnd new) → OnErr result (TakesUpTo (length run) old new) → TakesRun result old new run
+    → IfOk result (λ n. n < length run → IsAtEnd new) → OnErr result (TakesUpTo (length run - 1) old new) → TakesRun result old new run
 takes_run (Ok n) old new run a b c d = (a, (b, c))
-takes_run (Err e) old new run a b c d = d
+takes_run (Err e) old new run a b c d = TakesUpTo_wider old new (length run - 1) (length run) (omega arith) d
 
 pub on_err_some : {X E : Type 0} (result : Result X E) (old new : Option (List ℕ)) (limit : ℕ) → TakesUpTo limit old new → OnErr result (TookSome old new)
 on_err_some (Ok x) old new limit h = tt
