@@ -1,1 +1,329 @@
+-- A whole blob is made of its parts, and goes wrong where a part of it does.
+use Rattle.std.proofs.Common.{◌≡◌, suc, ℕ, ℤ, pos, ◌+◌, ◌-◌, ◌*◌, ◌<◌, ◌≤◌, Bool, true, false, cond, List, [], ◌∷◌, ◌++◌, length, take, drop, map, replicate, get_or, Option, Ok, Err, refl, sym, ap, ◌∙◌, subst, arith, inl, inr, ◌⊎◌}
+use Rattle.std.specs.Prelude.{Result, IfErr, OnOk, ◌↔◌}
+use Rattle.std.proofs.lemmas.List.{append-nil, append_assoc, length-append, length-drop, length-take-le, take-append-drop, take_rest, drop_at, drop-drop}
+use Rattle.first_fault.specs.Faults.{Faults, moved, in_order}
+use Rattle.first_fault.specs.Parts.{AreBytes}
+use Rattle.mask_runs.specs.Runs.{Runs}
+use Rattle.mask_runs.specs.Fault.{FirstRunFault, in_run, after_end}
+use Rattle.mask_runs.specs.declared.read.RunFault.{RunFault}
+use Rattle.raster_values.specs.PixelType.{bytes_of}
+use Rattle.raster_values.specs.Raster.{Pixels, IsRaster, valid_count, values_of}
+use Rattle.raster_values.specs.Flat.{marks_of, EachValid}
+use Rattle.raster_values.specs.Order.{marks_in}
+use Rattle.lerc_header.specs.declared.header.Header.{Header}
+use Rattle.lerc_header.specs.declared.fault.BlobReason.{BlobReason}
+use Rattle.lerc_header.specs.declared.fault.BlobReason.TheVariants.{BadChecksum, BadRun, BadMaskCount, PastEnd, Leftover}
+use Rattle.lerc_header.specs.declared.fault.BlobFault.{BlobFault}
+use Rattle.lerc_header.specs.Head.{HeadAt, i32_at, head_length}
+use Rattle.lerc_header.specs.Checksum.{sum_of}
+use Rattle.lerc_grammar.specs.declared.outline.MaskForm.{MaskForm}
+use Rattle.lerc_grammar.specs.declared.outline.MaskForm.TheVariants.{Empty as NoneValid, Full, Runs as RunsAt}
+use Rattle.lerc_grammar.specs.declared.outline.ImageForm.{ImageForm}
+use Rattle.lerc_grammar.specs.declared.outline.ImageForm.TheVariants.{Empty as NoImage, Constant, Ranges, Sweep}
+use Rattle.lerc_grammar.specs.Mask.{IsMask, IsAlike, mask_size, count_of, runs_faults, mask_faults}
+use Rattle.lerc_grammar.specs.Image.{Ends, IsFront, AreEqual, IsBare, IsImage, empty, constant, ranges, coded, sweep, one_list, image_faults, sweep_faults}
+use Rattle.lerc_grammar.specs.Blob.{Blob, body_faults, blob_faults}
+use Rattle.lerc_grammar.specs.Outline.{HasMaskLength, IsMaskForm, IsImageForm, HasLists, image_place, mask_part_faults, image_part_faults}
+use Rattle.raster_values.specs.Values.{AreValues}
+use Rattle.lerc_grammar.proofs.Bytes.{bytes_in_drop}
+use Rattle.lerc_grammar.proofs.ImageDecided.{none_each}
+use Rattle.lerc_grammar.proofs.Lists.{first_list, front_list_long}
+use Rattle.std.proofs.Math.Nat.{mul-le-mul_right}
+use Rattle.lerc_grammar.proofs.Counts.{mask_count, counted}
+use Rattle.lerc_grammar.proofs.MaskDecided.{alike_stands, mixed_stands}
+use Rattle.lerc_grammar.proofs.Looking.{mask_outside, mask_inside, image_outside, image_inside}
+use Rattle.lerc_decode.specs.declared.body.BodyStop.{BodyStop}
+use Rattle.lerc_decode.specs.declared.body.BodyStop.TheVariants.{Fault, OutOfMemory}
+use Rattle.lerc_decode.specs.inside.Body.{IsStopOf, HasHeadShape, IsFilledWith, IsMarkedBy, IsMarkedFor, IsSwept, KeepsMarks}
 
+-- ---- stops
+
+pub stop_map : (f g : Faults BlobReason) → ((p : ℕ) (r : BlobReason) → f p r → g p r) → (stop : BodyStop) → IsStopOf f stop → IsStopOf g stop
+stop_map f g go (Fault x) w = go x.place x.reason w
+stop_map f g go OutOfMemory w = tt
+
+pub err_map : {T : Type 0} (f g : Faults BlobReason) → ((p : ℕ) (r : BlobReason) → f p r → g p r) → (result : Result T BodyStop) → IfErr result (IsStopOf f) → IfErr result (IsStopOf g)
+err_map f g go (Ok x) w = tt
+err_map f g go (Err stop) w = stop_map f g go stop w
+
+pub ok_map : {T : Type 0} (P Q : Type 0) → (P → Q) → (result : Result T BodyStop) → OnOk result P → OnOk result Q
+ok_map P Q go (Ok x) p = go p
+ok_map P Q go (Err stop) p = tt
+
+-- ---- the mask
+
+abbrev rest_of : Header → List ℕ → List ℕ
+rest_of h blob = drop (head_length h.version) blob
+
+rest_long : (h : Header) (blob : List ℕ) (n : ℕ) → HasMaskLength h blob n → 4 + n ≤ length (rest_of h blob)
+rest_long h blob n m = omega (arith, m.there, length-drop (head_length h.version) blob)
+
+four : (h : Header) → head_length h.version + 4 - head_length h.version ≡ 4
+four h = omega arith
+
+pub empty_mask : (h : Header) (blob : List ℕ) (form : MaskForm) (marks : List Bool) → form ≡ NoneValid → IsMaskForm h blob form → marks ≡ replicate (h.rows * h.cols) false
+    → IsMask (h.rows * h.cols) h.valid (take (image_place h form - head_length h.version) (rest_of h blob)) marks
+empty_mask h blob form marks is m e =
+    let f : IsMaskForm h blob NoneValid = subst (IsMaskForm h blob) is m in
+    subst (λ (x : MaskForm). IsMask (h.rows * h.cols) h.valid (take (image_place h x - head_length h.version) (rest_of h blob)) marks) (sym is)
+    (subst (λ (n : ℕ). IsMask (h.rows * h.cols) h.valid (take n (rest_of h blob)) marks) (sym (four h))
+    (subst (IsMask (h.rows * h.cols) h.valid (take 4 (rest_of h blob))) (sym e)
+    (alike_stands (h.rows * h.cols) h.valid (rest_of h blob) false (omega (arith, rest_long h blob 0 f.1)) f.0 f.1.number)))
+
+pub full_mask : (h : Header) (blob : List ℕ) (form : MaskForm) (marks : List Bool) → form ≡ Full → IsMaskForm h blob form → marks ≡ replicate (h.rows * h.cols) true
+    → IsMask (h.rows * h.cols) h.valid (take (image_place h form - head_length h.version) (rest_of h blob)) marks
+full_mask h blob form marks is m e =
+    let f : IsMaskForm h blob Full = subst (IsMaskForm h blob) is m in
+    subst (λ (x : MaskForm). IsMask (h.rows * h.cols) h.valid (take (image_place h x - head_length h.version) (rest_of h blob)) marks) (sym is)
+    (subst (λ (n : ℕ). IsMask (h.rows * h.cols) h.valid (take n (rest_of h blob)) marks) (sym (four h))
+    (subst (IsMask (h.rows * h.cols) h.valid (take 4 (rest_of h blob))) (sym e)
+    (alike_stands (h.rows * h.cols) h.valid (rest_of h blob) true (omega (arith, rest_long h blob 0 f.1.1)) f.1.0 f.1.1.number)))
+
+-- where the runs stand
+runs_there : (h : Header) (blob : List ℕ) (place n : ℕ) → place ≡ head_length h.version + 4 → take (place + n - place) (drop place blob) ≡ take n (drop 4 (rest_of h blob))
+runs_there h blob place n is =
+    ap (λ k. take k (drop place blob)) (let t : place + n - place ≡ n = omega arith in t) ∙ ap (λ k. take n (drop k blob)) is ∙ ap (take n) (sym (drop-drop 4 (head_length h.version) blob))
+
+pub runs_mask : (h : Header) (blob : List ℕ) (form : MaskForm) (r : Pixels) (at len place : ℕ) → form ≡ RunsAt at len → IsMaskForm h blob form → place ≡ head_length h.version + 4
+    → IsMarkedBy (h.rows * h.cols) h.valid (take (place + len - place) (drop place blob)) r
+    → IsMask (h.rows * h.cols) h.valid (take (image_place h form - head_length h.version) (rest_of h blob)) (marks_of r)
+runs_mask h blob form r at len place is m place_is b =
+    let f : IsMaskForm h blob (RunsAt at len) = subst (IsMaskForm h blob) is m in
+    let runs : Runs (take len (drop 4 (rest_of h blob))) b.mask = subst (λ (u : List ℕ). Runs u b.mask) (runs_there h blob place len place_is) b.runs_of in
+    subst (λ (x : MaskForm). IsMask (h.rows * h.cols) h.valid (take (image_place h x - head_length h.version) (rest_of h blob)) (marks_of r)) (sym is)
+    (subst (λ (n : ℕ). IsMask (h.rows * h.cols) h.valid (take n (rest_of h blob)) (marks_of r)) (let t : 4 + len ≡ head_length h.version + 4 + len - head_length h.version = omega arith in t)
+    (subst (IsMask (h.rows * h.cols) h.valid (take (4 + len) (rest_of h blob))) (sym b.marks)
+    (mixed_stands (h.rows * h.cols) h.valid (rest_of h blob) b.mask len f.0 f.1.1.1.number (rest_long h blob len f.1.1.1) runs b.size b.count)))
+
+pub runs_fault : (h : Header) (blob : List ℕ) (form : MaskForm) (at len place p : ℕ) (reason : BlobReason) → form ≡ RunsAt at len → IsMaskForm h blob form → place ≡ head_length h.version + 4
+    → moved place (runs_faults (h.rows * h.cols) h.valid (take (place + len - place) (drop place blob))) p reason
+    → moved (head_length h.version) (mask_faults (h.rows * h.cols) h.valid (rest_of h blob)) p reason
+runs_fault h blob form at len place p reason is m place_is (q, (e, w)) =
+    let f : IsMaskForm h blob (RunsAt at len) = subst (IsMaskForm h blob) is m in
+    let there = subst (λ (u : List ℕ). runs_faults (h.rows * h.cols) h.valid u q reason) (runs_there h blob place len place_is) w in
+    (4 + q, (omega (arith, e, place_is), mask_inside (h.rows * h.cols) h.valid (rest_of h blob) len q reason f.0 f.1.1.1.number f.1.1.0 (rest_long h blob len f.1.1.1) there))
+
+-- what the reader of the runs finds
+pub run_within : (bytes : List ℕ) (n p : ℕ) → FirstRunFault bytes n p → p ≤ length bytes
+run_within bytes n p (in_run mask within joined short wrong) = within
+run_within bytes n p (after_end mask within runs full) = omega (arith, within)
+
+pub run_place : {T : Type 0} (n : ℕ) (runs : List ℕ) (f : RunFault) (result : Result T RunFault) → ((k : ℕ) → (result ≡ Err (record { at = k })) ↔ FirstRunFault runs n k) → result ≡ Err f → f.at ≤ length runs
+run_place n runs f result exact is = run_within runs n f.at ((exact f.at).0 is)
+
+pub bad_run : {T : Type 0} (pixels valid place n : ℕ) (runs : List ℕ) (f : RunFault) (result : Result T RunFault) → ((k : ℕ) → (result ≡ Err (record { at = k })) ↔ FirstRunFault runs n k) → result ≡ Err f → n ≡ mask_size pixels
+    → moved place (runs_faults pixels valid runs) (place + f.at) BadRun
+bad_run pixels valid place n runs f result exact is size = (f.at, (refl, inl (subst (λ k. FirstRunFault runs k f.at) size ((exact f.at).0 is), refl)))
+
+pub bad_count : (pixels valid place found : ℕ) (runs mask : List ℕ) → Runs runs mask → length mask ≡ mask_size pixels → found ≡ count_of (marks_in pixels mask) → ¬ (found ≡ valid)
+    → moved place (runs_faults pixels valid runs) place (BadMaskCount valid found)
+bad_count pixels valid place found runs mask r size is other =
+    (0, ((let t : place ≡ place + 0 = omega arith in t), inr (mask, (r, (size, inr ((λ e. other (is ∙ e)), (refl, ap (BadMaskCount valid) is)))))))
+
+-- ---- a blob
+
+pub mask_stop : (h : Header) (blob : List ℕ) (p : ℕ) (reason : BlobReason) → h.checksum ≡ sum_of (drop 14 blob) → moved (head_length h.version) (mask_faults (h.rows * h.cols) h.valid (rest_of h blob)) p reason → blob_faults h blob p reason
+mask_stop h blob p reason sum (q, (e, w)) = inl (sum, (q, (e, inl w)))
+
+pub mask_part_stop : (h : Header) (blob : List ℕ) (p : ℕ) (reason : BlobReason) → h.checksum ≡ sum_of (drop 14 blob) → mask_part_faults h blob p reason → blob_faults h blob p reason
+mask_part_stop h blob p reason sum (q, (e, w)) = inl (sum, (q, (e, inl (mask_outside (h.rows * h.cols) h.valid (rest_of h blob) q reason w))))
+
+place_above : (h : Header) (form : MaskForm) → head_length h.version ≤ image_place h form
+place_above h NoneValid = omega arith
+place_above h Full = omega arith
+place_above h (RunsAt at len) = omega arith
+
+place_within : (h : Header) (blob : List ℕ) (form : MaskForm) → IsMaskForm h blob form → image_place h form ≤ length blob
+place_within h blob NoneValid m = omega (arith, m.1.there)
+place_within h blob Full m = omega (arith, m.1.1.there)
+place_within h blob (RunsAt at len) m = omega (arith, m.1.1.1.there)
+
+pub image_stop : (h : Header) (blob : List ℕ) (form : MaskForm) (marks : List Bool) (p : ℕ) (reason : BlobReason) → h.checksum ≡ sum_of (drop 14 blob) → IsMaskForm h blob form
+    → IsMask (h.rows * h.cols) h.valid (take (image_place h form - head_length h.version) (rest_of h blob)) marks
+    → moved (image_place h form) (image_faults h marks (drop (image_place h form) blob)) p reason → blob_faults h blob p reason
+image_stop h blob form marks p reason sum m mask (q, (e, w)) =
+    let n = head_length h.version in
+    let used = image_place h form - n in
+    let above = place_above h form in
+    let within = place_within h blob form m in
+    let size : length (take used (rest_of h blob)) ≡ used = length-take-le used (rest_of h blob) (omega (arith, above, within, length-drop n blob)) in
+    let back : drop (image_place h form) blob ≡ drop used (rest_of h blob) = ap (λ k. drop k blob) (let t : image_place h form ≡ n + used = omega (arith, above) in t) ∙ sym (drop-drop used n blob) in
+    inl (sum, (used + q, ((let t : p ≡ n + (used + q) = omega (arith, e, above) in t), inr (record {
+      front = take used (rest_of h blob);
+      rest = drop used (rest_of h blob);
+      value = marks;
+      joined = sym (take-append-drop used (rest_of h blob));
+      stands = mask;
+      later = (q, (ap (λ k. k + q) (sym size), subst (λ (u : List ℕ). image_faults h marks u q reason) back w));
+    }))))
+
+pub image_part_stop : (h : Header) (blob : List ℕ) (form : MaskForm) (marks : List Bool) (p : ℕ) (reason : BlobReason) → h.checksum ≡ sum_of (drop 14 blob) → IsMaskForm h blob form
+    → IsMask (h.rows * h.cols) h.valid (take (image_place h form - head_length h.version) (rest_of h blob)) marks
+    → image_part_faults h blob form p reason → blob_faults h blob p reason
+image_part_stop h blob form marks p reason sum m mask (q, (e, w)) =
+    image_stop h blob form marks p reason sum m mask (q, (e, image_outside h marks (drop (image_place h form) blob) q reason w))
+
+pub blob_made : (h : Header) (blob : List ℕ) (form : MaskForm) (old r : Pixels) → HeadAt blob h → length blob ≡ h.size → h.checksum ≡ sum_of (drop 14 blob) → IsMaskForm h blob form
+    → IsRaster r → HasHeadShape h old → KeepsMarks old r
+    → IsMask (h.rows * h.cols) h.valid (take (image_place h form - head_length h.version) (rest_of h blob)) (marks_of old)
+    → IsImage h (drop (image_place h form) blob) r → Blob blob r
+blob_made h blob form old r head size sum m sound shape keeps mask image =
+    let n = head_length h.version in
+    let used = image_place h form - n in
+    let above = place_above h form in
+    let there = subst (IsMask (h.rows * h.cols) h.valid (take used (rest_of h blob))) keeps.marks mask in
+    let back : drop used (rest_of h blob) ≡ drop (image_place h form) blob = drop-drop used n blob ∙ ap (λ k. drop k blob) (let t : n + used ≡ image_place h form = omega (arith, above) in t) in (
+      sound,
+      (
+        h,
+        (
+          record { head = take n blob; mask = take used (rest_of h blob); image = drop (image_place h form) blob },
+          record {
+            joined = sym (take-append-drop n blob) ∙ ap (λ (u : List ℕ). take n blob ++ u) (sym (take-append-drop used (rest_of h blob)) ∙ ap (λ (u : List ℕ). take used (rest_of h blob) ++ u) back);
+            head_ends = length-take-le n blob head.long;
+            head_stands = head;
+            head_of = record {
+              kind = shape.kind ∙ keeps.kind;
+              rows = shape.rows ∙ keeps.rows;
+              cols = shape.cols ∙ keeps.cols;
+              depth = shape.depth ∙ keeps.depth;
+              valid = sym (mask_count (h.rows * h.cols) h.valid (take used (rest_of h blob)) (marks_of r) there) ∙ sym (counted r.pixels);
+              size = sym size;
+              checksum = sum;
+            };
+            mask_of = there;
+            image_of = image;
+          },
+        ),
+      ),
+    )
+
+-- ---- the image
+
+abbrev image_of : Header → List ℕ → MaskForm → List ℕ
+image_of h blob mask = drop (image_place h mask) blob
+
+pub image_empty : (h : Header) (blob : List ℕ) (mask : MaskForm) (form : ImageForm) (r : Pixels) → form ≡ NoImage → IsImageForm h blob mask form → count_of (marks_of r) ≡ h.valid → IsImage h (image_of h blob mask) r
+image_empty h blob mask form r is m count =
+    let f : IsImageForm h blob mask NoImage = subst (IsImageForm h blob mask) is m in
+    empty f.0 f.1 (none_each r (count ∙ f.0))
+
+pub image_constant : (h : Header) (blob : List ℕ) (mask : MaskForm) (form : ImageForm) (r : Pixels) → form ≡ Constant → IsImageForm h blob mask form → EachValid r (λ values. values ≡ replicate h.depth h.least) → IsImage h (image_of h blob mask) r
+image_constant h blob mask form r is m each =
+    let f : IsImageForm h blob mask Constant = subst (IsImageForm h blob mask) is m in
+    constant f.0 f.1.0 f.1.1 each
+
+bytes_behind : (n : ℕ) (blob : List ℕ) → AreBytes blob → AreBytes (drop n blob)
+bytes_behind n blob are = bytes_in_drop n blob are
+
+-- where the first list stands
+pub record RangesThere (h : Header) (blob : List ℕ) (mask : MaskForm) (size : ℕ) : Type 0 where
+  pub room : size + size ≤ length blob
+  pub place : length blob - 2 * size ≡ image_place h mask
+  pub front : Option Ends
+  pub equal : AreEqual front
+  pub bare : ¬ IsBare h
+  pub stands : IsFront h h.version (image_of h blob mask) front
+
+pub ranges_there : (h : Header) (blob : List ℕ) (mask : MaskForm) (form : ImageForm) (size : ℕ) → form ≡ Ranges → IsMaskForm h blob mask → IsImageForm h blob mask form → size ≡ h.depth * bytes_of h.kind → RangesThere h blob mask size
+ranges_there h blob mask form size is mm m size_is =
+    let f : IsImageForm h blob mask Ranges = subst (IsImageForm h blob mask) is m in
+    let l = f.1.1.1 in
+    let stands : IsFront h h.version (image_of h blob mask) f.1.0 = subst (λ (u : List ℕ). IsFront h h.version u f.1.0) (sym (append-nil l.lists) ∙ sym l.joined) l.stand in
+    let long : length (image_of h blob mask) ≡ size + size = front_list_long h (image_of h blob mask) f.1.0 stands f.1.1.0 ∙ sym (λ i. size_is i + size_is i) in
+    record {
+      room = omega (arith, long, length-drop (image_place h mask) blob);
+      place = omega (arith, long, length-drop (image_place h mask) blob, place_within h blob mask mm);
+      front = f.1.0;
+      equal = f.1.1.0;
+      bare = f.0;
+      stands = stands;
+    }
+
+pub image_ranges : (h : Header) (blob : List ℕ) (mask : MaskForm) (size place : ℕ) (r : Pixels) → AreBytes blob → (t : RangesThere h blob mask size) → size ≡ h.depth * bytes_of h.kind → place ≡ length blob - 2 * size
+    → IsFilledWith h.kind (take (place + size - place) (drop place blob)) r → IsImage h (image_of h blob mask) r
+image_ranges h blob mask size place r are t size_is place_is f =
+    let bytes : take (place + size - place) (drop place blob) ≡ take (h.depth * bytes_of h.kind) (image_of h blob mask) =
+    ap (λ n. take n (drop place blob)) ((let s : place + size - place ≡ size = omega arith in s) ∙ size_is) ∙ ap (λ n. take (h.depth * bytes_of h.kind) (drop n blob)) (place_is ∙ t.place) in
+    let list : f.list ≡ one_list t.front = first_list h (image_of h blob mask) t.front f.list (bytes_behind (image_place h mask) blob are) t.stands t.equal (subst (λ (u : List ℕ). AreValues h.kind u f.list) bytes f.stands) in
+    ranges t.bare t.front t.stands t.equal (subst (λ (u : List ℤ). EachValid r (λ values. values ≡ u)) list f.each)
+
+-- where a sweep stands
+pub record SweepThere (h : Header) (blob : List ℕ) (mask : MaskForm) (at : ℕ) : Type 0 where
+  pub within : at ≤ length blob
+  pub bare : ¬ IsBare h
+  pub front : Option Ends
+  pub other : ¬ AreEqual front
+  pub values : List ℕ
+  pub lists : HasLists h (image_of h blob mask) front (1 ∷ values)
+  pub there : drop at blob ≡ values
+  pub place : at ≡ image_place h mask + (length lists.lists + 1)
+
+pub sweep_there : (h : Header) (blob : List ℕ) (mask : MaskForm) (form : ImageForm) (at : ℕ) → form ≡ Sweep at → IsMaskForm h blob mask → IsImageForm h blob mask form → SweepThere h blob mask at
+sweep_there h blob mask form at is mm m =
+    let f : IsImageForm h blob mask (Sweep at) = subst (IsImageForm h blob mask) is m in
+    let values = f.1.1.1.0 in
+    let l = f.1.1.1.1.0 in
+    let e = f.1.1.1.1.1 in
+    let place = image_place h mask in
+    let long : length (image_of h blob mask) ≡ length l.lists + (1 + length values) = ap length l.joined ∙ length-append l.lists (1 ∷ values) ∙ (let t : length l.lists + suc (length values) ≡ length l.lists + (1 + length values) = omega arith in t) in
+    let at_is : at ≡ place + (length l.lists + 1) = omega (arith, e, long, length-drop place blob, place_within h blob mask mm) in
+    let front : length (l.lists ++ 1 ∷ []) ≡ length l.lists + 1 = length-append l.lists (1 ∷ []) in
+    let joined : image_of h blob mask ≡ (l.lists ++ 1 ∷ []) ++ values = l.joined ∙ sym (append_assoc l.lists (1 ∷ []) values) in
+    record {
+      within = omega (arith, e);
+      bare = f.0;
+      front = f.1.0;
+      other = f.1.1.0;
+      values = values;
+      lists = l;
+      there = ap (λ n. drop n blob) (at_is ∙ (let t : place + (length l.lists + 1) ≡ place + (length l.lists + 1) = refl in t)) ∙ sym (drop-drop (length l.lists + 1) place blob) ∙ ap (drop (length l.lists + 1)) joined ∙ drop_at (l.lists ++ 1 ∷ []) values (length l.lists + 1) front;
+      place = at_is;
+    }
+
+pub image_sweep : (h : Header) (blob : List ℕ) (mask : MaskForm) (at place : ℕ) (r : Pixels) (t : SweepThere h blob mask at) → place ≡ at → IsSwept h (take (length blob - place) (drop place blob)) r → IsImage h (image_of h blob mask) r
+image_sweep h blob mask at place r t is s =
+    let bytes : take (length blob - place) (drop place blob) ≡ t.values = take_rest blob place ∙ ap (λ n. drop n blob) is ∙ t.there in
+    coded t.bare t.lists.lists (1 ∷ t.values) t.front t.lists.joined t.lists.stand t.other (sweep t.values refl (subst (λ (u : List ℕ). AreValues h.kind u (values_of r.pixels)) bytes s.stands) s.count)
+
+pub sweep_fault : (h : Header) (blob : List ℕ) (mask : MaskForm) (marks : List Bool) (at place : ℕ) (t : SweepThere h blob mask at) → place ≡ at → (p : ℕ) (reason : BlobReason)
+    → moved place (sweep_faults h (take (length blob - place) (drop place blob))) p reason → moved (image_place h mask) (image_faults h marks (image_of h blob mask)) p reason
+sweep_fault h blob mask marks at place t is p reason (q, (e, w)) =
+    let bytes : take (length blob - place) (drop place blob) ≡ t.values = take_rest blob place ∙ ap (λ n. drop n blob) is ∙ t.there in
+    (length t.lists.lists + (1 + q), (omega (arith, e, is, t.place), image_inside h marks (image_of h blob mask) t.values t.front q reason t.bare t.other t.lists (subst (λ (u : List ℕ). sweep_faults h u q reason) bytes w)))
+
+pub few_values : (blob : List ℕ) (h : Header) → HeadAt blob h → h.valid * h.depth ≤ 16777216
+few_values blob h head =
+    let a : h.valid * h.depth ≤ h.rows * h.cols * h.depth = mul-le-mul_right h.depth head.valid_below in
+    omega (arith, a, head.shape.size)
+
+-- a stop that is want of memory
+pub no_memory : {T : Type 0} (f : Faults BlobReason) (result : Result T BodyStop) → IfErr result (λ stop. stop ≡ OutOfMemory) → IfErr result (IsStopOf f)
+no_memory f (Ok x) w = tt
+no_memory f (Err stop) w = subst (IsStopOf f) (sym w) tt
+
+-- the checksum does not stand
+pub bad_sum : (h : Header) (blob : List ℕ) (computed : ℕ) → computed ≡ sum_of (drop 14 blob) → ¬ (h.checksum ≡ computed) → blob_faults h blob 10 (BadChecksum h.checksum computed)
+bad_sum h blob computed is other = inr ((λ e. other (e ∙ sym is)), (refl, ap (BadChecksum h.checksum) is))
+
+pub mask_form_stop : {T : Type 0} (h : Header) (blob : List ℕ) (result : Result T BlobFault) → h.checksum ≡ sum_of (drop 14 blob) → ((f : BlobFault) → (result ≡ Err f) ↔ mask_part_faults h blob f.place f.reason) → (f : BlobFault) → result ≡ Err f → blob_faults h blob f.place f.reason
+mask_form_stop h blob result sum exact f is = mask_part_stop h blob f.place f.reason sum ((exact f).0 is)
+
+pub image_form_stop : {T : Type 0} (h : Header) (blob : List ℕ) (mask : MaskForm) (r : Pixels) (result : Result T BlobFault) → h.checksum ≡ sum_of (drop 14 blob) → IsMaskForm h blob mask → IsMarkedFor h blob mask r
+    → ((f : BlobFault) → (result ≡ Err f) ↔ image_part_faults h blob mask f.place f.reason) → (f : BlobFault) → result ≡ Err f → blob_faults h blob f.place f.reason
+image_form_stop h blob mask r result sum form m exact f is = image_part_stop h blob mask (marks_of r) f.place f.reason sum form m.mask ((exact f).0 is)
+
+pub marked_count : (h : Header) (blob : List ℕ) (mask : MaskForm) (r : Pixels) → IsMarkedFor h blob mask r → count_of (marks_of r) ≡ h.valid
+marked_count h blob mask r m = mask_count (h.rows * h.cols) h.valid _ (marks_of r) m.mask
+
+pub mask_err : (h : Header) (blob : List ℕ) (stop : BodyStop) → h.checksum ≡ sum_of (drop 14 blob) → IsStopOf (moved (head_length h.version) (mask_faults (h.rows * h.cols) h.valid (rest_of h blob))) stop → IsStopOf (blob_faults h blob) stop
+mask_err h blob stop sum w = stop_map _ (blob_faults h blob) (λ p r x. mask_stop h blob p r sum x) stop w
+
+pub image_err : (h : Header) (blob : List ℕ) (mask : MaskForm) (old : Pixels) (stop : BodyStop) → h.checksum ≡ sum_of (drop 14 blob) → IsMaskForm h blob mask → IsMarkedFor h blob mask old
+    → IsStopOf (moved (image_place h mask) (image_faults h (marks_of old) (image_of h blob mask))) stop → IsStopOf (blob_faults h blob) stop
+image_err h blob mask old stop sum form m w = stop_map _ (blob_faults h blob) (λ p r x. image_stop h blob mask (marks_of old) p r sum form m.mask x) stop w
+
+pub picture_made : (h : Header) (blob : List ℕ) (mask : MaskForm) (old r : Pixels) → HeadAt blob h → length blob ≡ h.size → h.checksum ≡ sum_of (drop 14 blob) → IsMaskForm h blob mask → IsMarkedFor h blob mask old
+    → IsRaster r → KeepsMarks old r → IsImage h (image_of h blob mask) r → Blob blob r
+picture_made h blob mask old r head size sum form m sound keeps image = blob_made h blob mask old r head size sum form sound m.shape keeps m.mask image

@@ -1,12 +1,60 @@
 -- What the calls on the raster leave.
-use Rattle.std.proofs.Common.{◌≡◌, ℕ, ◌*◌, List, length, sym, ap, ◌∙◌}
-use Rattle.raster_values.specs.Raster.{Pixels, IsRaster, valid_count}
+use Rattle.std.specs.Prelude.{ℤ}
+use Rattle.std.proofs.Common.{◌≡◌, ℕ, ◌+◌, ◌-◌, ◌*◌, ◌<◌, ◌≤◌, List, [], ◌∷◌, length, take, drop, refl, sym, ap, ◌∙◌, subst, arith, inl, inr, ◌⊎◌, All, get_or}
+use Rattle.std.proofs.lemmas.Bool.{cases_order}
+use Rattle.std.proofs.lemmas.List.{length-drop, take_rest}
+use Rattle.first_fault.specs.Faults.{moved}
+use Rattle.first_fault.specs.Parts.{AreBytes}
+use Rattle.byteorder.specs.Endian.{little_number}
+use Rattle.raster_values.specs.declared.kind.PixelType.{PixelType}
+use Rattle.raster_values.specs.PixelType.{bytes_of, value_of, InRange, Spells}
+use Rattle.raster_values.specs.Values.{AreValues}
+use Rattle.raster_values.specs.Order.{PoursBytes}
+use Rattle.raster_values.proofs.Spelled.{same_count, values_once, values_there}
+use Rattle.lerc_header.specs.declared.header.Header.{Header}
+use Rattle.lerc_header.specs.declared.fault.BlobReason.TheVariants.{Leftover}
+use Rattle.lerc_grammar.specs.Image.{sweep_faults, value_count}
+use Rattle.raster_values.specs.Raster.{Pixels, IsRaster, valid_count, values_of}
 use Rattle.raster_values.specs.Flat.{marks_of}
 use Rattle.raster_values.specs.Block.{SameMask}
 use Rattle.lerc_grammar.specs.Mask.{count_of}
 use Rattle.lerc_grammar.proofs.Counts.{counted}
 use Rattle.lerc_decode.specs.inside.Body.{KeepsMarks}
+use Rattle.lerc_decode.specs.inside.Body.{HasHeadShape, IsSwept}
 use Rattle.lerc_decode.proofs.Marks.{same_marks}
 
 pub keeps : (old new : Pixels) → IsRaster old → IsRaster new → SameMask old new → KeepsMarks old new
 keeps old new was is s = record { kind = s.shape.kind; rows = s.shape.rows; cols = s.shape.cols; depth = s.shape.depth; marks = same_marks old new was is s }
+
+-- a byte behind a sweep
+pub left_over : (h : Header) (bytes : List ℕ) (place need : ℕ) → need ≡ value_count h * bytes_of h.kind → need < length bytes → moved place (sweep_faults h bytes) (place + need) Leftover
+left_over h bytes place need is more =
+    let n = value_count h * bytes_of h.kind in
+    (need, (refl, inl (omega (arith, is, more), (0, ((let t : need ≡ n + 0 = omega (arith, is) in t), inr ((λ e. absurd (omega (arith, ap length e, length-drop n bytes, is, more))), (refl, refl)))))))
+
+-- as many bytes as the raster wants
+pub sweep_size : (h : Header) (r : Pixels) (size need : ℕ) → HasHeadShape h r → count_of (marks_of r) ≡ h.valid → need ≡ value_count h * bytes_of h.kind → ¬ (size < need) → ¬ (need < size) → size ≡ valid_count r * r.depth * bytes_of r.kind
+sweep_size h r size need shape valid is low high =
+    let same : size ≡ need = which (cases_order size need) in
+    same ∙ is ∙ (λ i. (sym valid ∙ sym (counted r.pixels)) i * shape.depth i * bytes_of (shape.kind i))
+  where
+    which : (size ≡ need) ⊎ ((size < need) ⊎ (need < size)) → size ≡ need
+    which (inl e) = e
+    which (inr (inl less)) = absurd (low less)
+    which (inr (inr more)) = absurd (high more)
+
+pub swept : (h : Header) (old new : Pixels) (bytes : List ℕ) (need : ℕ) → HasHeadShape h old → PoursBytes old new bytes → need ≡ value_count h * bytes_of h.kind → length bytes ≡ need → IsSwept h bytes new
+swept h old new bytes need shape p is size =
+    let stands : AreValues h.kind bytes (values_of new.pixels) = subst (λ (k : PixelType). AreValues k bytes (values_of new.pixels)) (sym shape.kind) p.poured in
+    record { stands = stands; count = same_count h.kind (length (values_of new.pixels)) (value_count h) (sym stands.size ∙ size ∙ is) }
+
+-- values that are read one by one
+pub spelled_at : (kind : PixelType) (bytes : List ℕ) (i size : ℕ) (value : ℤ) → size ≡ bytes_of kind → Spells kind (take (length bytes - i * size) (drop (i * size) bytes)) value
+    → value ≡ value_of kind (little_number (bytes_of kind) (drop (i * bytes_of kind) bytes))
+spelled_at kind bytes i size value is s =
+    s ∙ ap (λ (u : List ℕ). value_of kind (little_number (bytes_of kind) u)) (take_rest bytes (i * size) ∙ ap (λ n. drop (i * n) bytes) is)
+
+pub read_in_range : (kind : PixelType) (bytes : List ℕ) (out : List ℤ) → AreBytes bytes → AreValues kind bytes out → All (InRange kind) out
+read_in_range kind bytes out are v =
+    let there = values_there kind bytes (length out) are v.size in
+    subst (All (InRange kind)) (values_once kind bytes there.0 out there.1.0 v) there.1.1.1.0

@@ -1,3 +1,6 @@
 mod Marks
 mod Filling
 mod Bodies
+mod Fields
+mod Steps
+mod Feeding

@@ -52,13 +52,16 @@ marks_at r sound ms long at =
     let p = place_of r sound k (omega (arith, here, sound.places)) in
     get_or-map is_some r.pixels k None false here ∙ ap (λ n. is_some (get_or r.pixels n None)) (sym p.number) ∙ at p.row p.col p.within ∙ ap (λ n. get_or ms n false) p.number)
 
+below_all : (i j rows cols : ℕ) → i < rows → j < cols → i * cols + j < rows * cols
+below_all i j rows cols in_row in_col = subst (λ n. i * cols + j < n) (let t : cols * rows ≡ rows * cols = omega arith in t) (mul-add-lt i cols j rows in_row in_col)
+
 pub same_marks : (old new : Pixels) → IsRaster old → IsRaster new → SameMask old new → marks_of old ≡ marks_of new
 same_marks old new was is s =
     let size : length (marks_of old) ≡ new.rows * new.cols = length-map old.pixels is_some ∙ was.places ∙ (λ i. s.shape.rows i * s.shape.cols i) in
     sym (marks_at new is (marks_of old) size (λ i j within.
     let inside : InShape old i j = (subst (λ n. i < n) (sym s.shape.rows) within.0, subst (λ n. j < n) (sym s.shape.cols) within.1) in
     let number : i * old.cols + j ≡ i * new.cols + j = ap (λ n. i * n + j) s.shape.cols in
-    let below : i * new.cols + j < length old.pixels = subst (λ n. n < length old.pixels) number (subst (λ n. i * old.cols + j < n) (sym was.places) (mul-add-lt i old.cols j old.rows inside.0 inside.1)) in
+    let below : i * new.cols + j < length old.pixels = subst (λ n. n < length old.pixels) number (subst (λ n. i * old.cols + j < n) (sym was.places) (below_all i j old.rows old.cols inside.0 inside.1)) in
     s.places i j inside ∙ ap (λ n. is_some (get_or old.pixels n None)) number ∙ sym (get_or-map is_some old.pixels (i * new.cols + j) None false below)))
 
 pub bit_marks : (old new : Pixels) (mask : List ℕ) → IsRaster new → MarksBits old new mask → marks_of new ≡ marks_in (old.rows * old.cols) mask
@@ -68,7 +71,7 @@ bit_marks old new mask is m =
     marks_at new is (marks_in (old.rows * old.cols) mask) (length-map (range_with_len 0 (old.rows * old.cols)) (mask_bit mask) ∙ length-range_with_len 0 (old.rows * old.cols) ∙ pixels) (λ i j within.
     let inside : InShape old i j = (subst (λ n. i < n) (sym m.shape.rows) within.0, subst (λ n. j < n) (sym m.shape.cols) within.1) in
     let number : i * old.cols + j ≡ i * new.cols + j = ap (λ n. i * n + j) m.shape.cols in
-    let below : i * new.cols + j < old.rows * old.cols = subst (λ n. n < old.rows * old.cols) number (mul-add-lt i old.cols j old.rows inside.0 inside.1) in
+    let below : i * new.cols + j < old.rows * old.cols = subst (λ n. n < old.rows * old.cols) number (below_all i j old.rows old.cols inside.0 inside.1) in
     m.places i j inside ∙ ap (mask_bit mask) number ∙ sym (get_or-map-range_with_len (mask_bit mask) 0 (old.rows * old.cols) (i * new.cols + j) (i * new.cols + j) false below (omega arith)))
 
 -- each valid pixel has this list
@@ -85,3 +88,10 @@ filled_each old new values is long f = λ k below.
     let there : valid_at new p.row p.col ≡ true = ap (λ n. is_some (get_or new.pixels n None)) p.number ∙ on in
     ap (λ n. get_or (unwrap_or (get_or new.pixels n None) []) d (pos 0)) (sym p.number)
     ∙ f.each p.row p.col d inside (sym (s.places p.row p.col inside) ∙ there) (subst (λ n. d < n) (sym s.shape.depth) less))
+
+-- what bits leave in a raster that had no valid pixel
+pub marks_found : (kind : PixelType) (rows cols depth : ℕ) (old new : Pixels) (mask : List ℕ) → old ≡ blank kind rows cols depth → IsRaster new → MarksBits old new mask → marks_of new ≡ marks_in (rows * cols) mask
+marks_found kind rows cols depth old new mask e is m = bit_marks old new mask is m ∙ ap (λ (r : Pixels). marks_in (r.rows * r.cols) mask) e
+
+pub count_found : (kind : PixelType) (rows cols depth found : ℕ) (old new : Pixels) (mask : List ℕ) → old ≡ blank kind rows cols depth → IsRaster new → MarksBits old new mask → found ≡ valid_count new → found ≡ count_of (marks_in (rows * cols) mask)
+count_found kind rows cols depth found old new mask e is m v = v ∙ counted new.pixels ∙ ap count_of (marks_found kind rows cols depth old new mask e is m)

@@ -1,1 +1,4 @@
+pub mod Decoding
+pub mod States
+pub mod FromSource
 pub mod inside

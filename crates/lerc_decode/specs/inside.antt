@@ -1,1 +1,5 @@
 pub mod Body
+pub mod Feeding
+pub mod Inside
+pub mod Stages
+pub mod Steps

@@ -7,14 +7,15 @@ ghost use Rattle.raster_values.specs.Raster.{IsRaster, IsShape, blank};
 ghost use Rattle.raster_values.specs.Flat.{EachValid, marks_of};
 ghost use Rattle.raster_values.specs.Values.{AreValues};
 ghost use Rattle.lerc_header.specs.Head.{HeadAt, head_length};
-ghost use Rattle.lerc_grammar.specs.Mask.{IsMask, count_of, mask_faults, runs_faults};
-ghost use Rattle.lerc_grammar.specs.Image.{IsImage, image_faults, sweep_faults};
+ghost use Rattle.lerc_header.specs.Checksum.{sum_of};
+ghost use Rattle.lerc_grammar.specs.Mask.{IsMask, count_of, mask_faults, mask_size, runs_faults};
+ghost use Rattle.lerc_grammar.specs.Image.{IsImage, image_faults, sweep_faults, value_count};
 ghost use Rattle.lerc_grammar.specs.Blob.{Blob, blob_faults};
 ghost use Rattle.lerc_grammar.specs.Outline.{IsImageForm, IsMaskForm, image_place};
-ghost use Rattle.lerc_decode.specs.inside.Body.{HasHeadShape, IsFilledWith, IsMarkedBy, IsStopOf, IsSwept, KeepsMarks};
+ghost use Rattle.lerc_decode.specs.inside.Body.{HasHeadShape, HasSum, IsFilledWith, IsMarkedBy, IsMarkedFor, IsStopOf, IsSwept, KeepsMarks};
 
-use lerc_grammar::{BlobFault, BlobReason, ImageForm, MaskForm, image_part, mask_part};
-use lerc_header::{Header, Version, checksum};
+use lerc_grammar::{ImageForm, MaskForm, image_part, mask_part};
+use lerc_header::{BlobFault, BlobReason, Header, checksum};
 use mask_runs::read_runs;
 use raster_values::{PixelType, Raster};
 use std::alloc::Global;
@@ -34,16 +35,6 @@ fn stopped<T: Drop>(reason: BlobReason, place: usize) -> Result<T, BodyStop>
         reason,
         place: place as u64,
     }))
-}
-
-/// How many bytes a header of this version has.
-pub(crate) fn head_len(version: Version) -> usize
-    ensures { result ≡ head_length version }
-{
-    match version {
-        Version::V3 => 62,
-        Version::V4 => 66,
-    }
 }
 
 /// What holds of each raster, for the proofs.
@@ -69,7 +60,58 @@ fn blank_raster(alloc: Global, header: &Header) -> Option<Raster>
     .ok()
 }
 
-/// Makes the pixels valid that the runs say, which begin at this place of the blob.
+/// So many bytes, where there is memory for them.
+fn room_for(alloc: Global, size: usize) -> Option<Vec<u8>>
+    ensures { IfSome result (λ room. length room.items ≡ size) }
+{
+    vec![in alloc; 0u8; size].ok()
+}
+
+/// One value so many times, where there is memory for it.
+fn many(alloc: Global, value: i64, count: usize) -> Option<Vec<i64>>
+    ensures { IfSome result (λ values. values.items ≡ replicate count value) }
+{
+    vec![in alloc; value; count].ok()
+}
+
+/// Makes the pixels valid that the runs say, which begin at this place of the blob. The mask's bytes
+/// are read into `mask`.
+fn mark_by(
+    runs: &[u8],
+    place: usize,
+    header: &Header,
+    mask: &mut [u8],
+    raster: &mut Raster,
+) -> Result<(), BodyStop>
+    requires blank { raster.old
+        ≡ blank header.now.kind header.now.rows header.now.cols header.now.depth }
+    requires mask { length mask.old ≡ mask_size (header.now.rows * header.now.cols) }
+    requires few { place + length runs.now < 2 ^ 62 }
+    ensures shape { HasHeadShape header.now raster.new }
+    ensures ok { OnOk result (IsMarkedBy (header.now.rows * header.now.cols) header.now.valid
+        runs.now raster.new) }
+    ensures fault { IfErr result (λ stop. IsStopOf (moved place
+        (runs_faults (header.now.rows * header.now.cols) header.now.valid runs.now)) stop) }
+{
+    if let Err(fault) = read_runs(runs, mask) {
+        return stopped(BlobReason::BadRun, place + fault.at);
+    }
+    raster.mark_from_bits(mask);
+    note_sound(raster);
+    let counted = raster.valid_count();
+    if counted != header.valid {
+        return stopped(
+            BlobReason::BadMaskCount {
+                header: header.valid,
+                counted,
+            },
+            place,
+        );
+    }
+    Ok(())
+}
+
+/// The same, with the memory for the mask's bytes.
 fn mark_runs(
     alloc: Global,
     runs: &[u8],
@@ -88,25 +130,10 @@ fn mark_runs(
         (runs_faults (header.now.rows * header.now.cols) header.now.valid runs.now)) stop) }
 {
     let pixels = header.rows as usize * header.cols as usize;
-    let Ok(mut mask) = vec![in alloc; 0u8; (pixels + 7) / 8] else {
+    let Some(mut mask) = room_for(alloc, (pixels + 7) / 8) else {
         return Err(BodyStop::OutOfMemory);
     };
-    if let Err(fault) = read_runs(runs, &mut mask) {
-        return stopped(BlobReason::BadRun, place + fault.at);
-    }
-    raster.mark_from_bits(&mask);
-    note_sound(raster);
-    let counted = raster.valid_count();
-    if counted != header.valid {
-        return stopped(
-            BlobReason::BadMaskCount {
-                header: header.valid,
-                counted,
-            },
-            place,
-        );
-    }
-    Ok(())
+    mark_by(runs, place, header, &mut mask, raster)
 }
 
 /// Makes the pixels valid that the mask says.
@@ -137,7 +164,7 @@ fn read_mask(
             Ok(())
         }
         MaskForm::Runs { len, .. } => {
-            let place = head_len(header.version) + 4;
+            let place = header.version.head_length() + 4;
             let runs = &blob[place..place + len as usize];
             mark_runs(alloc, runs, place, header, raster)
         }
@@ -166,13 +193,28 @@ fn fill_constant(alloc: Global, header: &Header, raster: &mut Raster) -> Result<
         (λ values. values ≡ replicate header.now.depth header.now.least)) }
     ensures stop { IfErr result (λ stop. stop ≡ BodyStop.OutOfMemory) }
 {
-    let Ok(values) = vec![in alloc; header.least; header.depth as usize] else {
+    let Some(values) = many(alloc, header.least, header.depth as usize) else {
         return Err(BodyStop::OutOfMemory);
     };
     note_sound(raster);
     raster.fill_valid(&values);
     note_sound(raster);
     Ok(())
+}
+
+/// Gives each valid pixel the list that these bytes stand for. The values are read into `values`.
+fn fill_read(list: &[u8], header: &Header, values: &mut [i64], raster: &mut Raster)
+    requires shape { HasHeadShape header.now raster.old }
+    requires few { header.now.depth ≤ 65536 }
+    requires size { length list.now ≡ header.now.depth * bytes_of header.now.kind }
+    requires room { length values.old ≡ header.now.depth }
+    ensures marks { KeepsMarks raster.old raster.new }
+    ensures filled { IsFilledWith header.now.kind list.now raster.new }
+{
+    read_values(header.kind, list, values);
+    note_sound(raster);
+    raster.fill_valid(values);
+    note_sound(raster);
 }
 
 /// Gives each valid pixel the list that these bytes stand for.
@@ -189,14 +231,20 @@ fn fill_list(
     ensures ok { OnOk result (IsFilledWith header.now.kind list.now raster.new) }
     ensures stop { IfErr result (λ stop. stop ≡ BodyStop.OutOfMemory) }
 {
-    let Ok(mut values) = vec![in alloc; 0i64; header.depth as usize] else {
+    let Some(mut values) = many(alloc, 0, header.depth as usize) else {
         return Err(BodyStop::OutOfMemory);
     };
-    read_values(header.kind, list, &mut values);
-    note_sound(raster);
-    raster.fill_valid(&values);
-    note_sound(raster);
+    fill_read(list, header, &mut values, raster);
     Ok(())
+}
+
+/// How many bytes a sweep has.
+fn sweep_len(header: &Header) -> usize
+    requires { header.now.valid * header.now.depth ≤ 16777216 }
+    ensures value { result ≡ value_count header.now * bytes_of header.now.kind }
+    ensures few { result ≤ 67108864 }
+{
+    header.valid as usize * header.depth as usize * header.kind.bytes()
 }
 
 /// Gives the valid pixels the values of a sweep, which begins at this place of the blob.
@@ -208,14 +256,14 @@ fn pour_sweep(
 ) -> Result<(), BodyStop>
     requires shape { HasHeadShape header.now raster.old }
     requires valid { count_of (marks_of raster.old) ≡ header.now.valid }
+    requires values { header.now.valid * header.now.depth ≤ 16777216 }
     requires few { place + length sweep.now < 2 ^ 62 }
     ensures marks { KeepsMarks raster.old raster.new }
     ensures ok { OnOk result (IsSwept header.now sweep.now raster.new) }
     ensures fault { IfErr result (λ stop. IsStopOf
         (moved place (sweep_faults header.now sweep.now)) stop) }
 {
-    let count = raster.valid_count() as usize * header.depth as usize;
-    let need = count * header.kind.bytes();
+    let need = sweep_len(header);
     if sweep.len() < need {
         return stopped(BlobReason::PastEnd, place);
     }
@@ -226,4 +274,170 @@ fn pour_sweep(
     raster.pour(sweep);
     note_sound(raster);
     Ok(())
+}
+
+/// Gives the valid pixels the values that the image says.
+fn read_image(
+    alloc: Global,
+    blob: &[u8],
+    header: &Header,
+    mask: &MaskForm,
+    form: &ImageForm,
+    raster: &mut Raster,
+) -> Result<(), BodyStop>
+    requires head { HeadAt blob.now header.now }
+    requires size { length blob.now ≡ header.now.size }
+    requires mask { IsMaskForm header.now blob.now mask.now }
+    requires form { IsImageForm header.now blob.now mask.now form.now }
+    requires shape { HasHeadShape header.now raster.old }
+    requires valid { count_of (marks_of raster.old) ≡ header.now.valid }
+    ensures marks { KeepsMarks raster.old raster.new }
+    ensures ok { OnOk result (IsImage header.now
+        (drop (image_place header.now mask.now) blob.now) raster.new) }
+    ensures fault { IfErr result (λ stop. IsStopOf (moved (image_place header.now mask.now)
+        (image_faults header.now (marks_of raster.old)
+        (drop (image_place header.now mask.now) blob.now))) stop) }
+{
+    match *form {
+        ImageForm::Empty => Ok(()),
+        ImageForm::Constant => fill_constant(alloc, header, raster),
+        ImageForm::Ranges => {
+            let size = header.depth as usize * header.kind.bytes();
+            let place = blob.len() - 2 * size;
+            fill_list(alloc, &blob[place..place + size], header, raster)
+        }
+        ImageForm::Sweep { at } => {
+            let place = at as usize;
+            pour_sweep(&blob[place..], place, header, raster)
+        }
+        _ => unreachable!(),
+    }
+}
+
+/// The form of the mask.
+fn mask_form(blob: &[u8], header: &Header) -> Result<MaskForm, BodyStop>
+    requires head { HeadAt blob.now header.now }
+    requires size { length blob.now ≡ header.now.size }
+    requires sum { HasSum header.now blob.now }
+    ensures ok { IfOk result (λ form. IsMaskForm header.now blob.now form) }
+    ensures fault { IfErr result (λ stop. IsStopOf (blob_faults header.now blob.now) stop) }
+{
+    match mask_part(blob, header) {
+        Ok(form) => Ok(form),
+        Err(fault) => Err(BodyStop::Fault(fault)),
+    }
+}
+
+/// A raster whose pixels are valid as the mask says.
+fn marked(
+    alloc: Global,
+    blob: &[u8],
+    header: &Header,
+    form: &MaskForm,
+) -> Result<Raster, BodyStop>
+    requires head { HeadAt blob.now header.now }
+    requires size { length blob.now ≡ header.now.size }
+    requires sum { HasSum header.now blob.now }
+    requires form { IsMaskForm header.now blob.now form.now }
+    ensures ok { IfOk result (λ r. IsMarkedFor header.now blob.now form.now r) }
+    ensures fault { IfErr result (λ stop. IsStopOf (blob_faults header.now blob.now) stop) }
+{
+    let Some(mut raster) = blank_raster(alloc, header) else {
+        return Err(BodyStop::OutOfMemory);
+    };
+    match read_mask(alloc, blob, header, form, &mut raster) {
+        Ok(()) => Ok(raster),
+        Err(stop) => Err(stop),
+    }
+}
+
+/// The form of the image, behind a mask that stands.
+fn image_form(
+    blob: &[u8],
+    header: &Header,
+    mask: &MaskForm,
+    raster: &Raster,
+) -> Result<ImageForm, BodyStop>
+    requires head { HeadAt blob.now header.now }
+    requires size { length blob.now ≡ header.now.size }
+    requires sum { HasSum header.now blob.now }
+    requires form { IsMaskForm header.now blob.now mask.now }
+    requires marked { IsMarkedFor header.now blob.now mask.now raster.now }
+    ensures ok { IfOk result (λ form. IsImageForm header.now blob.now mask.now form) }
+    ensures fault { IfErr result (λ stop. IsStopOf (blob_faults header.now blob.now) stop) }
+{
+    let _rows = raster.rows();
+    match image_part(blob, header, mask) {
+        Ok(form) => Ok(form),
+        Err(fault) => Err(BodyStop::Fault(fault)),
+    }
+}
+
+/// The raster with the values that the image says.
+fn pictured(
+    alloc: Global,
+    blob: &[u8],
+    header: &Header,
+    mask: &MaskForm,
+    form: &ImageForm,
+    mut raster: Raster,
+) -> Result<Raster, BodyStop>
+    requires head { HeadAt blob.now header.now }
+    requires size { length blob.now ≡ header.now.size }
+    requires sum { HasSum header.now blob.now }
+    requires mask { IsMaskForm header.now blob.now mask.now }
+    requires form { IsImageForm header.now blob.now mask.now form.now }
+    requires marked { IsMarkedFor header.now blob.now mask.now raster }
+    ensures ok { IfOk result (λ r. Blob blob.now r) }
+    ensures fault { IfErr result (λ stop. IsStopOf (blob_faults header.now blob.now) stop) }
+{
+    match read_image(alloc, blob, header, mask, form, &mut raster) {
+        Ok(()) => {
+            note_sound(&raster);
+            Ok(raster)
+        }
+        Err(stop) => Err(stop),
+    }
+}
+
+/// The raster of a blob whose checksum stands.
+fn raster_of(alloc: Global, blob: &[u8], header: &Header) -> Result<Raster, BodyStop>
+    requires head { HeadAt blob.now header.now }
+    requires size { length blob.now ≡ header.now.size }
+    requires sum { HasSum header.now blob.now }
+    ensures ok { IfOk result (λ r. Blob blob.now r) }
+    ensures fault { IfErr result (λ stop. IsStopOf (blob_faults header.now blob.now) stop) }
+{
+    let mask = mask_form(blob, header)?;
+    let raster = marked(alloc, blob, header, &mask)?;
+    let image = image_form(blob, header, &mask, &raster)?;
+    pictured(alloc, blob, header, &mask, &image, raster)
+}
+
+/// The checksum of a blob's bytes.
+fn sum_behind(blob: &[u8]) -> u32
+    requires { 14 ≤ length blob.now }
+    ensures { result ≡ sum_of (drop 14 blob.now) }
+{
+    checksum(&blob[14..])
+}
+
+/// The raster of a blob, or what is wrong with the blob first.
+pub(crate) fn body(alloc: Global, blob: &[u8], header: &Header) -> Result<Raster, BodyStop>
+    requires head { HeadAt blob.now header.now }
+    requires size { length blob.now ≡ header.now.size }
+    ensures ok { IfOk result (λ r. Blob blob.now r) }
+    ensures fault { IfErr result (λ stop. IsStopOf (blob_faults header.now blob.now) stop) }
+{
+    let computed = sum_behind(blob);
+    if header.checksum != computed {
+        return stopped(
+            BlobReason::BadChecksum {
+                stored: header.checksum,
+                computed,
+            },
+            10,
+        );
+    }
+    raster_of(alloc, blob, header)
 }

@@ -2,3 +2,9 @@
 #![tactic(auto)]
 
 mod body;
+mod decoder;
+mod from_source;
+mod front;
+
+pub use decoder::{DecodeFault, Decoder, Fed, FedState};
+pub use from_source::{FromFault, decode_from};

@@ -1,5 +1,5 @@
 -- What the parts of a blob leave in the raster, and why there is none.
-use Rattle.std.specs.Prelude.{◌≡◌, ℕ, ℤ, ◌+◌, ◌*◌, List, length, drop, take}
+use Rattle.std.specs.Prelude.{◌≡◌, ℕ, ℤ, ◌+◌, ◌-◌, ◌*◌, List, length, drop, take}
 use Rattle.first_fault.specs.Faults.{Faults}
 use Rattle.mask_runs.specs.Runs.{Runs}
 use Rattle.raster_values.specs.declared.kind.PixelType.{PixelType}
@@ -9,7 +9,11 @@ use Rattle.raster_values.specs.Flat.{EachValid, marks_of}
 use Rattle.raster_values.specs.Order.{marks_in}
 use Rattle.lerc_header.specs.declared.header.Header.{Header}
 use Rattle.lerc_header.specs.declared.fault.BlobReason.{BlobReason}
-use Rattle.lerc_grammar.specs.Mask.{mask_size, count_of}
+use Rattle.lerc_header.specs.Head.{head_length}
+use Rattle.lerc_header.specs.Checksum.{sum_of}
+use Rattle.lerc_grammar.specs.declared.outline.MaskForm.{MaskForm}
+use Rattle.lerc_grammar.specs.Outline.{image_place}
+use Rattle.lerc_grammar.specs.Mask.{IsMask, mask_size, count_of}
 use Rattle.lerc_grammar.specs.Image.{value_count}
 use Rattle.lerc_decode.specs.declared.body.BodyStop.{BodyStop}
 use Rattle.lerc_decode.specs.declared.body.BodyStop.TheVariants.{Fault, OutOfMemory}
@@ -52,3 +56,14 @@ pub record IsFilledWith (kind : PixelType) (bytes : List ℕ) (r : Pixels) : Typ
 pub record IsSwept (h : Header) (bytes : List ℕ) (r : Pixels) : Type 0 where
   pub stands : AreValues h.kind bytes (values_of r.pixels)
   pub count : length (values_of r.pixels) ≡ value_count h
+
+-- the checksum stands
+abbrev pub HasSum : Header → List ℕ → Type 0
+HasSum h blob = h.checksum ≡ sum_of (drop 14 blob)
+
+-- the raster has the header's type and shape, and its valid pixels are those of the mask
+pub record IsMarkedFor (h : Header) (blob : List ℕ) (form : MaskForm) (r : Pixels) : Type 0 where
+  pub shape : HasHeadShape h r
+  pub mask : IsMask (h.rows * h.cols) h.valid
+      (take (image_place h form - head_length h.version) (drop (head_length h.version) blob))
+      (marks_of r)

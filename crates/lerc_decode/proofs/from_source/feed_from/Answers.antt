@@ -1,0 +1,23 @@
+use Rattle.std.proofs.Common.{◌≡◌, length, ap, ◌∙◌, arith}
+use Rattle.lerc_decode.specs.Decoding.{Stage, Decoding}
+use Rattle.lerc_decode.specs.inside.Feeding.{work_at, work_left}
+use Rattle.lerc_decode.proofs.Feeding.{follow_more, joins_more, no_memory_follows}
+use Rattle.lerc_decode.proofs.from_source.feed_from.Goals as goal
+
+pub returns-then-got-eq0-clause-fed : goal.returns-then-got-eq0-clause-fed
+returns-then-got-eq0-clause-fed g c =
+    let same : c.feed_once.new.decoder ≡ c.loop-got.decoder = c.in_ok-got.ensures.same c.if-got-eq0.true in
+    follow_more c.loop-got.decoder.stage c.feed_once.new.decoder.stage _ _ _
+    (λ e. no_memory_follows c.feed_once.new.decoder.stage _ (ap (λ (d : Decoding). d.stage) same ∙ e))
+    (joins_more (g.S.Source.left c.args.src.now) (g.S.Source.left c.loop-got.src) (g.S.Source.left c.feed_once.new.src) c.args.decoder.now.taken c.loop-got.decoder.taken c.feed_once.new.decoder.taken)
+    c.loop-got.invariant.fed c.in_ok-got.ensures.fed
+
+pub loop-got-preserved : goal.loop-got-preserved
+loop-got-preserved g c = record {
+  stands = c.feed_once.ensures.stands;
+  fed = follow_more c.loop-got.decoder.stage c.feed_once.new.decoder.stage _ _ _
+      (λ e. let none : work_left c.loop-got.decoder ≡ 0 = ap (λ (s : Stage). work_at s (length c.loop-got.decoder.taken)) e in absurd (omega (arith, none, c.if-got-eq0.false, c.in_ok-got.ensures.less (omega (arith, c.if-got-eq0.false)))))
+      (joins_more (g.S.Source.left c.args.src.now) (g.S.Source.left c.loop-got.src) (g.S.Source.left c.feed_once.new.src) c.args.decoder.now.taken c.loop-got.decoder.taken c.feed_once.new.decoder.taken)
+      c.loop-got.invariant.fed c.in_ok-got.ensures.fed;
+  faults = c.in_ok-got.ensures.counted ∙ c.loop-got.invariant.faults;
+}

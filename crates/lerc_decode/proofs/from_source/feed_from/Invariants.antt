@@ -1,0 +1,14 @@
+use Rattle.std.proofs.Common.{◌≡◌}
+use Rattle.lerc_decode.specs.Decoding.{IsStageOf}
+use Rattle.lerc_decode.specs.inside.Feeding.{Follows, Joins, work_left}
+use Rattle.lerc_decode.proofs.from_source.feed_from.Given as goal
+
+abbrev pub invariant-loop-got : goal.invariant-loop-got
+invariant-loop-got g l = record {
+  stands : IsStageOf l.decoder.taken l.decoder.stage;
+  fed : Follows l.decoder.stage (Joins (g.S.Source.left l.fn.src) (g.S.Source.left l.src) l.fn.decoder.taken l.decoder.taken);
+  faults : g.S.Source.faults l.src ≡ g.S.Source.faults l.fn.src;
+}
+
+abbrev pub decreases-loop-got : goal.decreases-loop-got
+decreases-loop-got g l = work_left l.decoder

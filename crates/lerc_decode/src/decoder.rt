@@ -1,0 +1,284 @@
+//! The decoder.
+
+ghost use Rattle.std.specs.Prelude.{◌≡◌, ◌<◌, ◌≤◌, ◌+◌, ◌-◌, ◌++◌, ◌↔◌, min, [], length, take, MatchBool};
+ghost use Rattle.lerc_header.specs.Head.{HeadAt, head_length};
+ghost use Rattle.lerc_header.specs.HeadFaults.{HasKey, HasVersion};
+ghost use Rattle.lerc_decode.specs.Decoding.{Key, HasTaken, IsSame, IsStageOf};
+ghost use Rattle.lerc_decode.specs.inside.Steps.{StepsKey, StepsFields, StepsBody};
+ghost use Rattle.lerc_decode.specs.inside.Stages.{stage_of, KeepsHead, HasEnded};
+ghost use Rattle.lerc_decode.specs.States.{state_at, missing_at, IsTold, HasStopped, IsFinished, IsUsed};
+ghost use Rattle.lerc_decode.specs.inside.Steps.{UsesKey, UsesFields, UsesBody};
+
+use crate::body::{BodyStop, body};
+use crate::front::{header_at, version_at};
+use lerc_header::{BlobFault, BlobReason, Header, Version};
+use raster_values::Raster;
+use std::alloc::Global;
+use std::marker::Model;
+
+/// Whether a blob is whole.
+#[derive(Clone, Copy, Debug, PartialEq, Eq)]
+pub enum FedState {
+    More,
+    Done,
+    Refused(BlobFault),
+    OutOfMemory,
+}
+
+/// What a call took, and what is known then.
+#[derive(Clone, Copy, Debug, PartialEq, Eq)]
+pub struct Fed {
+    pub used: usize,
+    pub state: FedState,
+}
+
+/// Why there is no raster.
+#[derive(Clone, Copy, Debug, PartialEq, Eq)]
+pub enum DecodeFault {
+    Blob(BlobFault),
+    OutOfMemory,
+}
+
+/// What is decided next, or how it ended.
+#[derive(Drop)]
+enum Progress {
+    Key,
+    Fields(Version),
+    Body(Header),
+    Done(Raster),
+    Refused(BlobFault),
+    OutOfMemory,
+}
+
+/// Takes the bytes of a blob in pieces.
+#[derive(Drop)]
+pub struct Decoder {
+    alloc: Global,
+    // The bytes taken, until the header is whole.
+    head: [u8; 70],
+    have: usize,
+    // The bytes taken, from the whole header on.
+    blob: Vec<u8>,
+    progress: Progress,
+}
+
+impl Model for Decoder {
+    ghost use Rattle.lerc_decode.specs.Decoding.{Key, Decoding};
+
+    ghost Value = { Decoding };
+
+    ghost use Rattle.lerc_decode.specs.inside.Inside.{seen, IsInside};
+
+    ghost view = { seen };
+
+    ghost invariant = { IsInside };
+}
+
+/// Puts bytes of the piece behind those that are there, as many as are missing to `want`. Answers how many.
+fn fill(head: &mut [u8; 70], have: usize, want: usize, piece: &[u8]) -> usize
+    requires have { have ≤ want }
+    requires want { want ≤ 70 }
+    ensures used { result ≡ min (length piece.now) (want - have) }
+    ensures room { length head.new ≡ length head.old }
+    ensures bytes { take (have + result) head.new ≡ take have head.old ++ take result piece.now }
+{
+    let used = piece.len().min(want - have);
+    let free = &mut head[have..have + used];
+    free.copy_from_slice(&piece[..used]);
+    used
+}
+
+/// Puts bytes behind those of the vector; whether there was memory for them.
+fn grow(blob: &mut Vec<u8>, bytes: &[u8]) -> bool
+    ensures { MatchBool result (blob.new.items ≡ blob.old.items ++ bytes.now) (blob.new.items ≡ blob.old.items) }
+{
+    blob.extend_from_slice(bytes).is_ok()
+}
+
+/// What a whole header says; its bytes are put into the vector where it stands.
+fn after_fields(
+    version: Version,
+    blob: &mut Vec<u8>,
+    head: &[u8],
+) -> Progress
+    requires long { length head.now ≡ head_length version }
+    requires key { HasKey (take 10 head.now) }
+    requires version { HasVersion (take 10 head.now) version }
+    requires empty { blob.old.items ≡ [] }
+    ensures kept { KeepsHead result blob.new.items head.now }
+    ensures sound { IsStageOf head.now (stage_of result) }
+{
+    match header_at(version, head) {
+        Ok(header) => match blob.extend_from_slice(head) {
+            Ok(()) => Progress::Body(header),
+            Err(_) => Progress::OutOfMemory,
+        },
+        Err(fault) => Progress::Refused(fault),
+    }
+}
+
+/// What a whole blob is.
+fn after_body(alloc: Global, blob: &[u8], header: Header) -> Progress
+    requires head { HeadAt blob.now header }
+    requires size { length blob.now ≡ header.size }
+    ensures ended { HasEnded result }
+    ensures sound { IsStageOf blob.now (stage_of result) }
+{
+    match body(alloc, blob, &header) {
+        Ok(raster) => Progress::Done(raster),
+        Err(BodyStop::Fault(fault)) => Progress::Refused(fault),
+        Err(BodyStop::OutOfMemory) => Progress::OutOfMemory,
+    }
+}
+
+impl Decoder {
+    /// A decoder that has taken no byte.
+    pub fn new(alloc: Global) -> Decoder
+        ensures taken { result.taken ≡ [] }
+        ensures stage { result.stage ≡ Key }
+    {
+        Decoder {
+            alloc,
+            head: [0; 70],
+            have: 0,
+            blob: Vec::new(alloc),
+            progress: Progress::Key,
+        }
+    }
+
+    /// Takes bytes up to the version's end.
+    fn feed_key(&mut self, piece: &[u8]) -> usize
+        ensures taken { HasTaken self.old self.new piece.now result }
+        ensures steps { StepsKey self.old.stage self.old self.new piece.now result }
+        ensures exact { length piece.now ≤ missing_at self.old.stage (length self.old.taken) → UsesKey self.old.stage self.new.stage piece.now result }
+        ensures sound { IsStageOf self.new.taken self.new.stage }
+    {
+        let Progress::Key = &self.progress else {
+            return 0;
+        };
+        let used = fill(&mut self.head, self.have, 10, piece);
+        self.have += used;
+        if self.have == 10 {
+            self.progress = match version_at(&self.head[..10]) {
+                Ok(version) => Progress::Fields(version),
+                Err(fault) => Progress::Refused(fault),
+            };
+        }
+        used
+    }
+
+    /// Takes bytes up to the header's end.
+    fn feed_fields(&mut self, piece: &[u8]) -> usize
+        ensures taken { HasTaken self.old self.new piece.now result }
+        ensures steps { StepsFields self.old.stage self.old self.new piece.now result }
+        ensures exact { length piece.now ≤ missing_at self.old.stage (length self.old.taken) → UsesFields self.old.stage self.new.stage piece.now result }
+        ensures sound { IsStageOf self.new.taken self.new.stage }
+    {
+        let Progress::Fields(version) = &self.progress else {
+            return 0;
+        };
+        let version = *version;
+        let want = version.head_length();
+        let used = fill(&mut self.head, self.have, want, piece);
+        self.have += used;
+        if self.have == want {
+            self.progress = after_fields(version, &mut self.blob, &self.head[..want]);
+        }
+        used
+    }
+
+    /// Takes bytes up to the blob's end, and makes the raster there.
+    fn feed_body(&mut self, piece: &[u8]) -> usize
+        ensures taken { HasTaken self.old self.new piece.now result }
+        ensures steps { StepsBody self.old.stage self.old self.new piece.now result }
+        ensures exact { length piece.now ≤ missing_at self.old.stage (length self.old.taken) → UsesBody self.old.stage self.new.stage piece.now result }
+        ensures sound { IsStageOf self.new.taken self.new.stage }
+    {
+        let Progress::Body(header) = &self.progress else {
+            return 0;
+        };
+        let header = *header;
+        let size = header.size as usize;
+        let used = piece.len().min(size - self.blob.len());
+        if !grow(&mut self.blob, &piece[..used]) {
+            self.progress = Progress::OutOfMemory;
+            return 0;
+        }
+        if self.blob.len() == size {
+            self.progress = after_body(self.alloc, &self.blob, header);
+        }
+        used
+    }
+
+    /// What is known of the bytes taken.
+    fn state(&self) -> FedState
+        ensures value { result ≡ state_at self.now.stage }
+        ensures sound { IsStageOf self.now.taken self.now.stage }
+    {
+        match &self.progress {
+            Progress::Key => FedState::More,
+            Progress::Fields(_) => FedState::More,
+            Progress::Body(_) => FedState::More,
+            Progress::Done(_) => FedState::Done,
+            Progress::Refused(fault) => FedState::Refused(*fault),
+            Progress::OutOfMemory => FedState::OutOfMemory,
+        }
+    }
+
+    /// How many bytes are missing to what is decided next: up to ten bytes, then up to the header's
+    /// end, then up to the blob's end. It is 0 where nothing more is decided.
+    pub fn wants(&self) -> usize
+        ensures missing { result ≡ missing_at self.now.stage (length self.now.taken) }
+        ensures some { 0 < result ↔ (state_at self.now.stage ≡ FedState.More) }
+    {
+        match &self.progress {
+            Progress::Key => 10 - self.have,
+            Progress::Fields(version) => version.head_length() - self.have,
+            Progress::Body(header) => header.size as usize - self.blob.len(),
+            Progress::Done(_) => 0,
+            Progress::Refused(_) => 0,
+            Progress::OutOfMemory => 0,
+        }
+    }
+
+    /// Takes bytes of the piece up to the one that decides, and none behind it.
+    pub fn feed(&mut self, piece: &[u8]) -> Fed
+        ensures taken { HasTaken self.old self.new piece.now result.used }
+        ensures state { result.state ≡ state_at self.new.stage }
+        ensures verdict { IsTold self.new.taken self.new.stage }
+        ensures sound { IsStageOf self.new.taken self.new.stage }
+        ensures exact { length piece.now ≤ missing_at self.old.stage (length self.old.taken) → IsUsed self.new.stage piece.now result.used }
+        ensures whole { result.state ≡ FedState.More → result.used ≡ length piece.now }
+        ensures ended { HasStopped self.old.stage → IsSame self.old self.new result.used }
+    {
+        let key = self.feed_key(piece);
+        let fields = self.feed_fields(&piece[key..]);
+        let body = self.feed_body(&piece[key + fields..]);
+        Fed {
+            used: key + fields + body,
+            state: self.state(),
+        }
+    }
+
+    /// The raster of the blob, or why there is none. It takes no memory.
+    pub fn finish(self) -> Result<Raster, DecodeFault>
+        ensures { IsFinished self.stage self.taken result }
+    {
+        let Decoder {
+            have,
+            blob,
+            progress,
+            ..
+        } = self;
+        let taken = if blob.is_empty() { have } else { blob.len() };
+        match progress {
+            Progress::Done(raster) => Ok(raster),
+            Progress::Refused(fault) => Err(DecodeFault::Blob(fault)),
+            Progress::OutOfMemory => Err(DecodeFault::OutOfMemory),
+            _ => Err(DecodeFault::Blob(BlobFault {
+                reason: BlobReason::Truncated,
+                place: taken as u64,
+            })),
+        }
+    }
+}
