@@ -149,14 +149,23 @@ image_stop h blob form marks p reason sum m mask (q, (e, w)) =
     let within = place_within h blob form m in
     let size : length (take used (rest_of h blob)) ≡ used = length-take-le used (rest_of h blob) (omega (arith, above, within, length-drop n blob)) in
     let back : drop (image_place h form) blob ≡ drop used (rest_of h blob) = ap (λ k. drop k blob) (let t : image_place h form ≡ n + used = omega (arith, above) in t) ∙ sym (drop-drop used n blob) in
-    inl (sum, (used + q, ((let t : p ≡ n + (used + q) = omega (arith, e, above) in t), inr (record {
-      front = take used (rest_of h blob);
-      rest = drop used (rest_of h blob);
-      value = marks;
-      joined = sym (take-append-drop used (rest_of h blob));
-      stands = mask;
-      later = (q, (ap (λ k. k + q) (sym size), subst (λ (u : List ℕ). image_faults h marks u q reason) back w));
-    }))))
+    inl (
+      sum,
+      (
+        used + q,
+        (
+          (let t : p ≡ n + (used + q) = omega (arith, e, above) in t),
+          inr (record {
+            front = take used (rest_of h blob);
+            rest = drop used (rest_of h blob);
+            value = marks;
+            joined = sym (take-append-drop used (rest_of h blob));
+            stands = mask;
+            later = (q, (ap (λ k. k + q) (sym size), subst (λ (u : List ℕ). image_faults h marks u q reason) back w));
+          }),
+        ),
+      ),
+    )
 
 pub image_part_stop : (h : Header) (blob : List ℕ) (form : MaskForm) (marks : List Bool) (p : ℕ) (reason : BlobReason) → h.checksum ≡ sum_of (drop 14 blob) → IsMaskForm h blob form
     → IsMask (h.rows * h.cols) h.valid (take (image_place h form - head_length h.version) (rest_of h blob)) marks

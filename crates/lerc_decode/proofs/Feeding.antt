@@ -143,9 +143,11 @@ pub begins_once : (left0 left1 : Option (List ℕ)) (got used : ℕ) (buf old ne
 begins_once None left1 got used buf old new takes e = tt
 begins_once (Some left) left1 got used buf old new takes e =
     let piece = take got left in
-    let rest = drop used piece ++ drop got left in
-    (rest, ap (λ u. old ++ u) (sym (take-append-drop got left) ∙ ap (λ u. u ++ drop got left) (sym (take-append-drop used piece)) ∙ append_assoc (take used piece) (drop used piece) (drop got left))
-    ∙ sym (append_assoc old (take used piece) rest) ∙ ap (λ (u : List ℕ). (old ++ take used u) ++ rest) (sym takes.0.1.1) ∙ ap (λ u. u ++ rest) (sym e))
+    let rest = drop used piece ++ drop got left in (
+      rest,
+      ap (λ u. old ++ u) (sym (take-append-drop got left) ∙ ap (λ u. u ++ drop got left) (sym (take-append-drop used piece)) ∙ append_assoc (take used piece) (drop used piece) (drop got left))
+          ∙ sym (append_assoc old (take used piece) rest) ∙ ap (λ (u : List ℕ). (old ++ take used u) ++ rest) (sym takes.0.1.1) ∙ ap (λ u. u ++ rest) (sym e),
+    )
 
 pub begins_same : (left : Option (List ℕ)) (taken : List ℕ) → Begins left taken taken
 begins_same None taken = tt
@@ -183,9 +185,16 @@ few_live : (left0 left1 left2 : Option (List ℕ)) (taken : List ℕ) (room : �
 few_live None left1 left2 taken room j most t = let there : TakesUpTo room None left2 = subst (λ (o : Option (List ℕ)). TakesUpTo room o left2) j t in there
 few_live (Some left) left1 left2 taken room (rest, (e, j)) most t =
     let there : TakesUpTo room (Some rest) left2 = subst (λ (o : Option (List ℕ)). TakesUpTo room o left2) e t in
-    let m = there.0 in
-    (length taken + m, (omega (arith, most, there.1.0), (omega (arith, ap length j, length-append taken rest, there.1.1.0),
-    there.1.1.1 ∙ ap Some (sym (drop-append-add taken rest m) ∙ ap (drop (length taken + m)) (sym j)))))
+    let m = there.0 in (
+      length taken + m,
+      (
+        omega (arith, most, there.1.0),
+        (
+          omega (arith, ap length j, length-append taken rest, there.1.1.0),
+          there.1.1.1 ∙ ap Some (sym (drop-append-add taken rest m) ∙ ap (drop (length taken + m)) (sym j)),
+        ),
+      ),
+    )
 
 few_stopped : (left0 left1 left2 : Option (List ℕ)) (room : ℕ) → room ≡ 0 → TakesUpTo room left1 left2 → TakesUpTo 134217728 left0 left1 → TakesUpTo 134217728 left0 left2
 few_stopped left0 left1 left2 room zero t before = subst (TakesUpTo 134217728 left0) (sym (same_left left1 left2 room zero t)) before

@@ -48,4 +48,3 @@ pub record HasTaken (old new : Decoding) (piece : List ℕ) (used : ℕ) : Type 
 -- nothing has changed
 abbrev pub IsSame : Decoding → Decoding → ℕ → Type 0
 IsSame old new used = (new ≡ old) × (used ≡ 0)
-

@@ -58,4 +58,3 @@ IsFinished stage taken result = result ≡ finished_at stage taken
 abbrev pub IsUsed : Stage → List ℕ → ℕ → Type 0
 IsUsed NoMemory piece used = Unit {0}
 IsUsed _ piece used = used ≡ length piece
-

@@ -50,14 +50,7 @@ fn blank_raster(alloc: Global, header: &Header) -> Option<Raster>
     ensures { IfSome result (λ r.
         r ≡ blank header.now.kind header.now.rows header.now.cols header.now.depth) }
 {
-    Raster::new(
-        alloc,
-        header.kind,
-        header.rows,
-        header.cols,
-        header.depth,
-    )
-    .ok()
+    Raster::new(alloc, header.kind, header.rows, header.cols, header.depth).ok()
 }
 
 /// So many bytes, where there is memory for them.
@@ -329,12 +322,7 @@ fn mask_form(blob: &[u8], header: &Header) -> Result<MaskForm, BodyStop>
 }
 
 /// A raster whose pixels are valid as the mask says.
-fn marked(
-    alloc: Global,
-    blob: &[u8],
-    header: &Header,
-    form: &MaskForm,
-) -> Result<Raster, BodyStop>
+fn marked(alloc: Global, blob: &[u8], header: &Header, form: &MaskForm) -> Result<Raster, BodyStop>
     requires head { HeadAt blob.now header.now }
     requires size { length blob.now ≡ header.now.size }
     requires sum { HasSum header.now blob.now }

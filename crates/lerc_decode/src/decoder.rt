@@ -96,11 +96,7 @@ fn grow(blob: &mut Vec<u8>, bytes: &[u8]) -> bool
 }
 
 /// What a whole header says; its bytes are put into the vector where it stands.
-fn after_fields(
-    version: Version,
-    blob: &mut Vec<u8>,
-    head: &[u8],
-) -> Progress
+fn after_fields(version: Version, blob: &mut Vec<u8>, head: &[u8]) -> Progress
     requires long { length head.now ≡ head_length version }
     requires key { HasKey (take 10 head.now) }
     requires version { HasVersion (take 10 head.now) version }

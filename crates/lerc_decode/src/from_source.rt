@@ -56,10 +56,7 @@ fn feed_once<S: Source>(
 }
 
 /// Feeds the decoder from a source until nothing more is decided, or the source ends or fails.
-fn feed_from<S: Source>(
-    src: &mut S,
-    decoder: &mut Decoder,
-) -> Result<(), Failed>
+fn feed_from<S: Source>(src: &mut S, decoder: &mut Decoder) -> Result<(), Failed>
     requires { IsStageOf decoder.old.taken decoder.old.stage }
     ensures counted { CountsFaults result (S.faults src.old) (S.faults src.new) }
     ensures fed { OnOk result (Follows decoder.new.stage (Joins (S.left src.old) (S.left src.new) decoder.old.taken decoder.new.taken)) }
