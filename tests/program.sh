@@ -110,6 +110,60 @@ bytes 4c 47 52 31 01 01 00 00 00 01 00 00 00 01 00 00 00 01 07 >grid
 head -c 65 blob >short
 { cat blob; bytes 00; } >longer
 
+# One pixel that is not valid; nine pixels of which the fourth is not valid, whose mask is runs; two
+# pixels of two values each, which are the same in both; the least and the greatest number of four
+# bytes, as a sweep. Their grids stand behind them.
+{
+    bytes 4c 65 72 63 32 20 03 00 00 00 40 2d c4 28 01 00 00 00 01 00 00 00 00 00 00 00 08 00 00 00
+    bytes 42 00 00 00 01 00 00 00 00 00 00 00 00 00 e0 3f 00 00 00 00 00 00 00 00 00 00 00 00 00 00
+    bytes 00 00 00 00 00 00
+} >none_valid
+bytes 4c 47 52 31 01 01 00 00 00 01 00 00 00 01 00 00 00 00 >none_valid_grid
+{
+    bytes 4c 65 72 63 32 20 03 00 00 00 c1 73 0a 96 01 00 00 00 09 00 00 00 08 00 00 00 08 00 00 00
+    bytes 48 00 00 00 01 00 00 00 00 00 00 00 00 00 e0 3f 00 00 00 00 00 00 1c 40 00 00 00 00 00 00
+    bytes 1c 40 06 00 00 00 02 00 ef 80 00 80
+} >runs
+{
+    bytes 4c 47 52 31 01 01 00 00 00 09 00 00 00 01 00 00 00 01 01 01 00 01 01 01 01 01 07 07 07 07
+    bytes 07 07 07 07
+} >runs_grid
+{
+    bytes 4c 65 72 63 32 20 04 00 00 00 d2 7a e2 17 01 00 00 00 02 00 00 00 02 00 00 00 02 00 00 00
+    bytes 08 00 00 00 4a 00 00 00 01 00 00 00 00 00 00 00 00 00 e0 3f 00 00 00 00 00 00 14 40 00 00
+    bytes 00 00 00 00 22 40 00 00 00 00 05 09 05 09
+} >ranges
+bytes 4c 47 52 31 01 01 00 00 00 02 00 00 00 02 00 00 00 01 01 05 09 05 09 >ranges_grid
+{
+    bytes 4c 65 72 63 32 20 03 00 00 00 43 be 28 80 01 00 00 00 02 00 00 00 02 00 00 00 08 00 00 00
+    bytes 4b 00 00 00 04 00 00 00 00 00 00 00 00 00 e0 3f 00 00 00 00 00 00 e0 c1 00 00 c0 ff ff ff
+    bytes df 41 00 00 00 00 01 00 00 00 80 ff ff ff 7f
+} >sweep
+bytes 4c 47 52 31 04 01 00 00 00 02 00 00 00 01 00 00 00 01 01 00 00 00 80 ff ff ff 7f >sweep_grid
+
+# Those with runs and with lists, changed: a run of no byte, one valid pixel fewer in the header, and no
+# mask; lists that differ, behind which nothing stands. The checksums are right.
+{
+    bytes 4c 65 72 63 32 20 03 00 00 00 c1 71 0a 90 01 00 00 00 09 00 00 00 08 00 00 00 08 00 00 00
+    bytes 48 00 00 00 01 00 00 00 00 00 00 00 00 00 e0 3f 00 00 00 00 00 00 1c 40 00 00 00 00 00 00
+    bytes 1c 40 06 00 00 00 00 00 ef 80 00 80
+} >bad_run
+{
+    bytes 4c 65 72 63 32 20 03 00 00 00 c1 72 0a 7d 01 00 00 00 09 00 00 00 07 00 00 00 08 00 00 00
+    bytes 48 00 00 00 01 00 00 00 00 00 00 00 00 00 e0 3f 00 00 00 00 00 00 1c 40 00 00 00 00 00 00
+    bytes 1c 40 06 00 00 00 02 00 ef 80 00 80
+} >miscounted
+{
+    bytes 4c 65 72 63 32 20 03 00 00 00 c0 75 46 b3 01 00 00 00 09 00 00 00 08 00 00 00 08 00 00 00
+    bytes 42 00 00 00 01 00 00 00 00 00 00 00 00 00 e0 3f 00 00 00 00 00 00 1c 40 00 00 00 00 00 00
+    bytes 1c 40 00 00 00 00
+} >no_mask
+{
+    bytes 4c 65 72 63 32 20 04 00 00 00 d2 7b e2 18 01 00 00 00 02 00 00 00 02 00 00 00 02 00 00 00
+    bytes 08 00 00 00 4a 00 00 00 01 00 00 00 00 00 00 00 00 00 e0 3f 00 00 00 00 00 00 14 40 00 00
+    bytes 00 00 00 00 22 40 00 00 00 00 05 09 06 09
+} >no_sweep
+
 # A blob that Esri's library wrote: 100 rows and 257 columns of -32768 in two bytes. Its grid has 77,117
 # bytes, more than a pipe holds.
 {
@@ -128,7 +182,7 @@ bad_text=$(printf '\377\376')
 long=$(printf '%5000s' '' | tr ' ' 'x')
 
 usage='usage: PATH encode V E, decode, info, build V E N, put V E N, get R C, get R C raw, list, check, recover, sample START COUNT'
-not_yet='refused: NotYet at 0'
+truncated='refused: Truncated at 65'
 no_source='source failed'
 no_output='output failed'
 
@@ -158,21 +212,36 @@ expect 'words come before a failing source' 1 nothing "$usage" input_closed - x
 
 expect 'decode: a blob' 0 grid '' plainly - decode <blob
 expect 'decode: a blob with a grid of 77,117 bytes' 0 wide_grid '' plainly - decode <wide
+for input in none_valid runs ranges sweep; do
+    expect "decode: a blob, $input" 0 "${input}_grid" '' plainly - decode <"$input"
+done
 expect 'decode: from a pipe in two pieces' 0 grid '' in_pieces - decode
 expect 'decode: through a link, from another folder' 0 grid '' through_a_link - decode <blob
 for path in '' 'a b' "$bad_text" "$long"; do
     expect "decode: a path of ${#path} bytes is not looked at" 0 grid '' plainly "$path" decode <blob
 done
-for input in changed short longer nothing grid; do
-    expect "decode: no blob, $input" 2 nothing "$not_yet" plainly - decode <"$input"
-done
+
+# Refuses a file, whose first fault is told by this line.
+refuses() {
+    expect "decode: no blob, $1" 2 nothing "refused: $2" plainly - decode <"$1"
+}
+
+refuses nothing 'Truncated at 0'
+refuses short 'Truncated at 65'
+refuses longer 'Leftover at 66'
+refuses grid 'BadKey at 0'
+refuses changed 'BadChecksum at 10 stored 1497720512 computed 1497786049'
+refuses bad_run 'BadRun at 66'
+refuses miscounted 'BadMaskCount at 66 header 7 counted 8'
+refuses no_mask 'MaskMissing at 62'
+refuses no_sweep 'PastEnd at 74'
 
 expect 'decode: a folder as the input' 3 nothing "$no_source" plainly - decode </
 expect 'decode: a closed input' 3 nothing "$no_source" input_closed - decode
 expect 'decode: a closed output' 4 nothing "$no_output" output_closed - decode <blob
 expect 'decode: a full output' 4 nothing "$no_output" output_full - decode <blob
 expect 'decode: an output that nobody reads' 4 nothing "$no_output" output_unread - decode <wide
-expect 'decode: no blob and a closed output' 2 nothing "$not_yet" output_closed - decode <short
+expect 'decode: no blob and a closed output' 2 nothing "$truncated" output_closed - decode <short
 
 # ---- A failing error output changes nothing
 

@@ -4,18 +4,19 @@ use Rattle.std.specs.Prelude.{◌≢◌}
 use Rattle.outside_io.specs.streams.Sink.{Holds, HoldsPrefix}
 use Rattle.lerc_cli.specs.declared.command.Command.{Command}
 use Rattle.lerc_cli.specs.declared.command.Command.TheVariants.{Decode}
+use Rattle.lerc_cli.specs.declared.stop.Reason.TheVariants.{Blob as BlobReasonOf}
 use Rattle.lerc_cli.specs.declared.stop.Stop.TheVariants.{Usage, Refused, Source, Output, Volume, OutOfMemory}
-use Rattle.lerc_cli.specs.Blob.{IsBlob}
 use Rattle.lerc_cli.specs.Stop.{End, status_at}
-use Rattle.lerc_cli.specs.Answer.{Ends, Files, Given, IsOutput}
-use Rattle.lerc_cli.specs.Run.{OfOutput, given, Gained, GivesGrid, GivesGridPrefix, ToldHead, ToldNoBlob}
+use Rattle.lerc_cli.specs.Answer.{Ends, Files, Given, IsBlob, IsOutput}
+use Rattle.lerc_cli.specs.Run.{OfOutput, given, Gained, GivesGrid, GivesGridPrefix, GivesLineOf, TellsFault, ToldHead}
 use Rattle.lerc_cli.proofs.Ends.{ok_at, refused_at, output_at, memory_at}
 use Rattle.lerc_cli.proofs.Once.{answers_once}
+use Rattle.lerc_cli.proofs.Whole.{blob_or_fault}
 
 decides : (input : List ℕ) (files : Option Files) (n status : ℕ) (end : End) (output : List ℕ) → status ≡ status_at end → (status ≡ 0) ⊎ (status ≡ 2)
     → Ends Decode (given (Some input) files) n end output → (status ≡ 0) ↔ IsBlob input
 decides input files n status (Ok x) output is which e = (λ zero. (e.0, e.1.1), λ b. is)
-decides input files n status (Err (Refused f)) output is which e = (λ zero. absurd (omega arith), λ b. absurd (e.0.2 b))
+decides input files n status (Err (Refused f)) output is which e = (λ zero. absurd (omega arith), λ b. absurd (blob_or_fault input b.0 f.place e.0.0 b.1 e.0.1.1))
 decides input files n status (Err Usage) output is which e = absurd e
 decides input files n status (Err Source) output is which e = absurd (elim which [ inl z ↦ omega arith | inr z ↦ omega arith ])
 decides input files n status (Err Output) output is which e = absurd (elim which [ inl z ↦ omega arith | inr z ↦ omega arith ])
@@ -45,11 +46,16 @@ cut_short left files n status end same held held_new f f_new is four out =
     let here = at_end (given left files) n end (Err Output) same held held_new f f_new (output_at end (sym is ∙ four)) out in
     let e = here.gave.1.0 in (e.0, (e.1.0, e.1.1, subst (HoldsPrefix held held_new) e.1.2 here.gave.1.1))
 
-pub refused : (left : Option (List ℕ)) (files : Option Files) (n status : ℕ) (end : End) (same : Type 0) (held held_new : Option (List ℕ)) (f f_new : ℕ)
-    → status ≡ status_at end → status ≡ 2 → OfOutput Decode (given left files) n end same held held_new f f_new → ToldNoBlob left
-refused left files n status end same held held_new f f_new is two out =
+pub refused : (left : Option (List ℕ)) (files : Option Files) (n status : ℕ) (end : End) (same same_error : Type 0) (held held_new : Option (List ℕ)) (f f_new : ℕ) (said said_new : Option (List ℕ)) (e e_new : ℕ)
+    → status ≡ status_at end → status ≡ 2 → OfOutput Decode (given left files) n end same held held_new f f_new → GivesLineOf end same_error said said_new e e_new → TellsFault left said said_new e e_new
+refused left files n status end same same_error held held_new f f_new said said_new e e_new is two out line =
     let r = refused_at end (sym is ∙ two) in
-    let here = at_end (given left files) n end (Err (Refused r.0)) same held held_new f f_new r.1 out in here.gave.1.0.0.2
+    let here = at_end (given left files) n end (Err (Refused r.0)) same held held_new f f_new r.1 out in
+    let no_blob = here.gave.1.0.0 in
+    let fault : r.0 ≡ record { reason = BlobReasonOf no_blob.0; place = r.0.place } = λ i. record { reason = no_blob.1.0 i; place = r.0.place } in
+    let there : GivesLineOf (Err (Refused (record { reason = BlobReasonOf no_blob.0; place = r.0.place }))) same_error said said_new e e_new =
+    subst (λ (x : End). GivesLineOf x same_error said said_new e e_new) (r.1 ∙ ap (λ x. Err (Refused x)) fault) line in
+    (r.0.place, (no_blob.0, (no_blob.1.1, there)))
 
 pub wanted : (left : Option (List ℕ)) (files : Option Files) (n status : ℕ) (end : End) (same : Type 0) (held held_new : Option (List ℕ)) (f f_new : ℕ)
     → status ≡ status_at end → status ≡ 6 → OfOutput Decode (given left files) n end same held held_new f f_new → ToldHead left

@@ -1,7 +1,7 @@
-mod Blobs
 mod Ends
 mod Exact
-mod Fronts
 mod Idle
 mod Once
+mod WholeReads
+mod Whole
 mod Words

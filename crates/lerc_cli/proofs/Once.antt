@@ -4,10 +4,12 @@ use Rattle.raster_values.specs.Grid.{grid_of}
 use Rattle.lerc_cli.specs.declared.command.Command.{Command}
 use Rattle.lerc_cli.specs.declared.command.Command.TheVariants.{Decode}
 use Rattle.lerc_cli.specs.declared.stop.Fault.{Fault}
+use Rattle.lerc_cli.specs.declared.stop.Reason.TheVariants.{Blob as BlobReasonOf}
 use Rattle.lerc_cli.specs.declared.stop.Stop.TheVariants.{Usage, Refused, Source, Output, Volume, OutOfMemory}
 use Rattle.lerc_cli.specs.Answer.{AnswersOnce}
 use Rattle.lerc_cli.specs.Command.{SpellsOne}
-use Rattle.lerc_cli.proofs.Blobs.{one_raster}
+use Rattle.lerc_grammar.proofs.Blobs.{one_raster}
+use Rattle.lerc_cli.proofs.Whole.{blob_or_fault, one_whole_fault}
 
 -- the commands that are built
 pub only_command : (c : Command) → c ≡ Decode
@@ -22,10 +24,11 @@ same_fault f g reason place = λ i. record { reason = reason i; place = place i 
 pub answers_once : (c : Command) → AnswersOnce c
 answers_once Decode input files n m (Ok x) (Ok y) output another _ _ a b =
     (refl, a.1.2 ∙ ap grid_of (one_raster input a.0 b.0 a.1.1 b.1.1) ∙ sym b.1.2)
-answers_once Decode input files n m (Ok x) (Err (Refused f)) output another _ _ a b = absurd (b.0.2 (a.0, a.1.1))
-answers_once Decode input files n m (Err (Refused f)) (Ok y) output another _ _ a b = absurd (a.0.2 (b.0, b.1.1))
+answers_once Decode input files n m (Ok x) (Err (Refused f)) output another _ _ a b = absurd (blob_or_fault input a.0 f.place b.0.0 a.1.1 b.0.1.1)
+answers_once Decode input files n m (Err (Refused f)) (Ok y) output another _ _ a b = absurd (blob_or_fault input b.0 f.place a.0.0 b.1.1 a.0.1.1)
 answers_once Decode input files n m (Err (Refused f)) (Err (Refused g)) output another _ _ a b =
-    (ap (λ h. Err (Refused h)) (same_fault f g (a.0.0 ∙ sym b.0.0) (a.0.1 ∙ sym b.0.1)), a.1 ∙ sym b.1)
+    let same = one_whole_fault input f.place g.place a.0.0 b.0.0 a.0.1.1 b.0.1.1 in
+    (ap (λ h. Err (Refused h)) (same_fault f g (a.0.1.0 ∙ ap BlobReasonOf same.1 ∙ sym b.0.1.0) same.0), a.1 ∙ sym b.1)
 answers_once Decode input files n m (Err Usage) other output another answer _ a b = absurd answer
 answers_once Decode input files n m (Err Source) other output another answer _ a b = absurd answer
 answers_once Decode input files n m (Err Output) other output another answer _ a b = absurd answer

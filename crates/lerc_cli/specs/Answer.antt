@@ -6,11 +6,13 @@ use Rattle.lerc_header.specs.declared.header.Header.{Header}
 use Rattle.lerc_header.specs.Head.{HeadAt}
 use Rattle.lerc_cli.specs.declared.command.Command.{Command}
 use Rattle.lerc_cli.specs.declared.command.Command.TheVariants.{Decode}
-use Rattle.lerc_cli.specs.declared.stop.Reason.TheVariants.{NotYet}
+use Rattle.lerc_header.specs.declared.fault.BlobReason.{BlobReason}
+use Rattle.lerc_grammar.specs.Blob.{Blob}
+use Rattle.lerc_grammar.specs.Verdict.{WholeFault}
+use Rattle.lerc_cli.specs.declared.stop.Reason.TheVariants.{Blob as BlobReasonOf}
 use Rattle.lerc_cli.specs.declared.stop.Fault.{Fault}
 use Rattle.lerc_cli.specs.declared.stop.Stop.{Stop}
 use Rattle.lerc_cli.specs.declared.stop.Stop.TheVariants.{Usage, Refused, Source, Output, Volume, OutOfMemory}
-use Rattle.lerc_cli.specs.Blob.{Blob, IsBlob}
 use Rattle.lerc_cli.specs.Command.{reads_source, calls_volume}
 use Rattle.lerc_cli.specs.Stop.{End}
 
@@ -28,16 +30,20 @@ pub record Given : Type 0 where
 abbrev pub OfInput : Given → (List ℕ → Type 0) → Type 0
 OfInput g P = IfSome g.input P
 
+-- the bytes are a blob
+abbrev pub IsBlob : List ℕ → Type 0
+IsBlob bytes = (r : Pixels) × Blob bytes r
+
 -- The command's output, where nothing refuses or fails. The number is that of the updates that are
 -- done.
 abbrev pub IsOutput : Command → Given → ℕ → List ℕ → Type 0
 IsOutput Decode g n output =
     (r : Pixels) × (IsRaster r × OfInput g (λ bytes. Blob bytes r) × (output ≡ grid_of r))
 
--- the one refusal of a blob so far
+-- this is the first fault of the whole input, which is to be one blob
 abbrev pub IsNoBlob : Given → Fault → Type 0
-IsNoBlob g fault =
-    (fault.reason ≡ NotYet) × (fault.place ≡ 0) × OfInput g (λ bytes. ¬ IsBlob bytes)
+IsNoBlob g fault = (reason : BlobReason) × ((fault.reason ≡ BlobReasonOf reason)
+    × OfInput g (λ bytes. WholeFault bytes fault.place reason))
 
 -- This is the first refusal in the command's order. The number is that of the updates that are
 -- done.

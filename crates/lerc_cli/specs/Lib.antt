@@ -1,6 +1,5 @@
 pub mod Answer
 pub mod Arguments
-pub mod Blob
 pub mod Command
 pub mod Run
 pub mod Stop

@@ -7,10 +7,13 @@ use Rattle.outside_io.specs.streams.Sink.{Holds, HoldsPrefix}
 use Rattle.outside_io.specs.streams.Source.{TakesUpTo, IsAtEnd}
 use Rattle.raster_values.specs.Raster.{Pixels, IsRaster}
 use Rattle.raster_values.specs.Grid.{grid_of}
+use Rattle.lerc_header.specs.declared.fault.BlobReason.{BlobReason}
+use Rattle.lerc_grammar.specs.Blob.{Blob}
+use Rattle.lerc_grammar.specs.Verdict.{WholeFault}
 use Rattle.lerc_cli.specs.declared.command.Command.{Command}
 use Rattle.lerc_cli.specs.declared.command.Command.TheVariants.{Decode}
+use Rattle.lerc_cli.specs.declared.stop.Reason.TheVariants.{Blob as BlobReasonOf}
 use Rattle.lerc_cli.specs.declared.stop.Stop.TheVariants.{Usage, Refused, Source, Output, Volume, OutOfMemory}
-use Rattle.lerc_cli.specs.Blob.{Blob, IsBlob}
 use Rattle.lerc_cli.specs.Command.{reads_source, calls_volume, makes_updates}
 use Rattle.lerc_cli.specs.Stop.{End, line_of, status_at, status_of}
 use Rattle.lerc_cli.specs.Answer.{Files, Given, Ends, HasHead}
@@ -29,7 +32,7 @@ given input files = record { input = input; files = files }
 
 -- how many bytes a command takes at most: one behind the longest input that it reads
 abbrev pub most_taken : Command → ℕ
-most_taken Decode = 67
+most_taken Decode = 134217729
 
 -- The first type says that the source is as it was.
 pub record OfSource (c : Command) (end : End) (same : Type 0) (left_old left_new : Option (List ℕ))
@@ -121,9 +124,13 @@ GivesGridPrefix input old new =
     (r : Pixels) × (IsRaster r × IfSome input (λ bytes. Blob bytes r)
     × HoldsPrefix old new (grid_of r))
 
--- the bytes, where they are told, are no blob
-abbrev pub ToldNoBlob : Option (List ℕ) → Type 0
-ToldNoBlob input = IfSome input (λ bytes. ¬ IsBlob bytes)
+-- The error output was given the line of a fault, which where the bytes are told is the first fault of
+-- the whole input.
+abbrev pub TellsFault : Option (List ℕ) → Option (List ℕ) → Option (List ℕ) → ℕ → ℕ → Type 0
+TellsFault input old new faults_old faults_new =
+    (place : ℕ) × ((reason : BlobReason) × (IfSome input (λ bytes. WholeFault bytes place reason)
+    × GivesLine old new faults_old faults_new
+    (line_of (Refused (record { reason = BlobReasonOf reason; place = place })))))
 
 -- the bytes, where they are told, begin with a whole lawful header
 abbrev pub ToldHead : Option (List ℕ) → Type 0

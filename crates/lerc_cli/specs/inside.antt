@@ -1,3 +1,2 @@
 -- The words of functions that the program keeps to itself.
-pub mod Constant
 pub mod Reads

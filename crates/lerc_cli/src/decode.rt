@@ -3,7 +3,7 @@ ghost use Rattle.lerc_cli.specs.declared.command.Command.{Command};
 ghost use Rattle.lerc_cli.specs.Answer.{Files};
 ghost use Rattle.lerc_cli.specs.Run.{OfSource, OfOutput, given};
 
-use crate::blob::read_blob;
+use crate::reading::read_blob;
 use crate::stop::Stop;
 use outside_io::{Sink, Source};
 use raster_values::grid_write;

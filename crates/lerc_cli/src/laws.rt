@@ -2,13 +2,7 @@
 
 ghost use Rattle.lerc_cli.specs.declared.command.Command.{Command};
 ghost use Rattle.lerc_cli.specs.Answer.{AnswersOnce};
-ghost use Rattle.lerc_cli.specs.Blob.{HasOneRaster};
 ghost use Rattle.lerc_cli.specs.Command.{SpellsOne};
-
-/// No bytes have two rasters.
-pub fn one_raster()
-    ensures { HasOneRaster }
-{}
 
 /// Words spell at most one command.
 pub fn one_command()

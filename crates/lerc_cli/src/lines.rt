@@ -1,12 +1,55 @@
 ghost use Rattle.std.specs.Prelude.{◌≡◌, ◌+◌, ◌≤◌, [], ◌++◌, length};
 ghost use Rattle.outside_io.specs.program.Line.{GivesLine};
 ghost use Rattle.lerc_cli.specs.Stop.{line_of, name_of, text_of};
+ghost use Rattle.lerc_cli.specs.Stop.{blob_name_of, blob_numbers_of, two_numbers};
 
 use crate::stop::{Fault, Reason, Stop};
+use lerc_header::BlobReason;
 use outside_io::{Line, Sink, give_line};
 
 const USAGE: &[u8] =
     b"usage: PATH encode V E, decode, info, build V E N, put V E N, get R C, get R C raw, list, check, recover, sample START COUNT";
+
+/// The name of a reason that a blob is refused for.
+fn blob_name(reason: BlobReason) -> &'static [u8]
+    ensures name { result.now ≡ blob_name_of reason }
+    ensures short { length result.now ≤ 30 }
+{
+    match reason {
+        BlobReason::NotYet => b"NotYet",
+        BlobReason::Truncated => b"Truncated",
+        BlobReason::BadKey => b"BadKey",
+        BlobReason::BadVersion => b"BadVersion",
+        BlobReason::BadRows => b"BadRows",
+        BlobReason::BadCols => b"BadCols",
+        BlobReason::BadDepth => b"BadDepth",
+        BlobReason::TooLarge => b"TooLarge",
+        BlobReason::BadCount => b"BadCount",
+        BlobReason::BadBlockSize => b"BadBlockSize",
+        BlobReason::BadBlobSize => b"BadBlobSize",
+        BlobReason::FloatPixels => b"FloatPixels",
+        BlobReason::BadType => b"BadType",
+        BlobReason::BadError => b"BadError",
+        BlobReason::BadRange => b"BadRange",
+        BlobReason::BadChecksum { .. } => b"BadChecksum",
+        BlobReason::BadMaskLength => b"BadMaskLength",
+        BlobReason::BadRun => b"BadRun",
+        BlobReason::BadMaskCount { .. } => b"BadMaskCount",
+        BlobReason::MaskMissing => b"MaskMissing",
+        BlobReason::BadSweep => b"BadSweep",
+        BlobReason::BadMode => b"BadMode",
+        BlobReason::BadBlockTag => b"BadBlockTag",
+        BlobReason::BadOffsetCode => b"BadOffsetCode",
+        BlobReason::BadListHead => b"BadListHead",
+        BlobReason::BadListCount => b"BadListCount",
+        BlobReason::BadTable => b"BadTable",
+        BlobReason::BadIndex => b"BadIndex",
+        BlobReason::BadCodeTable => b"BadCodeTable",
+        BlobReason::NoCode => b"NoCode",
+        BlobReason::PastEnd => b"PastEnd",
+        BlobReason::Leftover => b"Leftover",
+    }
+}
 
 /// The name of a reason.
 fn name(reason: Reason) -> &'static [u8]
@@ -14,7 +57,37 @@ fn name(reason: Reason) -> &'static [u8]
     ensures short { length result.now ≤ 30 }
 {
     match reason {
-        Reason::NotYet => b"NotYet",
+        Reason::Blob(reason) => blob_name(reason),
+    }
+}
+
+/// Adds two numbers, each behind its word.
+fn add_two(line: &mut Line, word: &[u8], n: u32, other: &[u8], m: u32)
+    requires room { length line.old ≤ 100 }
+    requires words { length word.now + length other.now ≤ 20 }
+    ensures text { line.new ≡ line.old ++ two_numbers word.now n other.now m }
+    ensures short { length line.new ≤ length line.old + 62 }
+{
+    line.text(word);
+    line.number(n.into());
+    line.text(other);
+    line.number(m.into());
+}
+
+/// Adds the numbers that did not agree.
+fn add_numbers(line: &mut Line, reason: BlobReason)
+    requires { length line.old ≤ 100 }
+    ensures text { line.new ≡ line.old ++ blob_numbers_of reason }
+    ensures short { length line.new ≤ length line.old + 62 }
+{
+    match reason {
+        BlobReason::BadChecksum { stored, computed } => {
+            add_two(line, b" stored", stored, b" computed", computed);
+        }
+        BlobReason::BadMaskCount { header, counted } => {
+            add_two(line, b" header", header, b" counted", counted);
+        }
+        _ => {}
     }
 }
 
@@ -28,6 +101,9 @@ fn refusal(fault: Fault) -> Line
     line.text(name(fault.reason));
     line.text(b" at");
     line.number(fault.place);
+    match fault.reason {
+        Reason::Blob(reason) => add_numbers(&mut line, reason),
+    }
     line
 }
 

@@ -1,19 +1,19 @@
 //! The program `lerc_cli`: the words of the command line and the bytes of a source become the bytes of
 //! an output and a status.
 //!
-//! It stands on `outside_io`, `raster_values` and `lerc_header`. What it does is `run`, whose contract
+//! It stands on `lerc_decode` and the layers below it. What it does is `run`, whose contract
 //! is the program's: over any words, any input, however it is cut into pieces, and objects that fail at
 //! any call, a blob is decoded exactly where the input is one, and nothing else is given. `serve` reads
 //! the words and calls it, and `main` makes the objects over the machine.
 #![tactic(auto)]
 
 mod arguments;
-mod blob;
 mod command;
 mod decode;
 mod laws;
 mod lines;
 mod program;
+mod reading;
 mod run;
 mod stop;
 #[cfg(test)]

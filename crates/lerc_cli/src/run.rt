@@ -3,13 +3,12 @@ ghost use Rattle.outside_io.specs.streams.Sink.{Holds};
 ghost use Rattle.outside_io.specs.streams.Source.{IsAtEnd};
 ghost use Rattle.lerc_cli.specs.declared.command.Command.{Command};
 ghost use Rattle.lerc_cli.specs.declared.stop.Stop.{Stop};
-ghost use Rattle.lerc_cli.specs.Answer.{IsOutput};
-ghost use Rattle.lerc_cli.specs.Blob.{IsBlob};
+ghost use Rattle.lerc_cli.specs.Answer.{IsBlob, IsOutput};
 ghost use Rattle.lerc_cli.specs.Command.{IsSpelled, IsNoCommand};
 ghost use Rattle.outside_io.specs.program.Line.{GivesLine};
 ghost use Rattle.outside_io.specs.streams.Faults.{IsCause};
 ghost use Rattle.lerc_cli.specs.Run.{OfSource, OfOutput, OfVolume, OfRun, GivesLineOf, files_of, given};
-ghost use Rattle.lerc_cli.specs.Run.{GivesGrid, GivesGridPrefix, ToldNoBlob, ToldHead};
+ghost use Rattle.lerc_cli.specs.Run.{GivesGrid, GivesGridPrefix, TellsFault, ToldHead};
 ghost use Rattle.lerc_cli.specs.Stop.{status_of, status_at, line_of};
 
 use crate::command::{Command, command_of};
@@ -99,14 +98,13 @@ fn ended_status<E: Sink>(ended: Result<(), Stop>, err: &mut E) -> u8
 /// Does all that the program does: finds the command of the words, does it, and answers the status
 /// that the program ends with.
 ///
-/// The one command so far is `decode`: it reads a whole blob of version 3 in which every pixel is
-/// valid and has one value, and gives its grid.
+/// The one command so far is `decode`: it reads one whole blob, and gives its grid.
 ///
 /// | status | it comes |
 /// |---|---|
-/// | 0 | where the input is such a blob; the output has gained its grid |
+/// | 0 | where the input is a blob; the output has gained its grid |
 /// | 1 | exactly where the words are no command; nothing is taken and nothing is given |
-/// | 2 | where the input is no such blob |
+/// | 2 | where the input is no blob, or has bytes behind one; the line tells its first fault |
 /// | 3 | exactly where the source failed |
 /// | 4 | exactly where the output failed, which has then gained a prefix of the grid |
 /// | 5 | exactly where the volume failed, which `decode` does not call |
@@ -165,7 +163,8 @@ pub fn run<S: Source, K: Sink, E: Sink, V: Volume>(
     ensures decoded { IsSpelled Command.Decode words.now → result.status ≡ 0
         → GivesGrid (S.left src.old) (K.held out.old) (K.held out.new) × IsAtEnd (S.left src.new) }
     ensures refused { IsSpelled Command.Decode words.now → result.status ≡ 2
-        → ToldNoBlob (S.left src.old) }
+        → TellsFault (S.left src.old) (E.held err.old) (E.held err.new)
+        (E.faults err.old) (E.faults err.new) }
     ensures cut_short { IsSpelled Command.Decode words.now → result.status ≡ 4
         → GivesGridPrefix (S.left src.old) (K.held out.old) (K.held out.new) }
     ensures wanted { IsSpelled Command.Decode words.now → result.status ≡ 6

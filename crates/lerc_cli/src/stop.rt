@@ -1,11 +1,13 @@
 ghost use Rattle.std.specs.Prelude.{◌≡◌};
 ghost use Rattle.lerc_cli.specs.Stop.{status_of};
 
+use lerc_header::BlobReason;
+
 /// Why an input is refused.
 #[derive(Clone, Copy)]
 pub enum Reason {
-    /// It is not of the one form that is read so far.
-    NotYet,
+    /// It is not one whole blob.
+    Blob(BlobReason),
 }
 
 /// A reason, and the place in the input where it stands.

@@ -1,5 +1,16 @@
 -- One call on a source, and what a decoder takes of it.
 use Rattle.std.proofs.Common.{◌≡◌, ℕ, ◌+◌, ◌-◌, ◌<◌, ◌≤◌, List, ◌++◌, length, take, drop, Option, Some, None, Ok, Err, refl, sym, ap, ◌∙◌, subst, arith, [], ◌⊎◌, inl, inr}
+use Rattle.std.specs.Prelude.{IfOk, Result}
+use Rattle.std.proofs.Math.Seq.{drop-append-add}
+use Rattle.outside_io.specs.declared.streams.failed.Failed.{Failed}
+use Rattle.outside_io.specs.streams.Source.{TakesUpTo}
+use Rattle.raster_values.specs.Raster.{IsRaster}
+use Rattle.lerc_header.specs.Head.{HeadAt}
+use Rattle.lerc_header.proofs.Prefixes.{head_more}
+use Rattle.lerc_decode.specs.declared.from_source.Decoded.{Decoded}
+use Rattle.lerc_decode.specs.declared.from_source.FromFault.{FromFault}
+use Rattle.lerc_decode.specs.declared.from_source.FromFault.TheVariants.{Source, OutOfMemory}
+use Rattle.lerc_decode.specs.FromSource.{IsSized, raster_alone}
 use Rattle.std.proofs.lemmas.List.{append_assoc, length-append, length-take-le, take-append-drop, take_all}
 use Rattle.lerc_header.specs.Head.{head_length}
 use Rattle.lerc_header.specs.declared.header.Version.{Version}
@@ -8,7 +19,7 @@ use Rattle.outside_io.specs.streams.Source.{Takes}
 use Rattle.lerc_decode.specs.Decoding.{Stage, Key, Fields, Body, Whole, Wrong, NoMemory, Decoding, IsStageOf, HasTaken}
 use Rattle.lerc_decode.specs.States.{missing_at, finished_at, IsUsed}
 use Rattle.outside_io.specs.streams.Source.{IsAtEnd}
-use Rattle.lerc_decode.specs.inside.Feeding.{Joins, Follows, work_at}
+use Rattle.lerc_decode.specs.inside.Feeding.{Begins, Joins, Follows, work_at}
 use Rattle.lerc_header.specs.declared.fault.BlobReason.TheVariants.{Truncated}
 use Rattle.lerc_decode.specs.declared.from_source.FromFault.TheVariants.{Blob}
 use Rattle.lerc_decode.specs.FromSource.{from_finished, IsDecoded}
@@ -98,7 +109,7 @@ no_memory_follows s joins e = subst (λ (t : Stage). Follows t joins) (sym e) tt
 at_end : (left1 : Option (List ℕ)) (rest : List ℕ) → left1 ≡ Some rest → IsAtEnd left1 → rest ≡ []
 at_end left1 rest e end = subst IsAtEnd e end
 
-found_more : (left0 left1 : Option (List ℕ)) (taken : List ℕ) → IsMore taken → Joins left0 left1 [] taken → IsAtEnd left1 → IsDecoded (Err (Blob (record { reason = Truncated; place = length taken }))) left0 left1
+found_more : (left0 left1 : Option (List ℕ)) (taken : List ℕ) → IsMore taken → Joins left0 left1 [] taken → IsAtEnd left1 → IsSized (Err (Blob (record { reason = Truncated; place = length taken }))) left0 left1
 found_more None left1 taken more j end = j
 found_more (Some input) left1 taken more (rest, (e, j)) end = (taken, (rest, (j, (e, inr (more, (at_end left1 rest e end, refl))))))
 
@@ -106,12 +117,108 @@ waits : (n : ℕ) (P : Type 0) → 0 < n → (n ≡ 0) ⊎ P → P
 waits n P some (inl e) = absurd (omega (arith, some, e))
 waits n P some (inr p) = p
 
-pub decoded : (s : Stage) (taken : List ℕ) (left0 left1 : Option (List ℕ)) → IsStageOf taken s → Follows s (Joins left0 left1 [] taken) → (missing_at s (length taken) ≡ 0) ⊎ IsAtEnd left1 → IsDecoded (from_finished (finished_at s taken)) left0 left1
-decoded Key taken left0 left1 stands f end = found_more left0 left1 taken (told_of taken Key stands) f (waits (10 - length taken) (IsAtEnd left1) (omega (arith, stands)) end)
-decoded (Fields v) taken left0 left1 stands f end = found_more left0 left1 taken (told_of taken (Fields v) stands) f (waits (head_length v - length taken) (IsAtEnd left1) (omega (arith, stands.1.0)) end)
-decoded (Body h) taken left0 left1 stands f end = found_more left0 left1 taken (told_of taken (Body h) stands) f (waits (h.size - length taken) (IsAtEnd left1) (omega (arith, stands.1)) end)
-decoded (Whole r) taken None left1 stands f end = f
-decoded (Whole r) taken (Some input) left1 stands (rest, (e, j)) end = (taken, (rest, (j, (e, stands.0))))
-decoded (Wrong place reason) taken None left1 stands f end = f
-decoded (Wrong place reason) taken (Some input) left1 stands (rest, (e, j)) end = (taken, (rest, (j, (e, inl stands.0))))
-decoded NoMemory taken left0 left1 stands f end = tt
+pub decoded : (s : Stage) (taken : List ℕ) (left0 left1 : Option (List ℕ)) → IsStageOf taken s → Follows s (Joins left0 left1 [] taken) → Begins left0 [] taken → (missing_at s (length taken) ≡ 0) ⊎ IsAtEnd left1
+    → IsSized (from_finished (finished_at s taken) (length taken)) left0 left1
+decoded Key taken left0 left1 stands f b end = found_more left0 left1 taken (told_of taken Key stands) f (waits (10 - length taken) (IsAtEnd left1) (omega (arith, stands)) end)
+decoded (Fields v) taken left0 left1 stands f b end = found_more left0 left1 taken (told_of taken (Fields v) stands) f (waits (head_length v - length taken) (IsAtEnd left1) (omega (arith, stands.1.0)) end)
+decoded (Body h) taken left0 left1 stands f b end = found_more left0 left1 taken (told_of taken (Body h) stands) f (waits (h.size - length taken) (IsAtEnd left1) (omega (arith, stands.1)) end)
+decoded (Whole r) taken None left1 stands f b end = f
+decoded (Whole r) taken (Some input) left1 stands (rest, (e, j)) b end = (taken, (rest, (j, (e, (stands.0, refl)))))
+decoded (Wrong place reason) taken None left1 stands f b end = f
+decoded (Wrong place reason) taken (Some input) left1 stands (rest, (e, j)) b end = (taken, (rest, (j, (e, inl stands.0))))
+decoded NoMemory taken None left1 stands f b end = tt
+decoded NoMemory taken (Some input) left1 stands f (rest, j) end = record { header = stands.header; stands = subst (λ (u : List ℕ). HeadAt u stands.header) (sym j) (head_more taken rest stands.header stands.stands) }
+
+pub decoded_raster : (s : Stage) (taken : List ℕ) (size : ℕ) → IsStageOf taken s → IfOk (from_finished (finished_at s taken) size) (λ d. IsRaster d.raster)
+decoded_raster Key taken size stands = tt
+decoded_raster (Fields v) taken size stands = tt
+decoded_raster (Body h) taken size stands = tt
+decoded_raster (Whole r) taken size stands = stands.0.1.0
+decoded_raster (Wrong place reason) taken size stands = tt
+decoded_raster NoMemory taken size stands = tt
+
+-- ---- bytes that came first
+
+pub begins_once : (left0 left1 : Option (List ℕ)) (got used : ℕ) (buf old new : List ℕ) → Takes left0 left1 (Ok got) buf → new ≡ old ++ take used (take got buf) → Begins left0 old new
+begins_once None left1 got used buf old new takes e = tt
+begins_once (Some left) left1 got used buf old new takes e =
+    let piece = take got left in
+    let rest = drop used piece ++ drop got left in (
+      rest,
+      ap (λ u. old ++ u) (sym (take-append-drop got left) ∙ ap (λ u. u ++ drop got left) (sym (take-append-drop used piece)) ∙ append_assoc (take used piece) (drop used piece) (drop got left))
+          ∙ sym (append_assoc old (take used piece) rest) ∙ ap (λ (u : List ℕ). (old ++ take used u) ++ rest) (sym takes.0.1.1) ∙ ap (λ u. u ++ rest) (sym e),
+    )
+
+pub begins_same : (left : Option (List ℕ)) (taken : List ℕ) → Begins left taken taken
+begins_same None taken = tt
+begins_same (Some left) taken = (left, refl)
+
+begins_join : (a b : Option (List ℕ)) (s t u : List ℕ) → Joins a b s t → Begins b t u → Begins a s u
+begins_join None b s t u j more = tt
+begins_join (Some left) b s t u (rest, (e, j)) more =
+    let there : Begins (Some rest) t u = subst (λ (o : Option (List ℕ)). Begins o t u) e more in (there.0, j ∙ there.1)
+
+pub begins_more : (st : Stage) (a b : Option (List ℕ)) (s t u : List ℕ) → (st ≡ NoMemory → Begins a s u) → Follows st (Joins a b s t) → Begins b t u → Begins a s u
+begins_more Key a b s t u other f more = begins_join a b s t u f more
+begins_more (Fields v) a b s t u other f more = begins_join a b s t u f more
+begins_more (Body h) a b s t u other f more = begins_join a b s t u f more
+begins_more (Whole r) a b s t u other f more = begins_join a b s t u f more
+begins_more (Wrong place reason) a b s t u other f more = begins_join a b s t u f more
+begins_more NoMemory a b s t u other f more = other refl
+
+-- ---- how many bytes are taken at most
+
+pub takes_few : (left0 left1 : Option (List ℕ)) (r : Result ℕ Failed) (buf : List ℕ) (room : ℕ) → Takes left0 left1 r buf → IfOk r (λ n. n ≤ length buf) → length buf ≤ room → TakesUpTo room left0 left1
+takes_few None left1 r buf room takes within few = takes
+takes_few (Some left) left1 (Ok n) buf room takes within few = (n, (omega (arith, within, few), (takes.0.1.0, takes.0.0)))
+takes_few (Some left) left1 (Err e) buf room takes within few = (0, (omega arith, (omega arith, takes)))
+
+pub takes_none : (left : Option (List ℕ)) (most : ℕ) → TakesUpTo most left left
+takes_none None most = refl
+takes_none (Some left) most = (0, (omega arith, (omega arith, refl)))
+
+same_left : (left1 left2 : Option (List ℕ)) (room : ℕ) → room ≡ 0 → TakesUpTo room left1 left2 → left2 ≡ left1
+same_left None left2 room zero t = t
+same_left (Some rest) left2 room zero (m, (few, (within, e))) = let none : m ≡ 0 = omega (arith, zero, few) in e ∙ ap (λ k. Some (drop k rest)) none
+
+few_live : (left0 left1 left2 : Option (List ℕ)) (taken : List ℕ) (room : ℕ) → Joins left0 left1 [] taken → length taken + room ≤ 134217728 → TakesUpTo room left1 left2 → TakesUpTo 134217728 left0 left2
+few_live None left1 left2 taken room j most t = let there : TakesUpTo room None left2 = subst (λ (o : Option (List ℕ)). TakesUpTo room o left2) j t in there
+few_live (Some left) left1 left2 taken room (rest, (e, j)) most t =
+    let there : TakesUpTo room (Some rest) left2 = subst (λ (o : Option (List ℕ)). TakesUpTo room o left2) e t in
+    let m = there.0 in (
+      length taken + m,
+      (
+        omega (arith, most, there.1.0),
+        (
+          omega (arith, ap length j, length-append taken rest, there.1.1.0),
+          there.1.1.1 ∙ ap Some (sym (drop-append-add taken rest m) ∙ ap (drop (length taken + m)) (sym j)),
+        ),
+      ),
+    )
+
+few_stopped : (left0 left1 left2 : Option (List ℕ)) (room : ℕ) → room ≡ 0 → TakesUpTo room left1 left2 → TakesUpTo 134217728 left0 left1 → TakesUpTo 134217728 left0 left2
+few_stopped left0 left1 left2 room zero t before = subst (TakesUpTo 134217728 left0) (sym (same_left left1 left2 room zero t)) before
+
+few_from_nothing : (s : Stage) (left0 left1 left2 : Option (List ℕ)) (taken : List ℕ) (room : ℕ) → IsStageOf taken s → Follows s (Joins left0 left1 [] taken) → room ≤ missing_at s (length taken)
+    → TakesUpTo room left1 left2 → TakesUpTo 134217728 left0 left1 → TakesUpTo 134217728 left0 left2
+few_from_nothing Key left0 left1 left2 taken room stands f short t before = few_live left0 left1 left2 taken room f (omega (arith, stands, short)) t
+few_from_nothing (Fields v) left0 left1 left2 taken room stands f short t before = few_live left0 left1 left2 taken room f (omega (arith, stands.1.0, short, short_head v)) t
+few_from_nothing (Body h) left0 left1 left2 taken room stands f short t before = few_live left0 left1 left2 taken room f (omega (arith, stands.1, short, stands.0.size_below)) t
+few_from_nothing (Whole r) left0 left1 left2 taken room stands f short t before = few_stopped left0 left1 left2 room (omega (arith, short)) t before
+few_from_nothing (Wrong place reason) left0 left1 left2 taken room stands f short t before = few_stopped left0 left1 left2 room (omega (arith, short)) t before
+few_from_nothing NoMemory left0 left1 left2 taken room stands f short t before = few_stopped left0 left1 left2 room (omega (arith, short)) t before
+
+pub few_more : (s : Stage) (left0 left1 left2 : Option (List ℕ)) (old taken : List ℕ) (room : ℕ) → old ≡ [] → IsStageOf taken s → Follows s (Joins left0 left1 old taken) → room ≤ missing_at s (length taken)
+    → TakesUpTo room left1 left2 → TakesUpTo 134217728 left0 left1 → TakesUpTo 134217728 left0 left2
+few_more s left0 left1 left2 old taken room none stands f short t before =
+    few_from_nothing s left0 left1 left2 taken room stands (subst (λ (u : List ℕ). Follows s (Joins left0 left1 u taken)) none f) short t before
+
+-- ---- the raster alone
+
+pub alone : (r : Result Decoded FromFault) (old new : Option (List ℕ)) → IsSized r old new → IsDecoded (raster_alone r) old new
+alone (Ok d) None new t = t
+alone (Ok d) (Some input) new (taken, (rest, (j, (e, found)))) = (taken, (rest, (j, (e, found.0))))
+alone (Err (Blob f)) None new t = t
+alone (Err (Blob f)) (Some input) new t = t
+alone (Err Source) old new t = tt
+alone (Err OutOfMemory) old new t = t

@@ -106,7 +106,7 @@ told_of taken (Fields v) stands = more_fields taken v stands.0 stands.1.0 stands
 told_of taken (Body h) stands = more_body taken h stands.0 stands.1
 told_of taken (Whole r) stands = stands
 told_of taken (Wrong place reason) stands = stands
-told_of taken NoMemory stands = tt
+told_of taken NoMemory stands = stands
 
 take_sum : (i j : ℕ) (xs : List ℕ) → take (i + j) xs ≡ take i xs ++ take j (drop i xs)
 take_sum i j xs =

@@ -26,14 +26,19 @@ pub record Decoding : Type 0 where
 abbrev pub IsLeast : List ℕ → Type 0
 IsLeast taken = (n : ℕ) → n < length taken → IsMore (take n taken)
 
--- what the bytes taken are at each stage
+-- a lawful header stands whole
+pub record HasHeader (taken : List ℕ) : Type 0 where
+  pub header : Header
+  pub stands : HeadAt taken header
+
+-- What the bytes taken are at each stage. Memory is wanted only behind a whole header.
 abbrev pub IsStageOf : List ℕ → Stage → Type 0
 IsStageOf taken Key = length taken < 10
 IsStageOf taken (Fields v) = (10 ≤ length taken) × ((length taken < head_length v) × (HasKey (take 10 taken) × HasVersion (take 10 taken) v))
 IsStageOf taken (Body h) = HeadAt taken h × (length taken < h.size)
 IsStageOf taken (Whole r) = IsDone taken r (length taken) × IsLeast taken
 IsStageOf taken (Wrong place reason) = FirstFault taken place reason × IsLeast taken
-IsStageOf taken NoMemory = Unit {0}
+IsStageOf taken NoMemory = HasHeader taken
 
 -- a call has taken the first `used` bytes of a piece
 pub record HasTaken (old new : Decoding) (piece : List ℕ) (used : ℕ) : Type 0 where

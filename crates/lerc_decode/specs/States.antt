@@ -8,7 +8,7 @@ use Rattle.lerc_decode.specs.declared.decoder.DecodeFault.{DecodeFault}
 use Rattle.lerc_decode.specs.declared.decoder.DecodeFault.TheVariants.{Blob as BlobOf, OutOfMemory as NoMemoryOf}
 use Rattle.lerc_decode.specs.declared.decoder.FedState.{FedState}
 use Rattle.lerc_decode.specs.declared.decoder.FedState.TheVariants.{More, Done, Refused, OutOfMemory}
-use Rattle.lerc_decode.specs.Decoding.{Stage, Key, Fields, Body, Whole, Wrong, NoMemory, IsLeast}
+use Rattle.lerc_decode.specs.Decoding.{Stage, Key, Fields, Body, Whole, Wrong, NoMemory, HasHeader, IsLeast}
 
 abbrev pub state_at : Stage → FedState
 state_at Key = More
@@ -27,14 +27,15 @@ missing_at (Whole r) n = 0
 missing_at (Wrong place reason) n = 0
 missing_at NoMemory n = 0
 
--- the verdict on the bytes taken, and that no fewer bytes decide it
+-- the verdict on the bytes taken, and that no fewer bytes decide it; memory is wanted only behind a
+-- whole header
 abbrev pub IsTold : List ℕ → Stage → Type 0
 IsTold taken Key = IsMore taken
 IsTold taken (Fields v) = IsMore taken
 IsTold taken (Body h) = IsMore taken
 IsTold taken (Whole r) = IsDone taken r (length taken) × IsLeast taken
 IsTold taken (Wrong place reason) = FirstFault taken place reason × IsLeast taken
-IsTold taken NoMemory = Unit {0}
+IsTold taken NoMemory = HasHeader taken
 
 -- nothing more is decided
 abbrev pub HasStopped : Stage → Type 0

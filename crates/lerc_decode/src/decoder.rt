@@ -221,6 +221,17 @@ impl Decoder {
         }
     }
 
+    /// How many bytes were taken.
+    pub(crate) fn len(&self) -> usize
+        ensures { result ≡ length self.now.taken }
+    {
+        if self.blob.is_empty() {
+            self.have
+        } else {
+            self.blob.len()
+        }
+    }
+
     /// How many bytes are missing to what is decided next: up to ten bytes, then up to the header's
     /// end, then up to the blob's end. It is 0 where nothing more is decided.
     pub fn wants(&self) -> usize

@@ -1,18 +1,26 @@
 //! Decoding from a source.
 
-ghost use Rattle.std.specs.Prelude.{◌≡◌, ◌<◌, ◌≤◌, ◌⊎◌, IfOk, OnOk, length};
+ghost use Rattle.std.specs.Prelude.{◌≡◌, ◌<◌, ◌≤◌, ◌⊎◌, [], IfOk, OnOk, length};
 ghost use Rattle.outside_io.specs.streams.Faults.{CountsFaults};
-ghost use Rattle.outside_io.specs.streams.Source.{IsAtEnd};
+ghost use Rattle.outside_io.specs.streams.Source.{IsAtEnd, TakesUpTo};
+ghost use Rattle.raster_values.specs.Raster.{IsRaster};
 ghost use Rattle.lerc_decode.specs.Decoding.{IsStageOf};
 ghost use Rattle.lerc_decode.specs.States.{missing_at};
-ghost use Rattle.lerc_decode.specs.inside.Feeding.{Follows, Joins, work_left};
-ghost use Rattle.lerc_decode.specs.FromSource.{CountsSource, IsDecoded, from_finished};
+ghost use Rattle.lerc_decode.specs.inside.Feeding.{Begins, Follows, Joins, work_left};
+ghost use Rattle.lerc_decode.specs.FromSource.{CountsSource, IsDecoded, IsSized, from_finished};
 
 use crate::decoder::{DecodeFault, Decoder};
 use lerc_header::BlobFault;
 use outside_io::{Failed, Source};
 use raster_values::Raster;
 use std::alloc::Global;
+
+/// A raster, and how many bytes its blob has.
+#[derive(Drop)]
+pub struct Decoded {
+    pub raster: Raster,
+    pub size: usize,
+}
 
 /// Why a source gave no raster.
 #[derive(Clone, Copy, Debug)]
@@ -32,6 +40,8 @@ fn feed_once<S: Source>(
     requires stands { IsStageOf decoder.old.taken decoder.old.stage }
     ensures counted { CountsFaults result (S.faults src.old) (S.faults src.new) }
     ensures fed { OnOk result (Follows decoder.new.stage (Joins (S.left src.old) (S.left src.new) decoder.old.taken decoder.new.taken)) }
+    ensures begins { OnOk result (Begins (S.left src.old) decoder.old.taken decoder.new.taken) }
+    ensures taken { TakesUpTo (missing_at decoder.old.stage (length decoder.old.taken)) (S.left src.old) (S.left src.new) }
     ensures stands { IsStageOf decoder.new.taken decoder.new.stage }
     ensures within { IfOk result (λ n. n ≤ length room.old) }
     ensures same { IfOk result (λ n. n ≡ 0 → decoder.new ≡ decoder.old) }
@@ -50,6 +60,8 @@ fn feed_from<S: Source>(src: &mut S, decoder: &mut Decoder) -> Result<(), Failed
     requires { IsStageOf decoder.old.taken decoder.old.stage }
     ensures counted { CountsFaults result (S.faults src.old) (S.faults src.new) }
     ensures fed { OnOk result (Follows decoder.new.stage (Joins (S.left src.old) (S.left src.new) decoder.old.taken decoder.new.taken)) }
+    ensures begins { OnOk result (Begins (S.left src.old) decoder.old.taken decoder.new.taken) }
+    ensures taken { decoder.old.taken ≡ [] → TakesUpTo 134217728 (S.left src.old) (S.left src.new) }
     ensures stands { IsStageOf decoder.new.taken decoder.new.stage }
     ensures end { OnOk result ((missing_at decoder.new.stage (length decoder.new.taken) ≡ 0) ⊎ IsAtEnd (S.left src.new)) }
 {
@@ -63,25 +75,44 @@ fn feed_from<S: Source>(src: &mut S, decoder: &mut Decoder) -> Result<(), Failed
     }
 }
 
-/// The answer of a decoder, as that of a source.
-fn answer(finished: Result<Raster, DecodeFault>) -> Result<Raster, FromFault>
-    ensures { result ≡ from_finished finished }
+/// The answer of a decoder that took so many bytes, as that of a source.
+fn answer(finished: Result<Raster, DecodeFault>, size: usize) -> Result<Decoded, FromFault>
+    ensures { result ≡ from_finished finished size }
 {
     match finished {
-        Ok(raster) => Ok(raster),
+        Ok(raster) => Ok(Decoded { raster, size }),
         Err(DecodeFault::Blob(fault)) => Err(FromFault::Blob(fault)),
         Err(DecodeFault::OutOfMemory) => Err(FromFault::OutOfMemory),
+    }
+}
+
+/// Decodes the blob that comes first of the source's bytes, and counts them. `Ok` takes its bytes
+/// alone.
+pub fn decode_sized<S: Source>(alloc: Global, src: &mut S) -> Result<Decoded, FromFault>
+    ensures counted { CountsSource result (S.faults src.old) (S.faults src.new) }
+    ensures raster { IfOk result (λ d. IsRaster d.raster) }
+    ensures told { IsSized result (S.left src.old) (S.left src.new) }
+    ensures taken { TakesUpTo 134217728 (S.left src.old) (S.left src.new) }
+{
+    let mut decoder = Decoder::new(alloc);
+    match feed_from(src, &mut decoder) {
+        Ok(()) => {
+            let size = decoder.len();
+            answer(decoder.finish(), size)
+        }
+        Err(_) => Err(FromFault::Source),
     }
 }
 
 /// Decodes the blob that comes first of the source's bytes. `Ok` takes its bytes alone.
 pub fn decode_from<S: Source>(alloc: Global, src: &mut S) -> Result<Raster, FromFault>
     ensures counted { CountsSource result (S.faults src.old) (S.faults src.new) }
+    ensures raster { IfOk result (λ r. IsRaster r) }
     ensures told { IsDecoded result (S.left src.old) (S.left src.new) }
+    ensures taken { TakesUpTo 134217728 (S.left src.old) (S.left src.new) }
 {
-    let mut decoder = Decoder::new(alloc);
-    match feed_from(src, &mut decoder) {
-        Ok(()) => answer(decoder.finish()),
-        Err(_) => Err(FromFault::Source),
+    match decode_sized(alloc, src) {
+        Ok(decoded) => Ok(decoded.raster),
+        Err(fault) => Err(fault),
     }
 }

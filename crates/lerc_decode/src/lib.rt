@@ -7,4 +7,4 @@ mod from_source;
 mod front;
 
 pub use decoder::{DecodeFault, Decoder, Fed, FedState};
-pub use from_source::{FromFault, decode_from};
+pub use from_source::{Decoded, FromFault, decode_from, decode_sized};

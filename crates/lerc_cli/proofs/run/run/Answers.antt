@@ -61,7 +61,7 @@ returns-clause-decoded g c = λ spelled zero. (
 )
 
 pub returns-clause-refused : goal.returns-clause-refused
-returns-clause-refused g c = λ spelled two. refused _ _ _ _ _ _ _ _ _ _ c.ended_status-status.ensures.status two (c.act-ended.ensures.output Decode spelled)
+returns-clause-refused g c = λ spelled two. refused _ _ _ _ _ _ _ _ _ _ _ _ _ _ _ c.ended_status-status.ensures.status two (c.act-ended.ensures.output Decode spelled) c.ended_status-status.ensures.line
 
 pub returns-clause-cut_short : goal.returns-clause-cut_short
 returns-clause-cut_short g c = λ spelled four. cut_short _ _ _ _ _ _ _ _ _ _ c.ended_status-status.ensures.status four (c.act-ended.ensures.output Decode spelled)

@@ -1,0 +1,139 @@
+-- What the reader of a whole blob answers, from what decoding from a source does.
+use Rattle.std.proofs.Common.{◌≡◌, ℕ, ◌+◌, ◌<◌, ◌≤◌, Bool, true, false, List, [], length, take, drop, ◌++◌, Option, Some, None, rules, Result, Ok, Err, refl, sym, ap, subst, ◌∙◌, arith, inl, inr, ◌⊎◌}
+use Rattle.std.specs.Prelude.{IfOk, IsTrue, IfSome}
+use Rattle.std.proofs.lemmas.List.{append-nil, drop-drop, length-append, length-drop}
+use Rattle.outside_io.specs.streams.Faults.{IsCause}
+use Rattle.outside_io.specs.declared.streams.failed.Failed.{Failed}
+use Rattle.outside_io.specs.streams.Sink.{Holds}
+use Rattle.outside_io.specs.streams.Source.{IsAtEnd, TakesFront, TakesUpTo}
+use Rattle.outside_io.proofs.StreamLemmas.Gives.{Holds_none}
+use Rattle.raster_values.specs.Raster.{Pixels, IsRaster}
+use Rattle.lerc_header.specs.declared.fault.BlobFault.{BlobFault}
+use Rattle.lerc_header.specs.declared.fault.BlobReason.TheVariants.{Leftover}
+use Rattle.lerc_grammar.specs.Blob.{Blob}
+use Rattle.lerc_grammar.specs.Verdict.{FirstFault, IsDone, IsMore, Done, Fault, WholeFault, inside, behind, cut}
+use Rattle.lerc_grammar.proofs.Verdicts.{fault_stays, verdict_stays}
+use Rattle.lerc_decode.specs.declared.from_source.Decoded.{Decoded}
+use Rattle.lerc_decode.specs.declared.from_source.FromFault.{FromFault}
+use Rattle.lerc_decode.specs.declared.from_source.FromFault.TheVariants.{Blob as FromBlob, Source as FromSource, OutOfMemory as FromMemory}
+use Rattle.lerc_decode.specs.FromSource.{CountsSource, IsSized}
+use Rattle.lerc_cli.specs.declared.stop.Reason.TheVariants.{Blob as BlobReasonOf}
+use Rattle.lerc_cli.specs.declared.command.Command.TheVariants.{Decode}
+use Rattle.lerc_cli.specs.declared.stop.Stop.{Stop}
+use Rattle.lerc_cli.specs.declared.stop.Stop.TheVariants.{Usage, Refused, Source, Output, Volume, OutOfMemory}
+use Rattle.lerc_cli.specs.Answer.{Ends, Files}
+use Rattle.lerc_cli.specs.Run.{Gained, OfOutput, given}
+use Rattle.lerc_cli.specs.Stop.{End}
+use Rattle.lerc_cli.specs.inside.Reads.{AsksOne, ReadsBlob, stop_of}
+use Rattle.lerc_cli.proofs.Whole.{done_blob}
+
+-- ---- one byte more
+
+pub none_more : (left new : Option (List ℕ)) (n : ℕ) (buf : List ℕ) → TakesFront left new n buf → n ≡ 0 → IsAtEnd new → AsksOne (Ok false) left new
+none_more None new n buf takes zero end = takes
+none_more (Some left) new n buf takes zero end =
+    let at : drop n left ≡ [] = subst IsAtEnd takes.0 end in (sym (ap (λ k. drop k left) zero) ∙ at, takes.0 ∙ ap Some at)
+
+pub some_more : (left new : Option (List ℕ)) (n : ℕ) (buf : List ℕ) → TakesFront left new n buf → n ≡ 1 → AsksOne (Ok true) left new
+some_more None new n buf takes one = takes
+some_more (Some left) new n buf takes one = (omega (arith, takes.1.0, one), takes.0 ∙ ap (λ k. Some (drop k left)) one)
+
+pub not_asked : (left new : Option (List ℕ)) (limit : ℕ) (e : Failed) → TakesUpTo limit left new → limit ≡ 0 → AsksOne (Err e) left new
+not_asked None new limit e takes zero = takes
+not_asked (Some left) new limit e (m, (few, (within, is))) zero = let none : m ≡ 0 = omega (arith, zero, few) in is ∙ ap (λ k. Some (drop k left)) none
+
+-- ---- what the source told
+
+pub wider : (left new : Option (List ℕ)) → TakesUpTo 134217728 left new → TakesUpTo 134217729 left new
+wider None new takes = takes
+wider (Some left) new (n, (few, (within, is))) = (n, (omega (arith, few), (within, is)))
+
+asked_more : (r : Result Bool Failed) (left : List ℕ) (n : ℕ) (new : Option (List ℕ)) → n ≤ 134217728 → n ≤ length left → AsksOne r (Some (drop n left)) new → TakesUpTo 134217729 (Some left) new
+asked_more (Ok true) left n new few within asks =
+    (n + 1, (omega (arith, few), (omega (arith, asks.0, length-drop n left), asks.1 ∙ ap Some (drop-drop 1 n left))))
+asked_more (Ok false) left n new few within asks = (n, (omega (arith, few), (within, asks.1 ∙ ap Some (sym asks.0))))
+asked_more (Err e) left n new few within asks = (n, (omega (arith, few), (within, asks)))
+
+pub takes_more : (r : Result Bool Failed) (left mid new : Option (List ℕ)) → TakesUpTo 134217728 left mid → AsksOne r mid new → TakesUpTo 134217729 left new
+takes_more r None mid new takes asks = let there : AsksOne r None new = subst (λ (o : Option (List ℕ)). AsksOne r o new) takes asks in there
+takes_more r (Some left) mid new (n, (few, (within, is))) asks = asked_more r left n new few within (subst (λ (o : Option (List ℕ)). AsksOne r o new) is asks)
+
+pub asked_end : (mid new : Option (List ℕ)) → AsksOne (Ok false) mid new → IsAtEnd new
+asked_end None new asks = subst IsAtEnd (sym asks) tt
+asked_end (Some rest) new asks = subst IsAtEnd (sym asks.1) refl
+
+pub reads_fault : (fault : FromFault) (left new : Option (List ℕ)) → IsSized (Err fault) left new → ReadsBlob left (Err (stop_of fault))
+reads_fault (FromBlob f) None new told = (f.reason, (refl, tt))
+reads_fault (FromBlob f) (Some input) new (taken, (rest, (j, (e, inl first)))) =
+    (f.reason, (refl, inside (subst (λ (u : List ℕ). FirstFault u f.place f.reason) (sym j) (fault_stays taken rest f.place f.reason first))))
+reads_fault (FromBlob f) (Some input) new (taken, (rest, (j, (e, inr (more, (none, is)))))) =
+    let all : input ≡ taken = j ∙ ap (λ u. taken ++ u) none ∙ append-nil taken in
+    (f.reason, (refl, cut (subst IsMore (sym all) more) (ap (λ (g : BlobFault). g.place) is ∙ ap length (sym all)) (ap (λ (g : BlobFault). g.reason) is)))
+reads_fault FromSource left new told = tt
+reads_fault FromMemory None new told = tt
+reads_fault FromMemory (Some input) new told = (told.header, told.stands)
+
+pub reads_whole : (d : Decoded) (left mid new : Option (List ℕ)) → IsRaster d.raster → IsSized (Ok d) left mid → AsksOne (Ok false) mid new → ReadsBlob left (Ok d.raster)
+reads_whole d None mid new raster told asks = (raster, tt)
+reads_whole d (Some input) mid new raster (taken, (rest, (j, (e, found)))) asks =
+    let none : AsksOne (Ok false) (Some rest) new = subst (λ (o : Option (List ℕ)). AsksOne (Ok false) o new) e asks in
+    let all : input ≡ taken = j ∙ ap (λ u. taken ++ u) none.0 ∙ append-nil taken in
+    (raster, subst (λ (u : List ℕ). Blob u d.raster) (sym all) (done_blob taken d.raster found.0))
+
+done_stays : (taken rest : List ℕ) (r : Pixels) → IsDone taken r (length taken) → IsDone (taken ++ rest) r (length taken)
+done_stays taken rest r done = verdict_stays taken rest (Done r (length taken)) done (λ is. cc)
+
+pub reads_leftover : (d : Decoded) (left mid new : Option (List ℕ)) → IsSized (Ok d) left mid → AsksOne (Ok true) mid new → ReadsBlob left (Err (Refused (record { reason = BlobReasonOf Leftover; place = d.size })))
+reads_leftover d None mid new told asks = (Leftover, (refl, tt))
+reads_leftover d (Some input) mid new (taken, (rest, (j, (e, found)))) asks =
+    let some : AsksOne (Ok true) (Some rest) new = subst (λ (o : Option (List ℕ)). AsksOne (Ok true) o new) e asks in
+    let done : IsDone input d.raster d.size = subst (λ (n : ℕ). IsDone input d.raster n) (sym found.1) (subst (λ (u : List ℕ). IsDone u d.raster (length taken)) (sym j) (done_stays taken rest d.raster found.0)) in
+    (Leftover, (refl, behind d.raster done (omega (arith, found.1, ap length j, length-append taken rest, some.0)) refl))
+
+-- ---- why the source's count rose
+
+pub fault_cause : (fault : FromFault) (old new : ℕ) → CountsSource {X = Decoded} (Err fault) old new → IsCause (stop_of fault ≡ Source) old new
+fault_cause (FromBlob f) old new same = record { counts = omega (arith, same); failed = λ is. absurd cc; rose = λ rose. absurd (omega (arith, same, rose)) }
+fault_cause FromSource old new counts = record { counts = counts.0; failed = λ is. counts.1; rose = λ rose. refl }
+fault_cause FromMemory old new same = record { counts = omega (arith, same); failed = λ is. absurd cc; rose = λ rose. absurd (omega (arith, same, rose)) }
+
+-- ---- a stop before the output began
+
+tt_true : IsTrue true
+tt_true = search rules
+
+never_output : (input : Option (List ℕ)) (stop : Stop) (end : End) → end ≡ Err stop → end ≡ Err Output → ReadsBlob input (Err stop) → ⊥
+never_output input stop end one two read = let same : stop ≡ Output = cc in let none : ReadsBlob input (Err Output) = subst (λ (s : Stop). ReadsBlob input (Err s)) same read in none
+
+gained_none : (input : Option (List ℕ)) (stop : Stop) (old new : Option (List ℕ)) → ReadsBlob input (Err stop) → Holds old new [] → Gained (Err stop) old new []
+gained_none input Usage old new read none = none
+gained_none input (Refused f) old new read none = none
+gained_none input Source old new read none = none
+gained_none input Output old new read none = absurd read
+gained_none input Volume old new read none = none
+gained_none input OutOfMemory old new read none = none
+
+gained : (input : Option (List ℕ)) (stop : Stop) (old new : Option (List ℕ)) → ReadsBlob input (Err stop) → new ≡ old → Gained (Err stop) old new []
+gained input stop old new read same = gained_none input stop old new read (subst (λ (x : Option (List ℕ)). Holds old x []) (sym same) (Holds_none old))
+
+-- what a command that reads one blob has meant to give
+decoded_stop : (input : Option (List ℕ)) (files : Option Files) (stop : Stop) → ReadsBlob input (Err stop) → Ends Decode (given input files) 0 (Err stop) []
+decoded_stop input files Usage read = read
+decoded_stop input files (Refused f) read = (read, refl)
+decoded_stop input files Source read = (tt_true, refl, refl)
+decoded_stop input files Output read = absurd read
+decoded_stop input files Volume read = absurd read
+decoded_stop input files OutOfMemory read = (read, refl, refl)
+
+-- it was stopped before the output
+pub stopped_output : (K : Type 0) (held : K → Option (List ℕ)) (faults : K → ℕ) (out out_new : K) (input : Option (List ℕ)) (files : Option Files) (stop : Stop)
+    → out_new ≡ out → ReadsBlob input (Err stop) → OfOutput Decode (given input files) 0 (Err stop) (out_new ≡ out) (held out) (held out_new) (faults out) (faults out_new)
+stopped_output K held faults out out_new input files stop same read = record {
+  cause = record {
+    counts = (let e : faults out_new ≡ faults out = ap faults same in omega arith);
+    failed = λ is. absurd (never_output input stop (Err stop) refl is read);
+    rose = λ rose. (let e : faults out_new ≡ faults out = ap faults same in absurd (omega arith));
+  };
+  gave = ([], (decoded_stop input files stop read, gained input stop (held out) (held out_new) read (ap held same)));
+  idle = λ _. same;
+}
