@@ -31,6 +31,3 @@ pub use laws::{
 pub use recovery::{Recovery, recover};
 pub use session::Session;
 pub use tile_rec::TileRec;
-
-#[cfg(test)]
-mod tests;
