@@ -27,4 +27,3 @@ pub counted : (ps : List (Option (List ℤ))) → count_by is_some ps ≡ count_
 counted [] = refl
 counted (p ∷ ps) =
     sum_by-cons (λ (x : Option (List ℤ)). cond (is_some x) 1 0) p ps ∙ ap (λ n. cond (is_some p) 1 0 + n) (counted ps) ∙ sym (sum_by-cons (λ (b : Bool). cond b 1 0) (is_some p) (map is_some ps))
-

@@ -54,14 +54,17 @@ pub form_fault : (h : Header) (rest : List ℕ) (used place : ℕ) (equal : Bool
     → image_faults_of outside h rest (used + place) reason
 form_fault h rest used place equal reason some other s w =
     let behind = take (length rest - used) (drop used rest) in
-    inr (not_bare h some other, inr (record {
-      front = take used rest;
-      rest = behind;
-      value = s.front;
-      joined = (lists_of h rest behind used equal s refl).joined;
-      stands = s.stands;
-      later = (place, (ap (λ k. k + place) (sym (length-take-le used rest s.within)), tested equal s.front (ends Leftover behind) (coded_of (outside None) behind) place reason s.tells w));
-    }))
+    inr (
+      not_bare h some other,
+      inr (record {
+        front = take used rest;
+        rest = behind;
+        value = s.front;
+        joined = (lists_of h rest behind used equal s refl).joined;
+        stands = s.stands;
+        later = (place, (ap (λ k. k + place) (sym (length-take-le used rest s.within)), tested equal s.front (ends Leftover behind) (coded_of (outside None) behind) place reason s.tells w));
+      }),
+    )
 
 -- ---- one form
 

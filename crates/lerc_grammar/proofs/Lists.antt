@@ -62,9 +62,10 @@ two_lists kind n bytes are size =
 
 -- equal values, equal bytes
 pub same_bytes : (kind : PixelType) (n : ℕ) (bytes : List ℕ) (l : TwoLists kind n bytes) → (l.least ≡ l.greatest) ↔ (take (n * bytes_of kind) bytes ≡ drop (n * bytes_of kind) bytes)
-same_bytes kind n bytes l =
-    (λ e. l.least_bytes ∙ ap (values_bytes kind) e ∙ sym l.greatest_bytes,
-    λ e. values_bytes_once kind l.least l.greatest l.least_in l.greatest_in (sym l.least_bytes ∙ e ∙ l.greatest_bytes))
+same_bytes kind n bytes l = (
+  λ e. l.least_bytes ∙ ap (values_bytes kind) e ∙ sym l.greatest_bytes,
+  λ e. values_bytes_once kind l.least l.greatest l.least_in l.greatest_in (sym l.least_bytes ∙ e ∙ l.greatest_bytes),
+)
 
 pub front_span_v4 : (h : Header) (rest : List ℕ) (size : ℕ) (equal : Bool) → h.version ≡ V4 → AreBytes rest → size ≡ h.depth * bytes_of h.kind → size + size ≤ length rest
     → IsTrue equal ↔ (take size rest ≡ take (2 * size - size) (drop size rest)) → IsFrontSpan h rest (2 * size) equal

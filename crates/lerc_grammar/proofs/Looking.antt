@@ -46,11 +46,19 @@ mask_outside pixels valid rest p r w =
 pub mask_inside : (pixels valid : ℕ) (rest : List ℕ) (n p : ℕ) (r : BlobReason) → ¬ IsAlike pixels valid → i32_at rest 0 ≡ pos n → 0 < n → 4 + n ≤ length rest
     → runs_faults pixels valid (take n (drop 4 rest)) p r → mask_faults pixels valid rest (4 + p) r
 mask_inside pixels valid rest n p r other number some long w =
-    inl (omega (arith, long),
-    inl ((omega (arith, ints, number), λ same. absurd (other same)),
-    inr (other,
-    inl ((λ zero_. absurd (let e : n ≡ 0 = (let same : pos n ≡ pos 0 = sym number ∙ zero_ in cc) in omega (arith, e, some))),
-    (n, (number, inl (long, (p, (refl, w)))))))))
+    inl (
+      omega (arith, long),
+      inl (
+        (omega (arith, ints, number), λ same. absurd (other same)),
+        inr (
+          other,
+          inl (
+            (λ zero_. absurd (let e : n ≡ 0 = (let same : pos n ≡ pos 0 = sym number ∙ zero_ in cc) in omega (arith, e, some))),
+            (n, (number, inl (long, (p, (refl, w))))),
+          ),
+        ),
+      ),
+    )
 
 -- ---- images
 
@@ -67,24 +75,30 @@ behind_outside h marks front rest p r w = failing_choice (AreEqual front) (coded
 pub image_outside : (h : Header) (marks : List Bool) (rest : List ℕ) (p : ℕ) (r : BlobReason) → image_faults_of outside h rest p r → image_faults h marks rest p r
 image_outside h marks rest p r (inl w) = inl w
 image_outside h marks rest p r (inr (bare, inl w)) = inr (bare, inl w)
-image_outside h marks rest p r (inr (bare, inr s)) = inr (bare, inr (record {
-  front = s.front;
-  rest = s.rest;
-  value = s.value;
-  joined = s.joined;
-  stands = s.stands;
-  later = (s.later.0, (s.later.1.0, behind_outside h marks s.value s.rest s.later.0 r s.later.1.1));
-}))
+image_outside h marks rest p r (inr (bare, inr s)) = inr (
+  bare,
+  inr (record {
+    front = s.front;
+    rest = s.rest;
+    value = s.value;
+    joined = s.joined;
+    stands = s.stands;
+    later = (s.later.0, (s.later.1.0, behind_outside h marks s.value s.rest s.later.0 r s.later.1.1));
+  }),
+)
 
 -- what is wrong in a sweep is wrong with the image
 pub image_inside : (h : Header) (marks : List Bool) (rest values : List ℕ) (front : Option Ends) (p : ℕ) (r : BlobReason) → ¬ IsBare h → ¬ AreEqual front
     → (l : HasLists h rest front (1 ∷ values)) → sweep_faults h values p r → image_faults h marks rest (length l.lists + (1 + p)) r
 image_inside h marks rest values front p r bare other l w =
-    inr (bare, inr (record {
-      front = l.lists;
-      rest = 1 ∷ values;
-      value = front;
-      joined = l.joined;
-      stands = l.stand;
-      later = (1 + p, (refl, inr (other, inl (omega arith, inl (omega arith, (p, (refl, inl (refl, w))))))));
-    }))
+    inr (
+      bare,
+      inr (record {
+        front = l.lists;
+        rest = 1 ∷ values;
+        value = front;
+        joined = l.joined;
+        stands = l.stand;
+        later = (1 + p, (refl, inr (other, inl (omega arith, inl (omega arith, (p, (refl, inl (refl, w))))))));
+      }),
+    )

@@ -278,11 +278,7 @@ fn place_behind(header: &Header, mask: &MaskForm) -> usize
 }
 
 /// The form of the image, or what is wrong with it first.
-fn first_image_form(
-    blob: &[u8],
-    header: &Header,
-    mask: &MaskForm,
-) -> Result<ImageForm, BlobFault>
+fn first_image_form(blob: &[u8], header: &Header, mask: &MaskForm) -> Result<ImageForm, BlobFault>
     requires depth { header.now.depth ≤ 65536 }
     requires mask { IsMaskForm header.now blob.now mask.now }
     ensures ok { IfOk result (λ form. IsImageForm header.now blob.now mask.now form) }
@@ -300,11 +296,7 @@ fn first_image_form(
 ///
 /// It does not look at the values, but tells bytes that are left over where there are none. It takes no
 /// memory.
-pub fn image_part(
-    blob: &[u8],
-    header: &Header,
-    mask: &MaskForm,
-) -> Result<ImageForm, BlobFault>
+pub fn image_part(blob: &[u8], header: &Header, mask: &MaskForm) -> Result<ImageForm, BlobFault>
     requires head { HeadAt blob.now header.now }
     requires size { length blob.now ≡ header.now.size }
     requires mask { IsMaskForm header.now blob.now mask.now }
