@@ -1,15 +1,15 @@
 -- The parts of a grid, read one behind the other.
-use Rattle.std.proofs.Common.{◌≡◌, ℕ, ◌+◌, ◌*◌, ◌<◌, ◌≤◌, Bool, cond, List, [], ◌∷◌, ◌++◌, length, map, Option, Some, None, refl, sym, ap, ◌∙◌, subst, arith, append_assoc, length-append, inl, inr}
+use Rattle.std.proofs.Common.{◌≡◌, ℕ, ◌+◌, ◌*◌, ◌≤◌, Bool, cond, List, [], ◌∷◌, ◌++◌, length, map, Option, Some, None, refl, sym, ap, ◌∙◌, subst, arith, append_assoc, length-append, inl, inr}
 use Rattle.std.specs.Prelude.{ℤ, is_some, fold}
 use Rattle.std.proofs.lemmas.List.{length-map}
 use Rattle.std.proofs.Math.Nat.{mul-le-mul_left}
-use Rattle.first_fault.specs.Faults.{Faults, moved}
+use Rattle.first_fault.specs.Faults.{Faults}
 use Rattle.raster_values.specs.declared.reading.Head.{Head}
 use Rattle.raster_values.specs.declared.reading.GridReason.{GridReason}
 use Rattle.raster_values.specs.declared.reading.GridStop.{GridStop}
 use Rattle.raster_values.specs.declared.reading.GridStop.TheVariants.{Fault, Source, OutOfMemory}
 use Rattle.raster_values.specs.PixelType.{bytes_of}
-use Rattle.raster_values.specs.Raster.{Pixels, IsRaster, IsShape, blank, values_of, valid_count}
+use Rattle.raster_values.specs.Raster.{Pixels, IsRaster, blank, values_of, valid_count}
 use Rattle.raster_values.specs.Places.{SameShape}
 use Rattle.raster_values.specs.Block.{SameMask}
 use Rattle.raster_values.specs.Values.{AreValues}

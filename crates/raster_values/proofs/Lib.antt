@@ -1,4 +1,6 @@
 pub mod Views
+pub mod MaskBits
+pub mod MaskCounts
 pub mod Points
 pub mod Same
 pub mod Places

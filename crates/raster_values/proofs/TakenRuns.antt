@@ -1,5 +1,5 @@
 -- Runs of values taken from a source.
-use Rattle.std.proofs.Common.{◌≡◌, ℕ, ◌+◌, ◌-◌, ◌*◌, ◌<◌, ◌≤◌, ◌++◌, Bool, List, length, ap, ◌∙◌, sym, subst, arith}
+use Rattle.std.proofs.Common.{◌≡◌, ℕ, ◌-◌, ◌*◌, ◌≤◌, ◌++◌, Bool, List, length, ap, ◌∙◌, sym, subst, arith}
 use Rattle.std.specs.Prelude.{ℤ}
 use Rattle.std.proofs.Math.Nat.{mul-le-mul}
 use Rattle.raster_values.specs.declared.kind.PixelType.{PixelType}

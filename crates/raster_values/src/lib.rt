@@ -11,6 +11,7 @@ mod cells;
 mod grid;
 mod kind;
 mod laws;
+mod mask;
 mod order;
 mod raster;
 mod reading;

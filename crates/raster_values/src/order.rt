@@ -1,4 +1,4 @@
-//! The two vectors of a raster in order: values one behind the other, and the mask as bytes.
+//! The values of a raster in order: one behind the other.
 
 ghost use Rattle.std.specs.Prelude.{◌≡◌, ℕ, ◌+◌, ◌-◌, ◌*◌, ◌/◌, ◌<◌, ◌≤◌, ◌++◌, [], ◌∷◌, pos, length, get_or, take, drop, All, true, false};
 ghost use Rattle.raster_values.specs.PixelType.{InRange, bytes_of};
@@ -9,10 +9,10 @@ ghost use Rattle.raster_values.specs.Grid.{values_bytes};
 ghost use Rattle.raster_values.specs.inside.Ordered.{FillsMarked, KeepsUnmarked, PutsMarked};
 
 use super::cells::Cells;
-use super::grid::run_end;
+use super::mask::Mask;
 
 /// Gives each marked pixel this list of values, one for each depth.
-pub(super) fn fill_marked(marks: &[bool], pixel: &[i64], values: &mut Cells)
+pub(super) fn fill_marked(marks: &Mask, pixel: &[i64], values: &mut Cells)
     requires size { length values.old.values ≡ length marks.now * length pixel.now }
     requires few { length values.old.values ≤ 16777216 }
     requires in_range { All (InRange values.old.kind) pixel.now }
@@ -25,14 +25,14 @@ pub(super) fn fill_marked(marks: &[bool], pixel: &[i64], values: &mut Cells)
 {
     let depth = pixel.len();
     for k in 0..marks.len() {
-        if marks[k] {
+        if marks.get(k) {
             values.put_run(k * depth, pixel);
         }
     }
 }
 
 /// Gives the marked pixels the values that the bytes stand for, run by run.
-pub(super) fn pour_bytes(marks: &[bool], depth: usize, bytes: &[u8], values: &mut Cells)
+pub(super) fn pour_bytes(marks: &Mask, depth: usize, bytes: &[u8], values: &mut Cells)
     requires size { length values.old.values ≡ length marks.now * depth }
     requires few { length values.old.values ≤ 16777216 }
     requires count { length bytes.now ≡ length (values_of
@@ -49,23 +49,14 @@ pub(super) fn pour_bytes(marks: &[bool], depth: usize, bytes: &[u8], values: &mu
     let mut at = 0;
     let mut from = 0;
     while at < marks.len() {
-        let start = run_end(marks, at, false);
-        let end = run_end(marks, start, true);
+        let start = marks.run_end(at, false);
+        let end = marks.run_end(start, true);
         let count = (end - start) * depth;
         let next = from + count * size;
         values.put_bytes(start * depth, count, &bytes[from..next]);
         from = next;
         at = end;
     }
-}
-
-/// The marks from `place` on.
-pub(super) fn copy_marks(marks: &[bool], place: usize, out: &mut [bool])
-    requires { place + length out.old ≤ length marks.now }
-    ensures { out.new ≡ take (length out.old) (drop place marks.now) }
-{
-    let end = place + out.len();
-    out.copy_from_slice(&marks[place..end]);
 }
 
 /// The values at a depth of the pixels from `place` on.
@@ -84,7 +75,7 @@ pub(super) fn copy_values(values: &Cells, depth: usize, d: usize, place: usize, 
 
 /// Gives the marked ones among the pixels from `place` on these values at a depth.
 pub(super) fn put_values(
-    marks: &[bool],
+    marks: &Mask,
     depth: usize,
     d: usize,
     place: usize,
@@ -105,14 +96,14 @@ pub(super) fn put_values(
 {
     for (i, value) in input.iter().enumerate() {
         let k = place + i;
-        if marks[k] {
+        if marks.get(k) {
             values.set(k * depth + d, *value);
         }
     }
 }
 
 /// The bytes of the marked pixels' values, run by run.
-pub(super) fn write_valid(marks: &[bool], depth: usize, values: &Cells, out: &mut [u8])
+pub(super) fn write_valid(marks: &Mask, depth: usize, values: &Cells, out: &mut [u8])
     requires size { length values.now.values ≡ length marks.now * depth }
     requires few { length values.now.values ≤ 16777216 }
     requires room { length out.old ≡ length (values_of
@@ -124,35 +115,12 @@ pub(super) fn write_valid(marks: &[bool], depth: usize, values: &Cells, out: &mu
     let mut at = 0;
     let mut from = 0;
     while at < marks.len() {
-        let start = run_end(marks, at, false);
-        let end = run_end(marks, start, true);
+        let start = marks.run_end(at, false);
+        let end = marks.run_end(start, true);
         let count = (end - start) * depth;
         let next = from + count * size;
         out[from..next].copy_from_slice(values.bytes_of_run(start * depth, count));
         from = next;
         at = end;
-    }
-}
-
-/// Eight marks as the bits of a byte, the first of them highest. Those behind the last mark count as 0.
-fn byte_of_marks(marks: &[bool], from: usize) -> u8
-    requires { from ≤ length marks.now }
-    ensures { (j : ℕ) → j < 8 → mask_bit (result ∷ []) j ≡ get_or marks.now (from + j) false }
-{
-    let mut byte = 0;
-    for j in 0..8 {
-        let mark = from + j < marks.len() && marks[from + j];
-        byte = byte * 2 + u8::from(mark);
-    }
-    byte
-}
-
-/// The marks as bits, the highest of each byte first. The bits behind the last mark are 0.
-pub(super) fn bytes_of_marks(marks: &[bool], out: &mut [u8])
-    requires { length out.old ≡ (length marks.now + 7) / 8 }
-    ensures { (k : ℕ) → mask_bit out.new k ≡ get_or marks.now k false }
-{
-    for i in 0..out.len() {
-        out[i] = byte_of_marks(marks, i * 8);
     }
 }

@@ -60,4 +60,4 @@ loop-at-preserved c =
     }
 
 pub returns-clause-poured : goal.returns-clause-poured
-returns-clause-poured c = poured_all c.args.values.now.kind c.args.depth c.args.marks.now c.args.bytes.now c.args.values.now.values c.loop-at.values.values c.loop-at.at c.loop-at.from c.loop-at-test.false c.loop-at.invariant.pours
+returns-clause-poured c = poured_all c.args.values.now.kind c.args.depth c.args.marks.now c.args.bytes.now c.args.values.now.values c.loop-at.values.values c.loop-at.at c.loop-at.from (let e : length c.args.marks.now ≤ c.loop-at.at = omega (arith, c.len.ensures.value, c.loop-at-test.false) in e) c.loop-at.invariant.pours

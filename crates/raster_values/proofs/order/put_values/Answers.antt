@@ -10,7 +10,7 @@ use Rattle.raster_values.specs.inside.Ordered.{PutsMarked}
 use Rattle.raster_values.proofs.Views.{same_bits}
 use Rattle.raster_values.proofs.RunSteps.{element_below}
 use Rattle.raster_values.proofs.OrderSteps.{puts_on, puts_off}
-use Rattle.raster_values.proofs.order.put_values.Goals.{then-marks-k, else-marks-k}
+use Rattle.raster_values.proofs.order.put_values.Goals.{then-get, else-get}
 use Rattle.raster_values.proofs.order.put_values.Goals as goal
 
 pub loop-i-preserved : goal.loop-i-preserved
@@ -26,25 +26,25 @@ loop-i-preserved c =
     let kind = c.args.values.now.kind in
     let full : length old ≡ length marks * depth = c.loop-i.invariant.size ∙ c.requires.size in
     let inside : (place + i) * depth + d < length old = element_below (place + i) d depth (length marks) (length old) (omega (arith, c.requires.within)) c.requires.depth full in
-    elim c.if-marks-k.branch [
-      | then-marks-k w ↦
+    elim c.if-get.branch [
+      | then-get w ↦
           let x = to_z w64 (of_z w64 (get_or input i (pos 0))) in
           let fits : InRange kind (get_or input i (pos 0)) = c.requires.in_range i (pos 0) (omega arith) in
           let same : x ≡ get_or input i (pos 0) = same_bits kind (get_or input i (pos 0)) fits in
-          let after : c.if-marks-k.values ≡ record c.loop-i.values { values = set old ((place + i) * depth + d) x } = w.values-is ∙ w.set.ensures in
-          let is : c.if-marks-k.values.values ≡ set old ((place + i) * depth + d) x = ap (λ (l : CellList). l.values) after in
+          let after : c.if-get.values ≡ record c.loop-i.values { values = set old ((place + i) * depth + d) x } = w.values-is ∙ w.set.ensures in
+          let is : c.if-get.values.values ≡ set old ((place + i) * depth + d) x = ap (λ (l : CellList). l.values) after in
           record {
             kind = ap (λ (l : CellList). l.kind) after ∙ c.loop-i.invariant.kind;
             in_range = λ before. subst (All (InRange kind)) (sym is) (All-set (InRange kind) old ((place + i) * depth + d) x (subst (InRange kind) (sym same) fits) (c.loop-i.invariant.in_range before));
             size = ap length is ∙ length-set old ((place + i) * depth + d) x ∙ c.loop-i.invariant.size;
-            put = subst (PutsMarked depth d marks place (i + 1) input first) (sym is) (puts_on depth d marks place i input first old x c.requires.depth inside w.if-marks-k.true same c.loop-i.invariant.put);
+            put = subst (PutsMarked depth d marks place (i + 1) input first) (sym is) (puts_on depth d marks place i input first old x c.requires.depth inside (sym c.get.ensures ∙ w.if-get.true) same c.loop-i.invariant.put);
           }
-      | else-marks-k w ↦
-          let is : c.if-marks-k.values.values ≡ old = ap (λ (l : CellList). l.values) w.values-is in
+      | else-get w ↦
+          let is : c.if-get.values.values ≡ old = ap (λ (l : CellList). l.values) w.values-is in
           record {
             kind = ap (λ (l : CellList). l.kind) w.values-is ∙ c.loop-i.invariant.kind;
             in_range = λ before. subst (All (InRange kind)) (sym is) (c.loop-i.invariant.in_range before);
             size = ap length is ∙ c.loop-i.invariant.size;
-            put = subst (PutsMarked depth d marks place (i + 1) input first) (sym is) (puts_off depth d marks place i input first old w.if-marks-k.false c.loop-i.invariant.put);
+            put = subst (PutsMarked depth d marks place (i + 1) input first) (sym is) (puts_off depth d marks place i input first old (sym c.get.ensures ∙ w.if-get.false) c.loop-i.invariant.put);
           }
     ]

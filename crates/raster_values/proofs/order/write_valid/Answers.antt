@@ -1,6 +1,5 @@
-use Rattle.std.proofs.Common.{◌≡◌, ◌≤◌, ◌+◌, ◌-◌, ◌*◌, ap, ◌∙◌, sym, length, take, drop, arith, rules}
+use Rattle.std.proofs.Common.{◌≡◌, ◌≤◌, ◌+◌, ◌-◌, ◌*◌, ap, ◌∙◌, sym, length, arith, rules}
 use Rattle.raster_values.specs.PixelType.{bytes_of}
-use Rattle.raster_values.specs.Grid.{values_bytes}
 use Rattle.raster_values.proofs.MarkedRuns.{AreRuns}
 use Rattle.raster_values.proofs.Poured.{writes_none, writes_within, writes_more, written_all, run_within, run_bytes, piece_long}
 use Rattle.raster_values.proofs.order.write_valid.Goals as goal
@@ -48,4 +47,4 @@ loop-at-preserved c =
     (ap (λ n. c.loop-at.from + n) same) (c.copy_from_slice.ensures.after ∙ c.bytes_of_run.ensures) c.loop-at.invariant
 
 pub returns : goal.returns
-returns c = written_all c.args.values.now.kind c.args.depth c.args.marks.now c.args.values.now.values (length c.args.out.now) c.loop-at.out c.loop-at.at c.loop-at.from c.loop-at-test.false c.loop-at.auto.out c.loop-at.invariant
+returns c = written_all c.args.values.now.kind c.args.depth c.args.marks.now c.args.values.now.values (length c.args.out.now) c.loop-at.out c.loop-at.at c.loop-at.from (let e : length c.args.marks.now ≤ c.loop-at.at = omega (arith, c.len.ensures.value, c.loop-at-test.false) in e) c.loop-at.auto.out c.loop-at.invariant

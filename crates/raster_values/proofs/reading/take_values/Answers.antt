@@ -1,11 +1,10 @@
-use Rattle.std.proofs.Common.{◌≡◌, ◌≤◌, ◌<◌, ◌+◌, ◌-◌, ◌*◌, ◌^◌, ◌++◌, ℕ, List, [], take, length, ap, ◌∙◌, sym, subst, arith, refl}
-use Rattle.std.proofs.lemmas.List.{length-take-le, length-append, take_all, append_assoc}
+use Rattle.std.proofs.Common.{◌≡◌, ◌≤◌, ◌<◌, ◌+◌, ◌-◌, ◌*◌, ◌^◌, ◌++◌, ℕ, [], take, length, ap, ◌∙◌, sym, subst, arith, refl}
+use Rattle.std.proofs.lemmas.List.{length-take-le, length-append, take_all}
 use Rattle.raster_values.specs.declared.kind.PixelType.{PixelType}
 use Rattle.raster_values.specs.declared.reading.GridReason.{GridReason}
 use Rattle.raster_values.specs.declared.reading.GridStop.{GridStop}
 use Rattle.raster_values.specs.PixelType.{bytes_of}
 use Rattle.raster_values.specs.Raster.{values_of}
-use Rattle.raster_values.specs.Grid.{values_bytes}
 use Rattle.raster_values.specs.ReadGrid.{TookBytes, IsToldFault, value_faults}
 use Rattle.raster_values.specs.inside.CellList.{CellList}
 use Rattle.raster_values.specs.inside.View.{pixels_of}
@@ -214,5 +213,5 @@ pub returns-clause-ok : goal.returns-clause-ok
 returns-clause-ok g c =
     let kind = c.args.values.now.kind in
     subst (TookBytes (g.S.Source.left c.args.src.now) (g.S.Source.left c.loop-done.src))
-    (sym (filled_all kind c.args.depth c.args.marks.now _ c.loop-done.invariant.read c.args.values.now.values c.loop-done.values.values c.loop-done.done c.loop-done-test.false c.loop-done.invariant.fills))
+    (sym (filled_all kind c.args.depth c.args.marks.now _ c.loop-done.invariant.read c.args.values.now.values c.loop-done.values.values c.loop-done.done (let e : length c.args.marks.now ≤ c.loop-done.done = omega (arith, c.len.ensures.value, c.loop-done-test.false) in e) c.loop-done.invariant.fills))
     c.loop-done.invariant.took
