@@ -19,6 +19,7 @@ pub mod InOrder
 pub mod Blank
 pub mod Spelled
 pub mod MarkedRuns
+pub mod PixelSteps
 pub mod OrderSteps
 pub mod Poured
 pub mod Deep

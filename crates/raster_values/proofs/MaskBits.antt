@@ -1,6 +1,6 @@
 -- How the bytes of a mask stand for its marks.
 use Rattle.std.proofs.Common.{◌≡◌, ◌≢◌, ℕ, ◌+◌, ◌-◌, ◌*◌, ◌/◌, ◌%◌, ◌^◌, ◌<◌, ◌≤◌, zero, suc, Bool, true, false, cond, List, [], ◌∷◌, ◌++◌, length, get_or, replicate, set, take, drop, map, refl, sym, ap, ◌∙◌, subst, arith, ⊎_elim, ◌&&◌}
-use Rattle.std.specs.Prelude.{nat_eq, nat_lt}
+use Rattle.std.specs.Prelude.{nat_eq, nat_lt, IsTrue}
 use Rattle.std.specs.List.{count_by, filter, range_with_len}
 use Rattle.std.proofs.lemmas.List.{ext_get_or, get_or_past, get_or-set_same, get_or-set_other, length-set, length-replicate, get_or-replicate, map-append, length-map, get_or-map}
 use Rattle.std.proofs.lemmas.List.FromFn.{length-range_with_len, get_or-range_with_len}
@@ -64,6 +64,11 @@ bit_in_front byte count q above below within =
     let gone : min (bit_at byte (7 - q)) (bit_at (2 ^ 8 - 2 ^ k) (7 - q)) ≡ 0 = omega (arith, none) in
     ap (λ n. nat_eq n 1) (both ∙ gone) ∙ ap (λ u. u && byte_bit byte q) (sym t))
     (cases_lt q count)
+
+pub full_byte : (byte q : ℕ) → IsTrue (nat_eq byte 255) → q < 8 → byte_bit byte q ≡ true
+full_byte byte q e within =
+    let all : byte ≡ 255 = grind (arith, nat_tests) in
+    ap (λ n. byte_bit n q) all ∙ ap (λ n. nat_eq n 1) (bit_at_ones 8 (7 - q) (omega arith))
 
 -- ---- marks
 
@@ -227,3 +232,10 @@ run_counted a new marks read after_read from before after h within bits r s b e 
     let n = length marks in
     count_after ms _ a.bytes.items new marks from a.valid before after within (bit_is a h) (λ k. bits k ∙ run_marks a.bytes.items ms marks from k within (bit_is a h)) refl h.counted
     (b ∙ ap (λ xs. length (filter (mask_bit xs) (range_with_len from n))) r) (e ∙ ap (λ xs. length (filter (mask_bit xs) (range_with_len from n))) s)
+
+-- the marks that the bits of one byte say
+pub one_byte : (a : Inside) (ms : List Bool) (at k : ℕ) (byte : ℕ) (mark : Bool) → IsMask a → seen_mask a ≡ ms → at % 8 ≡ 0 → at ≤ k → k < at + 8 → byte ≡ get_or a.bytes.items (at / 8) 0
+    → ((q : ℕ) → q < 8 → byte_bit byte q ≡ mark) → get_or ms k false ≡ mark
+one_byte a ms at k byte mark h e even low high is full =
+    let here : k / 8 ≡ at / 8 = omega arith in
+    ap (λ (xs : List Bool). get_or xs k false) (sym e) ∙ sym (bit_is a h k) ∙ ap (λ i. byte_bit (get_or a.bytes.items i 0) (k % 8)) here ∙ ap (λ b. byte_bit b (k % 8)) (sym is) ∙ full (k % 8) (omega arith)

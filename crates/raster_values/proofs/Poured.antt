@@ -18,7 +18,8 @@ use Rattle.raster_values.specs.inside.Ordered.{KeepsUnmarked}
 use Rattle.raster_values.proofs.Pack.{apart, length-values_bytes}
 use Rattle.raster_values.proofs.CellBytes.{with_run, length-values_in}
 use Rattle.raster_values.proofs.Spelled.{AreBytes, bytes_of_values, bytes_put, put_as_run, length-bytes_put, bytes_put_in_range}
-use Rattle.raster_values.proofs.MarkedRuns.{front_values, back_values, none_before, none_behind, all_before, AreRuns, front_more, fits_more, put_front, put_behind, put_rest}
+use Rattle.raster_values.specs.inside.Runs.{AreRuns}
+use Rattle.raster_values.proofs.MarkedRuns.{front_values, back_values, none_before, none_behind, all_before, front_more, fits_more, put_front, put_behind, put_rest}
 
 -- all of the values stand behind the first 0
 pub back_all : (depth : ℕ) (marks : List Bool) (vs : List ℤ) → back_values depth 0 marks vs ≡ values_of (pixels_of depth marks vs)

@@ -26,46 +26,15 @@ fn gather_run(
     requires room { at + count ≤ length out.old }
     ensures { Gathers (run_values depth d marks.now values.now.values from count) out.old out.new at result }
 {
+    let end = from + count;
     let mut n = at;
-    for k in from..from + count {
-        if marks.get(k) {
-            out[n] = values.get(k * depth + d);
-            n += 1;
-        }
-    }
-    n
-}
-
-/// Does what `pour_run` does, a pixel at a time.
-fn pour_marked(
-    marks: &Mask,
-    depth: usize,
-    d: usize,
-    from: usize,
-    count: usize,
-    input: &[i64],
-    at: usize,
-    values: &mut Cells,
-) -> usize
-    requires size { length values.old.values ≡ length marks.now * depth }
-    requires few { length values.old.values ≤ 16777216 }
-    requires within { from + count ≤ length marks.now }
-    requires depth { d < depth }
-    requires in_range { All (InRange values.old.kind) input.now }
-    requires room { at + length (run_places marks.now from count) ≤ length input.now }
-    ensures end { result ≡ at + length (run_places marks.now from count) }
-    ensures poured { take at input.now ++ run_values depth d marks.now values.new.values from count ≡ take result input.now }
-    ensures kind { values.new.kind ≡ values.old.kind }
-    ensures in_range { All (InRange values.old.kind) values.old.values → All (InRange values.old.kind) values.new.values }
-    ensures size { length values.new.values ≡ length values.old.values }
-    ensures rest { LeavesRun depth d marks.now from count values.old.values values.new.values }
-{
-    let mut n = at;
-    for k in from..from + count {
-        if marks.get(k) {
-            values.set(k * depth + d, input[n]);
-            n += 1;
-        }
+    let mut k = from;
+    while k < end {
+        let run = marks.next_run(k, end);
+        let next = n + (run.end - run.start);
+        values.get_pixels(run.start, depth, d, &mut out[n..next]);
+        n = next;
+        k = run.end;
     }
     n
 }
@@ -95,11 +64,17 @@ fn pour_run(
     ensures size { length values.new.values ≡ length values.old.values }
     ensures rest { LeavesRun depth d marks.now from count values.old.values values.new.values }
 {
-    if depth == 1 && marks.count_run(from, count) == count {
-        values.put_run(from, &input[at..at + count]);
-        return at + count;
+    let end = from + count;
+    let mut n = at;
+    let mut k = from;
+    while k < end {
+        let run = marks.next_run(k, end);
+        let next = n + (run.end - run.start);
+        values.put_pixels(run.start, depth, d, &input[n..next]);
+        n = next;
+        k = run.end;
     }
-    pour_marked(marks, depth, d, from, count, input, at, values)
+    n
 }
 
 /// How many pixels of a block are marked.

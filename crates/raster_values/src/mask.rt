@@ -1,10 +1,10 @@
 //! The mask of a raster, as bytes.
 
-ghost use Rattle.std.specs.Prelude.{◌≡◌, ℕ, ◌+◌, ◌*◌, ◌/◌, ◌<◌, ◌≤◌, Bool, List, IfOk, length, get_or, replicate, slice_set, take, drop, nat_eq, nat_lt, map, ◌++◌, ◌-◌, true, false, if◌then◌else◌, ◌&&◌};
+ghost use Rattle.std.specs.Prelude.{◌≡◌, ℕ, ◌+◌, ◌*◌, ◌/◌, ◌<◌, ◌≤◌, Bool, List, IfOk, IsTrue, length, get_or, replicate, slice_set, take, drop, nat_eq, nat_lt, map, ◌++◌, ◌-◌, true, false, if◌then◌else◌, ◌&&◌};
 ghost use Rattle.std.specs.List.{count_by, filter, range_with_len};
 ghost use Rattle.raster_values.specs.Order.{mask_bit, marks_in};
 ghost use Rattle.raster_values.specs.inside.Bits.{byte_bit, bit_after};
-ghost use Rattle.raster_values.specs.inside.Runs.{run_places};
+ghost use Rattle.raster_values.specs.inside.Runs.{run_places, AreRuns};
 ghost use Rattle.raster_values.specs.inside.Pack.{mark_bytes};
 
 use std::alloc::{AllocError, Global};
@@ -31,6 +31,20 @@ impl Model for Mask {
     ghost view = { seen_mask };
 
     ghost invariant = { IsMask };
+}
+
+/// The pixels from number `start` on, up to number `end`.
+#[derive(Clone, Copy)]
+pub struct Run {
+    pub start: usize,
+    pub end: usize,
+}
+
+/// Whether each bit of a byte is `mark`.
+fn is_full(byte: u8, mark: bool) -> bool
+    ensures { IsTrue result → (q : ℕ) → q < 8 → byte_bit byte q ≡ mark }
+{
+    if mark { byte == 255 } else { byte == 0 }
 }
 
 /// The byte with a bit set or cleared, its bits counted from the highest.
@@ -275,18 +289,54 @@ impl Mask {
         }
     }
 
-    /// Where the run of equal marks that begins at `at` ends.
-    pub fn run_end(&self, at: usize, mark: bool) -> usize
-        requires { at ≤ length self.now }
-        ensures from { at ≤ result }
-        ensures within { result ≤ length self.now }
+    /// The first place behind a pixel with this mark, at most eight further, before which all have it.
+    fn past(&self, at: usize, limit: usize, mark: bool) -> usize
+        requires order { at < limit }
+        requires within { limit ≤ length self.now }
+        requires here { get_or self.now at false ≡ mark }
+        ensures from { at < result }
+        ensures within { result ≤ limit }
         ensures run { (k : ℕ) → at ≤ k → k < result → get_or self.now k false ≡ mark }
-        ensures end { result < length self.now → get_or self.now result false ≡ mark → ⊥ }
+    {
+        if at % 8 == 0 && is_full(self.bytes[at / 8], mark) {
+            return limit.min(at + 8);
+        }
+        at + 1
+    }
+
+    /// Where the run of equal marks from `at` on ends, which is looked for before `limit`.
+    pub fn run_end(&self, at: usize, limit: usize, mark: bool) -> usize
+        requires order { at ≤ limit }
+        requires within { limit ≤ length self.now }
+        ensures from { at ≤ result }
+        ensures within { result ≤ limit }
+        ensures run { (k : ℕ) → at ≤ k → k < result → get_or self.now k false ≡ mark }
+        ensures end { result < limit → get_or self.now result false ≡ mark → ⊥ }
     {
         let mut end = at;
-        while end < self.len() && self.get(end) == mark {
-            end += 1;
+        while end < limit && self.get(end) == mark {
+            end = self.past(end, limit, mark);
         }
         end
+    }
+
+    /// The next run of valid pixels from `at` on, before `limit`. It is empty, and at `limit`, where there
+    /// is none.
+    pub fn next_run(&self, at: usize, limit: usize) -> Run
+        requires order { at ≤ limit }
+        requires within { limit ≤ length self.now }
+        ensures runs { AreRuns self.now at result.start result.end }
+        ensures within { result.end ≤ limit }
+        ensures forth { at < limit → at < result.end }
+    {
+        if self.valid == self.count {
+            return Run {
+                start: at,
+                end: limit,
+            };
+        }
+        let start = self.run_end(at, limit, false);
+        let end = self.run_end(start, limit, true);
+        Run { start, end }
     }
 }

@@ -15,6 +15,7 @@ use super::mask::Mask;
 pub(super) fn fill_marked(marks: &Mask, pixel: &[i64], values: &mut Cells)
     requires size { length values.old.values ≡ length marks.now * length pixel.now }
     requires few { length values.old.values ≤ 16777216 }
+    requires depth { 0 < length pixel.now }
     requires in_range { All (InRange values.old.kind) pixel.now }
     ensures kind { values.new.kind ≡ values.old.kind }
     ensures in_range { All (InRange values.old.kind) values.old.values
@@ -23,11 +24,11 @@ pub(super) fn fill_marked(marks: &Mask, pixel: &[i64], values: &mut Cells)
     ensures filled { FillsMarked (length marks.now) marks.now pixel.now values.old.values
         values.new.values }
 {
-    let depth = pixel.len();
-    for k in 0..marks.len() {
-        if marks.get(k) {
-            values.put_run(k * depth, pixel);
-        }
+    let mut at = 0;
+    while at < marks.len() {
+        let run = marks.next_run(at, marks.len());
+        values.fill_pixels(run.start, run.end - run.start, pixel);
+        at = run.end;
     }
 }
 
@@ -49,27 +50,12 @@ pub(super) fn pour_bytes(marks: &Mask, depth: usize, bytes: &[u8], values: &mut 
     let mut at = 0;
     let mut from = 0;
     while at < marks.len() {
-        let start = marks.run_end(at, false);
-        let end = marks.run_end(start, true);
-        let count = (end - start) * depth;
+        let run = marks.next_run(at, marks.len());
+        let count = (run.end - run.start) * depth;
         let next = from + count * size;
-        values.put_bytes(start * depth, count, &bytes[from..next]);
+        values.put_bytes(run.start * depth, count, &bytes[from..next]);
         from = next;
-        at = end;
-    }
-}
-
-/// The values at a depth of the pixels from `place` on.
-pub(super) fn copy_values(values: &Cells, depth: usize, d: usize, place: usize, out: &mut [i64])
-    requires few { length values.now.values ≤ 16777216 }
-    requires depth { d < depth }
-    requires within { (place + length out.old) * depth ≤ length values.now.values }
-    ensures room { length out.new ≡ length out.old }
-    ensures values { (i : ℕ) → i < length out.old → get_or out.new i (pos 0)
-        ≡ get_or values.now.values ((place + i) * depth + d) (pos 0) }
-{
-    for i in 0..out.len() {
-        out[i] = values.get((place + i) * depth + d);
+        at = run.end;
     }
 }
 
@@ -94,11 +80,13 @@ pub(super) fn put_values(
     ensures put { PutsMarked depth d marks.now place (length input.now) input.now values.old.values
         values.new.values }
 {
-    for (i, value) in input.iter().enumerate() {
-        let k = place + i;
-        if marks.get(k) {
-            values.set(k * depth + d, *value);
-        }
+    let end = place + input.len();
+    let mut k = place;
+    while k < end {
+        let run = marks.next_run(k, end);
+        let piece = &input[run.start - place..run.end - place];
+        values.put_pixels(run.start, depth, d, piece);
+        k = run.end;
     }
 }
 
@@ -115,12 +103,11 @@ pub(super) fn write_valid(marks: &Mask, depth: usize, values: &Cells, out: &mut 
     let mut at = 0;
     let mut from = 0;
     while at < marks.len() {
-        let start = marks.run_end(at, false);
-        let end = marks.run_end(start, true);
-        let count = (end - start) * depth;
+        let run = marks.next_run(at, marks.len());
+        let count = (run.end - run.start) * depth;
         let next = from + count * size;
-        out[from..next].copy_from_slice(values.bytes_of_run(start * depth, count));
+        out[from..next].copy_from_slice(values.bytes_of_run(run.start * depth, count));
         from = next;
-        at = end;
+        at = run.end;
     }
 }

@@ -330,7 +330,8 @@ impl Raster {
         ensures values { (i : ℕ) → i < length out.old → get_or out.new i (pos 0)
             ≡ value_in self.now d (place + i) }
     {
-        order::copy_values(&self.values, self.depth as usize, d as usize, place, out);
+        self.values
+            .get_pixels(place, self.depth as usize, d as usize, out);
     }
 
     /// Gives the valid ones among the pixels from number `place` on these values at a depth, and

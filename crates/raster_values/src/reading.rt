@@ -269,15 +269,14 @@ pub(super) fn take_values<S: Source>(
     let mut done = 0;
     let mut from = 0;
     while done < marks.len() {
-        let start = marks.run_end(done, false);
-        let end = marks.run_end(start, true);
-        let count = (end - start) * depth;
-        let n = values.take_run(src, start * depth, count)?;
+        let run = marks.next_run(done, marks.len());
+        let count = (run.end - run.start) * depth;
+        let n = values.take_run(src, run.start * depth, count)?;
         if n < count * size {
             return Err(stop_at(at, fault(GridReason::Truncated, from + n)));
         }
         from += n;
-        done = end;
+        done = run.end;
     }
     Ok(())
 }
