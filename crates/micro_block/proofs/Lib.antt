@@ -10,3 +10,4 @@ pub mod Range
 pub mod SizeSteps
 pub mod Chosen
 pub mod WriteSteps
+pub mod QuantiseSteps

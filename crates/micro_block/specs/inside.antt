@@ -2,3 +2,4 @@
 pub mod Tagged
 pub mod Sizes
 pub mod Forms
+pub mod Products

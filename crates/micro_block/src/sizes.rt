@@ -1,6 +1,8 @@
 // How long a block is in each form.
 
-ghost use Rattle.std.specs.Prelude.{◌≡◌, ℕ, ℤ, ◌+◌, ◌≤◌, ◌<◌, ◌^◌, ◌≤ℤ◌, length, map, Some, None, All, IfSome};
+ghost use Rattle.std.specs.Prelude.{◌≡◌, ℕ, ℤ, pos, ◌+◌, ◌≤◌, ◌<◌, ◌^◌, ◌≤ℤ◌, length, map, unsigned_abs};
+ghost use Rattle.std.specs.Prelude.{Some, None, All, IfSome};
+ghost use Rattle.micro_block.specs.inside.Forms.{AreListable};
 ghost use Rattle.bit_stuff.specs.Head.{head_size};
 ghost use Rattle.bit_stuff.specs.Stuffed.{stuffed_size};
 ghost use Rattle.bit_stuff.specs.Simple.{binary_digits};
@@ -13,7 +15,7 @@ ghost use Rattle.micro_block.specs.inside.Sizes.{closed_sizes, tabled_size, AreE
 ghost use Rattle.lane_kernels.specs.Kernels.{IsSmall};
 ghost use Rattle.bit_stuff.specs.Simple.{greatest_number};
 
-use crate::quantising::quantised_value;
+use crate::quantising::steps;
 use bit_stuff::{digit_count, head_len, stuffed_len};
 use lane_kernels::range;
 use lut_stuff::table_len;
@@ -127,30 +129,48 @@ pub(crate) fn ends(values: &[i64], kind: PixelType) -> (i64, i64)
     }
 }
 
+/// Writes the same numbers without a sign.
+fn narrow(wide: &[i64], out: &mut [u32])
+    requires lengths { length out.old ≡ length wide.now }
+    requires fits { All (λ z. (pos 0 ≤ℤ z) × (z ≤ℤ pos 4294967295)) wide.now }
+    ensures { out.new ≡ map unsigned_abs wide.now }
+{
+    for (i, number) in wide.iter().enumerate() {
+        out[i] = *number as u32;
+    }
+}
+
+/// Writes the number of steps of each value from `least`, with room for as many with a sign.
+fn steps_through(values: &[i64], least: i64, step: u64, wide: &mut [i64], out: &mut [u32])
+    requires lengths { length out.old ≡ length values.now }
+    requires room { length wide.old ≡ length values.now }
+    requires listable { AreListable step least values.now }
+    ensures { out.new ≡ map (quantised step least) values.now }
+{
+    steps(values, least, step, wide);
+    narrow(wide, out);
+}
+
 /// Writes the number of steps of each value from `least`.
 pub(crate) fn steps_of(values: &[i64], least: i64, step: u64, out: &mut [u32])
     requires lengths { length out.old ≡ length values.now }
-    requires small { All IsSmall values.now }
-    requires small_least { IsSmall least }
-    requires order { All (λ v. least ≤ℤ v) values.now }
-    requires step { (0 < step) × (step ≤ 8589934592) }
-    requires few { All (λ v. quantised step least v < 2 ^ 30) values.now }
+    requires listable { AreListable step least values.now }
     ensures { out.new ≡ map (quantised step least) values.now }
 {
-    for (i, value) in values.iter().enumerate() {
-        out[i] = quantised_value(*value, least, step) as u32;
+    let count = values.len();
+    if count <= 64 {
+        let mut wide = [0; 64];
+        steps_through(values, least, step, &mut wide[..count], out);
+    } else {
+        let mut wide = [0; 256];
+        steps_through(values, least, step, &mut wide[..count], out);
     }
 }
 
 /// How many bytes the list takes in the table form, with room for the numbers of steps.
 fn table_of(values: &[i64], least: i64, step: u64, qs: &mut [u32]) -> Option<usize>
-    requires count { length values.now ≤ 256 }
     requires lengths { length qs.old ≡ length values.now }
-    requires small { All IsSmall values.now }
-    requires small_least { IsSmall least }
-    requires order { All (λ v. least ≤ℤ v) values.now }
-    requires step { (0 < step) × (step ≤ 8589934592) }
-    requires few { All (λ v. quantised step least v < 2 ^ 30) values.now }
+    requires listable { AreListable step least values.now }
     ensures value { result ≡ table_size (map (quantised step least) values.now) }
     ensures short { IfSome result (λ n. n ≤ 2000) }
 {
