@@ -8,3 +8,6 @@ pub mod Steps
 pub mod Closed
 pub mod Range
 pub mod SizeSteps
+pub mod Chosen
+pub mod WriteSteps
+pub mod QuantiseSteps

@@ -1,6 +1,8 @@
 // How long a block is in each form.
 
-ghost use Rattle.std.specs.Prelude.{◌≡◌, ℕ, ℤ, ◌+◌, ◌≤◌, ◌<◌, ◌^◌, ◌≤ℤ◌, length, map, Some, None, All, IfSome};
+ghost use Rattle.std.specs.Prelude.{◌≡◌, ℕ, ℤ, pos, ◌+◌, ◌≤◌, ◌<◌, ◌^◌, ◌≤ℤ◌, length, map, unsigned_abs};
+ghost use Rattle.std.specs.Prelude.{Some, None, All, IfSome};
+ghost use Rattle.micro_block.specs.inside.Forms.{AreListable};
 ghost use Rattle.bit_stuff.specs.Head.{head_size};
 ghost use Rattle.bit_stuff.specs.Stuffed.{stuffed_size};
 ghost use Rattle.bit_stuff.specs.Simple.{binary_digits};
@@ -9,14 +11,11 @@ ghost use Rattle.micro_block.specs.Choice as choice;
 ghost use Rattle.micro_block.specs.Fewest.{allowed};
 ghost use Rattle.lut_stuff.specs.Tables.{table_size};
 ghost use Rattle.micro_block.specs.Near.{quantised};
-ghost use Rattle.micro_block.specs.inside.Sizes.{closed_sizes, tabled_size, AreEnds, IsFound};
-ghost use Rattle.micro_block.specs.Frame.{IsBlockCtx};
+ghost use Rattle.micro_block.specs.inside.Sizes.{closed_sizes, tabled_size, AreEnds};
 ghost use Rattle.lane_kernels.specs.Kernels.{IsSmall};
 ghost use Rattle.bit_stuff.specs.Simple.{greatest_number};
 
-use crate::context::BlockCtx;
-use crate::first::first_least;
-use crate::quantising::quantised_value;
+use crate::quantising::steps;
 use bit_stuff::{digit_count, head_len, stuffed_len};
 use lane_kernels::range;
 use lut_stuff::table_len;
@@ -29,7 +28,7 @@ fn holds(kind: PixelType, value: i64) -> bool
 }
 
 /// The narrowest type in which the offset may stand.
-fn narrow_type(kind: PixelType, value: i64) -> PixelType
+pub(crate) fn narrow_type(kind: PixelType, value: i64) -> PixelType
     ensures { result ≡ choice.narrow_type kind value }
 {
     match kind {
@@ -91,7 +90,7 @@ fn list_size(count: usize, most: u64) -> usize
 
 /// How many bytes the block of `count` values takes in each form, the least of which is `least` and the
 /// greatest of which has `most` steps: None where the form may not be.
-fn form_sizes(
+pub(crate) fn form_sizes(
     count: usize,
     kind: PixelType,
     least: i64,
@@ -120,7 +119,7 @@ fn form_sizes(
 }
 
 /// The least and the greatest of the values, and 0 and 0 of none.
-fn ends(values: &[i64], kind: PixelType) -> (i64, i64)
+pub(crate) fn ends(values: &[i64], kind: PixelType) -> (i64, i64)
     requires in_range { All (InRange kind) values.now }
     ensures { AreEnds kind values.now result.0 result.1 }
 {
@@ -130,30 +129,48 @@ fn ends(values: &[i64], kind: PixelType) -> (i64, i64)
     }
 }
 
-/// Writes the number of steps of each value from `least`.
-fn steps_of(values: &[i64], least: i64, step: u64, out: &mut [u32])
+/// Writes the same numbers without a sign.
+fn narrow(wide: &[i64], out: &mut [u32])
+    requires lengths { length out.old ≡ length wide.now }
+    requires fits { All (λ z. (pos 0 ≤ℤ z) × (z ≤ℤ pos 4294967295)) wide.now }
+    ensures { out.new ≡ map unsigned_abs wide.now }
+{
+    for (i, number) in wide.iter().enumerate() {
+        out[i] = *number as u32;
+    }
+}
+
+/// Writes the number of steps of each value from `least`, with room for as many with a sign.
+fn steps_through(values: &[i64], least: i64, step: u64, wide: &mut [i64], out: &mut [u32])
     requires lengths { length out.old ≡ length values.now }
-    requires small { All IsSmall values.now }
-    requires small_least { IsSmall least }
-    requires order { All (λ v. least ≤ℤ v) values.now }
-    requires step { (0 < step) × (step ≤ 8589934592) }
-    requires few { All (λ v. quantised step least v < 2 ^ 30) values.now }
+    requires room { length wide.old ≡ length values.now }
+    requires listable { AreListable step least values.now }
     ensures { out.new ≡ map (quantised step least) values.now }
 {
-    for (i, value) in values.iter().enumerate() {
-        out[i] = quantised_value(*value, least, step) as u32;
+    steps(values, least, step, wide);
+    narrow(wide, out);
+}
+
+/// Writes the number of steps of each value from `least`.
+pub(crate) fn steps_of(values: &[i64], least: i64, step: u64, out: &mut [u32])
+    requires lengths { length out.old ≡ length values.now }
+    requires listable { AreListable step least values.now }
+    ensures { out.new ≡ map (quantised step least) values.now }
+{
+    let count = values.len();
+    if count <= 64 {
+        let mut wide = [0; 64];
+        steps_through(values, least, step, &mut wide[..count], out);
+    } else {
+        let mut wide = [0; 256];
+        steps_through(values, least, step, &mut wide[..count], out);
     }
 }
 
 /// How many bytes the list takes in the table form, with room for the numbers of steps.
 fn table_of(values: &[i64], least: i64, step: u64, qs: &mut [u32]) -> Option<usize>
-    requires count { length values.now ≤ 256 }
     requires lengths { length qs.old ≡ length values.now }
-    requires small { All IsSmall values.now }
-    requires small_least { IsSmall least }
-    requires order { All (λ v. least ≤ℤ v) values.now }
-    requires step { (0 < step) × (step ≤ 8589934592) }
-    requires few { All (λ v. quantised step least v < 2 ^ 30) values.now }
+    requires listable { AreListable step least values.now }
     ensures value { result ≡ table_size (map (quantised step least) values.now) }
     ensures short { IfSome result (λ n. n ≤ 2000) }
 {
@@ -162,7 +179,13 @@ fn table_of(values: &[i64], least: i64, step: u64, qs: &mut [u32]) -> Option<usi
 }
 
 /// How many bytes the list takes in the table form, where it may stand.
-fn tabled_len(values: &[i64], kind: PixelType, least: i64, most: u64, step: u64) -> Option<usize>
+pub(crate) fn tabled_len(
+    values: &[i64],
+    kind: PixelType,
+    least: i64,
+    most: u64,
+    step: u64,
+) -> Option<usize>
     requires count { length values.now ≤ 256 }
     requires in_range { All (InRange kind) values.now }
     requires step { (0 < step) × (step ≤ 8589934592) }
@@ -176,32 +199,4 @@ fn tabled_len(values: &[i64], kind: PixelType, least: i64, most: u64, step: u64)
     }
     let mut qs = [0; 256];
     table_of(values, least, step, &mut qs[..values.len()])
-}
-
-/// The place, in the order of the forms, of the form that is chosen for the values, and the length of
-/// the block.
-fn found(values: &[i64], kind: PixelType, step: u64) -> (usize, usize)
-    requires few { length values.now ≤ 256 }
-    requires in_range { All (InRange kind) values.now }
-    requires step { (0 < step) × (step ≤ 8589934592) }
-    ensures { (col : ℕ) → IsFound kind col step values.now result }
-{
-    let (least, greatest) = ends(values, kind);
-    let most = quantised_value(greatest, least, step);
-    let tabled = tabled_len(values, kind, least, most, step);
-    let sizes = form_sizes(values.len(), kind, least, most, tabled);
-    first_least(&sizes).unwrap_or((2, 0))
-}
-
-/// How many bytes the chosen block of the values takes: that of the fewest bytes among the forms zero,
-/// constant, raw, stuffed with a simple list and stuffed with a table, of which the first where two take
-/// as many.
-pub fn block_len(values: &[i64], ctx: &BlockCtx) -> usize
-    requires few { length values.now ≤ 256 }
-    requires ctx { IsBlockCtx ctx.now }
-    requires in_range { All (InRange ctx.now.kind) values.now }
-    requires capped { All (λ v. v ≤ℤ ctx.now.top) values.now }
-    ensures { result ≡ length (choice.block_bytes ctx.now.kind ctx.now.col ctx.now.step values.now) }
-{
-    found(values, ctx.kind, ctx.step).1
 }

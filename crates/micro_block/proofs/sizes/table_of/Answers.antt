@@ -1,7 +1,6 @@
-use Rattle.std.proofs.Common.{◌≡◌, ◌≤◌, ℤ, ℕ, List, map, ◌∙◌, ap, arith, length}
+use Rattle.std.proofs.Common.{◌≡◌, ℤ, map, ◌∙◌, ap, arith}
 use Rattle.std.proofs.lemmas.Int.{to_z-of_z}
 use mir.Syntax.{w64}
-use mir.Val.{of_z, to_z}
 use Rattle.micro_block.specs.Near.{quantised}
 use Rattle.micro_block.proofs.SizeSteps.{qs_below, table_short}
 use Rattle.micro_block.proofs.sizes.table_of.Goals as goal
@@ -10,10 +9,10 @@ pub table_len-requires-clause-values : goal.table_len-requires-clause-values
 table_len-requires-clause-values c =
     let e : c.steps_of.new.out ≡ map (quantised c.args.step c.args.least) c.args.values.now =
     c.steps_of.ensures ∙ ap (λ (m : ℤ). map (quantised c.args.step m) c.args.values.now) (to_z-of_z w64 c.args.least c.ranges.least) in
-    qs_below c.args.values.now c.args.step c.args.least c.steps_of.new.out e c.requires.few
+    qs_below c.args.values.now c.args.step c.args.least c.steps_of.new.out e c.requires.listable.few
 
 pub returns-clause-short : goal.returns-clause-short
 returns-clause-short c =
     let e : c.steps_of.new.out ≡ map (quantised c.args.step c.args.least) c.args.values.now =
     c.steps_of.ensures ∙ ap (λ (m : ℤ). map (quantised c.args.step m) c.args.values.now) (to_z-of_z w64 c.args.least c.ranges.least) in
-    table_short c.steps_of.new.out c.table_len.result c.table_len.ensures.value (omega (arith, c.steps_of.auto.out, c.requires.lengths, c.requires.count)) (qs_below c.args.values.now c.args.step c.args.least c.steps_of.new.out e c.requires.few)
+    table_short c.steps_of.new.out c.table_len.result c.table_len.ensures.value (omega (arith, c.steps_of.auto.out, c.requires.lengths, c.requires.listable.count)) (qs_below c.args.values.now c.args.step c.args.least c.steps_of.new.out e c.requires.listable.few)

@@ -2,7 +2,7 @@ use Rattle.std.proofs.lemmas.Int.{to_z-of_z}
 use mir.Syntax.{w64}
 use mir.Val.{of_z, to_z}
 use Rattle.micro_block.proofs.SizeSteps.{differences_are}
-use Rattle.micro_block.proofs.quantising.quantise.Goals as goal
+use Rattle.micro_block.proofs.quantising.steps.Goals as goal
 
 pub returns-then-step-eq1 : goal.returns-then-step-eq1
 returns-then-step-eq1 c =
