@@ -1,5 +1,5 @@
 -- How near two rasters are. `step` is twice the error that a blob's header declares.
-use Rattle.std.specs.Prelude.{◌≡◌, ℕ, ℤ, ◌*◌, ◌<◌, ◌≤◌, ◌-ℤ◌, unsigned_abs, true, false, length, get_or}
+use Rattle.std.specs.Prelude.{◌≡◌, ℕ, ℤ, ◌*◌, ◌<◌, ◌≤◌, ◌-ℤ◌, unsigned_abs}
 use Rattle.raster_values.specs.Raster.{Pixels, InShape, IsValidAt, value_at}
 use Rattle.raster_values.specs.Flat.{marks_of}
 
