@@ -1,5 +1,5 @@
 use Rattle.lerc_grammar.proofs.Forms.{later_fault}
-use Rattle.lerc_grammar.proofs.outline.first_image_form.Goals as goal
+use Rattle.lerc_grammar.proofs.parts.first_image_form.Goals as goal
 
 pub returns-in-Err-clause-fault : goal.returns-in-Err-clause-fault
 returns-in-Err-clause-fault c =
