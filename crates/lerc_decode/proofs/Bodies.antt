@@ -17,10 +17,10 @@ use Rattle.lerc_header.specs.declared.fault.BlobReason.TheVariants.{BadChecksum,
 use Rattle.lerc_header.specs.declared.fault.BlobFault.{BlobFault}
 use Rattle.lerc_header.specs.Head.{HeadAt, i32_at, head_length}
 use Rattle.lerc_header.specs.Checksum.{sum_of}
-use Rattle.lerc_grammar.specs.declared.outline.MaskForm.{MaskForm}
-use Rattle.lerc_grammar.specs.declared.outline.MaskForm.TheVariants.{Empty as NoneValid, Full, Runs as RunsAt}
-use Rattle.lerc_grammar.specs.declared.outline.ImageForm.{ImageForm}
-use Rattle.lerc_grammar.specs.declared.outline.ImageForm.TheVariants.{Empty as NoImage, Constant, Ranges, Sweep}
+use Rattle.lerc_grammar.specs.declared.parts.MaskForm.{MaskForm}
+use Rattle.lerc_grammar.specs.declared.parts.MaskForm.TheVariants.{Empty as NoneValid, Full, Runs as RunsAt}
+use Rattle.lerc_grammar.specs.declared.parts.ImageForm.{ImageForm}
+use Rattle.lerc_grammar.specs.declared.parts.ImageForm.TheVariants.{Empty as NoImage, Constant, Ranges, Sweep}
 use Rattle.lerc_grammar.specs.Mask.{IsMask, IsAlike, mask_size, count_of, runs_faults, mask_faults}
 use Rattle.lerc_grammar.specs.Image.{Ends, IsFront, AreEqual, IsBare, IsImage, empty, constant, ranges, coded, sweep, one_list, image_faults, sweep_faults}
 use Rattle.lerc_grammar.specs.Blob.{Blob, body_faults, blob_faults}

@@ -4,5 +4,6 @@ pub mod Laws
 pub mod Mask
 pub mod Near
 pub mod Outline
+pub mod Outlines
 pub mod Verdict
 pub mod inside

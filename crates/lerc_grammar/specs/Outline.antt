@@ -6,10 +6,10 @@ use Rattle.lerc_header.specs.Head.{HeadAt, i32_at, head_length}
 use Rattle.lerc_header.specs.Checksum.{sum_of}
 use Rattle.lerc_header.specs.declared.fault.BlobReason.{BlobReason}
 use Rattle.lerc_header.specs.declared.fault.BlobReason.TheVariants.{BadChecksum, Truncated}
-use Rattle.lerc_grammar.specs.declared.outline.MaskForm.{MaskForm}
-use Rattle.lerc_grammar.specs.declared.outline.MaskForm.TheVariants.{Empty as NoneValid, Full, Runs}
-use Rattle.lerc_grammar.specs.declared.outline.ImageForm.{ImageForm}
-use Rattle.lerc_grammar.specs.declared.outline.ImageForm.TheVariants.{Empty, Constant, Ranges, Sweep}
+use Rattle.lerc_grammar.specs.declared.parts.MaskForm.{MaskForm}
+use Rattle.lerc_grammar.specs.declared.parts.MaskForm.TheVariants.{Empty as NoneValid, Full, Runs}
+use Rattle.lerc_grammar.specs.declared.parts.ImageForm.{ImageForm}
+use Rattle.lerc_grammar.specs.declared.parts.ImageForm.TheVariants.{Empty, Constant, Ranges, Sweep}
 use Rattle.lerc_grammar.specs.Mask.{IsAlike, mask_faults_of}
 use Rattle.lerc_grammar.specs.Image.{Ends, IsFront, AreEqual, IsBare, outside, image_faults_of}
 

@@ -8,8 +8,8 @@ ghost use Rattle.lerc_grammar.specs.Mask.{IsAlike, mask_faults_of};
 ghost use Rattle.lerc_grammar.specs.Image.{Ends, IsBare, front_faults, outside, image_faults_of, coded_of};
 ghost use Rattle.lerc_grammar.specs.Outline.{IsFormOf, IsImageForm, IsMaskForm, image_part_faults, image_place, mask_part_faults};
 ghost use Rattle.lerc_header.specs.declared.fault.BlobFault.{BlobFault};
-ghost use Rattle.lerc_grammar.specs.declared.outline.ImageForm.{ImageForm};
-ghost use Rattle.lerc_grammar.specs.declared.outline.MaskForm.{MaskForm};
+ghost use Rattle.lerc_grammar.specs.declared.parts.ImageForm.{ImageForm};
+ghost use Rattle.lerc_grammar.specs.declared.parts.MaskForm.{MaskForm};
 ghost use Rattle.lerc_grammar.specs.inside.Spans.{IsFormBehind, IsFrontSpan, IsMaskSpan};
 
 use byteorder::{ByteOrder, LittleEndian};
@@ -43,6 +43,14 @@ pub enum ImageForm {
     Delta { at: u64 },
     /// A code table, and the values.
     Plain { at: u64 },
+}
+
+/// What a blob says of itself in front of its runs and its values.
+#[derive(Clone, Copy, Debug, PartialEq, Eq)]
+pub struct Outline {
+    pub header: Header,
+    pub mask: MaskForm,
+    pub image: ImageForm,
 }
 
 /// A fault, as an answer.
