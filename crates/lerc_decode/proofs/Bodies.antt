@@ -21,10 +21,10 @@ use Rattle.lerc_grammar.specs.declared.parts.MaskForm.{MaskForm}
 use Rattle.lerc_grammar.specs.declared.parts.MaskForm.TheVariants.{Empty as NoneValid, Full, Runs as RunsAt}
 use Rattle.lerc_grammar.specs.declared.parts.ImageForm.{ImageForm}
 use Rattle.lerc_grammar.specs.declared.parts.ImageForm.TheVariants.{Empty as NoImage, Constant, Ranges, Sweep, Blocks}
-use Rattle.lerc_grammar.specs.Mask.{IsMask, mask_size, count_of, runs_faults, mask_faults}
+use Rattle.lerc_grammar.specs.Mask.{IsMask, mask_size, count_of, runs_faults, mask_faults, IsAlike}
 use Rattle.lerc_grammar.specs.Image.{Ends, IsFront, AreEqual, IsBare, IsCoded, IsImage, empty, constant, ranges, coded, sweep, blocks, one_list, top_of, insides, coded_of, image_faults, sweep_faults}
 use Rattle.lerc_grammar.specs.Blocks.{AreBlocks, all_blocks, blocks_faults}
-use Rattle.lerc_grammar.specs.Blob.{Blob, blob_faults}
+use Rattle.lerc_grammar.specs.Blob.{Blob, blob_faults, body_faults}
 use Rattle.lerc_grammar.specs.Outline.{HasMaskLength, IsMaskForm, IsImageForm, IsCodedForm, IsFormBytes, HasLists, values_place, image_place, mask_part_faults, image_part_faults}
 use Rattle.raster_values.specs.Values.{AreValues}
 use Rattle.lerc_grammar.proofs.Bytes.{bytes_in_drop}

@@ -6,6 +6,10 @@ mod body;
 mod decoder;
 mod from_source;
 mod front;
+#[cfg(test)]
+mod tests;
+#[cfg(test)]
+mod worked;
 
 pub use decoder::{DecodeFault, Decoder, Fed, FedState};
 pub use from_source::{Decoded, FromFault, decode_from, decode_sized};

@@ -5,6 +5,7 @@ pub mod Laws
 pub mod Mask
 pub mod Near
 pub mod Outline
+pub mod Outlines
 pub mod Reasons
 pub mod Verdict
 pub mod inside

@@ -8,6 +8,7 @@ use Rattle.lerc_grammar.specs.declared.parts.MaskForm.{MaskForm}
 use Rattle.lerc_grammar.specs.declared.parts.MaskForm.TheVariants.{Empty as NoneValid, Full, Runs}
 use Rattle.lerc_grammar.specs.declared.parts.ImageForm.{ImageForm}
 use Rattle.lerc_grammar.specs.declared.parts.ImageForm.TheVariants.{Empty, Constant, Ranges, Sweep, Blocks, Delta, Plain}
+use Rattle.lerc_header.specs.declared.fault.BlobReason.TheVariants.{BadChecksum, Truncated}
 use Rattle.lerc_grammar.specs.Mask.{IsAlike, mask_faults_of}
 use Rattle.lerc_grammar.specs.Image.{Ends, IsFront, AreEqual, IsBare, IsBlocksMode, outside, image_faults_of}
 
