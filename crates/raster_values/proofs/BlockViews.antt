@@ -13,8 +13,8 @@ use Rattle.raster_values.specs.Raster.{Pixels, valid_at, value_at}
 use Rattle.raster_values.specs.PixelType.{InRange}
 use Rattle.raster_values.specs.inside.View.{pixels_of, seen, IsInside}
 use Rattle.raster_values.specs.Block.{block_count, block_values, InBlock, PoursBlock}
-use Rattle.raster_values.specs.inside.Runs.{AreWords, run_places, run_values, rows_places, rows_values, LeavesRows, Gathers}
-use Rattle.raster_values.proofs.Views.{get_or-pixels_of, valid-pixels_of, value-pixel_of, fits_in_range, KeepsValues}
+use Rattle.raster_values.specs.inside.Runs.{run_places, run_values, rows_places, rows_values, LeavesRows, Gathers}
+use Rattle.raster_values.proofs.Views.{get_or-pixels_of, valid-pixels_of, value-pixel_of, KeepsValues}
 use Rattle.raster_values.proofs.Every.{every_range, same_flat_map}
 use Rattle.raster_values.proofs.RunSteps.{length_values}
 use Rattle.raster_values.proofs.BlockLaws.{has_count}
@@ -113,9 +113,6 @@ gathered_is a row col side d n old new h below g =
     (count, sym (take-append-drop n new) ∙ ap (λ t. t ++ drop n new) (g.front ∙ sym same) ∙ ap (λ t. block_values r row col side d ++ t) (g.rest ∙ ap (λ m. drop m old) count))
 
 -- ---- what pouring leaves
-
-pub words_of : (kind : PixelType) (values : List ℤ) → All (InRange kind) values → AreWords values
-words_of kind values all k d below = fits_in_range kind _ (all k d below)
 
 out_of_block : (i j row col side rows cols i' : ℕ) → j < cols → i < rows → row ≤ i' → i' < row + min side (rows - row) → i' * cols + col ≤ i * cols + j → i * cols + j < i' * cols + col + min side (cols - col)
     → InBlock row col side i j

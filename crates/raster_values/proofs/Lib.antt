@@ -29,5 +29,6 @@ pub mod TakenRuns
 pub mod GridParts
 pub mod Revalued
 pub mod NumberedBlocks
+pub mod GivenBlocks
 pub mod GridLaws
 pub mod GridDecided

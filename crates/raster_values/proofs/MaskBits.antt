@@ -4,7 +4,7 @@ use Rattle.std.specs.Prelude.{nat_eq, nat_lt, IsTrue}
 use Rattle.std.specs.List.{count_by, filter, range_with_len}
 use Rattle.std.proofs.lemmas.List.{ext_get_or, get_or_past, get_or-set_same, get_or-set_other, length-set, length-replicate, get_or-replicate, map-append, length-map, get_or-map}
 use Rattle.std.proofs.lemmas.List.FromFn.{length-range_with_len, get_or-range_with_len}
-use Rattle.std.proofs.lemmas.List.Sums.{sum_by-set, sum_by-cons, sum_by_push, count_by-le-length}
+use Rattle.std.proofs.lemmas.List.Sums.{sum_by-set, sum_by-cons, count_by-le-length}
 use Rattle.std.proofs.lemmas.Bool.{cases_eq, cases_lt}
 use Rattle.std.proofs.lemmas.Bool.Decides.{nat_tests}
 use Rattle.std.proofs.lemmas.Nat.Bits.{bit_at_set_same, bit_at_set_other, bit_at_clear_same, bit_at_clear_other, bit_at_and, bit_at_mask_inside, bit_at_mask_below, bit_at-lt, bit_at-zero, bit_at_ones, ones_shl}
@@ -111,23 +111,6 @@ pub marks_more : (n : ℕ) (mask : List ℕ) → marks_in (n + 1) mask ≡ marks
 unfolding marks_in
 marks_more n mask = ap (map (mask_bit mask)) (range_more 0 n) ∙ map-append (mask_bit mask) (range_with_len 0 n) ((0 + n) ∷ [])
     ∙ ap (λ k. map (mask_bit mask) (range_with_len 0 n) ++ mask_bit mask k ∷ []) (let e : 0 + n ≡ n = omega arith in e)
-
-bit_value : (n : ℕ) → n % 2 ≡ cond (nat_eq (n % 2) 1) 1 0
-bit_value n =
-    ⊎_elim
-    (λ (e : n % 2 ≡ 1). e ∙ (let t : nat_eq (n % 2) 1 ≡ true = grind (arith, nat_tests) in ap (λ u. cond u 1 0) (sym t)))
-    (λ (ne : n % 2 ≢ 1). (let z : n % 2 ≡ 0 = omega arith in z) ∙ (let t : nat_eq (n % 2) 1 ≡ false = grind (arith, nat_tests) in ap (λ u. cond u 1 0) (sym t)))
-    (cases_eq (n % 2) 1)
-
-pub count_none : (mask : List ℕ) → count_by (λ m. m) (marks_in 0 mask) ≡ 0
-unfolding marks_in
-count_none mask = refl
-
-pub count_bit : (n : ℕ) (mask : List ℕ) (bit : ℕ) → bit ≡ get_or mask (n / 8) 0 / 2 ^ (7 - n % 8) % 2
-    → (count_by (λ m. m) (marks_in (n + 1) mask) ≡ count_by (λ m. m) (marks_in n mask) + bit) × (bit ≤ 1)
-count_bit n mask bit is =
-    let one : cond (mask_bit mask n) 1 0 ≡ bit = sym (is ∙ bit_value (get_or mask (n / 8) 0 / 2 ^ (7 - n % 8))) in
-    (ap (count_by (λ m. m)) (marks_more n mask) ∙ sum_by_push (λ m. cond m 1 0) (marks_in n mask) (mask_bit mask n) ∙ ap (λ b. count_by (λ m. m) (marks_in n mask) + b) one, omega (arith, is))
 
 no_bit : (q : ℕ) → byte_bit 0 q ≡ false
 no_bit q = ap (λ n. nat_eq n 1) (bit_at-zero (7 - q))

@@ -13,7 +13,7 @@ use Rattle.raster_values.specs.Flat.{marks_of, value_in, BlockIsNumbered, Marked
 use Rattle.raster_values.proofs.BlockViews.{picks_flat, picks_same}
 use Rattle.raster_values.proofs.Every.{every_range, same_flat_map}
 
-marks_at : (r : Pixels) (k : ℕ) → get_or (marks_of r) k false ≡ is_some (get_or r.pixels k None)
+pub marks_at : (r : Pixels) (k : ℕ) → get_or (marks_of r) k false ≡ is_some (get_or r.pixels k None)
 marks_at r k =
     ⊎_elim
     (λ (less : k < length r.pixels). get_or-map is_some r.pixels k None false less)

@@ -11,7 +11,7 @@ use Rattle.std.proofs.Math.Seq.{take-add}
 use Rattle.std.proofs.Math.Nat.{mul-le-mul_left, mul-le-mul_right}
 use borrow.Rule.Slice.PartMut.{put_mid}
 use Rattle.raster_values.specs.inside.Runs.{run_places, run_values, Gathers, LeavesRun, AreRuns}
-use Rattle.raster_values.specs.inside.Ordered.{FillsMarked, FillsPixels, PutsMarked, PutsPixels}
+use Rattle.raster_values.specs.inside.Ordered.{FillsPixels, PutsMarked, PutsPixels}
 use Rattle.raster_values.proofs.CellBytes.{with_run}
 use Rattle.raster_values.proofs.WholeRuns.{with_run_at, with_run_before, with_run_after}
 use Rattle.raster_values.proofs.MaskCounts.{range_join}
@@ -25,9 +25,6 @@ pixel_room first i n depth d size below less within =
     let up : suc (first + i) * depth ≤ (first + n) * depth = mul-le-mul_right depth (omega arith) in
     let wide : (first + n) * 1 ≤ (first + n) * depth = mul-le-mul_left (first + n) (omega arith) in
     (omega (arith, up), omega (arith, wide))
-
-pub pixels_none : (depth d first : ℕ) (input old : List ℤ) → PutsPixels depth d first 0 input old old
-pixels_none depth d first input old = record { put = λ i below. absurd (let no : ⊥ = omega arith in no); rest = λ k e less out. refl }
 
 pub pixels_more : (depth d first n : ℕ) (input old vs : List ℤ) (x : ℤ) → d < depth → (first + n) * depth + d < length vs → x ≡ get_or input n (pos 0)
     → PutsPixels depth d first n input old vs → PutsPixels depth d first (n + 1) input old (set vs ((first + n) * depth + d) x)
@@ -48,26 +45,6 @@ pixels_more depth d first n input old vs x below within is h = record {
       out (omega arith) (omega arith) at.1)
       ∙ h.rest k e less (λ lo hi depth_is. out lo (omega arith) depth_is);
 }
-
--- a run of values is one of pixels that have one value each
-pub pixels_run : (first : ℕ) (input old : List ℤ) → first + length input ≤ length old → PutsPixels 1 0 first (length input) input old (with_run old first input)
-pixels_run first input old within = record {
-  put = λ i less. ap (λ j. get_or (with_run old first input) j (pos 0)) (let e : (first + i) * 1 + 0 ≡ first + i = omega arith in e) ∙ with_run_at old input first i within less;
-  rest = λ k e less out.
-      let at : k * 1 + e ≡ k = omega arith in
-      ap (λ j. get_or (with_run old first input) j (pos 0)) at
-      ∙ ⊎_elim
-      (λ (lt : k < first). with_run_before old input first k within lt)
-      (λ (ge : first ≤ k). ⊎_elim
-      (λ (low : k < first + length input). absurd (out ge low (omega arith)))
-      (λ (past : first + length input ≤ k). with_run_after old input first k within past)
-      (cases_lt k (first + length input)))
-      (cases_lt k first)
-      ∙ ap (λ j. get_or old j (pos 0)) (sym at);
-}
-
-pub fills_none_yet : (first : ℕ) (pixel old : List ℤ) → FillsPixels first 0 pixel old old
-fills_none_yet first pixel old = record { each = λ k d low high less. absurd (let no : ⊥ = omega arith in no); rest = λ k d less out. refl }
 
 pub fills_one_more : (first n : ℕ) (pixel old vs : List ℤ) → (first + n) * length pixel + length pixel ≤ length vs
     → FillsPixels first n pixel old vs → FillsPixels first (n + 1) pixel old (with_run vs ((first + n) * length pixel) pixel)
@@ -220,19 +197,3 @@ puts_piece depth d marks input piece first old new place k start stop deep low r
           puts.rest j e less (λ lo hi is. out (omega (arith, runs.first)) (omega (arith, long, runs.first, runs.second)) (runs.on j lo (omega (arith, long, runs.second))) is)
           ∙ h.rest j e less (λ lo hi valid is. out lo (omega (arith, runs.first, runs.second)) valid is);
     }
-
-pub fills_piece : (marks : List Bool) (pixel first old new : List ℤ) (k start stop : ℕ) → AreRuns marks k start stop → FillsPixels start (stop - start) pixel old new
-    → FillsMarked k marks pixel first old → FillsMarked stop marks pixel first new
-fills_piece marks pixel first old new k start stop runs fills h = record {
-  each = λ j d below less valid.
-      ⊎_elim
-      (λ (lt : j < k). fills.rest j d less (λ lo hi. absurd (let no : ⊥ = omega (arith, runs.first) in no)) ∙ h.each j d lt less valid)
-      (λ (ge : k ≤ j). ⊎_elim
-      (λ (off : j < start). absurd (false≢true (sym (runs.off j ge off) ∙ valid)))
-      (λ (on : start ≤ j). fills.each j d on (omega (arith, runs.second)) less)
-      (cases_lt j start))
-      (cases_lt j k);
-  rest = λ j d less out.
-      fills.rest j d less (λ lo hi. absurd (false≢true (sym (out (omega (arith, runs.second))) ∙ runs.on j lo (omega (arith, runs.second)))))
-      ∙ h.rest j d less (λ low. out (omega (arith, runs.first, runs.second)));
-}

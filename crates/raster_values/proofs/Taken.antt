@@ -210,9 +210,6 @@ pub record MarksTaken (old now : Option (List ℕ)) (marks : List Bool) (done : 
   pub only : OnlyMarks read
   pub said : take done marks ≡ marks_said read
 
-pub no_marks_taken : (left : Option (List ℕ)) (marks : List Bool) → MarksTaken left left marks 0
-no_marks_taken left marks = record { read = []; took = took_none left; long = refl; only = λ k. (let e : get_or [] k 0 ≤ 1 = omega arith in e); said = refl }
-
 pub more_marks_taken : (old mid new : Option (List ℕ)) (marks next : List Bool) (done want : ℕ) (piece : List ℕ) → MarksTaken old mid marks done → TookBytes mid new piece → AreLawful (length piece) piece
     → length piece ≡ want → done + want ≤ length marks → next ≡ take done marks ++ (marks_said piece ++ drop (done + length piece) marks) → MarksTaken old new next (done + want)
 more_marks_taken old mid new marks next done want piece h took lawful long within is =
