@@ -11,3 +11,4 @@ pub mod SizeSteps
 pub mod Chosen
 pub mod WriteSteps
 pub mod QuantiseSteps
+pub mod ShortTables

@@ -11,6 +11,7 @@ mod first;
 mod laws;
 mod quantising;
 mod reading;
+mod shorter;
 mod sizes;
 mod writing;
 

@@ -1,5 +1,5 @@
 -- How long each form of a block is, by numbers alone.
-use Rattle.std.specs.Prelude.{◌≡◌, ℕ, ℤ, ◌+◌, ◌*◌, ◌^◌, ◌<◌, not, ◌&&◌, nat_eq, nat_lt, unsigned_abs, List, [], ◌∷◌}
+use Rattle.std.specs.Prelude.{◌≡◌, ℕ, ℤ, ◌+◌, ◌*◌, ◌^◌, ◌<◌, ◌≤◌, ◌⊎◌, not, ◌&&◌, nat_eq, nat_lt, unsigned_abs, List, [], ◌∷◌}
 use Rattle.std.specs.Prelude.{Option, Some, None, ◌≤ℤ◌, length, get_or, if◌then◌else◌}
 use Rattle.std.specs.Option.{option_map}
 use Rattle.raster_values.specs.declared.kind.PixelType.{PixelType}
@@ -15,6 +15,13 @@ use Rattle.micro_block.specs.Near.{quantised}
 -- the length of the list in the table form, where it may stand
 abbrev pub tabled_size : ℕ → List ℤ → Option ℕ
 tabled_size step values = if not (is_flat step values) && is_stuffable step values then table_size (quantised_values step values) else None
+
+-- what is found of the table form: the length of its list, or nothing where that is no shorter than in the
+-- simple form
+abbrev pub IsTabledLength : ℕ → List ℤ → Option ℕ → Type 0
+IsTabledLength step values found =
+    (found ≡ tabled_size step values)
+    ⊎ ((found ≡ None) × ((n : ℕ) → tabled_size step values ≡ Some n → head_size (length values) + stuffed_size (length values) (binary_digits (greatest_number (quantised_values step values))) ≤ n))
 
 -- how long the table form is, where its list takes so many bytes
 abbrev pub table_form : PixelType → ℤ → ℕ → ℕ
