@@ -6,8 +6,8 @@ ghost use Rattle.micro_block.specs.inside.Shorter.{AreLongAbove, BoundsAt, IsLon
 
 use bit_stuff::stuffed_len;
 
-/// The most entries with which a table of `count` numbers of `width` bits can be shorter, of the numbers
-/// of entries that have `k + 1` binary digits: None where with none of them it can.
+/// The most entries with which a table of `count` numbers of `width` bits can be shorter, of the
+/// numbers of entries that have `k + 1` binary digits: None where with none of them it can.
 fn entries_at(count: usize, width: u32, k: u32) -> Option<usize>
     requires count { count ≤ 256 }
     requires width { (0 < width) × (width ≤ 30) }
@@ -40,8 +40,8 @@ pub(crate) fn most_entries(count: usize, width: u32) -> usize
     0
 }
 
-/// Whether more different numbers above 0 than the bound are found. It may answer no where there are
-/// more, since it tells numbers apart by their remainders alone, and ends as soon as it knows.
+/// Whether more different numbers above 0 than the bound are found. It may answer no where there
+/// are more, since it tells numbers apart by their remainders alone, and ends as soon as it knows.
 pub(crate) fn has_more(qs: &[u32], bound: usize) -> bool
     requires few { length qs.now ≤ 256 }
     requires bound { bound ≤ 256 }

@@ -1,6 +1,7 @@
 // How long a block is in each form.
 
-ghost use Rattle.std.specs.Prelude.{◌≡◌, ℕ, ℤ, pos, ◌+◌, ◌≤◌, ◌<◌, ◌^◌, ◌≤ℤ◌, length, map, unsigned_abs};
+ghost use Rattle.std.specs.Prelude.{◌≡◌, ℕ, ℤ, pos, ◌+◌, ◌≤◌, ◌<◌, ◌^◌, ◌≤ℤ◌, length, map};
+ghost use Rattle.std.specs.Prelude.{unsigned_abs};
 ghost use Rattle.std.specs.Prelude.{Some, None, All, IfSome, ◌⊎◌};
 ghost use Rattle.micro_block.specs.inside.Forms.{AreListable};
 ghost use Rattle.bit_stuff.specs.Head.{head_size};
@@ -89,8 +90,8 @@ fn list_size(count: usize, most: u64) -> usize
     head_len(count as u32) + stuffed_len(count, digit_count(most as u32))
 }
 
-/// How many bytes the block of `count` values takes in each form, the least of which is `least` and the
-/// greatest of which has `most` steps: None where the form may not be.
+/// How many bytes the block of `count` values takes in each form, the least of which is `least` and
+/// the greatest of which has `most` steps: None where the form may not be.
 pub(crate) fn form_sizes(
     count: usize,
     kind: PixelType,
@@ -168,8 +169,8 @@ pub(crate) fn steps_of(values: &[i64], least: i64, step: u64, out: &mut [u32])
     }
 }
 
-/// How many bytes the list takes in the table form, with room for the numbers of steps: None also where
-/// more different ones than the bound are found.
+/// How many bytes the list takes in the table form, with room for the numbers of steps: None also
+/// where more different ones than the bound are found.
 fn table_within(
     values: &[i64],
     least: i64,
@@ -191,8 +192,8 @@ fn table_within(
     table_len(qs)
 }
 
-/// How many bytes the list takes in the table form, where it may stand and is shorter than in the simple
-/// form. Where it is not, it may be that None is answered.
+/// How many bytes the list takes in the table form, where it may stand and is shorter than in the
+/// simple form. Where it is not, it may be that None is answered.
 pub(crate) fn tabled_len(
     values: &[i64],
     kind: PixelType,
