@@ -1,11 +1,11 @@
 -- Steps of quantising without a division.
-use Rattle.std.proofs.Common.{◌≡◌, ℕ, ◌+◌, ◌-◌, ◌*◌, ◌/◌, ◌%◌, ◌^◌, ◌<◌, ◌≤◌, ℤ, pos, ◌-ℤ◌, ◌≤ℤ◌, List, length, get_or, sym, ap, subst, ◌∙◌, arith}
-use Rattle.std.specs.Prelude.{All, unsigned_abs, FitsSigned}
+use Rattle.std.proofs.Common.{◌≡◌, ℕ, ◌+◌, ◌-◌, ◌*◌, ◌/◌, ◌%◌, ◌^◌, ◌<◌, ◌≤◌, ℤ, ◌-ℤ◌, ◌≤ℤ◌, sym, ap, subst, ◌∙◌, arith}
+use Rattle.std.specs.Prelude.{unsigned_abs}
 use Rattle.std.proofs.lemmas.Int.{ints, to_z-of_z}
 use Rattle.std.proofs.Math.Nat.{pow-le-pow_right}
 use mir.Syntax.{w64}
 use mir.Val.{of_z, to_z}
-use Rattle.lane_kernels.specs.Kernels.{IsGreatest, IsSmall}
+use Rattle.lane_kernels.specs.Kernels.{IsSmall}
 use Rattle.micro_block.specs.Near.{quantised}
 use Rattle.micro_block.specs.declared.quantising.Product.{Product}
 use Rattle.micro_block.specs.inside.Products.{IsProduct}

@@ -3,3 +3,4 @@ pub mod Tagged
 pub mod Sizes
 pub mod Forms
 pub mod Products
+pub mod Shorter

@@ -165,9 +165,9 @@ fn even_steps(values: &[i64], least: i64, half: u64, out: &mut [i64])
     }
 }
 
-/// Writes the number of steps from `least` to each value, rounded to the nearest, halves upwards, over
-/// `out`: by a subtraction at step 1, by a shift where the step is a power of 2, and else by a product
-/// where the values are near.
+/// Writes the number of steps from `least` to each value, rounded to the nearest, halves upwards,
+/// over `out`: by a subtraction at step 1, by a shift where the step is a power of 2, and else by a
+/// product where the values are near.
 pub(crate) fn steps(values: &[i64], least: i64, step: u64, out: &mut [i64])
     requires lengths { length out.old ≡ length values.now }
     requires small { All IsSmall values.now }
@@ -185,9 +185,9 @@ pub(crate) fn steps(values: &[i64], least: i64, step: u64, out: &mut [i64])
     }
 }
 
-/// Writes the number of steps from `least` to each value, rounded to the nearest, halves upwards, over
-/// `out`. No value is below `least`, all are at most 2^32 in absolute value, and the step is one that a
-/// block may have.
+/// Writes the number of steps from `least` to each value, rounded to the nearest, halves upwards,
+/// over `out`. No value is below `least`, all are at most 2^32 in absolute value, and the step is
+/// one that a block may have.
 pub fn quantise(values: &[i64], least: i64, step: u64, out: &mut [i64])
     requires lengths { length out.old ≡ length values.now }
     requires small { All IsSmall values.now }

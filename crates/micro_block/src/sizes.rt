@@ -1,7 +1,8 @@
 // How long a block is in each form.
 
-ghost use Rattle.std.specs.Prelude.{◌≡◌, ℕ, ℤ, pos, ◌+◌, ◌≤◌, ◌<◌, ◌^◌, ◌≤ℤ◌, length, map, unsigned_abs};
-ghost use Rattle.std.specs.Prelude.{Some, None, All, IfSome};
+ghost use Rattle.std.specs.Prelude.{◌≡◌, ℕ, ℤ, pos, ◌+◌, ◌≤◌, ◌<◌, ◌^◌, ◌≤ℤ◌, length, map};
+ghost use Rattle.std.specs.Prelude.{unsigned_abs};
+ghost use Rattle.std.specs.Prelude.{Some, None, All, IfSome, ◌⊎◌};
 ghost use Rattle.micro_block.specs.inside.Forms.{AreListable};
 ghost use Rattle.bit_stuff.specs.Head.{head_size};
 ghost use Rattle.bit_stuff.specs.Stuffed.{stuffed_size};
@@ -9,13 +10,14 @@ ghost use Rattle.bit_stuff.specs.Simple.{binary_digits};
 ghost use Rattle.raster_values.specs.PixelType.{InRange};
 ghost use Rattle.micro_block.specs.Choice as choice;
 ghost use Rattle.micro_block.specs.Fewest.{allowed};
-ghost use Rattle.lut_stuff.specs.Tables.{table_size};
+ghost use Rattle.lut_stuff.specs.Tables.{distinct_above_0, table_size};
 ghost use Rattle.micro_block.specs.Near.{quantised};
-ghost use Rattle.micro_block.specs.inside.Sizes.{closed_sizes, tabled_size, AreEnds};
+ghost use Rattle.micro_block.specs.inside.Sizes.{closed_sizes, AreEnds, IsTabledLength};
 ghost use Rattle.lane_kernels.specs.Kernels.{IsSmall};
 ghost use Rattle.bit_stuff.specs.Simple.{greatest_number};
 
 use crate::quantising::steps;
+use crate::shorter::{has_more, most_entries};
 use bit_stuff::{digit_count, head_len, stuffed_len};
 use lane_kernels::range;
 use lut_stuff::table_len;
@@ -88,8 +90,8 @@ fn list_size(count: usize, most: u64) -> usize
     head_len(count as u32) + stuffed_len(count, digit_count(most as u32))
 }
 
-/// How many bytes the block of `count` values takes in each form, the least of which is `least` and the
-/// greatest of which has `most` steps: None where the form may not be.
+/// How many bytes the block of `count` values takes in each form, the least of which is `least` and
+/// the greatest of which has `most` steps: None where the form may not be.
 pub(crate) fn form_sizes(
     count: usize,
     kind: PixelType,
@@ -167,18 +169,31 @@ pub(crate) fn steps_of(values: &[i64], least: i64, step: u64, out: &mut [u32])
     }
 }
 
-/// How many bytes the list takes in the table form, with room for the numbers of steps.
-fn table_of(values: &[i64], least: i64, step: u64, qs: &mut [u32]) -> Option<usize>
+/// How many bytes the list takes in the table form, with room for the numbers of steps: None also
+/// where more different ones than the bound are found.
+fn table_within(
+    values: &[i64],
+    least: i64,
+    step: u64,
+    bound: usize,
+    qs: &mut [u32],
+) -> Option<usize>
     requires lengths { length qs.old ≡ length values.now }
     requires listable { AreListable step least values.now }
-    ensures value { result ≡ table_size (map (quantised step least) values.now) }
+    requires bound { bound ≤ 256 }
+    ensures value { (result ≡ table_size (map (quantised step least) values.now))
+        ⊎ ((result ≡ None) × (bound < distinct_above_0 (map (quantised step least) values.now))) }
     ensures short { IfSome result (λ n. n ≤ 2000) }
 {
     steps_of(values, least, step, qs);
+    if has_more(qs, bound) {
+        return None;
+    }
     table_len(qs)
 }
 
-/// How many bytes the list takes in the table form, where it may stand.
+/// How many bytes the list takes in the table form, where it may stand and is shorter than in the
+/// simple form. Where it is not, it may be that None is answered.
 pub(crate) fn tabled_len(
     values: &[i64],
     kind: PixelType,
@@ -191,12 +206,16 @@ pub(crate) fn tabled_len(
     requires step { (0 < step) × (step ≤ 8589934592) }
     requires least { least ≡ choice.least_value values.now }
     requires most { most ≡ greatest_number (choice.quantised_values step values.now) }
-    ensures value { result ≡ tabled_size step values.now }
+    ensures value { IsTabledLength step values.now result }
     ensures short { IfSome result (λ n. n ≤ 2000) }
 {
     if most == 0 || most >= 1 << 30 {
         return None;
     }
+    let bound = most_entries(values.len(), digit_count(most as u32));
+    if bound == 0 {
+        return None;
+    }
     let mut qs = [0; 256];
-    table_of(values, least, step, &mut qs[..values.len()])
+    table_within(values, least, step, bound, &mut qs[..values.len()])
 }

@@ -1,4 +1,4 @@
-use Rattle.std.proofs.Common.{arith, ◌-◌}
+use Rattle.std.proofs.Common.{arith}
 use Rattle.micro_block.proofs.QuantiseSteps.{is_product}
 use Rattle.micro_block.proofs.quantising.product_for.Goals as goal
 

@@ -1,4 +1,4 @@
-use Rattle.std.proofs.Common.{◌≡◌, ◌+◌, ◌/◌, ◌^◌, ℤ, ap, ◌∙◌}
+use Rattle.std.proofs.Common.{◌+◌, ◌/◌, ◌^◌, ℤ, ap, ◌∙◌}
 use Rattle.std.specs.Prelude.{unsigned_abs}
 use Rattle.micro_block.proofs.QuantiseSteps.{distance_read, shift_gives}
 use Rattle.micro_block.proofs.quantising.shifted_value.Goals as goal

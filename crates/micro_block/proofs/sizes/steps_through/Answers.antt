@@ -2,7 +2,6 @@ use Rattle.std.proofs.Common.{◌≡◌, ℤ, pos, map, ap, ◌∙◌}
 use Rattle.std.specs.Prelude.{unsigned_abs}
 use Rattle.std.proofs.lemmas.Int.{to_z-of_z}
 use mir.Syntax.{w64}
-use mir.Val.{of_z, to_z}
 use Rattle.micro_block.specs.Near.{quantised}
 use Rattle.micro_block.proofs.SizeSteps.{steps_fit, unsigned_steps}
 use Rattle.micro_block.proofs.sizes.steps_through.Goals as goal
