@@ -1,5 +1,5 @@
--- The header of a blob and the forms of its two parts, all at once, and what is wrong first where one of
--- them does not stand. Bytes behind the blob have no part in it.
+-- The header of a blob and the forms of its two parts, all at once, and what is wrong first where one
+-- of them does not stand. Bytes behind the blob have no part in it.
 use Rattle.std.specs.Prelude.{◌≡◌, ℕ, ◌≤◌, ◌⊎◌, List, length, drop, take}
 use Rattle.first_fault.specs.Faults.{Faults, wrong, unless}
 use Rattle.lerc_header.specs.declared.header.Header.{Header}
@@ -14,12 +14,14 @@ use Rattle.lerc_grammar.specs.declared.parts.Outline.{Outline}
 use Rattle.lerc_grammar.specs.Outline.{IsMaskForm, mask_part_faults, IsImageForm, image_part_faults}
 
 -- the checksum is that of the blob's bytes, and mask and image have these forms
-pub record AreForms (h : Header) (blob : List ℕ) (mask : MaskForm) (image : ImageForm) : Type 0 where
+pub record AreForms (h : Header) (blob : List ℕ) (mask : MaskForm) (image : ImageForm)
+    : Type 0 where
   pub checksum : h.checksum ≡ sum_of (drop 14 blob)
   pub mask_form : IsMaskForm h blob mask
   pub image_form : IsImageForm h blob mask image
 
--- the bytes begin with a header and have the whole blob that it speaks of, whose parts have these forms
+-- the bytes begin with a header and have the whole blob that it speaks of, whose parts have these
+-- forms
 pub record IsOutline (bytes : List ℕ) (o : Outline) : Type 0 where
   pub head : HeadAt bytes o.header
   pub whole : o.header.size ≤ length bytes

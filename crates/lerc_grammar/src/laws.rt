@@ -38,8 +38,8 @@ pub fn some_whole_verdict()
     ensures { SomeWholeVerdict }
 {}
 
-/// A law: a raster is near itself, near rasters are near both ways and by every greater step, and over
-/// a third raster the steps add up.
+/// A law: a raster is near itself, near rasters are near both ways and by every greater step, and
+/// over a third raster the steps add up.
 pub fn near_is_a_distance()
     ensures itself { NearItself }
     ensures both_ways { NearBothWays }
