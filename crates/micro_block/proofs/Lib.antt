@@ -1,6 +1,6 @@
 pub mod Blocks
 pub mod Written
-mod BlockSteps
+pub mod BlockSteps
 mod Fewest
 mod Near
 mod Fast
