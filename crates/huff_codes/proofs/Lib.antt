@@ -23,3 +23,4 @@ pub mod Turns
 pub mod Cutting
 pub mod TableLaws
 pub mod Decided
+pub mod Counting

@@ -5,6 +5,7 @@ ghost use Rattle.std.specs.Prelude.{◌≡◌, ◌≤◌, ℕ, List, Bool, All, 
 ghost use Rattle.first_fault.specs.Parts.{IsDecided, IsPart};
 ghost use Rattle.huff_codes.specs.Tree.{lengths_of, used_count};
 ghost use Rattle.huff_codes.specs.Codes.{AreCodes, AreLengths, HasCode, IsPrefixFree, canonical_codes};
+ghost use Rattle.huff_codes.specs.Laws.{CanonicalCodesCountUp, JoinsTakeTheLeast};
 ghost use Rattle.huff_codes.specs.Table.{IsCoding, IsTable, coding_faults, table_faults};
 ghost use Rattle.huff_codes.specs.Words.{AreWords, word_faults};
 ghost use Rattle.huff_codes.specs.Written.{AreWritten};
@@ -35,6 +36,18 @@ pub fn tables_have_codes()
 /// The canonical codes of lengths whose shares fill all words are codes.
 pub fn canonical_codes_are_codes()
     ensures { (lengths : List ℕ) → AreLengths lengths → AreCodes (canonical_codes lengths) }
+{}
+
+/// Canonical codes count up in the order of length and symbol: the first is zeros, and each next one is
+/// the one before plus 1, with zeros appended.
+pub fn canonical_codes_count_up()
+    ensures { CanonicalCodesCountUp }
+{}
+
+/// The trees stand in order of weight and least symbol before each join, so the two that are joined are
+/// the least of all.
+pub fn joins_take_the_least()
+    ensures { JoinsTakeTheLeast }
 {}
 
 /// The lengths of two used symbols or more are lengths, where none is above 32.
