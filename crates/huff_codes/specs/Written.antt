@@ -10,8 +10,11 @@ pub record IsFilled (n : ℕ) (bits : List Bool) (bytes : List ℕ) : Type 0 whe
 
 -- the words of the symbols and the further word, which is 0 as all spare bits are
 abbrev pub AreWritten : List (List Bool) → List ℕ → List ℕ → Type 0
-AreWritten codes symbols bytes = IsFilled (word_count (length (joined_codes codes symbols)) + 1) (joined_codes codes symbols) bytes
+AreWritten codes symbols bytes =
+    IsFilled (word_count (length (joined_codes codes symbols)) + 1)
+    (joined_codes codes symbols) bytes
 
 -- the words of a table, in which no further word follows
 abbrev pub AreTableWords : List (List Bool) → List ℕ → List ℕ → Type 0
-AreTableWords codes symbols bytes = IsFilled (word_count (length (joined_codes codes symbols))) (joined_codes codes symbols) bytes
+AreTableWords codes symbols bytes =
+    IsFilled (word_count (length (joined_codes codes symbols))) (joined_codes codes symbols) bytes

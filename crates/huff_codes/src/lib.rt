@@ -1,8 +1,8 @@
 //! Code lengths, code tables and code words, read; the lengths and the codes that are chosen.
 //!
-//! The crate stands on `bit_stuff` and `lut_stuff` for its lists, and takes no memory. What the layer
-//! above uses: bytes are read exactly where they begin with a table of codes, or with the words of
-//! some symbols, and else their first fault is told.
+//! The crate stands on `bit_stuff` and `lut_stuff` for its lists, and takes no memory. What the
+//! layer above uses: bytes are read exactly where they begin with a table of codes, or with the
+//! words of some symbols, and else their first fault is told.
 #![tactic(auto)]
 
 mod codes;
