@@ -24,3 +24,4 @@ pub mod Cutting
 pub mod TableLaws
 pub mod Decided
 pub mod Counting
+pub mod Filling

@@ -6,6 +6,8 @@ ghost use Rattle.std.specs.Bool.{MatchBool};
 ghost use Rattle.huff_codes.specs.Sums.{sum_below};
 ghost use Rattle.huff_codes.specs.Tree.{lengths_of, share, shares, used_count};
 ghost use Rattle.huff_codes.specs.Codes.{AreLengths, canonical_codes};
+ghost use Rattle.huff_codes.specs.inside.Spans.{IsLaid};
+ghost use Rattle.huff_codes.specs.inside.Stored.{codes_held};
 ghost use Rattle.huff_codes.specs.inside.Places.{IsCanonical, place_of};
 
 use crate::codes::{Code, Codes};
@@ -79,6 +81,16 @@ impl Lengths {
     }
 }
 
+impl Lengths {
+    /// The 256 lengths.
+    pub(crate) fn all(&self) -> &[u8; 256]
+        ensures is { result.now ≡ self.now }
+        ensures lengths { AreLengths self.now }
+    {
+        &self.lengths
+    }
+}
+
 /// What a code of this length takes of all words.
 fn share_of(length: u8) -> u64
     requires { length ≤ 32 }
@@ -134,6 +146,17 @@ fn assigned(lengths: &[u8; 256], mut places: [u64; 33]) -> [Code; 256]
         places[at] = place + share_of(length);
     }
     codes
+}
+
+/// The canonical codes, as they are held.
+pub(crate) fn codes_of(lengths: &Lengths) -> [Code; 256]
+    ensures room { length result ≡ 256 }
+    ensures laid { All IsLaid result }
+    ensures codes { codes_held result ≡ canonical_codes lengths.now }
+    ensures lengths { AreLengths lengths.now }
+{
+    let places = first_places(&lengths.lengths);
+    assigned(&lengths.lengths, places)
 }
 
 impl Codes {

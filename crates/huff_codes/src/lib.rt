@@ -12,6 +12,7 @@ mod laws;
 mod lengths;
 mod table;
 mod words;
+mod writing;
 
 pub use codes::Codes;
 pub use faults::{CodeFault, CodeReason};
@@ -23,6 +24,7 @@ pub use laws::{
 pub use lengths::Lengths;
 pub use table::read_table;
 pub use words::read_symbols;
+pub use writing::{symbols_len, write_symbols};
 
 #[cfg(test)]
 mod tests;
