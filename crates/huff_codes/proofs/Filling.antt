@@ -31,7 +31,7 @@ word-append i xs ys e =
     ∙ ap (λ (bs : List Bool). bs ++ drop (32 * i) (word_bits bytes)) (sym (word-take i bytes long) ∙ ap word_bits (take_at xs ys (4 * i) e))
     ∙ ap (λ (bs : List Bool). word_bits xs ++ bs) (word-drop i bytes long ∙ ap word_bits (drop_at xs ys (4 * i) e))
 
-length-word : (w : ℕ) → length (little_bytes 4 w) ≡ 4
+pub length-word : (w : ℕ) → length (little_bytes 4 w) ≡ 4
 length-word w = length-bytes_low_first 0 4 w
 
 pub word-of : (w : ℕ) → w < 2 ^ 32 → word_bits (little_bytes 4 w) ≡ bits_of 32 w

@@ -25,3 +25,5 @@ pub mod TableLaws
 pub mod Decided
 pub mod Counting
 pub mod Filling
+pub mod ChosenRuns
+pub mod ChosenTables

@@ -3,7 +3,9 @@ use Rattle.std.specs.Prelude.{ℕ, ◌≡◌, ◌+◌, ◌-◌, ◌*◌, ◌/◌
 use Rattle.std.specs.Prelude.{◌∷◌, length, All, slice_index}
 use Rattle.huff_codes.specs.Tree.{Tree, is_before, used_below, after_joins}
 use Rattle.huff_codes.specs.Bits.{bits_of}
-use Rattle.huff_codes.specs.Codes.{AreLengths, is_earlier, start_of, canonical_code}
+use Rattle.huff_codes.specs.Codes.{AreLengths, is_earlier, start_of, canonical_code, canonical_codes}
+use Rattle.huff_codes.specs.Table.{IsTable}
+use Rattle.huff_codes.specs.Written.{IsWrittenTable}
 
 -- no later tree comes before an earlier one, so the first two are the least of all
 abbrev pub StandInOrder : List ℕ → List Tree → Type 0
@@ -36,3 +38,8 @@ pub record CountUp (lengths : List ℕ) : Type 0 where
 
 abbrev pub CanonicalCodesCountUp : Type 0
 CanonicalCodesCountUp = (lengths : List ℕ) → AreLengths lengths → CountUp lengths
+
+-- what is written of lengths is a table of their canonical codes
+abbrev pub WrittenTablesAreTables : Type 0
+WrittenTablesAreTables = (lengths bytes : List ℕ) → AreLengths lengths → IsWrittenTable lengths bytes
+    → IsTable bytes (canonical_codes lengths)

@@ -7,6 +7,7 @@ ghost use Rattle.huff_codes.specs.Tree.{lengths_of, used_count};
 ghost use Rattle.huff_codes.specs.Codes.{AreCodes, AreLengths, HasCode, IsPrefixFree};
 ghost use Rattle.huff_codes.specs.Codes.{canonical_codes};
 ghost use Rattle.huff_codes.specs.Laws.{CanonicalCodesCountUp, JoinsTakeTheLeast};
+ghost use Rattle.huff_codes.specs.Laws.{WrittenTablesAreTables};
 ghost use Rattle.huff_codes.specs.Table.{IsCoding, IsTable, coding_faults, table_faults};
 ghost use Rattle.huff_codes.specs.Words.{AreWords, word_faults};
 ghost use Rattle.huff_codes.specs.Written.{AreWritten};
@@ -61,4 +62,9 @@ pub fn chosen_lengths_are_lengths()
 pub fn written_words_are_words()
     ensures { (codes : List (List Bool)) (symbols bytes : List ℕ) → All (HasCode codes) symbols
         → AreWritten codes symbols bytes → AreWords codes (length symbols) bytes symbols }
+{}
+
+/// What is written of lengths is a table of their canonical codes, so it is read back.
+pub fn written_tables_are_tables()
+    ensures { WrittenTablesAreTables }
 {}

@@ -5,6 +5,7 @@
 //! words of some symbols, and else their first fault is told.
 #![tactic(auto)]
 
+mod chosen_table;
 mod codes;
 mod faults;
 mod joining;
@@ -14,12 +15,13 @@ mod table;
 mod words;
 mod writing;
 
+pub use chosen_table::{table_size, write_code_table};
 pub use codes::Codes;
 pub use faults::{CodeFault, CodeReason};
 pub use laws::{
     canonical_codes_are_codes, canonical_codes_count_up, chosen_lengths_are_lengths,
     joins_take_the_least, tables_are_a_part, tables_have_codes, words_are_a_part,
-    written_words_are_words,
+    written_tables_are_tables, written_words_are_words,
 };
 pub use lengths::Lengths;
 pub use table::read_table;

@@ -185,7 +185,7 @@ fn code_of(word: u32, length: u32) -> Code
 }
 
 /// How many bits codes of these lengths have together.
-fn bit_count(lengths: &[u32]) -> usize
+pub(crate) fn bit_count(lengths: &[u32]) -> usize
     requires few { length lengths.now ≤ 256 }
     requires low { All (λ l. l ≤ 32) lengths.now }
     ensures { result ≡ sum lengths.now }
