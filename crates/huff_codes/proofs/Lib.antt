@@ -23,3 +23,7 @@ pub mod Turns
 pub mod Cutting
 pub mod TableLaws
 pub mod Decided
+pub mod Counting
+pub mod Filling
+pub mod ChosenRuns
+pub mod ChosenTables

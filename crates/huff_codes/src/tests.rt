@@ -161,8 +161,8 @@ fn one_symbol_alone_is_read_and_other_bits_are_no_code(rt: HostRuntime) -> Resul
     Ok(())
 }
 
-/// A table of 33 symbols, whose codes are `0`, `10`, `110` and so on up to 32 bits, and the words of
-/// 32 31 0 32 5. Another program has written it.
+/// A table of 33 symbols, whose codes are `0`, `10`, `110` and so on up to 32 bits, and the words
+/// of 32 31 0 32 5. Another program has written it.
 static LONGEST: [u8; 135] = [
     0x04, 0x00, 0x00, 0x00, 0x00, 0x01, 0x00, 0x00, 0x00, 0x00, 0x00, 0x00, 0x21, 0x00, 0x00, 0x00,
     0x86, 0x21, 0x81, 0x30, 0x10, 0x85, 0x71, 0x20, 0x89, 0xb2, 0x30, 0x8d, 0xf3, 0x40, 0x91, 0x34,
