@@ -50,7 +50,7 @@ symbol-by kind z = refl
 
 -- ---- one value by its symbol
 
-value_symbol : (b p x : ℤ) (s : ℕ) → s < 256 → IsSmall b → IsSmall p → x ≡ int_rem_euclid (pos s +ℤ p) (pos 256) → biased b ((x -ℤ b) -ℤ p) ≡ s
+pub value_symbol : (b p x : ℤ) (s : ℕ) → s < 256 → IsSmall b → IsSmall p → x ≡ int_rem_euclid (pos s +ℤ p) (pos 256) → biased b ((x -ℤ b) -ℤ p) ≡ s
 value_symbol b p x s lt hb hp e =
     let m = unsigned_abs ((pos s +ℤ p) +ℤ pos (2 * 256)) in
     let is_m : (pos s +ℤ p) +ℤ pos (2 * 256) ≡ pos m = omega (arith, ints, hp.0, hp.1, lt) in

@@ -8,3 +8,4 @@ pub mod Kernels
 pub mod InPieces
 pub mod WholeDepth
 pub mod Turning
+pub mod Existence

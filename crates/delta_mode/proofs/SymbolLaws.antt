@@ -72,7 +72,7 @@ one_below kind cols valid v w n byte some rv rw_ e (suc m) le k lt yes_ = elim (
       (here ∙ ap (λ p. symbol_of kind (w k -ℤ p)) (sym same))
 ]
 
-none_value : (p : Option (List ℤ)) (d : ℕ) → is_some p ≡ false → get_or (unwrap_or p []) d (pos 0) ≡ pos 0
+pub none_value : (p : Option (List ℤ)) (d : ℕ) → is_some p ≡ false → get_or (unwrap_or p []) d (pos 0) ≡ pos 0
 none_value None d e = refl
 none_value (Some values) d e = absurd (cc)
 
