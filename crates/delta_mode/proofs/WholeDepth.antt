@@ -52,8 +52,8 @@ piece_some place cols some = grind arith
 pub coded_none : (kind : PixelType) (cols : ℕ) (valid : ℕ → Bool) (value : ℕ → ℤ) (symbols : List ℕ) → AreCoded kind cols valid value 0 0 symbols
 coded_none kind cols valid value symbols = record { each = λ k from lt on. absurd (omega (arith, lt)) }
 
-pub at_start : (valid : ℕ → Bool) (value : ℕ → ℤ) → IsAt valid value 0 false (pos 0) 0
-at_start valid value = record { left_is = λ lt. absurd (omega (arith, lt)); last_is = sym (last-zero valid value); count_is = refl }
+pub at_first : (valid : ℕ → Bool) (value : ℕ → ℤ) (left : Bool) (last : ℤ) (count : ℕ) → left ≡ false → last ≡ pos 0 → count ≡ 0 → IsAt valid value 0 left last count
+at_first valid value left last count el ez ec = record { left_is = λ lt. absurd (omega (arith, lt)); last_is = ez ∙ sym (last-zero valid value); count_is = ec }
 
 pub coded_more : (kind : PixelType) (cols : ℕ) (valid : ℕ → Bool) (value : ℕ → ℤ) (m n : ℕ) (symbols : List ℕ) → AreCoded kind cols valid value 0 m symbols → AreCoded kind cols valid value m n symbols
     → AreCoded kind cols valid value 0 n symbols

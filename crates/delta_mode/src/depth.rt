@@ -8,7 +8,7 @@ ghost use Rattle.delta_mode.specs.Symbols.{IsByteType};
 ghost use Rattle.delta_mode.specs.Deltas.{AreDeltas, TakesDeltas, is_valid};
 ghost use Rattle.delta_mode.specs.inside.Pieces.{rank, IsAt, AreCoded};
 
-use super::walk::{Walk, enter, find_values, read_above, write_symbols};
+use super::walk::{Walk, enter, find_values, read_above, start, write_symbols};
 use raster_values::Raster;
 
 /// How many pixels of a row are looked at together, at most.
@@ -105,11 +105,7 @@ pub fn deltas_of(raster: &Raster, d: u32, out: &mut [u8])
     let mut up = [false; PIECE];
     let mut above = [0; PIECE];
     let mut values = [0; PIECE];
-    let mut walk = Walk {
-        left: false,
-        last: 0,
-        count: 0,
-    };
+    let mut walk = start();
     let mut place = 0;
     while place < pixels {
         let count = PIECE.min(cols - place % cols);
@@ -141,11 +137,7 @@ pub fn undelta(symbols: &[u8], raster: &mut Raster, d: u32)
     let mut up = [false; PIECE];
     let mut above = [0; PIECE];
     let mut values = [0; PIECE];
-    let mut walk = Walk {
-        left: false,
-        last: 0,
-        count: 0,
-    };
+    let mut walk = start();
     let mut place = 0;
     while place < raster.rows() as usize * cols {
         let count = PIECE.min(cols - place % cols);

@@ -1,6 +1,6 @@
 //! The way along the pixels of a depth, in pieces of a row.
 
-ghost use Rattle.std.specs.Prelude.{◌≡◌, ℕ, ℤ, pos, negsuc, ◌+◌, ◌-◌, ◌*◌, ◌%◌, ◌<◌, ◌≤◌, ◌≤ℤ◌, ◌-ℤ◌, ◌+ℤ◌, length, get_or, true, ◌&&◌, nat_lt};
+ghost use Rattle.std.specs.Prelude.{◌≡◌, ℕ, ℤ, pos, negsuc, ◌+◌, ◌-◌, ◌*◌, ◌%◌, ◌<◌, ◌≤◌, ◌≤ℤ◌, ◌-ℤ◌, ◌+ℤ◌, length, get_or, true, false, ◌&&◌, nat_lt};
 ghost use Rattle.raster_values.specs.PixelType.{InRange};
 ghost use Rattle.raster_values.specs.Flat.{value_in};
 ghost use Rattle.delta_mode.specs.Symbols.{IsByteType, bias, symbol_of};
@@ -150,6 +150,19 @@ pub(super) fn find_values(
         left = marks[i];
     }
     Walk { left, last, count }
+}
+
+/// What is kept in front of the first pixel.
+pub(super) fn start() -> Walk
+    ensures left { result.left ≡ false }
+    ensures last { result.last ≡ pos 0 }
+    ensures count { result.count ≡ 0 }
+{
+    Walk {
+        left: false,
+        last: 0,
+        count: 0,
+    }
 }
 
 /// What is kept in front of a piece of a row: in the first column there is no pixel to the left.

@@ -4,7 +4,7 @@ use Rattle.raster_values.specs.Flat.{value_in}
 use Rattle.delta_mode.specs.Deltas.{is_valid}
 use Rattle.delta_mode.specs.inside.Pieces.{rank, IsAt, AreCoded}
 use Rattle.delta_mode.proofs.Pieces.{rank_grows}
-use Rattle.delta_mode.proofs.WholeDepth.{rank_all, piece_within, coded_none, at_start, coded_more, coded_kept, coded_all}
+use Rattle.delta_mode.proofs.WholeDepth.{rank_all, piece_within, coded_none, at_first, coded_more, coded_kept, coded_all}
 use Rattle.delta_mode.proofs.depth.deltas_of.Goals as goal
 
 pub loop-place-init : goal.loop-place-init
@@ -12,7 +12,7 @@ loop-place-init c =
     let r = c.args.raster.now in
     record {
       within = omega arith;
-      at = at_start (is_valid r) (value_in r c.args.d);
+      at = at_first (is_valid r) (value_in r c.args.d) _ _ _ c.start-walk.ensures.left c.start-walk.ensures.last c.start-walk.ensures.count;
       room = refl;
       coded = coded_none r.kind r.cols (is_valid r) (value_in r c.args.d) c.args.out.now;
     }

@@ -7,7 +7,7 @@ use Rattle.delta_mode.specs.inside.Pieces.{rank, IsAt, AreCoded}
 use Rattle.delta_mode.proofs.Pieces.{rank_grows}
 use Rattle.delta_mode.proofs.Marks.{mask_itself, mask_through, all_marks, same_size}
 use Rattle.delta_mode.proofs.SymbolLaws.{deltas_as}
-use Rattle.delta_mode.proofs.WholeDepth.{rank_all, piece_within, coded_none, at_start, coded_more, coded_same, coded_all}
+use Rattle.delta_mode.proofs.WholeDepth.{rank_all, piece_within, coded_none, at_first, coded_more, coded_same, coded_all}
 use Rattle.delta_mode.proofs.depth.undelta.Goals as goal
 
 pub loop-place-init : goal.loop-place-init
@@ -17,7 +17,7 @@ loop-place-init c =
       within = omega arith;
       wide = refl;
       same = mask_itself r;
-      at = at_start (is_valid r) (value_in r c.args.d);
+      at = at_first (is_valid r) (value_in r c.args.d) _ _ _ c.start-walk.ensures.left c.start-walk.ensures.last c.start-walk.ensures.count;
       coded = coded_none r.kind r.cols (is_valid r) (value_in r c.args.d) c.args.symbols.now;
       rest = λ k e lt below other. refl;
     }
