@@ -3,6 +3,7 @@
 
 mod blocks;
 mod body;
+mod codes;
 mod decoder;
 mod from_source;
 mod front;

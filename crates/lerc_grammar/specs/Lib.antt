@@ -1,5 +1,6 @@
 pub mod Blob
 pub mod Blocks
+pub mod Codes
 pub mod Image
 pub mod Laws
 pub mod Mask
