@@ -12,7 +12,7 @@ ghost use Rattle.lerc_grammar.specs.Mask.{IsMask, count_of, mask_faults, mask_si
 ghost use Rattle.lerc_grammar.specs.Image.{IsImage, image_faults, sweep_faults, value_count};
 ghost use Rattle.lerc_grammar.specs.Blob.{Blob, blob_faults};
 ghost use Rattle.lerc_grammar.specs.Outline.{IsImageForm, IsMaskForm, image_place};
-ghost use Rattle.lerc_grammar.specs.declared.outline.ImageForm.{ImageForm};
+ghost use Rattle.lerc_grammar.specs.declared.parts.ImageForm.{ImageForm};
 ghost use Rattle.lerc_decode.specs.inside.Blocks.{AreTopsOf, HasBoth, IsOneTop};
 ghost use Rattle.lerc_decode.specs.inside.Body.{HasHeadShape, HasSum, IsFilledWith, IsMarkedBy, IsMarkedFor, IsStopOf, IsSwept, KeepsMarks};
 

@@ -11,9 +11,9 @@ use Rattle.lerc_header.specs.declared.header.Version.TheVariants.{V3, V4}
 use Rattle.lerc_header.specs.declared.fault.BlobReason.{BlobReason}
 use Rattle.lerc_header.specs.declared.fault.BlobReason.TheVariants.{Leftover}
 use Rattle.lerc_header.specs.declared.fault.BlobFault.{BlobFault}
-use Rattle.lerc_grammar.specs.declared.outline.MaskForm.{MaskForm}
-use Rattle.lerc_grammar.specs.declared.outline.ImageForm.{ImageForm}
-use Rattle.lerc_grammar.specs.declared.outline.ImageForm.TheVariants.{Empty, Constant, Ranges, Sweep, Blocks, Delta, Plain}
+use Rattle.lerc_grammar.specs.declared.parts.MaskForm.{MaskForm}
+use Rattle.lerc_grammar.specs.declared.parts.ImageForm.{ImageForm}
+use Rattle.lerc_grammar.specs.declared.parts.ImageForm.TheVariants.{Empty, Constant, Ranges, Sweep, Blocks, Delta, Plain}
 use Rattle.lerc_grammar.specs.Image.{Ends, IsFront, front_faults, AreEqual, IsBare, HasMode, IsBlocksMode, greatest_mode, outside, coded_of, behind_front, image_faults_of}
 use Rattle.lerc_grammar.specs.Outline.{HasLists, IsCodedForm, IsFormBytes, IsFormOf, values_place, IsImageForm, image_place, image_part_faults}
 use Rattle.lerc_grammar.specs.inside.Spans.{IsFrontSpan, IsFormBehind, IsFormTold, IsZeroTold}

@@ -5,10 +5,10 @@ use Rattle.lerc_header.specs.declared.header.Header.{Header}
 use Rattle.lerc_header.specs.declared.header.Version.TheVariants.{V4}
 use Rattle.lerc_header.specs.Head.{i32_at, head_length}
 use Rattle.lerc_header.specs.declared.fault.BlobReason.{BlobReason}
-use Rattle.lerc_grammar.specs.declared.outline.MaskForm.{MaskForm}
-use Rattle.lerc_grammar.specs.declared.outline.MaskForm.TheVariants.{Empty as NoneValid, Full, Runs}
-use Rattle.lerc_grammar.specs.declared.outline.ImageForm.{ImageForm}
-use Rattle.lerc_grammar.specs.declared.outline.ImageForm.TheVariants.{Empty, Constant, Ranges, Sweep, Blocks, Delta, Plain}
+use Rattle.lerc_grammar.specs.declared.parts.MaskForm.{MaskForm}
+use Rattle.lerc_grammar.specs.declared.parts.MaskForm.TheVariants.{Empty as NoneValid, Full, Runs}
+use Rattle.lerc_grammar.specs.declared.parts.ImageForm.{ImageForm}
+use Rattle.lerc_grammar.specs.declared.parts.ImageForm.TheVariants.{Empty, Constant, Ranges, Sweep, Blocks, Delta, Plain}
 use Rattle.lerc_grammar.specs.Mask.{IsAlike, mask_faults_of}
 use Rattle.lerc_grammar.specs.Image.{Ends, IsFront, AreEqual, IsBare, HasMode, IsBlocksMode, outside, image_faults_of}
 

@@ -2,7 +2,7 @@
 #![tactic(auto)]
 
 mod laws;
-mod outline;
+mod parts;
 
 pub use laws::{no_two_rasters, one_first_fault, one_verdict, some_verdict, verdicts_stay};
-pub use outline::{ImageForm, MaskForm, image_part, mask_part};
+pub use parts::{ImageForm, MaskForm, image_part, mask_part};

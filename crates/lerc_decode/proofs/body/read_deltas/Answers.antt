@@ -1,6 +1,6 @@
 use Rattle.std.proofs.Common.{refl}
 use Rattle.raster_values.specs.Flat.{marks_of}
-use Rattle.lerc_grammar.specs.declared.outline.ImageForm.TheVariants.{Delta}
+use Rattle.lerc_grammar.specs.declared.parts.ImageForm.TheVariants.{Delta}
 use Rattle.lerc_decode.proofs.Bodies.{coded_there, deltas_fault, err_map, image_deltas, ok_map}
 use Rattle.lerc_decode.proofs.body.read_deltas.Goals as goal
 

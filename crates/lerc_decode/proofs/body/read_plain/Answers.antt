@@ -1,6 +1,6 @@
 use Rattle.std.proofs.Common.{refl}
 use Rattle.raster_values.specs.Flat.{marks_of}
-use Rattle.lerc_grammar.specs.declared.outline.ImageForm.TheVariants.{Plain}
+use Rattle.lerc_grammar.specs.declared.parts.ImageForm.TheVariants.{Plain}
 use Rattle.lerc_decode.proofs.Bodies.{coded_there, plain_fault, err_map, image_plain, ok_map}
 use Rattle.lerc_decode.proofs.body.read_plain.Goals as goal
 

@@ -8,8 +8,8 @@ ghost use Rattle.lerc_grammar.specs.Mask.{IsAlike, mask_faults_of};
 ghost use Rattle.lerc_grammar.specs.Image.{Ends, HasMode, IsBare, behind_zero, coded_of, front_faults, greatest_mode, image_faults_of, mode_of, outside};
 ghost use Rattle.lerc_grammar.specs.Outline.{IsFormOf, IsImageForm, IsMaskForm, image_part_faults, image_place, mask_part_faults};
 ghost use Rattle.lerc_header.specs.declared.fault.BlobFault.{BlobFault};
-ghost use Rattle.lerc_grammar.specs.declared.outline.ImageForm.{ImageForm};
-ghost use Rattle.lerc_grammar.specs.declared.outline.MaskForm.{MaskForm};
+ghost use Rattle.lerc_grammar.specs.declared.parts.ImageForm.{ImageForm};
+ghost use Rattle.lerc_grammar.specs.declared.parts.MaskForm.{MaskForm};
 ghost use Rattle.lerc_grammar.specs.inside.Spans.{IsFormBehind, IsFormTold, IsFrontSpan, IsMaskSpan, IsZeroTold};
 
 use byteorder::{ByteOrder, LittleEndian};
