@@ -7,5 +7,6 @@ pub mod Mask
 pub mod Near
 pub mod Outline
 pub mod Reasons
+pub mod Outlines
 pub mod Verdict
 pub mod inside

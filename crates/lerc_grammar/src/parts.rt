@@ -45,6 +45,14 @@ pub enum ImageForm {
     Plain { at: u64 },
 }
 
+/// What a blob says of itself in front of its runs and its values.
+#[derive(Clone, Copy, Debug, PartialEq, Eq)]
+pub struct Outline {
+    pub header: Header,
+    pub mask: MaskForm,
+    pub image: ImageForm,
+}
+
 /// A fault, as an answer.
 fn refused<T: Drop>(reason: BlobReason, place: u64) -> Result<T, BlobFault>
     ensures { result ≡ Err (record { reason = reason; place = place }) }
