@@ -3,6 +3,11 @@
 
 mod blocks;
 mod body;
+#[cfg(test)]
+mod coded_tests;
+#[cfg(test)]
+mod coded_worked;
+mod codes;
 mod decoder;
 mod from_source;
 mod front;

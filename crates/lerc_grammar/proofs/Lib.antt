@@ -25,3 +25,4 @@ pub mod CodedOnce
 pub mod Rising
 pub mod BlockRasters
 pub mod CodedDecided
+pub mod CodeParts

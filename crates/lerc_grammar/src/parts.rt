@@ -227,11 +227,12 @@ fn mode_form(rest: &[u8], header: &Header, place: usize) -> Result<ImageForm, Bl
     if mode > last_mode(header.version) {
         return refused(BlobReason::BadMode, 0);
     }
-    if mode == 0 {
-        let at = place as u64 + 1;
-        return Ok(ImageForm::Blocks { at });
+    let at = place as u64 + 1;
+    match mode {
+        0 => Ok(ImageForm::Blocks { at }),
+        1 => Ok(ImageForm::Delta { at }),
+        _ => Ok(ImageForm::Plain { at }),
     }
-    refused(BlobReason::NotYet, 1)
 }
 
 /// The form of coded values behind a sweep byte 0, at this place of the blob.
