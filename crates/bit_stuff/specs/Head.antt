@@ -7,7 +7,8 @@ use Rattle.bit_stuff.specs.declared.heads.ListReason.{ListReason}
 use Rattle.bit_stuff.specs.declared.heads.ListReason.TheVariants.{Cut, BadHead, BadCount, BadTable}
 use Rattle.first_fault.specs.Faults.{Faults, none, wrong, unless}
 
--- the first byte: bits 0 to 4 are the width, bit 5 is set in the table form, bits 6 and 7 are the code of the count's size
+-- the first byte: bits 0 to 4 are the width, bit 5 is set in the table form, bits 6 and 7 are the
+-- code of the count's size
 abbrev pub head_byte : List ℕ → ℕ
 head_byte bytes = slice_index bytes 0
 
@@ -43,8 +44,8 @@ pub record IsHead (bytes : List ℕ) (head : ListHead) (taken : ℕ) : Type 0 wh
   pub size : taken ≡ 1 + count_size (size_code bytes)
   pub within : taken ≤ length bytes
 
--- The faults of a head of `want` numbers, in the order of the tests. The count: it is there, and it is
--- the wanted one.
+-- The faults of a head of `want` numbers, in the order of the tests. The count: it is there, and it
+-- is the wanted one.
 abbrev pub count_faults : ℕ → List ℕ → Faults ListReason
 count_faults want bytes =
     unless (1 + count_size (size_code bytes) ≤ length bytes) (wrong Cut 1)
@@ -54,7 +55,8 @@ count_faults want bytes =
 abbrev pub form_faults : ℕ → List ℕ → Faults ListReason
 form_faults want bytes =
     unless (size_code bytes < 3) (wrong BadHead 0)
-    (unless (table_bit bytes ≡ 1 → 0 < width_bits bytes) (wrong BadTable 0) (count_faults want bytes))
+    (unless (table_bit bytes ≡ 1 → 0 < width_bits bytes) (wrong BadTable 0)
+    (count_faults want bytes))
 
 -- the first byte is there, and what it says is right
 abbrev pub head_faults : ℕ → List ℕ → Faults ListReason
@@ -78,4 +80,5 @@ table_flag table = if table then 1 else 0
 -- the head that is written: its first byte, and the count in as few bytes as hold it
 unfoldable pub head_bytes : ℕ → Bool → ℕ → List ℕ
 head_bytes width table count =
-    (width + 32 * table_flag table + 64 * chosen_code count) ∷ little_bytes (count_size (chosen_code count)) count
+    (width + 32 * table_flag table + 64 * chosen_code count)
+    ∷ little_bytes (count_size (chosen_code count)) count

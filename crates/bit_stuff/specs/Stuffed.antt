@@ -19,11 +19,12 @@ pub record IsLeastHolding (bits k : ℕ) : Type 0 where
 abbrev pub stuffed_size : ℕ → ℕ → ℕ
 stuffed_size count width = (count * width + 7) / 8
 
--- The bytes stand for the values: they are as few as hold them, and value i is field i of their number.
--- What the bits above the last field are is not said.
+-- The bytes stand for the values: they are as few as hold them, and value i is field i of their
+-- number. What the bits above the last field are is not said.
 pub record IsStuffed (bytes : List ℕ) (width : ℕ) (values : List ℕ) : Type 0 where
   pub size : length bytes ≡ stuffed_size (length values) width
-  pub fields : (i : ℕ) → i < length values → slice_index values i ≡ field_at width (number_of_bytes bytes) i
+  pub fields : (i : ℕ) → i < length values →
+      slice_index values i ≡ field_at width (number_of_bytes bytes) i
 
 -- the bits above the last field are 0
 abbrev pub HasClearSpareBits : List ℕ → ℕ → ℕ → Type 0
@@ -36,4 +37,5 @@ number_of_values width (v ∷ values) = v + 2 ^ width * number_of_values width v
 
 -- the bytes of that number: the stuffed bytes of the values whose spare bits are 0
 unfoldable pub stuffed_bytes : ℕ → List ℕ → List ℕ
-stuffed_bytes width values = little_bytes (stuffed_size (length values) width) (number_of_values width values)
+stuffed_bytes width values =
+    little_bytes (stuffed_size (length values) width) (number_of_values width values)

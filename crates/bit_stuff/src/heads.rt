@@ -115,14 +115,15 @@ fn head_of(bytes: &[u8], want: u32) -> Result<(ListHead, usize), ListFault>
 
 /// Reads the head of a list of `want` numbers, and how many bytes it takes.
 ///
-/// The first byte has the width in bits 0 to 4, the table form in bit 5 and the size of the count in
-/// bits 6 and 7: 0 is four bytes, 1 is two, 2 is one. The count follows, lowest byte first. The
-/// faults come in this order: `Cut` at 0 for no byte; `BadHead` at 0 for the size code 3; `BadTable`
-/// at 0 for the table form at width 0; `Cut` at 1 for a count that is cut; `BadCount` at 1 for one
-/// that is not `want`.
+/// The first byte has the width in bits 0 to 4, the table form in bit 5 and the size of the count
+/// in bits 6 and 7: 0 is four bytes, 1 is two, 2 is one. The count follows, lowest byte first. The
+/// faults come in this order: `Cut` at 0 for no byte; `BadHead` at 0 for the size code 3;
+/// `BadTable` at 0 for the table form at width 0; `Cut` at 1 for a count that is cut; `BadCount` at
+/// 1 for one that is not `want`.
 pub fn read_head(bytes: &[u8], want: u32) -> Result<(ListHead, usize), ListFault>
     ensures ok { (head : ListHead) (used : ℕ) →
-        (result ≡ Ok (record { 0 = head; 1 = used })) ↔ (IsHead bytes.now head used × (head.count ≡ want)) }
+        (result ≡ Ok (record { 0 = head; 1 = used }))
+        ↔ (IsHead bytes.now head used × (head.count ≡ want)) }
     ensures fault { (f : ListFault) →
         (result ≡ Err f) ↔ head_faults want bytes.now f.at f.reason }
     ensures within { IfErr result (λ f. f.at ≤ length bytes.now) }

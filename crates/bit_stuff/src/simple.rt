@@ -48,9 +48,9 @@ pub fn simple_len(values: &[u32]) -> usize
     head_len(values.len() as u32) + stuffed_len(values.len(), list_width(values))
 }
 
-/// Writes the values as the chosen list in the simple form: the width is the number of binary digits
-/// of the greatest value, the count takes one byte up to 255, two up to 65,535 and else four, and
-/// spare bits are 0.
+/// Writes the values as the chosen list in the simple form: the width is the number of binary
+/// digits of the greatest value, the count takes one byte up to 255, two up to 65,535 and else
+/// four, and spare bits are 0.
 pub fn write_simple(values: &[u32], out: &mut [u8])
     requires count { length values.now ≤ 1024 }
     requires values { All (λ v. v < 2 ^ 31) values.now }

@@ -26,7 +26,8 @@ fn field(word: u64, shift: usize, width: u32) -> u32
     ((word >> shift) & ((1 << width) - 1)) as u32
 }
 
-/// The `width` bits of the bytes' number from bit `shift` of byte `at` on, out of the eight bytes there.
+/// The `width` bits of the bytes' number from bit `shift` of byte `at` on, out of the eight bytes
+/// there.
 #[inline(always)]
 fn bits_from(bytes: &[u8], at: usize, shift: usize, width: u32) -> u32
     requires whole { at + 8 ≤ length bytes.now }
@@ -60,8 +61,10 @@ fn unstuff_eight(bytes: &[u8], width: u32, at: usize, out: &mut [u32], done: usi
     requires room { done + 8 ≤ length out.old }
     requires place { 8 * at ≡ width * done }
     requires whole { at + width + 8 ≤ length bytes.now }
-    requires read { (k : ℕ) → k < done → slice_index out.old k ≡ field_at width (number_of_bytes bytes.now) k }
-    ensures { (k : ℕ) → k < done + 8 → slice_index out.new k ≡ field_at width (number_of_bytes bytes.now) k }
+    requires read { (k : ℕ) → k < done →
+        slice_index out.old k ≡ field_at width (number_of_bytes bytes.now) k }
+    ensures { (k : ℕ) → k < done + 8 →
+        slice_index out.new k ≡ field_at width (number_of_bytes bytes.now) k }
 {
     for k in 0..8 {
         let place = width as usize * k;
@@ -69,13 +72,14 @@ fn unstuff_eight(bytes: &[u8], width: u32, at: usize, out: &mut [u32], done: usi
     }
 }
 
-/// Reads numbers by eights, which are `width` bytes each, as far as eight more bytes follow; how many
-/// it has read.
+/// Reads numbers by eights, which are `width` bytes each, as far as eight more bytes follow; how
+/// many it has read.
 fn unstuff_eights(bytes: &[u8], width: u32, out: &mut [u32]) -> usize
     requires count { length out.old ≤ 2 ^ 24 }
     requires width { width ≤ 31 }
     ensures within { result ≤ length out.old }
-    ensures read { (k : ℕ) → k < result → slice_index out.new k ≡ field_at width (number_of_bytes bytes.now) k }
+    ensures read { (k : ℕ) → k < result →
+        slice_index out.new k ≡ field_at width (number_of_bytes bytes.now) k }
 {
     let mut at = 0;
     let mut done = 0;

@@ -1,4 +1,5 @@
-// Laws of the definitions, for the crates above. Each function does nothing: its contract is the law.
+// Laws of the definitions, for the crates above. Each function does nothing: its contract is the
+// law.
 
 ghost use Rattle.std.specs.Prelude.{◌≡◌, ◌↔◌, ◌^◌, ◌<◌, ◌++◌, ℕ, List, None, length};
 ghost use Rattle.bundle_index.specs.declared.entry.Entry.{Entry};

@@ -1,6 +1,6 @@
 -- What every part of a format owes: it is read in one way, and it stands or has one first fault. A
--- part is a pair of relations: `part bytes value`, the bytes being exactly the part's, and `own rest`,
--- what may be wrong with the part at the front of all the bytes that are there.
+-- part is a pair of relations: `part bytes value`, the bytes being exactly the part's, and `own
+-- rest`, what may be wrong with the part at the front of all the bytes that are there.
 use Rattle.std.specs.Prelude.{◌≡◌, ℕ, ◌<◌, ◌⊎◌, List, ◌++◌, get_or}
 use Rattle.first_fault.specs.Faults.{Faults}
 

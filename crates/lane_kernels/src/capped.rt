@@ -2,9 +2,9 @@ ghost use Rattle.std.specs.Prelude.{◌≡◌, pos, ◌+ℤ◌, ◌*ℤ◌, ◌<
 ghost use Rattle.std.specs.Int.{int_min};
 ghost use Rattle.lane_kernels.specs.Kernels.{capped_sums, IsSmall, IsQuantised, IsStepSize};
 
-/// Writes the smaller of `offset + q * step` and `top` over `out`, for each quantised value q in turn: the
-/// sum in whole numbers, though the product can pass 64 bits. Each q is from 0 to 2^31 - 1, `offset` and
-/// `top` are at most 2^32 in absolute value, and the step is from 1 to 2^33.
+/// Writes the smaller of `offset + q * step` and `top` over `out`, for each quantised value q in
+/// turn: the sum in whole numbers, though the product can pass 64 bits. Each q is from 0 to 2^31 -
+/// 1, `offset` and `top` are at most 2^32 in absolute value, and the step is from 1 to 2^33.
 pub fn plus_capped(qs: &[i64], offset: i64, step: i64, top: i64, out: &mut [i64])
     requires lengths { length out.old ≡ length qs.now }
     requires quantised { All IsQuantised qs.now }
@@ -23,8 +23,8 @@ pub fn plus_capped(qs: &[i64], offset: i64, step: i64, top: i64, out: &mut [i64]
     }
 }
 
-/// The least number of steps that together are more than the gap. It is at most 2^33 + 1, and the product
-/// of it and the step at most 2^34.
+/// The least number of steps that together are more than the gap. It is at most 2^33 + 1, and the
+/// product of it and the step at most 2^34.
 fn steps_to_pass(gap: i64, step: i64) -> i64
     requires gap { (pos 0 <ℤ gap) × (gap ≤ℤ pos 8589934592) }
     requires step { IsStepSize step }
@@ -35,8 +35,9 @@ fn steps_to_pass(gap: i64, step: i64) -> i64
     gap / step + 1
 }
 
-/// The smaller of `offset + q * step` and `top`, where `enough` steps from `offset` lead past `top`: no more
-/// steps than these are counted, which changes no capped sum and keeps the product small.
+/// The smaller of `offset + q * step` and `top`, where `enough` steps from `offset` lead past
+/// `top`: no more steps than these are counted, which changes no capped sum and keeps the product
+/// small.
 #[inline]
 fn capped_sum(q: i64, enough: i64, offset: i64, step: i64, top: i64) -> i64
     requires from_zero { pos 0 ≤ℤ q }

@@ -1,9 +1,10 @@
-//! Kernels over lists of whole numbers: the least and the greatest of a list, a list less a number, and
-//! a list of quantised values turned back into values. The crate stands on std alone and takes no memory.
+//! Kernels over lists of whole numbers: the least and the greatest of a list, a list less a number,
+//! and a list of quantised values turned back into values. The crate stands on std alone and takes
+//! no memory.
 //!
-//! The contract that the layer above uses: each call gives exactly what its plain definition over the list
-//! gives, at every length. Inside the loops there is no branch and no division, so that the bodies can be
-//! written over lanes later under the same contracts.
+//! The contract that the layer above uses: each call gives exactly what its plain definition over
+//! the list gives, at every length. Inside the loops there is no branch and no division, so that
+//! the bodies can be written over lanes later under the same contracts.
 #![tactic(auto)]
 
 mod capped;

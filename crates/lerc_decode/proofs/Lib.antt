@@ -4,3 +4,7 @@ mod Bodies
 mod Fields
 mod Steps
 mod Feeding
+pub mod Tops
+pub mod BlockReading
+pub mod CodePlaces
+pub mod Symbols

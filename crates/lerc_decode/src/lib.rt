@@ -1,7 +1,13 @@
 //! A decoder that takes a blob in pieces of any size.
 #![tactic(auto)]
 
+mod blocks;
 mod body;
+#[cfg(test)]
+mod coded_tests;
+#[cfg(test)]
+mod coded_worked;
+mod codes;
 mod decoder;
 mod from_source;
 mod front;

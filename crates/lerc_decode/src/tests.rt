@@ -19,7 +19,7 @@ use std::test::Fail;
 const PIECES: [usize; 3] = [1, 7, 1000];
 
 /// A fault at a place.
-fn fault(reason: BlobReason, place: u64) -> BlobFault {
+pub(crate) fn fault(reason: BlobReason, place: u64) -> BlobFault {
     BlobFault { reason, place }
 }
 
@@ -47,7 +47,12 @@ fn source(alloc: Global, bytes: &[u8], failing: &[u8]) -> Result<MemSource, Allo
 }
 
 /// The blob has this grid, in pieces of any length.
-fn has_grid(rt: &impl Abort, alloc: Global, blob: &[u8], grid: &[u8]) -> Result<(), Fail> {
+pub(crate) fn has_grid(
+    rt: &impl Abort,
+    alloc: Global,
+    blob: &[u8],
+    grid: &[u8],
+) -> Result<(), Fail> {
     for piece in PIECES {
         assert!(rt; piece > 0);
         let raster = fed_in(alloc, blob, piece).map_err(|_| "refused")?;
@@ -57,7 +62,7 @@ fn has_grid(rt: &impl Abort, alloc: Global, blob: &[u8], grid: &[u8]) -> Result<
 }
 
 /// The bytes have this fault, in pieces of any length.
-fn has_fault(rt: &impl Abort, alloc: Global, bytes: &[u8], want: BlobFault) {
+pub(crate) fn has_fault(rt: &impl Abort, alloc: Global, bytes: &[u8], want: BlobFault) {
     for piece in PIECES {
         assert!(rt; piece > 0);
         let answer = fed_in(alloc, bytes, piece);

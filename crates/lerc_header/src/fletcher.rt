@@ -29,7 +29,8 @@ fn add_group(bytes: &[u8], first: u32, second: u32) -> (u32, u32)
     requires first { first ≤ 131070 }
     requires second { second ≤ 131070 }
     ensures first { result.0 ≡ first + sum (words bytes.now) }
-    ensures second { result.1 ≡ second + length (words bytes.now) * first + weighted (words bytes.now) }
+    ensures second { result.1
+        ≡ second + length (words bytes.now) * first + weighted (words bytes.now) }
 {
     let mut sum1 = first;
     let mut sum2 = second;

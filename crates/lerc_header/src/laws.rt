@@ -38,8 +38,8 @@ pub fn bytes_have_a_header_or_a_fault()
     ensures { (bytes : List ℕ) → ((h : Header) × HeadAt bytes h) ⊎ HasFault (header_faults bytes) }
 {}
 
-/// Any bytes have a key and a version or a fault of them; and where these stand and as many bytes are
-/// there as the version's header has, they are a header or have a fault of its fields.
+/// Any bytes have a key and a version or a fault of them; and where these stand and as many bytes
+/// are there as the version's header has, they are a header or have a fault of its fields.
 pub fn fields_stand_or_fail()
     ensures key { (bytes : List ℕ) →
         ((v : Version) × (HasKey bytes × HasVersion bytes v)) ⊎ HasFault (key_faults bytes) }
@@ -67,7 +67,8 @@ pub fn first_faults_stay()
         ¬ (reason ≡ Truncated) → header_faults bytes place reason →
         header_faults (bytes ++ more) place reason }
     ensures key { (bytes more : List ℕ) (place : ℕ) (reason : BlobReason) →
-        10 ≤ length bytes → key_faults bytes place reason → key_faults (bytes ++ more) place reason }
+        10 ≤ length bytes → key_faults bytes place reason →
+        key_faults (bytes ++ more) place reason }
     ensures fields { (v : Version) (bytes more : List ℕ) (place : ℕ) (reason : BlobReason) →
         head_length v ≤ length bytes → field_faults v bytes place reason →
         field_faults v (bytes ++ more) place reason }

@@ -28,10 +28,11 @@ table_bytes values =
     head_bytes (width_of values) true (length values)
     ++ (distinct_above_0 values + 1)
     ∷ (stuffed_bytes (width_of values) (entries_of values)
-    ++ stuffed_bytes (binary_digits (distinct_above_0 values)) (map (index_in (entries_of values)) values))
+    ++ stuffed_bytes (binary_digits (distinct_above_0 values))
+    (map (index_in (entries_of values)) values))
 
--- whether the values have a list in the table form: some value is above 0, and at most 254 different
--- ones are
+-- whether the values have a list in the table form: some value is above 0, and at most 254
+-- different ones are
 abbrev pub has_table : List ℕ → Bool
 has_table values = nat_lt 0 (distinct_above_0 values) && nat_le (distinct_above_0 values) 254
 

@@ -28,8 +28,8 @@ pub fn entries_are_the_different_values()
         Contains (entries_of values) v ↔ ((0 < v) × Contains values v) }
 {}
 
-/// Where some value is above 0, and at most 254 different ones are, the bytes that `write_table` chooses
-/// are a list of the values.
+/// Where some value is above 0, and at most 254 different ones are, the bytes that `write_table`
+/// chooses are a list of the values.
 pub fn table_bytes_are_a_list()
     ensures list { (values : List ℕ) → length values < 2 ^ 32 → All (λ v. v < 2 ^ 31) values →
         0 < distinct_above_0 values → distinct_above_0 values ≤ 254 →

@@ -92,8 +92,8 @@ fn read_entries(bytes: &[u8], width: u32, table: &mut [u32]) -> Result<usize, Li
     read_numbers(bytes, width, &mut table[1..])
 }
 
-/// Reads the entries of a table of this size over `table`, which begins with its entry 0, and then the
-/// indexes into it, and how many bytes all that takes.
+/// Reads the entries of a table of this size over `table`, which begins with its entry 0, and then
+/// the indexes into it, and how many bytes all that takes.
 fn read_tabled(
     bytes: &[u8],
     width: u32,
@@ -164,14 +164,14 @@ fn read_form(bytes: &[u8], out: &mut [u32]) -> Result<usize, ListFault>
     behind(used, read_body(&bytes[used..], head, out))
 }
 
-/// Reads a list of as many numbers as `out` has, in either form, from the front of the bytes; how many
-/// bytes it takes. Spare bits are not looked at.
+/// Reads a list of as many numbers as `out` has, in either form, from the front of the bytes; how
+/// many bytes it takes. Spare bits are not looked at.
 ///
-/// The faults come in this order, each with its place: the head's own (`read_head`); `Cut` at the first
-/// byte of the numbers where they are cut. In the table form `Cut` at the byte that counts the entries
-/// where that is cut, `BadTable` there where it is below 2, `Cut` at the first byte of the entries or of
-/// the indexes where these are cut, and `BadIndex` at the first byte of the indexes where one of them has
-/// no entry. After a fault `out` has any content.
+/// The faults come in this order, each with its place: the head's own (`read_head`); `Cut` at the
+/// first byte of the numbers where they are cut. In the table form `Cut` at the byte that counts
+/// the entries where that is cut, `BadTable` there where it is below 2, `Cut` at the first byte of
+/// the entries or of the indexes where these are cut, and `BadIndex` at the first byte of the
+/// indexes where one of them has no entry. After a fault `out` has any content.
 pub fn read_list(bytes: &[u8], out: &mut [u32]) -> Result<usize, ListFault>
     requires { length out.old ≤ 1024 }
     ensures ok { IfOk result

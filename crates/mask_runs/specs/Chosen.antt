@@ -35,8 +35,8 @@ pieces_after zero (byte ∷ mask) =
 abbrev pub chosen_pieces : List ℕ → List MaskPiece
 chosen_pieces mask = pieces_after 0 mask
 
--- what is written for a piece: its count in two bytes, the lower one first, in two's complement, and
--- its body
+-- what is written for a piece: its count in two bytes, the lower one first, in two's complement,
+-- and its body
 abbrev pub piece_bytes : MaskPiece → List ℕ
 piece_bytes piece = little_bytes 2 (cast_unsigned w16 (piece_count piece)) ++ piece_body piece
 

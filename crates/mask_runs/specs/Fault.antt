@@ -16,8 +16,8 @@ abbrev pub body_length : ℤ → ℕ
 body_length (pos n) = n
 body_length (negsuc n) = 1
 
--- What is wrong at a place where a run or the end mark should stand: `rest` are the bytes from there
--- on, and `room` is how many bytes of the mask are still to come.
+-- What is wrong at a place where a run or the end mark should stand: `rest` are the bytes from
+-- there on, and `room` is how many bytes of the mask are still to come.
 pub data IsWrongRun (rest : List ℕ) (room : ℕ) : Type 0 where
   -- the count is cut
   count_cut : length rest < 2 → IsWrongRun rest room
@@ -36,7 +36,8 @@ pub data IsWrongRun (rest : List ℕ) (room : ℕ) : Type 0 where
 pub data FirstRunFault (bytes : List ℕ) (n place : ℕ) : Type 0 where
   -- whole runs that fit in the mask stand before the place, and what should follow them is wrong
   in_run : (mask : List ℕ) → place ≤ length bytes → AreJoinedRuns (take place bytes) mask
-      → length mask ≤ n → IsWrongRun (drop place bytes) (n - length mask) → FirstRunFault bytes n place
+      → length mask ≤ n → IsWrongRun (drop place bytes) (n - length mask)
+      → FirstRunFault bytes n place
   -- runs of such a mask end before the place, and there is a byte after their end mark
   after_end : (mask : List ℕ) → place < length bytes → Runs (take place bytes) mask
       → length mask ≡ n → FirstRunFault bytes n place

@@ -1,4 +1,5 @@
--- Runs, their first fault, and the runs that are chosen; `inside` has the words of private functions.
+-- Runs, their first fault, and the runs that are chosen; `inside` has the words of private
+-- functions.
 pub mod Runs
 pub mod Fault
 pub mod Chosen

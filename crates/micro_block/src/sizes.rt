@@ -1,22 +1,23 @@
 // How long a block is in each form.
 
-ghost use Rattle.std.specs.Prelude.{◌≡◌, ℕ, ℤ, ◌+◌, ◌≤◌, ◌<◌, ◌^◌, ◌≤ℤ◌, length, map, Some, None, All, IfSome};
+ghost use Rattle.std.specs.Prelude.{◌≡◌, ℕ, ℤ, pos, ◌+◌, ◌≤◌, ◌<◌, ◌^◌, ◌≤ℤ◌, length, map};
+ghost use Rattle.std.specs.Prelude.{unsigned_abs};
+ghost use Rattle.std.specs.Prelude.{Some, None, All, IfSome, ◌⊎◌};
+ghost use Rattle.micro_block.specs.inside.Forms.{AreListable};
 ghost use Rattle.bit_stuff.specs.Head.{head_size};
 ghost use Rattle.bit_stuff.specs.Stuffed.{stuffed_size};
 ghost use Rattle.bit_stuff.specs.Simple.{binary_digits};
 ghost use Rattle.raster_values.specs.PixelType.{InRange};
 ghost use Rattle.micro_block.specs.Choice as choice;
 ghost use Rattle.micro_block.specs.Fewest.{allowed};
-ghost use Rattle.lut_stuff.specs.Tables.{table_size};
+ghost use Rattle.lut_stuff.specs.Tables.{distinct_above_0, table_size};
 ghost use Rattle.micro_block.specs.Near.{quantised};
-ghost use Rattle.micro_block.specs.inside.Sizes.{closed_sizes, tabled_size, AreEnds, IsFound};
-ghost use Rattle.micro_block.specs.Frame.{IsBlockCtx};
+ghost use Rattle.micro_block.specs.inside.Sizes.{closed_sizes, AreEnds, IsTabledLength};
 ghost use Rattle.lane_kernels.specs.Kernels.{IsSmall};
 ghost use Rattle.bit_stuff.specs.Simple.{greatest_number};
 
-use crate::context::BlockCtx;
-use crate::first::first_least;
-use crate::quantising::quantised_value;
+use crate::quantising::steps;
+use crate::shorter::{has_more, most_entries};
 use bit_stuff::{digit_count, head_len, stuffed_len};
 use lane_kernels::range;
 use lut_stuff::table_len;
@@ -29,7 +30,7 @@ fn holds(kind: PixelType, value: i64) -> bool
 }
 
 /// The narrowest type in which the offset may stand.
-fn narrow_type(kind: PixelType, value: i64) -> PixelType
+pub(crate) fn narrow_type(kind: PixelType, value: i64) -> PixelType
     ensures { result ≡ choice.narrow_type kind value }
 {
     match kind {
@@ -89,9 +90,9 @@ fn list_size(count: usize, most: u64) -> usize
     head_len(count as u32) + stuffed_len(count, digit_count(most as u32))
 }
 
-/// How many bytes the block of `count` values takes in each form, the least of which is `least` and the
-/// greatest of which has `most` steps: None where the form may not be.
-fn form_sizes(
+/// How many bytes the block of `count` values takes in each form, the least of which is `least` and
+/// the greatest of which has `most` steps: None where the form may not be.
+pub(crate) fn form_sizes(
     count: usize,
     kind: PixelType,
     least: i64,
@@ -120,7 +121,7 @@ fn form_sizes(
 }
 
 /// The least and the greatest of the values, and 0 and 0 of none.
-fn ends(values: &[i64], kind: PixelType) -> (i64, i64)
+pub(crate) fn ends(values: &[i64], kind: PixelType) -> (i64, i64)
     requires in_range { All (InRange kind) values.now }
     ensures { AreEnds kind values.now result.0 result.1 }
 {
@@ -130,78 +131,91 @@ fn ends(values: &[i64], kind: PixelType) -> (i64, i64)
     }
 }
 
-/// Writes the number of steps of each value from `least`.
-fn steps_of(values: &[i64], least: i64, step: u64, out: &mut [u32])
-    requires lengths { length out.old ≡ length values.now }
-    requires small { All IsSmall values.now }
-    requires small_least { IsSmall least }
-    requires order { All (λ v. least ≤ℤ v) values.now }
-    requires step { (0 < step) × (step ≤ 8589934592) }
-    requires few { All (λ v. quantised step least v < 2 ^ 30) values.now }
-    ensures { out.new ≡ map (quantised step least) values.now }
+/// Writes the same numbers without a sign.
+fn narrow(wide: &[i64], out: &mut [u32])
+    requires lengths { length out.old ≡ length wide.now }
+    requires fits { All (λ z. (pos 0 ≤ℤ z) × (z ≤ℤ pos 4294967295)) wide.now }
+    ensures { out.new ≡ map unsigned_abs wide.now }
 {
-    for (i, value) in values.iter().enumerate() {
-        out[i] = quantised_value(*value, least, step) as u32;
+    for (i, number) in wide.iter().enumerate() {
+        out[i] = *number as u32;
     }
 }
 
-/// How many bytes the list takes in the table form, with room for the numbers of steps.
-fn table_of(values: &[i64], least: i64, step: u64, qs: &mut [u32]) -> Option<usize>
-    requires count { length values.now ≤ 256 }
+/// Writes the number of steps of each value from `least`, with room for as many with a sign.
+fn steps_through(values: &[i64], least: i64, step: u64, wide: &mut [i64], out: &mut [u32])
+    requires lengths { length out.old ≡ length values.now }
+    requires room { length wide.old ≡ length values.now }
+    requires listable { AreListable step least values.now }
+    ensures { out.new ≡ map (quantised step least) values.now }
+{
+    steps(values, least, step, wide);
+    narrow(wide, out);
+}
+
+/// Writes the number of steps of each value from `least`.
+pub(crate) fn steps_of(values: &[i64], least: i64, step: u64, out: &mut [u32])
+    requires lengths { length out.old ≡ length values.now }
+    requires listable { AreListable step least values.now }
+    ensures { out.new ≡ map (quantised step least) values.now }
+{
+    let count = values.len();
+    if count <= 64 {
+        let mut wide = [0; 64];
+        steps_through(values, least, step, &mut wide[..count], out);
+    } else {
+        let mut wide = [0; 256];
+        steps_through(values, least, step, &mut wide[..count], out);
+    }
+}
+
+/// How many bytes the list takes in the table form, with room for the numbers of steps: None also
+/// where more different ones than the bound are found.
+fn table_within(
+    values: &[i64],
+    least: i64,
+    step: u64,
+    bound: usize,
+    qs: &mut [u32],
+) -> Option<usize>
     requires lengths { length qs.old ≡ length values.now }
-    requires small { All IsSmall values.now }
-    requires small_least { IsSmall least }
-    requires order { All (λ v. least ≤ℤ v) values.now }
-    requires step { (0 < step) × (step ≤ 8589934592) }
-    requires few { All (λ v. quantised step least v < 2 ^ 30) values.now }
-    ensures value { result ≡ table_size (map (quantised step least) values.now) }
+    requires listable { AreListable step least values.now }
+    requires bound { bound ≤ 256 }
+    ensures value { (result ≡ table_size (map (quantised step least) values.now))
+        ⊎ ((result ≡ None) × (bound < distinct_above_0 (map (quantised step least) values.now))) }
     ensures short { IfSome result (λ n. n ≤ 2000) }
 {
     steps_of(values, least, step, qs);
+    if has_more(qs, bound) {
+        return None;
+    }
     table_len(qs)
 }
 
-/// How many bytes the list takes in the table form, where it may stand.
-fn tabled_len(values: &[i64], kind: PixelType, least: i64, most: u64, step: u64) -> Option<usize>
+/// How many bytes the list takes in the table form, where it may stand and is shorter than in the
+/// simple form. Where it is not, it may be that None is answered.
+pub(crate) fn tabled_len(
+    values: &[i64],
+    kind: PixelType,
+    least: i64,
+    most: u64,
+    step: u64,
+) -> Option<usize>
     requires count { length values.now ≤ 256 }
     requires in_range { All (InRange kind) values.now }
     requires step { (0 < step) × (step ≤ 8589934592) }
     requires least { least ≡ choice.least_value values.now }
     requires most { most ≡ greatest_number (choice.quantised_values step values.now) }
-    ensures value { result ≡ tabled_size step values.now }
+    ensures value { IsTabledLength step values.now result }
     ensures short { IfSome result (λ n. n ≤ 2000) }
 {
     if most == 0 || most >= 1 << 30 {
         return None;
     }
+    let bound = most_entries(values.len(), digit_count(most as u32));
+    if bound == 0 {
+        return None;
+    }
     let mut qs = [0; 256];
-    table_of(values, least, step, &mut qs[..values.len()])
-}
-
-/// The place, in the order of the forms, of the form that is chosen for the values, and the length of
-/// the block.
-fn found(values: &[i64], kind: PixelType, step: u64) -> (usize, usize)
-    requires few { length values.now ≤ 256 }
-    requires in_range { All (InRange kind) values.now }
-    requires step { (0 < step) × (step ≤ 8589934592) }
-    ensures { (col : ℕ) → IsFound kind col step values.now result }
-{
-    let (least, greatest) = ends(values, kind);
-    let most = quantised_value(greatest, least, step);
-    let tabled = tabled_len(values, kind, least, most, step);
-    let sizes = form_sizes(values.len(), kind, least, most, tabled);
-    first_least(&sizes).unwrap_or((2, 0))
-}
-
-/// How many bytes the chosen block of the values takes: that of the fewest bytes among the forms zero,
-/// constant, raw, stuffed with a simple list and stuffed with a table, of which the first where two take
-/// as many.
-pub fn block_len(values: &[i64], ctx: &BlockCtx) -> usize
-    requires few { length values.now ≤ 256 }
-    requires ctx { IsBlockCtx ctx.now }
-    requires in_range { All (InRange ctx.now.kind) values.now }
-    requires capped { All (λ v. v ≤ℤ ctx.now.top) values.now }
-    ensures { result ≡ length (choice.block_bytes ctx.now.kind ctx.now.col ctx.now.step values.now) }
-{
-    found(values, ctx.kind, ctx.step).1
+    table_within(values, least, step, bound, &mut qs[..values.len()])
 }

@@ -98,9 +98,9 @@ fn the_first_test_that_fails(rt: HostRuntime) -> Result<(), Fail> {
         whole[at + 1] = field[1];
         let mut other = beside(alloc, &whole, None)?;
         let state = read_journal(&mut other);
-        assert!(rt;
-            matches!(&state, Ok(JournalState::Bad { place: p, found: f }) if *p == place && *f == found)
-        );
+        let bad = matches!(&state,
+            Ok(JournalState::Bad { place: p, found: f }) if *p == place && *f == found);
+        assert!(rt; bad);
         whole[at] = kept[0];
         whole[at + 1] = kept[1];
     }

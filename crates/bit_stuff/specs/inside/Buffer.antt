@@ -1,4 +1,5 @@
--- The state of writing stuffed bytes: `at` bytes are written, and `held` has the `used` bits above them.
+-- The state of writing stuffed bytes: `at` bytes are written, and `held` has the `used` bits above
+-- them.
 use Rattle.std.specs.Prelude.{ℕ, ◌+◌, ◌*◌, ◌^◌, ◌<◌, List, take}
 use Rattle.bit_stuff.specs.Stuffed.{number_of_bytes}
 use Rattle.bit_stuff.specs.declared.packing.Buffer.{Buffer}

@@ -10,8 +10,10 @@ pub record AreLookedUp (table indexes values : List ℕ) : Type 0 where
   pub within : All (λ i. i < length table) indexes
   pub named : values ≡ map (λ i. get_or table i 0) indexes
 
--- the first bytes are indexes into the table, in as many bits as `most` has digits, which name the values
-pub record HasIndexes (table : List ℕ) (most : ℕ) (bytes : List ℕ) (used : ℕ) (values : List ℕ) : Type 0 where
+-- the first bytes are indexes into the table, in as many bits as `most` has digits, which name the
+-- values
+pub record HasIndexes (table : List ℕ) (most : ℕ) (bytes : List ℕ) (used : ℕ)
+    (values : List ℕ) : Type 0 where
   pub room : used ≤ length bytes
   pub indexes : List ℕ
   pub stuffed : IsStuffed (take used bytes) (binary_digits most) indexes

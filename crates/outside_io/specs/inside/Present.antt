@@ -23,9 +23,13 @@ pub record IsSoundDisk (d : Disk) : Type 0 where
   pub journal : IsSound d.journal
 
 sound_settled : (bytes : List ℕ) → AreBytes bytes → IsSound (settled bytes)
-sound_settled bytes octets = record { present = record { size = inl refl; bytes = λ i c b u. refl; octets = octets }; base = octets }
+sound_settled bytes octets = record {
+  present = record { size = inl refl; bytes = λ i c b u. refl; octets = octets };
+  base = octets;
+}
 
-octets_laid : (old bytes : List ℕ) (at : ℕ) → at ≤ length old → AreBytes old → AreBytes bytes → AreBytes (laid at bytes old)
+octets_laid : (old bytes : List ℕ) (at : ℕ) → at ≤ length old → AreBytes old → AreBytes bytes
+    → AreBytes (laid at bytes old)
 octets_laid old bytes at within olds news i less = elim (cases_lt i at) [
   | inl before ↦
       let same : get_or (laid at bytes old) i 0 ≡ get_or old i 0 = grind (arith, places) in
@@ -33,7 +37,8 @@ octets_laid old bytes at within olds news i less = elim (cases_lt i at) [
       omega (arith, same, small)
   | inr from ↦ elim (cases_lt i (at + length bytes)) [
     | inl inside ↦
-        let same : get_or (laid at bytes old) i 0 ≡ get_or bytes (i - at) 0 = grind (arith, places) in
+        let same : get_or (laid at bytes old) i 0 ≡ get_or bytes (i - at) 0 =
+        grind (arith, places) in
         let small : get_or bytes (i - at) 0 < 256 = news (i - at) (omega arith) in
         omega (arith, same, small)
     | inr past ↦
@@ -44,14 +49,24 @@ octets_laid old bytes at within olds news i less = elim (cases_lt i at) [
   ]
 ]
 
-sound_wrote : (f : File) (at : ℕ) (bytes : List ℕ) → at ≤ length f.now → AreBytes bytes → IsSound f → IsSound (wrote at bytes f)
+sound_wrote : (f : File) (at : ℕ) (bytes : List ℕ) → at ≤ length f.now → AreBytes bytes → IsSound f
+    → IsSound (wrote at bytes f)
 sound_wrote f at bytes within octets here =
-    let size : (length f.now ≤ length (laid at bytes f.now)) × (length (laid at bytes f.now) ≤ length (laid at bytes f.now)) = (grind (arith, places), omega arith) in record {
+    let new : List ℕ = laid at bytes f.now in
+    let size : (length f.now ≤ length new) × (length new ≤ length new) =
+    (grind (arith, places), omega arith) in
+    record {
       present = record {
         size = inr (inl size);
         bytes = λ i less base untouched. elim untouched.0 [
-          | inl before ↦ (let same : get_or (laid at bytes f.now) i 0 ≡ get_or f.now i 0 = grind (arith, places) in same) ∙ here.present.bytes i (omega arith) base untouched.1
-          | inr after ↦ (let same : get_or (laid at bytes f.now) i 0 ≡ get_or f.now i 0 = grind (arith, places) in same) ∙ here.present.bytes i (grind (arith, places)) base untouched.1
+          | inl before ↦
+              let same : get_or (laid at bytes f.now) i 0 ≡ get_or f.now i 0 =
+              grind (arith, places) in
+              same ∙ here.present.bytes i (omega arith) base untouched.1
+          | inr after ↦
+              let same : get_or (laid at bytes f.now) i 0 ≡ get_or f.now i 0 =
+              grind (arith, places) in
+              same ∙ here.present.bytes i (grind (arith, places)) base untouched.1
         ];
         octets = octets_laid f.now bytes at within here.present.octets octets;
       };
@@ -63,7 +78,9 @@ sound_shortened f n within here =
     let size : length (take n f.now) ≡ n = omega (arith, length-take n f.now) in record {
       present = record {
         size = inr (inl (omega arith, omega arith));
-        bytes = λ i less base untouched. (let lt : i < n = omega arith in get_or-take n f.now i 0 lt) ∙ here.present.bytes i (omega arith) base untouched;
+        bytes = λ i less base untouched.
+            let lt : i < n = omega arith in
+            get_or-take n f.now i 0 lt ∙ here.present.bytes i (omega arith) base untouched;
         octets = λ i less.
             let lt : i < n = omega arith in
             let small : get_or f.now i 0 < 256 = here.present.octets i (omega arith) in
@@ -72,14 +89,35 @@ sound_shortened f n within here =
       base = here.base;
     }
 
-sound_step : (ask : Ask) (bytes : List ℕ) (d : Disk) → AreBytes bytes → IsSoundDisk d → IsSoundDisk (disk_after ask bytes d)
+sound_step : (ask : Ask) (bytes : List ℕ) (d : Disk) → AreBytes bytes → IsSoundDisk d
+    → IsSoundDisk (disk_after ask bytes d)
 sound_step Look bytes d octets here = here
-sound_step (Write Bundle at) bytes d octets here = record { bundle = sound_wrote d.bundle (min at (length d.bundle.now)) bytes (omega arith) octets here.bundle; journal = here.journal }
-sound_step (Write Journal at) bytes d octets here = record { bundle = here.bundle; journal = sound_wrote d.journal (min at (length d.journal.now)) bytes (omega arith) octets here.journal }
-sound_step (Cut Bundle len) bytes d octets here = record { bundle = sound_shortened d.bundle (min len (length d.bundle.now)) (omega arith) here.bundle; journal = here.journal }
-sound_step (Cut Journal len) bytes d octets here = record { bundle = here.bundle; journal = sound_shortened d.journal (min len (length d.journal.now)) (omega arith) here.journal }
-sound_step (Sync Bundle) bytes d octets here = record { bundle = sound_settled d.bundle.now here.bundle.present.octets; journal = here.journal }
-sound_step (Sync Journal) bytes d octets here = record { bundle = here.bundle; journal = sound_settled d.journal.now here.journal.present.octets }
+sound_step (Write Bundle at) bytes d octets here = record {
+  bundle =
+      sound_wrote d.bundle (min at (length d.bundle.now)) bytes (omega arith) octets here.bundle;
+  journal = here.journal;
+}
+sound_step (Write Journal at) bytes d octets here = record {
+  bundle = here.bundle;
+  journal =
+      sound_wrote d.journal (min at (length d.journal.now)) bytes (omega arith) octets here.journal;
+}
+sound_step (Cut Bundle len) bytes d octets here = record {
+  bundle = sound_shortened d.bundle (min len (length d.bundle.now)) (omega arith) here.bundle;
+  journal = here.journal;
+}
+sound_step (Cut Journal len) bytes d octets here = record {
+  bundle = here.bundle;
+  journal = sound_shortened d.journal (min len (length d.journal.now)) (omega arith) here.journal;
+}
+sound_step (Sync Bundle) bytes d octets here = record {
+  bundle = sound_settled d.bundle.now here.bundle.present.octets;
+  journal = here.journal;
+}
+sound_step (Sync Journal) bytes d octets here = record {
+  bundle = here.bundle;
+  journal = sound_settled d.journal.now here.journal.present.octets;
+}
 
 octets_clean : (l : List ℕ) → AreBytes (map as_byte l)
 octets_clean [] i less = absurd (omega arith)
@@ -88,14 +126,19 @@ octets_clean (x ∷ l) (suc i) less = octets_clean l i (omega arith)
 
 sound_replay : (ss : List Effect) (d : Disk) → IsSoundDisk d → IsSoundDisk (replay (map clean ss) d)
 sound_replay [] d here = here
-sound_replay (s ∷ ss) d here = sound_replay ss (disk_after s.ask (map as_byte s.bytes) d) (sound_step s.ask (map as_byte s.bytes) d (octets_clean s.bytes) here)
+sound_replay (s ∷ ss) d here =
+    let bytes : List ℕ = map as_byte s.bytes in
+    let stepped : IsSoundDisk (disk_after s.ask bytes d) =
+    sound_step s.ask bytes d (octets_clean s.bytes) here in
+    sound_replay ss (disk_after s.ask bytes d) stepped
 
 pub octets_sparse : (len : ℕ) (pieces : List (ℕ × List ℕ)) → AreBytes (sparse len pieces)
 unfolding sparse
 octets_sparse len pieces i less =
     let f : ℕ → ℕ = λ j. as_byte (byte_at pieces j 0) in
     let in_len : i < len = omega (arith, less, length-map-range_with_len f 0 len) in
-    let is : get_or (map f (range_with_len 0 len)) i 0 ≡ f i = get_or-map-range_with_len f 0 len i i 0 in_len (omega arith) in
+    let is : get_or (map f (range_with_len 0 len)) i 0 ≡ f i =
+    get_or-map-range_with_len f 0 len i i 0 in_len (omega arith) in
     omega (arith, is)
 
 -- at each moment
@@ -115,8 +158,11 @@ present_recorded r = record {
 -- of a file of which nothing is pending a crash leaves what a read gives
 pub only_settled : (bytes c : List ℕ) → IsImage (settled bytes) c → c ≡ bytes
 only_settled bytes c image =
-    let size : length c ≡ length bytes = elim image.size [ inl same ↦ same | inr had ↦ absurd had ] in
-    same_lists c bytes size (λ k d lt. let k_in : k < length bytes = omega arith in get_or_default c k d 0 lt ∙ image.bytes k lt k_in tt ∙ get_or_default bytes k 0 d k_in)
+    let size : length c ≡ length bytes =
+    elim image.size [ inl same ↦ same | inr had ↦ absurd had ] in
+    same_lists c bytes size (λ k d lt.
+    let k_in : k < length bytes = omega arith in
+    get_or_default c k d 0 lt ∙ image.bytes k lt k_in tt ∙ get_or_default bytes k 0 d k_in)
 
 -- of a volume that tells nothing any law holds
 pub nothing_told : {A : Type 0} → IsTrue false → A

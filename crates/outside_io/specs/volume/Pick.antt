@@ -1,5 +1,5 @@
 -- Which image a crash is to leave.
-use Rattle.std.specs.Prelude.{◌≡◌, ◌⊎◌, ℕ, ◌+◌, ◌<◌, ◌≤◌, List, [], ◌∷◌, ◌++◌, length, replicate, slice_index}
+use Rattle.std.specs.Prelude.{◌≡◌, ◌⊎◌, ℕ, ◌+◌, ◌<◌, ◌≤◌, List, [], ◌∷◌, length, slice_index}
 use Rattle.outside_io.specs.declared.volume.image.Pick.{Pick}
 use Rattle.outside_io.specs.declared.volume.image.Pick.TheVariants.{Oldest, Newest, Torn}
 use Rattle.outside_io.specs.volume.Disk.{File, IsUntouched}

@@ -1,9 +1,9 @@
 -- A volume in memory, by what its files held first and what was done to them.
-use Rattle.std.specs.Prelude.{◌≡◌, ◌↔◌, ◌⊎◌, ℕ, ◌+◌, ◌-◌, ◌^◌, ◌<◌, ◌≤◌, min, List, [], ◌∷◌, length, take, map, Option, IsSomeAnd, Result, IsErr, OnOk, OnErr, Contains}
+use Rattle.std.specs.Prelude.{◌≡◌, ◌⊎◌, ℕ, ◌+◌, ◌-◌, ◌^◌, ◌<◌, ◌≤◌, min, List, [], ◌∷◌, length, take, map, Option, IsSomeAnd, Result, OnOk, OnErr, Contains}
 use Rattle.outside_io.specs.declared.volume.call_log.Ask.{Ask}
 use Rattle.outside_io.specs.declared.volume.call_log.Ask.TheVariants.{Look, Write, Cut, Sync}
 use Rattle.outside_io.specs.streams.Faults.{one_more}
-use Rattle.outside_io.specs.volume.Disk.{Disk, change, file_of, settled, shortened, synced, wrote}
+use Rattle.outside_io.specs.volume.Disk.{Disk, change, settled, shortened, synced, wrote}
 use Rattle.outside_io.specs.volume.History.{History}
 use Rattle.outside_io.specs.volume.Sparse.{SparseFile, as_byte, sparse_bytes}
 
