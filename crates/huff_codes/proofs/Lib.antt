@@ -27,3 +27,4 @@ pub mod Counting
 pub mod Filling
 pub mod ChosenRuns
 pub mod ChosenTables
+pub mod Counted

@@ -1,7 +1,7 @@
 -- The laws of code lengths and canonical codes in the words of the format.
 use Rattle.std.specs.Prelude.{ℕ, ◌≡◌, ◌+◌, ◌-◌, ◌*◌, ◌/◌, ◌^◌, ◌<◌, Bool, true, false, List, []}
-use Rattle.std.specs.Prelude.{◌∷◌, length, All, slice_index}
-use Rattle.huff_codes.specs.Tree.{Tree, is_before, used_below, after_joins}
+use Rattle.std.specs.Prelude.{◌∷◌, ◌≤◌, ◌↔◌, length, All, slice_index}
+use Rattle.huff_codes.specs.Tree.{Tree, is_before, used_below, after_joins, lengths_of, used_count}
 use Rattle.huff_codes.specs.Bits.{bits_of}
 use Rattle.huff_codes.specs.Codes.{AreLengths, is_earlier, start_of, canonical_code, canonical_codes}
 use Rattle.huff_codes.specs.Table.{IsTable}
@@ -43,3 +43,8 @@ CanonicalCodesCountUp = (lengths : List ℕ) → AreLengths lengths → CountUp 
 abbrev pub WrittenTablesAreTables : Type 0
 WrittenTablesAreTables = (lengths bytes : List ℕ) → AreLengths lengths → IsWrittenTable lengths bytes
     → IsTable bytes (canonical_codes lengths)
+
+-- where two symbols or more are used, those that are counted have lengths, and no others
+abbrev pub CountedHaveLengths : Type 0
+CountedHaveLengths = (counts : List ℕ) (s : ℕ) → 2 ≤ used_count counts → s < 256
+    → (0 < slice_index counts s) ↔ (0 < slice_index (lengths_of counts) s)

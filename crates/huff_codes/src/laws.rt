@@ -7,7 +7,7 @@ ghost use Rattle.huff_codes.specs.Tree.{lengths_of, used_count};
 ghost use Rattle.huff_codes.specs.Codes.{AreCodes, AreLengths, HasCode, IsPrefixFree};
 ghost use Rattle.huff_codes.specs.Codes.{canonical_codes};
 ghost use Rattle.huff_codes.specs.Laws.{CanonicalCodesCountUp, JoinsTakeTheLeast};
-ghost use Rattle.huff_codes.specs.Laws.{WrittenTablesAreTables};
+ghost use Rattle.huff_codes.specs.Laws.{CountedHaveLengths, WrittenTablesAreTables};
 ghost use Rattle.huff_codes.specs.Table.{IsCoding, IsTable, coding_faults, table_faults};
 ghost use Rattle.huff_codes.specs.Words.{AreWords, word_faults};
 ghost use Rattle.huff_codes.specs.Written.{AreWritten};
@@ -67,4 +67,9 @@ pub fn written_words_are_words()
 /// What is written of lengths is a table of their canonical codes, so it is read back.
 pub fn written_tables_are_tables()
     ensures { WrittenTablesAreTables }
+{}
+
+/// Where two symbols or more are used, those that are counted have lengths, and no others have.
+pub fn counted_symbols_have_lengths()
+    ensures { CountedHaveLengths }
 {}

@@ -20,13 +20,15 @@ pub use codes::Codes;
 pub use faults::{CodeFault, CodeReason};
 pub use laws::{
     canonical_codes_are_codes, canonical_codes_count_up, chosen_lengths_are_lengths,
-    joins_take_the_least, tables_are_a_part, tables_have_codes, words_are_a_part,
-    written_tables_are_tables, written_words_are_words,
+    counted_symbols_have_lengths, joins_take_the_least, tables_are_a_part, tables_have_codes,
+    words_are_a_part, written_tables_are_tables, written_words_are_words,
 };
 pub use lengths::Lengths;
 pub use table::read_table;
 pub use words::read_symbols;
-pub use writing::{symbols_len, write_symbols};
+pub use writing::{have_lengths, symbols_len, write_symbols};
 
 #[cfg(test)]
 mod tests;
+#[cfg(test)]
+mod writing_tests;

@@ -1,7 +1,8 @@
 //! Writing code words, one behind the other.
 
 ghost use Rattle.std.specs.Prelude.{◌≡◌, ℕ, ◌+◌, ◌-◌, ◌*◌, ◌/◌, ◌%◌, ◌^◌, ◌≤◌, ◌<◌, ◌++◌, List, Bool};
-ghost use Rattle.std.specs.Prelude.{length, take, All, replicate, slice_index};
+ghost use Rattle.std.specs.Prelude.{length, take, All, replicate, slice_index, SomeIndex};
+ghost use Rattle.std.specs.Bool.{MatchBool};
 ghost use Rattle.byteorder.specs.Endian.{little_bytes};
 ghost use Rattle.huff_codes.specs.Codes.{AreLengths, canonical_codes};
 ghost use Rattle.huff_codes.specs.Words.{joined_codes, word_count, AreWords};
@@ -160,6 +161,20 @@ fn bits_of_all(lengths: &[u8; 256], symbols: &[u8]) -> usize
         bits += usize::from(lengths[usize::from(*symbol)]);
     }
     bits
+}
+
+/// Whether each of the symbols has a length.
+pub fn have_lengths(symbols: &[u8], lengths: &Lengths) -> bool
+    ensures { MatchBool result (All (λ s. 0 < slice_index lengths.now s) symbols.now)
+        (SomeIndex symbols.now (λ k. slice_index lengths.now (slice_index symbols.now k) ≡ 0)) }
+{
+    let all = lengths.all();
+    for symbol in symbols {
+        if all[usize::from(*symbol)] == 0 {
+            return false;
+        }
+    }
+    true
 }
 
 /// How many bytes `write_symbols` takes for the symbols: the least number of words that hold their
