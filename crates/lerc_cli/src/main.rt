@@ -8,6 +8,8 @@
 #![tactic(auto)]
 
 mod arguments;
+#[cfg(test)]
+mod coded_tests;
 mod command;
 mod decode;
 mod info;
@@ -21,8 +23,6 @@ mod program;
 mod reading;
 mod run;
 mod stop;
-#[cfg(test)]
-mod coded_tests;
 #[cfg(test)]
 mod tests;
 
