@@ -141,6 +141,15 @@ bytes 4c 47 52 31 01 01 00 00 00 02 00 00 00 02 00 00 00 01 01 05 09 05 09 >rang
 } >sweep
 bytes 4c 47 52 31 04 01 00 00 00 02 00 00 00 01 00 00 00 01 01 00 00 00 80 ff ff ff 7f >sweep_grid
 
+# What `info` tells of three of them.
+lines_of() {
+    printf '%s\n' "version 3" "type $1" "rows 1" "cols $2" "depth 1" "valid $3" "side 8" "size $4" "step 1" \
+        "least $5" "greatest $6" "checksum $7" "mask $8" "image $9"
+}
+lines_of u8 1 1 66 7 7 c0664559 full constant >lines
+lines_of u8 9 8 72 7 7 c1730a96 'runs 6' constant >runs_lines
+lines_of i32 2 2 75 -2147483648 2147483647 43be2880 full sweep >sweep_lines
+
 # Those with runs and with lists, changed: a run of no byte, one valid pixel fewer in the header, and no
 # mask; lists that differ, behind which nothing stands. The checksums are right.
 {
@@ -246,7 +255,7 @@ expect 'a word of 5,000 bytes' 1 nothing "$usage" plainly - "$long" <blob
 expect 'a second word' 1 nothing "$usage" plainly - decode x <blob
 expect 'a second word that is empty' 1 nothing "$usage" plainly - decode '' <blob
 expect 'a second word that is no UTF-8' 1 nothing "$usage" plainly - decode "$bad_text" <blob
-for command in encode info build put get list check recover sample; do
+for command in encode build put get list check recover sample; do
     expect "a command that is not built yet: $command" 1 nothing "$usage" plainly - "$command" <blob
 done
 expect 'words come before a failing source' 1 nothing "$usage" input_closed - x
@@ -287,6 +296,19 @@ expect 'decode: a closed output' 4 nothing "$no_output" output_closed - decode <
 expect 'decode: a full output' 4 nothing "$no_output" output_full - decode <blob
 expect 'decode: an output that nobody reads' 4 nothing "$no_output" output_unread - decode <wide
 expect 'decode: no blob and a closed output' 2 nothing "$truncated" output_closed - decode <short
+
+# ---- info
+
+expect 'info: a blob' 0 lines '' plainly - info <blob
+expect 'info: a blob, from a pipe in two pieces' 0 lines '' in_pieces - info
+expect 'info: a sweep' 0 sweep_lines '' plainly - info <sweep
+expect 'info: runs' 0 runs_lines '' plainly - info <runs
+expect 'info: a second word is no command' 1 nothing "$usage" plainly - info x <blob
+expect 'info: a byte behind the blob' 2 nothing 'refused: Leftover at 66' plainly - info <longer
+expect 'info: a blob without its last byte' 2 nothing "$truncated" plainly - info <short
+expect 'info: a good header and a bad run' 2 nothing 'refused: BadRun at 66' plainly - info <bad_run
+expect 'info: a closed input' 3 nothing "$no_source" input_closed - info
+expect 'info: a full output' 4 nothing "$no_output" output_full - info <blob
 
 # ---- A failing error output changes nothing
 

@@ -33,7 +33,7 @@ type_name U16 = codes "u16"
 type_name I32 = codes "i32"
 type_name U32 = codes "u32"
 
--- the line of a checksum: its four bytes in hexadecimal, the lowest first, as they stand in the blob
+-- the line of a checksum: its four bytes in hexadecimal, the lowest first, as they stand in a blob
 unfoldable pub checksum_line : ℕ → List ℕ
 checksum_line checksum = word_line (codes "checksum") (encode_lower (little_bytes 4 checksum))
 

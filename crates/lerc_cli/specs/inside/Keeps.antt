@@ -4,7 +4,6 @@ use Rattle.std.specs.declared.alloc.Global.{Global}
 use Rattle.raster_values.specs.Raster.{Pixels}
 use Rattle.lerc_decode.specs.declared.decoder.DecodeFault.{DecodeFault}
 use Rattle.lerc_decode.specs.declared.decoder.DecodeFault.TheVariants.{Blob as BlobOf, OutOfMemory as NoMemoryOf}
-use Rattle.lerc_decode.specs.declared.from_source.Decoded.{Decoded}
 use Rattle.lerc_decode.specs.declared.from_source.FromFault.{FromFault}
 use Rattle.lerc_decode.specs.declared.from_source.FromFault.TheVariants.{Blob, Source, OutOfMemory}
 use Rattle.lerc_decode.specs.FromSource.{IsSized}
@@ -18,7 +17,8 @@ abbrev pub Keeps : Option (Vec ℕ Global) → List ℕ → Type 0
 Keeps kept taken = IfSome kept (λ bytes. bytes.items ≡ taken)
 
 -- what is answered behind a decoder's answer
-abbrev pub kept_from : Result Pixels DecodeFault → Option (Vec ℕ Global) → Result (Vec ℕ Global) FromFault
+abbrev pub kept_from : Result Pixels DecodeFault → Option (Vec ℕ Global) →
+    Result (Vec ℕ Global) FromFault
 kept_from (Ok r) (Some bytes) = Ok bytes
 kept_from (Ok r) None = Err OutOfMemory
 kept_from (Err (BlobOf fault)) kept = Err (Blob fault)
