@@ -1,12 +1,9 @@
 -- The shortest range of symbols that holds all which have a length, and the table that is written of it.
-use Rattle.std.proofs.Common.{◌≡◌, ◌≢◌, ℕ, zero, suc, ◌+◌, ◌-◌, ◌*◌, ◌/◌, ◌%◌, ◌<◌, ◌≤◌, Bool, List, [], ◌∷◌, ◌++◌, length, get_or, map, take, drop, slice_index, refl, sym, ap, ◌∙◌, subst, inl, inr, arith}
-use Rattle.std.specs.Prelude.{All, sum}
-use Rattle.std.specs.List.{range_with_len}
-use Rattle.std.proofs.lemmas.Bool.{cases_lt, cases_eq}
+use Rattle.std.proofs.Common.{◌≡◌, ℕ, ◌+◌, ◌-◌, ◌%◌, ◌<◌, ◌≤◌, List, slice_index, sym, ap, ◌∙◌, subst, inl, inr, arith}
+use Rattle.std.proofs.lemmas.Bool.{cases_lt}
 use Rattle.huff_codes.specs.Codes.{AreLengths}
-use Rattle.huff_codes.specs.Table.{symbol_in, symbols_in, words_size}
 use Rattle.huff_codes.specs.declared.table.SymbolRange.{SymbolRange}
-use Rattle.huff_codes.specs.Written.{HoldsUsed, IsShortestRun, IsTableSize, run_lengths}
+use Rattle.huff_codes.specs.Written.{HoldsUsed, IsShortestRun}
 use Rattle.huff_codes.specs.inside.Cutting.{place_in}
 use Rattle.huff_codes.proofs.Cutting.{symbol_place}
 use Rattle.huff_codes.proofs.Made.{some_length}

@@ -1,11 +1,11 @@
 -- The table that is written is a table.
-use Rattle.std.proofs.Common.{◌≡◌, ◌≢◌, ℕ, zero, suc, ◌+◌, ◌-◌, ◌*◌, ◌/◌, ◌%◌, ◌^◌, ◌<◌, ◌≤◌, Bool, true, cond, nat_lt, List, [], ◌∷◌, ◌++◌, length, get_or, map, take, drop, slice_index, refl, sym, ap, ◌∙◌, subst, inl, inr, arith, ℤ, pos, ◌≤ℤ◌, ◌-ℤ◌, false, replicate}
-use Rattle.std.specs.Prelude.{All, SomeIndex, sum}
+use Rattle.std.proofs.Common.{◌≡◌, ℕ, zero, suc, ◌+◌, ◌-◌, ◌*◌, ◌^◌, ◌<◌, ◌≤◌, Bool, true, cond, nat_lt, List, [], ◌++◌, length, get_or, map, take, drop, slice_index, refl, sym, ap, ◌∙◌, subst, inl, inr, arith, ℤ, pos, ◌≤ℤ◌, ◌-ℤ◌, false, replicate}
+use Rattle.std.specs.Prelude.{All, sum}
 use Rattle.std.specs.List.{range_with_len}
-use Rattle.std.proofs.lemmas.Bool.{cases_lt, cases_eq}
+use Rattle.std.proofs.lemmas.Bool.{cases_lt}
 use Rattle.std.proofs.lemmas.Bool.Decides.{nat_tests}
 use Rattle.std.proofs.lemmas.Int.{ints}
-use Rattle.std.proofs.lemmas.List.{length-append, length-take-le, length-drop, take_at, take_all, take-append-drop, drop_at, drop-drop, append-nil, append_assoc, nil_from_length, ext_get_or, get_or_past, get_or_default}
+use Rattle.std.proofs.lemmas.List.{length-append, length-take-le, length-drop, take_at, take_all, take-append-drop, drop_at, drop-drop, append-nil, append_assoc, nil_from_length, ext_get_or, get_or_past}
 use Rattle.std.proofs.lemmas.List.FromFn.{length-map-range_with_len, get_or-map-range_with_len, map-range_with_len_more}
 use Rattle.std.proofs.lemmas.List.Elements.{All-from_get_or}
 use Rattle.std.proofs.lemmas.List.Sums.{sum_by_push, sum_by_more}
@@ -18,12 +18,11 @@ use Rattle.bit_stuff.proofs.Digits.{width_of-le}
 use Rattle.bit_stuff.proofs.HeadLaws.{simple_bytes-list, length-simple_bytes}
 use Rattle.bit_stuff.proofs.StuffedLaws.{stuffed_size-le}
 use Rattle.lut_stuff.specs.Lists.IsList.{simple}
-use Rattle.huff_codes.specs.Bits.{word_bits}
-use Rattle.huff_codes.specs.Codes.{AreCodes, AreLengths, code_at, canonical_codes}
+use Rattle.huff_codes.specs.Codes.{AreLengths, code_at, canonical_codes}
 use Rattle.huff_codes.specs.Words.{joined_codes, word_count}
-use Rattle.huff_codes.specs.Table.{int_at, IsRange, HaveLengths, IsLengthList, symbol_in, symbols_in, words_size, HoldCodes, AreCodeWords, IsTable}
+use Rattle.huff_codes.specs.Table.{int_at, IsRange, HaveLengths, symbol_in, symbols_in, words_size, AreCodeWords}
 use Rattle.huff_codes.specs.declared.table.SymbolRange.{SymbolRange}
-use Rattle.huff_codes.specs.Written.{AreTableWords, IsFilled, HoldsUsed, IsShortestRun, IsTableSize, IsWrittenTable, run_lengths, table_head}
+use Rattle.huff_codes.specs.Written.{AreTableWords, IsShortestRun, IsTableSize, run_lengths, table_head}
 use Rattle.huff_codes.specs.Laws.{WrittenTablesAreTables}
 use Rattle.huff_codes.proofs.ChosenRuns.{holds_from, one_run}
 use Rattle.huff_codes.proofs.Cutting.{symbols_more}

@@ -1,11 +1,11 @@
 -- The symbols that are counted are those that have lengths.
-use Rattle.std.proofs.Common.{◌≡◌, ◌≢◌, ℕ, zero, suc, ◌+◌, ◌<◌, ◌≤◌, ◌↔◌, nat_eq, ◌||◌, Bool, true, false, cond, List, [], ◌∷◌, length, slice_index, refl, sym, ap, ◌∙◌, subst, inl, inr, arith}
-use Rattle.std.proofs.lemmas.Bool.{cases_Bool, cases_lt, cases_eq, false≢true, eqb-true, eqb-false, eq-eqb, ne_eqb, or_cases, or_from, or_left, or_right}
+use Rattle.std.proofs.Common.{◌≡◌, ◌≢◌, ℕ, zero, suc, ◌+◌, ◌<◌, ◌≤◌, nat_eq, ◌||◌, Bool, true, false, cond, List, [], ◌∷◌, length, slice_index, refl, sym, ap, ◌∙◌, subst, inl, inr, arith}
+use Rattle.std.proofs.lemmas.Bool.{cases_Bool, cases_lt, cases_eq, eqb-true, eqb-false, eq-eqb, ne_eqb, or_from, or_left, or_right}
 use Rattle.huff_codes.specs.Tree.{Tree, leaf, join, has_leaf, joins_of, is_before, with_tree, used_below, after_joins, last_trees, joins_in, lengths_of, used_count}
 use Rattle.huff_codes.specs.Laws.{CountedHaveLengths}
 use Rattle.huff_codes.proofs.Kraft.{has_leaf-leaf, has_leaf-join, joins_none}
-use Rattle.huff_codes.proofs.Forest.{with_tree-nil, with_tree-cons, used-zero, used-suc, after_joins-none, after_joins-one, after_joins-zero, after_joins-suc, IsOneJoin, one_join, joins_in-cons, lengths-at}
-use Rattle.huff_codes.proofs.Uses.{use_at, used-is, length-used}
+use Rattle.huff_codes.proofs.Forest.{with_tree-nil, with_tree-cons, used-zero, used-suc, after_joins-none, after_joins-one, after_joins-zero, after_joins-suc, one_join, joins_in-cons, lengths-at}
+use Rattle.huff_codes.proofs.Uses.{used-is, length-used}
 
 -- whether some tree has the symbol
 any_has : List Tree → ℕ → Bool

@@ -1,14 +1,14 @@
 -- Canonical codes count up, and joins take the least.
-use Rattle.std.proofs.Common.{◌≡◌, ◌≢◌, ℕ, zero, suc, ◌+◌, ◌-◌, ◌*◌, ◌/◌, ◌^◌, ◌<◌, ◌≤◌, ◌⊎◌, Bool, true, false, List, [], ◌∷◌, length, slice_index, refl, sym, ap, ◌∙◌, subst, inl, inr, arith}
+use Rattle.std.proofs.Common.{◌≡◌, ℕ, zero, suc, ◌+◌, ◌-◌, ◌*◌, ◌/◌, ◌^◌, ◌<◌, ◌≤◌, false, List, [], ◌∷◌, slice_index, refl, sym, ap, ◌∙◌, inl, inr, arith}
 use Rattle.std.specs.Prelude.{All}
-use Rattle.std.proofs.lemmas.Bool.{cases_Bool, cases_eq, cases_lt, false≢true}
+use Rattle.std.proofs.lemmas.Bool.{cases_Bool, false≢true}
 use Rattle.std.proofs.lemmas.Nat.{pow-add, pow_pos, shr_high}
 use Rattle.std.proofs.lemmas.List.Elements.{All-nil, All-cons}
 use Rattle.huff_codes.specs.Sums.{sum_below}
 use Rattle.huff_codes.specs.Bits.{bits_of}
 use Rattle.huff_codes.specs.Tree.{Tree, share, is_before, used_below, after_joins}
-use Rattle.huff_codes.specs.Codes.{AreLengths, is_earlier, start_of, canonical_code}
-use Rattle.huff_codes.specs.Laws.{StandInOrder, JoinsTakeTheLeast, code_number, ComesNext, CountUp, CanonicalCodesCountUp}
+use Rattle.huff_codes.specs.Codes.{is_earlier, start_of, canonical_code}
+use Rattle.huff_codes.specs.Laws.{StandInOrder, JoinsTakeTheLeast, code_number, ComesNext, CanonicalCodesCountUp}
 use Rattle.huff_codes.specs.inside.Forests.{Each}
 use Rattle.huff_codes.proofs.BitLists.{take-bits}
 use Rattle.huff_codes.proofs.Kraft.{sum-zero, sum-suc, sum-none, share-pos}

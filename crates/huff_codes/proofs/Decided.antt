@@ -1,19 +1,19 @@
 -- Of all bytes, a table or words stand in front, or there is a first fault.
-use Rattle.std.proofs.Common.{◌≡◌, ◌≢◌, ℕ, zero, suc, ◌+◌, ◌-◌, ◌*◌, ◌/◌, ◌%◌, ◌<◌, ◌≤◌, ◌⊎◌, Bool, true, false, cond, nat_lt, List, [], ◌∷◌, ◌++◌, length, get_or, map, take, drop, slice_index, refl, sym, ap, ◌∙◌, subst, inl, inr, arith, ℤ, pos, negsuc, ◌≤ℤ◌, ◌<ℤ◌, ◌+ℤ◌, ◌-ℤ◌}
-use Rattle.std.specs.Prelude.{All, SomeIndex, sum, unsigned_abs}
+use Rattle.std.proofs.Common.{◌≡◌, ◌≢◌, ℕ, zero, suc, ◌+◌, ◌-◌, ◌*◌, ◌/◌, ◌<◌, ◌≤◌, ◌⊎◌, Bool, true, false, cond, nat_lt, List, [], ◌∷◌, ◌++◌, length, map, take, drop, slice_index, refl, sym, ap, ◌∙◌, subst, inl, inr, arith, ℤ, pos, negsuc, ◌≤ℤ◌, ◌<ℤ◌, ◌+ℤ◌}
+use Rattle.std.specs.Prelude.{SomeIndex}
 use Rattle.std.specs.List.{range_with_len}
 use Rattle.std.proofs.lemmas.Bool.{cases_lt, cases_eq}
 use Rattle.std.proofs.lemmas.Bool.Decides.{nat_tests}
 use Rattle.std.proofs.lemmas.Int.{ints}
-use Rattle.std.proofs.lemmas.List.{length-append, length-take-le, length-map, take-append-drop, append-nil, get_or_past, get_or-map, get_or_default}
+use Rattle.std.proofs.lemmas.List.{length-append, length-take-le, length-map, take-append-drop, get_or_past, get_or-map, get_or_default}
 use Rattle.std.proofs.lemmas.List.FromFn.{length-range_with_len, get_or-range_with_len}
 use Rattle.first_fault.specs.Faults.{Faults, none, wrong, unless}
-use Rattle.first_fault.specs.Parts.{IsDecided, AreBytes, InFront, HasFault}
+use Rattle.first_fault.specs.Parts.{IsDecided, InFront, HasFault}
 use Rattle.first_fault.proofs.Decided.{decided_unless}
 use Rattle.lut_stuff.proofs.Lists.{list_decided}
 use Rattle.huff_codes.specs.Bits.{word_bits, BeginsWith}
-use Rattle.huff_codes.specs.Codes.{code_at, HasCode, IsPrefixFree, AreCodes}
-use Rattle.huff_codes.specs.Words.{joined_codes, word_count, whole_end, AreWords, IsStuck, IsBegun, word_faults}
+use Rattle.huff_codes.specs.Codes.{code_at, HasCode, IsPrefixFree}
+use Rattle.huff_codes.specs.Words.{whole_end, AreWords, IsStuck, IsBegun, word_faults}
 use Rattle.huff_codes.specs.Table.{int_at, IsRange, IsFirst, IsEnd, number_faults, end_faults, first_faults, symbols_faults, range_faults, HaveLengths, IsLengthList, length_faults, words_size, HoldCodes, AreCodeWords, code_faults, prefix_faults, AreRangeCodes, range_code_faults, IsTable, table_faults, IsCoding, coding_faults}
 use Rattle.huff_codes.specs.declared.table.SymbolRange.{SymbolRange}
 use Rattle.huff_codes.specs.declared.faults.CodeFault.{CodeFault}

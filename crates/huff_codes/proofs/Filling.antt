@@ -1,18 +1,18 @@
 -- Bits that are written word by word.
-use Rattle.std.proofs.Common.{◌≡◌, ◌≢◌, ℕ, zero, suc, ◌+◌, ◌-◌, ◌*◌, ◌/◌, ◌%◌, ◌^◌, ◌<◌, ◌≤◌, nat_eq, Bool, true, false, List, [], ◌∷◌, ◌++◌, length, take, drop, replicate, refl, sym, ap, ◌∙◌, subst, inl, inr, arith}
+use Rattle.std.proofs.Common.{◌≡◌, ℕ, zero, suc, ◌+◌, ◌-◌, ◌*◌, ◌/◌, ◌%◌, ◌^◌, ◌<◌, ◌≤◌, nat_eq, Bool, false, List, [], ◌∷◌, ◌++◌, length, take, drop, replicate, refl, sym, ap, ◌∙◌, subst, arith}
 use Rattle.std.specs.Prelude.{get_or, All, slice_index}
 use Rattle.std.proofs.lemmas.List.Elements.{All-from_get_or, All-get_or}
-use Rattle.std.proofs.lemmas.List.{length-append, length-take-le, length-drop, length-replicate, take_at, take-append-drop, drop_at, append_assoc, append-nil, take_more, nil_from_length}
+use Rattle.std.proofs.lemmas.List.{length-append, length-take-le, length-drop, take_at, take-append-drop, drop_at, append_assoc, append-nil, take_more, nil_from_length}
 use Rattle.std.proofs.lemmas.Nat.{pow-add, pow_pos, shr_below}
 use Rattle.std.proofs.Math.Nat.{mod-lt, mod-eq_of_lt, pow-le-pow_right}
 use Rattle.byteorder.specs.Endian.{little_number, little_bytes}
 use Rattle.byteorder.specs.Numbers.{little_number-reads_back, length-bytes_low_first}
 use Rattle.huff_codes.specs.Bits.{bits_of, word_bits}
 use Rattle.huff_codes.specs.Codes.{AreLengths, HasCode, code_at, canonical_codes}
-use Rattle.huff_codes.specs.Words.{joined_codes, word_count}
+use Rattle.huff_codes.specs.Words.{joined_codes}
 use Rattle.huff_codes.specs.Written.{IsFilled}
 use Rattle.huff_codes.specs.declared.codes.Code.{Code}
-use Rattle.huff_codes.specs.inside.Spans.{IsLaid, no_code}
+use Rattle.huff_codes.specs.inside.Spans.{IsLaid}
 use Rattle.huff_codes.specs.inside.Stored.{code_bits, codes_held}
 use Rattle.huff_codes.specs.inside.Filling.{IsPending, IsFlushed}
 use Rattle.huff_codes.proofs.BitLists.{bits-zero, bits-suc, length-bits, take-bits}

@@ -1,6 +1,6 @@
 -- The laws of code lengths and canonical codes in the words of the format.
-use Rattle.std.specs.Prelude.{ℕ, ◌≡◌, ◌+◌, ◌-◌, ◌*◌, ◌/◌, ◌^◌, ◌<◌, Bool, true, false, List, []}
-use Rattle.std.specs.Prelude.{◌∷◌, ◌≤◌, ◌↔◌, length, All, slice_index}
+use Rattle.std.specs.Prelude.{ℕ, ◌≡◌, ◌+◌, ◌-◌, ◌*◌, ◌/◌, ◌^◌, ◌<◌, true, false, List, []}
+use Rattle.std.specs.Prelude.{◌∷◌, ◌≤◌, ◌↔◌, All, slice_index}
 use Rattle.huff_codes.specs.Tree.{Tree, is_before, used_below, after_joins, lengths_of, used_count}
 use Rattle.huff_codes.specs.Bits.{bits_of}
 use Rattle.huff_codes.specs.Codes.{AreLengths, is_earlier, start_of, canonical_code, canonical_codes}

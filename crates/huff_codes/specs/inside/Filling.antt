@@ -1,5 +1,5 @@
 -- Writing bits word by word.
-use Rattle.std.specs.Prelude.{ℕ, ◌≡◌, ◌+◌, ◌-◌, ◌*◌, ◌^◌, ◌<◌, ◌≤◌, Bool, false, List, ◌++◌, length, take}
+use Rattle.std.specs.Prelude.{ℕ, ◌≡◌, ◌-◌, ◌*◌, ◌^◌, ◌<◌, ◌≤◌, Bool, false, List, ◌++◌, length, take}
 use Rattle.std.specs.Prelude.{replicate}
 use Rattle.huff_codes.specs.Bits.{bits_of, word_bits}
 

@@ -1,5 +1,4 @@
-use Rattle.std.proofs.Common.{ℕ, ◌+◌, ◌-◌, ◌<◌, arith, subst}
-use Rattle.huff_codes.specs.Written.{HoldsUsed}
+use Rattle.std.proofs.Common.{arith}
 use Rattle.huff_codes.proofs.ChosenRuns.{holds_from, least_from, some_from}
 use Rattle.huff_codes.proofs.chosen_table.count_from.Goals as goal
 

@@ -1,4 +1,4 @@
-use Rattle.std.proofs.Common.{◌≡◌, ℕ, ◌+◌, ◌<◌, ◌≤◌, List, length, ◌∙◌, arith}
+use Rattle.std.proofs.Common.{◌∙◌, arith}
 use Rattle.huff_codes.specs.Table.{symbol_in}
 use Rattle.huff_codes.proofs.ChosenTables.{listed}
 use Rattle.huff_codes.proofs.chosen_table.list_symbols.Goals as goal

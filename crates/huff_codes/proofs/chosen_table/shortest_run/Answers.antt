@@ -1,4 +1,4 @@
-use Rattle.std.proofs.Common.{◌≡◌, ℕ, ◌+◌, ◌-◌, ◌<◌, sym, arith, subst}
+use Rattle.std.proofs.Common.{◌+◌, sym, arith, subst}
 use Rattle.huff_codes.specs.declared.table.SymbolRange.{SymbolRange}
 use Rattle.huff_codes.proofs.ChosenRuns.{IsBestBelow, best_first, best_new, best_kept, best_run}
 use Rattle.huff_codes.proofs.chosen_table.shortest_run.Goals.{then-count-best, else-count-best}

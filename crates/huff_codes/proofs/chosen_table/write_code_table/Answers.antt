@@ -1,8 +1,8 @@
-use Rattle.std.proofs.Common.{◌≡◌, ℕ, List, ◌+◌, ◌-◌, ◌*◌, ◌++◌, length, drop, refl, sym, ap, ◌∙◌, subst, arith}
+use Rattle.std.proofs.Common.{◌≡◌, ℕ, List, ◌+◌, ◌-◌, ◌++◌, length, drop, refl, sym, ap, ◌∙◌, subst, arith}
 use Rattle.std.proofs.lemmas.List.{length-drop}
 use borrow.Rule.Slice.PartMut.{put_mid}
 use Rattle.bit_stuff.specs.Simple.{simple_bytes}
-use Rattle.huff_codes.specs.Written.{IsShortestRun, IsWrittenTable, run_lengths, table_head}
+use Rattle.huff_codes.specs.Written.{IsShortestRun, IsWrittenTable, run_lengths}
 use Rattle.huff_codes.proofs.ChosenTables.{table_from, three_parts, head_long, run_bits}
 use Rattle.huff_codes.proofs.chosen_table.write_code_table.Goals as goal
 

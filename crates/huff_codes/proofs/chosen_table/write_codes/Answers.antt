@@ -1,9 +1,8 @@
-use Rattle.std.proofs.Common.{◌≡◌, ℕ, ◌+◌, ◌*◌, ◌/◌, ◌<◌, ◌≤◌, List, Bool, length, sym, ap, ◌∙◌, subst, arith}
-use Rattle.std.specs.Prelude.{sum}
+use Rattle.std.proofs.Common.{◌≡◌, ◌/◌, List, Bool, length, ap, subst, arith}
 use Rattle.huff_codes.specs.Codes.{canonical_codes}
 use Rattle.huff_codes.specs.Words.{joined_codes, word_count}
 use Rattle.huff_codes.specs.Table.{symbols_in}
-use Rattle.huff_codes.specs.Written.{IsFilled, run_lengths}
+use Rattle.huff_codes.specs.Written.{IsFilled}
 use Rattle.huff_codes.specs.inside.Stored.{codes_held}
 use Rattle.huff_codes.proofs.ChosenTables.{run_bits}
 use Rattle.huff_codes.proofs.chosen_table.write_codes.Goals as goal

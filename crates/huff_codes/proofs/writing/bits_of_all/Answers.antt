@@ -1,7 +1,5 @@
-use Rattle.std.proofs.Common.{◌≡◌, ◌≤◌, ◌<◌, ◌+◌, ◌*◌, ℕ, length, get_or, slice_index, sym, ap, ◌∙◌, subst, arith}
-use Rattle.std.proofs.lemmas.List.{take_all}
+use Rattle.std.proofs.Common.{◌≡◌, ◌<◌, length, get_or, slice_index, sym, ap, ◌∙◌, arith}
 use Rattle.huff_codes.specs.Codes.{canonical_codes}
-use Rattle.huff_codes.specs.Words.{joined_codes}
 use Rattle.huff_codes.proofs.Reading.{joined_codes-nil}
 use Rattle.huff_codes.proofs.Filling.{bits_more}
 use Rattle.huff_codes.proofs.writing.bits_of_all.Goals as goal

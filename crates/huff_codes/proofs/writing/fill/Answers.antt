@@ -1,7 +1,6 @@
-use Rattle.std.proofs.Common.{◌≡◌, ℕ, ◌+◌, ◌-◌, ◌*◌, ◌/◌, ◌%◌, ◌<◌, ◌≤◌, List, Bool, ◌++◌, length, take, drop, get_or, ap, sym, ◌∙◌, subst, arith, refl}
+use Rattle.std.proofs.Common.{◌≡◌, ℕ, ◌-◌, ◌*◌, ◌/◌, ◌≤◌, List, Bool, ◌++◌, length, take, drop, ap, ◌∙◌, subst, arith, refl}
 use Rattle.std.proofs.lemmas.List.{take_all}
 use Rattle.huff_codes.specs.Words.{joined_codes}
-use Rattle.huff_codes.specs.declared.codes.Code.{Code}
 use Rattle.huff_codes.specs.inside.Spans.{no_code}
 use Rattle.huff_codes.specs.inside.Stored.{codes_held}
 use Rattle.huff_codes.specs.inside.Filling.{IsPending}

@@ -1,4 +1,4 @@
-use Rattle.std.proofs.Common.{◌≡◌, ◌+◌, ◌*◌, ◌%◌, ◌<◌, ◌^◌, length, take}
+use Rattle.std.proofs.Common.{◌≡◌, length, take}
 use Rattle.huff_codes.specs.Words.{joined_codes}
 use Rattle.huff_codes.specs.inside.Stored.{codes_held}
 use Rattle.huff_codes.specs.inside.Filling.{IsPending}

@@ -1,4 +1,4 @@
-use Rattle.std.proofs.Common.{◌≡◌, ℕ, ◌+◌, ◌-◌, ◌*◌, ◌<◌, ◌^◌, ap, sym, subst, arith, refl}
+use Rattle.std.proofs.Common.{arith}
 use Rattle.huff_codes.proofs.Filling.{flushed_none, flushed_word}
 use Rattle.huff_codes.proofs.writing.flush.Goals as goal
 

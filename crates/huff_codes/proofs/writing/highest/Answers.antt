@@ -1,4 +1,4 @@
-use Rattle.std.proofs.Common.{rules, ◌≡◌, ℕ, ◌+◌, ◌/◌, ◌<◌, ◌^◌, arith}
+use Rattle.std.proofs.Common.{rules, ◌/◌, ◌<◌, ◌^◌, arith}
 use Rattle.std.proofs.lemmas.Nat.{shr_below}
 use Rattle.huff_codes.proofs.writing.highest.Goals as goal
 

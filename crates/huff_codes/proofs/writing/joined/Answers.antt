@@ -1,4 +1,4 @@
-use Rattle.std.proofs.Common.{rules, ◌≡◌, ℕ, ◌+◌, ◌-◌, ◌*◌, ◌/◌, ◌<◌, ◌^◌, ap, sym, ◌∙◌, subst, arith}
+use Rattle.std.proofs.Common.{rules, ◌+◌, ◌<◌, ◌^◌, sym, subst}
 use Rattle.huff_codes.proofs.Filling.{joined_value, joined_fits, pushed_low}
 use Rattle.huff_codes.proofs.writing.joined.Goals as goal
 

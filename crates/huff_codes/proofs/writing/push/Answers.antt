@@ -1,4 +1,4 @@
-use Rattle.std.proofs.Common.{◌≡◌, ℕ, ◌+◌, ◌-◌, ◌*◌, ◌<◌, ◌^◌, ap, sym, subst, arith, refl}
+use Rattle.std.proofs.Common.{◌≡◌, ◌+◌, ◌-◌, ◌<◌, ◌^◌, subst, arith, refl}
 use Rattle.huff_codes.proofs.Filling.{pending_more, pending_word}
 use Rattle.huff_codes.proofs.writing.push.Goals as goal
 

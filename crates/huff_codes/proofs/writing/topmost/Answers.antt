@@ -1,4 +1,4 @@
-use Rattle.std.proofs.Common.{rules, ◌≡◌, ℕ, ◌+◌, ◌-◌, ◌*◌, ◌%◌, ◌<◌, ◌^◌, sym, subst, arith}
+use Rattle.std.proofs.Common.{rules, ◌-◌, ◌*◌, ◌%◌, ◌<◌, ◌^◌, sym, subst, arith}
 use Rattle.huff_codes.proofs.Filling.{shifted, topmost_fits}
 use Rattle.huff_codes.proofs.writing.topmost.Goals as goal
 

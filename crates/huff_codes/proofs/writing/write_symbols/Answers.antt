@@ -1,4 +1,4 @@
-use Rattle.std.proofs.Common.{◌≡◌, ℕ, List, Bool, ◌+◌, ◌*◌, ◌/◌, ◌<◌, get_or, length, ap, ◌∙◌, subst, arith}
+use Rattle.std.proofs.Common.{◌≡◌, ℕ, List, Bool, ◌+◌, ◌/◌, ◌<◌, get_or, length, subst, arith}
 use Rattle.huff_codes.specs.Codes.{canonical_codes}
 use Rattle.huff_codes.specs.Words.{joined_codes, word_count}
 use Rattle.huff_codes.specs.Written.{AreWritten, IsFilled}
