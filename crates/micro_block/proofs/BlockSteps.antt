@@ -1,37 +1,32 @@
 -- Steps of reading a block.
-use Rattle.std.proofs.Common.{◌≡◌, ℕ, zero, suc, ℤ, pos, negsuc, ◌+◌, ◌-◌, ◌*◌, ◌/◌, ◌%◌, ◌^◌, ◌<◌, ◌≤◌, ◌+ℤ◌, ◌*ℤ◌, ◌≤ℤ◌, ◌⊎◌, List, [], ◌∷◌, ◌++◌, length, get_or, slice_index, take, drop, map, replicate, refl, sym, ap, ◌∙◌, subst, inl, inr, arith}
-use Rattle.std.specs.Prelude.{All, Result, Ok, Err, MatchResult, IfOk, ◌↔◌, Option, Some, None, set}
+use Rattle.std.proofs.Common.{◌≡◌, ℕ, zero, suc, ℤ, pos, negsuc, ◌+◌, ◌*◌, ◌/◌, ◌%◌, ◌^◌, ◌<◌, ◌≤◌, ◌+ℤ◌, ◌*ℤ◌, ◌≤ℤ◌, List, [], ◌∷◌, ◌++◌, length, get_or, slice_index, take, drop, map, refl, sym, ap, ◌∙◌, subst, inl, inr, arith}
+use Rattle.std.specs.Prelude.{All, Result, Ok, Err, MatchResult, IfOk, ◌↔◌, Option, Some}
 use Rattle.std.specs.Int.{int_min}
 use Rattle.std.proofs.Math.Seq.{take-add}
-use Rattle.std.proofs.lemmas.Bool.{cases_lt}
 use Rattle.std.proofs.lemmas.Int.{ints, clamps}
-use Rattle.std.proofs.lemmas.List.{length-drop, length-map, length-take-le, take-append-drop}
+use Rattle.std.proofs.lemmas.List.{length-drop, length-take-le, take-append-drop}
 use Rattle.std.proofs.lemmas.List.Elements.{All-from_get_or, All-map, All-replicate}
 use Rattle.std.proofs.lemmas.Simd.{map-map}
 use Rattle.byteorder.specs.Endian.{little_number}
 use Rattle.byteorder.specs.Numbers.{little_from-lt, little_from-take}
-use Rattle.first_fault.specs.Faults.{Faults, moved}
 use Rattle.first_fault.specs.Parts.{AreBytes}
 use Rattle.raster_values.specs.declared.kind.PixelType.{PixelType}
 use Rattle.raster_values.specs.declared.kind.PixelType.TheVariants.{I8, U8, I16, U16, I32, U32}
 use Rattle.raster_values.specs.PixelType.{InRange, Spells, bytes_of, value_of}
 use Rattle.raster_values.specs.Values.{AreValues}
 use Rattle.raster_values.proofs.Spelled.{value_fits}
-use Rattle.bit_stuff.specs.declared.heads.ListReason.{ListReason}
 use Rattle.bit_stuff.proofs.Numbers.{bytes_drop}
 use Rattle.lane_kernels.specs.Kernels.{IsQuantised, IsSmall, capped_sums}
 use Rattle.lut_stuff.specs.Faults.{list_faults}
-use Rattle.lut_stuff.specs.Lists.{IsList, IsListOf}
-use Rattle.lut_stuff.proofs.Below.{list_below}
 use Rattle.micro_block.specs.declared.context.BlockFault.{BlockFault}
 use Rattle.micro_block.specs.declared.context.BlockReason.{BlockReason}
 use Rattle.micro_block.specs.declared.context.BlockReason.TheVariants as reasons
 use Rattle.micro_block.specs.Block.{IsBlock, IsOffset, offset_type, offset_types}
 use Rattle.micro_block.specs.Block as forms
-use Rattle.micro_block.specs.Faults.{block_faults, code_faults, form_faults, offset_faults, raw_faults, tag_faults, told_of_list}
+use Rattle.micro_block.specs.Faults.{block_faults, code_faults, form_faults, offset_faults, tag_faults, told_of_list}
 use Rattle.micro_block.specs.Frame.{Frame, IsBlockStep}
 use Rattle.micro_block.specs.Near.{stands_for}
-use Rattle.micro_block.specs.inside.Tagged.{HasConstant, HasSteps, HasStuffed, HasTagged, IsTagged, as_raw, as_stuffed, as_zero, as_constant}
+use Rattle.micro_block.specs.inside.Tagged.{HasConstant, HasSteps, HasStuffed, HasTagged, as_raw, as_stuffed, as_constant}
 use Rattle.micro_block.proofs.Blocks.{block_part, of_tag}
 
 -- what is said of an answer that is a fault

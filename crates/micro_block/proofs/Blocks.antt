@@ -1,22 +1,21 @@
 -- A block is a part: it is read in one way, and it stands or has one first fault.
-use Rattle.std.proofs.Common.{◌≡◌, ℕ, zero, suc, ℤ, pos, ◌+◌, ◌-◌, ◌*◌, ◌/◌, ◌%◌, ◌<◌, ◌≤◌, ◌⊎◌, List, [], ◌∷◌, ◌++◌, length, get_or, slice_index, take, drop, map, replicate, refl, sym, ap, ◌∙◌, subst, inl, inr, arith}
+use Rattle.std.proofs.Common.{◌≡◌, ℕ, ℤ, pos, ◌+◌, ◌*◌, ◌/◌, ◌%◌, ◌<◌, ◌≤◌, ◌⊎◌, List, [], ◌∷◌, ◌++◌, length, slice_index, take, drop, map, replicate, refl, sym, ap, ◌∙◌, subst, inl, inr, arith}
 use Rattle.std.specs.Prelude.{Option, Some, None}
 use Rattle.std.proofs.lemmas.Bool.{cases_lt}
-use Rattle.std.proofs.lemmas.List.{append-nil, append_assoc, length-append, length-drop, length-map, length-take-le, nil_from_length, take-append-drop, take_at, drop_at}
+use Rattle.std.proofs.lemmas.List.{append_assoc, length-append, length-take-le, take-append-drop, drop_at}
 use Rattle.byteorder.specs.Endian.{little_number}
 use Rattle.first_fault.specs.Faults.{Faults, none, wrong, choice, unless, moved}
-use Rattle.first_fault.specs.Parts.{IsSingle, IsPart, IsDecided, AreBytes, InFront, HasFault}
+use Rattle.first_fault.specs.Parts.{IsSingle, IsPart, IsDecided, AreBytes, HasFault}
 use Rattle.first_fault.proofs.Parts.{single-none, single-wrong, single-unless, single-choice, single-moved, passed, failed, same_rest}
 use Rattle.first_fault.proofs.Decided.{decided_unless}
 use Rattle.raster_values.specs.declared.kind.PixelType.{PixelType}
-use Rattle.raster_values.specs.PixelType.{Spells, bytes_of, value_of}
+use Rattle.raster_values.specs.PixelType.{bytes_of, value_of}
 use Rattle.raster_values.specs.Values.{AreValues}
 use Rattle.raster_values.proofs.Spelled.{values_once, values_there}
 use Rattle.bit_stuff.specs.declared.heads.ListReason.{ListReason}
 use Rattle.bit_stuff.proofs.HeadParts.{same_front}
 use Rattle.bit_stuff.proofs.Numbers.{bytes_drop, bytes_take}
 use Rattle.lut_stuff.specs.Faults.{list_faults}
-use Rattle.lut_stuff.specs.Lists.{IsList, IsListOf}
 use Rattle.lut_stuff.proofs.Lists.{list_decided, list_part}
 use Rattle.micro_block.specs.declared.context.BlockReason.{BlockReason}
 use Rattle.micro_block.specs.declared.context.BlockReason.TheVariants as reasons

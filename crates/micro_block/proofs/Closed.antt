@@ -1,5 +1,5 @@
 -- The sizes of the forms by numbers alone.
-use Rattle.std.proofs.Common.{◌≡◌, ℕ, suc, ◌+◌, ◌*◌, ◌<◌, ℤ, Bool, true, false, List, [], ◌∷◌, length, get_or, map, refl, sym, ap, subst, ◌∙◌, arith, length-append, inl, inr, ◌≤◌}
+use Rattle.std.proofs.Common.{◌≡◌, ℕ, suc, ◌+◌, ◌*◌, ◌<◌, ℤ, Bool, true, false, List, [], ◌∷◌, length, get_or, map, refl, sym, ap, subst, ◌∙◌, arith, length-append, inl, inr}
 use Rattle.std.specs.Prelude.{Option, Some, None, not, ◌&&◌, nat_eq, nat_lt, nat_le, unsigned_abs, unwrap_or, MatchOption, if◌then◌else◌}
 use Rattle.std.specs.Option.{option_map}
 use Rattle.std.proofs.lemmas.List.{length-map}
@@ -13,7 +13,7 @@ use Rattle.bit_stuff.proofs.HeadLaws.{length-simple_bytes}
 use Rattle.micro_block.specs.Fewest.{allowed, first_least, IsFirstLeast}
 use Rattle.micro_block.specs.Near.{quantised}
 use Rattle.micro_block.specs.inside.Sizes.{closed_sizes, table_form, tabled_size, AreEnds, IsFound}
-use Rattle.lut_stuff.specs.Tables.{distinct_above_0, table_bytes, table_size}
+use Rattle.lut_stuff.specs.Tables.{distinct_above_0, table_bytes}
 use Rattle.lut_stuff.proofs.Tabled.{distinct_some}
 use Rattle.std.proofs.lemmas.Bool.{cases_lt, lt-ltb}
 use Rattle.micro_block.specs.Choice as choice
@@ -50,7 +50,7 @@ length_simple kind col step values =
     ap suc (length-append (offset_bytes kind (least_value values)) (simple_bytes (quantised_values step values)) ∙ ap (λ k. k + length (simple_bytes (quantised_values step values))) e ∙ ap (λ k. bytes_of (narrow_type kind (least_value values)) + k) (l ∙ both))
     ∙ (let t : suc (bytes_of (narrow_type kind (least_value values)) + (head_size (length values) + stuffed_size (length values) (width_of (quantised_values step values)))) ≡ 1 + (bytes_of (narrow_type kind (least_value values)) + (head_size (length values) + stuffed_size (length values) (width_of (quantised_values step values)))) = omega arith in t)
 
-length_zero : (kind : PixelType) (col step : ℕ) (values : List ℤ) → size_of kind col step values choice.zero ≡ 1
+pub length_zero : (kind : PixelType) (col step : ℕ) (values : List ℤ) → size_of kind col step values choice.zero ≡ 1
 unfolding form_bytes
 length_zero kind col step values = refl
 

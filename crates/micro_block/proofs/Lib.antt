@@ -8,3 +8,5 @@ pub mod Steps
 pub mod Closed
 pub mod Range
 pub mod SizeSteps
+pub mod Chosen
+pub mod WriteSteps

@@ -1,5 +1,5 @@
 -- Steps of finding how long a block is, and of quantising.
-use Rattle.std.proofs.Common.{◌≡◌, ℕ, zero, suc, ℤ, pos, ◌+◌, ◌*◌, ◌^◌, ◌<◌, ◌≤◌, ◌-ℤ◌, ◌≤ℤ◌, List, [], ◌∷◌, length, get_or, map, refl, sym, ap, ◌∙◌, subst, arith, inl, inr}
+use Rattle.std.proofs.Common.{◌≡◌, ℕ, suc, ℤ, pos, ◌^◌, ◌<◌, ◌≤◌, ◌-ℤ◌, ◌≤ℤ◌, List, [], ◌∷◌, length, get_or, map, refl, sym, ap, ◌∙◌, subst, arith, inl, inr}
 use Rattle.std.specs.Prelude.{All, IfSome, Option, Some, None, unsigned_abs}
 use Rattle.std.proofs.lemmas.Bool.{cases_lt}
 use Rattle.std.proofs.lemmas.Bool.Decides.{nat_tests}
@@ -11,7 +11,7 @@ use Rattle.bit_stuff.specs.Stuffed.{stuffed_size}
 use Rattle.bit_stuff.proofs.Digits.{digits-le, width_of-le}
 use Rattle.bit_stuff.proofs.StuffedLaws.{stuffed_size-le}
 use Rattle.lane_kernels.specs.Kernels.{differences}
-use Rattle.lut_stuff.specs.Tables.{distinct_above_0, table_bytes, table_size}
+use Rattle.lut_stuff.specs.Tables.{distinct_above_0, table_size}
 use Rattle.lut_stuff.proofs.Tabled.{has_size, length-table_bytes}
 use Rattle.micro_block.specs.Choice.{least_value, quantised_values}
 use Rattle.micro_block.specs.Near.{quantised}

@@ -28,6 +28,7 @@ use Rattle.micro_block.specs.Near.{quantised, stands_for, IsNear}
 use Rattle.micro_block.specs.Block.{offset_types, IsTag, IsOffset, IsBlock, raw, stuffed, zero, constant}
 use Rattle.micro_block.specs.Choice as choice
 use Rattle.micro_block.specs.Choice.{least_value, quantised_values, holds, narrowest, narrow_type, offset_bytes, tag_byte, form_bytes, is_flat, is_stuffable, forms, chosen_form, block_bytes, kept_by, kept, Form}
+use Rattle.micro_block.specs.inside.Forms.{May}
 use Rattle.micro_block.proofs.Fewest.{At, at_first}
 use Rattle.micro_block.proofs.Near.{near, above, below}
 
@@ -158,18 +159,11 @@ flat_kept f values w flat =
 
 -- ---- each form stands
 
-abbrev pub May : ℕ → List ℤ → Form → Type 0
-May step values choice.zero = (is_flat step values && nat_eq (unsigned_abs (least_value values)) 0) ≡ true
-May step values choice.constant = (is_flat step values && nat_lt 0 (length values)) ≡ true
-May step values choice.raw = Unit {0}
-May step values choice.simple = (not (is_flat step values) && is_stuffable step values) ≡ true
-May step values choice.table = (not (is_flat step values) && (is_stuffable step values && nat_le (distinct_above_0 (quantised_values step values)) 254)) ≡ true
-
-left : (a b : Bool) → (a && b) ≡ true → a ≡ true
+pub left : (a b : Bool) → (a && b) ≡ true → a ≡ true
 left true b h = refl
 left false b h = absurd (cc)
 
-right : (a b : Bool) → (a && b) ≡ true → b ≡ true
+pub right : (a b : Bool) → (a && b) ≡ true → b ≡ true
 right true b h = h
 right false b h = absurd (cc)
 
@@ -177,7 +171,7 @@ map_same : (vs : List ℤ) → map (λ v. v) vs ≡ vs
 map_same [] = refl
 map_same (v ∷ vs) = ap (λ xs. v ∷ xs) (map_same vs)
 
-some_above_0 : (g : ℕ) → not (nat_eq g 0) ≡ true → 0 < g
+pub some_above_0 : (g : ℕ) → not (nat_eq g 0) ≡ true → 0 < g
 some_above_0 zero h = absurd (cc)
 some_above_0 (suc g) h = omega arith
 
@@ -226,11 +220,11 @@ form_stands f values w choice.table h =
 
 -- ---- the chosen form is one that may be
 
-allowed_some : {A : Type 0} (b : Bool) (x y : A) → allowed b x ≡ Some y → (b ≡ true) × (x ≡ y)
+pub allowed_some : {A : Type 0} (b : Bool) (x y : A) → allowed b x ≡ Some y → (b ≡ true) × (x ≡ y)
 allowed_some true x y e = (refl, (let same : x ≡ y = cc in same))
 allowed_some false x y e = absurd (cc)
 
-some_same : {A : Type 0} (x y : A) → Some x ≡ Some y → x ≡ y
+pub some_same : {A : Type 0} (x y : A) → Some x ≡ Some y → x ≡ y
 some_same x y e = cc
 
 pub may_be : (step : ℕ) (values : List ℤ) (form : Form) (i : ℕ) → get_or (forms step values) i None ≡ Some form → May step values form

@@ -1,3 +1,4 @@
 -- The words of private functions alone: no public clause cites them.
 pub mod Tagged
 pub mod Sizes
+pub mod Forms

@@ -5,13 +5,16 @@
 //! The layer above uses one contract: bytes are a block of these values, both ways.
 #![tactic(auto)]
 
+mod choosing;
 mod context;
 mod first;
 mod laws;
 mod quantising;
 mod reading;
 mod sizes;
+mod writing;
 
+pub use choosing::block_len;
 pub use context::{BlockCtx, BlockFault, BlockReason};
 pub use laws::{
     block_values_are_in_range, blocks_stand_or_have_one_fault, first_least_is_first,
@@ -19,7 +22,7 @@ pub use laws::{
 };
 pub use quantising::quantise;
 pub use reading::read_block;
-pub use sizes::block_len;
+pub use writing::write_block;
 
 #[cfg(test)]
 mod tests;

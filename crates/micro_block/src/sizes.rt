@@ -9,13 +9,10 @@ ghost use Rattle.micro_block.specs.Choice as choice;
 ghost use Rattle.micro_block.specs.Fewest.{allowed};
 ghost use Rattle.lut_stuff.specs.Tables.{table_size};
 ghost use Rattle.micro_block.specs.Near.{quantised};
-ghost use Rattle.micro_block.specs.inside.Sizes.{closed_sizes, tabled_size, AreEnds, IsFound};
-ghost use Rattle.micro_block.specs.Frame.{IsBlockCtx};
+ghost use Rattle.micro_block.specs.inside.Sizes.{closed_sizes, tabled_size, AreEnds};
 ghost use Rattle.lane_kernels.specs.Kernels.{IsSmall};
 ghost use Rattle.bit_stuff.specs.Simple.{greatest_number};
 
-use crate::context::BlockCtx;
-use crate::first::first_least;
 use crate::quantising::quantised_value;
 use bit_stuff::{digit_count, head_len, stuffed_len};
 use lane_kernels::range;
@@ -29,7 +26,7 @@ fn holds(kind: PixelType, value: i64) -> bool
 }
 
 /// The narrowest type in which the offset may stand.
-fn narrow_type(kind: PixelType, value: i64) -> PixelType
+pub(crate) fn narrow_type(kind: PixelType, value: i64) -> PixelType
     ensures { result ≡ choice.narrow_type kind value }
 {
     match kind {
@@ -91,7 +88,7 @@ fn list_size(count: usize, most: u64) -> usize
 
 /// How many bytes the block of `count` values takes in each form, the least of which is `least` and the
 /// greatest of which has `most` steps: None where the form may not be.
-fn form_sizes(
+pub(crate) fn form_sizes(
     count: usize,
     kind: PixelType,
     least: i64,
@@ -120,7 +117,7 @@ fn form_sizes(
 }
 
 /// The least and the greatest of the values, and 0 and 0 of none.
-fn ends(values: &[i64], kind: PixelType) -> (i64, i64)
+pub(crate) fn ends(values: &[i64], kind: PixelType) -> (i64, i64)
     requires in_range { All (InRange kind) values.now }
     ensures { AreEnds kind values.now result.0 result.1 }
 {
@@ -131,7 +128,7 @@ fn ends(values: &[i64], kind: PixelType) -> (i64, i64)
 }
 
 /// Writes the number of steps of each value from `least`.
-fn steps_of(values: &[i64], least: i64, step: u64, out: &mut [u32])
+pub(crate) fn steps_of(values: &[i64], least: i64, step: u64, out: &mut [u32])
     requires lengths { length out.old ≡ length values.now }
     requires small { All IsSmall values.now }
     requires small_least { IsSmall least }
@@ -162,7 +159,13 @@ fn table_of(values: &[i64], least: i64, step: u64, qs: &mut [u32]) -> Option<usi
 }
 
 /// How many bytes the list takes in the table form, where it may stand.
-fn tabled_len(values: &[i64], kind: PixelType, least: i64, most: u64, step: u64) -> Option<usize>
+pub(crate) fn tabled_len(
+    values: &[i64],
+    kind: PixelType,
+    least: i64,
+    most: u64,
+    step: u64,
+) -> Option<usize>
     requires count { length values.now ≤ 256 }
     requires in_range { All (InRange kind) values.now }
     requires step { (0 < step) × (step ≤ 8589934592) }
@@ -176,32 +179,4 @@ fn tabled_len(values: &[i64], kind: PixelType, least: i64, most: u64, step: u64)
     }
     let mut qs = [0; 256];
     table_of(values, least, step, &mut qs[..values.len()])
-}
-
-/// The place, in the order of the forms, of the form that is chosen for the values, and the length of
-/// the block.
-fn found(values: &[i64], kind: PixelType, step: u64) -> (usize, usize)
-    requires few { length values.now ≤ 256 }
-    requires in_range { All (InRange kind) values.now }
-    requires step { (0 < step) × (step ≤ 8589934592) }
-    ensures { (col : ℕ) → IsFound kind col step values.now result }
-{
-    let (least, greatest) = ends(values, kind);
-    let most = quantised_value(greatest, least, step);
-    let tabled = tabled_len(values, kind, least, most, step);
-    let sizes = form_sizes(values.len(), kind, least, most, tabled);
-    first_least(&sizes).unwrap_or((2, 0))
-}
-
-/// How many bytes the chosen block of the values takes: that of the fewest bytes among the forms zero,
-/// constant, raw, stuffed with a simple list and stuffed with a table, of which the first where two take
-/// as many.
-pub fn block_len(values: &[i64], ctx: &BlockCtx) -> usize
-    requires few { length values.now ≤ 256 }
-    requires ctx { IsBlockCtx ctx.now }
-    requires in_range { All (InRange ctx.now.kind) values.now }
-    requires capped { All (λ v. v ≤ℤ ctx.now.top) values.now }
-    ensures { result ≡ length (choice.block_bytes ctx.now.kind ctx.now.col ctx.now.step values.now) }
-{
-    found(values, ctx.kind, ctx.step).1
 }

@@ -1,5 +1,5 @@
 -- A block by its tag, and what the steps of reading it leave.
-use Rattle.std.specs.Prelude.{◌≡◌, ℕ, ℤ, pos, ◌+◌, ◌/◌, ◌%◌, ◌≤◌, List, [], ◌∷◌, ◌++◌, length, map, replicate, take, drop}
+use Rattle.std.specs.Prelude.{◌≡◌, ℕ, ℤ, pos, ◌+◌, ◌/◌, ◌%◌, ◌≤◌, List, [], ◌++◌, length, map, replicate, take, drop}
 use Rattle.raster_values.specs.declared.kind.PixelType.{PixelType}
 use Rattle.raster_values.specs.PixelType.{Spells, bytes_of}
 use Rattle.raster_values.specs.Values.{AreValues}

@@ -1,4 +1,4 @@
-use Rattle.std.proofs.Common.{◌≤◌, arith}
+use Rattle.std.proofs.Common.{arith}
 use Rattle.micro_block.proofs.SizeSteps.{head_few, stuffed_few}
 use Rattle.micro_block.proofs.sizes.list_size.Goals as goal
 

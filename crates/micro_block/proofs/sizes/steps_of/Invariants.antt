@@ -1,4 +1,4 @@
-use Rattle.std.proofs.Common.{◌≡◌, pos, map, take}
+use Rattle.std.proofs.Common.{◌≡◌, map, take}
 use Rattle.micro_block.specs.Near.{quantised}
 use Rattle.micro_block.proofs.sizes.steps_of.Given as goal
 

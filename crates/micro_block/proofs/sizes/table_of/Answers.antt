@@ -1,7 +1,6 @@
-use Rattle.std.proofs.Common.{◌≡◌, ◌≤◌, ℤ, ℕ, List, map, ◌∙◌, ap, arith, length}
+use Rattle.std.proofs.Common.{◌≡◌, ℤ, map, ◌∙◌, ap, arith}
 use Rattle.std.proofs.lemmas.Int.{to_z-of_z}
 use mir.Syntax.{w64}
-use mir.Val.{of_z, to_z}
 use Rattle.micro_block.specs.Near.{quantised}
 use Rattle.micro_block.proofs.SizeSteps.{qs_below, table_short}
 use Rattle.micro_block.proofs.sizes.table_of.Goals as goal

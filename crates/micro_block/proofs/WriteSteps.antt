@@ -1,0 +1,73 @@
+-- Steps of writing a block.
+use Rattle.std.proofs.Common.{◌≡◌, ℕ, ◌+◌, ◌-◌, ◌<◌, ◌≤◌, ℤ, List, [], ◌∷◌, ◌++◌, length, map, drop, take, pos, ◌≤ℤ◌, refl, sym, ap, subst, ◌∙◌, arith, length-append}
+use Rattle.std.specs.Prelude.{All, set}
+use Rattle.std.proofs.lemmas.List.{drop-drop, take_at, take_rest}
+use Rattle.raster_values.specs.declared.kind.PixelType.{PixelType}
+use Rattle.raster_values.specs.PixelType.{InRange, bytes_of}
+use Rattle.raster_values.proofs.Pack.{length-value_bytes}
+use Rattle.bit_stuff.specs.Simple.{simple_bytes}
+use Rattle.bit_stuff.proofs.Buffers.{end_written}
+use Rattle.lut_stuff.specs.Tables.{table_bytes}
+use Rattle.lut_stuff.proofs.Tabled.{cons_written}
+use borrow.Rule.Slice.PartMut.{put_mid}
+use Rattle.micro_block.specs.Choice as choice
+use Rattle.micro_block.specs.Choice.{least_value, narrowest, narrow_type, offset_bytes, tag_byte, form_bytes, block_bytes, kept}
+use Rattle.micro_block.specs.Near.{quantised}
+use Rattle.micro_block.specs.Block.{IsBlock}
+use Rattle.micro_block.specs.Frame.{AreWritable, IsBlockCtx, frame_of}
+use Rattle.micro_block.specs.declared.context.BlockCtx.{BlockCtx}
+use Rattle.micro_block.proofs.BlockSteps.{step_small}
+use Rattle.micro_block.proofs.Written.{written_stands}
+
+-- a tag, and what is written over the front behind it
+pub front_written : (t : ℕ) (front old new : List ℕ) (b : ℕ) → 0 < length old
+    → new ≡ front ++ drop b (take (length (set old 0 t) - 1) (drop 1 (set old 0 t)))
+    → put_mid 1 (length (set old 0 t) - 1) (set old 0 t) new ≡ t ∷ (front ++ drop (1 + b) old)
+front_written t front [] new b some e = absurd (omega (arith, some))
+front_written t front (y ∷ ys) new b some e =
+    cons_written t (t ∷ ys) (y ∷ ys) new (length (t ∷ ys) - 1) some refl (omega arith)
+    ∙ ap (λ (u : List ℕ). t ∷ u) (e ∙ ap (λ (u : List ℕ). front ++ drop b u) (take_rest (t ∷ ys) 1) ∙ ap (λ (u : List ℕ). front ++ u) (drop-drop b 1 (y ∷ ys)))
+
+-- and what is written over the rest
+pub rest_written : (t : ℕ) (front rest out new list : List ℕ) (used : ℕ) → used ≡ 1 + length front → out ≡ t ∷ (front ++ rest) → new ≡ list
+    → put_mid used (length out - used) out new ≡ t ∷ (front ++ list)
+rest_written t front rest out new list used is e same =
+    ap (λ (xs : List ℕ). put_mid used (length xs - used) xs new) e
+    ∙ end_written (t ∷ front) rest new used (length (t ∷ (front ++ rest)) - used) (omega (arith, is)) (omega (arith, length-append front rest, is))
+    ∙ ap (λ (u : List ℕ). t ∷ (front ++ u)) same
+
+pub offset_len : (kind : PixelType) (v : ℤ) → length (offset_bytes kind v) ≡ bytes_of (narrow_type kind v)
+unfolding offset_bytes
+offset_len kind v = length-value_bytes (narrow_type kind v) v
+
+pub listed_len : (t : ℕ) (front list : List ℕ) → length (t ∷ (front ++ list)) ≡ 1 + (length front + length list)
+listed_len t front list = omega (arith, length-append front list)
+
+-- the forms by a number that is the least value
+pub constant_is : (kind : PixelType) (col step : ℕ) (values : List ℤ) (m : ℤ) → m ≡ least_value values
+    → tag_byte col 3 (narrowest kind m) ∷ offset_bytes kind m ≡ form_bytes kind col step values choice.constant
+unfolding form_bytes
+constant_is kind col step values m e = ap (λ (u : ℤ). tag_byte col 3 (narrowest kind u) ∷ offset_bytes kind u) e
+
+pub simple_is : (kind : PixelType) (col step : ℕ) (values : List ℤ) (m : ℤ) → m ≡ least_value values
+    → tag_byte col 1 (narrowest kind m) ∷ (offset_bytes kind m ++ simple_bytes (map (quantised step m) values)) ≡ form_bytes kind col step values choice.simple
+unfolding form_bytes
+simple_is kind col step values m e = ap (λ (u : ℤ). tag_byte col 1 (narrowest kind u) ∷ (offset_bytes kind u ++ simple_bytes (map (quantised step u) values))) e
+
+pub table_is : (kind : PixelType) (col step : ℕ) (values : List ℤ) (m : ℤ) → m ≡ least_value values
+    → tag_byte col 1 (narrowest kind m) ∷ (offset_bytes kind m ++ table_bytes (map (quantised step m) values)) ≡ form_bytes kind col step values choice.table
+unfolding form_bytes
+table_is kind col step values m e = ap (λ (u : ℤ). tag_byte col 1 (narrowest kind u) ∷ (offset_bytes kind u ++ table_bytes (map (quantised step u) values))) e
+
+-- what is asked of the values, by the context
+pub writable : (ctx : BlockCtx) (values : List ℤ) → IsBlockCtx ctx → length values ≤ 256 → All (InRange ctx.kind) values → All (λ v. v ≤ℤ ctx.top) values → AreWritable (frame_of ctx (length values)) values
+writable ctx values is few fits below =
+    record { counted = refl; few = few; step = (let s = step_small ctx.step is.step in omega (arith, s)); in_range = fits; below = λ i within. below i (pos 0) within }
+
+-- the written block stands
+pub written_block : (ctx : BlockCtx) (values : List ℤ) (rest out : List ℕ) (n : ℕ) → AreWritable (frame_of ctx (length values)) values → length (block_bytes ctx.kind ctx.col ctx.step values) ≡ n → out ≡ block_bytes ctx.kind ctx.col ctx.step values
+    → IsBlock (frame_of ctx (length values)) (take n (out ++ rest)) (map (kept ctx.kind ctx.col ctx.step ctx.top values) values)
+written_block ctx values rest out n w size is =
+    subst (λ (bytes : List ℕ). IsBlock (frame_of ctx (length values)) bytes (map (kept ctx.kind ctx.col ctx.step ctx.top values) values))
+    (sym (ap (λ (u : List ℕ). take n (u ++ rest)) is ∙ take_at (block_bytes ctx.kind ctx.col ctx.step values) rest n size))
+    (written_stands (frame_of ctx (length values)) values w)
