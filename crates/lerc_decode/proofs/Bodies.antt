@@ -1,30 +1,31 @@
 -- A whole blob is made of its parts, and goes wrong where a part of it does.
-use Rattle.std.proofs.Common.{◌≡◌, suc, ℕ, ℤ, pos, ◌+◌, ◌-◌, ◌*◌, ◌<◌, ◌≤◌, Bool, true, false, cond, List, [], ◌∷◌, ◌++◌, length, take, drop, map, replicate, get_or, Option, Ok, Err, refl, sym, ap, ◌∙◌, subst, arith, inl, inr, ◌⊎◌}
+use Rattle.std.proofs.Common.{◌≡◌, suc, ℕ, ℤ, ◌+◌, ◌-◌, ◌*◌, ◌<◌, ◌≤◌, Bool, true, false, List, ◌∷◌, ◌++◌, length, take, drop, replicate, Option, Ok, Err, refl, sym, ap, ◌∙◌, subst, arith, inl, inr}
 use Rattle.std.specs.Prelude.{Result, IfErr, OnOk, ◌↔◌}
 use Rattle.std.proofs.lemmas.List.{append-nil, append_assoc, length-append, length-drop, length-take-le, take-append-drop, take_rest, drop_at, drop-drop}
-use Rattle.first_fault.specs.Faults.{Faults, moved, in_order}
+use Rattle.first_fault.specs.Faults.{Faults, moved}
 use Rattle.first_fault.specs.Parts.{AreBytes}
 use Rattle.mask_runs.specs.Runs.{Runs}
 use Rattle.mask_runs.specs.Fault.{FirstRunFault, in_run, after_end}
 use Rattle.mask_runs.specs.declared.read.RunFault.{RunFault}
-use Rattle.raster_values.specs.PixelType.{bytes_of}
-use Rattle.raster_values.specs.Raster.{Pixels, IsRaster, valid_count, values_of}
+use Rattle.raster_values.specs.PixelType.{bytes_of, InRange}
+use Rattle.raster_values.specs.Raster.{Pixels, IsRaster, values_of}
 use Rattle.raster_values.specs.Flat.{marks_of, EachValid}
 use Rattle.raster_values.specs.Order.{marks_in}
 use Rattle.lerc_header.specs.declared.header.Header.{Header}
 use Rattle.lerc_header.specs.declared.fault.BlobReason.{BlobReason}
-use Rattle.lerc_header.specs.declared.fault.BlobReason.TheVariants.{BadChecksum, BadRun, BadMaskCount, PastEnd, Leftover}
+use Rattle.lerc_header.specs.declared.fault.BlobReason.TheVariants.{BadChecksum, BadRun, BadMaskCount}
 use Rattle.lerc_header.specs.declared.fault.BlobFault.{BlobFault}
-use Rattle.lerc_header.specs.Head.{HeadAt, i32_at, head_length}
+use Rattle.lerc_header.specs.Head.{HeadAt, RangeAt, head_length, shift}
 use Rattle.lerc_header.specs.Checksum.{sum_of}
 use Rattle.lerc_grammar.specs.declared.outline.MaskForm.{MaskForm}
 use Rattle.lerc_grammar.specs.declared.outline.MaskForm.TheVariants.{Empty as NoneValid, Full, Runs as RunsAt}
 use Rattle.lerc_grammar.specs.declared.outline.ImageForm.{ImageForm}
-use Rattle.lerc_grammar.specs.declared.outline.ImageForm.TheVariants.{Empty as NoImage, Constant, Ranges, Sweep}
-use Rattle.lerc_grammar.specs.Mask.{IsMask, IsAlike, mask_size, count_of, runs_faults, mask_faults}
-use Rattle.lerc_grammar.specs.Image.{Ends, IsFront, AreEqual, IsBare, IsImage, empty, constant, ranges, coded, sweep, one_list, image_faults, sweep_faults}
-use Rattle.lerc_grammar.specs.Blob.{Blob, body_faults, blob_faults}
-use Rattle.lerc_grammar.specs.Outline.{HasMaskLength, IsMaskForm, IsImageForm, HasLists, image_place, mask_part_faults, image_part_faults}
+use Rattle.lerc_grammar.specs.declared.outline.ImageForm.TheVariants.{Empty as NoImage, Constant, Ranges, Sweep, Blocks}
+use Rattle.lerc_grammar.specs.Mask.{IsMask, mask_size, count_of, runs_faults, mask_faults}
+use Rattle.lerc_grammar.specs.Image.{Ends, IsFront, AreEqual, IsBare, IsCoded, IsImage, empty, constant, ranges, coded, sweep, blocks, one_list, top_of, insides, coded_of, image_faults, sweep_faults}
+use Rattle.lerc_grammar.specs.Blocks.{AreBlocks, all_blocks, blocks_faults}
+use Rattle.lerc_grammar.specs.Blob.{Blob, blob_faults}
+use Rattle.lerc_grammar.specs.Outline.{HasMaskLength, IsMaskForm, IsImageForm, IsCodedForm, IsFormBytes, HasLists, values_place, image_place, mask_part_faults, image_part_faults}
 use Rattle.raster_values.specs.Values.{AreValues}
 use Rattle.lerc_grammar.proofs.Bytes.{bytes_in_drop}
 use Rattle.lerc_grammar.proofs.ImageDecided.{none_each}
@@ -32,9 +33,13 @@ use Rattle.lerc_grammar.proofs.Lists.{first_list, front_list_long}
 use Rattle.std.proofs.Math.Nat.{mul-le-mul_right}
 use Rattle.lerc_grammar.proofs.Counts.{mask_count, counted}
 use Rattle.lerc_grammar.proofs.MaskDecided.{alike_stands, mixed_stands}
-use Rattle.lerc_grammar.proofs.Looking.{mask_outside, mask_inside, image_outside, image_inside}
+use Rattle.lerc_grammar.proofs.Looking.{mask_outside, mask_inside, image_outside, image_inside, sweep_inside, blocks_inside}
 use Rattle.lerc_decode.specs.declared.body.BodyStop.{BodyStop}
 use Rattle.lerc_decode.specs.declared.body.BodyStop.TheVariants.{Fault, OutOfMemory}
+use Rattle.lerc_header.specs.declared.header.Version.{Version}
+use Rattle.lerc_header.specs.declared.header.Version.TheVariants.{V3, V4}
+use Rattle.lerc_decode.specs.inside.Blocks.{AreTopsOf, HasBlocks, HasBoth, top_in}
+use Rattle.lerc_decode.proofs.BlockReading.{blocks_same, faults_same}
 use Rattle.lerc_decode.specs.inside.Body.{IsStopOf, HasHeadShape, IsFilledWith, IsMarkedBy, IsMarkedFor, IsSwept, KeepsMarks}
 
 -- ---- stops
@@ -258,49 +263,109 @@ image_ranges h blob mask size place r are t size_is place_is f =
     let list : f.list ≡ one_list t.front = first_list h (image_of h blob mask) t.front f.list (bytes_behind (image_place h mask) blob are) t.stands t.equal (subst (λ (u : List ℕ). AreValues h.kind u f.list) bytes f.stands) in
     ranges t.bare t.front t.stands t.equal (subst (λ (u : List ℤ). EachValid r (λ values. values ≡ u)) list f.each)
 
--- where a sweep stands
-pub record SweepThere (h : Header) (blob : List ℕ) (mask : MaskForm) (at : ℕ) : Type 0 where
+-- where coded values stand
+pub record CodedThere (h : Header) (blob : List ℕ) (mask : MaskForm) (form : ImageForm) (at : ℕ) : Type 0 where
   pub within : at ≤ length blob
   pub bare : ¬ IsBare h
   pub front : Option Ends
   pub other : ¬ AreEqual front
+  pub tell : List ℕ
   pub values : List ℕ
-  pub lists : HasLists h (image_of h blob mask) front (1 ∷ values)
+  pub lists : HasLists h (image_of h blob mask) front (tell ++ values)
+  pub tells : IsFormBytes h tell form
   pub there : drop at blob ≡ values
-  pub place : at ≡ image_place h mask + (length lists.lists + 1)
+  pub place : at ≡ image_place h mask + (length lists.lists + length tell)
 
-pub sweep_there : (h : Header) (blob : List ℕ) (mask : MaskForm) (form : ImageForm) (at : ℕ) → form ≡ Sweep at → IsMaskForm h blob mask → IsImageForm h blob mask form → SweepThere h blob mask at
-sweep_there h blob mask form at is mm m =
-    let f : IsImageForm h blob mask (Sweep at) = subst (IsImageForm h blob mask) is m in
-    let values = f.1.1.1.0 in
-    let l = f.1.1.1.1.0 in
-    let e = f.1.1.1.1.1 in
+pub coded_there : (h : Header) (blob : List ℕ) (mask : MaskForm) (form : ImageForm) (at : ℕ) → values_place form ≡ at → IsMaskForm h blob mask → IsCodedForm h (length blob) (image_of h blob mask) form → CodedThere h blob mask form at
+coded_there h blob mask form at is mm c =
+    let l = c.lists in
     let place = image_place h mask in
-    let long : length (image_of h blob mask) ≡ length l.lists + (1 + length values) = ap length l.joined ∙ length-append l.lists (1 ∷ values) ∙ (let t : length l.lists + suc (length values) ≡ length l.lists + (1 + length values) = omega arith in t) in
-    let at_is : at ≡ place + (length l.lists + 1) = omega (arith, e, long, length-drop place blob, place_within h blob mask mm) in
-    let front : length (l.lists ++ 1 ∷ []) ≡ length l.lists + 1 = length-append l.lists (1 ∷ []) in
-    let joined : image_of h blob mask ≡ (l.lists ++ 1 ∷ []) ++ values = l.joined ∙ sym (append_assoc l.lists (1 ∷ []) values) in
+    let long : length (image_of h blob mask) ≡ length l.lists + (length c.tell + length c.values) = ap length l.joined ∙ length-append l.lists (c.tell ++ c.values) ∙ ap (λ n. length l.lists + n) (length-append c.tell c.values) in
+    let at_is : at ≡ place + (length l.lists + length c.tell) = omega (arith, c.place, is, long, length-drop place blob, place_within h blob mask mm) in
+    let front : length (l.lists ++ c.tell) ≡ length l.lists + length c.tell = length-append l.lists c.tell in
+    let joined : image_of h blob mask ≡ (l.lists ++ c.tell) ++ c.values = l.joined ∙ sym (append_assoc l.lists c.tell c.values) in
     record {
-      within = omega (arith, e);
-      bare = f.0;
-      front = f.1.0;
-      other = f.1.1.0;
-      values = values;
+      within = omega (arith, c.place, is);
+      bare = c.bare;
+      front = c.front;
+      other = c.other;
+      tell = c.tell;
+      values = c.values;
       lists = l;
-      there = ap (λ n. drop n blob) (at_is ∙ (let t : place + (length l.lists + 1) ≡ place + (length l.lists + 1) = refl in t)) ∙ sym (drop-drop (length l.lists + 1) place blob) ∙ ap (drop (length l.lists + 1)) joined ∙ drop_at (l.lists ++ 1 ∷ []) values (length l.lists + 1) front;
+      tells = c.tells;
+      there = ap (λ n. drop n blob) at_is ∙ sym (drop-drop (length l.lists + length c.tell) place blob) ∙ ap (drop (length l.lists + length c.tell)) joined ∙ drop_at (l.lists ++ c.tell) c.values (length l.lists + length c.tell) front;
       place = at_is;
     }
 
-pub image_sweep : (h : Header) (blob : List ℕ) (mask : MaskForm) (at place : ℕ) (r : Pixels) (t : SweepThere h blob mask at) → place ≡ at → IsSwept h (take (length blob - place) (drop place blob)) r → IsImage h (image_of h blob mask) r
-image_sweep h blob mask at place r t is s =
-    let bytes : take (length blob - place) (drop place blob) ≡ t.values = take_rest blob place ∙ ap (λ n. drop n blob) is ∙ t.there in
-    coded t.bare t.lists.lists (1 ∷ t.values) t.front t.lists.joined t.lists.stand t.other (sweep t.values refl (subst (λ (u : List ℕ). AreValues h.kind u (values_of r.pixels)) bytes s.stands) s.count)
+pub sweep_there : (h : Header) (blob : List ℕ) (mask : MaskForm) (form : ImageForm) (at : ℕ) → form ≡ Sweep at → IsMaskForm h blob mask → IsImageForm h blob mask form → CodedThere h blob mask (Sweep at) at
+sweep_there h blob mask form at is mm m = coded_there h blob mask (Sweep at) at refl mm (subst (IsImageForm h blob mask) is m)
 
-pub sweep_fault : (h : Header) (blob : List ℕ) (mask : MaskForm) (marks : List Bool) (at place : ℕ) (t : SweepThere h blob mask at) → place ≡ at → (p : ℕ) (reason : BlobReason)
+behind_place : (h : Header) (blob : List ℕ) (mask : MaskForm) (form : ImageForm) (at place : ℕ) (t : CodedThere h blob mask form at) → place ≡ at → take (length blob - place) (drop place blob) ≡ t.values
+behind_place h blob mask form at place t is = take_rest blob place ∙ ap (λ n. drop n blob) is ∙ t.there
+
+pub image_coded : (h : Header) (blob : List ℕ) (mask : MaskForm) (form : ImageForm) (at : ℕ) (r : Pixels) (t : CodedThere h blob mask form at) → IsCoded h t.front (t.tell ++ t.values) r → IsImage h (image_of h blob mask) r
+image_coded h blob mask form at r t c = coded t.bare t.lists.lists (t.tell ++ t.values) t.front t.lists.joined t.lists.stand t.other c
+
+pub coded_fault : (h : Header) (blob : List ℕ) (mask : MaskForm) (form : ImageForm) (marks : List Bool) (at q p : ℕ) (reason : BlobReason) (t : CodedThere h blob mask form at) → p ≡ at + q
+    → coded_of (insides h marks t.front) h (t.tell ++ t.values) (length t.tell + q) reason → moved (image_place h mask) (image_faults h marks (image_of h blob mask)) p reason
+coded_fault h blob mask form marks at q p reason t e w =
+    (length t.lists.lists + (length t.tell + q), (omega (arith, e, t.place), image_inside h marks (image_of h blob mask) (t.tell ++ t.values) t.front (length t.tell + q) reason t.bare t.other t.lists w))
+
+pub image_sweep : (h : Header) (blob : List ℕ) (mask : MaskForm) (at place : ℕ) (r : Pixels) (t : CodedThere h blob mask (Sweep at) at) → place ≡ at → IsSwept h (take (length blob - place) (drop place blob)) r → IsImage h (image_of h blob mask) r
+image_sweep h blob mask at place r t is s =
+    image_coded h blob mask (Sweep at) at r t
+    (sweep t.values (ap (λ (u : List ℕ). u ++ t.values) t.tells) (subst (λ (u : List ℕ). AreValues h.kind u (values_of r.pixels)) (behind_place h blob mask (Sweep at) at place t is) s.stands) s.count)
+
+pub sweep_fault : (h : Header) (blob : List ℕ) (mask : MaskForm) (marks : List Bool) (at place : ℕ) (t : CodedThere h blob mask (Sweep at) at) → place ≡ at → (p : ℕ) (reason : BlobReason)
     → moved place (sweep_faults h (take (length blob - place) (drop place blob))) p reason → moved (image_place h mask) (image_faults h marks (image_of h blob mask)) p reason
 sweep_fault h blob mask marks at place t is p reason (q, (e, w)) =
-    let bytes : take (length blob - place) (drop place blob) ≡ t.values = take_rest blob place ∙ ap (λ n. drop n blob) is ∙ t.there in
-    (length t.lists.lists + (1 + q), (omega (arith, e, is, t.place), image_inside h marks (image_of h blob mask) t.values t.front q reason t.bare t.other t.lists (subst (λ (u : List ℕ). sweep_faults h u q reason) bytes w)))
+    coded_fault h blob mask (Sweep at) marks at q p reason t (e ∙ ap (λ n. n + q) is)
+    (subst (λ (u : List ℕ). coded_of (insides h marks t.front) h (u ++ t.values) (length u + q) reason) (sym t.tells)
+    (sweep_inside (insides h marks t.front) h t.values q reason (subst (λ (u : List ℕ). sweep_faults h u q reason) (behind_place h blob mask (Sweep at) at place t is) w)))
+
+-- ---- blocks
+
+pub image_blocks : (h : Header) (blob : List ℕ) (mask : MaskForm) (at : ℕ) (old r : Pixels) (tops : List ℤ) (t : CodedThere h blob mask (Blocks at) at) → 0 < h.depth → KeepsMarks old r
+    → AreTopsOf h (image_of h blob mask) tops → HasBlocks h (marks_of old) tops (take (length blob - at) (drop at blob)) r → IsImage h (image_of h blob mask) r
+image_blocks h blob mask at old r tops t some keeps are b =
+    let values = behind_place h blob mask (Blocks at) at at t refl in
+    image_coded h blob mask (Blocks at) at r t
+    (blocks t.tells.0 t.values (ap (λ (u : List ℕ). u ++ t.values) t.tells.1.1) t.tells.1.0 b.side
+    (subst (λ (ms : List Bool). AreBlocks h ms (top_of h t.front) t.values (all_blocks h r)) keeps.marks
+    (blocks_same h (marks_of old) (top_in tops) (top_of h t.front) t.values (all_blocks h r) some (are.each t.front (t.tell ++ t.values) t.lists)
+    (subst (λ (u : List ℕ). AreBlocks h (marks_of old) (top_in tops) u (all_blocks h r)) values b.stand))))
+
+pub blocks_fault : (h : Header) (blob : List ℕ) (mask : MaskForm) (marks : List Bool) (at : ℕ) (tops : List ℤ) (t : CodedThere h blob mask (Blocks at) at) → 0 < h.depth
+    → AreTopsOf h (image_of h blob mask) tops → (p : ℕ) (reason : BlobReason) → moved at (blocks_faults h marks (top_in tops) (take (length blob - at) (drop at blob))) p reason
+    → moved (image_place h mask) (image_faults h marks (image_of h blob mask)) p reason
+blocks_fault h blob mask marks at tops t some are p reason (q, (e, w)) =
+    let values = behind_place h blob mask (Blocks at) at at t refl in
+    let mode = t.tells.0 in
+    let there : blocks_faults h marks (top_of h t.front) t.values q reason =
+    faults_same h marks (top_in tops) (top_of h t.front) t.values q reason some (are.each t.front (t.tell ++ t.values) t.lists) (subst (λ (u : List ℕ). blocks_faults h marks (top_in tops) u q reason) values w) in
+    coded_fault h blob mask (Blocks at) marks at q p reason t e
+    (subst (λ (u : List ℕ). coded_of (insides h marks t.front) h (u ++ t.values) (length u + q) reason) (sym t.tells.1.1)
+    (subst (λ (n : ℕ). coded_of (insides h marks t.front) h (0 ∷ (mode ++ t.values)) n reason) (let s : 1 + (length mode + q) ≡ suc (length mode) + q = omega arith in s)
+    (blocks_inside (insides h marks t.front) h mode t.values q reason t.tells.1.0 there)))
+
+-- where no image is bare some pixel is valid, so the greatest value is the type's
+range_top : (bytes : List ℕ) (h : Header) (place : ℕ) → RangeAt bytes place h.kind h.valid h.least h.greatest → ¬ (h.valid ≡ 0) → InRange h.kind h.greatest
+range_top bytes h place (inl u) some = u.1.greatest_in_range
+range_top bytes h place (inr u) some = absurd (some u.0)
+
+pub top_fits : (h : Header) (blob : List ℕ) → HeadAt blob h → ¬ IsBare h → InRange h.kind h.greatest
+top_fits h blob head bare = range_top blob h (46 + shift h.version) head.range (λ z. bare (inl z))
+
+front_long : (h : Header) (v : Version) (lists : List ℕ) (front : Option Ends) → v ≡ V4 → IsFront h v lists front → length lists ≡ h.depth * bytes_of h.kind + h.depth * bytes_of h.kind
+front_long h V3 lists front is f = absurd (cc)
+front_long h V4 lists front is (e, (some, (l, (g, v)))) =
+    let count : length (e.least ++ e.greatest) ≡ h.depth + h.depth = omega (arith, length-append e.least e.greatest, l, g) in
+    v.size ∙ ap (λ k. k * bytes_of h.kind) count ∙ (let t : (h.depth + h.depth) * bytes_of h.kind ≡ h.depth * bytes_of h.kind + h.depth * bytes_of h.kind = omega arith in t)
+
+pub both_there : (h : Header) (blob : List ℕ) (mask : MaskForm) (form : ImageForm) (at : ℕ) → CodedThere h blob mask form at → HasBoth h (image_of h blob mask)
+both_there h blob mask form at t = λ is.
+    let long = front_long h h.version t.lists.lists t.front is t.lists.stand in
+    omega (arith, long, ap length t.lists.joined, length-append t.lists.lists (t.tell ++ t.values))
 
 pub few_values : (blob : List ℕ) (h : Header) → HeadAt blob h → h.valid * h.depth ≤ 16777216
 few_values blob h head =

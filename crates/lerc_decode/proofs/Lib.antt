@@ -4,3 +4,5 @@ mod Bodies
 mod Fields
 mod Steps
 mod Feeding
+pub mod Tops
+pub mod BlockReading

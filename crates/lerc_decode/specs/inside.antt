@@ -1,3 +1,4 @@
+pub mod Blocks
 pub mod Body
 pub mod Feeding
 pub mod Inside

@@ -1,6 +1,6 @@
 //! The raster of a whole blob.
 
-ghost use Rattle.std.specs.Prelude.{◌≡◌, ◌≢◌, ◌≤◌, ◌*◌, ◌+◌, ◌-◌, ◌<◌, ◌^◌, IfOk, IfErr, OnOk, IfSome, All, length, take, drop, replicate};
+ghost use Rattle.std.specs.Prelude.{◌≡◌, ◌≢◌, ◌≤◌, ◌*◌, ◌+◌, ◌-◌, ◌<◌, ◌^◌, IfOk, IfErr, OnOk, IfSome, IsTrue, ◌↔◌, All, length, take, drop, replicate};
 ghost use Rattle.first_fault.specs.Faults.{moved};
 ghost use Rattle.raster_values.specs.PixelType.{InRange, bytes_of};
 ghost use Rattle.raster_values.specs.Raster.{IsRaster, IsShape, blank};
@@ -12,10 +12,13 @@ ghost use Rattle.lerc_grammar.specs.Mask.{IsMask, count_of, mask_faults, mask_si
 ghost use Rattle.lerc_grammar.specs.Image.{IsImage, image_faults, sweep_faults, value_count};
 ghost use Rattle.lerc_grammar.specs.Blob.{Blob, blob_faults};
 ghost use Rattle.lerc_grammar.specs.Outline.{IsImageForm, IsMaskForm, image_place};
+ghost use Rattle.lerc_grammar.specs.declared.outline.ImageForm.{ImageForm};
+ghost use Rattle.lerc_decode.specs.inside.Blocks.{AreTopsOf, HasBoth, IsOneTop};
 ghost use Rattle.lerc_decode.specs.inside.Body.{HasHeadShape, HasSum, IsFilledWith, IsMarkedBy, IsMarkedFor, IsStopOf, IsSwept, KeepsMarks};
 
+use crate::blocks::pour_blocks;
 use lerc_grammar::{ImageForm, MaskForm, image_part, mask_part};
-use lerc_header::{BlobFault, BlobReason, Header, checksum};
+use lerc_header::{BlobFault, BlobReason, Header, Version, checksum};
 use mask_runs::read_runs;
 use raster_values::{PixelType, Raster};
 use std::alloc::Global;
@@ -28,7 +31,7 @@ pub(crate) enum BodyStop {
 }
 
 /// A fault, as an answer.
-fn stopped<T: Drop>(reason: BlobReason, place: usize) -> Result<T, BodyStop>
+pub(crate) fn stopped<T: Drop>(reason: BlobReason, place: usize) -> Result<T, BodyStop>
     ensures { result ≡ Err (BodyStop.Fault (record { reason = reason; place = place })) }
 {
     Err(BodyStop::Fault(BlobFault {
@@ -38,7 +41,7 @@ fn stopped<T: Drop>(reason: BlobReason, place: usize) -> Result<T, BodyStop>
 }
 
 /// What holds of each raster, for the proofs.
-fn note_sound(raster: &Raster)
+pub(crate) fn note_sound(raster: &Raster)
     ensures { IsRaster raster.now }
 {
     let _rows = raster.rows();
@@ -61,7 +64,7 @@ fn room_for(alloc: Global, size: usize) -> Option<Vec<u8>>
 }
 
 /// One value so many times, where there is memory for it.
-fn many(alloc: Global, value: i64, count: usize) -> Option<Vec<i64>>
+pub(crate) fn many(alloc: Global, value: i64, count: usize) -> Option<Vec<i64>>
     ensures { IfSome result (λ values. values.items ≡ replicate count value) }
 {
     vec![in alloc; value; count].ok()
@@ -165,7 +168,7 @@ fn read_mask(
 }
 
 /// Reads values that stand one behind the other.
-fn read_values(kind: PixelType, bytes: &[u8], out: &mut [i64])
+pub(crate) fn read_values(kind: PixelType, bytes: &[u8], out: &mut [i64])
     requires size { length bytes.now ≡ length out.old * bytes_of kind }
     requires few { length out.old ≤ 65536 }
     ensures values { AreValues kind bytes.now out.new }
@@ -269,6 +272,95 @@ fn pour_sweep(
     Ok(())
 }
 
+/// The place behind a mask of this form.
+fn place_behind(header: &Header, mask: &MaskForm) -> usize
+    ensures value { result ≡ image_place header.now mask.now }
+    ensures few { result < 2 ^ 33 }
+{
+    let head = header.version.head_length() + 4;
+    match *mask {
+        MaskForm::Empty => head,
+        MaskForm::Full => head,
+        MaskForm::Runs { len, .. } => head + len as usize,
+    }
+}
+
+/// Whether all depths have the header's top.
+fn has_one_top(header: &Header) -> bool
+    ensures { IsTrue result ↔ IsOneTop header.now }
+{
+    header.version == Version::V3 || header.depth == 1
+}
+
+/// Reads the tops of the depths, where they are not all the header's. The bytes begin with the lists.
+fn read_tops(bytes: &[u8], header: &Header, tops: &mut [i64])
+    requires few { header.now.depth ≤ 65536 }
+    requires top { InRange header.now.kind header.now.greatest }
+    requires lists { HasBoth header.now bytes.now }
+    requires filled { tops.old ≡ replicate header.now.depth header.now.greatest }
+    ensures { AreTopsOf header.now bytes.now tops.new }
+{
+    if has_one_top(header) {
+        return;
+    }
+    let size = header.depth as usize * header.kind.bytes();
+    read_values(header.kind, &bytes[size..2 * size], tops);
+}
+
+/// The same, with the tops read into `tops`.
+fn pour_topped(
+    blob: &[u8],
+    header: &Header,
+    mask: &MaskForm,
+    place: usize,
+    tops: &mut [i64],
+    raster: &mut Raster,
+) -> Result<(), BodyStop>
+    requires head { HeadAt blob.now header.now }
+    requires size { length blob.now ≡ header.now.size }
+    requires mask { IsMaskForm header.now blob.now mask.now }
+    requires form { IsImageForm header.now blob.now mask.now (ImageForm.Blocks place) }
+    requires filled { tops.old ≡ replicate header.now.depth header.now.greatest }
+    requires shape { HasHeadShape header.now raster.old }
+    ensures marks { KeepsMarks raster.old raster.new }
+    ensures ok { OnOk result (IsImage header.now
+        (drop (image_place header.now mask.now) blob.now) raster.new) }
+    ensures fault { IfErr result (λ stop. IsStopOf (moved (image_place header.now mask.now)
+        (image_faults header.now (marks_of raster.old)
+        (drop (image_place header.now mask.now) blob.now))) stop) }
+{
+    let start = place_behind(header, mask);
+    read_tops(&blob[start..], header, tops);
+    pour_blocks(&blob[place..], place, header, tops, raster)
+}
+
+/// Gives the valid pixels the values of blocks, the first of which begins at this place.
+fn read_blocks(
+    alloc: Global,
+    blob: &[u8],
+    header: &Header,
+    mask: &MaskForm,
+    place: usize,
+    raster: &mut Raster,
+) -> Result<(), BodyStop>
+    requires head { HeadAt blob.now header.now }
+    requires size { length blob.now ≡ header.now.size }
+    requires mask { IsMaskForm header.now blob.now mask.now }
+    requires form { IsImageForm header.now blob.now mask.now (ImageForm.Blocks place) }
+    requires shape { HasHeadShape header.now raster.old }
+    ensures marks { KeepsMarks raster.old raster.new }
+    ensures ok { OnOk result (IsImage header.now
+        (drop (image_place header.now mask.now) blob.now) raster.new) }
+    ensures fault { IfErr result (λ stop. IsStopOf (moved (image_place header.now mask.now)
+        (image_faults header.now (marks_of raster.old)
+        (drop (image_place header.now mask.now) blob.now))) stop) }
+{
+    let Some(mut tops) = many(alloc, header.greatest, header.depth as usize) else {
+        return Err(BodyStop::OutOfMemory);
+    };
+    pour_topped(blob, header, mask, place, &mut tops, raster)
+}
+
 /// Gives the valid pixels the values that the image says.
 fn read_image(
     alloc: Global,
@@ -303,6 +395,7 @@ fn read_image(
             let place = at as usize;
             pour_sweep(&blob[place..], place, header, raster)
         }
+        ImageForm::Blocks { at } => read_blocks(alloc, blob, header, mask, at as usize, raster),
         _ => unreachable!(),
     }
 }

@@ -1,43 +1,39 @@
 -- All bytes of a blob's size are a blob or have a first fault; all bytes have a verdict.
-use Rattle.std.proofs.Common.{◌≡◌, ℕ, ℤ, pos, ◌+◌, ◌-◌, ◌*◌, ◌<◌, ◌≤◌, Bool, true, false, cond, List, [], ◌∷◌, ◌++◌, length, take, drop, map, replicate, Option, refl, sym, ap, ◌∙◌, subst, arith, ◌⊎◌, inl, inr}
-use Rattle.std.specs.Prelude.{is_some}
-use Rattle.std.specs.List.{count_by, range_with_len}
+use Rattle.std.proofs.Common.{◌≡◌, ℕ, ◌+◌, ◌*◌, ◌<◌, ◌≤◌, List, ◌++◌, length, take, drop, refl, sym, ap, ◌∙◌, subst, arith, ◌⊎◌, inl, inr}
 use Rattle.std.proofs.lemmas.Bool.{cases_lt}
-use Rattle.std.proofs.lemmas.List.{append_assoc, length-append, length-map, length-replicate, length-take-le, length-drop, take-append-drop, drop_at}
-use Rattle.std.proofs.lemmas.List.Folds.{sum_by-replicate}
-use Rattle.std.proofs.lemmas.List.Sums.{sum_by-cons}
-use Rattle.std.proofs.lemmas.List.FromFn.{length-range_with_len}
-use Rattle.first_fault.specs.Faults.{wrong, moved, in_order}
+use Rattle.std.proofs.lemmas.List.{length-take-le, take-append-drop, drop_at}
+use Rattle.first_fault.specs.Faults.{wrong, moved}
 use Rattle.first_fault.specs.Parts.{AreBytes, InFront, HasFault}
 use Rattle.first_fault.proofs.Decided.{decided_unless}
 use Rattle.raster_values.specs.PixelType.{InRange}
-use Rattle.raster_values.specs.Raster.{Pixels, IsRaster, valid_count}
-use Rattle.raster_values.specs.Flat.{marks_of}
-use Rattle.raster_values.specs.Order.{marks_in, mask_bit}
+use Rattle.raster_values.specs.Raster.{Pixels}
 use Rattle.lerc_header.specs.declared.header.Header.{Header}
 use Rattle.lerc_header.specs.declared.header.Version.{Version}
 use Rattle.lerc_header.specs.Head.{HeadAt, RangeAt, head_length, shift}
 use Rattle.lerc_header.specs.Checksum.{sum_of}
-use Rattle.lerc_header.specs.declared.fault.BlobReason.{BlobReason}
 use Rattle.lerc_header.specs.declared.fault.BlobReason.TheVariants.{BadChecksum}
 use Rattle.lerc_header.specs.HeadFaults.{HasKey, HasVersion, key_faults, field_faults}
-use Rattle.lerc_grammar.specs.Mask.{IsMask, alike, mixed, count_of, mask_faults}
+use Rattle.lerc_grammar.specs.Mask.{IsMask, count_of, mask_faults}
 use Rattle.lerc_grammar.specs.Image.{image_faults}
 use Rattle.lerc_grammar.specs.Blob.{Blob, body_faults, blob_faults}
-use Rattle.lerc_grammar.specs.Verdict.{FirstFault, of_key, of_field, of_blob, Verdict, More, Done, Fault, IsVerdict}
+use Rattle.lerc_grammar.specs.Verdict.{of_key, of_field, of_blob, Verdict, More, Done, Fault, IsVerdict}
 use Rattle.lerc_grammar.specs.Laws.{SomeVerdict}
 use Rattle.lerc_grammar.proofs.Counts.{mask_count, mask_long, counted}
 use Rattle.lerc_grammar.proofs.Bytes.{bytes_in_take, bytes_in_drop}
 use Rattle.lerc_grammar.proofs.Cases.{decide_nat, its_fault, or_moved}
-use Rattle.lerc_grammar.proofs.Existing.{HasMarks}
+use Rattle.lerc_grammar.proofs.Existing.{IsMarked}
 use Rattle.lerc_grammar.proofs.MaskDecided.{mask_decided}
-use Rattle.lerc_grammar.proofs.ImageDecided.{IsMarked, HasImage, ImageOr, image_decided}
+use Rattle.lerc_grammar.proofs.ImageDecided.{HasImage, ImageOr, image_decided}
 use Rattle.lerc_grammar.proofs.More.{more_key, more_fields, more_body}
 use Rattle.lerc_grammar.proofs.Verdicts.{version_of, key_of}
 use Rattle.lerc_header.proofs.Prefixes.{head_of_take, head_in_take}
 use Rattle.lerc_header.proofs.DecidedHeads.{IsFound, IsKeyed, head_or_fault, key_or_fault}
 
 -- ---- a blob
+
+greatest_in_range : (bytes : List ℕ) (h : Header) (place : ℕ) → RangeAt bytes place h.kind h.valid h.least h.greatest → ¬ (h.valid ≡ 0) → InRange h.kind h.greatest
+greatest_in_range bytes h place (inl u) some = u.1.greatest_in_range
+greatest_in_range bytes h place (inr u) some = absurd (some u.0)
 
 least_in_range : (bytes : List ℕ) (h : Header) (place : ℕ) → RangeAt bytes place h.kind h.valid h.least h.greatest → ¬ (h.valid ≡ 0) → InRange h.kind h.least
 least_in_range bytes h place (inl u) some = u.1.least_in_range
@@ -108,8 +104,9 @@ blob_decided h bytes head size are =
           long = mask_long (h.rows * h.cols) h.valid f.front f.value f.stands;
           count = mask_count (h.rows * h.cols) h.valid f.front f.value f.stands;
           range = least_in_range bytes h (46 + shift h.version) head.range;
+          top = greatest_in_range bytes h (46 + shift h.version) head.range;
         } in
-        pictured sum f (image_decided h f.value f.rest m (behind f))
+        pictured sum f (image_decided h f.value f.rest head.side_above m (behind f))
     masked sum (inr w) = inr (record { place = w.place; reason = w.reason; fault = inl w.fault })
 
 -- ---- a verdict

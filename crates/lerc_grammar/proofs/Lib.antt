@@ -15,3 +15,10 @@ pub mod Cases
 pub mod MaskDecided
 pub mod Forms
 pub mod Bytes
+pub mod Told
+pub mod BlockParts
+pub mod OneBlocks
+pub mod CodedOnce
+pub mod Rising
+pub mod BlockRasters
+pub mod CodedDecided

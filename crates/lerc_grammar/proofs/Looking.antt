@@ -1,14 +1,13 @@
 -- What goes wrong outside goes wrong in the whole, and so does what goes wrong inside.
-use Rattle.std.proofs.Common.{◌≡◌, ℕ, ℤ, pos, ◌+◌, ◌<◌, ◌≤◌, ◌≤ℤ◌, Bool, List, ◌∷◌, ◌++◌, length, take, drop, Option, None, refl, sym, ap, ◌∙◌, subst, arith, ◌⊎◌, inl, inr}
+use Rattle.std.proofs.Common.{◌≡◌, ℕ, pos, ◌+◌, ◌<◌, ◌≤◌, Bool, List, ◌∷◌, ◌++◌, length, take, drop, Option, None, refl, sym, ◌∙◌, subst, arith, inl, inr}
 use Rattle.std.proofs.lemmas.Int.{ints}
-use Rattle.std.proofs.lemmas.List.{append_assoc, length-append}
-use Rattle.first_fault.specs.Faults.{Faults, none, wrong, choice, moved, ends}
+use Rattle.first_fault.specs.Faults.{Faults, none, wrong, choice, ends}
 use Rattle.lerc_header.specs.declared.header.Header.{Header}
 use Rattle.lerc_header.specs.Head.{i32_at}
 use Rattle.lerc_header.specs.declared.fault.BlobReason.{BlobReason}
 use Rattle.lerc_header.specs.declared.fault.BlobReason.TheVariants.{BadMaskLength, MaskMissing, PastEnd, Leftover}
 use Rattle.lerc_grammar.specs.Mask.{IsAlike, IsMaskLength, mask_faults_of, length_of, mixed_of, counted_of, in_mask_of, runs_faults, mask_faults}
-use Rattle.lerc_grammar.specs.Image.{Ends, IsFront, AreEqual, IsBare, sweep_faults, Insides, insides, outside, coded_of, behind_front, image_faults_of, image_faults}
+use Rattle.lerc_grammar.specs.Image.{Ends, AreEqual, IsBare, IsBlocksMode, Insides, insides, outside, mode_of, behind_zero, coded_of, behind_front, image_faults_of, image_faults}
 use Rattle.lerc_grammar.specs.Outline.{HasLists}
 
 -- the later tests of a chain
@@ -62,14 +61,25 @@ mask_inside pixels valid rest n p r other number some long w =
 
 -- ---- images
 
-coded_outside : (i : Insides) (rest : List ℕ) (p : ℕ) (r : BlobReason) → coded_of (outside None) rest p r → coded_of i rest p r
-coded_outside i rest p r (inl (some, inl (low, (at, (e, inl w))))) = absurd w.1
-coded_outside i rest p r (inl (some, inl (low, (at, (e, inr w))))) = inl (some, inl (low, (at, (e, inr w))))
-coded_outside i rest p r (inl (some, inr w)) = inl (some, inr w)
-coded_outside i rest p r (inr w) = inr w
+mode_outside : (i : Insides) (h : Header) (rest : List ℕ) (p : ℕ) (r : BlobReason) → ((bytes : List ℕ) (q : ℕ) → (outside None).codes bytes q r → i.codes bytes q r)
+    → mode_of (outside None) h rest p r → mode_of i h rest p r
+mode_outside i h rest p r go (inl (some, inl (low, (at, (e, inl w))))) = absurd w.1
+mode_outside i h rest p r go (inl (some, inl (low, (at, (e, inr w))))) = inl (some, inl (low, (at, (e, inr (w.0, go (drop 1 rest) at w.1)))))
+mode_outside i h rest p r go (inl (some, inr w)) = inl (some, inr w)
+mode_outside i h rest p r go (inr w) = inr w
 
-behind_outside : (h : Header) (marks : List Bool) (front : Option Ends) (rest : List ℕ) (p : ℕ) (r : BlobReason) → behind_front outside front rest p r → behind_front (insides h marks) front rest p r
-behind_outside h marks front rest p r w = failing_choice (AreEqual front) (coded_of (outside front) rest) (coded_of (insides h marks front) rest) (ends Leftover rest) p r (coded_outside (insides h marks front) rest p r) w
+coded_outside : (i : Insides) (h : Header) (rest : List ℕ) (p : ℕ) (r : BlobReason) → ((bytes : List ℕ) (q : ℕ) → (outside None).codes bytes q r → i.codes bytes q r)
+    → coded_of (outside None) h rest p r → coded_of i h rest p r
+coded_outside i h rest p r go (inl (some, inl (low, (at, (e, inl w))))) = absurd w.1
+coded_outside i h rest p r go (inl (some, inl (low, (at, (e, inr (other, inl (has, w))))))) =
+    inl (some, inl (low, (at, (e, inr (other, inl (has, mode_outside i h (drop 1 rest) at r go w))))))
+coded_outside i h rest p r go (inl (some, inl (low, (at, (e, inr (other, inr (no_, w))))))) = absurd w
+coded_outside i h rest p r go (inl (some, inr w)) = inl (some, inr w)
+coded_outside i h rest p r go (inr w) = inr w
+
+behind_outside : (h : Header) (marks : List Bool) (front : Option Ends) (rest : List ℕ) (p : ℕ) (r : BlobReason) → behind_front outside h front rest p r → behind_front (insides h marks) h front rest p r
+behind_outside h marks front rest p r w =
+    failing_choice (AreEqual front) (coded_of (outside front) h rest) (coded_of (insides h marks front) h rest) (ends Leftover rest) p r (coded_outside (insides h marks front) h rest p r (λ bytes q x. x)) w
 
 -- what is wrong outside of the values is wrong with the image
 pub image_outside : (h : Header) (marks : List Bool) (rest : List ℕ) (p : ℕ) (r : BlobReason) → image_faults_of outside h rest p r → image_faults h marks rest p r
@@ -87,18 +97,35 @@ image_outside h marks rest p r (inr (bare, inr s)) = inr (
   }),
 )
 
--- what is wrong in a sweep is wrong with the image
-pub image_inside : (h : Header) (marks : List Bool) (rest values : List ℕ) (front : Option Ends) (p : ℕ) (r : BlobReason) → ¬ IsBare h → ¬ AreEqual front
-    → (l : HasLists h rest front (1 ∷ values)) → sweep_faults h values p r → image_faults h marks rest (length l.lists + (1 + p)) r
-image_inside h marks rest values front p r bare other l w =
+-- what is wrong behind the lists is wrong with the image
+pub image_inside : (h : Header) (marks : List Bool) (rest coded : List ℕ) (front : Option Ends) (p : ℕ) (r : BlobReason) → ¬ IsBare h → ¬ AreEqual front
+    → (l : HasLists h rest front coded) → coded_of (insides h marks front) h coded p r → image_faults h marks rest (length l.lists + p) r
+image_inside h marks rest coded front p r bare other l w =
     inr (
       bare,
       inr (record {
         front = l.lists;
-        rest = 1 ∷ values;
+        rest = coded;
         value = front;
         joined = l.joined;
         stands = l.stand;
-        later = (1 + p, (refl, inr (other, inl (omega arith, inl (omega arith, (p, (refl, inl (refl, w))))))));
+        later = (p, (refl, inr (other, w)));
       }),
     )
+
+-- what is wrong in a sweep
+pub sweep_inside : (i : Insides) (h : Header) (values : List ℕ) (p : ℕ) (r : BlobReason) → i.sweep values p r → coded_of i h (1 ∷ values) (1 + p) r
+sweep_inside i h values p r w = inl (omega arith, inl (omega arith, (p, (refl, inl (refl, w)))))
+
+-- what is wrong behind a sweep byte 0
+zero_inside : (i : Insides) (h : Header) (rest : List ℕ) (p : ℕ) (r : BlobReason) → behind_zero i h rest p r → coded_of i h (0 ∷ rest) (1 + p) r
+zero_inside i h rest p r w = inl (omega arith, inl (omega arith, (p, (refl, inr ((λ same. absurd (omega (arith, same))), w)))))
+
+-- what is wrong in blocks
+pub blocks_inside : (i : Insides) (h : Header) (mode rest : List ℕ) (p : ℕ) (r : BlobReason) → IsBlocksMode h mode → i.blocks rest p r → coded_of i h (0 ∷ (mode ++ rest)) (1 + (length mode + p)) r
+blocks_inside i h mode rest p r (inl m) w =
+    subst (λ (u : List ℕ). coded_of i h (0 ∷ (u ++ rest)) (1 + (length u + p)) r) (sym m.1)
+    (zero_inside i h (0 ∷ rest) (1 + p) r (inl (m.0, inl (omega arith, inl (omega arith, (p, (refl, inl (refl, w))))))))
+blocks_inside i h mode rest p r (inr m) w =
+    subst (λ (u : List ℕ). coded_of i h (0 ∷ (u ++ rest)) (1 + (length u + p)) r) (sym m.1)
+    (subst (λ (q : ℕ). coded_of i h (0 ∷ rest) (1 + q) r) (let t : p ≡ 0 + p = omega arith in t) (zero_inside i h rest p r (inr (m.0, w))))

@@ -1,12 +1,11 @@
 -- All bytes have a mask in front or a first fault of one.
-use Rattle.std.proofs.Common.{◌≡◌, ℕ, ℤ, pos, negsuc, ◌+◌, ◌<◌, ◌≤◌, ◌≤ℤ◌, Bool, true, false, cond, List, ◌++◌, length, take, drop, replicate, refl, sym, ap, ◌∙◌, subst, arith, ◌⊎◌, inl, inr}
+use Rattle.std.proofs.Common.{◌≡◌, ℕ, ℤ, pos, negsuc, ◌+◌, ◌≤◌, ◌≤ℤ◌, Bool, true, false, cond, List, length, take, drop, replicate, refl, sym, ap, ◌∙◌, subst, arith, ◌⊎◌, inl, inr}
 use Rattle.std.proofs.lemmas.Int.{ints}
-use Rattle.std.proofs.lemmas.List.{length-append, length-drop, length-take-le, take-append-drop, drop-take}
-use Rattle.first_fault.specs.Faults.{Faults, none, wrong, choice, unless, moved}
+use Rattle.std.proofs.lemmas.List.{length-drop, length-take-le, take-append-drop, drop-take}
+use Rattle.first_fault.specs.Faults.{Faults, none, wrong, choice, moved}
 use Rattle.first_fault.specs.Parts.{AreBytes, InFront, HasFault, IsDecided}
 use Rattle.first_fault.proofs.Decided.{decided_unless}
 use Rattle.mask_runs.specs.Runs.{Runs}
-use Rattle.mask_runs.specs.Fault.{FirstRunFault}
 use Rattle.mask_runs.proofs.Decided.{RunsOrFault, runs_decided}
 use Rattle.raster_values.specs.Order.{marks_in}
 use Rattle.lerc_header.specs.Head.{i32_at}

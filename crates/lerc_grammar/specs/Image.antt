@@ -1,15 +1,17 @@
 -- The image of a blob: what stands behind the mask.
-use Rattle.std.specs.Prelude.{◌≡◌, ◌≢◌, ℕ, ℤ, ◌+◌, ◌*◌, ◌<◌, ◌≤◌, ◌⊎◌, Bool, List, [], ◌∷◌, ◌++◌, length, drop, replicate, slice_index, Option, Some, None}
+use Rattle.std.specs.Prelude.{◌≡◌, ◌≢◌, ℕ, ℤ, ◌+◌, ◌*◌, ◌<◌, ◌≤◌, ◌⊎◌, Bool, nat_eq, if◌then◌else◌, get_or, pos, List, [], ◌∷◌, ◌++◌, length, drop, replicate, slice_index, Option, Some, None}
 use Rattle.first_fault.specs.Faults.{Faults, none, wrong, choice, unless, moved, in_order, ends}
 use Rattle.raster_values.specs.PixelType.{bytes_of}
 use Rattle.raster_values.specs.Raster.{Pixels, values_of}
 use Rattle.raster_values.specs.Values.{AreValues}
-use Rattle.raster_values.specs.Flat.{EachValid}
+use Rattle.raster_values.specs.Flat.{EachValid, marks_of}
+use Rattle.delta_mode.specs.Symbols.{IsByteType}
 use Rattle.lerc_header.specs.declared.header.Header.{Header}
 use Rattle.lerc_header.specs.declared.header.Version.{Version}
 use Rattle.lerc_header.specs.declared.header.Version.TheVariants.{V3, V4}
+use Rattle.lerc_grammar.specs.Blocks.{AreBlocks, all_blocks, blocks_faults}
 use Rattle.lerc_header.specs.declared.fault.BlobReason.{BlobReason}
-use Rattle.lerc_header.specs.declared.fault.BlobReason.TheVariants.{NotYet, BadSweep, PastEnd, Leftover}
+use Rattle.lerc_header.specs.declared.fault.BlobReason.TheVariants.{NotYet, BadSweep, BadMode, PastEnd, Leftover}
 
 -- how many values an image has
 abbrev pub value_count : Header → ℕ
@@ -39,6 +41,22 @@ abbrev pub one_list : Option Ends → List ℤ
 one_list None = []
 one_list (Some e) = e.least
 
+-- the top of a depth, above which no stuffed value is: the header's greatest value; with lists and more
+-- than one depth, the greatest value of that depth
+abbrev pub top_of : Header → Option Ends → ℕ → ℤ
+top_of h None d = h.greatest
+top_of h (Some e) d = if nat_eq h.depth 1 then h.greatest else get_or e.greatest d (pos 0)
+
+-- ---- coded values
+
+-- the type takes one byte and the error is 0.5: a mode byte stands in front of coded values
+abbrev pub HasMode : Header → Type 0
+HasMode h = IsByteType h.kind × (h.step ≡ 1)
+
+-- in front of blocks: a mode byte 0 where there is one
+abbrev pub IsBlocksMode : Header → List ℕ → Type 0
+IsBlocksMode h mode = (HasMode h × (mode ≡ 0 ∷ [])) ⊎ (¬ HasMode h × (mode ≡ []))
+
 -- ---- images
 
 -- the image has no bytes: no pixel is valid, or all values are one
@@ -50,6 +68,9 @@ pub data IsCoded (h : Header) (front : Option Ends) (bytes : List ℕ) (r : Pixe
   -- the sweep byte 1, and the values as they are: row by row, depth innermost
   sweep : (raw : List ℕ) → bytes ≡ 1 ∷ raw → AreValues h.kind raw (values_of r.pixels) →
       length (values_of r.pixels) ≡ value_count h → IsCoded h front bytes r
+  -- the sweep byte 0, the mode byte where there is one, and the blocks
+  blocks : (mode rest : List ℕ) → bytes ≡ 0 ∷ (mode ++ rest) → IsBlocksMode h mode → h.side ≤ 32 →
+      AreBlocks h (marks_of r) (top_of h front) rest (all_blocks h r) → IsCoded h front bytes r
 
 -- The bytes are the image of the raster. A later case stands only where no earlier one holds.
 pub data IsImage (h : Header) (bytes : List ℕ) (r : Pixels) : Type 0 where
@@ -84,33 +105,56 @@ sweep_faults h rest =
     (moved (value_count h * bytes_of h.kind)
     (ends Leftover (drop (value_count h * bytes_of h.kind) rest)))
 
--- What may be wrong behind the byte that tells the form of coded values: the decoder looks there,
+-- What may be wrong behind the bytes that tell the form of coded values: the decoder looks there,
 -- `image_part` does not. Each form is a field.
 pub record Insides : Type 1 where
   pub sweep : List ℕ → Faults BlobReason
+  pub blocks : List ℕ → Faults BlobReason
+  pub codes : List ℕ → Faults BlobReason
 
--- the sweep byte: 1 is a sweep; the forms behind 0 are not read yet
-abbrev pub coded_of : Insides → List ℕ → Faults BlobReason
-coded_of i rest =
+-- the mode byte is 0, 1, or in version 4 also 2
+abbrev pub greatest_mode : Version → ℕ
+greatest_mode V3 = 1
+greatest_mode V4 = 2
+
+-- the mode byte: 0 are blocks, else codes
+abbrev pub mode_of : Insides → Header → List ℕ → Faults BlobReason
+mode_of i h rest =
+    unless (0 < length rest) (wrong PastEnd 0)
+    (unless (slice_index rest 0 ≤ greatest_mode h.version) (wrong BadMode 0)
+    (moved 1 (choice (slice_index rest 0 ≡ 0) (i.blocks (drop 1 rest)) (i.codes (drop 1 rest)))))
+
+abbrev pub behind_zero : Insides → Header → List ℕ → Faults BlobReason
+behind_zero i h rest = choice (HasMode h) (mode_of i h rest) (i.blocks rest)
+
+-- the sweep byte: 1 is a sweep, behind 0 is the mode byte where there is one, else blocks
+abbrev pub coded_of : Insides → Header → List ℕ → Faults BlobReason
+coded_of i h rest =
     unless (0 < length rest) (wrong PastEnd 0)
     (unless (slice_index rest 0 ≤ 1) (wrong BadSweep 0)
-    (moved 1 (choice (slice_index rest 0 ≡ 1) (i.sweep (drop 1 rest)) (wrong NotYet 0))))
+    (moved 1 (choice (slice_index rest 0 ≡ 1) (i.sweep (drop 1 rest)) (behind_zero i h (drop 1 rest)))))
 
 -- behind the lists
-abbrev pub behind_front : (Option Ends → Insides) → Option Ends → List ℕ → Faults BlobReason
-behind_front i front rest = choice (AreEqual front) (ends Leftover rest) (coded_of (i front) rest)
+abbrev pub behind_front : (Option Ends → Insides) → Header → Option Ends → List ℕ →
+    Faults BlobReason
+behind_front i h front rest =
+    choice (AreEqual front) (ends Leftover rest) (coded_of (i front) h rest)
 
 abbrev pub image_faults_of : (Option Ends → Insides) → Header → List ℕ → Faults BlobReason
 image_faults_of i h rest =
     choice (IsBare h) (ends Leftover rest)
-    (in_order (IsFront h h.version) (front_faults h h.version) (behind_front i) rest)
+    (in_order (IsFront h h.version) (front_faults h h.version) (behind_front i h) rest)
 
--- what the decoder finds there; which pixels are valid, and the lists, matter to forms that come later
+-- what the decoder finds there
 abbrev pub insides : Header → List Bool → Option Ends → Insides
-insides h marks front = record { sweep = sweep_faults h }
+insides h marks front = record {
+  sweep = sweep_faults h;
+  blocks = blocks_faults h marks (top_of h front);
+  codes = λ rest. wrong NotYet 0;
+}
 
 abbrev pub outside : Option Ends → Insides
-outside front = record { sweep = λ _. none }
+outside front = record { sweep = λ rest. none; blocks = λ rest. none; codes = λ rest. wrong NotYet 0 }
 
 -- what is wrong first behind a mask of these marks
 abbrev pub image_faults : Header → List Bool → List ℕ → Faults BlobReason

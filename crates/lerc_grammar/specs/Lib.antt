@@ -1,8 +1,10 @@
 pub mod Blob
+pub mod Blocks
 pub mod Image
 pub mod Laws
 pub mod Mask
 pub mod Near
 pub mod Outline
+pub mod Reasons
 pub mod Verdict
 pub mod inside

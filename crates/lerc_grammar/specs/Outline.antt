@@ -1,17 +1,15 @@
 -- What the calls answer that look neither into the runs nor into the values.
-use Rattle.std.specs.Prelude.{◌≡◌, ◌≢◌, ℕ, pos, ◌+◌, ◌*◌, ◌<◌, ◌≤◌, List, [], ◌∷◌, ◌++◌, length, drop, take, Option}
-use Rattle.first_fault.specs.Faults.{Faults, none, wrong, unless, moved, in_order}
+use Rattle.std.specs.Prelude.{◌≡◌, ◌≢◌, ℕ, pos, ◌+◌, ◌*◌, ◌<◌, ◌≤◌, List, [], ◌∷◌, ◌++◌, length, drop, Option}
+use Rattle.first_fault.specs.Faults.{Faults, none, moved}
 use Rattle.lerc_header.specs.declared.header.Header.{Header}
-use Rattle.lerc_header.specs.Head.{HeadAt, i32_at, head_length}
-use Rattle.lerc_header.specs.Checksum.{sum_of}
+use Rattle.lerc_header.specs.Head.{i32_at, head_length}
 use Rattle.lerc_header.specs.declared.fault.BlobReason.{BlobReason}
-use Rattle.lerc_header.specs.declared.fault.BlobReason.TheVariants.{BadChecksum, Truncated}
 use Rattle.lerc_grammar.specs.declared.outline.MaskForm.{MaskForm}
 use Rattle.lerc_grammar.specs.declared.outline.MaskForm.TheVariants.{Empty as NoneValid, Full, Runs}
 use Rattle.lerc_grammar.specs.declared.outline.ImageForm.{ImageForm}
-use Rattle.lerc_grammar.specs.declared.outline.ImageForm.TheVariants.{Empty, Constant, Ranges, Sweep}
+use Rattle.lerc_grammar.specs.declared.outline.ImageForm.TheVariants.{Empty, Constant, Ranges, Sweep, Blocks, Delta, Plain}
 use Rattle.lerc_grammar.specs.Mask.{IsAlike, mask_faults_of}
-use Rattle.lerc_grammar.specs.Image.{Ends, IsFront, AreEqual, IsBare, outside, image_faults_of}
+use Rattle.lerc_grammar.specs.Image.{Ends, IsFront, AreEqual, IsBare, IsBlocksMode, outside, image_faults_of}
 
 -- ---- the mask
 
@@ -49,16 +47,38 @@ pub record HasLists (h : Header) (rest : List ℕ) (front : Option Ends) (behind
   pub joined : rest ≡ lists ++ behind
   pub stand : IsFront h h.version lists front
 
+-- the bytes in front of coded values that tell their form
+abbrev pub IsFormBytes : Header → List ℕ → ImageForm → Type 0
+IsFormBytes h bytes (Sweep at) = bytes ≡ 1 ∷ []
+IsFormBytes h bytes (Blocks at) = (mode : List ℕ) × (IsBlocksMode h mode × (bytes ≡ 0 ∷ mode))
+IsFormBytes h bytes _ = ⊥
+
+-- the place that the form of coded values has
+abbrev pub values_place : ImageForm → ℕ
+values_place (Sweep at) = at
+values_place (Blocks at) = at
+values_place (Delta at) = at
+values_place (Plain at) = at
+values_place _ = 0
+
+-- the bytes are lists that do not end the image, bytes that tell this form, and values at its place
+pub record IsCodedForm (h : Header) (size : ℕ) (rest : List ℕ) (form : ImageForm) : Type 0 where
+  pub bare : ¬ IsBare h
+  pub front : Option Ends
+  pub other : ¬ AreEqual front
+  pub tell : List ℕ
+  pub values : List ℕ
+  pub lists : HasLists h rest front (tell ++ values)
+  pub tells : IsFormBytes h tell form
+  pub place : values_place form + length values ≡ size
+
 -- the form of the image, whose bytes are `rest`, in a blob of so many bytes
 abbrev pub IsFormOf : Header → ℕ → List ℕ → ImageForm → Type 0
 IsFormOf h size rest Empty = (h.valid ≡ 0) × (rest ≡ [])
 IsFormOf h size rest Constant = (h.valid ≢ 0) × ((h.least ≡ h.greatest) × (rest ≡ []))
 IsFormOf h size rest Ranges =
     ¬ IsBare h × ((front : Option Ends) × (AreEqual front × HasLists h rest front []))
-IsFormOf h size rest (Sweep at) =
-    ¬ IsBare h × ((front : Option Ends) × (¬ AreEqual front × ((values : List ℕ) ×
-    (HasLists h rest front (1 ∷ values) × (at + length values ≡ size)))))
-IsFormOf h size rest _ = ⊥
+IsFormOf h size rest form = IsCodedForm h size rest form
 
 abbrev pub IsImageForm : Header → List ℕ → MaskForm → ImageForm → Type 0
 IsImageForm h blob mask form = IsFormOf h (length blob) (drop (image_place h mask) blob) form

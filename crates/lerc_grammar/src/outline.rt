@@ -5,12 +5,12 @@ ghost use Rattle.raster_values.specs.PixelType.{bytes_of};
 ghost use Rattle.first_fault.specs.Faults.{choice, ends, none};
 ghost use Rattle.lerc_header.specs.Head.{HeadAt, i32_at, head_length};
 ghost use Rattle.lerc_grammar.specs.Mask.{IsAlike, mask_faults_of};
-ghost use Rattle.lerc_grammar.specs.Image.{Ends, IsBare, front_faults, outside, image_faults_of, coded_of};
+ghost use Rattle.lerc_grammar.specs.Image.{Ends, HasMode, IsBare, behind_zero, coded_of, front_faults, greatest_mode, image_faults_of, mode_of, outside};
 ghost use Rattle.lerc_grammar.specs.Outline.{IsFormOf, IsImageForm, IsMaskForm, image_part_faults, image_place, mask_part_faults};
 ghost use Rattle.lerc_header.specs.declared.fault.BlobFault.{BlobFault};
 ghost use Rattle.lerc_grammar.specs.declared.outline.ImageForm.{ImageForm};
 ghost use Rattle.lerc_grammar.specs.declared.outline.MaskForm.{MaskForm};
-ghost use Rattle.lerc_grammar.specs.inside.Spans.{IsFormBehind, IsFrontSpan, IsMaskSpan};
+ghost use Rattle.lerc_grammar.specs.inside.Spans.{IsFormBehind, IsFormTold, IsFrontSpan, IsMaskSpan, IsZeroTold};
 
 use byteorder::{ByteOrder, LittleEndian};
 use lerc_header::{BlobFault, BlobReason, Header, Version};
@@ -186,19 +186,77 @@ fn front_span(rest: &[u8], header: &Header) -> Result<(usize, bool), BlobFault>
     }
 }
 
-/// The form of values that are coded behind the lists, at this place of the blob.
-fn coded_form(rest: &[u8], place: usize) -> Result<ImageForm, BlobFault>
-    requires { place + length rest.now < 2 ^ 63 }
-    ensures ok { IfOk result (λ form. (form ≡ ImageForm.Sweep (place + 1))
-        × ((values : List ℕ) × (rest.now ≡ 1 ∷ values))) }
-    ensures fault { IfErr result (λ f. coded_of (outside None) rest.now f.place f.reason) }
+/// Whether a mode byte stands in front of coded values.
+fn has_mode(header: &Header) -> bool
+    ensures { IsTrue result ↔ HasMode header.now }
+{
+    header.kind.bytes() == 1 && header.step == 1
+}
+
+/// The greatest mode that a version has.
+fn last_mode(version: Version) -> u8
+    ensures { result ≡ greatest_mode version }
+{
+    match version {
+        Version::V3 => 1,
+        Version::V4 => 2,
+    }
+}
+
+/// The form that a mode byte tells, which stands at this place of the blob.
+fn mode_form(rest: &[u8], header: &Header, place: usize) -> Result<ImageForm, BlobFault>
+    requires few { place + length rest.now < 2 ^ 63 }
+    requires mode { HasMode header.now }
+    ensures ok { IfOk result (λ form. IsZeroTold header.now place rest.now form) }
+    ensures fault { IfErr result (λ f.
+        mode_of (outside None) header.now rest.now f.place f.reason) }
     ensures near { IfErr result (λ f. f.place ≤ 1) }
 {
     if rest.is_empty() {
         return refused(BlobReason::PastEnd, 0);
     }
+    let mode = rest[0];
+    if mode > last_mode(header.version) {
+        return refused(BlobReason::BadMode, 0);
+    }
+    if mode == 0 {
+        let at = place as u64 + 1;
+        return Ok(ImageForm::Blocks { at });
+    }
+    refused(BlobReason::NotYet, 1)
+}
+
+/// The form of coded values behind a sweep byte 0, at this place of the blob.
+fn zero_form(rest: &[u8], header: &Header, place: usize) -> Result<ImageForm, BlobFault>
+    requires { place + length rest.now < 2 ^ 63 }
+    ensures ok { IfOk result (λ form. IsZeroTold header.now place rest.now form) }
+    ensures fault { IfErr result (λ f.
+        behind_zero (outside None) header.now rest.now f.place f.reason) }
+    ensures near { IfErr result (λ f. f.place ≤ 1) }
+{
+    if has_mode(header) {
+        mode_form(rest, header, place)
+    } else {
+        Ok(ImageForm::Blocks { at: place as u64 })
+    }
+}
+
+/// The form of values that are coded behind the lists, at this place of the blob.
+fn coded_form(rest: &[u8], header: &Header, place: usize) -> Result<ImageForm, BlobFault>
+    requires { place + length rest.now < 2 ^ 63 }
+    ensures ok { IfOk result (λ form. IsFormTold header.now place rest.now form) }
+    ensures fault { IfErr result (λ f.
+        coded_of (outside None) header.now rest.now f.place f.reason) }
+    ensures near { IfErr result (λ f. f.place ≤ 2) }
+{
+    if rest.is_empty() {
+        return refused(BlobReason::PastEnd, 0);
+    }
     match rest[0] {
-        0 => refused(BlobReason::NotYet, 1),
+        0 => match zero_form(&rest[1..], header, place + 1) {
+            Ok(form) => Ok(form),
+            Err(fault) => Err(later(fault, 1)),
+        },
         1 => Ok(ImageForm::Sweep {
             at: place as u64 + 1,
         }),
@@ -220,17 +278,22 @@ fn ended(form: ImageForm, rest: &[u8]) -> Result<ImageForm, BlobFault>
 }
 
 /// The form that is told behind the lists, which stand before this place of the blob.
-fn form_behind(rest: &[u8], equal: bool, place: usize) -> Result<ImageForm, BlobFault>
+fn form_behind(
+    rest: &[u8],
+    equal: bool,
+    header: &Header,
+    place: usize,
+) -> Result<ImageForm, BlobFault>
     requires { place + length rest.now < 2 ^ 63 }
-    ensures ok { IfOk result (λ form. IsFormBehind equal place rest.now form) }
+    ensures ok { IfOk result (λ form. IsFormBehind header.now equal place rest.now form) }
     ensures fault { IfErr result (λ f. choice (IsTrue equal) (ends BlobReason.Leftover rest.now)
-        (coded_of (outside None) rest.now) f.place f.reason) }
-    ensures near { IfErr result (λ f. f.place ≤ 1) }
+        (coded_of (outside None) header.now rest.now) f.place f.reason) }
+    ensures near { IfErr result (λ f. f.place ≤ 2) }
 {
     if equal {
         ended(ImageForm::Ranges, rest)
     } else {
-        coded_form(rest, place)
+        coded_form(rest, header, place)
     }
 }
 
@@ -258,7 +321,7 @@ fn form_at(rest: &[u8], header: &Header, place: usize) -> Result<ImageForm, Blob
         return ended(ImageForm::Constant, rest);
     }
     let (used, equal) = front_span(rest, header)?;
-    match form_behind(&rest[used..], equal, place + used) {
+    match form_behind(&rest[used..], equal, header, place + used) {
         Ok(form) => Ok(form),
         Err(fault) => Err(later(fault, used)),
     }
@@ -292,7 +355,7 @@ fn first_image_form(blob: &[u8], header: &Header, mask: &MaskForm) -> Result<Ima
     }
 }
 
-/// The form of the image, or what is wrong first with its lists or with the byte that tells the form.
+/// The form of the image, or what is wrong first with its lists or with the bytes that tell the form.
 ///
 /// It does not look at the values, but tells bytes that are left over where there are none. It takes no
 /// memory.

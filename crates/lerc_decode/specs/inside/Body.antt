@@ -1,5 +1,5 @@
 -- What the parts of a blob leave in the raster, and why there is none.
-use Rattle.std.specs.Prelude.{◌≡◌, ℕ, ℤ, ◌+◌, ◌-◌, ◌*◌, List, length, drop, take}
+use Rattle.std.specs.Prelude.{◌≡◌, ℕ, ℤ, ◌-◌, ◌*◌, List, length, drop, take}
 use Rattle.first_fault.specs.Faults.{Faults}
 use Rattle.mask_runs.specs.Runs.{Runs}
 use Rattle.raster_values.specs.declared.kind.PixelType.{PixelType}

@@ -1,6 +1,6 @@
 -- What each step of the decoder does.
 use Rattle.std.specs.Prelude.{◌≡◌, ℕ, List, length}
-use Rattle.lerc_decode.specs.Decoding.{Stage, Key, Fields, Body, Whole, Wrong, NoMemory, Decoding, IsSame}
+use Rattle.lerc_decode.specs.Decoding.{Stage, Key, Fields, Body, Wrong, NoMemory, Decoding, IsSame}
 use Rattle.lerc_decode.specs.States.{IsUsed}
 
 -- the stage after a step over the key, all of the piece being used where it is not whole

@@ -1,4 +1,4 @@
-use Rattle.std.proofs.Common.{◌≡◌, length, replicate, ap, sym, subst, ◌∙◌}
+use Rattle.std.proofs.Common.{◌≡◌, length, replicate, ap, subst, ◌∙◌}
 use Rattle.raster_values.proofs.Views.{same_bits}
 use Rattle.std.proofs.lemmas.List.{length-replicate}
 use Rattle.raster_values.specs.Flat.{EachValid}

@@ -1,4 +1,4 @@
-use Rattle.std.proofs.Common.{◌≡◌, ◌*◌, length, ap, sym, subst, arith, ◌∙◌}
+use Rattle.std.proofs.Common.{◌≡◌, ◌*◌, length, sym, subst, arith, ◌∙◌}
 use Rattle.std.specs.Prelude.{IfErr}
 use Rattle.first_fault.specs.Faults.{moved}
 use Rattle.lerc_grammar.specs.Mask.{mask_size, runs_faults}

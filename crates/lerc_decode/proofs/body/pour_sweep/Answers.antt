@@ -3,7 +3,7 @@ use Rattle.std.specs.Prelude.{IfErr}
 use Rattle.first_fault.specs.Faults.{moved}
 use Rattle.lerc_grammar.specs.Image.{sweep_faults}
 use Rattle.lerc_decode.specs.inside.Body.{IsStopOf}
-use Rattle.lerc_decode.proofs.Filling.{keeps, left_over, sweep_size, swept}
+use Rattle.lerc_decode.proofs.Filling.{keeps, left_over, swept}
 use Rattle.lerc_decode.proofs.body.pour_sweep.Goals as goal
 
 pub returns-then-sweep-need-2-clause-fault : goal.returns-then-sweep-need-2-clause-fault

@@ -1,4 +1,4 @@
-use Rattle.std.proofs.Common.{◌≡◌, ◌≢◌, ◌<◌, length, below_more, arith, sym, ap, ◌*◌, ◌∙◌}
+use Rattle.std.proofs.Common.{◌≢◌, ◌<◌, length, below_more, arith, sym, ap, ◌*◌, ◌∙◌}
 use Rattle.std.specs.Prelude.{pos}
 use Rattle.std.proofs.lemmas.List.{get_or-set_same, get_or-set_other}
 use Rattle.raster_values.specs.PixelType.{bytes_of}

@@ -1,6 +1,5 @@
-use Rattle.std.proofs.Common.{[], refl, sym, ap, ◌∙◌, length, subst, List, ℕ}
+use Rattle.std.proofs.Common.{[], sym, ap, ◌∙◌, subst, List, ℕ}
 use Rattle.std.specs.Prelude.{IfOk}
-use Rattle.outside_io.specs.streams.Source.{TakesUpTo}
 use Rattle.raster_values.specs.Raster.{IsRaster}
 use Rattle.lerc_decode.specs.inside.Feeding.{Begins, Follows, Joins}
 use Rattle.lerc_decode.specs.States.{finished_at}

@@ -1,9 +1,3 @@
-use Rattle.std.proofs.Common.{ℕ, List, length, take, drop, ap, sym, subst, ◌∙◌, ◌+◌, ◌-◌}
-use Rattle.std.proofs.lemmas.List.{take_rest}
-use Rattle.lerc_grammar.specs.Image.{outside, image_faults_of}
-use Rattle.lerc_grammar.specs.Outline.{image_place}
-use Rattle.lerc_header.specs.declared.fault.BlobReason.{BlobReason}
-use Rattle.lerc_header.specs.declared.fault.BlobFault.{BlobFault}
 use Rattle.lerc_grammar.proofs.Forms.{later_fault}
 use Rattle.lerc_grammar.proofs.outline.first_image_form.Goals as goal
 

@@ -1,4 +1,4 @@
-use Rattle.std.proofs.Common.{rules, ◌≡◌, arith, sym, ◌∙◌}
+use Rattle.std.proofs.Common.{arith}
 use Rattle.lerc_grammar.proofs.Lists.{front_span_v4}
 use Rattle.lerc_grammar.proofs.outline.front_span.Goals as goal
 

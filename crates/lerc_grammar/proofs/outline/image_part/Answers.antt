@@ -1,5 +1,3 @@
-use Rattle.lerc_header.specs.declared.fault.BlobFault.{BlobFault}
-use Rattle.lerc_grammar.specs.Outline.{IsImageForm, image_part_faults}
 use Rattle.lerc_grammar.proofs.Exact.{exactly_ok, exactly_err}
 use Rattle.lerc_grammar.proofs.Forms.{one_form}
 use Rattle.lerc_grammar.proofs.outline.image_part.Goals as goal

@@ -1,0 +1,25 @@
+use Rattle.std.proofs.Common.{List, ℕ, drop, ◌∙◌, refl, ap, subst, arith}
+use Rattle.std.proofs.lemmas.List.{take_rest}
+use Rattle.raster_values.specs.Flat.{marks_of}
+use Rattle.lerc_grammar.specs.declared.outline.ImageForm.TheVariants.{Blocks}
+use Rattle.lerc_decode.specs.inside.Blocks.{AreTopsOf}
+use Rattle.lerc_decode.proofs.Bodies.{blocks_fault, coded_there, err_map, image_blocks, ok_map}
+use Rattle.lerc_decode.proofs.body.pour_topped.Goals as goal
+
+pub returns-clause-ok : goal.returns-clause-ok
+returns-clause-ok c =
+    let h = c.args.header.now in
+    let blob = c.args.blob.now in
+    let there = coded_there h blob c.args.mask.now (Blocks c.args.place) c.args.place refl c.requires.mask c.requires.form in
+    let start = take_rest blob c.place_behind-start.result ∙ ap (λ n. drop n blob) c.place_behind-start.ensures.value in
+    let tops = subst (λ (u : List ℕ). AreTopsOf h u c.read_tops.new.tops) start c.read_tops.ensures in
+    ok_map _ _ (λ b. image_blocks h blob c.args.mask.now c.args.place c.args.raster.now c.pour_blocks.new.raster c.read_tops.new.tops there (omega (arith, c.requires.head.shape.depth_above)) c.pour_blocks.ensures.marks tops b) c.pour_blocks.result c.pour_blocks.ensures.ok
+
+pub returns-clause-fault : goal.returns-clause-fault
+returns-clause-fault c =
+    let h = c.args.header.now in
+    let blob = c.args.blob.now in
+    let there = coded_there h blob c.args.mask.now (Blocks c.args.place) c.args.place refl c.requires.mask c.requires.form in
+    let start = take_rest blob c.place_behind-start.result ∙ ap (λ n. drop n blob) c.place_behind-start.ensures.value in
+    let tops = subst (λ (u : List ℕ). AreTopsOf h u c.read_tops.new.tops) start c.read_tops.ensures in
+    err_map _ _ (λ p r w. blocks_fault h blob c.args.mask.now (marks_of c.args.raster.now) c.args.place c.read_tops.new.tops there (omega (arith, c.requires.head.shape.depth_above)) tops p r w) c.pour_blocks.result c.pour_blocks.ensures.fault

@@ -1,0 +1,268 @@
+//! The blocks of an image, read one behind the other.
+
+ghost use Rattle.std.specs.Prelude.{◌≡◌, ◌≤◌, ◌*◌, ◌+◌, ◌-◌, ◌/◌, ◌<◌, ◌^◌, IfErr, IfOk, OnOk, length};
+ghost use Rattle.first_fault.specs.Faults.{moved};
+ghost use Rattle.raster_values.specs.Block.{block_count};
+ghost use Rattle.raster_values.specs.Flat.{marks_of};
+ghost use Rattle.raster_values.specs.Raster.{InShape};
+ghost use Rattle.lerc_header.specs.Head.{IsTwiceError};
+ghost use Rattle.raster_values.specs.Raster.{IsShape};
+ghost use Rattle.lerc_grammar.specs.Blocks.{blocks_across, blocks_down, blocks_faults, first_block_faults, valid_in_block};
+ghost use Rattle.lerc_grammar.specs.Reasons.{block_reason, list_reason};
+ghost use Rattle.lerc_decode.specs.inside.Blocks.{AreTops, HasBlocks, HasRead, IsBlockHead, IsSquare, number_of, top_in};
+ghost use Rattle.lerc_decode.specs.inside.Body.{HasHeadShape, IsStopOf, KeepsMarks};
+
+use crate::body::{BodyStop, note_sound, stopped};
+use bit_stuff::ListReason;
+use lerc_header::{BlobFault, BlobReason, Header};
+use micro_block::{BlockCtx, BlockFault, BlockReason, read_block};
+use raster_values::Raster;
+
+/// The reason of a list's fault.
+pub(crate) fn reason_of_list(reason: ListReason) -> BlobReason
+    ensures { result ≡ list_reason reason }
+{
+    match reason {
+        ListReason::Cut => BlobReason::PastEnd,
+        ListReason::BadHead => BlobReason::BadListHead,
+        ListReason::BadCount => BlobReason::BadListCount,
+        ListReason::BadTable => BlobReason::BadTable,
+        ListReason::BadIndex => BlobReason::BadIndex,
+    }
+}
+
+/// The reason of a block's fault.
+fn reason_of_block(reason: BlockReason) -> BlobReason
+    ensures { result ≡ block_reason reason }
+{
+    match reason {
+        BlockReason::Cut => BlobReason::PastEnd,
+        BlockReason::BadTag => BlobReason::BadBlockTag,
+        BlockReason::BadOffset => BlobReason::BadOffsetCode,
+        BlockReason::List(reason) => reason_of_list(reason),
+    }
+}
+
+/// A fault of the block that begins at this place.
+fn refused(fault: BlockFault, at: usize) -> Result<usize, BlobFault>
+    requires { at + fault.at < 2 ^ 63 }
+    ensures { result ≡ Err (record {
+      reason = block_reason fault.reason;
+      place = at + fault.at;
+    }) }
+{
+    Err(BlobFault {
+        reason: reason_of_block(fault.reason),
+        place: (at + fault.at) as u64,
+    })
+}
+
+/// Reads the block in row `a` and column `b` of blocks at depth `d`, which begins at this place, and
+/// answers the place behind it.
+fn read_one(
+    rest: &[u8],
+    at: usize,
+    header: &Header,
+    tops: &[i64],
+    a: u32,
+    b: u32,
+    d: u32,
+    values: &mut [i64],
+    raster: &mut Raster,
+) -> Result<usize, BlobFault>
+    requires head { IsBlockHead header.now }
+    requires tops { AreTops header.now tops.now }
+    requires square { IsSquare header.now a b }
+    requires depth { d < header.now.depth }
+    requires shape { HasHeadShape header.now raster.old }
+    requires few { length values.old ≤ 1024 }
+    requires count { length values.old
+        ≡ block_count raster.old (a * header.now.side) (b * header.now.side) header.now.side }
+    requires read { HasRead header.now (marks_of raster.old) tops.now rest.now
+        (number_of header.now a b d) at raster.old }
+    ensures marks { KeepsMarks raster.old raster.new }
+    ensures ok { IfOk result (λ next. HasRead header.now (marks_of raster.old) tops.now rest.now
+        (number_of header.now a b d + 1) next raster.new) }
+    ensures fault { IfErr result (λ f. first_block_faults header.now (marks_of raster.old)
+        (top_in tops.now) rest.now f.place f.reason) }
+    ensures near { IfErr result (λ f. f.place ≤ length rest.now) }
+{
+    note_sound(raster);
+    let row = a * header.side;
+    let col = b * header.side;
+    let ctx = BlockCtx {
+        kind: header.kind,
+        col,
+        step: header.step,
+        top: tops[d as usize],
+    };
+    match read_block(&rest[at..], &ctx, values) {
+        Ok(used) => {
+            raster.pour_block(row, col, header.side, d, values);
+            note_sound(raster);
+            Ok(at + used)
+        }
+        Err(fault) => refused(fault, at),
+    }
+}
+
+/// Reads the blocks of all depths in row `a` and column `b` of blocks.
+fn read_depths(
+    rest: &[u8],
+    from: usize,
+    header: &Header,
+    tops: &[i64],
+    a: u32,
+    b: u32,
+    values: &mut [i64],
+    raster: &mut Raster,
+) -> Result<usize, BlobFault>
+    requires head { IsBlockHead header.now }
+    requires tops { AreTops header.now tops.now }
+    requires square { IsSquare header.now a b }
+    requires shape { HasHeadShape header.now raster.old }
+    requires few { length values.old ≤ 1024 }
+    requires count { length values.old
+        ≡ block_count raster.old (a * header.now.side) (b * header.now.side) header.now.side }
+    requires read { HasRead header.now (marks_of raster.old) tops.now rest.now
+        (number_of header.now a b 0) from raster.old }
+    ensures marks { KeepsMarks raster.old raster.new }
+    ensures ok { IfOk result (λ next. HasRead header.now (marks_of raster.old) tops.now rest.now
+        (number_of header.now a (b + 1) 0) next raster.new) }
+    ensures fault { IfErr result (λ f. first_block_faults header.now (marks_of raster.old)
+        (top_in tops.now) rest.now f.place f.reason) }
+    ensures near { IfErr result (λ f. f.place ≤ length rest.now) }
+{
+    let mut at = from;
+    for d in 0..header.depth {
+        at = read_one(rest, at, header, tops, a, b, d, values, raster)?;
+    }
+    Ok(at)
+}
+
+/// Reads the blocks in row `a` and column `b` of blocks, with room for the values of a block.
+fn read_square(
+    rest: &[u8],
+    from: usize,
+    header: &Header,
+    tops: &[i64],
+    a: u32,
+    b: u32,
+    room: &mut [i64],
+    raster: &mut Raster,
+) -> Result<usize, BlobFault>
+    requires head { IsBlockHead header.now }
+    requires tops { AreTops header.now tops.now }
+    requires square { IsSquare header.now a b }
+    requires shape { HasHeadShape header.now raster.old }
+    requires room { length room.old ≡ 1024 }
+    requires read { HasRead header.now (marks_of raster.old) tops.now rest.now
+        (number_of header.now a b 0) from raster.old }
+    ensures marks { KeepsMarks raster.old raster.new }
+    ensures ok { IfOk result (λ next. HasRead header.now (marks_of raster.old) tops.now rest.now
+        (number_of header.now a (b + 1) 0) next raster.new) }
+    ensures fault { IfErr result (λ f. first_block_faults header.now (marks_of raster.old)
+        (top_in tops.now) rest.now f.place f.reason) }
+    ensures near { IfErr result (λ f. f.place ≤ length rest.now) }
+{
+    let count = raster.block_valid_count(a * header.side, b * header.side, header.side);
+    read_depths(rest, from, header, tops, a, b, &mut room[..count], raster)
+}
+
+/// How many blocks of this side hold so many pixels in a row or a column.
+fn blocks_in(pixels: u32, side: u32) -> u32
+    requires some { 0 < side }
+    requires pixels { pixels ≤ 16777216 }
+    requires side { side ≤ 32 }
+    ensures { result ≡ (pixels + side - 1) / side }
+{
+    (pixels + side - 1) / side
+}
+
+/// Reads row `a` of blocks.
+fn read_row(
+    rest: &[u8],
+    from: usize,
+    header: &Header,
+    tops: &[i64],
+    a: u32,
+    room: &mut [i64],
+    raster: &mut Raster,
+) -> Result<usize, BlobFault>
+    requires head { IsBlockHead header.now }
+    requires tops { AreTops header.now tops.now }
+    requires row { a < blocks_down header.now }
+    requires shape { HasHeadShape header.now raster.old }
+    requires room { length room.old ≡ 1024 }
+    requires read { HasRead header.now (marks_of raster.old) tops.now rest.now
+        (number_of header.now a 0 0) from raster.old }
+    ensures marks { KeepsMarks raster.old raster.new }
+    ensures ok { IfOk result (λ next. HasRead header.now (marks_of raster.old) tops.now rest.now
+        (number_of header.now (a + 1) 0 0) next raster.new) }
+    ensures fault { IfErr result (λ f. first_block_faults header.now (marks_of raster.old)
+        (top_in tops.now) rest.now f.place f.reason) }
+    ensures near { IfErr result (λ f. f.place ≤ length rest.now) }
+{
+    let mut at = from;
+    for b in 0..blocks_in(header.cols, header.side) {
+        at = read_square(rest, at, header, tops, a, b, room, raster)?;
+    }
+    Ok(at)
+}
+
+/// Reads all blocks, and answers the place behind them.
+fn read_rows(
+    rest: &[u8],
+    header: &Header,
+    tops: &[i64],
+    room: &mut [i64],
+    raster: &mut Raster,
+) -> Result<usize, BlobFault>
+    requires head { IsBlockHead header.now }
+    requires tops { AreTops header.now tops.now }
+    requires shape { HasHeadShape header.now raster.old }
+    requires room { length room.old ≡ 1024 }
+    ensures marks { KeepsMarks raster.old raster.new }
+    ensures ok { IfOk result (λ next. HasRead header.now (marks_of raster.old) tops.now rest.now
+        (number_of header.now (blocks_down header.now) 0 0) next raster.new) }
+    ensures fault { IfErr result (λ f. first_block_faults header.now (marks_of raster.old)
+        (top_in tops.now) rest.now f.place f.reason) }
+    ensures near { IfErr result (λ f. f.place ≤ length rest.now) }
+{
+    let mut at = 0;
+    for a in 0..blocks_in(header.rows, header.side) {
+        at = read_row(rest, at, header, tops, a, room, raster)?;
+    }
+    Ok(at)
+}
+
+/// Gives the valid pixels the values of blocks, the first of which begins at this place of the blob.
+pub(crate) fn pour_blocks(
+    rest: &[u8],
+    place: usize,
+    header: &Header,
+    tops: &[i64],
+    raster: &mut Raster,
+) -> Result<(), BodyStop>
+    requires side { 0 < header.now.side }
+    requires head { IsShape header.now.rows header.now.cols header.now.depth }
+    requires step { IsTwiceError header.now.step }
+    requires tops { AreTops header.now tops.now }
+    requires shape { HasHeadShape header.now raster.old }
+    requires few { place + length rest.now < 2 ^ 62 }
+    ensures marks { KeepsMarks raster.old raster.new }
+    ensures ok { OnOk result (HasBlocks header.now (marks_of raster.old) tops.now rest.now
+        raster.new) }
+    ensures fault { IfErr result (λ stop. IsStopOf (moved place (blocks_faults header.now
+        (marks_of raster.old) (top_in tops.now) rest.now)) stop) }
+{
+    if header.side > 32 {
+        return stopped(BlobReason::BadBlockSize, place);
+    }
+    let mut room = [0; 1024];
+    match read_rows(rest, header, tops, &mut room, raster) {
+        Ok(at) if at < rest.len() => stopped(BlobReason::Leftover, place + at),
+        Ok(_) => Ok(()),
+        Err(fault) => stopped(fault.reason, place + fault.place as usize),
+    }
+}
