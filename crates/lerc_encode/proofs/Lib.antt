@@ -1,0 +1,5 @@
+pub mod Runs
+pub mod Members
+pub mod Extremes
+pub mod Blocking
+pub mod Packing

@@ -1,0 +1,6 @@
+pub mod Ranges
+pub mod Masks
+pub mod Heads
+pub mod Images
+pub mod Choice
+pub mod inside
