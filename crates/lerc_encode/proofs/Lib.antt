@@ -3,3 +3,4 @@ pub mod Members
 pub mod Extremes
 pub mod Blocking
 pub mod Packing
+pub mod Forming

@@ -1,6 +1,8 @@
 -- The least and the greatest values of a raster, and the lists in front of an image.
-use Rattle.std.specs.Prelude.{ℕ, ℤ, pos, Bool, true, false, ◌&&◌, ◌||◌, nat_eq, unsigned_abs, ◌-ℤ◌, List, [], ◌∷◌, ◌++◌, get_or, map, fold, Option, Some, None}
+use Rattle.std.specs.Prelude.{ℕ, ℤ, pos, Bool, ◌||◌, nat_eq, List, [], ◌∷◌, ◌++◌, get_or, map, fold, Option, Some, None}
 use Rattle.std.specs.Int.{int_max}
+use Rattle.std.specs.Ordering.{int_eq}
+use Rattle.std.specs.Cmp.Lexicographic.{pointwise}
 use Rattle.std.specs.List.{flat_map, range_with_len}
 use Rattle.raster_values.specs.Raster.{Pixels, valid_count, values_of}
 use Rattle.raster_values.specs.Grid.{values_bytes}
@@ -41,22 +43,11 @@ front_bytes r V4 = values_bytes r.kind (leasts r ++ greatests r)
 
 -- ---- images that end early
 
--- both values are one
-abbrev pub is_same : ℤ → ℤ → Bool
-is_same a b = nat_eq (unsigned_abs (a -ℤ b)) 0
-
 -- no pixel is valid, or all values are one
 abbrev pub is_bare : Pixels → Bool
 is_bare r =
-    nat_eq (valid_count r) 0 || is_same (least_value (values_of r.pixels)) (greatest_value (values_of r.pixels))
-
--- the values of both lists are the same
-abbrev pub are_same : List ℤ → List ℤ → Bool
-are_same [] [] = true
-are_same [] (w ∷ ws) = false
-are_same (v ∷ vs) [] = false
-are_same (v ∷ vs) (w ∷ ws) = is_same v w && are_same vs ws
+    nat_eq (valid_count r) 0 || int_eq (least_value (values_of r.pixels)) (greatest_value (values_of r.pixels))
 
 -- each depth has one value
 abbrev pub is_level : Pixels → Bool
-is_level r = are_same (leasts r) (greatests r)
+is_level r = pointwise int_eq (leasts r) (greatests r)

@@ -2,5 +2,8 @@
 #![tactic(auto)]
 
 mod blocks;
+mod choosing;
+mod first;
+mod forms;
 mod masks;
 mod ranging;
