@@ -116,7 +116,7 @@ depth_in_range r is d low v h =
     of_pixel (Some vs) e (inl same) = let long = e.0 in subst (InRange r.kind) (sym same) (e.1 d (pos 0) (omega (arith, long, low)))
     of_pixel (Some vs) e (inr m) = absurd m
 
-is_valid : (r : Pixels) (k : ℕ) → get_or (marks_of r) k false ≡ true → k < length r.pixels → is_some (get_or r.pixels k None) ≡ true
+pub is_valid : (r : Pixels) (k : ℕ) → get_or (marks_of r) k false ≡ true → k < length r.pixels → is_some (get_or r.pixels k None) ≡ true
 is_valid r k m h = sym (get_or-map is_some r.pixels k None false h) ∙ m
 
 -- ---- values of a raster

@@ -4,3 +4,7 @@ pub mod Extremes
 pub mod Blocking
 pub mod Packing
 pub mod Forming
+pub mod Kept
+pub mod Standing
+pub mod Endings
+pub mod Encoded

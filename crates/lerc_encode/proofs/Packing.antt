@@ -6,7 +6,7 @@ use Rattle.std.proofs.lemmas.Bool.{cases_lt, eqb-true, leb-true}
 use Rattle.std.proofs.lemmas.Bool.Decides.{nat_tests}
 use Rattle.std.proofs.lemmas.Int.{ints}
 use Rattle.std.proofs.lemmas.List.{ext_get_or, get_or_past, get_or-map, length-map, length-drop, length-replicate, drop_all, take_at, drop_at}
-use Rattle.std.proofs.lemmas.List.Sums.{prefix_len-le-length}
+use Rattle.std.proofs.lemmas.List.Sums.{prefix_len-le-length, sum_by-cons, count_by-le-length}
 use Rattle.std.proofs.lemmas.List.FromFn.{length-map-range_with_len, get_or-map-range_with_len}
 use borrow.Rule.Slice.PartMut.{put_mid}
 use Rattle.bit_stuff.proofs.Buffers.{end_written}
@@ -204,3 +204,97 @@ runs_written marks size out mid new old is some room wrote runs e =
     e ∙ ap (λ (xs : List ℕ). put_mid 4 (length mid - 4) xs new) wrote
     ∙ end_written (little_bytes 4 size) (drop 4 old) new 4 (length mid - 4) four (omega (arith, long))
     ∙ (λ t. little_bytes 4 (is t) ++ here t)
+
+-- ---- the bits of the packed bytes are the marks
+
+bit_low : (marks : List Bool) (k : ℕ) → bit_of marks k ≤ 1
+bit_low marks k = by (get_or marks k false)
+  where
+    by : (b : Bool) → (if b then 1 else 0) ≤ 1
+    by true = omega arith
+    by false = omega arith
+
+pub packed_below : (marks : List Bool) (k : ℕ) → get_or (packed marks) k 0 < 256
+unfolding packed mask_byte
+packed_below marks k = by (cases_lt k (mask_size (length marks)))
+  where
+    low : (i : ℕ) → mask_byte marks i < 256
+    low i =
+        let b0 = bit_low marks i in let b1 = bit_low marks (i + 1) in let b2 = bit_low marks (i + 2) in let b3 = bit_low marks (i + 3) in
+        let b4 = bit_low marks (i + 4) in let b5 = bit_low marks (i + 5) in let b6 = bit_low marks (i + 6) in let b7 = bit_low marks (i + 7) in
+        omega (arith, b0, b1, b2, b3, b4, b5, b6, b7)
+
+    by : (k < mask_size (length marks)) ⊎ (mask_size (length marks) ≤ k) → get_or (map (λ i. mask_byte marks (i * 8)) (range_with_len 0 (mask_size (length marks)))) k 0 < 256
+    by (inl below) = subst (λ n. n < 256) (sym (get_or-map-range_with_len (λ i. mask_byte marks (i * 8)) 0 (mask_size (length marks)) k k 0 below (omega arith))) (low (k * 8))
+    by (inr past) = subst (λ n. n < 256) (sym (get_or_past (map (λ i. mask_byte marks (i * 8)) (range_with_len 0 (mask_size (length marks)))) k 0 (let l = length-map-range_with_len (λ i. mask_byte marks (i * 8)) 0 (mask_size (length marks)) in omega (arith, l, past)))) (omega arith)
+
+-- bit number j of a sum of eight bits
+bit_back : (a b c d e f g h : ℕ) → a ≤ 1 → b ≤ 1 → c ≤ 1 → d ≤ 1 → e ≤ 1 → f ≤ 1 → g ≤ 1 → h ≤ 1 → (j : ℕ) → j < 8
+    → (128 * a + (64 * b + (32 * c + (16 * d + (8 * e + (4 * f + (2 * g + h))))))) / 2 ^ (7 - j) % 2 ≡ get_or (a ∷ b ∷ c ∷ d ∷ e ∷ f ∷ g ∷ h ∷ []) j 0
+bit_back a b c d e f g h la lb lc ld le lf lg lh zero low = omega arith
+bit_back a b c d e f g h la lb lc ld le lf lg lh (suc zero) low = omega arith
+bit_back a b c d e f g h la lb lc ld le lf lg lh (suc (suc zero)) low = omega arith
+bit_back a b c d e f g h la lb lc ld le lf lg lh (suc (suc (suc zero))) low = omega arith
+bit_back a b c d e f g h la lb lc ld le lf lg lh (suc (suc (suc (suc zero)))) low = omega arith
+bit_back a b c d e f g h la lb lc ld le lf lg lh (suc (suc (suc (suc (suc zero))))) low = omega arith
+bit_back a b c d e f g h la lb lc ld le lf lg lh (suc (suc (suc (suc (suc (suc zero)))))) low = omega arith
+bit_back a b c d e f g h la lb lc ld le lf lg lh (suc (suc (suc (suc (suc (suc (suc zero))))))) low = omega arith
+bit_back a b c d e f g h la lb lc ld le lf lg lh (suc (suc (suc (suc (suc (suc (suc (suc j)))))))) low = absurd (omega (arith, low))
+
+-- the same of marks, of which eight follow number k
+eight_marks : (marks : List Bool) (k j : ℕ) → j < 8
+    → get_or (bit_of marks k ∷ bit_of marks (k + 1) ∷ bit_of marks (k + 2) ∷ bit_of marks (k + 3) ∷ bit_of marks (k + 4) ∷ bit_of marks (k + 5) ∷ bit_of marks (k + 6) ∷ bit_of marks (k + 7) ∷ []) j 0 ≡ bit_of marks (k + j)
+eight_marks marks k zero low = ap (bit_of marks) (let e : k ≡ k + 0 = omega arith in e)
+eight_marks marks k (suc zero) low = refl
+eight_marks marks k (suc (suc zero)) low = refl
+eight_marks marks k (suc (suc (suc zero))) low = refl
+eight_marks marks k (suc (suc (suc (suc zero)))) low = refl
+eight_marks marks k (suc (suc (suc (suc (suc zero))))) low = refl
+eight_marks marks k (suc (suc (suc (suc (suc (suc zero)))))) low = refl
+eight_marks marks k (suc (suc (suc (suc (suc (suc (suc zero))))))) low = refl
+eight_marks marks k (suc (suc (suc (suc (suc (suc (suc (suc j)))))))) low = absurd (omega (arith, low))
+
+bit_test : (marks : List Bool) (k : ℕ) → nat_eq (bit_of marks k) 1 ≡ get_or marks k false
+bit_test marks k = by (get_or marks k false)
+  where
+    by : (b : Bool) → nat_eq (if b then 1 else 0) 1 ≡ b
+    by true = refl
+    by false = refl
+
+byte_bit : (marks : List Bool) (k j : ℕ) → j < 8 → mask_byte marks k / 2 ^ (7 - j) % 2 ≡ bit_of marks (k + j)
+unfolding mask_byte
+byte_bit marks k j low =
+    bit_back (bit_of marks k) (bit_of marks (k + 1)) (bit_of marks (k + 2)) (bit_of marks (k + 3)) (bit_of marks (k + 4)) (bit_of marks (k + 5)) (bit_of marks (k + 6)) (bit_of marks (k + 7))
+    (bit_low marks k) (bit_low marks (k + 1)) (bit_low marks (k + 2)) (bit_low marks (k + 3)) (bit_low marks (k + 4)) (bit_low marks (k + 5)) (bit_low marks (k + 6)) (bit_low marks (k + 7)) j low
+    ∙ eight_marks marks k j low
+
+packed_at : (marks : List Bool) (i : ℕ) → i < mask_size (length marks) → get_or (packed marks) i 0 ≡ mask_byte marks (i * 8)
+unfolding packed
+packed_at marks i low = get_or-map-range_with_len (λ j. mask_byte marks (j * 8)) 0 (mask_size (length marks)) i i 0 low (omega arith)
+
+packed_bit : (marks : List Bool) (k : ℕ) → k < length marks → mask_bit (packed marks) k ≡ get_or marks k false
+packed_bit marks k low =
+    let i : k / 8 < mask_size (length marks) = omega arith in
+    let whole : k / 8 * 8 + k % 8 ≡ k = omega arith in
+    ap (λ b. nat_eq (b / 2 ^ (7 - k % 8) % 2) 1) (packed_at marks (k / 8) i)
+    ∙ ap (λ b. nat_eq b 1) (byte_bit marks (k / 8 * 8) (k % 8) (omega arith) ∙ ap (bit_of marks) whole)
+    ∙ bit_test marks k
+
+pub packed_bits : (marks : List Bool) → marks_in (length marks) (packed marks) ≡ marks
+unfolding marks_in
+packed_bits marks =
+    ext_get_or false (map (mask_bit (packed marks)) (range_with_len 0 (length marks))) marks (length-map-range_with_len (mask_bit (packed marks)) 0 (length marks))
+    (λ k low. let l = length-map-range_with_len (mask_bit (packed marks)) 0 (length marks) in let below : k < length marks = omega (arith, l, low) in
+    get_or-map-range_with_len (mask_bit (packed marks)) 0 (length marks) k k false below (omega arith) ∙ packed_bit marks k below)
+
+-- ---- marks that are all alike
+
+pub all_off : (marks : List Bool) → count_of marks ≡ 0 → marks ≡ replicate (length marks) false
+all_off [] e = refl
+all_off (true ∷ marks) e = absurd (let c = sum_by-cons (λ m. cond m 1 0) true marks in omega (arith, c, e))
+all_off (false ∷ marks) e = ap (λ ms. false ∷ ms) (all_off marks (let c = sum_by-cons (λ m. cond m 1 0) false marks in omega (arith, c, e)))
+
+pub all_on : (marks : List Bool) → count_of marks ≡ length marks → marks ≡ replicate (length marks) true
+all_on [] e = refl
+all_on (true ∷ marks) e = ap (λ ms. true ∷ ms) (all_on marks (let c = sum_by-cons (λ m. cond m 1 0) true marks in omega (arith, c, e)))
+all_on (false ∷ marks) e = absurd (let c = sum_by-cons (λ m. cond m 1 0) false marks in let few = count_by-le-length (λ m. m) marks in omega (arith, c, e, few))

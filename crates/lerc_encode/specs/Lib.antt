@@ -3,4 +3,5 @@ pub mod Masks
 pub mod Heads
 pub mod Images
 pub mod Choice
+pub mod Encoded
 pub mod inside

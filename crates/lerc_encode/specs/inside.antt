@@ -2,3 +2,4 @@
 pub mod Ranged
 pub mod Blocked
 pub mod Choosing
+pub mod Suits
