@@ -8,3 +8,4 @@ pub mod Kept
 pub mod Standing
 pub mod Endings
 pub mod Encoded
+pub mod Laying

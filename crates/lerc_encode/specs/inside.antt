@@ -3,3 +3,4 @@ pub mod Ranged
 pub mod Blocked
 pub mod Choosing
 pub mod Suits
+pub mod Layout
