@@ -11,3 +11,6 @@ mod masks;
 mod ranging;
 
 pub use blob::{EncodeFault, encode};
+
+#[cfg(test)]
+mod tests;
