@@ -164,6 +164,49 @@ bytes 4c 47 52 31 04 01 00 00 00 02 00 00 00 01 00 00 00 01 01 00 00 00 80 ff ff
     bytes 00 00 00 00 22 40 00 00 00 00 05 09 06 09
 } >no_sweep
 
+# Blocks of one depth and of two, differences, and values coded as they are, with their grids; differences
+# with a mode byte that version 3 does not have, and blocks of a side of 33.
+{
+    bytes 4c 65 72 63 32 20 03 00 00 00 57 a9 a4 59 01 00 00 00 04 00 00 00 04 00 00 00 08 00 00 00
+    bytes 48 00 00 00 02 00 00 00 00 00 00 00 00 00 f0 3f 00 00 00 00 00 00 24 40 00 00 00 00 00 00
+    bytes 2a 40 00 00 00 00 00 81 0a 82 04 94
+} >steps
+bytes 4c 47 52 31 02 01 00 00 00 04 00 00 00 01 00 00 00 01 01 01 01 0a 00 0c 00 0c 00 0d 00 >steps_grid
+{
+    bytes 4c 65 72 63 32 20 04 00 00 00 82 51 70 7d 01 00 00 00 04 00 00 00 02 00 00 00 04 00 00 00
+    bytes 08 00 00 00 59 00 00 00 02 00 00 00 00 00 00 00 00 00 f0 3f 00 00 00 00 00 00 24 40 00 00
+    bytes 00 00 00 c0 59 40 00 00 00 00 0a 00 64 00 0d 00 67 00 00 81 0a 82 04 94 81 64 82 04 80
+} >steps_deep
+{
+    bytes 4c 47 52 31 02 01 00 00 00 04 00 00 00 02 00 00 00 01 01 01 01 0a 00 64 00 0c 00 64 00 0c
+    bytes 00 64 00 0d 00 67 00
+} >steps_deep_grid
+{
+    bytes 4c 65 72 63 32 20 03 00 00 00 89 36 63 47 01 00 00 00 04 00 00 00 04 00 00 00 08 00 00 00
+    bytes 63 00 00 00 01 00 00 00 00 00 00 00 00 00 e0 3f 00 00 00 00 00 00 00 00 00 00 00 00 00 00
+    bytes f0 3f 00 00 00 00 00 01 04 00 00 00 00 01 00 00 ff 00 00 00 02 01 00 00 82 03 1a 00 00 00
+    bytes e0 00 00 00 70 00 00 00 00
+} >differences
+bytes 4c 47 52 31 01 01 00 00 00 04 00 00 00 01 00 00 00 01 01 01 01 01 00 00 01 >differences_grid
+{
+    bytes 4c 65 72 63 32 20 04 00 00 00 0d 1e 4e 36 01 00 00 00 03 00 00 00 02 00 00 00 03 00 00 00
+    bytes 08 00 00 00 6c 00 00 00 01 00 00 00 00 00 00 00 00 00 e0 3f 00 00 00 00 00 00 14 40 00 00
+    bytes 00 00 00 00 24 40 00 00 00 00 05 09 08 0a 00 02 04 00 00 00 00 01 00 00 05 00 00 00 0b 00
+    bytes 00 00 82 06 cf 0d 00 00 38 97 00 00 dc 8a 00 00 00 00
+} >plain
+bytes 4c 47 52 31 01 01 00 00 00 03 00 00 00 02 00 00 00 01 01 01 05 09 06 09 08 0a >plain_grid
+{
+    bytes 4c 65 72 63 32 20 03 00 00 00 8a 36 74 47 01 00 00 00 04 00 00 00 04 00 00 00 08 00 00 00
+    bytes 63 00 00 00 01 00 00 00 00 00 00 00 00 00 e0 3f 00 00 00 00 00 00 00 00 00 00 00 00 00 00
+    bytes f0 3f 00 00 00 00 00 02 04 00 00 00 00 01 00 00 ff 00 00 00 02 01 00 00 82 03 1a 00 00 00
+    bytes e0 00 00 00 70 00 00 00 00
+} >bad_mode
+{
+    bytes 4c 65 72 63 32 20 03 00 00 00 57 c2 a6 98 01 00 00 00 04 00 00 00 04 00 00 00 21 00 00 00
+    bytes 48 00 00 00 02 00 00 00 00 00 00 00 00 00 f0 3f 00 00 00 00 00 00 24 40 00 00 00 00 00 00
+    bytes 2a 40 00 00 00 00 00 81 0a 82 04 94
+} >bad_side
+
 # A blob that Esri's library wrote: 100 rows and 257 columns of -32768 in two bytes. Its grid has 77,117
 # bytes, more than a pipe holds.
 {
@@ -212,7 +255,7 @@ expect 'words come before a failing source' 1 nothing "$usage" input_closed - x
 
 expect 'decode: a blob' 0 grid '' plainly - decode <blob
 expect 'decode: a blob with a grid of 77,117 bytes' 0 wide_grid '' plainly - decode <wide
-for input in none_valid runs ranges sweep; do
+for input in none_valid runs ranges sweep steps steps_deep differences plain; do
     expect "decode: a blob, $input" 0 "${input}_grid" '' plainly - decode <"$input"
 done
 expect 'decode: from a pipe in two pieces' 0 grid '' in_pieces - decode
@@ -235,6 +278,8 @@ refuses bad_run 'BadRun at 66'
 refuses miscounted 'BadMaskCount at 66 header 7 counted 8'
 refuses no_mask 'MaskMissing at 62'
 refuses no_sweep 'PastEnd at 74'
+refuses bad_mode 'BadMode at 67'
+refuses bad_side 'BadBlockSize at 67'
 
 expect 'decode: a folder as the input' 3 nothing "$no_source" plainly - decode </
 expect 'decode: a closed input' 3 nothing "$no_source" input_closed - decode

@@ -1,9 +1,11 @@
 -- What recovery does to the images.
-use Rattle.std.proofs.Common.{◌≡◌, ◌≢◌, ◌⊎◌, inl, inr, refl, ℕ, zero, suc, ◌+◌, ◌<◌, ◌≤◌, List, [], ◌∷◌, length, get_or, take, drop, sym, ◌∙◌, ap, subst, arith}
+use Rattle.std.proofs.Common.{◌≡◌, ◌≢◌, ◌⊎◌, inl, inr, refl, ℕ, zero, suc, ◌+◌, ◌<◌, ◌≤◌, List, [], ◌∷◌, length, get_or, take, drop, sym, ◌∙◌, ap, Result, subst, arith}
 use Rattle.std.proofs.lemmas.List.{drop_all, nil_from_length}
 use Rattle.byteorder.specs.Endian.{little_number}
 use Rattle.outside_io.specs.volume.Disk.{Disk, File, IsImage, IsQuiet, IsSettled, settled}
+use Rattle.outside_io.specs.volume.History.{During, History, Ticks, current}
 use Rattle.outside_io.proofs.VolumeLemmas.Images.{only_image}
+use Rattle.outside_io.proofs.VolumeLemmas.Moments.{during_join, during_map, started, stays_on}
 use Rattle.bundle_index.specs.Entry.{entry_at, entry_of, place_of}
 use Rattle.bundle_index.specs.Numbers.{u64_at}
 use Rattle.bundle_index.specs.declared.entry.Entry.{Entry}
@@ -21,7 +23,7 @@ use Rattle.bundle_store.specs.Images.{EachImage, IsSoundWith, Shows, StandsFor}
 use Rattle.bundle_store.specs.Recover.{EachStandsForOneOf, IsRecovered, IsTooShort, Refuses, StandsForOneOf}
 use Rattle.bundle_store.specs.Tiles.{IsReadable, TileMap, no_tiles, tile_in, tiles}
 use Rattle.bundle_store.proofs.Region.{tile_none, tiles_by}
-use Rattle.bundle_store.proofs.Standing.{closed_good, in_gate, open_good}
+use Rattle.bundle_store.proofs.Standing.{closed_good, in_gate, open_good, way_at}
 
 -- an empty file has no tiles
 pub nothing_at : (place : ℕ) → ◌≡◌ {A = ℕ} (u64_at [] place) 0
@@ -117,3 +119,29 @@ keeps_empty b j d opened says each = keeps_by b j d (λ map stands. image_eq no_
 -- what files are read as is one of the images
 pub one_of : (b j : List ℕ) (old d : Disk) → IsImage old.bundle b → IsImage old.journal j → EachKeeps b j d → EachStandsForOneOf old d
 one_of b j old d bundle journal keeps = λ c k ic ik. record { bundle = b; journal = j; bundle_is = bundle; journal_is = journal; same = keeps c k ic ik }
+
+-- a run that leaves the disk as it is, and a call that does
+pub keeps_reading : (old next : History) → IsQuiet (current old) → During (λ d. d ≡ current old) old next → During (EachKeeps (current old).bundle.now (current old).journal.now) old next
+keeps_reading old next quiet during =
+    let start = keeps_start (current old) quiet in
+    during_map _ _ old next (λ d same. subst (EachKeeps (current old).bundle.now (current old).journal.now) (sym same) start) during
+
+pub keeps_measuring : {T E : Type 0} (old next : History) (r : Result T E) → IsQuiet (current old) → Ticks old next r → current next ≡ current old → During (EachKeeps (current old).bundle.now (current old).journal.now) old next
+keeps_measuring old next r quiet tick same =
+    let Pass = EachKeeps (current old).bundle.now (current old).journal.now in
+    stays_on Pass old old next r (started Pass old (keeps_start (current old) quiet)) tick same
+
+-- the bundle is measured, and the tile of the open journal is put
+pub keeps_putting : {T E : Type 0} (slot : ℕ) (e : Entry) (n : ℕ) (header : List ℕ) (old next last : History) (r : Result T E) → IsQuiet (current old) → IsOpen (current old).journal.now → SaysTile (current old).journal.now slot e n header
+    → Ticks old next r → current next ≡ current old
+    → During (λ d. IsUnderWay (current next).bundle.now (current next).journal.now slot e header → EachImage (λ map. map ≡ tiles (with_entry header slot e (current next).bundle.now)) d) next last
+    → During (EachKeeps (current old).bundle.now (current old).journal.now) old last
+keeps_putting slot e n header old next last r quiet opened says tick same during =
+    let b = (current old).bundle.now in
+    let j = (current old).journal.now in
+    let bundle : (current next).bundle.now ≡ b = ap (λ (d : Disk). d.bundle.now) same in
+    let journal : (current next).journal.now ≡ j = ap (λ (d : Disk). d.journal.now) same in
+    during_join (EachKeeps b j) old next last (keeps_measuring old next r quiet tick same)
+    (during_map _ _ next last (λ d each. keeps_tile b j slot e n header d opened says (λ way.
+      subst (λ (l : List ℕ). EachImage (λ map. map ≡ tiles (with_entry header slot e l)) d) bundle (each (way_at b (current next).bundle.now j (current next).journal.now slot e header bundle journal way))))
+    during)

@@ -1,11 +1,14 @@
 -- Files that differ under a header and an entry alone.
-use Rattle.std.proofs.Common.{◌≡◌, ◌⊎◌, inl, inr, ℕ, ◌+◌, ◌-◌, ◌<◌, ◌≤◌, List, length, get_or, sym, ◌∙◌, ap, arith}
+use Rattle.std.proofs.Common.{◌≡◌, ◌⊎◌, inl, inr, refl, ℕ, Result, ◌+◌, ◌-◌, ◌<◌, ◌≤◌, List, length, get_or, sym, ◌∙◌, ap, arith}
 use Rattle.std.proofs.lemmas.Bool.{cases_lt}
 use Rattle.std.proofs.lemmas.List.{same_lists, get_or_default}
 use Rattle.outside_io.specs.volume.Disk.{AreBytes, Disk, File, change, laid, wrote}
 use Rattle.outside_io.specs.declared.volume.VolFile.TheVariants.{Bundle}
 use Rattle.outside_io.proofs.VolumeLemmas.Laid.{length-laid, laid_before, laid_in, laid_after}
-use Rattle.outside_io.proofs.VolumeLemmas.Limits.{Allowed, Keeps, Limits, limits_wrote}
+use Rattle.outside_io.specs.volume.Disk.{IsSettled, Struck}
+use Rattle.outside_io.specs.volume.History.{During, History, Ticks, current}
+use Rattle.outside_io.proofs.VolumeLemmas.Limits.{Allowed, Keeps, Limits, Run, limits_wrote, run_start, run_during, run_on}
+use Rattle.outside_io.proofs.VolumeLemmas.Moments.{during_map}
 use Rattle.bundle_index.specs.Entry.{entry_bytes, place_of}
 use Rattle.bundle_index.specs.declared.entry.Entry.{Entry}
 use Rattle.bundle_index.proofs.Numbers.{length-entry_bytes}
@@ -70,3 +73,41 @@ pub length_inside : (old : List ℕ) (at : ℕ) (bytes : List ℕ) (now next : D
 length_inside old at bytes now next same within is =
     let after : next.bundle.now ≡ laid at bytes now.bundle.now = ap (λ (d : Disk). d.bundle.now) is in
     ap length after ∙ length-laid at bytes now.bundle.now (omega arith) ∙ omega arith
+
+-- A header and an entry are written over a settled bundle, which is then synced.
+module _ (header : List ℕ) (slot : ℕ) (e : Entry) (header_size : length header ≡ 64) (below : slot < 16384) (old : History) (still : IsSettled (current old).bundle) (long : 131136 ≤ length (current old).bundle.now)
+    (word : List ℕ) (at : ℕ) (at_is : at ≡ place_of slot) (word_size : length word ≡ 8) where
+  -- the run so far has kept within the limits, and the length
+  abbrev Over : History → Type 0
+  Over now = Run Bundle (SameLength (current old).bundle.now) (Outside (place_of slot)) old now × (length (current now).bundle.now ≡ length (current old).bundle.now)
+
+  over_start : Over old
+  over_start = (run_start Bundle (SameLength (current old).bundle.now) (Outside (place_of slot)) old still refl, refl)
+
+  -- what the limits say of the images
+  under_run : (now : History) → During (Keeps Bundle (current old) (SameLength (current old).bundle.now) (Outside (place_of slot))) old now → During (KeepsUnder header slot e (current old)) old now
+  under_run now during = during_map _ _ old now (λ d keeps. keeps_under header slot e header_size below (current old) d long keeps) during
+
+  header_limits : Limits (current old).bundle.now (SameLength (current old).bundle.now) (Outside (place_of slot)) (wrote 0 header (current old).bundle)
+  header_limits = inside (current old).bundle.now (Outside (place_of slot)) (current old).bundle 0 header over_start.0.limits refl (omega arith) (λ i fixed. inr (omega (arith, fixed.0)))
+
+  entry_limits : (now : History) → Over now → Limits (current old).bundle.now (SameLength (current old).bundle.now) (Outside (place_of slot)) (wrote at word (current now).bundle)
+  entry_limits now over =
+      let size = over.1 in
+      inside (current old).bundle.now (Outside (place_of slot)) (current now).bundle at word over.0.limits size (omega arith) (λ i fixed. elim fixed.1 [ inl low ↦ inl (omega arith) | inr high ↦ inr (omega arith) ])
+
+  pub header_during : {T E : Type 0} (next : History) (r : Result T E) → Ticks old next r → Struck Bundle (wrote 0 header) (current old) (current next) → During (KeepsUnder header slot e (current old)) old next
+  header_during next r tick struck = under_run next (run_during Bundle _ _ old old next r (wrote 0 header) over_start.0 tick struck header_limits)
+
+  pub header_over : {T E : Type 0} (next : History) (r : Result T E) → Ticks old next r → Struck Bundle (wrote 0 header) (current old) (current next) → current next ≡ change Bundle (wrote 0 header) (current old) → Over next
+  header_over next r tick struck is =
+      (run_on Bundle _ _ old old next r (wrote 0 header) over_start.0 tick struck header_limits is, length_inside (current old).bundle.now 0 header (current old) (current next) refl (omega arith) is)
+
+  pub entry_during : {T E : Type 0} (now next : History) (r : Result T E) → Over now → Ticks now next r → Struck Bundle (wrote at word) (current now) (current next) → During (KeepsUnder header slot e (current old)) old next
+  entry_during now next r over tick struck = under_run next (run_during Bundle _ _ old now next r (wrote at word) over.0 tick struck (entry_limits now over))
+
+  pub sync_during : {T E F G : Type 0} (now next last : History) (r : Result T E) (s : Result F G) → Over now → Ticks now next r → Struck Bundle (wrote at word) (current now) (current next) → current next ≡ change Bundle (wrote at word) (current now)
+      → Ticks next last s → Struck Bundle (λ f. f) (current next) (current last) → During (KeepsUnder header slot e (current old)) old last
+  sync_during now next last r s over tick struck is later kept =
+      let run = run_on Bundle _ _ old now next r (wrote at word) over.0 tick struck (entry_limits now over) is in
+      under_run last (run_during Bundle _ _ old next last s (λ f. f) run later kept run.limits)

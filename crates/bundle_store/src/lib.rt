@@ -19,6 +19,8 @@ mod recovery;
 mod redo;
 mod session;
 mod syncs;
+#[cfg(test)]
+mod tests;
 mod tile_rec;
 
 pub use check::CheckReport;

@@ -1,6 +1,6 @@
 -- The bytes of values of one byte, and their symbols.
-use Rattle.std.proofs.Common.{◌≡◌, ℕ, ℤ, pos, negsuc, ◌+ℤ◌, ◌-ℤ◌, ◌≤ℤ◌, ◌+◌, ◌-◌, ◌*◌, ◌%◌, ◌^◌, ◌<◌, ◌≤◌, zero, suc, List, [], ◌∷◌, ◌++◌, length, map, refl, sym, ap, ◌∙◌, subst, arith}
-use Rattle.std.specs.Prelude.{All, flat_map}
+use Rattle.std.proofs.Common.{◌≡◌, ℕ, ℤ, pos, negsuc, ◌+ℤ◌, ◌+◌, ◌-◌, ◌*◌, ◌%◌, ◌≤◌, suc, List, [], ◌∷◌, ◌++◌, map, refl, sym, ap, ◌∙◌, subst, arith}
+use Rattle.std.specs.Prelude.{All}
 use Rattle.std.proofs.lemmas.Int.{ints}
 use Rattle.std.proofs.lemmas.List.Concat.{flat_map-cons}
 use Rattle.std.proofs.lemmas.List.Elements.{All-head, All-tail}
@@ -8,7 +8,7 @@ use Rattle.raster_values.specs.declared.kind.PixelType.{PixelType}
 use Rattle.raster_values.specs.declared.kind.PixelType.TheVariants.{I8, U8, I16, U16, I32, U32}
 use Rattle.raster_values.specs.PixelType.{InRange, bytes_of, value_bytes, complement_of}
 use Rattle.raster_values.specs.Grid.{values_bytes}
-use Rattle.delta_mode.specs.Symbols.{IsByteType, symbol_of, bias}
+use Rattle.delta_mode.specs.Symbols.{IsByteType, symbol_of}
 use Rattle.delta_mode.proofs.Numbers.{symbol-is}
 
 -- the symbol of an i8 value is its byte with 128 added, modulo 256

@@ -3,3 +3,9 @@ pub mod Predictors
 pub mod Marks
 pub mod SymbolLaws
 pub mod Bytes
+pub mod Pieces
+pub mod Kernels
+pub mod InPieces
+pub mod WholeDepth
+pub mod Turning
+pub mod Existence

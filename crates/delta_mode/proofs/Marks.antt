@@ -1,13 +1,12 @@
 -- Rasters of one mask, by the numbers of their pixels.
-use Rattle.std.proofs.Common.{◌≡◌, ◌≢◌, ℕ, ℤ, pos, ◌+◌, ◌-◌, ◌*◌, ◌/◌, ◌%◌, ◌<◌, ◌≤◌, Bool, true, false, List, [], length, get_or, Option, Some, None, refl, sym, ap, ◌∙◌, subst, arith, inl, inr}
-use Rattle.std.specs.Prelude.{is_some, unwrap_or, IfSome, All}
+use Rattle.std.proofs.Common.{◌≡◌, ℕ, ℤ, pos, ◌+◌, ◌*◌, ◌/◌, ◌%◌, ◌<◌, List, [], length, get_or, Option, Some, None, refl, sym, ap, ◌∙◌, subst, arith, inl, inr}
+use Rattle.std.specs.Prelude.{is_some, unwrap_or}
 use Rattle.std.proofs.lemmas.Bool.{cases_lt}
 use Rattle.std.proofs.lemmas.List.{get_or_past}
-use Rattle.std.proofs.Math.Nat.{mod-lt}
 use Rattle.raster_values.specs.declared.kind.PixelType.{PixelType}
 use Rattle.raster_values.specs.declared.kind.PixelType.TheVariants.{I8, U8, I16, U16, I32, U32}
 use Rattle.raster_values.specs.PixelType.{InRange}
-use Rattle.raster_values.specs.Raster.{Pixels, IsRaster, IsPixel, InShape, valid_at}
+use Rattle.raster_values.specs.Raster.{Pixels, IsRaster, IsPixel}
 use Rattle.raster_values.specs.Block.{SameMask}
 use Rattle.raster_values.specs.Flat.{value_in}
 use Rattle.delta_mode.specs.Deltas.{is_valid}
@@ -35,7 +34,7 @@ value_in_range r d k h = elim (cases_lt k (length r.pixels)) [
 ]
 
 -- a pixel's row and column, by its number
-row_and_col : (k rows cols : ℕ) → k < rows * cols → (k / cols < rows) × ((k % cols < cols) × (k / cols * cols + k % cols ≡ k))
+pub row_and_col : (k rows cols : ℕ) → k < rows * cols → (k / cols < rows) × ((k % cols < cols) × (k / cols * cols + k % cols ≡ k))
 row_and_col k rows cols lt = grind arith
 
 pub same_marks : (r s : Pixels) → IsRaster r → IsRaster s → SameMask r s → (k : ℕ) → is_valid s k ≡ is_valid r k
@@ -49,3 +48,19 @@ same_marks r s hr hs same k = elim (cases_lt k (r.rows * r.cols)) [
       let sizes : s.rows * s.cols ≡ r.rows * r.cols = ap (λ n. n * s.cols) (sym same.shape.rows) ∙ ap (λ n. r.rows * n) (sym same.shape.cols) in
       ap is_some (get_or_past s.pixels k None (omega (arith, hs.places, sizes))) ∙ sym (ap is_some (get_or_past r.pixels k None (omega (arith, hr.places))))
 ]
+
+-- a raster has its own mask, and masks that are the same as one are the same
+pub mask_itself : (r : Pixels) → SameMask r r
+mask_itself r = record { shape = record { kind = refl; rows = refl; cols = refl; depth = refl }; places = λ i j h. refl }
+
+pub mask_through : (r s t : Pixels) → SameMask r s → SameMask s t → SameMask r t
+mask_through r s t a b = record {
+  shape = record { kind = a.shape.kind ∙ b.shape.kind; rows = a.shape.rows ∙ b.shape.rows; cols = a.shape.cols ∙ b.shape.cols; depth = a.shape.depth ∙ b.shape.depth };
+  places = λ i j h. b.places i j (subst (λ n. i < n) a.shape.rows h.0, subst (λ n. j < n) a.shape.cols h.1) ∙ a.places i j h;
+}
+
+pub all_marks : (r s : Pixels) → IsRaster r → IsRaster s → SameMask r s → is_valid s ≡ is_valid r
+all_marks r s hr hs same = λ i k. same_marks r s hr hs same k i
+
+pub same_size : (r s : Pixels) → SameMask r s → r.rows * r.cols ≡ s.rows * s.cols
+same_size r s same = λ i. same.shape.rows i * same.shape.cols i

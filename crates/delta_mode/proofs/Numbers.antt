@@ -1,12 +1,9 @@
 -- Symbols as numbers modulo 256.
-use Rattle.std.proofs.Common.{◌≡◌, ℕ, ℤ, pos, negsuc, ◌+ℤ◌, ◌-ℤ◌, ◌≤ℤ◌, ◌+◌, ◌*◌, ◌%◌, ◌<◌, ◌≤◌, List, refl, sym, ap, ◌∙◌, subst, arith}
+use Rattle.std.proofs.Common.{◌≡◌, ℕ, ℤ, pos, negsuc, ◌+ℤ◌, ◌-ℤ◌, ◌≤ℤ◌, ◌+◌, ◌*◌, ◌%◌, refl, ap, arith}
 use Rattle.std.specs.Prelude.{unsigned_abs}
-use Rattle.std.specs.Int.{int_rem_euclid}
 use Rattle.std.proofs.lemmas.Int.{ints, int_rem_euclid_is}
 use Rattle.raster_values.specs.declared.kind.PixelType.{PixelType}
-use Rattle.raster_values.specs.declared.kind.PixelType.TheVariants.{I8, U8, I16, U16, I32, U32}
-use Rattle.raster_values.specs.PixelType.{bytes_of, InRange}
-use Rattle.delta_mode.specs.Symbols.{IsByteType, bias, symbol_of, number_of}
+use Rattle.delta_mode.specs.Symbols.{bias, symbol_of}
 
 -- a symbol by a natural number, where the number is not far below 0
 pub symbol-is : (kind : PixelType) (z : ℤ) (m : ℕ) → (z +ℤ pos (bias kind)) +ℤ pos (2 * 256) ≡ pos m → symbol_of kind z ≡ m % 256

@@ -1,11 +1,10 @@
 -- Predictors, and the symbols of pixels in order.
-use Rattle.std.proofs.Common.{◌≡◌, ◌≢◌, ℕ, zero, suc, ℤ, pos, ◌-ℤ◌, ◌+◌, ◌-◌, ◌*◌, ◌%◌, ◌<◌, ◌≤◌, Bool, true, false, cond, ◌&&◌, nat_lt, nat_le, List, [], ◌∷◌, ◌++◌, length, map, refl, sym, ap, ◌∙◌, subst, arith, inl, inr}
+use Rattle.std.proofs.Common.{◌≡◌, ℕ, zero, suc, ℤ, pos, ◌+◌, ◌-◌, ◌%◌, ◌<◌, ◌≤◌, Bool, true, false, cond, nat_lt, nat_le, List, [], ◌∷◌, ◌++◌, map, refl, sym, ap, ◌∙◌, subst, arith, inl, inr}
 use Rattle.std.specs.List.{filter, range_with_len}
-use Rattle.std.proofs.lemmas.Bool.{cases_Bool, cases_lt, and_parts, ltb-true}
+use Rattle.std.proofs.lemmas.Bool.{cases_Bool, and_parts, ltb-true}
 use Rattle.std.proofs.lemmas.Bool.Decides.{nat_tests}
-use Rattle.std.proofs.lemmas.List.{map-append, map-id, append-nil, append_assoc}
+use Rattle.std.proofs.lemmas.List.{map-id}
 use Rattle.std.proofs.lemmas.List.FromFn.{map-range_with_len_more}
-use Rattle.std.proofs.lemmas.List.Elements.{filter-append}
 use Rattle.raster_values.specs.declared.kind.PixelType.{PixelType}
 use Rattle.delta_mode.specs.Deltas.{has_left, has_upper, last_value, predictor, delta, deltas_from}
 
@@ -23,7 +22,7 @@ unfolding predictor
 predictor-is cols valid value k = refl
 
 -- what holds of the value of each valid pixel before, and of 0, holds of the predictor
-last_has : (P : ℤ → Type 0) (valid : ℕ → Bool) (value : ℕ → ℤ) (k : ℕ) → P (pos 0) → ((j : ℕ) → j < k → P (value j)) → P (last_value valid value k)
+pub last_has : (P : ℤ → Type 0) (valid : ℕ → Bool) (value : ℕ → ℤ) (k : ℕ) → P (pos 0) → ((j : ℕ) → j < k → P (value j)) → P (last_value valid value k)
 last_has P valid value zero none each = subst P (sym (last-zero valid value)) none
 last_has P valid value (suc k) none each = subst P (sym (last-suc valid value k)) (elim (cases_Bool (valid k)) [
   | inl yes_ ↦ subst (λ b. P (cond b (value k) (last_value valid value k))) (sym yes_) (each k (omega arith))
@@ -42,7 +41,7 @@ left_before cols valid k h =
         zero_mod c = omega arith
     positive (suc k) cols lt = omega arith
 
-upper_before : (cols : ℕ) (valid : ℕ → Bool) (k : ℕ) → 0 < cols → has_upper cols valid k ≡ true → (cols ≤ k) × (valid (k - cols) ≡ true)
+pub upper_before : (cols : ℕ) (valid : ℕ → Bool) (k : ℕ) → 0 < cols → has_upper cols valid k ≡ true → (cols ≤ k) × (valid (k - cols) ≡ true)
 upper_before cols valid k some h =
     let parts = and_parts (nat_le cols k) (valid (k - cols)) h in
     (le_from cols k parts.0, parts.1)
@@ -62,7 +61,7 @@ predictor_has P cols valid value k some none each = subst P (sym (predictor-is c
 ])
 
 -- a predictor depends on the values of the valid pixels before alone
-last_same : (valid : ℕ → Bool) (v w : ℕ → ℤ) (k : ℕ) → ((j : ℕ) → j < k → valid j ≡ true → v j ≡ w j) → last_value valid v k ≡ last_value valid w k
+pub last_same : (valid : ℕ → Bool) (v w : ℕ → ℤ) (k : ℕ) → ((j : ℕ) → j < k → valid j ≡ true → v j ≡ w j) → last_value valid v k ≡ last_value valid w k
 last_same valid v w zero same = last-zero valid v ∙ sym (last-zero valid w)
 last_same valid v w (suc k) same = last-suc valid v k ∙ elim (cases_Bool (valid k)) as (λ _. cond (valid k) (v k) (last_value valid v k) ≡ last_value valid w (suc k)) [
   | inl yes_ ↦

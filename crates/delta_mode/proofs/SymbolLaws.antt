@@ -1,22 +1,21 @@
 -- Symbols have one list of values, and one raster.
-use Rattle.std.proofs.Common.{◌≡◌, ◌≢◌, ℕ, zero, suc, ℤ, pos, negsuc, ◌+ℤ◌, ◌-ℤ◌, ◌≤ℤ◌, ◌+◌, ◌-◌, ◌*◌, ◌/◌, ◌%◌, ◌<◌, ◌≤◌, Bool, true, false, List, [], ◌∷◌, ◌++◌, length, map, get_or, Option, Some, None, refl, sym, ap, ◌∙◌, subst, arith, inl, inr}
+use Rattle.std.proofs.Common.{◌≡◌, ℕ, zero, suc, ℤ, pos, negsuc, ◌+ℤ◌, ◌-ℤ◌, ◌≤ℤ◌, ◌+◌, ◌*◌, ◌<◌, ◌≤◌, Bool, true, false, List, [], length, map, get_or, Option, Some, None, refl, sym, ap, ◌∙◌, subst, arith, inl, inr}
 use Rattle.std.specs.Prelude.{is_some, unwrap_or, unsigned_abs, All}
 use Rattle.std.specs.List.{filter, range_with_len}
 use Rattle.std.proofs.lemmas.Bool.{cases_lt, cases_Bool}
 use Rattle.std.proofs.lemmas.Int.{ints}
-use Rattle.std.proofs.lemmas.List.{get_or_past, ext_get_or, length-map, get_or-map}
+use Rattle.std.proofs.lemmas.List.{ext_get_or, length-map, get_or-map}
 use Rattle.raster_values.specs.declared.kind.PixelType.{PixelType}
 use Rattle.raster_values.specs.declared.kind.PixelType.TheVariants.{I8, U8, I16, U16, I32, U32}
-use Rattle.raster_values.specs.PixelType.{InRange, bytes_of}
-use Rattle.raster_values.specs.Raster.{Pixels, IsRaster, InShape, IsValidAt, values_of, value_at}
-use Rattle.raster_values.specs.Places.{SameShape}
+use Rattle.raster_values.specs.PixelType.{InRange}
+use Rattle.raster_values.specs.Raster.{Pixels, IsRaster, values_of}
 use Rattle.raster_values.specs.Block.{SameMask}
 use Rattle.raster_values.specs.Flat.{value_in}
-use Rattle.raster_values.proofs.Every.{Every, map_same, filter_every, range_every, every_range, same_filter}
-use Rattle.raster_values.proofs.Same.{SameRaster, same_raster}
+use Rattle.raster_values.proofs.Every.{Every, map_same, filter_every, range_every}
+use Rattle.raster_values.proofs.Same.{same_raster}
 use Rattle.raster_values.proofs.Deep.{AreDeep, raster_deep, pixels_once, values_in_range}
-use Rattle.delta_mode.specs.Symbols.{IsByteType, bias, symbol_of}
-use Rattle.delta_mode.specs.Deltas.{predictor, delta, deltas_from, is_valid, AreDeltas, ArePlain}
+use Rattle.delta_mode.specs.Symbols.{IsByteType, symbol_of}
+use Rattle.delta_mode.specs.Deltas.{predictor, delta, deltas_from, is_valid}
 use Rattle.delta_mode.specs.Laws.{OneDepth, OneRaster, OnePlain}
 use Rattle.delta_mode.proofs.Numbers.{symbol-is, lifted, same_residue}
 use Rattle.delta_mode.proofs.Predictors.{predictor_has, predictor_same, from-is}
@@ -73,7 +72,7 @@ one_below kind cols valid v w n byte some rv rw_ e (suc m) le k lt yes_ = elim (
       (here ∙ ap (λ p. symbol_of kind (w k -ℤ p)) (sym same))
 ]
 
-none_value : (p : Option (List ℤ)) (d : ℕ) → is_some p ≡ false → get_or (unwrap_or p []) d (pos 0) ≡ pos 0
+pub none_value : (p : Option (List ℤ)) (d : ℕ) → is_some p ≡ false → get_or (unwrap_or p []) d (pos 0) ≡ pos 0
 none_value None d e = refl
 none_value (Some values) d e = absurd (cc)
 

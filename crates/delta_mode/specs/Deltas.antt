@@ -1,7 +1,7 @@
 -- The symbols of a raster. Its pixels are numbered row by row; `valid` says which are valid, and `value`
 -- what value each has at a depth.
 use Rattle.std.specs.Prelude.{ℕ, zero, suc, ◌≡◌, ◌-◌, ◌*◌, ◌%◌, ◌<◌, Bool, ◌&&◌, nat_lt, nat_le}
-use Rattle.std.specs.Prelude.{List, length, map, get_or, None, is_some, ℤ, pos, ◌-ℤ◌}
+use Rattle.std.specs.Prelude.{List, map, get_or, None, is_some, ℤ, pos, ◌-ℤ◌}
 use Rattle.std.specs.Prelude.{if◌then◌else◌}
 use Rattle.std.specs.List.{filter, range_with_len}
 use Rattle.raster_values.specs.declared.kind.PixelType.{PixelType}

@@ -4,3 +4,4 @@ pub use Rattle.raster_values.specs.Block
 pub mod Symbols
 pub mod Deltas
 pub mod Laws
+pub mod inside

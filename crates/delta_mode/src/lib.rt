@@ -5,11 +5,14 @@
 //! one equation per pixel; symbols of all depths have one raster.
 #![tactic(auto)]
 
+mod depth;
 mod laws;
 mod plain;
+mod walk;
 
-pub use laws::{symbols_have_one_depth, symbols_have_one_raster};
-pub use plain::plain_of;
+pub use depth::{deltas_of, undelta};
+pub use laws::{symbols_have_a_raster, symbols_have_one_depth, symbols_have_one_raster};
+pub use plain::{plain_of, unplain};
 
 #[cfg(test)]
 mod tests;

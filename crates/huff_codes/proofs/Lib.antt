@@ -22,3 +22,5 @@ pub mod SpanLists
 pub mod Turns
 pub mod Cutting
 pub mod TableLaws
+pub mod Decided
+pub mod Counting

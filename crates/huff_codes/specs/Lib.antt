@@ -7,4 +7,5 @@ pub mod Words
 pub mod Turns
 pub mod Table
 pub mod Written
+pub mod Laws
 pub mod inside

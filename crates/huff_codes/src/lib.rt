@@ -16,8 +16,9 @@ mod words;
 pub use codes::Codes;
 pub use faults::{CodeFault, CodeReason};
 pub use laws::{
-    canonical_codes_are_codes, chosen_lengths_are_lengths, tables_are_a_part, tables_have_codes,
-    words_are_a_part, written_words_are_words,
+    canonical_codes_are_codes, canonical_codes_count_up, chosen_lengths_are_lengths,
+    joins_take_the_least, tables_are_a_part, tables_have_codes, words_are_a_part,
+    written_words_are_words,
 };
 pub use lengths::Lengths;
 pub use table::read_table;

@@ -2,7 +2,7 @@
 use Rattle.std.specs.Prelude.{ℕ, List, [], ◌∷◌, ◌++◌, codes, Result, Ok, Err}
 use Rattle.outside_io.specs.program.Line.{and_number}
 use Rattle.lerc_header.specs.declared.fault.BlobReason.{BlobReason}
-use Rattle.lerc_header.specs.declared.fault.BlobReason.TheVariants.{NotYet, Truncated, BadKey, BadVersion, BadRows, BadCols, BadDepth, TooLarge, BadCount, BadBlockSize, BadBlobSize, FloatPixels, BadType, BadError, BadRange, BadChecksum, BadMaskLength, BadRun, BadMaskCount, MaskMissing, BadSweep, BadMode, BadBlockTag, BadOffsetCode, BadListHead, BadListCount, BadTable, BadIndex, BadCodeTable, NoCode, PastEnd, Leftover}
+use Rattle.lerc_header.specs.declared.fault.BlobReason.TheVariants.{Truncated, BadKey, BadVersion, BadRows, BadCols, BadDepth, TooLarge, BadCount, BadBlockSize, BadBlobSize, FloatPixels, BadType, BadError, BadRange, BadChecksum, BadMaskLength, BadRun, BadMaskCount, MaskMissing, BadSweep, BadMode, BadBlockTag, BadOffsetCode, BadListHead, BadListCount, BadTable, BadIndex, BadCodeTable, NoCode, PastEnd, Leftover}
 use Rattle.lerc_cli.specs.declared.stop.Reason.{Reason}
 use Rattle.lerc_cli.specs.declared.stop.Reason.TheVariants.{Blob}
 use Rattle.lerc_cli.specs.declared.stop.Stop.{Stop}
@@ -26,7 +26,6 @@ status_at (Ok x) = 0
 status_at (Err stop) = status_of stop
 
 abbrev pub blob_name_of : BlobReason → List ℕ
-blob_name_of NotYet = codes "NotYet"
 blob_name_of Truncated = codes "Truncated"
 blob_name_of BadKey = codes "BadKey"
 blob_name_of BadVersion = codes "BadVersion"

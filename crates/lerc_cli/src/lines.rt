@@ -16,7 +16,6 @@ fn blob_name(reason: BlobReason) -> &'static [u8]
     ensures short { length result.now ≤ 30 }
 {
     match reason {
-        BlobReason::NotYet => b"NotYet",
         BlobReason::Truncated => b"Truncated",
         BlobReason::BadKey => b"BadKey",
         BlobReason::BadVersion => b"BadVersion",

@@ -17,6 +17,8 @@ mod reading;
 mod run;
 mod stop;
 #[cfg(test)]
+mod coded_tests;
+#[cfg(test)]
 mod tests;
 
 use arguments::ProcessArguments;

@@ -170,16 +170,16 @@ const ZERO: [u8; 19] = [
 
 /// What a run leaves.
 #[derive(Drop)]
-struct Left {
-    status: u8,
-    marks: usize,
-    out: MemSink,
-    err: MemSink,
+pub(crate) struct Left {
+    pub(crate) status: u8,
+    pub(crate) marks: usize,
+    pub(crate) out: MemSink,
+    pub(crate) err: MemSink,
 }
 
 /// Runs over a source of these bytes and an output, each with its pieces and the numbers of its failing
 /// calls.
-fn left_by(
+pub(crate) fn left_by(
     alloc: Global,
     words: &[&str],
     input: &[u8],

@@ -1,5 +1,5 @@
 -- A whole blob is made of its parts, and goes wrong where a part of it does.
-use Rattle.std.proofs.Common.{◌≡◌, suc, ℕ, ℤ, ◌+◌, ◌-◌, ◌*◌, ◌<◌, ◌≤◌, Bool, true, false, List, ◌∷◌, ◌++◌, length, take, drop, replicate, Option, Ok, Err, refl, sym, ap, ◌∙◌, subst, arith, inl, inr}
+use Rattle.std.proofs.Common.{◌≡◌, suc, ℕ, ℤ, ◌+◌, ◌-◌, ◌*◌, ◌<◌, ◌≤◌, Bool, true, false, List, [], ◌∷◌, ◌++◌, length, take, drop, replicate, Option, Ok, Err, refl, sym, ap, ◌∙◌, subst, arith, inl, inr}
 use Rattle.std.specs.Prelude.{Result, IfErr, OnOk, ◌↔◌}
 use Rattle.std.proofs.lemmas.List.{append-nil, append_assoc, length-append, length-drop, length-take-le, take-append-drop, take_rest, drop_at, drop-drop}
 use Rattle.first_fault.specs.Faults.{Faults, moved}
@@ -17,12 +17,12 @@ use Rattle.lerc_header.specs.declared.fault.BlobReason.TheVariants.{BadChecksum,
 use Rattle.lerc_header.specs.declared.fault.BlobFault.{BlobFault}
 use Rattle.lerc_header.specs.Head.{HeadAt, RangeAt, head_length, shift}
 use Rattle.lerc_header.specs.Checksum.{sum_of}
-use Rattle.lerc_grammar.specs.declared.outline.MaskForm.{MaskForm}
-use Rattle.lerc_grammar.specs.declared.outline.MaskForm.TheVariants.{Empty as NoneValid, Full, Runs as RunsAt}
-use Rattle.lerc_grammar.specs.declared.outline.ImageForm.{ImageForm}
-use Rattle.lerc_grammar.specs.declared.outline.ImageForm.TheVariants.{Empty as NoImage, Constant, Ranges, Sweep, Blocks}
+use Rattle.lerc_grammar.specs.declared.parts.MaskForm.{MaskForm}
+use Rattle.lerc_grammar.specs.declared.parts.MaskForm.TheVariants.{Empty as NoneValid, Full, Runs as RunsAt}
+use Rattle.lerc_grammar.specs.declared.parts.ImageForm.{ImageForm}
+use Rattle.lerc_grammar.specs.declared.parts.ImageForm.TheVariants.{Empty as NoImage, Constant, Ranges, Sweep, Blocks, Delta, Plain}
 use Rattle.lerc_grammar.specs.Mask.{IsMask, mask_size, count_of, runs_faults, mask_faults}
-use Rattle.lerc_grammar.specs.Image.{Ends, IsFront, AreEqual, IsBare, IsCoded, IsImage, empty, constant, ranges, coded, sweep, blocks, one_list, top_of, insides, coded_of, image_faults, sweep_faults}
+use Rattle.lerc_grammar.specs.Image.{Ends, IsFront, AreEqual, IsBare, IsCoded, IsImage, empty, constant, ranges, coded, sweep, blocks, one_list, top_of, insides, coded_of, image_faults, sweep_faults, HasMode, greatest_mode, value_count, delta, plain}
 use Rattle.lerc_grammar.specs.Blocks.{AreBlocks, all_blocks, blocks_faults}
 use Rattle.lerc_grammar.specs.Blob.{Blob, blob_faults}
 use Rattle.lerc_grammar.specs.Outline.{HasMaskLength, IsMaskForm, IsImageForm, IsCodedForm, IsFormBytes, HasLists, values_place, image_place, mask_part_faults, image_part_faults}
@@ -33,11 +33,15 @@ use Rattle.lerc_grammar.proofs.Lists.{first_list, front_list_long}
 use Rattle.std.proofs.Math.Nat.{mul-le-mul_right}
 use Rattle.lerc_grammar.proofs.Counts.{mask_count, counted}
 use Rattle.lerc_grammar.proofs.MaskDecided.{alike_stands, mixed_stands}
-use Rattle.lerc_grammar.proofs.Looking.{mask_outside, mask_inside, image_outside, image_inside, sweep_inside, blocks_inside}
+use Rattle.lerc_grammar.proofs.Looking.{mask_outside, mask_inside, image_outside, image_inside, sweep_inside, blocks_inside, codes_inside}
 use Rattle.lerc_decode.specs.declared.body.BodyStop.{BodyStop}
 use Rattle.lerc_decode.specs.declared.body.BodyStop.TheVariants.{Fault, OutOfMemory}
 use Rattle.lerc_header.specs.declared.header.Version.{Version}
 use Rattle.lerc_header.specs.declared.header.Version.TheVariants.{V3, V4}
+use Rattle.huff_codes.specs.Table.{IsCoding}
+use Rattle.lerc_grammar.specs.Codes.{codes_faults}
+use Rattle.lerc_grammar.proofs.CodedOnce.{least_mode}
+use Rattle.lerc_decode.specs.inside.Codes.{HasDeltas, HasPlain}
 use Rattle.lerc_decode.specs.inside.Blocks.{AreTopsOf, HasBlocks, HasBoth, top_in}
 use Rattle.lerc_decode.proofs.BlockReading.{blocks_same, faults_same}
 use Rattle.lerc_decode.specs.inside.Body.{IsStopOf, HasHeadShape, IsFilledWith, IsMarkedBy, IsMarkedFor, IsSwept, KeepsMarks}
@@ -347,6 +351,36 @@ blocks_fault h blob mask marks at tops t some are p reason (q, (e, w)) =
     (subst (λ (u : List ℕ). coded_of (insides h marks t.front) h (u ++ t.values) (length u + q) reason) (sym t.tells.1.1)
     (subst (λ (n : ℕ). coded_of (insides h marks t.front) h (0 ∷ (mode ++ t.values)) n reason) (let s : 1 + (length mode + q) ≡ suc (length mode) + q = omega arith in s)
     (blocks_inside (insides h marks t.front) h mode t.values q reason t.tells.1.0 there)))
+
+-- ---- codes
+
+pub image_deltas : (h : Header) (blob : List ℕ) (mask : MaskForm) (at : ℕ) (r : Pixels) (t : CodedThere h blob mask (Delta at) at) → HasDeltas h (take (length blob - at) (drop at blob)) r → IsImage h (image_of h blob mask) r
+image_deltas h blob mask at r t d =
+    image_coded h blob mask (Delta at) at r t
+    (delta t.values d.symbols (ap (λ (u : List ℕ). u ++ t.values) t.tells.1) t.tells.0 (subst (λ (u : List ℕ). IsCoding (value_count h) u d.symbols) (behind_place h blob mask (Delta at) at at t refl) d.coding) d.deltas)
+
+pub image_plain : (h : Header) (blob : List ℕ) (mask : MaskForm) (at : ℕ) (r : Pixels) (t : CodedThere h blob mask (Plain at) at) → HasPlain h (take (length blob - at) (drop at blob)) r → IsImage h (image_of h blob mask) r
+image_plain h blob mask at r t d =
+    image_coded h blob mask (Plain at) at r t
+    (plain t.values d.symbols (ap (λ (u : List ℕ). u ++ t.values) t.tells.1.1) t.tells.0 t.tells.1.0 (subst (λ (u : List ℕ). IsCoding (value_count h) u d.symbols) (behind_place h blob mask (Plain at) at at t refl) d.coding) d.plain)
+
+-- the mode of codes
+codes_fault_at : (h : Header) (blob : List ℕ) (mask : MaskForm) (form : ImageForm) (marks : List Bool) (at mode : ℕ) (t : CodedThere h blob mask form at) → t.tell ≡ 0 ∷ mode ∷ [] → HasMode h → mode ≤ greatest_mode h.version → ¬ (mode ≡ 0)
+    → (p : ℕ) (reason : BlobReason) → moved at (codes_faults (value_count h) (take (length blob - at) (drop at blob))) p reason → moved (image_place h mask) (image_faults h marks (image_of h blob mask)) p reason
+codes_fault_at h blob mask form marks at mode t tell has low some p reason (q, (e, w)) =
+    coded_fault h blob mask form marks at q p reason t e
+    (subst (λ (u : List ℕ). coded_of (insides h marks t.front) h (u ++ t.values) (length u + q) reason) (sym tell)
+    (subst (λ (n : ℕ). coded_of (insides h marks t.front) h (0 ∷ mode ∷ t.values) n reason) (let s : 1 + (1 + q) ≡ 2 + q = omega arith in s)
+    (codes_inside (insides h marks t.front) h mode t.values q reason has low some (subst (λ (u : List ℕ). codes_faults (value_count h) u q reason) (behind_place h blob mask form at at t refl) w))))
+
+pub deltas_fault : (h : Header) (blob : List ℕ) (mask : MaskForm) (marks : List Bool) (at : ℕ) (t : CodedThere h blob mask (Delta at) at) → (p : ℕ) (reason : BlobReason)
+    → moved at (codes_faults (value_count h) (take (length blob - at) (drop at blob))) p reason → moved (image_place h mask) (image_faults h marks (image_of h blob mask)) p reason
+deltas_fault h blob mask marks at t = codes_fault_at h blob mask (Delta at) marks at 1 t t.tells.1 t.tells.0 (least_mode h.version) (λ e. absurd (omega (arith, e)))
+
+pub plain_fault : (h : Header) (blob : List ℕ) (mask : MaskForm) (marks : List Bool) (at : ℕ) (t : CodedThere h blob mask (Plain at) at) → (p : ℕ) (reason : BlobReason)
+    → moved at (codes_faults (value_count h) (take (length blob - at) (drop at blob))) p reason → moved (image_place h mask) (image_faults h marks (image_of h blob mask)) p reason
+plain_fault h blob mask marks at t =
+    codes_fault_at h blob mask (Plain at) marks at 2 t t.tells.1.1 t.tells.0 (subst (λ (v : Version). 2 ≤ greatest_mode v) (sym t.tells.1.0) (omega arith)) (λ e. absurd (omega (arith, e)))
 
 -- where no image is bare some pixel is valid, so the greatest value is the type's
 range_top : (bytes : List ℕ) (h : Header) (place : ℕ) → RangeAt bytes place h.kind h.valid h.least h.greatest → ¬ (h.valid ≡ 0) → InRange h.kind h.greatest

@@ -6,3 +6,5 @@ mod Steps
 mod Feeding
 pub mod Tops
 pub mod BlockReading
+pub mod CodePlaces
+pub mod Symbols

@@ -34,7 +34,8 @@ pub record HasHeader (taken : List ℕ) : Type 0 where
 -- What the bytes taken are at each stage. Memory is wanted only behind a whole header.
 abbrev pub IsStageOf : List ℕ → Stage → Type 0
 IsStageOf taken Key = length taken < 10
-IsStageOf taken (Fields v) = (10 ≤ length taken) × ((length taken < head_length v) × (HasKey (take 10 taken) × HasVersion (take 10 taken) v))
+IsStageOf taken (Fields v) = (10 ≤ length taken) × ((length taken < head_length v)
+    × (HasKey (take 10 taken) × HasVersion (take 10 taken) v))
 IsStageOf taken (Body h) = HeadAt taken h × (length taken < h.size)
 IsStageOf taken (Whole r) = IsDone taken r (length taken) × IsLeast taken
 IsStageOf taken (Wrong place reason) = FirstFault taken place reason × IsLeast taken

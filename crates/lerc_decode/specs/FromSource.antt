@@ -41,7 +41,8 @@ IsFound _ taken rest = Unit {0}
 
 -- the source's bytes are those taken and those that it still has
 abbrev pub Splits : List ℕ → Option (List ℕ) → (List ℕ → List ℕ → Type 0) → Type 0
-Splits input new P = (taken : List ℕ) × ((rest : List ℕ) × ((input ≡ taken ++ rest) × ((new ≡ Some rest) × P taken rest)))
+Splits input new P = (taken : List ℕ) × ((rest : List ℕ)
+    × ((input ≡ taken ++ rest) × ((new ≡ Some rest) × P taken rest)))
 
 -- What was taken of a source that tells its bytes. Memory is wanted only behind a whole header.
 abbrev pub IsSized : Result Decoded FromFault → Option (List ℕ) → Option (List ℕ) → Type 0

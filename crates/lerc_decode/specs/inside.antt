@@ -1,5 +1,6 @@
 pub mod Blocks
 pub mod Body
+pub mod Codes
 pub mod Feeding
 pub mod Inside
 pub mod Stages

@@ -12,11 +12,12 @@ ghost use Rattle.lerc_grammar.specs.Mask.{IsMask, count_of, mask_faults, mask_si
 ghost use Rattle.lerc_grammar.specs.Image.{IsImage, image_faults, sweep_faults, value_count};
 ghost use Rattle.lerc_grammar.specs.Blob.{Blob, blob_faults};
 ghost use Rattle.lerc_grammar.specs.Outline.{IsImageForm, IsMaskForm, image_place};
-ghost use Rattle.lerc_grammar.specs.declared.outline.ImageForm.{ImageForm};
+ghost use Rattle.lerc_grammar.specs.declared.parts.ImageForm.{ImageForm};
 ghost use Rattle.lerc_decode.specs.inside.Blocks.{AreTopsOf, HasBoth, IsOneTop};
 ghost use Rattle.lerc_decode.specs.inside.Body.{HasHeadShape, HasSum, IsFilledWith, IsMarkedBy, IsMarkedFor, IsStopOf, IsSwept, KeepsMarks};
 
 use crate::blocks::pour_blocks;
+use crate::codes::{pour_deltas, pour_plain};
 use lerc_grammar::{ImageForm, MaskForm, image_part, mask_part};
 use lerc_header::{BlobFault, BlobReason, Header, Version, checksum};
 use mask_runs::read_runs;
@@ -361,6 +362,70 @@ fn read_blocks(
     pour_topped(blob, header, mask, place, &mut tops, raster)
 }
 
+/// How many values the image has.
+fn value_len(header: &Header) -> usize
+    requires { header.now.valid * header.now.depth ≤ 16777216 }
+    ensures { result ≡ value_count header.now }
+{
+    header.valid as usize * header.depth as usize
+}
+
+/// Gives the valid pixels the values of a code table and differences, which begin at this place.
+fn read_deltas(
+    alloc: Global,
+    blob: &[u8],
+    header: &Header,
+    mask: &MaskForm,
+    place: usize,
+    raster: &mut Raster,
+) -> Result<(), BodyStop>
+    requires head { HeadAt blob.now header.now }
+    requires size { length blob.now ≡ header.now.size }
+    requires mask { IsMaskForm header.now blob.now mask.now }
+    requires form { IsImageForm header.now blob.now mask.now (ImageForm.Delta place) }
+    requires shape { HasHeadShape header.now raster.old }
+    requires valid { count_of (marks_of raster.old) ≡ header.now.valid }
+    ensures marks { KeepsMarks raster.old raster.new }
+    ensures ok { OnOk result (IsImage header.now
+        (drop (image_place header.now mask.now) blob.now) raster.new) }
+    ensures fault { IfErr result (λ stop. IsStopOf (moved (image_place header.now mask.now)
+        (image_faults header.now (marks_of raster.old)
+        (drop (image_place header.now mask.now) blob.now))) stop) }
+{
+    let Some(mut symbols) = room_for(alloc, value_len(header)) else {
+        return Err(BodyStop::OutOfMemory);
+    };
+    pour_deltas(&blob[place..], place, header, &mut symbols, raster)
+}
+
+/// Gives the valid pixels the values of a code table and words, which begin at this place.
+fn read_plain(
+    alloc: Global,
+    blob: &[u8],
+    header: &Header,
+    mask: &MaskForm,
+    place: usize,
+    raster: &mut Raster,
+) -> Result<(), BodyStop>
+    requires head { HeadAt blob.now header.now }
+    requires size { length blob.now ≡ header.now.size }
+    requires mask { IsMaskForm header.now blob.now mask.now }
+    requires form { IsImageForm header.now blob.now mask.now (ImageForm.Plain place) }
+    requires shape { HasHeadShape header.now raster.old }
+    requires valid { count_of (marks_of raster.old) ≡ header.now.valid }
+    ensures marks { KeepsMarks raster.old raster.new }
+    ensures ok { OnOk result (IsImage header.now
+        (drop (image_place header.now mask.now) blob.now) raster.new) }
+    ensures fault { IfErr result (λ stop. IsStopOf (moved (image_place header.now mask.now)
+        (image_faults header.now (marks_of raster.old)
+        (drop (image_place header.now mask.now) blob.now))) stop) }
+{
+    let Some(mut symbols) = room_for(alloc, value_len(header)) else {
+        return Err(BodyStop::OutOfMemory);
+    };
+    pour_plain(&blob[place..], place, header, &mut symbols, raster)
+}
+
 /// Gives the valid pixels the values that the image says.
 fn read_image(
     alloc: Global,
@@ -396,7 +461,8 @@ fn read_image(
             pour_sweep(&blob[place..], place, header, raster)
         }
         ImageForm::Blocks { at } => read_blocks(alloc, blob, header, mask, at as usize, raster),
-        _ => unreachable!(),
+        ImageForm::Delta { at } => read_deltas(alloc, blob, header, mask, at as usize, raster),
+        ImageForm::Plain { at } => read_plain(alloc, blob, header, mask, at as usize, raster),
     }
 }
 

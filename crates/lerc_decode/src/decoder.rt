@@ -74,7 +74,8 @@ impl Model for Decoder {
     ghost invariant = { IsInside };
 }
 
-/// Puts bytes of the piece behind those that are there, as many as are missing to `want`. Answers how many.
+/// Puts bytes of the piece behind those that are there, as many as are missing to `want`. Answers how
+/// many.
 fn fill(head: &mut [u8; 70], have: usize, want: usize, piece: &[u8]) -> usize
     requires have { have ≤ want }
     requires want { want ≤ 70 }
@@ -90,7 +91,8 @@ fn fill(head: &mut [u8; 70], have: usize, want: usize, piece: &[u8]) -> usize
 
 /// Puts bytes behind those of the vector; whether there was memory for them.
 fn grow(blob: &mut Vec<u8>, bytes: &[u8]) -> bool
-    ensures { MatchBool result (blob.new.items ≡ blob.old.items ++ bytes.now) (blob.new.items ≡ blob.old.items) }
+    ensures { MatchBool result (blob.new.items ≡ blob.old.items ++ bytes.now)
+        (blob.new.items ≡ blob.old.items) }
 {
     blob.extend_from_slice(bytes).is_ok()
 }
@@ -146,7 +148,8 @@ impl Decoder {
     fn feed_key(&mut self, piece: &[u8]) -> usize
         ensures taken { HasTaken self.old self.new piece.now result }
         ensures steps { StepsKey self.old.stage self.old self.new piece.now result }
-        ensures exact { length piece.now ≤ missing_at self.old.stage (length self.old.taken) → UsesKey self.old.stage self.new.stage piece.now result }
+        ensures exact { length piece.now ≤ missing_at self.old.stage (length self.old.taken)
+            → UsesKey self.old.stage self.new.stage piece.now result }
         ensures sound { IsStageOf self.new.taken self.new.stage }
     {
         let Progress::Key = &self.progress else {
@@ -167,7 +170,8 @@ impl Decoder {
     fn feed_fields(&mut self, piece: &[u8]) -> usize
         ensures taken { HasTaken self.old self.new piece.now result }
         ensures steps { StepsFields self.old.stage self.old self.new piece.now result }
-        ensures exact { length piece.now ≤ missing_at self.old.stage (length self.old.taken) → UsesFields self.old.stage self.new.stage piece.now result }
+        ensures exact { length piece.now ≤ missing_at self.old.stage (length self.old.taken)
+            → UsesFields self.old.stage self.new.stage piece.now result }
         ensures sound { IsStageOf self.new.taken self.new.stage }
     {
         let Progress::Fields(version) = &self.progress else {
@@ -187,7 +191,8 @@ impl Decoder {
     fn feed_body(&mut self, piece: &[u8]) -> usize
         ensures taken { HasTaken self.old self.new piece.now result }
         ensures steps { StepsBody self.old.stage self.old self.new piece.now result }
-        ensures exact { length piece.now ≤ missing_at self.old.stage (length self.old.taken) → UsesBody self.old.stage self.new.stage piece.now result }
+        ensures exact { length piece.now ≤ missing_at self.old.stage (length self.old.taken)
+            → UsesBody self.old.stage self.new.stage piece.now result }
         ensures sound { IsStageOf self.new.taken self.new.stage }
     {
         let Progress::Body(header) = &self.progress else {
@@ -254,7 +259,8 @@ impl Decoder {
         ensures state { result.state ≡ state_at self.new.stage }
         ensures verdict { IsTold self.new.taken self.new.stage }
         ensures sound { IsStageOf self.new.taken self.new.stage }
-        ensures exact { length piece.now ≤ missing_at self.old.stage (length self.old.taken) → IsUsed self.new.stage piece.now result.used }
+        ensures exact { length piece.now ≤ missing_at self.old.stage (length self.old.taken)
+            → IsUsed self.new.stage piece.now result.used }
         ensures whole { result.state ≡ FedState.More → result.used ≡ length piece.now }
         ensures ended { HasStopped self.old.stage → IsSame self.old self.new result.used }
     {

@@ -30,7 +30,8 @@ pub enum FromFault {
     OutOfMemory,
 }
 
-/// Feeds the decoder with one call on the source, of at most as many bytes as it wants. Answers how many bytes came.
+/// Feeds the decoder with one call on the source, of at most as many bytes as it wants. Answers how many
+/// bytes came.
 fn feed_once<S: Source>(
     src: &mut S,
     decoder: &mut Decoder,
@@ -39,9 +40,11 @@ fn feed_once<S: Source>(
     requires short { length room.old ≤ missing_at decoder.old.stage (length decoder.old.taken) }
     requires stands { IsStageOf decoder.old.taken decoder.old.stage }
     ensures counted { CountsFaults result (S.faults src.old) (S.faults src.new) }
-    ensures fed { OnOk result (Follows decoder.new.stage (Joins (S.left src.old) (S.left src.new) decoder.old.taken decoder.new.taken)) }
+    ensures fed { OnOk result (Follows decoder.new.stage
+        (Joins (S.left src.old) (S.left src.new) decoder.old.taken decoder.new.taken)) }
     ensures begins { OnOk result (Begins (S.left src.old) decoder.old.taken decoder.new.taken) }
-    ensures taken { TakesUpTo (missing_at decoder.old.stage (length decoder.old.taken)) (S.left src.old) (S.left src.new) }
+    ensures taken { TakesUpTo (missing_at decoder.old.stage (length decoder.old.taken))
+        (S.left src.old) (S.left src.new) }
     ensures stands { IsStageOf decoder.new.taken decoder.new.stage }
     ensures within { IfOk result (λ n. n ≤ length room.old) }
     ensures same { IfOk result (λ n. n ≡ 0 → decoder.new ≡ decoder.old) }
@@ -59,11 +62,13 @@ fn feed_once<S: Source>(
 fn feed_from<S: Source>(src: &mut S, decoder: &mut Decoder) -> Result<(), Failed>
     requires { IsStageOf decoder.old.taken decoder.old.stage }
     ensures counted { CountsFaults result (S.faults src.old) (S.faults src.new) }
-    ensures fed { OnOk result (Follows decoder.new.stage (Joins (S.left src.old) (S.left src.new) decoder.old.taken decoder.new.taken)) }
+    ensures fed { OnOk result (Follows decoder.new.stage
+        (Joins (S.left src.old) (S.left src.new) decoder.old.taken decoder.new.taken)) }
     ensures begins { OnOk result (Begins (S.left src.old) decoder.old.taken decoder.new.taken) }
     ensures taken { decoder.old.taken ≡ [] → TakesUpTo 134217728 (S.left src.old) (S.left src.new) }
     ensures stands { IsStageOf decoder.new.taken decoder.new.stage }
-    ensures end { OnOk result ((missing_at decoder.new.stage (length decoder.new.taken) ≡ 0) ⊎ IsAtEnd (S.left src.new)) }
+    ensures end { OnOk result ((missing_at decoder.new.stage (length decoder.new.taken) ≡ 0)
+        ⊎ IsAtEnd (S.left src.new)) }
 {
     let mut buf = [0u8; 4096];
     loop {

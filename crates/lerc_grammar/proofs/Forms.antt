@@ -1,22 +1,24 @@
 -- The form of an image: one at most, and none where there is a fault.
-use Rattle.std.proofs.Common.{◌≡◌, suc, ℕ, ◌+◌, ◌-◌, ◌<◌, Bool, true, false, List, [], ◌∷◌, ◌++◌, length, get_or, take, drop, Option, None, refl, sym, ap, ◌∙◌, subst, arith, inl, inr}
+use Rattle.std.proofs.Common.{◌≡◌, zero, suc, ℕ, ◌+◌, ◌-◌, ◌<◌, ◌≤◌, Bool, true, false, List, [], ◌∷◌, ◌++◌, length, get_or, take, drop, Option, None, refl, sym, ap, ◌∙◌, subst, arith, inl, inr}
 use Rattle.std.specs.Prelude.{slice_index, IsTrue, ◌↔◌}
 use Rattle.std.proofs.lemmas.List.{length-append, length-take-le, take-append-drop, take_rest}
 use Rattle.first_fault.specs.Faults.{Faults, choice, in_order, ends}
 use Rattle.first_fault.specs.Parts.{IsEmpty}
-use Rattle.first_fault.proofs.Parts.{single-none, single-wrong, single-moved, empty-choice, empty-failed, empty-moved, empty-ends, empty-in_order, same_rest}
+use Rattle.first_fault.proofs.Parts.{single-none, single-moved, empty-choice, empty-failed, empty-moved, empty-ends, empty-in_order, same_rest}
 use Rattle.lerc_header.specs.declared.header.Header.{Header}
+use Rattle.lerc_header.specs.declared.header.Version.{Version}
+use Rattle.lerc_header.specs.declared.header.Version.TheVariants.{V3, V4}
 use Rattle.lerc_header.specs.declared.fault.BlobReason.{BlobReason}
-use Rattle.lerc_header.specs.declared.fault.BlobReason.TheVariants.{NotYet, Leftover}
+use Rattle.lerc_header.specs.declared.fault.BlobReason.TheVariants.{Leftover}
 use Rattle.lerc_header.specs.declared.fault.BlobFault.{BlobFault}
-use Rattle.lerc_grammar.specs.declared.outline.MaskForm.{MaskForm}
-use Rattle.lerc_grammar.specs.declared.outline.ImageForm.{ImageForm}
-use Rattle.lerc_grammar.specs.declared.outline.ImageForm.TheVariants.{Empty, Constant, Ranges, Sweep, Blocks, Delta, Plain}
-use Rattle.lerc_grammar.specs.Image.{Ends, IsFront, front_faults, AreEqual, IsBare, HasMode, outside, coded_of, behind_front, image_faults_of}
+use Rattle.lerc_grammar.specs.declared.parts.MaskForm.{MaskForm}
+use Rattle.lerc_grammar.specs.declared.parts.ImageForm.{ImageForm}
+use Rattle.lerc_grammar.specs.declared.parts.ImageForm.TheVariants.{Empty, Constant, Ranges, Sweep, Blocks, Delta, Plain}
+use Rattle.lerc_grammar.specs.Image.{Ends, IsFront, front_faults, AreEqual, IsBare, HasMode, IsBlocksMode, greatest_mode, outside, coded_of, behind_front, image_faults_of}
 use Rattle.lerc_grammar.specs.Outline.{HasLists, IsCodedForm, IsFormBytes, IsFormOf, values_place, IsImageForm, image_place, image_part_faults}
 use Rattle.lerc_grammar.specs.inside.Spans.{IsFrontSpan, IsFormBehind, IsFormTold, IsZeroTold}
 use Rattle.lerc_grammar.proofs.Exact.{IsOne}
-use Rattle.lerc_grammar.proofs.CodedOnce.{AreSingle, empty-blocks_mode, empty-one, empty-zero, one_mode}
+use Rattle.lerc_grammar.proofs.CodedOnce.{AreSingle, empty-blocks_mode, empty-mode, empty-one, empty-zero, least_mode, one_mode}
 use Rattle.lerc_grammar.proofs.Images.{front_part, single-image_of}
 
 -- ---- what the reader finds
@@ -41,6 +43,23 @@ front_byte (b ∷ bytes) byte some e = ap (λ (x : ℕ). x ∷ bytes) e
 
 pub told_blocks : (h : Header) (place : ℕ) (bytes : List ℕ) → HasMode h → 0 < length bytes → slice_index bytes 0 ≡ 0 → IsZeroTold h place bytes (Blocks (place + 1))
 told_blocks h place bytes has some e = record { mode = 0 ∷ []; values = drop 1 bytes; joined = front_byte bytes 0 some e; tells = (0 ∷ [], (inl (has, refl), refl)); at = refl }
+
+pub told_delta : (h : Header) (place : ℕ) (bytes : List ℕ) → HasMode h → 0 < length bytes → slice_index bytes 0 ≡ 1 → IsZeroTold h place bytes (Delta (place + 1))
+told_delta h place bytes has some e = record { mode = 1 ∷ []; values = drop 1 bytes; joined = front_byte bytes 1 some e; tells = (has, refl); at = refl }
+
+plain_mode : (v : Version) (mode : ℕ) → mode ≤ greatest_mode v → ¬ (mode ≡ 0) → ¬ (mode ≡ 1) → (v ≡ V4) × (mode ≡ 2)
+plain_mode V3 zero low none_ one = absurd (none_ refl)
+plain_mode V3 (suc zero) low none_ one = absurd (one refl)
+plain_mode V3 (suc (suc mode)) low none_ one = absurd (omega (arith, low))
+plain_mode V4 zero low none_ one = absurd (none_ refl)
+plain_mode V4 (suc zero) low none_ one = absurd (one refl)
+plain_mode V4 (suc (suc zero)) low none_ one = (refl, refl)
+plain_mode V4 (suc (suc (suc mode))) low none_ one = absurd (omega (arith, low))
+
+pub told_plain : (h : Header) (place mode : ℕ) (bytes : List ℕ) → HasMode h → 0 < length bytes → slice_index bytes 0 ≡ mode → mode ≤ greatest_mode h.version → ¬ (mode ≡ 0) → ¬ (mode ≡ 1) → IsZeroTold h place bytes (Plain (place + 1))
+told_plain h place mode bytes has some e low none_ one =
+    let is = plain_mode h.version mode low none_ one in
+    record { mode = 2 ∷ []; values = drop 1 bytes; joined = front_byte bytes 2 some (e ∙ is.1); tells = (has, (is.0, refl)); at = refl }
 
 pub told_zero : (h : Header) (place : ℕ) (bytes : List ℕ) (form : ImageForm) → 0 < length bytes → slice_index bytes 0 ≡ 0 → IsZeroTold h (place + 1) (take (length bytes - 1) (drop 1 bytes)) form → IsFormTold h place bytes form
 told_zero h place bytes form some e t = record {
@@ -119,24 +138,55 @@ byte_of a s byte more e = ap (λ (u : List ℕ). get_or (u ++ s) 0 0) e
 one_zero : (a b s t more : List ℕ) → a ≡ 1 ∷ [] → b ≡ 0 ∷ more → a ++ s ≡ b ++ t → ⊥
 one_zero a b s t more one zero_ e = let same : ◌≡◌ {A = ℕ} 1 0 = sym (byte_of a s 1 [] one) ∙ ap (λ (u : List ℕ). get_or u 0 0) e ∙ byte_of b t 0 more zero_ in omega (arith, same)
 
+other_byte : (a b s t : List ℕ) (n x y : ℕ) → ¬ (x ≡ y) → get_or (a ++ s) n 0 ≡ x → get_or (b ++ t) n 0 ≡ y → a ++ s ≡ b ++ t → ⊥
+other_byte a b s t n x y other p q e = other (sym p ∙ ap (λ (u : List ℕ). get_or u n 0) e ∙ q)
+
+mode_byte : (a s : List ℕ) (mode : ℕ) → a ≡ 0 ∷ mode ∷ [] → get_or (a ++ s) 1 0 ≡ mode
+mode_byte a s mode e = ap (λ (u : List ℕ). get_or (u ++ s) 1 0) e
+
+-- two modes
+other_modes : (a b s t : List ℕ) (m n : ℕ) → ¬ (m ≡ n) → a ≡ 0 ∷ m ∷ [] → b ≡ 0 ∷ n ∷ [] → a ++ s ≡ b ++ t → ⊥
+other_modes a b s t m n other p q e = other_byte a b s t 1 m n other (mode_byte a s m p) (mode_byte b t n q) e
+
+blocks_bytes : (h : Header) (a mode : List ℕ) → HasMode h → IsBlocksMode h mode → a ≡ 0 ∷ mode → a ≡ 0 ∷ 0 ∷ []
+blocks_bytes h a mode has (inl m) e = e ∙ ap (λ (u : List ℕ). 0 ∷ u) m.1
+blocks_bytes h a mode has (inr m) e = absurd (m.0 has)
+
+one_and_zero : ¬ (◌≡◌ {A = ℕ} 1 0)
+one_and_zero e = absurd (omega (arith, e))
+
+two_and_zero : ¬ (◌≡◌ {A = ℕ} 2 0)
+two_and_zero e = absurd (omega (arith, e))
+
+one_and_two : ¬ (◌≡◌ {A = ℕ} 1 2)
+one_and_two e = absurd (omega (arith, e))
+
 -- the bytes that tell a form tell no other
 tells_once : (h : Header) (size : ℕ) (a b s t : List ℕ) (x y : ImageForm) → IsFormBytes h a x → IsFormBytes h b y → a ++ s ≡ b ++ t
     → values_place x + length s ≡ size → values_place y + length t ≡ size → x ≡ y
 tells_once h size a b s t (Sweep at) (Sweep at') w v e p q = ap Sweep (same_place a b s t at at' size (w ∙ sym v) e p q)
 tells_once h size a b s t (Sweep at) (Blocks at') w (m, (is, v)) e p q = absurd (one_zero a b s t m w v e)
+tells_once h size a b s t (Sweep at) (Delta at') w (has, v) e p q = absurd (one_zero a b s t (1 ∷ []) w v e)
+tells_once h size a b s t (Sweep at) (Plain at') w (has, (v4, v)) e p q = absurd (one_zero a b s t (2 ∷ []) w v e)
 tells_once h size a b s t (Blocks at) (Sweep at') (m, (is, w)) v e p q = absurd (one_zero b a t s m v w (sym e))
 tells_once h size a b s t (Blocks at) (Blocks at') (m, (is, w)) (m', (is', v)) e p q =
     ap Blocks (same_place a b s t at at' size (w ∙ ap (λ (u : List ℕ). 0 ∷ u) (one_mode h m m' is is') ∙ sym v) e p q)
+tells_once h size a b s t (Blocks at) (Delta at') (m, (is, w)) (has, v) e p q = absurd (other_modes b a t s 1 0 one_and_zero v (blocks_bytes h a m has is w) (sym e))
+tells_once h size a b s t (Blocks at) (Plain at') (m, (is, w)) (has, (v4, v)) e p q = absurd (other_modes b a t s 2 0 two_and_zero v (blocks_bytes h a m has is w) (sym e))
+tells_once h size a b s t (Delta at) (Sweep at') (has, w) v e p q = absurd (one_zero b a t s (1 ∷ []) v w (sym e))
+tells_once h size a b s t (Delta at) (Blocks at') (has, w) (m, (is, v)) e p q = absurd (other_modes a b s t 1 0 one_and_zero w (blocks_bytes h b m has is v) e)
+tells_once h size a b s t (Delta at) (Delta at') (has, w) (has', v) e p q = ap Delta (same_place a b s t at at' size (w ∙ sym v) e p q)
+tells_once h size a b s t (Delta at) (Plain at') (has, w) (has', (v4, v)) e p q = absurd (other_modes a b s t 1 2 one_and_two w v e)
+tells_once h size a b s t (Plain at) (Sweep at') (has, (v4, w)) v e p q = absurd (one_zero b a t s (2 ∷ []) v w (sym e))
+tells_once h size a b s t (Plain at) (Blocks at') (has, (v4, w)) (m, (is, v)) e p q = absurd (other_modes a b s t 2 0 two_and_zero w (blocks_bytes h b m has is v) e)
+tells_once h size a b s t (Plain at) (Delta at') (has, (v4, w)) (has', v) e p q = absurd (other_modes b a t s 1 2 one_and_two v w (sym e))
+tells_once h size a b s t (Plain at) (Plain at') (has, (v4, w)) (has', (v4', v)) e p q = ap Plain (same_place a b s t at at' size (w ∙ sym v) e p q)
 tells_once h size a b s t Empty y w v e p q = absurd w
 tells_once h size a b s t Constant y w v e p q = absurd w
 tells_once h size a b s t Ranges y w v e p q = absurd w
-tells_once h size a b s t (Delta at) y w v e p q = absurd w
-tells_once h size a b s t (Plain at) y w v e p q = absurd w
 tells_once h size a b s t x Empty w v e p q = absurd v
 tells_once h size a b s t x Constant w v e p q = absurd v
 tells_once h size a b s t x Ranges w v e p q = absurd v
-tells_once h size a b s t x (Delta at) w v e p q = absurd v
-tells_once h size a b s t x (Plain at) w v e p q = absurd v
 
 -- the four kinds of forms
 data OfKind (h : Header) (size : ℕ) (rest : List ℕ) (form : ImageForm) : Type 0 where
@@ -185,8 +235,14 @@ empty-coded_outside h tell values (Blocks at) (mode, (m, is)) =
 empty-coded_outside h tell values Empty is = absurd is
 empty-coded_outside h tell values Constant is = absurd is
 empty-coded_outside h tell values Ranges is = absurd is
-empty-coded_outside h tell values (Delta at) is = absurd is
-empty-coded_outside h tell values (Plain at) is = absurd is
+empty-coded_outside h tell values (Delta at) (has, is) =
+    let o = outside None in
+    subst (λ (u : List ℕ). IsEmpty (coded_of o h (u ++ values))) (sym is)
+    (empty-zero o h (1 ∷ values) (empty-mode o h 1 values has (least_mode h.version) (empty-failed (◌≡◌ {A = ℕ} 1 0) (o.blocks values) (o.codes values) one_and_zero (λ p a w. w))))
+empty-coded_outside h tell values (Plain at) (has, (v4, is)) =
+    let o = outside None in
+    subst (λ (u : List ℕ). IsEmpty (coded_of o h (u ++ values))) (sym is)
+    (empty-zero o h (2 ∷ values) (empty-mode o h 2 values has (subst (λ (w : Version). 2 ≤ greatest_mode w) (sym v4) (omega arith)) (empty-failed (◌≡◌ {A = ℕ} 2 0) (o.blocks values) (o.codes values) two_and_zero (λ p a w. w))))
 
 abbrev fronted : Header → List ℕ → Faults BlobReason
 fronted h rest = in_order (IsFront h h.version) (front_faults h h.version) (behind_front outside h) rest
@@ -210,7 +266,7 @@ empty-form h size rest x w = empty-kind h size rest x (kind_of h size rest x w)
 
 -- what is not looked at has no fault
 single-outside : (front : Option Ends) → AreSingle (outside front)
-single-outside front = record { sweep = λ rest. single-none; blocks = λ rest. single-none; codes = λ rest. single-wrong NotYet 0 }
+single-outside front = record { sweep = λ rest. single-none; blocks = λ rest. single-none; codes = λ rest. single-none }
 
 pub one_form : (h : Header) (blob : List ℕ) (mask : MaskForm) → IsOne (IsImageForm h blob mask) (λ (f : BlobFault). image_part_faults h blob mask f.place f.reason)
 one_form h blob mask =

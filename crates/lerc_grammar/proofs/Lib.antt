@@ -3,7 +3,10 @@ pub mod Blobs
 pub mod Images
 pub mod Masks
 pub mod More
+pub mod Nearness
+pub mod Outlines
 pub mod Verdicts
+pub mod WholeVerdicts
 pub mod Exact
 pub mod Lists
 pub mod BlobDecided
@@ -22,3 +25,4 @@ pub mod CodedOnce
 pub mod Rising
 pub mod BlockRasters
 pub mod CodedDecided
+pub mod CodeParts

@@ -7,7 +7,7 @@ use Rattle.lerc_header.specs.Head.{i32_at}
 use Rattle.lerc_header.specs.declared.fault.BlobReason.{BlobReason}
 use Rattle.lerc_header.specs.declared.fault.BlobReason.TheVariants.{BadMaskLength, MaskMissing, PastEnd, Leftover}
 use Rattle.lerc_grammar.specs.Mask.{IsAlike, IsMaskLength, mask_faults_of, length_of, mixed_of, counted_of, in_mask_of, runs_faults, mask_faults}
-use Rattle.lerc_grammar.specs.Image.{Ends, AreEqual, IsBare, IsBlocksMode, Insides, insides, outside, mode_of, behind_zero, coded_of, behind_front, image_faults_of, image_faults}
+use Rattle.lerc_grammar.specs.Image.{Ends, AreEqual, IsBare, IsBlocksMode, Insides, insides, outside, mode_of, behind_zero, coded_of, behind_front, image_faults_of, image_faults, HasMode, greatest_mode}
 use Rattle.lerc_grammar.specs.Outline.{HasLists}
 
 -- the later tests of a chain
@@ -61,25 +61,23 @@ mask_inside pixels valid rest n p r other number some long w =
 
 -- ---- images
 
-mode_outside : (i : Insides) (h : Header) (rest : List ℕ) (p : ℕ) (r : BlobReason) → ((bytes : List ℕ) (q : ℕ) → (outside None).codes bytes q r → i.codes bytes q r)
-    → mode_of (outside None) h rest p r → mode_of i h rest p r
-mode_outside i h rest p r go (inl (some, inl (low, (at, (e, inl w))))) = absurd w.1
-mode_outside i h rest p r go (inl (some, inl (low, (at, (e, inr w))))) = inl (some, inl (low, (at, (e, inr (w.0, go (drop 1 rest) at w.1)))))
-mode_outside i h rest p r go (inl (some, inr w)) = inl (some, inr w)
-mode_outside i h rest p r go (inr w) = inr w
+mode_outside : (i : Insides) (h : Header) (rest : List ℕ) (p : ℕ) (r : BlobReason) → mode_of (outside None) h rest p r → mode_of i h rest p r
+mode_outside i h rest p r (inl (some, inl (low, (at, (e, inl w))))) = absurd w.1
+mode_outside i h rest p r (inl (some, inl (low, (at, (e, inr w))))) = absurd w.1
+mode_outside i h rest p r (inl (some, inr w)) = inl (some, inr w)
+mode_outside i h rest p r (inr w) = inr w
 
-coded_outside : (i : Insides) (h : Header) (rest : List ℕ) (p : ℕ) (r : BlobReason) → ((bytes : List ℕ) (q : ℕ) → (outside None).codes bytes q r → i.codes bytes q r)
-    → coded_of (outside None) h rest p r → coded_of i h rest p r
-coded_outside i h rest p r go (inl (some, inl (low, (at, (e, inl w))))) = absurd w.1
-coded_outside i h rest p r go (inl (some, inl (low, (at, (e, inr (other, inl (has, w))))))) =
-    inl (some, inl (low, (at, (e, inr (other, inl (has, mode_outside i h (drop 1 rest) at r go w))))))
-coded_outside i h rest p r go (inl (some, inl (low, (at, (e, inr (other, inr (no_, w))))))) = absurd w
-coded_outside i h rest p r go (inl (some, inr w)) = inl (some, inr w)
-coded_outside i h rest p r go (inr w) = inr w
+coded_outside : (i : Insides) (h : Header) (rest : List ℕ) (p : ℕ) (r : BlobReason) → coded_of (outside None) h rest p r → coded_of i h rest p r
+coded_outside i h rest p r (inl (some, inl (low, (at, (e, inl w))))) = absurd w.1
+coded_outside i h rest p r (inl (some, inl (low, (at, (e, inr (other, inl (has, w))))))) =
+    inl (some, inl (low, (at, (e, inr (other, inl (has, mode_outside i h (drop 1 rest) at r w))))))
+coded_outside i h rest p r (inl (some, inl (low, (at, (e, inr (other, inr (no_, w))))))) = absurd w
+coded_outside i h rest p r (inl (some, inr w)) = inl (some, inr w)
+coded_outside i h rest p r (inr w) = inr w
 
 behind_outside : (h : Header) (marks : List Bool) (front : Option Ends) (rest : List ℕ) (p : ℕ) (r : BlobReason) → behind_front outside h front rest p r → behind_front (insides h marks) h front rest p r
 behind_outside h marks front rest p r w =
-    failing_choice (AreEqual front) (coded_of (outside front) h rest) (coded_of (insides h marks front) h rest) (ends Leftover rest) p r (coded_outside (insides h marks front) h rest p r (λ bytes q x. x)) w
+    failing_choice (AreEqual front) (coded_of (outside front) h rest) (coded_of (insides h marks front) h rest) (ends Leftover rest) p r (coded_outside (insides h marks front) h rest p r) w
 
 -- what is wrong outside of the values is wrong with the image
 pub image_outside : (h : Header) (marks : List Bool) (rest : List ℕ) (p : ℕ) (r : BlobReason) → image_faults_of outside h rest p r → image_faults h marks rest p r
@@ -129,3 +127,8 @@ blocks_inside i h mode rest p r (inl m) w =
 blocks_inside i h mode rest p r (inr m) w =
     subst (λ (u : List ℕ). coded_of i h (0 ∷ (u ++ rest)) (1 + (length u + p)) r) (sym m.1)
     (subst (λ (q : ℕ). coded_of i h (0 ∷ rest) (1 + q) r) (let t : p ≡ 0 + p = omega arith in t) (zero_inside i h rest p r (inr (m.0, w))))
+
+-- what is wrong in a table and its words
+pub codes_inside : (i : Insides) (h : Header) (mode : ℕ) (rest : List ℕ) (p : ℕ) (r : BlobReason) → HasMode h → mode ≤ greatest_mode h.version → ¬ (mode ≡ 0) → i.codes rest p r
+    → coded_of i h (0 ∷ mode ∷ rest) (1 + (1 + p)) r
+codes_inside i h mode rest p r has low other w = zero_inside i h (mode ∷ rest) (1 + p) r (inl (has, inl (omega arith, inl (low, (p, (refl, inr (other, w)))))))

@@ -6,12 +6,15 @@ use Rattle.raster_values.specs.Raster.{Pixels, values_of}
 use Rattle.raster_values.specs.Values.{AreValues}
 use Rattle.raster_values.specs.Flat.{EachValid, marks_of}
 use Rattle.delta_mode.specs.Symbols.{IsByteType}
+use Rattle.delta_mode.specs.Deltas.{ArePlain}
+use Rattle.huff_codes.specs.Table.{IsCoding}
+use Rattle.lerc_grammar.specs.Codes.{AreAllDeltas, codes_faults}
 use Rattle.lerc_header.specs.declared.header.Header.{Header}
 use Rattle.lerc_header.specs.declared.header.Version.{Version}
 use Rattle.lerc_header.specs.declared.header.Version.TheVariants.{V3, V4}
 use Rattle.lerc_grammar.specs.Blocks.{AreBlocks, all_blocks, blocks_faults}
 use Rattle.lerc_header.specs.declared.fault.BlobReason.{BlobReason}
-use Rattle.lerc_header.specs.declared.fault.BlobReason.TheVariants.{NotYet, BadSweep, BadMode, PastEnd, Leftover}
+use Rattle.lerc_header.specs.declared.fault.BlobReason.TheVariants.{BadSweep, BadMode, PastEnd, Leftover}
 
 -- how many values an image has
 abbrev pub value_count : Header → ℕ
@@ -71,6 +74,12 @@ pub data IsCoded (h : Header) (front : Option Ends) (bytes : List ℕ) (r : Pixe
   -- the sweep byte 0, the mode byte where there is one, and the blocks
   blocks : (mode rest : List ℕ) → bytes ≡ 0 ∷ (mode ++ rest) → IsBlocksMode h mode → h.side ≤ 32 →
       AreBlocks h (marks_of r) (top_of h front) rest (all_blocks h r) → IsCoded h front bytes r
+  -- the sweep byte 0, the mode byte 1, and the symbols of the differences: depth outermost
+  delta : (rest symbols : List ℕ) → bytes ≡ 0 ∷ 1 ∷ rest → HasMode h →
+      IsCoding (value_count h) rest symbols → AreAllDeltas h r symbols → IsCoded h front bytes r
+  -- the sweep byte 0, in version 4 the mode byte 2, and the symbols of the values: depth innermost
+  plain : (rest symbols : List ℕ) → bytes ≡ 0 ∷ 2 ∷ rest → HasMode h → h.version ≡ V4 →
+      IsCoding (value_count h) rest symbols → ArePlain r symbols → IsCoded h front bytes r
 
 -- The bytes are the image of the raster. A later case stands only where no earlier one holds.
 pub data IsImage (h : Header) (bytes : List ℕ) (r : Pixels) : Type 0 where
@@ -150,11 +159,11 @@ abbrev pub insides : Header → List Bool → Option Ends → Insides
 insides h marks front = record {
   sweep = sweep_faults h;
   blocks = blocks_faults h marks (top_of h front);
-  codes = λ rest. wrong NotYet 0;
+  codes = codes_faults (value_count h);
 }
 
 abbrev pub outside : Option Ends → Insides
-outside front = record { sweep = λ rest. none; blocks = λ rest. none; codes = λ rest. wrong NotYet 0 }
+outside front = record { sweep = λ rest. none; blocks = λ rest. none; codes = λ rest. none }
 
 -- what is wrong first behind a mask of these marks
 abbrev pub image_faults : Header → List Bool → List ℕ → Faults BlobReason

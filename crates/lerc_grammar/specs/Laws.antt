@@ -4,7 +4,7 @@ use Rattle.raster_values.specs.Raster.{Pixels}
 use Rattle.lerc_header.specs.declared.fault.BlobReason.{BlobReason}
 use Rattle.first_fault.specs.Parts.{AreBytes}
 use Rattle.lerc_grammar.specs.Blob.{Blob}
-use Rattle.lerc_grammar.specs.Verdict.{FirstFault, Verdict, More, IsVerdict}
+use Rattle.lerc_grammar.specs.Verdict.{FirstFault, Verdict, More, IsVerdict, WholeVerdict, IsWholeVerdict}
 
 -- no bytes are a blob of two rasters
 abbrev pub NoTwoRasters : Type 0
@@ -27,3 +27,14 @@ VerdictStays = (bytes more : List ℕ) (v : Verdict) →
 -- and there is one, whatever the bytes are
 abbrev pub SomeVerdict : Type 0
 SomeVerdict = (bytes : List ℕ) → AreBytes bytes → (v : Verdict) × IsVerdict bytes v
+
+-- ---- whole inputs
+
+-- a whole input has one verdict at most
+abbrev pub OneWholeVerdict : Type 0
+OneWholeVerdict = (input : List ℕ) (v w : WholeVerdict) →
+    IsWholeVerdict input v → IsWholeVerdict input w → v ≡ w
+
+-- and it has one
+abbrev pub SomeWholeVerdict : Type 0
+SomeWholeVerdict = (input : List ℕ) → AreBytes input → (v : WholeVerdict) × IsWholeVerdict input v

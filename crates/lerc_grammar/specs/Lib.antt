@@ -1,10 +1,12 @@
 pub mod Blob
 pub mod Blocks
+pub mod Codes
 pub mod Image
 pub mod Laws
 pub mod Mask
 pub mod Near
 pub mod Outline
 pub mod Reasons
+pub mod Outlines
 pub mod Verdict
 pub mod inside

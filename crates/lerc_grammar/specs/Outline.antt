@@ -2,14 +2,15 @@
 use Rattle.std.specs.Prelude.{◌≡◌, ◌≢◌, ℕ, pos, ◌+◌, ◌*◌, ◌<◌, ◌≤◌, List, [], ◌∷◌, ◌++◌, length, drop, Option}
 use Rattle.first_fault.specs.Faults.{Faults, none, moved}
 use Rattle.lerc_header.specs.declared.header.Header.{Header}
+use Rattle.lerc_header.specs.declared.header.Version.TheVariants.{V4}
 use Rattle.lerc_header.specs.Head.{i32_at, head_length}
 use Rattle.lerc_header.specs.declared.fault.BlobReason.{BlobReason}
-use Rattle.lerc_grammar.specs.declared.outline.MaskForm.{MaskForm}
-use Rattle.lerc_grammar.specs.declared.outline.MaskForm.TheVariants.{Empty as NoneValid, Full, Runs}
-use Rattle.lerc_grammar.specs.declared.outline.ImageForm.{ImageForm}
-use Rattle.lerc_grammar.specs.declared.outline.ImageForm.TheVariants.{Empty, Constant, Ranges, Sweep, Blocks, Delta, Plain}
+use Rattle.lerc_grammar.specs.declared.parts.MaskForm.{MaskForm}
+use Rattle.lerc_grammar.specs.declared.parts.MaskForm.TheVariants.{Empty as NoneValid, Full, Runs}
+use Rattle.lerc_grammar.specs.declared.parts.ImageForm.{ImageForm}
+use Rattle.lerc_grammar.specs.declared.parts.ImageForm.TheVariants.{Empty, Constant, Ranges, Sweep, Blocks, Delta, Plain}
 use Rattle.lerc_grammar.specs.Mask.{IsAlike, mask_faults_of}
-use Rattle.lerc_grammar.specs.Image.{Ends, IsFront, AreEqual, IsBare, IsBlocksMode, outside, image_faults_of}
+use Rattle.lerc_grammar.specs.Image.{Ends, IsFront, AreEqual, IsBare, HasMode, IsBlocksMode, outside, image_faults_of}
 
 -- ---- the mask
 
@@ -51,6 +52,8 @@ pub record HasLists (h : Header) (rest : List ℕ) (front : Option Ends) (behind
 abbrev pub IsFormBytes : Header → List ℕ → ImageForm → Type 0
 IsFormBytes h bytes (Sweep at) = bytes ≡ 1 ∷ []
 IsFormBytes h bytes (Blocks at) = (mode : List ℕ) × (IsBlocksMode h mode × (bytes ≡ 0 ∷ mode))
+IsFormBytes h bytes (Delta at) = HasMode h × (bytes ≡ 0 ∷ 1 ∷ [])
+IsFormBytes h bytes (Plain at) = HasMode h × ((h.version ≡ V4) × (bytes ≡ 0 ∷ 2 ∷ []))
 IsFormBytes h bytes _ = ⊥
 
 -- the place that the form of coded values has

@@ -1,6 +1,7 @@
 //! Laws of the definitions.
 
-ghost use Rattle.lerc_grammar.specs.Laws.{NoTwoRasters, OneFirstFault, OneVerdict, SomeVerdict, VerdictStays};
+ghost use Rattle.lerc_grammar.specs.Laws.{NoTwoRasters, OneFirstFault, OneVerdict, SomeVerdict, OneWholeVerdict, SomeWholeVerdict, VerdictStays};
+ghost use Rattle.lerc_grammar.specs.Near.{NearItself, NearBothWays, NearJoined, NearWider, NearestIsSame};
 
 /// A law: no bytes have two rasters.
 pub fn no_two_rasters()
@@ -25,4 +26,28 @@ pub fn verdicts_stay()
 /// A law: bytes have a verdict.
 pub fn some_verdict()
     ensures { SomeVerdict }
+{}
+
+/// A law: a whole input has one verdict at most.
+pub fn one_whole_verdict()
+    ensures { OneWholeVerdict }
+{}
+
+/// A law: a whole input has a verdict.
+pub fn some_whole_verdict()
+    ensures { SomeWholeVerdict }
+{}
+
+/// A law: a raster is near itself, near rasters are near both ways and by every greater step, and
+/// over a third raster the steps add up.
+pub fn near_is_a_distance()
+    ensures itself { NearItself }
+    ensures both_ways { NearBothWays }
+    ensures joined { NearJoined }
+    ensures wider { NearWider }
+{}
+
+/// A law: rasters that are near by a step of 1, which stands for no error, are equal.
+pub fn nearest_is_same()
+    ensures { NearestIsSame }
 {}

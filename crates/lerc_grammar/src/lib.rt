@@ -2,7 +2,12 @@
 #![tactic(auto)]
 
 mod laws;
-mod outline;
+mod outlining;
+mod parts;
 
-pub use laws::{no_two_rasters, one_first_fault, one_verdict, some_verdict, verdicts_stay};
-pub use outline::{ImageForm, MaskForm, image_part, mask_part};
+pub use laws::{
+    near_is_a_distance, nearest_is_same, no_two_rasters, one_first_fault, one_verdict,
+    one_whole_verdict, some_verdict, some_whole_verdict, verdicts_stay,
+};
+pub use outlining::outline;
+pub use parts::{ImageForm, MaskForm, Outline, image_part, mask_part};

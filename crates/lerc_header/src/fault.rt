@@ -3,8 +3,6 @@
 /// Why a blob is refused, in the order of a blob's parts.
 #[derive(Clone, Copy, Debug, PartialEq, Eq)]
 pub enum BlobReason {
-    /// The bytes are no blob that this version of the library reads.
-    NotYet,
     /// The bytes end before the key and version, the header or the blob does.
     Truncated,
     /// The first six bytes are not `Lerc2 `.

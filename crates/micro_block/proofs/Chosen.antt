@@ -2,11 +2,9 @@
 use Rattle.std.proofs.Common.{◌≡◌, ℕ, zero, suc, ◌^◌, ◌<◌, ◌≤◌, ℤ, Bool, true, false, List, get_or, length, map, sym, ap, subst, ◌∙◌}
 use Rattle.std.specs.Prelude.{All, Some, None, not, ◌&&◌, nat_le}
 use Rattle.std.proofs.lemmas.Bool.{leb-true, ltb-true}
-use Rattle.std.proofs.lemmas.List.Elements.{All-weaker}
 use Rattle.raster_values.specs.declared.kind.PixelType.{PixelType}
 use Rattle.raster_values.specs.PixelType.{InRange}
 use Rattle.bit_stuff.specs.Simple.{greatest_number}
-use Rattle.lane_kernels.specs.Kernels.{IsSmall}
 use Rattle.lut_stuff.specs.Tables.{distinct_above_0, table_bytes, table_size}
 use Rattle.lut_stuff.proofs.Tabled.{distinct_some, table_size_some}
 use Rattle.micro_block.specs.declared.choosing.BlockForm.{BlockForm}
@@ -16,9 +14,8 @@ use Rattle.micro_block.specs.Choice.{Form, least_value, quantised_values, is_fla
 use Rattle.micro_block.specs.Near.{quantised}
 use Rattle.micro_block.specs.inside.Forms.{form_at, named, May, IsChosen, AreListable}
 use Rattle.micro_block.specs.inside.Sizes.{IsFound}
-use Rattle.micro_block.proofs.Range.{small}
-use Rattle.micro_block.proofs.SizeSteps.{all_above, all_few}
-use Rattle.micro_block.proofs.Written.{allowed_some, some_same, chosen_may, left, right, some_above_0, least_in_range}
+use Rattle.micro_block.proofs.SizeSteps.{listable_below}
+use Rattle.micro_block.proofs.Written.{allowed_some, some_same, chosen_may, left, right, some_above_0}
 
 -- what stands at a place of the candidates is the form of that place
 pub placed : (step : ℕ) (values : List ℤ) (form : Form) (k : ℕ) → get_or (forms step values) k None ≡ Some form → named (form_at k) ≡ form
@@ -60,16 +57,7 @@ table_may step values h =
 
 -- what is asked of values for a list, where their form has one
 pub listable : (kind : PixelType) (step : ℕ) (values : List ℤ) (m : ℤ) → length values ≤ 256 → All (InRange kind) values → 0 < step → step ≤ 8589934592 → m ≡ least_value values → May step values choice.simple → AreListable step m values
-listable kind step values m few fits some most is may =
-    record {
-      count = few;
-      small = All-weaker (InRange kind) IsSmall (λ v h. small kind v h) values fits;
-      small_least = subst (λ (z : ℤ). IsSmall z) (sym is) (small kind (least_value values) (least_in_range kind values fits));
-      order = all_above values m is;
-      some = some;
-      step_fits = most;
-      few = all_few values step (2 ^ 30) m is (simple_few step values may);
-    }
+listable kind step values m few fits some most is may = listable_below kind step values m few fits some most is (simple_few step values may)
 
 pub tabled_listable : (kind : PixelType) (step : ℕ) (values : List ℤ) (m : ℤ) → length values ≤ 256 → All (InRange kind) values → 0 < step → step ≤ 8589934592 → m ≡ least_value values → May step values choice.table → AreListable step m values
 tabled_listable kind step values m few fits some most is may = listable kind step values m few fits some most is (table_may step values may)

@@ -1,5 +1,5 @@
 -- The sizes of the forms by numbers alone.
-use Rattle.std.proofs.Common.{◌≡◌, ℕ, suc, ◌+◌, ◌*◌, ◌<◌, ℤ, Bool, true, false, List, [], ◌∷◌, length, get_or, map, refl, sym, ap, subst, ◌∙◌, arith, length-append, inl, inr}
+use Rattle.std.proofs.Common.{◌≡◌, ℕ, zero, suc, ◌+◌, ◌*◌, ◌<◌, ℤ, Bool, true, false, List, [], ◌∷◌, length, get_or, map, refl, sym, ap, subst, ◌∙◌, arith, length-append, inl, inr, ◌≤◌, ◌^◌}
 use Rattle.std.specs.Prelude.{Option, Some, None, not, ◌&&◌, nat_eq, nat_lt, nat_le, unsigned_abs, unwrap_or, MatchOption, if◌then◌else◌}
 use Rattle.std.specs.Option.{option_map}
 use Rattle.std.proofs.lemmas.List.{length-map}
@@ -12,8 +12,8 @@ use Rattle.bit_stuff.specs.Simple.{greatest_number, simple_bytes, binary_digits,
 use Rattle.bit_stuff.proofs.HeadLaws.{length-simple_bytes}
 use Rattle.micro_block.specs.Fewest.{allowed, first_least, IsFirstLeast}
 use Rattle.micro_block.specs.Near.{quantised}
-use Rattle.micro_block.specs.inside.Sizes.{closed_sizes, table_form, tabled_size, AreEnds, IsFound}
-use Rattle.lut_stuff.specs.Tables.{distinct_above_0, table_bytes}
+use Rattle.micro_block.specs.inside.Sizes.{closed_sizes, table_form, tabled_size, AreEnds, IsFound, IsTabledLength}
+use Rattle.lut_stuff.specs.Tables.{distinct_above_0, table_bytes, table_size}
 use Rattle.lut_stuff.proofs.Tabled.{distinct_some}
 use Rattle.std.proofs.lemmas.Bool.{cases_lt, lt-ltb}
 use Rattle.micro_block.specs.Choice as choice
@@ -112,12 +112,68 @@ chosen_size kind col step values k n is =
     same_some : (a b : ℕ) → Some a ≡ Some b → a ≡ b
     same_some a b e = cc
 
+-- a table form that is no shorter than the simple form may be left out
+left_out : (kind : PixelType) (n most : ℕ) (least : ℤ) (tabled : Option ℕ) (k p : ℕ)
+    → ((m : ℕ) → tabled ≡ Some m → ((not (nat_eq most 0) && nat_lt most (2 ^ 30)) ≡ true) × (head_size n + stuffed_size n (binary_digits most) ≤ m))
+    → IsFirstLeast (λ m. m) (closed_sizes kind n least most None) k p → IsFirstLeast (λ m. m) (closed_sizes kind n least most tabled) k p
+left_out kind n most least None k p longer is = is
+left_out kind n most least (Some m) k p longer is = record { there = there_at k is.there; least = least_at; first = first_at }
+  where
+    there_at : (k : ℕ) → get_or (closed_sizes kind n least most None) k None ≡ Some p → get_or (closed_sizes kind n least most (Some m)) k None ≡ Some p
+    there_at zero e = e
+    there_at (suc zero) e = e
+    there_at (suc (suc zero)) e = e
+    there_at (suc (suc (suc zero))) e = e
+    there_at (suc (suc (suc (suc zero)))) e = absurd (cc)
+    there_at (suc (suc (suc (suc (suc k))))) e = absurd (cc)
+
+    below : (k : ℕ) → get_or (closed_sizes kind n least most None) k None ≡ Some p → k < 4
+    below zero e = omega arith
+    below (suc zero) e = omega arith
+    below (suc (suc zero)) e = omega arith
+    below (suc (suc (suc zero))) e = omega arith
+    below (suc (suc (suc (suc zero)))) e = absurd (cc)
+    below (suc (suc (suc (suc (suc k))))) e = absurd (cc)
+
+    simple : p ≤ 1 + (bytes_of (narrow_type kind least) + (head_size n + stuffed_size n (binary_digits most)))
+    simple = is.least 3 (1 + (bytes_of (narrow_type kind least) + (head_size n + stuffed_size n (binary_digits most)))) (ap (λ b. allowed b (1 + (bytes_of (narrow_type kind least) + (head_size n + stuffed_size n (binary_digits most))))) (longer m refl).0)
+
+    least_at : (i y : ℕ) → get_or (closed_sizes kind n least most (Some m)) i None ≡ Some y → p ≤ y
+    least_at zero y e = is.least 0 y e
+    least_at (suc zero) y e = is.least 1 y e
+    least_at (suc (suc zero)) y e = is.least 2 y e
+    least_at (suc (suc (suc zero))) y e = is.least 3 y e
+    least_at (suc (suc (suc (suc zero)))) y e = let same : table_form kind least m ≡ y = cc in let le = (longer m refl).1 in omega (arith, same, le, simple)
+    least_at (suc (suc (suc (suc (suc i))))) y e = absurd (cc)
+
+    first_at : (i y : ℕ) → i < k → get_or (closed_sizes kind n least most (Some m)) i None ≡ Some y → p < y
+    first_at zero y less e = is.first 0 y less e
+    first_at (suc zero) y less e = is.first 1 y (omega (arith, less)) e
+    first_at (suc (suc zero)) y less e = is.first 2 y (omega (arith, less)) e
+    first_at (suc (suc (suc zero))) y less e = is.first 3 y (omega (arith, less)) e
+    first_at (suc (suc (suc (suc i)))) y less e = absurd (let low = below k is.there in omega (arith, low, less))
+
+test_holds : (b : Bool) (t : Option ℕ) (m : ℕ) → (if b then t else None) ≡ Some m → b ≡ true
+test_holds true t m e = refl
+test_holds false t m e = absurd (cc)
+
+-- the first least of the sizes that were found
+firsts : (kind : PixelType) (step : ℕ) (values : List ℤ) (sizes : List (Option ℕ)) (tabled : Option ℕ) (k p : ℕ) → IsTabledLength step values tabled
+    → sizes ≡ closed_sizes kind (length values) (least_value values) (greatest_number (quantised_values step values)) tabled → IsFirstLeast (λ m. m) sizes k p
+    → IsFirstLeast (λ m. m) (closed_sizes kind (length values) (least_value values) (greatest_number (quantised_values step values)) (tabled_size step values)) k p
+firsts kind step values sizes tabled k p (inl e) all is =
+    subst (λ xs. IsFirstLeast (λ m. m) xs k p) (all ∙ ap (closed_sizes kind (length values) (least_value values) (greatest_number (quantised_values step values))) e) is
+firsts kind step values sizes tabled k p (inr h) all is =
+    left_out kind (length values) (greatest_number (quantised_values step values)) (least_value values) (tabled_size step values) k p
+    (λ m e. (test_holds (not (is_flat step values) && is_stuffable step values) (table_size (quantised_values step values)) m e, h.1 m e))
+    (subst (λ xs. IsFirstLeast (λ m. m) xs k p) (all ∙ ap (closed_sizes kind (length values) (least_value values) (greatest_number (quantised_values step values))) h.0) is)
+
 pub found : (kind : PixelType) (col step : ℕ) (values : List ℤ) (sizes : List (Option ℕ)) (least greatest : ℤ) (most : ℕ) (tabled : Option ℕ) (first : Option (ℕ × ℕ)) (p : ℕ × ℕ)
-    → 0 < step → AreEnds kind values least greatest → most ≡ quantised step least greatest → tabled ≡ tabled_size step values → sizes ≡ closed_sizes kind (length values) least most tabled
+    → 0 < step → AreEnds kind values least greatest → most ≡ quantised step least greatest → IsTabledLength step values tabled → sizes ≡ closed_sizes kind (length values) least most tabled
     → MatchOption first ((i n : ℕ) → get_or sizes i None ≡ Some n → ⊥) (λ q. IsFirstLeast (λ m. m) sizes q.0 q.1) → p ≡ unwrap_or first (2, 0)
     → IsFound kind col step values p
 found kind col step values sizes least greatest most tabled None p some ends most_is tabled_is sizes_is none e = absurd (none 2 (1 + length values * bytes_of kind) (ap (λ xs. get_or xs 2 None) sizes_is))
 found kind col step values sizes least greatest most tabled (Some q) p some ends most_is tabled_is sizes_is is_first e =
-    let all : sizes ≡ closed_sizes kind (length values) (least_value values) (greatest_number (quantised_values step values)) (tabled_size step values) = sizes_is ∙ (λ i. closed_sizes kind (length values) (ends.least_is i) ((most_is ∙ ends.most step some) i) (tabled_is i)) in
-    let is = subst (λ xs. IsFirstLeast (λ m. m) xs q.0 q.1) all is_first in
+    let all : sizes ≡ closed_sizes kind (length values) (least_value values) (greatest_number (quantised_values step values)) tabled = sizes_is ∙ (λ i. closed_sizes kind (length values) (ends.least_is i) ((most_is ∙ ends.most step some) i) tabled) in
+    let is = firsts kind step values sizes tabled q.0 q.1 tabled_is all is_first in
     subst (IsFound kind col step values) (sym e) (record { form = chosen_at kind col step values q.0 q.1 is; size = chosen_size kind col step values q.0 q.1 is })

@@ -1,12 +1,14 @@
 pub mod Blocks
-pub mod BlockSteps
-pub mod Fewest
-pub mod Near
 pub mod Written
-pub mod Fast
-pub mod Steps
-pub mod Closed
-pub mod Range
-pub mod SizeSteps
-pub mod Chosen
-pub mod WriteSteps
+pub mod BlockSteps
+mod Fewest
+mod Near
+mod Fast
+mod Steps
+mod Closed
+mod Range
+mod SizeSteps
+mod Chosen
+mod WriteSteps
+mod QuantiseSteps
+mod ShortTables

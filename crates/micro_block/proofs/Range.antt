@@ -60,7 +60,7 @@ most_is step (v ∷ vs) m g some least (at, all) =
 none_most : (step : ℕ) → 0 < step → quantised step (pos 0) (pos 0) ≡ 0
 none_most step some = let low = div_below (0 + step) (2 * step) 1 (omega (arith, some)) (omega (arith, some)) in let z : quantised step (pos 0) (pos 0) < 1 = low in omega (arith, z)
 
-in_list : (P : ℤ → Type 0) (vs : List ℤ) (m : ℤ) → Contains vs m → All P vs → P m
+pub in_list : (P : ℤ → Type 0) (vs : List ℤ) (m : ℤ) → Contains vs m → All P vs → P m
 in_list P vs m at all = subst P at.2 (all at.0 m at.1)
 
 pub ends_some : (kind : PixelType) (vs : List ℤ) (l g : ℤ) → IsLeast vs l × IsGreatest vs g → All (InRange kind) vs → AreEnds kind vs l g

@@ -1,6 +1,9 @@
 -- Steps of finding how long a block is, and of quantising.
-use Rattle.std.proofs.Common.{◌≡◌, ℕ, suc, ℤ, pos, ◌^◌, ◌<◌, ◌≤◌, ◌-ℤ◌, ◌≤ℤ◌, List, [], ◌∷◌, length, get_or, map, refl, sym, ap, ◌∙◌, subst, arith, inl, inr}
-use Rattle.std.specs.Prelude.{All, IfSome, Option, Some, None, unsigned_abs}
+use Rattle.std.proofs.Common.{◌≡◌, ℕ, suc, ℤ, pos, ◌+◌, ◌^◌, ◌<◌, ◌≤◌, ◌-ℤ◌, ◌≤ℤ◌, List, [], ◌∷◌, length, get_or, map, refl, sym, ap, ◌∙◌, subst, arith, inl, inr}
+use Rattle.std.specs.Prelude.{All, IfSome, Bool, true, false, Option, Some, None, not, ◌&&◌, nat_eq, nat_lt, unsigned_abs, if◌then◌else◌}
+use Rattle.std.proofs.lemmas.List.{length-map}
+use Rattle.micro_block.specs.inside.Shorter.{IsLong}
+use Rattle.micro_block.specs.inside.Sizes.{IsTabledLength}
 use Rattle.std.proofs.lemmas.Bool.{cases_lt}
 use Rattle.std.proofs.lemmas.Bool.Decides.{nat_tests}
 use Rattle.std.proofs.lemmas.Int.{ints}
@@ -10,13 +13,18 @@ use Rattle.bit_stuff.specs.Simple.{binary_digits, greatest_number, width_of}
 use Rattle.bit_stuff.specs.Stuffed.{stuffed_size}
 use Rattle.bit_stuff.proofs.Digits.{digits-le, width_of-le}
 use Rattle.bit_stuff.proofs.StuffedLaws.{stuffed_size-le}
-use Rattle.lane_kernels.specs.Kernels.{differences}
+use Rattle.lane_kernels.specs.Kernels.{differences, IsSmall}
 use Rattle.lut_stuff.specs.Tables.{distinct_above_0, table_size}
 use Rattle.lut_stuff.proofs.Tabled.{has_size, length-table_bytes}
-use Rattle.micro_block.specs.Choice.{least_value, quantised_values}
+use Rattle.micro_block.specs.Choice.{least_value, quantised_values, is_flat, is_stuffable}
 use Rattle.micro_block.specs.Near.{quantised}
 use Rattle.micro_block.proofs.Fast.{step_one}
-use Rattle.micro_block.proofs.Written.{each_quantised, least_below}
+use Rattle.micro_block.proofs.Written.{each_quantised, least_below, least_in_range}
+use Rattle.micro_block.proofs.BlockSteps.{is_small}
+use Rattle.micro_block.specs.inside.Forms.{AreListable}
+use Rattle.raster_values.specs.declared.kind.PixelType.{PixelType}
+use Rattle.raster_values.specs.PixelType.{InRange}
+use Rattle.std.proofs.lemmas.Simd.{map-map}
 
 -- a head takes at most five bytes
 pub head_few : (n : ℕ) → head_size n ≤ 5
@@ -69,3 +77,67 @@ differences_are values out x least step one same above e =
   where
     distance : (v m : ℤ) (q : ℕ) → m ≤ℤ v → q ≡ unsigned_abs (v -ℤ m) → v -ℤ m ≡ pos q
     distance v m q le e = omega (arith, ints)
+
+-- what is asked of values for a list, where none has too many steps
+pub listable_below : (kind : PixelType) (step : ℕ) (values : List ℤ) (m : ℤ) → length values ≤ 256 → All (InRange kind) values → 0 < step → step ≤ 8589934592 → m ≡ least_value values
+    → greatest_number (quantised_values step values) < 2 ^ 30 → AreListable step m values
+listable_below kind step values m few fits some most is below =
+    record {
+      count = few;
+      small = All-weaker (InRange kind) IsSmall (λ v h. is_small kind v h) values fits;
+      small_least = subst (λ (z : ℤ). IsSmall z) (sym is) (is_small kind (least_value values) (least_in_range kind values fits));
+      order = all_above values m is;
+      some = some;
+      step_fits = most;
+      few = all_few values step (2 ^ 30) m is below;
+    }
+
+-- the numbers of steps with a sign, and without it
+pub unsigned_steps : (values : List ℤ) (step : ℕ) (m : ℤ) → map unsigned_abs (map (λ v. pos (quantised step m v)) values) ≡ map (quantised step m) values
+unsigned_steps values step m = map-map unsigned_abs (λ v. pos (quantised step m v)) values
+
+pub steps_fit : (values wide : List ℤ) (step : ℕ) (m : ℤ) → wide ≡ map (λ v. pos (quantised step m v)) values → All (λ v. quantised step m v < 2 ^ 30) values → All (λ z. (pos 0 ≤ℤ z) × (z ≤ℤ pos 4294967295)) wide
+steps_fit values wide step m e few =
+    subst (λ (u : List ℤ). All (λ z. (pos 0 ≤ℤ z) × (z ≤ℤ pos 4294967295)) u) (sym e)
+    (All-map (λ z. (pos 0 ≤ℤ z) × (z ≤ℤ pos 4294967295)) (λ v. pos (quantised step m v)) values
+    (All-weaker (λ v. quantised step m v < 2 ^ 30) (λ v. (pos 0 ≤ℤ pos (quantised step m v)) × (pos (quantised step m v) ≤ℤ pos 4294967295)) (λ v below. (omega (arith, ints), omega (arith, ints, below))) values few))
+
+-- ---- where the table form is no shorter
+
+-- a table of more entries than the bound is no shorter
+pub longer_found : (values : List ℤ) (step bound : ℕ) → 0 < greatest_number (quantised_values step values) → bound < distinct_above_0 (quantised_values step values)
+    → ((d : ℕ) → bound < d → d ≤ 254 → IsLong (length values) (binary_digits (greatest_number (quantised_values step values))) d) → IsTabledLength step values None
+longer_found values step bound some more long = inr (refl, λ n e. longer n (of_test (not (is_flat step values) && is_stuffable step values) n e))
+  where
+    of_test : (b : Bool) (n : ℕ) → (if b then table_size (quantised_values step values) else None) ≡ Some n → table_size (quantised_values step values) ≡ Some n
+    of_test true n e = e
+    of_test false n e = absurd (cc)
+
+    longer : (n : ℕ) → table_size (quantised_values step values) ≡ Some n
+        → head_size (length values) + stuffed_size (length values) (binary_digits (greatest_number (quantised_values step values))) ≤ n
+    longer n e =
+        let qs = quantised_values step values in
+        let h = has_size qs n e in
+        let l = long (distinct_above_0 qs) more h.1.0 in
+        let long_is = length-table_bytes qs in
+        let count : length qs ≡ length values = length-map values (quantised step (least_value values)) in
+        let size : stuffed_size (length qs) (binary_digits (distinct_above_0 qs)) ≡ stuffed_size (length values) (binary_digits (distinct_above_0 qs)) = ap (λ (k : ℕ). stuffed_size k (binary_digits (distinct_above_0 qs))) count in
+        let head : head_size (length qs) ≡ head_size (length values) = ap head_size count in
+        omega (arith, h.1.1, l, long_is, size, head)
+
+-- no table at all
+pub none_found : (values : List ℤ) (step : ℕ) → (not (is_flat step values) && is_stuffable step values) ≡ false → IsTabledLength step values None
+none_found values step e = inl (ap (λ b. if b then table_size (quantised_values step values) else None) (sym e))
+
+pub flat_none : (values : List ℤ) (step : ℕ) → greatest_number (quantised_values step values) ≡ 0 → (not (is_flat step values) && is_stuffable step values) ≡ false
+flat_none values step e = ap (λ (n : ℕ). not (nat_eq n 0) && nat_lt n (2 ^ 30)) e
+
+pub far_none : (values : List ℤ) (step : ℕ) → 2 ^ 30 ≤ greatest_number (quantised_values step values) → (not (is_flat step values) && is_stuffable step values) ≡ false
+far_none values step far = grind (arith, nat_tests)
+
+-- a table where there may be one
+pub exact_found : (values : List ℤ) (step : ℕ) (found : Option ℕ) → 0 < greatest_number (quantised_values step values) → greatest_number (quantised_values step values) < 2 ^ 30 → found ≡ table_size (quantised_values step values) → IsTabledLength step values found
+exact_found values step found some few e = inl (e ∙ ap (λ b. if b then table_size (quantised_values step values) else None) (sym both))
+  where
+    both : (not (is_flat step values) && is_stuffable step values) ≡ true
+    both = grind (arith, nat_tests)

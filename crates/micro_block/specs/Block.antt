@@ -22,8 +22,8 @@ offset_types U32 = Some U32 ∷ Some U16 ∷ Some U8 ∷ []
 abbrev pub offset_type : PixelType → ℕ → Option PixelType
 offset_type kind code = get_or (offset_types kind) code None
 
--- bits 0 and 1 of the tag are the form, bits 2 to 5 the block's column, bits 6 and 7 the code of the
--- offset's type
+-- bits 0 and 1 of the tag are the form, bits 2 to 5 the block's column, bits 6 and 7 the code of
+-- the offset's type
 pub record IsTag (f : Frame) (tag form code : ℕ) : Type 0 where
   pub form_bits : tag % 4 ≡ form
   pub column_bits : tag / 4 % 16 ≡ f.col / 8 % 16
@@ -36,10 +36,10 @@ pub record IsOffset (kind : PixelType) (code : ℕ) (bytes : List ℕ) (offset :
   pub size : length bytes ≡ bytes_of type
   pub spells : Spells type bytes offset
 
--- The bytes are a block of the values: in the raw form the values stand as they are; in the stuffed form
--- an offset and a list of numbers, each value being so many steps from the offset, or the top where that
--- is less; in the zero form nothing, each value being 0; in the constant form an offset, each value being
--- it. The code's bits mean nothing in the raw and in the zero form.
+-- The bytes are a block of the values: in the raw form the values stand as they are; in the stuffed
+-- form an offset and a list of numbers, each value being so many steps from the offset, or the top
+-- where that is less; in the zero form nothing, each value being 0; in the constant form an offset,
+-- each value being it. The code's bits mean nothing in the raw and in the zero form.
 pub data IsBlock (f : Frame) (bytes : List ℕ) (values : List ℤ) : Type 0 where
   raw : (tag code : ℕ) (rest : List ℕ) → bytes ≡ tag ∷ rest → IsTag f tag 0 code
       → length values ≡ f.count → AreValues f.kind rest values → IsBlock f bytes values

@@ -1,5 +1,7 @@
 -- The block that is written for given values, of all those that could be.
-use Rattle.std.specs.Prelude.{ℕ, ℤ, pos, ◌+◌, ◌*◌, ◌/◌, ◌%◌, ◌^◌, Bool, ◌&&◌, not, nat_eq, nat_le, nat_lt, int_le, if◌then◌else◌, List, [], ◌∷◌, ◌++◌, length, map, Option, Some, unwrap_or, unsigned_abs, fold}
+use Rattle.std.specs.Prelude.{ℕ, ℤ, pos, ◌+◌, ◌*◌, ◌/◌, ◌%◌, ◌^◌, Bool, ◌&&◌, not, nat_eq, nat_le}
+use Rattle.std.specs.Prelude.{nat_lt, int_le, if◌then◌else◌, List, [], ◌∷◌, ◌++◌, length, map}
+use Rattle.std.specs.Prelude.{Option, Some, unwrap_or, unsigned_abs, fold}
 use Rattle.std.specs.Int.{int_min}
 use Rattle.raster_values.specs.declared.kind.PixelType.{PixelType}
 use Rattle.raster_values.specs.declared.kind.PixelType.TheVariants.{I8, U8, I16, U16, I32, U32}
@@ -29,7 +31,8 @@ narrowest I8 v = 0
 narrowest U8 v = 0
 narrowest I16 v = if holds I8 v then 2 else (if holds U8 v then 1 else 0)
 narrowest U16 v = if holds U8 v then 1 else 0
-narrowest I32 v = if holds U8 v then 3 else (if holds I16 v then 2 else (if holds U16 v then 1 else 0))
+narrowest I32 v =
+    if holds U8 v then 3 else (if holds I16 v then 2 else (if holds U16 v then 1 else 0))
 narrowest U32 v = if holds U8 v then 2 else (if holds U16 v then 1 else 0)
 
 abbrev pub narrow_type : PixelType → ℤ → PixelType
@@ -37,7 +40,8 @@ narrow_type I8 v = I8
 narrow_type U8 v = U8
 narrow_type I16 v = if holds I8 v then I8 else (if holds U8 v then U8 else I16)
 narrow_type U16 v = if holds U8 v then U8 else U16
-narrow_type I32 v = if holds U8 v then U8 else (if holds I16 v then I16 else (if holds U16 v then U16 else I32))
+narrow_type I32 v =
+    if holds U8 v then U8 else (if holds I16 v then I16 else (if holds U16 v then U16 else I32))
 narrow_type U32 v = if holds U8 v then U8 else (if holds U16 v then U16 else U32)
 
 unfoldable pub offset_bytes : PixelType → ℤ → List ℕ
@@ -57,10 +61,16 @@ tag_byte col form code = form + 4 * (col / 8 % 16) + 64 * code
 
 unfoldable pub form_bytes : PixelType → ℕ → ℕ → List ℤ → Form → List ℕ
 form_bytes kind col step values zero = tag_byte col 2 0 ∷ []
-form_bytes kind col step values constant = tag_byte col 3 (narrowest kind (least_value values)) ∷ offset_bytes kind (least_value values)
+form_bytes kind col step values constant =
+    tag_byte col 3 (narrowest kind (least_value values)) ∷ offset_bytes kind (least_value values)
 form_bytes kind col step values raw = tag_byte col 0 0 ∷ values_bytes kind values
-form_bytes kind col step values simple = tag_byte col 1 (narrowest kind (least_value values)) ∷ (offset_bytes kind (least_value values) ++ numbers.simple_bytes (quantised_values step values))
-form_bytes kind col step values table = tag_byte col 1 (narrowest kind (least_value values)) ∷ (offset_bytes kind (least_value values) ++ table_bytes (quantised_values step values))
+form_bytes kind col step values simple =
+    tag_byte col 1 (narrowest kind (least_value values))
+    ∷ (offset_bytes kind (least_value values)
+    ++ numbers.simple_bytes (quantised_values step values))
+form_bytes kind col step values table =
+    tag_byte col 1 (narrowest kind (least_value values))
+    ∷ (offset_bytes kind (least_value values) ++ table_bytes (quantised_values step values))
 
 -- all are within half a step of the least
 abbrev pub is_flat : ℕ → List ℤ → Bool
@@ -76,15 +86,19 @@ forms step values =
     ∷ allowed (is_flat step values && nat_lt 0 (length values)) constant
     ∷ Some raw
     ∷ allowed (not (is_flat step values) && is_stuffable step values) simple
-    ∷ allowed (not (is_flat step values) && (is_stuffable step values && nat_le (distinct_above_0 (quantised_values step values)) 254)) table
+    ∷ allowed (not (is_flat step values) && (is_stuffable step values
+    && nat_le (distinct_above_0 (quantised_values step values)) 254)) table
     ∷ []
 
 -- the first of those with the fewest bytes
 unfoldable pub chosen_form : PixelType → ℕ → ℕ → List ℤ → Form
-chosen_form kind col step values = unwrap_or (first_least (λ form. length (form_bytes kind col step values form)) (forms step values)) raw
+chosen_form kind col step values =
+    unwrap_or (first_least (λ form. length (form_bytes kind col step values form))
+    (forms step values)) raw
 
 unfoldable pub block_bytes : PixelType → ℕ → ℕ → List ℤ → List ℕ
-block_bytes kind col step values = form_bytes kind col step values (chosen_form kind col step values)
+block_bytes kind col step values =
+    form_bytes kind col step values (chosen_form kind col step values)
 
 -- ---- what the written block stands for
 
@@ -97,4 +111,5 @@ kept_by simple step top least v = stands_for step top least (quantised step leas
 kept_by table step top least v = stands_for step top least (quantised step least v)
 
 unfoldable pub kept : PixelType → ℕ → ℕ → ℤ → List ℤ → ℤ → ℤ
-kept kind col step top values v = kept_by (chosen_form kind col step values) step top (least_value values) v
+kept kind col step top values v =
+    kept_by (chosen_form kind col step values) step top (least_value values) v

@@ -26,7 +26,8 @@ raw_faults f rest =
 abbrev pub offset_faults : Frame → ℕ → PixelType → List ℕ → Faults BlockReason
 offset_faults f form type rest =
     unless (bytes_of type ≤ length rest) (wrong reasons.Cut 0)
-    (choice (form ≡ 1) (moved (bytes_of type) (told_of_list (list_faults f.count (drop (bytes_of type) rest)))) none)
+    (choice (form ≡ 1) (moved (bytes_of type)
+    (told_of_list (list_faults f.count (drop (bytes_of type) rest)))) none)
 
 -- the code of the offset's type is one of the pixel type's
 abbrev pub code_faults : Frame → ℕ → Option PixelType → List ℕ → Faults BlockReason
@@ -47,4 +48,5 @@ tag_faults f tag rest =
 -- the first fault of a block
 unfoldable pub block_faults : Frame → List ℕ → Faults BlockReason
 block_faults f bytes =
-    unless (0 < length bytes) (wrong reasons.Cut 0) (tag_faults f (slice_index bytes 0) (drop 1 bytes))
+    unless (0 < length bytes) (wrong reasons.Cut 0)
+    (tag_faults f (slice_index bytes 0) (drop 1 bytes))

@@ -2,3 +2,5 @@
 pub mod Tagged
 pub mod Sizes
 pub mod Forms
+pub mod Products
+pub mod Shorter

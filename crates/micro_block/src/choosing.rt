@@ -53,8 +53,8 @@ fn form_at(place: usize) -> BlockForm
     }
 }
 
-/// The place, in the order of the forms, of the form that is chosen for the values, and the length of
-/// the block.
+/// The place, in the order of the forms, of the form that is chosen for the values, and the length
+/// of the block.
 fn found(values: &[i64], kind: PixelType, least: i64, greatest: i64, step: u64) -> (usize, usize)
     requires few { length values.now ≤ 256 }
     requires in_range { All (InRange kind) values.now }
@@ -84,15 +84,16 @@ pub(crate) fn choose(values: &[i64], kind: PixelType, step: u64) -> Chosen
     }
 }
 
-/// How many bytes the chosen block of the values takes: that of the fewest bytes among the forms zero,
-/// constant, raw, stuffed with a simple list and stuffed with a table, of which the first where two take
-/// as many.
+/// How many bytes the chosen block of the values takes: that of the fewest bytes among the forms
+/// zero, constant, raw, stuffed with a simple list and stuffed with a table, of which the first
+/// where two take as many.
 pub fn block_len(values: &[i64], ctx: &BlockCtx) -> usize
     requires few { length values.now ≤ 256 }
     requires ctx { IsBlockCtx ctx.now }
     requires in_range { All (InRange ctx.now.kind) values.now }
     requires capped { All (λ v. v ≤ℤ ctx.now.top) values.now }
-    ensures { result ≡ length (choice.block_bytes ctx.now.kind ctx.now.col ctx.now.step values.now) }
+    ensures { result
+        ≡ length (choice.block_bytes ctx.now.kind ctx.now.col ctx.now.step values.now) }
 {
     choose(values, ctx.kind, ctx.step).size
 }

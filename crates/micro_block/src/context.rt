@@ -3,8 +3,8 @@
 use bit_stuff::ListReason;
 use raster_values::PixelType;
 
-/// What a block depends on besides its values. Always: `top` is one of the type's values, and `step` is
-/// 1, or even and from 2 to 2^33 - 2.
+/// What a block depends on besides its values. Always: `top` is one of the type's values, and
+/// `step` is 1, or even and from 2 to 2^33 - 2.
 #[derive(Clone, Copy, Debug, PartialEq, Eq)]
 pub struct BlockCtx {
     /// The type of the raster's values.

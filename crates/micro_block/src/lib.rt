@@ -1,8 +1,8 @@
-//! Micro blocks: the values of one depth of a few rows and columns, raw, as numbers of steps from an
-//! offset, or all alike.
+//! Micro blocks: the values of one depth of a few rows and columns, raw, as numbers of steps from
+//! an offset, or all alike.
 //!
-//! The crate stands on `raster_values`, `bit_stuff`, `lut_stuff` and `lane_kernels`, and takes no memory.
-//! The layer above uses one contract: bytes are a block of these values, both ways.
+//! The crate stands on `raster_values`, `bit_stuff`, `lut_stuff` and `lane_kernels`, and takes no
+//! memory. The layer above uses one contract: bytes are a block of these values, both ways.
 #![tactic(auto)]
 
 mod choosing;
@@ -11,6 +11,7 @@ mod first;
 mod laws;
 mod quantising;
 mod reading;
+mod shorter;
 mod sizes;
 mod writing;
 

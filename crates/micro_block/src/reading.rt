@@ -1,7 +1,8 @@
 // Reading blocks.
 
 ghost use Rattle.std.specs.Prelude.{◌≡◌, ◌+◌, ◌*◌, ◌/◌, ◌%◌, ◌^◌, ◌<◌, ◌≤◌, ◌↔◌, ◌++◌, ℕ, ℤ, pos};
-ghost use Rattle.std.specs.Prelude.{if◌then◌else◌, List, All, IfErr, IfOk, MatchResult, length, map, take};
+ghost use Rattle.std.specs.Prelude.{if◌then◌else◌, List, All, IfErr, IfOk, MatchResult, length};
+ghost use Rattle.std.specs.Prelude.{map, take};
 ghost use Rattle.lane_kernels.specs.Kernels.{IsSmall};
 ghost use Rattle.lut_stuff.specs.Faults.{list_faults};
 ghost use Rattle.raster_values.specs.PixelType.{InRange, bytes_of};
@@ -197,7 +198,8 @@ fn read_listed(
     }
 }
 
-/// Reads what follows a tag of the stuffed or the constant form; places and lengths count from the tag.
+/// Reads what follows a tag of the stuffed or the constant form; places and lengths count from the
+/// tag.
 fn read_offset(
     bytes: &[u8],
     tag: u8,
@@ -264,14 +266,15 @@ fn read_form(bytes: &[u8], ctx: &BlockCtx, out: &mut [i64]) -> Result<usize, Blo
     read_tagged(&bytes[1..], tag, ctx, out)
 }
 
-/// Reads a block of as many values as `out` has from the front of the bytes; how many bytes it takes.
+/// Reads a block of as many values as `out` has from the front of the bytes; how many bytes it
+/// takes.
 ///
-/// The first byte, the tag, has the form in bits 0 and 1, the block's column in bits 2 to 5 and the code
-/// of the offset's type in bits 6 and 7, which are not looked at in the raw and in the zero form. The
-/// faults come in this order, each with its place: `Cut` at 0 for no byte; `BadTag` at 0; `Cut` at the
-/// first byte of raw values that are cut; `BadOffset` at 0 for a code without a meaning; `Cut` at the
-/// first byte of an offset that is cut; the list's own, with its place in the block. After a fault `out`
-/// has any content.
+/// The first byte, the tag, has the form in bits 0 and 1, the block's column in bits 2 to 5 and the
+/// code of the offset's type in bits 6 and 7, which are not looked at in the raw and in the zero
+/// form. The faults come in this order, each with its place: `Cut` at 0 for no byte; `BadTag` at 0;
+/// `Cut` at the first byte of raw values that are cut; `BadOffset` at 0 for a code without a
+/// meaning; `Cut` at the first byte of an offset that is cut; the list's own, with its place in the
+/// block. After a fault `out` has any content.
 pub fn read_block(bytes: &[u8], ctx: &BlockCtx, out: &mut [i64]) -> Result<usize, BlockFault>
     requires few { length out.old ≤ 1024 }
     requires ctx { IsBlockCtx ctx.now }

@@ -1,19 +1,23 @@
 // How long a block is in each form.
 
-ghost use Rattle.std.specs.Prelude.{◌≡◌, ℕ, ℤ, ◌+◌, ◌≤◌, ◌<◌, ◌^◌, ◌≤ℤ◌, length, map, Some, None, All, IfSome};
+ghost use Rattle.std.specs.Prelude.{◌≡◌, ℕ, ℤ, pos, ◌+◌, ◌≤◌, ◌<◌, ◌^◌, ◌≤ℤ◌, length, map};
+ghost use Rattle.std.specs.Prelude.{unsigned_abs};
+ghost use Rattle.std.specs.Prelude.{Some, None, All, IfSome, ◌⊎◌};
+ghost use Rattle.micro_block.specs.inside.Forms.{AreListable};
 ghost use Rattle.bit_stuff.specs.Head.{head_size};
 ghost use Rattle.bit_stuff.specs.Stuffed.{stuffed_size};
 ghost use Rattle.bit_stuff.specs.Simple.{binary_digits};
 ghost use Rattle.raster_values.specs.PixelType.{InRange};
 ghost use Rattle.micro_block.specs.Choice as choice;
 ghost use Rattle.micro_block.specs.Fewest.{allowed};
-ghost use Rattle.lut_stuff.specs.Tables.{table_size};
+ghost use Rattle.lut_stuff.specs.Tables.{distinct_above_0, table_size};
 ghost use Rattle.micro_block.specs.Near.{quantised};
-ghost use Rattle.micro_block.specs.inside.Sizes.{closed_sizes, tabled_size, AreEnds};
+ghost use Rattle.micro_block.specs.inside.Sizes.{closed_sizes, AreEnds, IsTabledLength};
 ghost use Rattle.lane_kernels.specs.Kernels.{IsSmall};
 ghost use Rattle.bit_stuff.specs.Simple.{greatest_number};
 
-use crate::quantising::quantised_value;
+use crate::quantising::steps;
+use crate::shorter::{has_more, most_entries};
 use bit_stuff::{digit_count, head_len, stuffed_len};
 use lane_kernels::range;
 use lut_stuff::table_len;
@@ -86,8 +90,8 @@ fn list_size(count: usize, most: u64) -> usize
     head_len(count as u32) + stuffed_len(count, digit_count(most as u32))
 }
 
-/// How many bytes the block of `count` values takes in each form, the least of which is `least` and the
-/// greatest of which has `most` steps: None where the form may not be.
+/// How many bytes the block of `count` values takes in each form, the least of which is `least` and
+/// the greatest of which has `most` steps: None where the form may not be.
 pub(crate) fn form_sizes(
     count: usize,
     kind: PixelType,
@@ -127,38 +131,69 @@ pub(crate) fn ends(values: &[i64], kind: PixelType) -> (i64, i64)
     }
 }
 
-/// Writes the number of steps of each value from `least`.
-pub(crate) fn steps_of(values: &[i64], least: i64, step: u64, out: &mut [u32])
-    requires lengths { length out.old ≡ length values.now }
-    requires small { All IsSmall values.now }
-    requires small_least { IsSmall least }
-    requires order { All (λ v. least ≤ℤ v) values.now }
-    requires step { (0 < step) × (step ≤ 8589934592) }
-    requires few { All (λ v. quantised step least v < 2 ^ 30) values.now }
-    ensures { out.new ≡ map (quantised step least) values.now }
+/// Writes the same numbers without a sign.
+fn narrow(wide: &[i64], out: &mut [u32])
+    requires lengths { length out.old ≡ length wide.now }
+    requires fits { All (λ z. (pos 0 ≤ℤ z) × (z ≤ℤ pos 4294967295)) wide.now }
+    ensures { out.new ≡ map unsigned_abs wide.now }
 {
-    for (i, value) in values.iter().enumerate() {
-        out[i] = quantised_value(*value, least, step) as u32;
+    for (i, number) in wide.iter().enumerate() {
+        out[i] = *number as u32;
     }
 }
 
-/// How many bytes the list takes in the table form, with room for the numbers of steps.
-fn table_of(values: &[i64], least: i64, step: u64, qs: &mut [u32]) -> Option<usize>
-    requires count { length values.now ≤ 256 }
+/// Writes the number of steps of each value from `least`, with room for as many with a sign.
+fn steps_through(values: &[i64], least: i64, step: u64, wide: &mut [i64], out: &mut [u32])
+    requires lengths { length out.old ≡ length values.now }
+    requires room { length wide.old ≡ length values.now }
+    requires listable { AreListable step least values.now }
+    ensures { out.new ≡ map (quantised step least) values.now }
+{
+    steps(values, least, step, wide);
+    narrow(wide, out);
+}
+
+/// Writes the number of steps of each value from `least`.
+pub(crate) fn steps_of(values: &[i64], least: i64, step: u64, out: &mut [u32])
+    requires lengths { length out.old ≡ length values.now }
+    requires listable { AreListable step least values.now }
+    ensures { out.new ≡ map (quantised step least) values.now }
+{
+    let count = values.len();
+    if count <= 64 {
+        let mut wide = [0; 64];
+        steps_through(values, least, step, &mut wide[..count], out);
+    } else {
+        let mut wide = [0; 256];
+        steps_through(values, least, step, &mut wide[..count], out);
+    }
+}
+
+/// How many bytes the list takes in the table form, with room for the numbers of steps: None also
+/// where more different ones than the bound are found.
+fn table_within(
+    values: &[i64],
+    least: i64,
+    step: u64,
+    bound: usize,
+    qs: &mut [u32],
+) -> Option<usize>
     requires lengths { length qs.old ≡ length values.now }
-    requires small { All IsSmall values.now }
-    requires small_least { IsSmall least }
-    requires order { All (λ v. least ≤ℤ v) values.now }
-    requires step { (0 < step) × (step ≤ 8589934592) }
-    requires few { All (λ v. quantised step least v < 2 ^ 30) values.now }
-    ensures value { result ≡ table_size (map (quantised step least) values.now) }
+    requires listable { AreListable step least values.now }
+    requires bound { bound ≤ 256 }
+    ensures value { (result ≡ table_size (map (quantised step least) values.now))
+        ⊎ ((result ≡ None) × (bound < distinct_above_0 (map (quantised step least) values.now))) }
     ensures short { IfSome result (λ n. n ≤ 2000) }
 {
     steps_of(values, least, step, qs);
+    if has_more(qs, bound) {
+        return None;
+    }
     table_len(qs)
 }
 
-/// How many bytes the list takes in the table form, where it may stand.
+/// How many bytes the list takes in the table form, where it may stand and is shorter than in the
+/// simple form. Where it is not, it may be that None is answered.
 pub(crate) fn tabled_len(
     values: &[i64],
     kind: PixelType,
@@ -171,12 +206,16 @@ pub(crate) fn tabled_len(
     requires step { (0 < step) × (step ≤ 8589934592) }
     requires least { least ≡ choice.least_value values.now }
     requires most { most ≡ greatest_number (choice.quantised_values step values.now) }
-    ensures value { result ≡ tabled_size step values.now }
+    ensures value { IsTabledLength step values.now result }
     ensures short { IfSome result (λ n. n ≤ 2000) }
 {
     if most == 0 || most >= 1 << 30 {
         return None;
     }
+    let bound = most_entries(values.len(), digit_count(most as u32));
+    if bound == 0 {
+        return None;
+    }
     let mut qs = [0; 256];
-    table_of(values, least, step, &mut qs[..values.len()])
+    table_within(values, least, step, bound, &mut qs[..values.len()])
 }

@@ -9,7 +9,8 @@ ghost use Rattle.raster_values.specs.PixelType.{InRange, bytes_of};
 ghost use Rattle.raster_values.specs.Grid.{values_bytes};
 ghost use Rattle.micro_block.specs.Block.{IsBlock};
 ghost use Rattle.micro_block.specs.Choice as choice;
-ghost use Rattle.micro_block.specs.Choice.{block_bytes, form_bytes, kept, narrowest, offset_bytes, tag_byte};
+ghost use Rattle.micro_block.specs.Choice.{block_bytes, form_bytes, kept, narrowest, offset_bytes};
+ghost use Rattle.micro_block.specs.Choice.{tag_byte};
 ghost use Rattle.micro_block.specs.Frame.{IsBlockCtx, frame_of};
 ghost use Rattle.micro_block.specs.Near.{IsNear, quantised};
 ghost use Rattle.micro_block.specs.inside.Forms.{AreListable, IsChosen};
@@ -203,11 +204,11 @@ fn write_form(values: &[i64], ctx: &BlockCtx, chosen: Chosen, out: &mut [u8])
     }
 }
 
-/// Writes the chosen block of the values over the front of `out`, whose rest stays; how many bytes it
-/// takes, which is `block_len`.
+/// Writes the chosen block of the values over the front of `out`, whose rest stays; how many bytes
+/// it takes, which is `block_len`.
 ///
-/// The block stands for numbers that are within half a step of the values, for the values themselves at
-/// step 1.
+/// The block stands for numbers that are within half a step of the values, for the values
+/// themselves at step 1.
 pub fn write_block(values: &[i64], ctx: &BlockCtx, out: &mut [u8]) -> usize
     requires few { length values.now ≤ 256 }
     requires ctx { IsBlockCtx ctx.now }

@@ -25,31 +25,31 @@ none_on (m ∷ ms) none k =
 
 pub all_zero : (a : Inside) → IsInside a → valid_count (seen a) ≡ 0 → a.values.values ≡ replicate (length a.values.values) (pos 0)
 all_zero a h none =
-    let marks : count_by (λ m. m) a.marks.items ≡ 0 = sym (count-pixels_of a.depth a.marks.items a.values.values) ∙ none in
+    let marks : count_by (λ m. m) a.marks ≡ 0 = sym (count-pixels_of a.depth a.marks a.values.values) ∙ none in
     ext_get_or (pos 0) _ _ (sym (length-replicate (length a.values.values) (pos 0))) (λ x below.
     let deep : 0 < a.depth = h.shape.depth_above in
-    let place : x / a.depth < length a.marks.items = div_below x a.depth (length a.marks.items) deep (omega (arith, full a h)) in
+    let place : x / a.depth < length a.marks = div_below x a.depth (length a.marks) deep (omega (arith, full a h)) in
     let at : x ≡ x / a.depth * a.depth + x % a.depth = omega arith in
     let inner : x % a.depth < a.depth = omega arith in
-    ap (λ j. get_or a.values.values j (pos 0)) at ∙ h.zeros (x / a.depth) (x % a.depth) place inner (none_on a.marks.items marks (x / a.depth))
+    ap (λ j. get_or a.values.values j (pos 0)) at ∙ h.zeros (x / a.depth) (x % a.depth) place inner (none_on a.marks marks (x / a.depth))
     ∙ sym (get_or-replicate (length a.values.values) x (pos 0) (pos 0) below))
 
 -- ---- marked by the bits of a mask
 
-pub still_zero : (a : Inside) (ms : List Bool) → IsInside a → valid_count (seen a) ≡ 0 → length ms ≡ length a.marks.items
+pub still_zero : (a : Inside) (ms : List Bool) → IsInside a → valid_count (seen a) ≡ 0 → length ms ≡ length a.marks
     → (k d : ℕ) → k < length ms → d < a.depth → get_or ms k false ≡ false → get_or a.values.values (k * a.depth + d) (pos 0) ≡ pos 0
 still_zero a ms h none size k d within below off =
-    let marks : count_by (λ m. m) a.marks.items ≡ 0 = sym (count-pixels_of a.depth a.marks.items a.values.values) ∙ none in
-    h.zeros k d (omega (arith, size)) below (none_on a.marks.items marks k)
+    let marks : count_by (λ m. m) a.marks ≡ 0 = sym (count-pixels_of a.depth a.marks a.values.values) ∙ none in
+    h.zeros k d (omega (arith, size)) below (none_on a.marks marks k)
 
-pub bits_mark : (a : Inside) (ms : List Bool) (mask : List ℕ) → IsInside a → valid_count (seen a) ≡ 0 → length ms ≡ length a.marks.items
-    → ((k : ℕ) → k < length a.marks.items → get_or ms k false ≡ mask_bit mask k)
+pub bits_mark : (a : Inside) (ms : List Bool) (mask : List ℕ) → IsInside a → valid_count (seen a) ≡ 0 → length ms ≡ length a.marks
+    → ((k : ℕ) → k < length a.marks → get_or ms k false ≡ mask_bit mask k)
     → MarksBits (seen a) (record (seen a) { pixels = pixels_of a.depth ms a.values.values }) mask
 bits_mark a ms mask h none size bits = record {
   shape = record { kind = refl; rows = refl; cols = refl; depth = refl };
   places = λ i j within. valid-pixels_of a.depth ms a.values.values (i * a.cols + j) ∙ bits (i * a.cols + j) (omega (arith, mul-add-lt i a.cols j a.rows within.0 within.1, h.marks));
   zeros = λ i j d within below.
-      let marks : count_by (λ m. m) a.marks.items ≡ 0 = sym (count-pixels_of a.depth a.marks.items a.values.values) ∙ none in
+      let marks : count_by (λ m. m) a.marks ≡ 0 = sym (count-pixels_of a.depth a.marks a.values.values) ∙ none in
       value_there a.values.kind a.rows a.cols a.depth ms a.values.values i j d (still_zero a ms h none size) (size ∙ h.marks) within.0 within.1 below
-      ∙ h.zeros (i * a.cols + j) d (omega (arith, mul-add-lt i a.cols j a.rows within.0 within.1, h.marks)) below (none_on a.marks.items marks (i * a.cols + j));
+      ∙ h.zeros (i * a.cols + j) d (omega (arith, mul-add-lt i a.cols j a.rows within.0 within.1, h.marks)) below (none_on a.marks marks (i * a.cols + j));
 }

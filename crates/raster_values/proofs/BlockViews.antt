@@ -13,8 +13,8 @@ use Rattle.raster_values.specs.Raster.{Pixels, valid_at, value_at}
 use Rattle.raster_values.specs.PixelType.{InRange}
 use Rattle.raster_values.specs.inside.View.{pixels_of, seen, IsInside}
 use Rattle.raster_values.specs.Block.{block_count, block_values, InBlock, PoursBlock}
-use Rattle.raster_values.specs.inside.Runs.{AreWords, run_places, run_values, rows_places, rows_values, LeavesRows, Gathers}
-use Rattle.raster_values.proofs.Views.{get_or-pixels_of, valid-pixels_of, value-pixel_of, fits_in_range, KeepsValues}
+use Rattle.raster_values.specs.inside.Runs.{run_places, run_values, rows_places, rows_values, LeavesRows, Gathers}
+use Rattle.raster_values.proofs.Views.{get_or-pixels_of, valid-pixels_of, value-pixel_of, KeepsValues}
 use Rattle.raster_values.proofs.Every.{every_range, same_flat_map}
 use Rattle.raster_values.proofs.RunSteps.{length_values}
 use Rattle.raster_values.proofs.BlockLaws.{has_count}
@@ -98,24 +98,21 @@ count_of_rows kind rows cols depth marks values row col side zeros size below =
 
 -- ---- what the calls answer
 
-pub count_is : (a : Inside) (row col side n : ℕ) → IsInside a → n ≡ length (rows_places a.marks.items a.cols row col (min side (a.rows - row)) (min side (a.cols - col))) → n ≡ block_count (seen a) row col side
-count_is a row col side n h found = found ∙ sym (count_of_rows a.values.kind a.rows a.cols a.depth a.marks.items a.values.values row col side h.zeros h.marks h.shape.depth_above)
+pub count_is : (a : Inside) (row col side n : ℕ) → IsInside a → n ≡ length (rows_places a.marks a.cols row col (min side (a.rows - row)) (min side (a.cols - col))) → n ≡ block_count (seen a) row col side
+count_is a row col side n h found = found ∙ sym (count_of_rows a.values.kind a.rows a.cols a.depth a.marks a.values.values row col side h.zeros h.marks h.shape.depth_above)
 
 pub gathered_is : (a : Inside) (row col side d n : ℕ) (old new : List ℤ) → IsInside a → d < a.depth
-    → Gathers (rows_values a.depth d a.marks.items a.values.values a.cols row col (min side (a.rows - row)) (min side (a.cols - col))) old new 0 n
+    → Gathers (rows_values a.depth d a.marks a.values.values a.cols row col (min side (a.rows - row)) (min side (a.cols - col))) old new 0 n
     → (n ≡ block_count (seen a) row col side) × (new ≡ block_values (seen a) row col side d ++ drop (block_count (seen a) row col side) old)
 gathered_is a row col side d n old new h below g =
     let r = seen a in
-    let same : block_values r row col side d ≡ rows_values a.depth d a.marks.items a.values.values a.cols row col (min side (a.rows - row)) (min side (a.cols - col)) =
-    block_of_rows a.values.kind a.rows a.cols a.depth a.marks.items a.values.values row col side d h.zeros h.marks below in
-    let bare : n ≡ length (rows_values a.depth d a.marks.items a.values.values a.cols row col (min side (a.rows - row)) (min side (a.cols - col))) = omega (arith, g.ends) in
+    let same : block_values r row col side d ≡ rows_values a.depth d a.marks a.values.values a.cols row col (min side (a.rows - row)) (min side (a.cols - col)) =
+    block_of_rows a.values.kind a.rows a.cols a.depth a.marks a.values.values row col side d h.zeros h.marks below in
+    let bare : n ≡ length (rows_values a.depth d a.marks a.values.values a.cols row col (min side (a.rows - row)) (min side (a.cols - col))) = omega (arith, g.ends) in
     let count : n ≡ block_count r row col side = bare ∙ ap length (sym same) ∙ has_count r row col side d in
     (count, sym (take-append-drop n new) ∙ ap (λ t. t ++ drop n new) (g.front ∙ sym same) ∙ ap (λ t. block_values r row col side d ++ t) (g.rest ∙ ap (λ m. drop m old) count))
 
 -- ---- what pouring leaves
-
-pub words_of : (kind : PixelType) (values : List ℤ) → All (InRange kind) values → AreWords values
-words_of kind values all k d below = fits_in_range kind _ (all k d below)
 
 out_of_block : (i j row col side rows cols i' : ℕ) → j < cols → i < rows → row ≤ i' → i' < row + min side (rows - row) → i' * cols + col ≤ i * cols + j → i * cols + j < i' * cols + col + min side (cols - col)
     → InBlock row col side i j
@@ -129,25 +126,25 @@ out_of_block i j row col side rows cols i' across within from to lo hi =
     record { below = omega arith; above = omega arith; right = omega arith; left = omega arith }
 
 pub pour_keeps : (a : Inside) (row col side d : ℕ) (input vs : List ℤ) → IsInside a → length vs ≡ length a.values.values → All (InRange a.values.kind) vs
-    → LeavesRows a.depth d a.marks.items a.cols row col (min side (a.rows - row)) (min side (a.cols - col)) a.values.values vs → KeepsValues a a.marks.items vs
+    → LeavesRows a.depth d a.marks a.cols row col (min side (a.rows - row)) (min side (a.cols - col)) a.values.values vs → KeepsValues a a.marks vs
 pour_keeps a row col side d input vs h size fits leaves = record {
   values = size ∙ h.values;
   in_range = fits;
   zeros = λ k e within below off. leaves.rest k e below (λ i from to lo hi on is. absurd (false≢true (sym off ∙ on))) ∙ h.zeros k e within below off;
 }
 
-pub pour_pours : (a : Inside) (row col side d : ℕ) (input vs : List ℤ) → IsInside a → d < a.depth → KeepsValues a a.marks.items vs
-    → rows_values a.depth d a.marks.items vs a.cols row col (min side (a.rows - row)) (min side (a.cols - col)) ≡ input
-    → LeavesRows a.depth d a.marks.items a.cols row col (min side (a.rows - row)) (min side (a.cols - col)) a.values.values vs
-    → PoursBlock (seen a) (record (seen a) { pixels = pixels_of a.depth a.marks.items vs }) row col side d input
+pub pour_pours : (a : Inside) (row col side d : ℕ) (input vs : List ℤ) → IsInside a → d < a.depth → KeepsValues a a.marks vs
+    → rows_values a.depth d a.marks vs a.cols row col (min side (a.rows - row)) (min side (a.cols - col)) ≡ input
+    → LeavesRows a.depth d a.marks a.cols row col (min side (a.rows - row)) (min side (a.cols - col)) a.values.values vs
+    → PoursBlock (seen a) (record (seen a) { pixels = pixels_of a.depth a.marks vs }) row col side d input
 pour_pours a row col side d input vs h below are poured leaves = record {
   same = record {
     shape = record { kind = refl; rows = refl; cols = refl; depth = refl };
-    places = λ i j within. valid-pixels_of a.depth a.marks.items vs (i * a.cols + j) ∙ sym (valid-pixels_of a.depth a.marks.items a.values.values (i * a.cols + j));
+    places = λ i j within. valid-pixels_of a.depth a.marks vs (i * a.cols + j) ∙ sym (valid-pixels_of a.depth a.marks a.values.values (i * a.cols + j));
   };
-  block = block_of_rows a.values.kind a.rows a.cols a.depth a.marks.items vs row col side d are.zeros h.marks below ∙ poured;
+  block = block_of_rows a.values.kind a.rows a.cols a.depth a.marks vs row col side d are.zeros h.marks below ∙ poured;
   rest = λ i j e within less out.
-      value_there a.values.kind a.rows a.cols a.depth a.marks.items vs i j e are.zeros h.marks within.0 within.1 less
+      value_there a.values.kind a.rows a.cols a.depth a.marks vs i j e are.zeros h.marks within.0 within.1 less
       ∙ leaves.rest (i * a.cols + j) e less (λ i' from to lo hi on is. out (out_of_block i j row col side a.rows a.cols i' within.1 within.0 from to lo hi) is)
-      ∙ sym (value_there a.values.kind a.rows a.cols a.depth a.marks.items a.values.values i j e h.zeros h.marks within.0 within.1 less);
+      ∙ sym (value_there a.values.kind a.rows a.cols a.depth a.marks a.values.values i j e h.zeros h.marks within.0 within.1 less);
 }

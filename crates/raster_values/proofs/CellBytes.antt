@@ -1,7 +1,7 @@
 -- Values and the bytes that stand for them.
 use Rattle.std.proofs.Common.{◌≡◌, ℕ, ◌+◌, ◌-◌, ◌*◌, ◌<◌, ◌≤◌, zero, suc, List, [], ◌∷◌, ◌++◌, length, get_or, take, drop, set, replicate, refl, sym, ap, ◌∙◌, subst, arith, append_assoc, length-append}
 use Rattle.std.specs.Prelude.{ℤ, pos, All}
-use Rattle.std.proofs.lemmas.List.{set_at, length-replicate, replicate-append-replicate, set_split, append-nil, drop_at, take_at, take-append-drop, take_rest, length-drop, length-take-le, drop_more, drop-drop}
+use Rattle.std.proofs.lemmas.List.{set_split, append-nil, drop_at, take_at, take-append-drop, take_rest, length-drop, length-take-le, drop_more, drop-drop}
 use Rattle.std.proofs.lemmas.List.Concat.{flat_map-cons}
 use Rattle.std.proofs.lemmas.List.Elements.{All-head, All-tail, All-take, All-drop, All-append, All-replicate}
 use Rattle.std.proofs.lemmas.Grind.{flat_map-append}
@@ -135,8 +135,3 @@ pub cleared_in_range : (kind : PixelType) (vs : List ℤ) (at count : ℕ) → A
 cleared_in_range kind vs at count h =
     All-append (InRange kind) (take at vs) (replicate count (pos 0) ++ drop (at + count) vs) (All-take (InRange kind) at vs h)
     (All-append (InRange kind) (replicate count (pos 0)) (drop (at + count) vs) (All-replicate (InRange kind) count (pos 0) (zero_in_range kind)) (All-drop (InRange kind) (at + count) vs h))
-
-pub fill_more : (old : List ℤ) (i : ℕ) (v : ℤ) → i < length old → set (replicate i v ++ drop i old) i v ≡ replicate (i + 1) v ++ drop (i + 1) old
-fill_more old i v below =
-    ap (λ ys. set (replicate i v ++ ys) i v) (drop_more old i (pos 0) below) ∙ set_at (replicate i v) (get_or old i (pos 0)) (drop (i + 1) old) v i (length-replicate i v)
-    ∙ sym (append_assoc (replicate i v) (v ∷ []) (drop (i + 1) old)) ∙ ap (λ xs. xs ++ drop (i + 1) old) (replicate-append-replicate i 1 v)

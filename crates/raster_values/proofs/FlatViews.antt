@@ -1,12 +1,12 @@
 -- How the vectors stand for the numbered pixels of a raster.
-use Rattle.std.proofs.Common.{◌≡◌, ℕ, ◌+◌, ◌*◌, ◌/◌, ◌<◌, ◌≤◌, Bool, true, false, List, [], ◌∷◌, length, get_or, drop, map, Option, None, refl, sym, ap, ◌∙◌, subst, arith}
+use Rattle.std.proofs.Common.{◌≡◌, ℕ, ◌+◌, ◌*◌, ◌/◌, ◌<◌, ◌≤◌, Bool, true, false, List, [], ◌∷◌, length, get_or, drop, map, None, refl, sym, ap, ◌∙◌, subst, arith}
 use Rattle.std.specs.Prelude.{ℤ, pos, All, unwrap_or, is_some}
 use Rattle.std.proofs.lemmas.List.{get_or_past}
 use Rattle.std.proofs.lemmas.Nat.{mul-add-lt}
 use Rattle.std.proofs.lemmas.Bool.{false≢true}
 use Rattle.raster_values.specs.declared.raster.Raster.TheInside.{Inside}
-use Rattle.raster_values.specs.PixelType.{bytes_of, InRange}
-use Rattle.raster_values.specs.Raster.{Pixels, IsRaster, InShape, IsValidAt, value_at, values_of, valid_count}
+use Rattle.raster_values.specs.PixelType.{InRange}
+use Rattle.raster_values.specs.Raster.{Pixels, IsRaster, values_of, valid_count}
 use Rattle.raster_values.specs.Grid.{values_bytes}
 use Rattle.raster_values.specs.Values.{AreValues}
 use Rattle.raster_values.specs.Block.{SameMask}
@@ -14,53 +14,53 @@ use Rattle.raster_values.specs.Order.{FillsValid, PoursBytes, IsMaskOf, mask_bit
 use Rattle.raster_values.specs.Flat.{PutsFrom, value_in}
 use Rattle.raster_values.specs.inside.View.{seen, IsInside, pixels_of}
 use Rattle.raster_values.specs.inside.Ordered.{FillsMarked, KeepsUnmarked, PutsMarked}
-use Rattle.raster_values.proofs.Views.{get_or-pixels_of, length-pixels_of, valid-pixels_of, value-pixel_of, KeepsValues, sound}
+use Rattle.raster_values.proofs.Views.{get_or-pixels_of, valid-pixels_of, value-pixel_of, KeepsValues, sound}
 use Rattle.raster_values.proofs.BlockViews.{value_there}
 use Rattle.raster_values.proofs.Deep.{length-values_of, raster_deep, values_in_range}
 use Rattle.raster_values.proofs.Spelled.{written_values}
 
 -- a raster with other values in its vector
 abbrev pub with_values : Inside → List ℤ → Pixels
-with_values a vs = record (seen a) { pixels = pixels_of a.depth a.marks.items vs }
+with_values a vs = record (seen a) { pixels = pixels_of a.depth a.marks vs }
 
-pub value_flat : (a : Inside) (vs : List ℤ) (k d : ℕ) → KeepsValues a a.marks.items vs → k < length a.marks.items → d < a.depth → value_in (with_values a vs) d k ≡ get_or vs (k * a.depth + d) (pos 0)
+pub value_flat : (a : Inside) (vs : List ℤ) (k d : ℕ) → KeepsValues a a.marks vs → k < length a.marks → d < a.depth → value_in (with_values a vs) d k ≡ get_or vs (k * a.depth + d) (pos 0)
 value_flat a vs k d keeps below less =
-    ap (λ p. get_or (unwrap_or p []) d (pos 0)) (get_or-pixels_of a.depth a.marks.items vs k) ∙ value-pixel_of a.depth a.marks.items vs k d less (keeps.zeros k d below less)
+    ap (λ p. get_or (unwrap_or p []) d (pos 0)) (get_or-pixels_of a.depth a.marks vs k) ∙ value-pixel_of a.depth a.marks vs k d less (keeps.zeros k d below less)
 
-pub keeps_itself : (a : Inside) → IsInside a → KeepsValues a a.marks.items a.values.values
+pub keeps_itself : (a : Inside) → IsInside a → KeepsValues a a.marks a.values.values
 keeps_itself a h = record { values = h.values; in_range = h.in_range; zeros = h.zeros }
 
-pub mark_flat : (a : Inside) (k : ℕ) → is_some (get_or (seen a).pixels k None) ≡ get_or a.marks.items k false
-mark_flat a k = valid-pixels_of a.depth a.marks.items a.values.values k
+pub mark_flat : (a : Inside) (k : ℕ) → is_some (get_or (seen a).pixels k None) ≡ get_or a.marks k false
+mark_flat a k = valid-pixels_of a.depth a.marks a.values.values k
 
 pub same_mask : (a : Inside) (vs : List ℤ) → SameMask (seen a) (with_values a vs)
 same_mask a vs = record {
   shape = record { kind = refl; rows = refl; cols = refl; depth = refl };
-  places = λ i j within. valid-pixels_of a.depth a.marks.items vs (i * a.cols + j) ∙ sym (valid-pixels_of a.depth a.marks.items a.values.values (i * a.cols + j));
+  places = λ i j within. valid-pixels_of a.depth a.marks vs (i * a.cols + j) ∙ sym (valid-pixels_of a.depth a.marks a.values.values (i * a.cols + j));
 }
 
 -- ---- values that are left
 
-pub puts_keep : (a : Inside) (d place n : ℕ) (input vs : List ℤ) → IsInside a → length vs ≡ length a.values.values → All (InRange a.values.kind) vs → PutsMarked a.depth d a.marks.items place n input a.values.values vs
-    → KeepsValues a a.marks.items vs
+pub puts_keep : (a : Inside) (d place n : ℕ) (input vs : List ℤ) → IsInside a → length vs ≡ length a.values.values → All (InRange a.values.kind) vs → PutsMarked a.depth d a.marks place n input a.values.values vs
+    → KeepsValues a a.marks vs
 puts_keep a d place n input vs h size fits puts = record {
   values = size ∙ h.values;
   in_range = fits;
   zeros = λ k e below less off. puts.rest k e less (λ lo hi on is. false≢true (sym off ∙ on)) ∙ h.zeros k e below less off;
 }
 
-pub puts_from : (a : Inside) (d place : ℕ) (input vs : List ℤ) → IsInside a → KeepsValues a a.marks.items vs → d < a.depth → place + length input ≤ length a.marks.items
-    → PutsMarked a.depth d a.marks.items place (length input) input a.values.values vs → PutsFrom (seen a) (with_values a vs) place d input
+pub puts_from : (a : Inside) (d place : ℕ) (input vs : List ℤ) → IsInside a → KeepsValues a a.marks vs → d < a.depth → place + length input ≤ length a.marks
+    → PutsMarked a.depth d a.marks place (length input) input a.values.values vs → PutsFrom (seen a) (with_values a vs) place d input
 puts_from a d place input vs h keeps less within puts = record {
   same = same_mask a vs;
   put = λ i below valid. value_flat a vs (place + i) d keeps (omega arith) less ∙ puts.put i below (sym (mark_flat a (place + i)) ∙ valid);
   rest = λ k e low deep out.
-      let below : k < length a.marks.items = omega (arith, h.marks) in
+      let below : k < length a.marks = omega (arith, h.marks) in
       value_flat a vs k e keeps below deep ∙ puts.rest k e deep (λ lo hi on is. out lo hi is) ∙ sym (value_flat a a.values.values k e (keeps_itself a h) below deep);
 }
 
 pub fills_keep : (a : Inside) (pixel vs : List ℤ) → IsInside a → length pixel ≡ a.depth → length vs ≡ length a.values.values → All (InRange a.values.kind) vs
-    → FillsMarked (length a.marks.items) a.marks.items pixel a.values.values vs → KeepsValues a a.marks.items vs
+    → FillsMarked (length a.marks) a.marks pixel a.values.values vs → KeepsValues a a.marks vs
 fills_keep a pixel vs h deep size fits fills = record {
   values = size ∙ h.values;
   in_range = fits;
@@ -68,37 +68,37 @@ fills_keep a pixel vs h deep size fits fills = record {
       ap (λ n. get_or vs (k * n + e) (pos 0)) (sym deep) ∙ fills.rest k e (omega (arith, deep)) (λ _. off) ∙ ap (λ n. get_or a.values.values (k * n + e) (pos 0)) deep ∙ h.zeros k e below less off;
 }
 
-pub fills_valid : (a : Inside) (pixel vs : List ℤ) → IsInside a → length pixel ≡ a.depth → KeepsValues a a.marks.items vs
-    → FillsMarked (length a.marks.items) a.marks.items pixel a.values.values vs → FillsValid (seen a) (with_values a vs) pixel
+pub fills_valid : (a : Inside) (pixel vs : List ℤ) → IsInside a → length pixel ≡ a.depth → KeepsValues a a.marks vs
+    → FillsMarked (length a.marks) a.marks pixel a.values.values vs → FillsValid (seen a) (with_values a vs) pixel
 fills_valid a pixel vs h deep keeps fills = record {
   same = same_mask a vs;
   each = λ i j d within valid less.
       let k = i * a.cols + j in
-      let below : k < length a.marks.items = omega (arith, mul-add-lt i a.cols j a.rows within.0 within.1, h.marks) in
-      value_there a.values.kind a.rows a.cols a.depth a.marks.items vs i j d keeps.zeros h.marks within.0 within.1 less
+      let below : k < length a.marks = omega (arith, mul-add-lt i a.cols j a.rows within.0 within.1, h.marks) in
+      value_there a.values.kind a.rows a.cols a.depth a.marks vs i j d keeps.zeros h.marks within.0 within.1 less
       ∙ ap (λ n. get_or vs (k * n + d) (pos 0)) (sym deep)
       ∙ fills.each k d below (omega (arith, deep)) (sym (mark_flat a k) ∙ valid);
 }
 
-pub pours_keep : (a : Inside) (vs : List ℤ) → IsInside a → length vs ≡ length a.values.values → All (InRange a.values.kind) vs → KeepsUnmarked a.depth a.marks.items a.values.values vs → KeepsValues a a.marks.items vs
+pub pours_keep : (a : Inside) (vs : List ℤ) → IsInside a → length vs ≡ length a.values.values → All (InRange a.values.kind) vs → KeepsUnmarked a.depth a.marks a.values.values vs → KeepsValues a a.marks vs
 pours_keep a vs h size fits kept = record {
   values = size ∙ h.values;
   in_range = fits;
   zeros = λ k e below less off. kept.rest k e less off ∙ h.zeros k e below less off;
 }
 
-pub keeps_inside : (a : Inside) (vs : List ℤ) → IsInside a → KeepsValues a a.marks.items vs → IsRaster (with_values a vs)
+pub keeps_inside : (a : Inside) (vs : List ℤ) → IsInside a → KeepsValues a a.marks vs → IsRaster (with_values a vs)
 keeps_inside a vs h keeps = sound (record a { values = record a.values { values = vs } }) (record { shape = h.shape; marks = h.marks; values = keeps.values; in_range = keeps.in_range; zeros = keeps.zeros })
 
-pub values_stand : (a : Inside) (vs : List ℤ) → IsInside a → KeepsValues a a.marks.items vs
-    → AreValues a.values.kind (values_bytes a.values.kind (values_of (pixels_of a.depth a.marks.items vs))) (values_of (pixels_of a.depth a.marks.items vs))
-values_stand a vs h keeps = written_values a.values.kind (values_of (pixels_of a.depth a.marks.items vs)) (values_in_range a.values.kind a.depth (pixels_of a.depth a.marks.items vs) (keeps_inside a vs h keeps).each)
+pub values_stand : (a : Inside) (vs : List ℤ) → IsInside a → KeepsValues a a.marks vs
+    → AreValues a.values.kind (values_bytes a.values.kind (values_of (pixels_of a.depth a.marks vs))) (values_of (pixels_of a.depth a.marks vs))
+values_stand a vs h keeps = written_values a.values.kind (values_of (pixels_of a.depth a.marks vs)) (values_in_range a.values.kind a.depth (pixels_of a.depth a.marks vs) (keeps_inside a vs h keeps).each)
 
-pub pours_bytes : (a : Inside) (bytes : List ℕ) (vs : List ℤ) → IsInside a → KeepsValues a a.marks.items vs → values_bytes a.values.kind (values_of (pixels_of a.depth a.marks.items vs)) ≡ bytes
+pub pours_bytes : (a : Inside) (bytes : List ℕ) (vs : List ℤ) → IsInside a → KeepsValues a a.marks vs → values_bytes a.values.kind (values_of (pixels_of a.depth a.marks vs)) ≡ bytes
     → PoursBytes (seen a) (with_values a vs) bytes
 pours_bytes a bytes vs h keeps poured = record {
   same = same_mask a vs;
-  poured = subst (λ xs. AreValues a.values.kind xs (values_of (pixels_of a.depth a.marks.items vs))) poured (values_stand a vs h keeps);
+  poured = subst (λ xs. AreValues a.values.kind xs (values_of (pixels_of a.depth a.marks vs))) poured (values_stand a vs h keeps);
 }
 
 -- ---- how many values
@@ -108,12 +108,12 @@ count_values r h = length-values_of r.depth r.pixels (raster_deep r h)
 
 -- ---- masks
 
-pub mask_is : (a : Inside) (mask : List ℕ) → IsInside a → length mask ≡ (a.rows * a.cols + 7) / 8 → ((k : ℕ) → get_or mask k 0 < 256) → ((k : ℕ) → mask_bit mask k ≡ get_or a.marks.items k false) → IsMaskOf (seen a) mask
+pub mask_is : (a : Inside) (mask : List ℕ) → IsInside a → length mask ≡ (a.rows * a.cols + 7) / 8 → ((k : ℕ) → get_or mask k 0 < 256) → ((k : ℕ) → mask_bit mask k ≡ get_or a.marks k false) → IsMaskOf (seen a) mask
 mask_is a mask h size are bits = record {
   size = size;
   bytes = are;
   bits = λ k below. bits k ∙ sym (mark_flat a k);
-  spare = λ k past. bits k ∙ get_or_past a.marks.items k false (omega (arith, h.marks));
+  spare = λ k past. bits k ∙ get_or_past a.marks k false (omega (arith, h.marks));
 }
 
 -- ---- marks

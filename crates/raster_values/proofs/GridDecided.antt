@@ -1,23 +1,21 @@
 -- Bytes begin with a grid, or have a first fault.
-use Rattle.std.proofs.Common.{◌≡◌, ℕ, ◌+◌, ◌-◌, ◌*◌, ◌<◌, ◌≤◌, zero, suc, Bool, true, false, cond, List, [], ◌∷◌, ◌++◌, length, get_or, take, drop, map, refl, sym, ap, ◌∙◌, subst, arith, ⊎_elim, ◌⊎◌, inl, inr, append_assoc, length-append}
-use Rattle.std.specs.Prelude.{nat_eq, codes, All}
-use Rattle.std.proofs.lemmas.List.{length-map, length-drop, length-take-le, take-append-drop, get_or-drop, get_or-take, get_or_past, length-take, drop_at}
+use Rattle.std.proofs.Common.{◌≡◌, ℕ, ◌+◌, ◌*◌, ◌<◌, ◌≤◌, zero, suc, Bool, List, [], ◌∷◌, ◌++◌, length, get_or, take, drop, refl, sym, ap, ◌∙◌, subst, arith, ⊎_elim, ◌⊎◌, inl, inr, append_assoc}
+use Rattle.std.specs.Prelude.{nat_eq, codes}
+use Rattle.std.proofs.lemmas.List.{length-map, length-take-le, take-append-drop, get_or-drop, get_or-take, get_or_past, length-take, drop_at}
 use Rattle.std.proofs.lemmas.Bool.{cases_lt, cases_eq}
-use Rattle.first_fault.specs.Faults.{Faults, none, wrong, unless, moved, in_order}
-use Rattle.first_fault.specs.Parts.{IsSingle, IsPart, AreBytes, InFront, HasFault, IsDecided}
+use Rattle.first_fault.specs.Faults.{none, wrong, unless}
+use Rattle.first_fault.specs.Parts.{AreBytes, InFront, HasFault}
 use Rattle.first_fault.proofs.Decided.{decided_unless}
-use Rattle.byteorder.specs.Endian.{little_number}
-use Rattle.byteorder.specs.Numbers.{little_from-take}
 use Rattle.raster_values.specs.declared.kind.PixelType.{PixelType}
 use Rattle.raster_values.specs.declared.kind.PixelType.TheVariants.{I8, U8, I16, U16, I32, U32}
 use Rattle.raster_values.specs.declared.reading.Head.{Head}
 use Rattle.raster_values.specs.declared.reading.GridReason.{GridReason}
 use Rattle.raster_values.specs.declared.reading.GridReason.TheVariants.{Truncated, BadMagic, BadType, BadSize, TooLarge, BadMark}
-use Rattle.raster_values.specs.PixelType.{code_of, bytes_of, InRange}
-use Rattle.raster_values.specs.Raster.{Pixels, IsRaster, IsShape, IsTooLarge, values_of}
+use Rattle.raster_values.specs.PixelType.{code_of, bytes_of}
+use Rattle.raster_values.specs.Raster.{Pixels, IsTooLarge}
 use Rattle.raster_values.specs.Values.{AreValues}
-use Rattle.raster_values.specs.Flat.{marks_of, pixels_with}
-use Rattle.raster_values.specs.ReadGrid.{number_at, IsHead, AreMarks, count_of, IsGrid, cut, head_faults, magic_faults, type_faults, rows_faults, cols_faults, depth_faults, shape_faults, AreLawful, IsFirstWrong, wrong_mark, mark_faults, value_faults, behind_head, grid_faults, GridsAreDecided}
+use Rattle.raster_values.specs.Flat.{pixels_with}
+use Rattle.raster_values.specs.ReadGrid.{number_at, IsHead, AreMarks, count_of, IsGrid, cut, magic_faults, type_faults, rows_faults, cols_faults, depth_faults, shape_faults, AreLawful, IsFirstWrong, mark_faults, grid_faults, GridsAreDecided}
 use Rattle.raster_values.proofs.Taken.{OnlyMarks, marks_said, said_back, only_lawful}
 use Rattle.raster_values.proofs.Spelled.{values_there}
 use Rattle.raster_values.proofs.Revalued.{in_order_there}

@@ -1,21 +1,21 @@
 -- A grid is a part: it is read in one way, and stands or has one first fault.
-use Rattle.std.proofs.Common.{◌≡◌, ℕ, ◌+◌, ◌-◌, ◌*◌, ◌<◌, ◌≤◌, zero, suc, Bool, true, false, cond, List, [], ◌∷◌, ◌++◌, length, get_or, take, drop, map, refl, sym, ap, ◌∙◌, subst, arith, ⊎_elim, ◌⊎◌, inl, inr, append_assoc, length-append}
-use Rattle.std.specs.Prelude.{ℤ, Option, None, Some, is_some, nat_eq, codes}
+use Rattle.std.proofs.Common.{◌≡◌, ℕ, ◌*◌, ◌<◌, ◌≤◌, zero, suc, Bool, true, false, cond, List, [], ◌∷◌, ◌++◌, length, get_or, take, map, refl, sym, ap, ◌∙◌, subst, arith, ◌⊎◌, inl, inr, append_assoc, length-append}
+use Rattle.std.specs.Prelude.{ℤ, Option, None, Some, is_some, codes}
 use Rattle.std.proofs.lemmas.List.{length-map, get_or_append_left}
 use Rattle.std.proofs.lemmas.Bool.{cases_order}
-use Rattle.first_fault.specs.Faults.{Faults, none, wrong, unless, moved, in_order}
+use Rattle.first_fault.specs.Faults.{none, wrong, unless}
 use Rattle.first_fault.specs.Parts.{IsSingle, IsPart}
-use Rattle.first_fault.proofs.Parts.{single-none, single-wrong, single-choice, single-unless, single-in_order, passed, behind_it, same_rest}
+use Rattle.first_fault.proofs.Parts.{single-none, single-choice, single-unless, single-in_order, passed, behind_it, same_rest}
 use Rattle.raster_values.specs.declared.kind.PixelType.{PixelType}
 use Rattle.raster_values.specs.declared.kind.PixelType.TheVariants.{I8, U8, I16, U16, I32, U32}
 use Rattle.raster_values.specs.declared.reading.Head.{Head}
 use Rattle.raster_values.specs.declared.reading.GridReason.{GridReason}
-use Rattle.raster_values.specs.declared.reading.GridReason.TheVariants.{Truncated, BadMagic, BadType, BadSize, TooLarge, BadMark}
+use Rattle.raster_values.specs.declared.reading.GridReason.TheVariants.{Truncated, BadMagic, BadType, BadSize, TooLarge}
 use Rattle.raster_values.specs.PixelType.{code_of, bytes_of}
-use Rattle.raster_values.specs.Raster.{Pixels, IsRaster, IsTooLarge, values_of, valid_count}
+use Rattle.raster_values.specs.Raster.{Pixels, IsTooLarge, values_of}
 use Rattle.raster_values.specs.Values.{AreValues}
 use Rattle.raster_values.specs.Flat.{marks_of}
-use Rattle.raster_values.specs.ReadGrid.{number_at, IsHead, AreMarks, count_of, IsGrid, cut, head_faults, magic_faults, type_faults, rows_faults, cols_faults, depth_faults, shape_faults, AreLawful, IsFirstWrong, wrong_mark, mark_faults, value_faults, behind_head, grid_faults, GridsAreParts, WrittenGridStands}
+use Rattle.raster_values.specs.ReadGrid.{number_at, IsHead, AreMarks, count_of, IsGrid, cut, head_faults, magic_faults, type_faults, rows_faults, cols_faults, depth_faults, shape_faults, AreLawful, wrong_mark, mark_faults, value_faults, behind_head, grid_faults, GridsAreParts, WrittenGridStands}
 use Rattle.byteorder.specs.Endian.{little_bytes}
 use Rattle.byteorder.specs.Numbers.{little_number-reads_back}
 use Rattle.raster_values.specs.Grid.{grid_of, grid_marks, mark_of, values_bytes, head_of as written_head}

@@ -1,15 +1,13 @@
 -- The parts of a grid, read one behind the other.
-use Rattle.std.proofs.Common.{◌≡◌, ℕ, ◌+◌, ◌*◌, ◌<◌, ◌≤◌, Bool, cond, List, [], ◌∷◌, ◌++◌, length, map, Option, Some, None, refl, sym, ap, ◌∙◌, subst, arith, append_assoc, length-append, inl, inr}
+use Rattle.std.proofs.Common.{◌≡◌, ℕ, ◌+◌, ◌*◌, ◌≤◌, Bool, cond, List, [], ◌∷◌, ◌++◌, length, map, Option, Some, None, refl, sym, ap, ◌∙◌, subst, arith, append_assoc, length-append, inl, inr}
 use Rattle.std.specs.Prelude.{ℤ, is_some, fold}
 use Rattle.std.proofs.lemmas.List.{length-map}
 use Rattle.std.proofs.Math.Nat.{mul-le-mul_left}
-use Rattle.first_fault.specs.Faults.{Faults, moved}
 use Rattle.raster_values.specs.declared.reading.Head.{Head}
-use Rattle.raster_values.specs.declared.reading.GridReason.{GridReason}
 use Rattle.raster_values.specs.declared.reading.GridStop.{GridStop}
 use Rattle.raster_values.specs.declared.reading.GridStop.TheVariants.{Fault, Source, OutOfMemory}
 use Rattle.raster_values.specs.PixelType.{bytes_of}
-use Rattle.raster_values.specs.Raster.{Pixels, IsRaster, IsShape, blank, values_of, valid_count}
+use Rattle.raster_values.specs.Raster.{Pixels, IsRaster, blank, values_of, valid_count}
 use Rattle.raster_values.specs.Places.{SameShape}
 use Rattle.raster_values.specs.Block.{SameMask}
 use Rattle.raster_values.specs.Values.{AreValues}
@@ -46,10 +44,6 @@ grid_is h old mid new head marks values made stands shape marks_are sound mask s
     }
 
 -- ---- faults of a part are faults of the grid
-
-pub told_oom : (faults : List ℕ → Faults GridReason) (old : Option (List ℕ)) (at : ℕ) → IsToldFault faults old at OutOfMemory
-told_oom faults None at = tt
-told_oom faults (Some left) at = tt
 
 told_head : (old : Option (List ℕ)) (at : ℕ) (stop : GridStop) → IsToldFault head_faults old at stop → IsToldFault grid_faults old at stop
 told_head None at stop h = tt

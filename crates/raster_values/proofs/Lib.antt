@@ -1,4 +1,6 @@
 pub mod Views
+pub mod MaskBits
+pub mod MaskCounts
 pub mod Points
 pub mod Same
 pub mod Places
@@ -17,6 +19,7 @@ pub mod InOrder
 pub mod Blank
 pub mod Spelled
 pub mod MarkedRuns
+pub mod PixelSteps
 pub mod OrderSteps
 pub mod Poured
 pub mod Deep
@@ -26,5 +29,6 @@ pub mod TakenRuns
 pub mod GridParts
 pub mod Revalued
 pub mod NumberedBlocks
+pub mod GivenBlocks
 pub mod GridLaws
 pub mod GridDecided

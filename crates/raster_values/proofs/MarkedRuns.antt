@@ -1,19 +1,17 @@
 -- Runs of marked pixels, one behind the other.
-use Rattle.std.proofs.Common.{◌≡◌, ℕ, ◌+◌, ◌-◌, ◌*◌, ◌<◌, ◌≤◌, zero, suc, Bool, true, false, cond, Option, Some, None, List, [], ◌∷◌, ◌++◌, length, get_or, take, drop, refl, sym, ap, ◌∙◌, subst, arith, append_assoc, length-append, ⊎_elim}
-use Rattle.std.specs.Prelude.{ℤ, pos, All, unwrap_or}
-use Rattle.std.proofs.lemmas.List.{append-nil, take_at, drop_at, take_all, drop_all, take_rest, take-append-drop, length-take-le, length-drop, drop-drop, drop-take, get_or-take, get_or-drop, take-take}
+use Rattle.std.proofs.Common.{◌≡◌, ℕ, ◌+◌, ◌-◌, ◌*◌, ◌<◌, ◌≤◌, zero, suc, Bool, true, false, cond, Some, None, List, [], ◌∷◌, ◌++◌, length, take, drop, refl, sym, ap, ◌∙◌, arith, append_assoc, length-append, ⊎_elim}
+use Rattle.std.specs.Prelude.{ℤ, unwrap_or}
+use Rattle.std.proofs.lemmas.List.{append-nil, take_at, drop_at, take_all, drop_all, take-append-drop, length-take-le, length-drop, drop-drop, drop-take, get_or-take, take-take}
 use Rattle.std.proofs.lemmas.Bool.{cases_lt, false≢true}
-use Rattle.std.proofs.lemmas.Grind.{flat_map-append}
-use Rattle.std.proofs.Math.Seq.{take-add}
 use Rattle.std.proofs.Math.Nat.{add-mul, mul-le-mul_right}
 use Rattle.raster_values.specs.declared.kind.PixelType.{PixelType}
-use Rattle.raster_values.specs.PixelType.{bytes_of, value_bytes, InRange}
+use Rattle.raster_values.specs.PixelType.{bytes_of}
 use Rattle.raster_values.specs.Raster.{values_of}
-use Rattle.raster_values.specs.Grid.{values_bytes}
 use Rattle.raster_values.specs.inside.View.{pixels_of}
 use Rattle.raster_values.specs.inside.Ordered.{KeepsUnmarked}
-use Rattle.raster_values.proofs.Pack.{next_values, two_runs, apart, length-values_bytes}
-use Rattle.raster_values.proofs.CellBytes.{with_run, length-with_run}
+use Rattle.raster_values.specs.inside.Runs.{AreRuns}
+use Rattle.raster_values.proofs.Pack.{next_values, two_runs, apart}
+use Rattle.raster_values.proofs.CellBytes.{with_run}
 use Rattle.raster_values.proofs.WholeRuns.{with_run_before, with_run_after}
 use Rattle.std.proofs.lemmas.List.{take-append-le}
 
@@ -75,13 +73,6 @@ pub all_before : (depth at : ℕ) (marks : List Bool) (vs : List ℤ) → length
 all_before depth at marks vs past = ap (λ ms. values_of (pixels_of depth ms vs)) (take_all at marks past)
 
 -- ---- from a place on a run of pixels that are not marked, and then one of pixels that are
-
-pub record AreRuns (marks : List Bool) (at start end : ℕ) : Type 0 where
-  pub first : at ≤ start
-  pub second : start ≤ end
-  pub within : end ≤ length marks
-  pub off : (k : ℕ) → at ≤ k → k < start → get_or marks k false ≡ false
-  pub on : (k : ℕ) → start ≤ k → k < end → get_or marks k false ≡ true
 
 pub back_more : (depth at start end : ℕ) (marks : List Bool) (vs : List ℤ) → AreRuns marks at start end
     → back_values depth at marks vs ≡ take ((end - start) * depth) (drop (start * depth) vs) ++ back_values depth end marks vs

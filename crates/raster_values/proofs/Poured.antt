@@ -1,12 +1,12 @@
 -- The loops that take the bytes of marked pixels' values, or give them, run by run.
-use Rattle.std.proofs.Common.{◌≡◌, ℕ, ◌+◌, ◌-◌, ◌*◌, ◌<◌, ◌≤◌, zero, Bool, List, [], ◌++◌, length, get_or, take, drop, refl, sym, ap, ◌∙◌, subst, arith, ⊎_elim, append_assoc}
-use Rattle.std.specs.Prelude.{ℤ, pos, All}
-use Rattle.std.proofs.lemmas.List.{append-nil, length-append, take_all, take-append-drop, length-take-le, length-drop, length-take, get_or-take, get_or-drop, get_or_past, drop-drop}
+use Rattle.std.proofs.Common.{◌≡◌, ℕ, ◌+◌, ◌-◌, ◌*◌, ◌<◌, ◌≤◌, Bool, List, [], ◌++◌, length, get_or, take, drop, refl, sym, ap, ◌∙◌, subst, arith, ⊎_elim, append_assoc}
+use Rattle.std.specs.Prelude.{ℤ, All}
+use Rattle.std.proofs.lemmas.List.{length-append, take_all, take-append-drop, length-take-le, length-drop, length-take, get_or-take, get_or-drop, get_or_past, drop-drop}
 use Rattle.std.proofs.lemmas.Slice.{take-put_mid, drop-put_mid}
 use Rattle.std.proofs.lemmas.Bool.{cases_lt}
 use Rattle.std.proofs.lemmas.Grind.{flat_map-append}
 use Rattle.std.proofs.Math.Seq.{take-add}
-use Rattle.std.proofs.Math.Nat.{mul-le-mul_right, add-mul}
+use Rattle.std.proofs.Math.Nat.{mul-le-mul_right}
 use borrow.Rule.Slice.PartMut.{put_mid}
 use Rattle.raster_values.specs.declared.kind.PixelType.{PixelType}
 use Rattle.raster_values.specs.PixelType.{bytes_of, value_bytes, InRange}
@@ -18,7 +18,8 @@ use Rattle.raster_values.specs.inside.Ordered.{KeepsUnmarked}
 use Rattle.raster_values.proofs.Pack.{apart, length-values_bytes}
 use Rattle.raster_values.proofs.CellBytes.{with_run, length-values_in}
 use Rattle.raster_values.proofs.Spelled.{AreBytes, bytes_of_values, bytes_put, put_as_run, length-bytes_put, bytes_put_in_range}
-use Rattle.raster_values.proofs.MarkedRuns.{front_values, back_values, none_before, none_behind, all_before, AreRuns, front_more, fits_more, put_front, put_behind, put_rest}
+use Rattle.raster_values.specs.inside.Runs.{AreRuns}
+use Rattle.raster_values.proofs.MarkedRuns.{front_values, back_values, none_before, none_behind, all_before, front_more, fits_more, put_front, put_behind, put_rest}
 
 -- all of the values stand behind the first 0
 pub back_all : (depth : ℕ) (marks : List Bool) (vs : List ℤ) → back_values depth 0 marks vs ≡ values_of (pixels_of depth marks vs)

@@ -1,14 +1,14 @@
 -- Rasters with other values at the same valid pixels, and rasters made of marks and values.
-use Rattle.std.proofs.Common.{◌≡◌, ℕ, ◌+◌, ◌*◌, ◌<◌, ◌≤◌, zero, suc, Bool, true, false, List, [], ◌∷◌, ◌++◌, length, get_or, take, drop, map, refl, sym, ap, ◌∙◌, subst, arith, Option, Some, None}
-use Rattle.std.specs.Prelude.{ℤ, pos, is_some, unwrap_or, IfSome, All, cond}
-use Rattle.std.specs.List.{range_with_len, count_by}
-use Rattle.std.proofs.lemmas.List.{ext_get_or, get_or-map, length-map, length-take-le, length-drop, take-append-drop, take_all}
+use Rattle.std.proofs.Common.{◌≡◌, ℕ, ◌+◌, ◌*◌, ◌<◌, zero, suc, Bool, true, false, List, [], ◌∷◌, ◌++◌, length, get_or, take, drop, map, refl, sym, ap, ◌∙◌, subst, arith, Option, Some, None}
+use Rattle.std.specs.Prelude.{ℤ, pos, is_some, unwrap_or, All, cond}
+use Rattle.std.specs.List.{range_with_len}
+use Rattle.std.proofs.lemmas.List.{ext_get_or, get_or-map, length-map, length-take-le, length-drop, take-append-drop}
 use Rattle.std.proofs.lemmas.List.FromFn.{length-range_with_len, get_or-range_with_len}
 use Rattle.std.proofs.lemmas.List.Elements.{All-take, All-drop}
 use Rattle.std.proofs.lemmas.List.Sums.{sum_by-cons}
 use Rattle.raster_values.specs.declared.kind.PixelType.{PixelType}
 use Rattle.raster_values.specs.PixelType.{InRange}
-use Rattle.raster_values.specs.Raster.{Pixels, IsRaster, IsPixel, IsShape, values_of}
+use Rattle.raster_values.specs.Raster.{Pixels, IsRaster, IsPixel, values_of}
 use Rattle.raster_values.specs.Places.{SameShape}
 use Rattle.raster_values.specs.Flat.{marks_of, value_in, new_pixel, revalued, ValuesMayChange, pixels_with, RasterInOrder, OrderDetermines}
 use Rattle.raster_values.specs.ReadGrid.{count_of}

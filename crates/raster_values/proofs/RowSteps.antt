@@ -27,22 +27,11 @@ piece_fits f a n all below =
     subst (λ m. length (flat_map f (range_with_len a (n + 1))) ≤ length (flat_map f (range_with_len a m))) e (pieces_rise f a (n + 1) (all - n - 1)) in
     omega (arith, rise, ap length (pieces_more f a n), length-append (flat_map f (range_with_len a n)) (f (a + n)))
 
--- a row of a block lies within the marks
-pub row_inside : (i rows cols col wide size : ℕ) → i < rows → col + wide ≤ cols → rows * cols ≤ size → i * cols + col + wide ≤ size
-row_inside i rows cols col wide size below across within =
-    let up : suc i * cols ≤ rows * cols = mul-le-mul_right cols (omega arith) in
-    omega (arith, up)
-
 pub area_inside : (h row high wide cols size : ℕ) → h < high → wide ≤ cols → (row + high) * cols ≤ size → h * wide + wide ≤ size
 area_inside h row high wide cols size below across within =
     let first : suc h * wide ≤ suc h * cols = mul-le-mul_left (suc h) across in
     let second : suc h * cols ≤ (row + high) * cols = mul-le-mul_right cols (omega arith) in
     omega (arith, first, second)
-
-pub area_more : (h high wide : ℕ) → h < high → h * wide + wide ≤ high * wide
-area_more h high wide below =
-    let up : suc h * wide ≤ high * wide = mul-le-mul_right wide (omega arith) in
-    omega (arith, up)
 
 pub count_more : (marks : List Bool) (cols row col h wide n found : ℕ) → n ≡ length (rows_places marks cols row col h wide) → found ≡ length (run_places marks ((row + h) * cols + col) wide)
     → n + found ≡ length (rows_places marks cols row col (h + 1) wide)

@@ -14,7 +14,7 @@ use Rattle.raster_values.specs.declared.kind.PixelType.{PixelType}
 use Rattle.raster_values.specs.declared.kind.PixelType.TheVariants.{I8, U8, I16, U16, I32, U32}
 use Rattle.raster_values.specs.PixelType.{bytes_of, value_of, complement_of, value_bytes, InRange}
 use Rattle.raster_values.specs.Grid.{values_bytes}
-use Rattle.raster_values.specs.Values.{AreValues, WrittenValuesStand, ValuesAreOnce, ValuesAreThere}
+use Rattle.raster_values.specs.Values.{WrittenValuesStand, ValuesAreOnce, ValuesAreThere}
 use Rattle.raster_values.specs.inside.CellList.{values_in}
 use Rattle.std.proofs.lemmas.List.{ext_get_or}
 use Rattle.raster_values.proofs.Pack.{length-values_bytes}

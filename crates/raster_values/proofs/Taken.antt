@@ -1,12 +1,11 @@
 -- Bytes taken from a source, and the first fault of what it had left.
-use Rattle.std.proofs.Common.{◌≡◌, ℕ, ◌+◌, ◌-◌, ◌*◌, ◌<◌, ◌≤◌, zero, suc, Bool, true, false, cond, List, [], ◌∷◌, ◌++◌, length, get_or, take, drop, map, Option, Some, None, refl, sym, ap, ◌∙◌, subst, arith, ⊎_elim, append_assoc, length-append, inl, inr}
+use Rattle.std.proofs.Common.{◌≡◌, ℕ, ◌+◌, ◌-◌, ◌<◌, ◌≤◌, zero, suc, Bool, cond, List, [], ◌∷◌, ◌++◌, length, get_or, take, drop, map, Option, Some, None, refl, sym, ap, ◌∙◌, subst, arith, ⊎_elim, append_assoc, length-append, inl, inr}
 use Rattle.std.specs.Prelude.{nat_eq, Result, Ok, Err, IfOk, OnErr}
 use Rattle.outside_io.specs.declared.streams.failed.Failed.{Failed}
 use Rattle.raster_values.specs.inside.TakenRun.{TakesRun}
-use Rattle.std.proofs.lemmas.List.{append-nil, take_at, take_all, take-append-drop, length-take-le, map-append, get_or_append_left, get_or-append-add, get_or_past, get_or-take, length-map}
+use Rattle.std.proofs.lemmas.List.{append-nil, take_at, take_all, take-append-drop, length-take-le, map-append, get_or_append_left, get_or-append-add, get_or_past, length-map}
 use Rattle.std.proofs.lemmas.Bool.{cases_lt}
-use Rattle.std.proofs.lemmas.Bool.Decides.{nat_tests}
-use Rattle.first_fault.specs.Faults.{Faults, none, moved, wrong, unless}
+use Rattle.first_fault.specs.Faults.{Faults, moved}
 use Rattle.outside_io.specs.streams.Source.{TakesFront, TakesUpTo, IsAtEnd}
 use Rattle.outside_io.proofs.StreamLemmas.Takes.{TakesUpTo_wider}
 use Rattle.raster_values.specs.declared.reading.GridReason.{GridReason}
@@ -14,7 +13,7 @@ use Rattle.raster_values.specs.declared.reading.GridReason.TheVariants.{Truncate
 use Rattle.raster_values.specs.declared.reading.GridFault.{GridFault}
 use Rattle.raster_values.specs.declared.reading.GridStop.{GridStop}
 use Rattle.raster_values.specs.declared.reading.GridStop.TheVariants.{Fault, Source, OutOfMemory}
-use Rattle.raster_values.specs.ReadGrid.{TookBytes, TookSome, IsToldFault, AreMarks, AreLawful, IsFirstWrong, cut, head_faults, magic_faults, mark_faults, value_faults}
+use Rattle.raster_values.specs.ReadGrid.{TookBytes, TookSome, IsToldFault, AreMarks, AreLawful, head_faults, magic_faults, mark_faults, value_faults}
 
 -- ---- bytes taken
 
@@ -210,9 +209,6 @@ pub record MarksTaken (old now : Option (List ℕ)) (marks : List Bool) (done : 
   pub long : length read ≡ done
   pub only : OnlyMarks read
   pub said : take done marks ≡ marks_said read
-
-pub no_marks_taken : (left : Option (List ℕ)) (marks : List Bool) → MarksTaken left left marks 0
-no_marks_taken left marks = record { read = []; took = took_none left; long = refl; only = λ k. (let e : get_or [] k 0 ≤ 1 = omega arith in e); said = refl }
 
 pub more_marks_taken : (old mid new : Option (List ℕ)) (marks next : List Bool) (done want : ℕ) (piece : List ℕ) → MarksTaken old mid marks done → TookBytes mid new piece → AreLawful (length piece) piece
     → length piece ≡ want → done + want ≤ length marks → next ≡ take done marks ++ (marks_said piece ++ drop (done + length piece) marks) → MarksTaken old new next (done + want)

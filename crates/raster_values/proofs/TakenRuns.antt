@@ -1,5 +1,5 @@
 -- Runs of values taken from a source.
-use Rattle.std.proofs.Common.{◌≡◌, ℕ, ◌+◌, ◌-◌, ◌*◌, ◌<◌, ◌≤◌, ◌++◌, Bool, List, length, ap, ◌∙◌, sym, subst, arith}
+use Rattle.std.proofs.Common.{◌≡◌, ℕ, ◌-◌, ◌*◌, ◌≤◌, ◌++◌, Bool, List, length, ap, ◌∙◌, sym, subst, arith}
 use Rattle.std.specs.Prelude.{ℤ}
 use Rattle.std.proofs.Math.Nat.{mul-le-mul}
 use Rattle.raster_values.specs.declared.kind.PixelType.{PixelType}
@@ -8,7 +8,8 @@ use Rattle.raster_values.specs.Raster.{values_of}
 use Rattle.raster_values.specs.inside.CellList.{CellList}
 use Rattle.raster_values.specs.inside.TakenRun.{PutsRun}
 use Rattle.raster_values.specs.inside.View.{pixels_of}
-use Rattle.raster_values.proofs.MarkedRuns.{AreRuns, values_few}
+use Rattle.raster_values.specs.inside.Runs.{AreRuns}
+use Rattle.raster_values.proofs.MarkedRuns.{values_few}
 use Rattle.raster_values.proofs.Spelled.{bytes_put, few_bytes}
 use Rattle.raster_values.proofs.Poured.{Kept, kept_run, Fills, fills_next, run_within}
 

@@ -1,12 +1,10 @@
 -- Runs of which every pixel is marked.
-use Rattle.std.proofs.Common.{◌≡◌, ℕ, ◌+◌, ◌-◌, ◌*◌, ◌<◌, ◌≤◌, zero, suc, Bool, true, false, cond, List, ◌∷◌, ◌++◌, length, get_or, take, drop, map, refl, sym, ap, ◌∙◌, arith, ⊎_elim}
+use Rattle.std.proofs.Common.{◌≡◌, ℕ, ◌+◌, ◌-◌, ◌<◌, ◌≤◌, zero, suc, Bool, true, false, cond, List, ◌∷◌, ◌++◌, length, get_or, take, drop, refl, ap, ◌∙◌, arith, ⊎_elim}
 use Rattle.std.specs.Prelude.{ℤ, pos}
 use Rattle.std.specs.List.{range_with_len}
-use Rattle.std.proofs.lemmas.List.{length-take-le, length-drop, get_or-take, get_or-drop, get_or_append_left, get_or-append_right, ext_get_or}
-use Rattle.std.proofs.lemmas.List.FromFn.{get_or-map-range_with_len, length-map-range_with_len}
-use Rattle.std.proofs.lemmas.Bool.{cases_eq, cases_lt}
-use Rattle.std.proofs.Math.Seq.{take-add}
-use Rattle.raster_values.specs.inside.Runs.{run_places, run_values, LeavesRun}
+use Rattle.std.proofs.lemmas.List.{length-take-le, get_or-take, get_or-drop, get_or_append_left, get_or-append_right}
+use Rattle.std.proofs.lemmas.Bool.{cases_eq}
+use Rattle.raster_values.specs.inside.Runs.{run_places}
 use Rattle.raster_values.proofs.RunSteps.{length_places}
 use Rattle.raster_values.proofs.CellBytes.{with_run}
 
@@ -47,36 +45,3 @@ with_run_after vs run at k within past =
     ∙ get_or-append_right run (drop (at + length run) vs) (length run) (k - at) (pos 0) refl (omega arith)
     ∙ get_or-drop (at + length run) vs (k - at - length run) (pos 0)
     ∙ ap (λ n. get_or vs n (pos 0)) (let e : at + length run + (k - at - length run) ≡ k = omega arith in e)
-
-pub whole_values : (marks : List Bool) (vs run : List ℤ) (from n : ℕ) → length (run_places marks from n) ≡ n → length run ≡ n → from + n ≤ length vs → run_values 1 0 marks (with_run vs from run) from n ≡ run
-whole_values marks vs run from n all long within =
-    let new = with_run vs from run in
-    ap (map (λ k. get_or new (k * 1 + 0) (pos 0))) (whole_places marks from n all)
-    ∙ ext_get_or (pos 0) _ run (length-map-range_with_len (λ k. get_or new (k * 1 + 0) (pos 0)) from n ∙ sym long) (λ k below.
-    let less : k < n = omega (arith, length-map-range_with_len (λ k. get_or new (k * 1 + 0) (pos 0)) from n) in
-    get_or-map-range_with_len (λ k. get_or new (k * 1 + 0) (pos 0)) from n k (from + k) (pos 0) less refl
-    ∙ ap (λ j. get_or new j (pos 0)) (let e : (from + k) * 1 + 0 ≡ from + k = omega arith in e)
-    ∙ with_run_at vs run from k (omega (arith, long)) (omega (arith, long)))
-
-pub whole_leaves : (marks : List Bool) (vs run : List ℤ) (from n : ℕ) → length (run_places marks from n) ≡ n → length run ≡ n → from + n ≤ length vs → LeavesRun 1 0 marks from n vs (with_run vs from run)
-whole_leaves marks vs run from n all long within = record {
-  rest = λ k e less out.
-      let here : k * 1 + e ≡ k = omega arith in
-      let none : e ≡ 0 = omega arith in
-      ap (λ j. get_or (with_run vs from run) j (pos 0)) here
-      ∙ ⊎_elim
-      (λ (before : k < from). with_run_before vs run from k (omega (arith, long)) before)
-      (λ (lo : from ≤ k).
-      ⊎_elim
-      (λ (hi : k < from + n). absurd (out lo hi (all_on marks from n all k lo hi) none))
-      (λ (past : from + n ≤ k). with_run_after vs run from k (omega (arith, long)) (omega (arith, long)))
-      (cases_lt k (from + n)))
-      (cases_lt k from)
-      ∙ ap (λ j. get_or vs j (pos 0)) (sym here);
-}
-
-pub whole_poured : (marks : List Bool) (input vs run : List ℤ) (from n at : ℕ) → length (run_places marks from n) ≡ n → run ≡ take n (drop at input) → at + n ≤ length input → from + n ≤ length vs
-    → take at input ++ run_values 1 0 marks (with_run vs from run) from n ≡ take (at + n) input
-whole_poured marks input vs run from n at all is room within =
-    let long : length run ≡ n = ap length is ∙ length-take-le n (drop at input) (omega (arith, length-drop at input)) in
-    ap (λ xs. take at input ++ xs) (whole_values marks vs run from n all long within ∙ is) ∙ sym (take-add at n input)

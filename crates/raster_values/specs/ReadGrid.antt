@@ -1,12 +1,11 @@
 -- Grids as they are read: a head of 17 bytes, a byte for each pixel's mark, and the bytes of the valid pixels' values;
 -- and the first fault of bytes that do not begin with a grid.
-use Rattle.std.specs.Prelude.{◌≡◌, ℕ, ◌+◌, ◌*◌, ◌<◌, ◌≤◌, Bool, List, ◌++◌, codes, length, get_or, take, drop, map, Option, None, Some, Result, Ok, Err, if◌then◌else◌}
+use Rattle.std.specs.Prelude.{◌≡◌, ℕ, ◌*◌, ◌<◌, ◌≤◌, Bool, List, ◌++◌, codes, length, get_or, take, drop, map, Option, None, Some, Result, Ok, Err, if◌then◌else◌}
 use Rattle.std.specs.List.{count_by}
 use Rattle.byteorder.specs.Endian.{little_number}
 use Rattle.first_fault.specs.Faults.{Faults, none, wrong, unless, moved, in_order}
 use Rattle.first_fault.specs.Parts.{IsPart, IsDecided}
 use Rattle.outside_io.specs.streams.Faults.{FailedBetween}
-use Rattle.raster_values.specs.declared.kind.PixelType.{PixelType}
 use Rattle.raster_values.specs.declared.reading.Head.{Head}
 use Rattle.raster_values.specs.declared.reading.GridReason.{GridReason}
 use Rattle.raster_values.specs.declared.reading.GridReason.TheVariants.{Truncated, BadMagic, BadType, BadSize, TooLarge, BadMark}

@@ -8,3 +8,5 @@ pub mod CellView
 pub mod Ordered
 pub mod Heads
 pub mod TakenRun
+pub mod Bits
+pub mod MaskView

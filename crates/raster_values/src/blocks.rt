@@ -1,29 +1,16 @@
-// Blocks of the two vectors of a raster: `high` rows of `wide` pixels from (row, col) on.
+// Blocks of the mask and the values of a raster: `high` rows of `wide` pixels from (row, col) on.
 
 ghost use Rattle.std.specs.Prelude.{◌≡◌, ℕ, ◌+◌, ◌*◌, ◌<◌, ◌≤◌, length, take, drop, All, ◌++◌};
 ghost use Rattle.raster_values.specs.PixelType.{InRange};
 ghost use Rattle.raster_values.specs.inside.Runs.{run_places, run_values, rows_places, rows_values, Gathers, LeavesRun, LeavesRows};
 
 use super::cells::Cells;
-
-/// How many of `count` pixels from `from` on are marked.
-fn count_run(marks: &[bool], from: usize, count: usize) -> usize
-    requires { from + count ≤ length marks.now }
-    ensures { result ≡ length (run_places marks.now from count) }
-{
-    let mut n = 0;
-    for k in from..from + count {
-        if marks[k] {
-            n += 1;
-        }
-    }
-    n
-}
+use super::mask::Mask;
 
 /// Puts the values of the marked pixels among `count` from `from` on behind the first `at` values of `out`,
 /// and answers where they end.
 fn gather_run(
-    marks: &[bool],
+    marks: &Mask,
     values: &Cells,
     depth: usize,
     d: usize,
@@ -39,46 +26,15 @@ fn gather_run(
     requires room { at + count ≤ length out.old }
     ensures { Gathers (run_values depth d marks.now values.now.values from count) out.old out.new at result }
 {
+    let end = from + count;
     let mut n = at;
-    for k in from..from + count {
-        if marks[k] {
-            out[n] = values.get(k * depth + d);
-            n += 1;
-        }
-    }
-    n
-}
-
-/// Does what `pour_run` does, a pixel at a time.
-fn pour_marked(
-    marks: &[bool],
-    depth: usize,
-    d: usize,
-    from: usize,
-    count: usize,
-    input: &[i64],
-    at: usize,
-    values: &mut Cells,
-) -> usize
-    requires size { length values.old.values ≡ length marks.now * depth }
-    requires few { length values.old.values ≤ 16777216 }
-    requires within { from + count ≤ length marks.now }
-    requires depth { d < depth }
-    requires in_range { All (InRange values.old.kind) input.now }
-    requires room { at + length (run_places marks.now from count) ≤ length input.now }
-    ensures end { result ≡ at + length (run_places marks.now from count) }
-    ensures poured { take at input.now ++ run_values depth d marks.now values.new.values from count ≡ take result input.now }
-    ensures kind { values.new.kind ≡ values.old.kind }
-    ensures in_range { All (InRange values.old.kind) values.old.values → All (InRange values.old.kind) values.new.values }
-    ensures size { length values.new.values ≡ length values.old.values }
-    ensures rest { LeavesRun depth d marks.now from count values.old.values values.new.values }
-{
-    let mut n = at;
-    for k in from..from + count {
-        if marks[k] {
-            values.set(k * depth + d, input[n]);
-            n += 1;
-        }
+    let mut k = from;
+    while k < end {
+        let run = marks.next_run(k, end);
+        let next = n + (run.end - run.start);
+        values.get_pixels(run.start, depth, d, &mut out[n..next]);
+        n = next;
+        k = run.end;
     }
     n
 }
@@ -86,7 +42,7 @@ fn pour_marked(
 /// Gives the marked pixels among `count` from `from` on the values of `input` from `at` on, and answers
 /// where these end.
 fn pour_run(
-    marks: &[bool],
+    marks: &Mask,
     depth: usize,
     d: usize,
     from: usize,
@@ -108,22 +64,29 @@ fn pour_run(
     ensures size { length values.new.values ≡ length values.old.values }
     ensures rest { LeavesRun depth d marks.now from count values.old.values values.new.values }
 {
-    if depth == 1 && count_run(marks, from, count) == count {
-        values.put_run(from, &input[at..at + count]);
-        return at + count;
+    let end = from + count;
+    let mut n = at;
+    let mut k = from;
+    while k < end {
+        let run = marks.next_run(k, end);
+        let next = n + (run.end - run.start);
+        values.put_pixels(run.start, depth, d, &input[n..next]);
+        n = next;
+        k = run.end;
     }
-    pour_marked(marks, depth, d, from, count, input, at, values)
+    n
 }
 
 /// How many pixels of a block are marked.
 pub(super) fn count_rows(
-    marks: &[bool],
+    marks: &Mask,
     cols: usize,
     row: usize,
     col: usize,
     high: usize,
     wide: usize,
 ) -> usize
+    requires few { length marks.now ≤ 16777216 }
     requires across { col + wide ≤ cols }
     requires rows { row + high ≤ length marks.now }
     requires within { (row + high) * cols ≤ length marks.now }
@@ -132,14 +95,14 @@ pub(super) fn count_rows(
 {
     let mut n = 0;
     for i in row..row + high {
-        n += count_run(marks, i * cols + col, wide);
+        n += marks.count_run(i * cols + col, wide);
     }
     n
 }
 
 /// Puts the values of a block's marked pixels in front of `out`, and answers how many these are.
 pub(super) fn gather_rows(
-    marks: &[bool],
+    marks: &Mask,
     values: &Cells,
     depth: usize,
     d: usize,
@@ -169,7 +132,7 @@ pub(super) fn gather_rows(
 
 /// Gives a block's marked pixels these values.
 pub(super) fn pour_rows(
-    marks: &[bool],
+    marks: &Mask,
     depth: usize,
     d: usize,
     cols: usize,

@@ -1,12 +1,13 @@
-ghost use Rattle.std.specs.Prelude.{◌≡◌, ◌+◌, ◌*◌, ◌<◌, ◌≤◌, ◌++◌, pos, IfOk, All, length, get_or, take, drop, replicate, slice_set};
+ghost use Rattle.std.specs.Prelude.{◌≡◌, ◌+◌, ◌*◌, ◌<◌, ◌≤◌, ◌++◌, pos, IfOk, All, length, get_or, take, drop, map, replicate, slice_set};
 ghost use Rattle.raster_values.specs.PixelType.{InRange, bytes_of};
 ghost use Rattle.raster_values.specs.Grid.{values_bytes};
 ghost use Rattle.raster_values.specs.inside.CellList.{CellList, values_in};
 ghost use Rattle.outside_io.specs.streams.Faults.{CountsFaults};
 ghost use Rattle.raster_values.specs.inside.TakenRun.{Laid, PutsRun, TakesRun};
 ghost use Rattle.raster_values.specs.inside.Cleared.{cleared};
+ghost use Rattle.raster_values.specs.inside.Ordered.{FillsPixels, PutsPixels};
+ghost use Rattle.std.specs.List.{range_with_len};
 
-use super::grid::write_values;
 use super::kind::PixelType;
 use outside_io::{Failed, Source, take_all};
 use std::alloc::{AllocError, Global};
@@ -30,6 +31,38 @@ impl Model for Cells {
     ghost view = { seen_cells };
 
     ghost invariant = { IsCells };
+}
+
+/// Does the same for each type, so that the loop in it is made once for each.
+macro_rules! by_kind {
+    ($kind:expr, $name:ident => $work:expr) => {
+        match $kind {
+            PixelType::I8 => {
+                let $name = PixelType::I8;
+                $work
+            }
+            PixelType::U8 => {
+                let $name = PixelType::U8;
+                $work
+            }
+            PixelType::I16 => {
+                let $name = PixelType::I16;
+                $work
+            }
+            PixelType::U16 => {
+                let $name = PixelType::U16;
+                $work
+            }
+            PixelType::I32 => {
+                let $name = PixelType::I32;
+                $work
+            }
+            PixelType::U32 => {
+                let $name = PixelType::U32;
+                $work
+            }
+        }
+    };
 }
 
 /// Where the bytes of the value at a place begin.
@@ -61,6 +94,20 @@ fn lay_bytes(bytes: &mut Vec<u8>, at: usize, run: &[u8])
 {
     let place = &mut bytes[at..at + run.len()];
     place.copy_from_slice(run);
+}
+
+/// Lays the bytes of values over the front.
+#[inline(always)]
+fn write_values(kind: PixelType, values: &[i64], out: &mut [u8])
+    requires room { length values.now * bytes_of kind ≤ length out.old }
+    requires in_range { All (InRange kind) values.now }
+    ensures { out.new ≡ values_bytes kind values.now
+        ++ drop (length values.now * bytes_of kind) out.old }
+{
+    let size = kind.bytes();
+    for (i, value) in values.iter().enumerate() {
+        kind.write_value(*value, &mut out[i * size..]);
+    }
 }
 
 /// Takes bytes over those from `from` to `end`, and answers how many.
@@ -103,8 +150,45 @@ impl Cells {
         ensures value { result ≡ get_or self.now.values at (pos 0) }
         ensures in_range { InRange self.now.kind result }
     {
-        let from = place(self.kind, self.count, at);
-        self.kind.read_value(&self.bytes[from..])
+        self.get_as(self.kind, at)
+    }
+
+    /// Does what `get` does, for a type that is known before.
+    #[inline(always)]
+    fn get_as(&self, kind: PixelType, at: usize) -> i64
+        requires kind { kind ≡ self.now.kind }
+        requires within { at < length self.now.values }
+        ensures value { result ≡ get_or self.now.values at (pos 0) }
+        ensures in_range { InRange self.now.kind result }
+    {
+        let from = place(kind, self.count, at);
+        kind.read_value(&self.bytes[from..])
+    }
+
+    /// The values at a depth of the pixels from `first` on, of which each has `depth`.
+    pub fn get_pixels(&self, first: usize, depth: usize, d: usize, out: &mut [i64])
+        requires few { length self.now.values ≤ 16777216 }
+        requires depth { d < depth }
+        requires within { (first + length out.old) * depth ≤ length self.now.values }
+        ensures { out.new ≡ map (λ k. get_or self.now.values (k * depth + d) (pos 0))
+            (range_with_len first (length out.old)) }
+    {
+        by_kind!(self.kind, kind => self.get_pixels_as(kind, first, depth, d, out))
+    }
+
+    /// Does what `get_pixels` does, for a type that is known before.
+    #[inline(always)]
+    fn get_pixels_as(&self, kind: PixelType, first: usize, depth: usize, d: usize, out: &mut [i64])
+        requires kind { kind ≡ self.now.kind }
+        requires few { length self.now.values ≤ 16777216 }
+        requires depth { d < depth }
+        requires within { (first + length out.old) * depth ≤ length self.now.values }
+        ensures { out.new ≡ map (λ k. get_or self.now.values (k * depth + d) (pos 0))
+            (range_with_len first (length out.old)) }
+    {
+        for i in 0..out.len() {
+            out[i] = self.get_as(kind, (first + i) * depth + d);
+        }
     }
 
     /// Puts a run of values of the type in the place of as many from `at` on.
@@ -116,9 +200,100 @@ impl Cells {
               ++ (values.now ++ drop (at + length values.now) self.old.values);
         } }
     {
-        let kind = self.kind;
+        by_kind!(self.kind, kind => self.put_run_as(kind, at, values))
+    }
+
+    /// Does what `put_run` does, for a type that is known before.
+    #[inline(always)]
+    fn put_run_as(&mut self, kind: PixelType, at: usize, values: &[i64])
+        requires kind { kind ≡ self.old.kind }
+        requires within { at + length values.now ≤ length self.old.values }
+        requires in_range { All (InRange self.old.kind) values.now }
+        ensures { self.new ≡ record self.old {
+          values = take at self.old.values
+              ++ (values.now ++ drop (at + length values.now) self.old.values);
+        } }
+    {
         let from = place(kind, self.count, at);
         write_values(kind, values, &mut self.bytes[from..]);
+    }
+
+    /// Puts values of the type at a depth of as many pixels from `first` on, of which each has `depth` values.
+    pub fn put_pixels(&mut self, first: usize, depth: usize, d: usize, values: &[i64])
+        requires few { length self.old.values ≤ 16777216 }
+        requires depth { d < depth }
+        requires within { (first + length values.now) * depth ≤ length self.old.values }
+        requires in_range { All (InRange self.old.kind) values.now }
+        ensures kind { self.new.kind ≡ self.old.kind }
+        ensures in_range { All (InRange self.old.kind) self.old.values
+            → All (InRange self.old.kind) self.new.values }
+        ensures size { length self.new.values ≡ length self.old.values }
+        ensures put { PutsPixels depth d first (length values.now) values.now self.old.values self.new.values }
+    {
+        if depth == 1 {
+            return self.put_run(first, values);
+        }
+        by_kind!(self.kind, kind => self.put_pixels_as(kind, first, depth, d, values))
+    }
+
+    /// Does what `put_pixels` does, for a type that is known before.
+    #[inline(always)]
+    fn put_pixels_as(
+        &mut self,
+        kind: PixelType,
+        first: usize,
+        depth: usize,
+        d: usize,
+        values: &[i64],
+    )
+        requires kind { kind ≡ self.old.kind }
+        requires few { length self.old.values ≤ 16777216 }
+        requires depth { d < depth }
+        requires within { (first + length values.now) * depth ≤ length self.old.values }
+        requires in_range { All (InRange self.old.kind) values.now }
+        ensures kind { self.new.kind ≡ self.old.kind }
+        ensures in_range { All (InRange self.old.kind) self.old.values
+            → All (InRange self.old.kind) self.new.values }
+        ensures size { length self.new.values ≡ length self.old.values }
+        ensures put { PutsPixels depth d first (length values.now) values.now self.old.values self.new.values }
+    {
+        for (i, value) in values.iter().enumerate() {
+            self.put_run_as(kind, (first + i) * depth + d, &[*value]);
+        }
+    }
+
+    /// Gives each of `count` pixels from `first` on this list of values.
+    pub fn fill_pixels(&mut self, first: usize, count: usize, pixel: &[i64])
+        requires few { length self.old.values ≤ 16777216 }
+        requires depth { 0 < length pixel.now }
+        requires within { (first + count) * length pixel.now ≤ length self.old.values }
+        requires in_range { All (InRange self.old.kind) pixel.now }
+        ensures kind { self.new.kind ≡ self.old.kind }
+        ensures in_range { All (InRange self.old.kind) self.old.values
+            → All (InRange self.old.kind) self.new.values }
+        ensures size { length self.new.values ≡ length self.old.values }
+        ensures filled { FillsPixels first count pixel.now self.old.values self.new.values }
+    {
+        by_kind!(self.kind, kind => self.fill_pixels_as(kind, first, count, pixel))
+    }
+
+    /// Does what `fill_pixels` does, for a type that is known before.
+    #[inline(always)]
+    fn fill_pixels_as(&mut self, kind: PixelType, first: usize, count: usize, pixel: &[i64])
+        requires kind { kind ≡ self.old.kind }
+        requires few { length self.old.values ≤ 16777216 }
+        requires depth { 0 < length pixel.now }
+        requires within { (first + count) * length pixel.now ≤ length self.old.values }
+        requires in_range { All (InRange self.old.kind) pixel.now }
+        ensures kind { self.new.kind ≡ self.old.kind }
+        ensures in_range { All (InRange self.old.kind) self.old.values
+            → All (InRange self.old.kind) self.new.values }
+        ensures size { length self.new.values ≡ length self.old.values }
+        ensures filled { FillsPixels first count pixel.now self.old.values self.new.values }
+    {
+        for i in 0..count {
+            self.put_run_as(kind, (first + i) * pixel.len(), pixel);
+        }
     }
 
     /// Puts the values that so many values' bytes stand for in the place of as many from `at` on.
@@ -200,8 +375,6 @@ impl Cells {
         ensures { self.new ≡ record self.old { values = replicate (length self.old.values) value } }
     {
         let count = self.count;
-        for at in 0..count {
-            self.set(at, value);
-        }
+        self.fill_pixels(0, count, &[value]);
     }
 }

@@ -1,4 +1,4 @@
-//! The two vectors of a raster in order: values one behind the other, and the mask as bytes.
+//! The values of a raster in order: one behind the other.
 
 ghost use Rattle.std.specs.Prelude.{◌≡◌, ℕ, ◌+◌, ◌-◌, ◌*◌, ◌/◌, ◌<◌, ◌≤◌, ◌++◌, [], ◌∷◌, pos, length, get_or, take, drop, All, true, false};
 ghost use Rattle.raster_values.specs.PixelType.{InRange, bytes_of};
@@ -9,12 +9,13 @@ ghost use Rattle.raster_values.specs.Grid.{values_bytes};
 ghost use Rattle.raster_values.specs.inside.Ordered.{FillsMarked, KeepsUnmarked, PutsMarked};
 
 use super::cells::Cells;
-use super::grid::run_end;
+use super::mask::Mask;
 
 /// Gives each marked pixel this list of values, one for each depth.
-pub(super) fn fill_marked(marks: &[bool], pixel: &[i64], values: &mut Cells)
+pub(super) fn fill_marked(marks: &Mask, pixel: &[i64], values: &mut Cells)
     requires size { length values.old.values ≡ length marks.now * length pixel.now }
     requires few { length values.old.values ≤ 16777216 }
+    requires depth { 0 < length pixel.now }
     requires in_range { All (InRange values.old.kind) pixel.now }
     ensures kind { values.new.kind ≡ values.old.kind }
     ensures in_range { All (InRange values.old.kind) values.old.values
@@ -23,16 +24,16 @@ pub(super) fn fill_marked(marks: &[bool], pixel: &[i64], values: &mut Cells)
     ensures filled { FillsMarked (length marks.now) marks.now pixel.now values.old.values
         values.new.values }
 {
-    let depth = pixel.len();
-    for k in 0..marks.len() {
-        if marks[k] {
-            values.put_run(k * depth, pixel);
-        }
+    let mut at = 0;
+    while at < marks.len() {
+        let run = marks.next_run(at, marks.len());
+        values.fill_pixels(run.start, run.end - run.start, pixel);
+        at = run.end;
     }
 }
 
 /// Gives the marked pixels the values that the bytes stand for, run by run.
-pub(super) fn pour_bytes(marks: &[bool], depth: usize, bytes: &[u8], values: &mut Cells)
+pub(super) fn pour_bytes(marks: &Mask, depth: usize, bytes: &[u8], values: &mut Cells)
     requires size { length values.old.values ≡ length marks.now * depth }
     requires few { length values.old.values ≤ 16777216 }
     requires count { length bytes.now ≡ length (values_of
@@ -49,42 +50,18 @@ pub(super) fn pour_bytes(marks: &[bool], depth: usize, bytes: &[u8], values: &mu
     let mut at = 0;
     let mut from = 0;
     while at < marks.len() {
-        let start = run_end(marks, at, false);
-        let end = run_end(marks, start, true);
-        let count = (end - start) * depth;
+        let run = marks.next_run(at, marks.len());
+        let count = (run.end - run.start) * depth;
         let next = from + count * size;
-        values.put_bytes(start * depth, count, &bytes[from..next]);
+        values.put_bytes(run.start * depth, count, &bytes[from..next]);
         from = next;
-        at = end;
-    }
-}
-
-/// The marks from `place` on.
-pub(super) fn copy_marks(marks: &[bool], place: usize, out: &mut [bool])
-    requires { place + length out.old ≤ length marks.now }
-    ensures { out.new ≡ take (length out.old) (drop place marks.now) }
-{
-    let end = place + out.len();
-    out.copy_from_slice(&marks[place..end]);
-}
-
-/// The values at a depth of the pixels from `place` on.
-pub(super) fn copy_values(values: &Cells, depth: usize, d: usize, place: usize, out: &mut [i64])
-    requires few { length values.now.values ≤ 16777216 }
-    requires depth { d < depth }
-    requires within { (place + length out.old) * depth ≤ length values.now.values }
-    ensures room { length out.new ≡ length out.old }
-    ensures values { (i : ℕ) → i < length out.old → get_or out.new i (pos 0)
-        ≡ get_or values.now.values ((place + i) * depth + d) (pos 0) }
-{
-    for i in 0..out.len() {
-        out[i] = values.get((place + i) * depth + d);
+        at = run.end;
     }
 }
 
 /// Gives the marked ones among the pixels from `place` on these values at a depth.
 pub(super) fn put_values(
-    marks: &[bool],
+    marks: &Mask,
     depth: usize,
     d: usize,
     place: usize,
@@ -103,16 +80,18 @@ pub(super) fn put_values(
     ensures put { PutsMarked depth d marks.now place (length input.now) input.now values.old.values
         values.new.values }
 {
-    for (i, value) in input.iter().enumerate() {
-        let k = place + i;
-        if marks[k] {
-            values.set(k * depth + d, *value);
-        }
+    let end = place + input.len();
+    let mut k = place;
+    while k < end {
+        let run = marks.next_run(k, end);
+        let piece = &input[run.start - place..run.end - place];
+        values.put_pixels(run.start, depth, d, piece);
+        k = run.end;
     }
 }
 
 /// The bytes of the marked pixels' values, run by run.
-pub(super) fn write_valid(marks: &[bool], depth: usize, values: &Cells, out: &mut [u8])
+pub(super) fn write_valid(marks: &Mask, depth: usize, values: &Cells, out: &mut [u8])
     requires size { length values.now.values ≡ length marks.now * depth }
     requires few { length values.now.values ≤ 16777216 }
     requires room { length out.old ≡ length (values_of
@@ -124,35 +103,11 @@ pub(super) fn write_valid(marks: &[bool], depth: usize, values: &Cells, out: &mu
     let mut at = 0;
     let mut from = 0;
     while at < marks.len() {
-        let start = run_end(marks, at, false);
-        let end = run_end(marks, start, true);
-        let count = (end - start) * depth;
+        let run = marks.next_run(at, marks.len());
+        let count = (run.end - run.start) * depth;
         let next = from + count * size;
-        out[from..next].copy_from_slice(values.bytes_of_run(start * depth, count));
+        out[from..next].copy_from_slice(values.bytes_of_run(run.start * depth, count));
         from = next;
-        at = end;
-    }
-}
-
-/// Eight marks as the bits of a byte, the first of them highest. Those behind the last mark count as 0.
-fn byte_of_marks(marks: &[bool], from: usize) -> u8
-    requires { from ≤ length marks.now }
-    ensures { (j : ℕ) → j < 8 → mask_bit (result ∷ []) j ≡ get_or marks.now (from + j) false }
-{
-    let mut byte = 0;
-    for j in 0..8 {
-        let mark = from + j < marks.len() && marks[from + j];
-        byte = byte * 2 + u8::from(mark);
-    }
-    byte
-}
-
-/// The marks as bits, the highest of each byte first. The bits behind the last mark are 0.
-pub(super) fn bytes_of_marks(marks: &[bool], out: &mut [u8])
-    requires { length out.old ≡ (length marks.now + 7) / 8 }
-    ensures { (k : ℕ) → mask_bit out.new k ≡ get_or marks.now k false }
-{
-    for i in 0..out.len() {
-        out[i] = byte_of_marks(marks, i * 8);
+        at = run.end;
     }
 }

@@ -14,6 +14,7 @@ ghost use Rattle.raster_values.specs.Block.{SameMask, block_count, block_values,
 
 use super::cells::Cells;
 use super::kind::PixelType;
+use super::mask::Mask;
 use super::reading::GridStop;
 use super::{blocks, grid, order, reading};
 use outside_io::{Failed, Sink, Source};
@@ -56,7 +57,7 @@ pub struct Raster {
     cols: u32,
     depth: u32,
     // Both row by row, the values with the depths innermost. An invalid pixel's values are 0.
-    marks: Vec<bool>,
+    marks: Mask,
     values: Cells,
 }
 
@@ -84,35 +85,10 @@ fn offset(rows: u32, cols: u32, depth: u32, row: u32, col: u32, d: u32) -> usize
     (row as usize * cols as usize + col as usize) * depth as usize + d as usize
 }
 
-/// How many marks are set.
-fn count_marks(marks: &[bool]) -> usize
-    ensures { result ≡ count_by (λ m. m) marks.now }
-{
-    marks.iter().filter(|m| **m).count()
-}
-
-/// Sets every mark.
-fn fill_marks(marks: &mut Vec<bool>)
-    ensures { marks.new.items ≡ replicate (length marks.old.items) true }
-{
-    let all = &mut marks[..];
-    all.fill(true);
-}
-
-/// Sets the marks as the bits of a mask say, the highest of each byte first.
-fn mark_bits(marks: &mut [bool], mask: &[u8])
-    requires { length mask.now ≡ (length marks.old + 7) / 8 }
-    ensures { (k : ℕ) → k < length marks.old → get_or marks.new k false ≡ mask_bit mask.now k }
-{
-    for k in 0..marks.len() {
-        marks[k] = (mask[k / 8] >> (7 - k % 8)) % 2 == 1;
-    }
-}
-
 impl Raster {
     /// A raster of which no pixel is valid.
     ///
-    /// Each value that a raster may hold takes eight bytes of memory, and each pixel one more. After a
+    /// Each value that a raster may hold takes the bytes of its type, and eight pixels one more. After a
     /// fault no memory is kept.
     pub fn new(
         alloc: Global,
@@ -136,7 +112,7 @@ impl Raster {
         if places > 16777216 || places * depth as u64 > 16777216 {
             return Err(ShapeFault::TooLarge);
         }
-        let marks = vec![in alloc; false; places as usize]?;
+        let marks = Mask::new(alloc, places as usize)?;
         let values = Cells::new(alloc, kind, places as usize * depth as usize)?;
         Ok(Raster {
             rows,
@@ -179,12 +155,12 @@ impl Raster {
         self.depth
     }
 
-    /// How many pixels are valid. This looks at each pixel.
+    /// How many pixels are valid.
     pub fn valid_count(&self) -> u32
         ensures value { result ≡ valid_count self.now }
         ensures within { result ≤ self.now.rows * self.now.cols }
     {
-        count_marks(&self.marks) as u32
+        self.marks.valid_count() as u32
     }
 
     /// Whether the pixel is valid.
@@ -192,7 +168,8 @@ impl Raster {
         requires { InShape self.now row col }
         ensures { result ≡ valid_at self.now row col }
     {
-        self.marks[row as usize * self.cols as usize + col as usize]
+        self.marks
+            .get(row as usize * self.cols as usize + col as usize)
     }
 
     /// The value of the pixel at a depth, and 0 of an invalid pixel.
@@ -215,7 +192,7 @@ impl Raster {
         let place = row as usize * self.cols as usize + col as usize;
         let depth = self.depth;
         let at = offset(self.rows, self.cols, depth, row, col, 0);
-        self.marks[place] = valid;
+        self.marks.set(place, valid);
         if !valid {
             self.values.clear(at, depth as usize);
         }
@@ -239,7 +216,7 @@ impl Raster {
         requires { InRange self.old.kind value }
         ensures { self.new ≡ filled self.old value }
     {
-        fill_marks(&mut self.marks);
+        self.marks.fill();
         self.values.fill(value);
     }
 
@@ -249,7 +226,7 @@ impl Raster {
         requires { valid_count self.old ≡ 0 }
         ensures { self.new ≡ filled self.old (pos 0) }
     {
-        fill_marks(&mut self.marks);
+        self.marks.fill();
     }
 
     /// Makes the pixels of a raster of which none is valid valid where their bit of the mask is 1, with the
@@ -260,7 +237,7 @@ impl Raster {
         requires size { length mask.now ≡ (self.old.rows * self.old.cols + 7) / 8 }
         ensures { MarksBits self.old self.new mask.now }
     {
-        mark_bits(&mut self.marks, mask);
+        self.marks.set_all(mask);
     }
 
     /// How many pixels of a block are valid: of the `side` rows and columns from (row, col) on, cut off at
@@ -342,7 +319,7 @@ impl Raster {
         ensures marks { (i : ℕ) → i < length out.old → get_or out.new i false
             ≡ is_some (get_or self.now.pixels (place + i) None) }
     {
-        order::copy_marks(&self.marks, place, out);
+        self.marks.copy_run(place, out);
     }
 
     /// The values at a depth of the pixels from number `place` on, 0 of invalid ones.
@@ -353,7 +330,8 @@ impl Raster {
         ensures values { (i : ℕ) → i < length out.old → get_or out.new i (pos 0)
             ≡ value_in self.now d (place + i) }
     {
-        order::copy_values(&self.values, self.depth as usize, d as usize, place, out);
+        self.values
+            .get_pixels(place, self.depth as usize, d as usize, out);
     }
 
     /// Gives the valid ones among the pixels from number `place` on these values at a depth, and
@@ -410,20 +388,18 @@ impl Raster {
         requires { length out.old ≡ (self.now.rows * self.now.cols + 7) / 8 }
         ensures { IsMaskOf self.now out.new }
     {
-        order::bytes_of_marks(&self.marks, out);
+        out.copy_from_slice(self.marks.bytes());
     }
 
     /// A raster equal to this one.
     pub fn copy(&self, alloc: Global) -> Result<Raster, AllocError>
         ensures { IfOk result (λ r. r ≡ self.now) }
     {
-        let mut marks = Vec::with_capacity(alloc, self.marks.len())?;
-        marks.extend_from_slice(&self.marks)?;
         Ok(Raster {
             rows: self.rows,
             cols: self.cols,
             depth: self.depth,
-            marks,
+            marks: self.marks.copy(alloc)?,
             values: self.values.copy(alloc)?,
         })
     }

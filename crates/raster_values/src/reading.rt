@@ -10,8 +10,8 @@ ghost use Rattle.raster_values.specs.Grid.{values_bytes};
 ghost use Rattle.raster_values.specs.ReadGrid.{IsHead, AreMarks, AreLawful, TookBytes, TookGrid, TookSome, IsToldFault, CountsGridStop, number_at, magic_faults, head_faults, mark_faults, value_faults, grid_faults};
 
 use super::cells::Cells;
-use super::grid::run_end;
 use super::kind::PixelType;
+use super::mask::Mask;
 use super::raster::Raster;
 use byteorder::{ByteOrder, LittleEndian};
 use outside_io::{Failed, Source, take_all};
@@ -220,13 +220,9 @@ fn first_wrong(bytes: &[u8]) -> usize
 }
 
 /// Takes a mark for each pixel.
-pub(super) fn take_marks<S: Source>(
-    src: &mut S,
-    at: u64,
-    marks: &mut [bool],
-) -> Result<(), GridStop>
+pub(super) fn take_marks<S: Source>(src: &mut S, at: u64, marks: &mut Mask) -> Result<(), GridStop>
     requires at { at < 2 ^ 61 }
-    requires few { length marks.old ≤ 16777216 }
+    ensures size { length marks.new ≡ length marks.old }
     ensures ok { OnOk result ((bytes : List ℕ) × (AreMarks (length marks.old) bytes marks.new
         × TookBytes (S.left src.old) (S.left src.new) bytes)) }
     ensures err { IfErr result (λ stop. IsToldFault (mark_faults (length marks.old)) (S.left src.old) at stop) }
@@ -239,27 +235,17 @@ pub(super) fn take_marks<S: Source>(
         let want = PIECE.min(marks.len() - done);
         let piece = &mut buffer[..want];
         take_piece(src, at + done as u64, piece)?;
-        set_marks(piece, marks, done);
+        marks.set_run(done, piece);
         done += want;
     }
     Ok(())
-}
-
-/// Sets the marks from `from` on as the bytes say.
-fn set_marks(bytes: &[u8], marks: &mut [bool], from: usize)
-    requires { from + length bytes.now ≤ length marks.old }
-    ensures { marks.new ≡ take from marks.old ++ (map (λ b. nat_eq b 1) bytes.now ++ drop (from + length bytes.now) marks.old) }
-{
-    for (i, byte) in bytes.iter().enumerate() {
-        marks[from + i] = *byte == 1;
-    }
 }
 
 /// Takes the values of the marked pixels, which are zeros so far, run by run.
 pub(super) fn take_values<S: Source>(
     src: &mut S,
     at: u64,
-    marks: &[bool],
+    marks: &Mask,
     depth: usize,
     values: &mut Cells,
 ) -> Result<(), GridStop>
@@ -283,15 +269,14 @@ pub(super) fn take_values<S: Source>(
     let mut done = 0;
     let mut from = 0;
     while done < marks.len() {
-        let start = run_end(marks, done, false);
-        let end = run_end(marks, start, true);
-        let count = (end - start) * depth;
-        let n = values.take_run(src, start * depth, count)?;
+        let run = marks.next_run(done, marks.len());
+        let count = (run.end - run.start) * depth;
+        let n = values.take_run(src, run.start * depth, count)?;
         if n < count * size {
             return Err(stop_at(at, fault(GridReason::Truncated, from + n)));
         }
         from += n;
-        done = end;
+        done = run.end;
     }
     Ok(())
 }

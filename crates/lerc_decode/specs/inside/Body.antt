@@ -11,7 +11,7 @@ use Rattle.lerc_header.specs.declared.header.Header.{Header}
 use Rattle.lerc_header.specs.declared.fault.BlobReason.{BlobReason}
 use Rattle.lerc_header.specs.Head.{head_length}
 use Rattle.lerc_header.specs.Checksum.{sum_of}
-use Rattle.lerc_grammar.specs.declared.outline.MaskForm.{MaskForm}
+use Rattle.lerc_grammar.specs.declared.parts.MaskForm.{MaskForm}
 use Rattle.lerc_grammar.specs.Outline.{image_place}
 use Rattle.lerc_grammar.specs.Mask.{IsMask, mask_size, count_of}
 use Rattle.lerc_grammar.specs.Image.{value_count}

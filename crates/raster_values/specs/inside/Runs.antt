@@ -43,3 +43,11 @@ pub record LeavesRun (depth d : ℕ) (marks : List Bool) (from count : ℕ) (old
 pub record LeavesRows (depth d : ℕ) (marks : List Bool) (cols row col high wide : ℕ) (old new : List ℤ) : Type 0 where
   pub rest : (k e : ℕ) → e < depth → ((i : ℕ) → row ≤ i → i < row + high → i * cols + col ≤ k → k < i * cols + col + wide → get_or marks k false ≡ true → e ≡ d → ⊥)
       → get_or new (k * depth + e) (pos 0) ≡ get_or old (k * depth + e) (pos 0)
+
+-- no pixel from `at` on is marked, then every one from `start` on, up to `end`
+pub record AreRuns (marks : List Bool) (at start end : ℕ) : Type 0 where
+  pub first : at ≤ start
+  pub second : start ≤ end
+  pub within : end ≤ length marks
+  pub off : (k : ℕ) → at ≤ k → k < start → get_or marks k false ≡ false
+  pub on : (k : ℕ) → start ≤ k → k < end → get_or marks k false ≡ true

@@ -14,12 +14,12 @@ pixels_of depth [] values = []
 pixels_of depth (mark ∷ marks) values = (if mark then Some (take depth values) else None) ∷ pixels_of depth marks (drop depth values)
 
 abbrev pub seen : Inside → Pixels
-seen a = record { kind = a.values.kind; rows = a.rows; cols = a.cols; depth = a.depth; pixels = pixels_of a.depth a.marks.items a.values.values }
+seen a = record { kind = a.values.kind; rows = a.rows; cols = a.cols; depth = a.depth; pixels = pixels_of a.depth a.marks a.values.values }
 
 pub record IsInside (a : Inside) : Type 0 where
   pub shape : IsShape a.rows a.cols a.depth
-  pub marks : length a.marks.items ≡ a.rows * a.cols
+  pub marks : length a.marks ≡ a.rows * a.cols
   pub values : length a.values.values ≡ a.rows * a.cols * a.depth
   pub in_range : All (InRange a.values.kind) a.values.values
   -- the values of an invalid pixel are 0
-  pub zeros : (k d : ℕ) → k < length a.marks.items → d < a.depth → get_or a.marks.items k false ≡ false → get_or a.values.values (k * a.depth + d) (pos 0) ≡ pos 0
+  pub zeros : (k d : ℕ) → k < length a.marks → d < a.depth → get_or a.marks k false ≡ false → get_or a.values.values (k * a.depth + d) (pos 0) ≡ pos 0

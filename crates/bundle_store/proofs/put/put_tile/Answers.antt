@@ -1,6 +1,7 @@
-use Rattle.std.proofs.Common.{◌≡◌, ◌<◌, ◌≤◌, ◌⊎◌, inl, inr, refl, ℕ, suc, ◌+◌, List, ◌∷◌, ◌++◌, drop, length, take, sym, ap, ◌∙◌, subst, arith, rules}
-use Rattle.outside_io.specs.volume.Disk.{Disk, File, settled}
-use Rattle.outside_io.specs.volume.History.{During, contents, current}
+use Rattle.std.proofs.Common.{◌≡◌, inl, refl, ℕ, List, Result, length, sym, ap, ◌∙◌, subst, arith}
+use Rattle.outside_io.specs.volume.Disk.{Disk, IsQuiet}
+use Rattle.outside_io.specs.volume.History.{During, History, Ticks, current}
+use Rattle.side_journal.specs.Says.{IsOpen}
 use Rattle.outside_io.proofs.VolumeLemmas.Moments.{during_end, during_join, during_map}
 use Rattle.bundle_index.specs.Entry.{entry_at}
 use Rattle.bundle_index.specs.declared.entry.Entry.{Entry}
@@ -27,51 +28,41 @@ use Rattle.bundle_store.specs.Layout.{layout}
 use Rattle.bundle_store.proofs.Rests.{holds_rest, opens_nothing, opens_put}
 use Rattle.bundle_store.proofs.put.put_tile.Goals as goal
 
+-- the bundle is measured, and is as it was
+measured : {T E : Type 0} (slot : ℕ) (tile : List ℕ) (old next : History) (r : Result T E) → IsQuiet (current old) → ¬ IsOpen (current old).journal.now → Ticks old next r → current next ≡ current old
+    → During (λ d. IsReadable (current old).bundle.now → EachImage (WithOrWithout slot tile (tiles (current old).bundle.now)) d) old next
+measured slot tile old next r quiet closed tick same =
+    let Either = WithOrWithout slot tile (tiles (current old).bundle.now) in
+    let Pass : Disk → Type 0 = λ d. IsReadable (current old).bundle.now → EachImage Either d in
+    stays_on Pass old old next r (started Pass old (λ readable. still_good Either (current old) quiet closed readable (inl refl))) tick same
+
+-- the bundle is measured, which is empty, and the tile is put
+put_first : {T E : Type 0} (slot : ℕ) (tile : List ℕ) (old next last : History) (r : Result T E) → IsQuiet (current old) → ¬ IsOpen (current old).journal.now → Ticks old next r → current next ≡ current old
+    → length (current old).bundle.now ≡ 0 → During (EachImage (WithOrWithout slot tile no_tiles)) next last
+    → During (λ d. IsReadable (current old).bundle.now → EachImage (WithOrWithout slot tile (tiles (current old).bundle.now)) d) old last
+put_first slot tile old next last r quiet closed tick same zero during =
+    let b = (current old).bundle.now in
+    let none : tiles b ≡ no_tiles = ap tiles (nil_from_length b zero) ∙ tiles_empty in
+    during_join _ old next last (measured slot tile old next r quiet closed tick same)
+    (during_map _ _ next last (λ d each readable. subst (λ (m : TileMap). EachImage (WithOrWithout slot tile m) d) (sym none) each) during)
+
 pub returns-in_err-len-clause-images : goal.returns-in_err-len-clause-images
 returns-in_err-len-clause-images g c = λ told.
-    let old = g.V.Volume.history c.args.vol.now in
-    let b = (current old).bundle.now in
-    let Either = WithOrWithout c.args.slot c.args.tile.now (tiles b) in
-    let Pass : Disk → Type 0 = λ d. IsReadable b → EachImage Either d in
-    let start : Pass (current old) = λ readable. still_good Either (current old) (c.requires.quiet told) (c.requires.closed told) readable (inl refl) in
-    let measuring = stays_on Pass _ _ _ _ (started Pass old start) c.len.ensures.time (c.len.ensures.disk told) in
-    measuring
+    measured c.args.slot c.args.tile.now _ _ _ (c.requires.quiet told) (c.requires.closed told) c.len.ensures.time (c.len.ensures.disk told)
 
 pub returns-then-len-tile-clause-images : goal.returns-then-len-tile-clause-images
 returns-then-len-tile-clause-images g c = λ told.
-    let old = g.V.Volume.history c.args.vol.now in
-    let b = (current old).bundle.now in
-    let Either = WithOrWithout c.args.slot c.args.tile.now (tiles b) in
-    let Pass : Disk → Type 0 = λ d. IsReadable b → EachImage Either d in
-    let start : Pass (current old) = λ readable. still_good Either (current old) (c.requires.quiet told) (c.requires.closed told) readable (inl refl) in
-    let measuring = stays_on Pass _ _ _ _ (started Pass old start) c.len.ensures.time (c.len.ensures.disk told) in
-    measuring
+    measured c.args.slot c.args.tile.now _ _ _ (c.requires.quiet told) (c.requires.closed told) c.len.ensures.time (c.len.ensures.disk told)
 
 pub returns-in_err-put_on_nothing-clause-images : goal.returns-in_err-put_on_nothing-clause-images
 returns-in_err-put_on_nothing-clause-images g c = λ told.
-    let old = g.V.Volume.history c.args.vol.now in
-    let b = (current old).bundle.now in
-    let Either = WithOrWithout c.args.slot c.args.tile.now (tiles b) in
-    let Pass : Disk → Type 0 = λ d. IsReadable b → EachImage Either d in
-    let start : Pass (current old) = λ readable. still_good Either (current old) (c.requires.quiet told) (c.requires.closed told) readable (inl refl) in
-    let measuring = stays_on Pass _ _ _ _ (started Pass old start) c.len.ensures.time (c.len.ensures.disk told) in
-    let zero : length b ≡ 0 = omega (arith, c.in_ok-len.ensures.answer told) in
-    let none : tiles b ≡ no_tiles = ap tiles (nil_from_length b zero) ∙ tiles_empty in
-    let putting = during_map _ Pass _ _ (λ d each readable. subst (λ (m : TileMap). EachImage (WithOrWithout c.args.slot c.args.tile.now m) d) (sym none) each) (c.put_on_nothing.ensures.images (c.len.ensures.told ∙ told)) in
-    during_join Pass _ _ _ measuring putting
+    put_first c.args.slot c.args.tile.now _ _ _ _ (c.requires.quiet told) (c.requires.closed told) c.len.ensures.time (c.len.ensures.disk told)
+    (omega (arith, c.in_ok-len.ensures.answer told)) (c.put_on_nothing.ensures.images (c.len.ensures.told ∙ told))
 
 pub returns-in_ok-put_on_nothing-clause-images : goal.returns-in_ok-put_on_nothing-clause-images
 returns-in_ok-put_on_nothing-clause-images g c = λ told.
-    let old = g.V.Volume.history c.args.vol.now in
-    let b = (current old).bundle.now in
-    let Either = WithOrWithout c.args.slot c.args.tile.now (tiles b) in
-    let Pass : Disk → Type 0 = λ d. IsReadable b → EachImage Either d in
-    let start : Pass (current old) = λ readable. still_good Either (current old) (c.requires.quiet told) (c.requires.closed told) readable (inl refl) in
-    let measuring = stays_on Pass _ _ _ _ (started Pass old start) c.len.ensures.time (c.len.ensures.disk told) in
-    let zero : length b ≡ 0 = omega (arith, c.in_ok-len.ensures.answer told) in
-    let none : tiles b ≡ no_tiles = ap tiles (nil_from_length b zero) ∙ tiles_empty in
-    let putting = during_map _ Pass _ _ (λ d each readable. subst (λ (m : TileMap). EachImage (WithOrWithout c.args.slot c.args.tile.now m) d) (sym none) each) (c.put_on_nothing.ensures.images (c.len.ensures.told ∙ told)) in
-    during_join Pass _ _ _ measuring putting
+    put_first c.args.slot c.args.tile.now _ _ _ _ (c.requires.quiet told) (c.requires.closed told) c.len.ensures.time (c.len.ensures.disk told)
+    (omega (arith, c.in_ok-len.ensures.answer told)) (c.put_on_nothing.ensures.images (c.len.ensures.told ∙ told))
 
 pub returns-then-len-tile-clause-kept : goal.returns-then-len-tile-clause-kept
 returns-then-len-tile-clause-kept g c = λ told.

@@ -9,38 +9,22 @@ use Rattle.bundle_store.specs.inside.Parts.{EachKeeps, IsUnderWay}
 use Rattle.bundle_store.specs.Images.{EachImage}
 use Rattle.bundle_store.specs.Recover.{EachStandsForOneOf, IsRecovered}
 use Rattle.bundle_store.specs.Tiles.{TileMap, no_tiles, tiles}
-use Rattle.bundle_store.proofs.Recovering.{in_emptied, in_wiping, keeps_empty, keeps_start, keeps_tile, one_of, recovered_empty, recovered_tile}
+use Rattle.bundle_store.proofs.Recovering.{keeps_reading}
 use Rattle.bundle_store.proofs.recovery.finish.Goals as goal
 
 pub returns-in_err-read_journal-clause-images : goal.returns-in_err-read_journal-clause-images
 returns-in_err-read_journal-clause-images g c = λ told.
-    let old = g.V.Volume.history c.args.vol.now in
-    let b = (current old).bundle.now in
-    let j = (current old).journal.now in
-    let Pass = EachKeeps b j in
-    let start = keeps_start (current old) (c.requires.quiet told) in
-    let reading = during_map _ Pass _ _ (λ d same. subst Pass (sym same) start) (c.read_journal.ensures.during told) in
-    reading
+    keeps_reading _ _ (c.requires.quiet told) (c.read_journal.ensures.during told)
 
 pub returns-in-Closed-clause-images : goal.returns-in-Closed-clause-images
 returns-in-Closed-clause-images g c = λ told.
-    let old = g.V.Volume.history c.args.vol.now in
-    let b = (current old).bundle.now in
-    let j = (current old).journal.now in
-    let Pass = EachKeeps b j in
-    let start = keeps_start (current old) (c.requires.quiet told) in
-    let reading = during_map _ Pass _ _ (λ d same. subst Pass (sym same) start) (c.read_journal.ensures.during told) in
-    reading
+    keeps_reading _ _ (c.requires.quiet told) (c.read_journal.ensures.during told)
 
 pub returns-in-Open-clause-images : goal.returns-in-Open-clause-images
 returns-in-Open-clause-images g c = λ told.
     let old = g.V.Volume.history c.args.vol.now in
-    let b = (current old).bundle.now in
-    let j = (current old).journal.now in
-    let Pass = EachKeeps b j in
-    let start = keeps_start (current old) (c.requires.quiet told) in
-    let reading = during_map _ Pass _ _ (λ d same. subst Pass (sym same) start) (c.read_journal.ensures.during told) in
     let next = g.V.Volume.history c.read_journal.new.vol in
     let still : current next ≡ current old = during_end (λ d. d ≡ current old) old next (c.read_journal.ensures.during told) in
-    let following = during_map _ Pass _ _ (λ d keeps. subst (λ (x : Disk). EachKeeps x.bundle.now x.journal.now d) still keeps) (c.follow.ensures.images (c.read_journal.ensures.told ∙ told)) in
-    during_join Pass _ _ _ reading following
+    let reading = keeps_reading old next (c.requires.quiet told) (c.read_journal.ensures.during told) in
+    let following = during_map _ _ _ _ (λ d keeps. subst (λ (x : Disk). EachKeeps x.bundle.now x.journal.now d) still keeps) (c.follow.ensures.images (c.read_journal.ensures.told ∙ told)) in
+    during_join _ _ _ _ reading following

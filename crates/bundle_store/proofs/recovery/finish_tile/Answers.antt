@@ -9,54 +9,23 @@ use Rattle.bundle_store.specs.inside.Parts.{EachKeeps, IsUnderWay}
 use Rattle.bundle_store.specs.Images.{EachImage}
 use Rattle.bundle_store.specs.Recover.{EachStandsForOneOf, IsRecovered}
 use Rattle.bundle_store.specs.Tiles.{TileMap, no_tiles, tiles}
-use Rattle.bundle_store.proofs.Recovering.{in_emptied, in_wiping, keeps_empty, keeps_start, keeps_tile, one_of, recovered_empty, recovered_tile}
+use Rattle.bundle_store.proofs.Recovering.{keeps_measuring, keeps_putting, recovered_tile}
 use Rattle.bundle_store.proofs.Standing.{way_at}
 use Rattle.bundle_store.proofs.recovery.finish_tile.Goals as goal
 
 pub returns-in_err-len-clause-images : goal.returns-in_err-len-clause-images
 returns-in_err-len-clause-images g c = λ told.
-    let old = g.V.Volume.history c.args.vol.now in
-    let b = (current old).bundle.now in
-    let j = (current old).journal.now in
-    let Pass = EachKeeps b j in
-    let measuring = stays_on Pass _ _ _ _ (started Pass old (keeps_start (current old) (c.requires.quiet told))) c.len.ensures.time (c.len.ensures.disk told) in
-    measuring
+    keeps_measuring _ _ _ (c.requires.quiet told) c.len.ensures.time (c.len.ensures.disk told)
 
 pub returns-in_err-redo-clause-images : goal.returns-in_err-redo-clause-images
 returns-in_err-redo-clause-images g c = λ told.
-    let old = g.V.Volume.history c.args.vol.now in
-    let b = (current old).bundle.now in
-    let j = (current old).journal.now in
-    let Pass = EachKeeps b j in
-    let measuring = stays_on Pass _ _ _ _ (started Pass old (keeps_start (current old) (c.requires.quiet told))) c.len.ensures.time (c.len.ensures.disk told) in
-    let next = g.V.Volume.history c.len.new.self in
-    let still : current next ≡ current old = c.len.ensures.disk told in
-    let told_1 = c.len.ensures.told ∙ told in
-    let over = with_entry c.args.header.now c.args.slot c.args.entry in
-    let bundle : (current next).bundle.now ≡ b = ap (λ (d : Disk). d.bundle.now) still in
-    let journal : (current next).journal.now ≡ j = ap (λ (d : Disk). d.journal.now) still in
-    let redoing = during_map _ Pass _ _ (λ d each. keeps_tile b j c.args.slot c.args.entry c.args.length c.args.header.now d (c.requires.opened told) (c.requires.says told) (λ way.
-    subst (λ (l : List ℕ). EachImage (λ map. map ≡ tiles (over l)) d) bundle (each (way_at b (current next).bundle.now j (current next).journal.now c.args.slot c.args.entry c.args.header.now bundle journal way))))
-    (c.redo.ensures.images told_1) in
-    during_join Pass _ _ _ measuring redoing
+    keeps_putting c.args.slot c.args.entry c.args.length c.args.header.now _ _ _ _ (c.requires.quiet told) (c.requires.opened told) (c.requires.says told)
+    c.len.ensures.time (c.len.ensures.disk told) (c.redo.ensures.images (c.len.ensures.told ∙ told))
 
 pub returns-clause-images : goal.returns-clause-images
 returns-clause-images g c = λ told.
-    let old = g.V.Volume.history c.args.vol.now in
-    let b = (current old).bundle.now in
-    let j = (current old).journal.now in
-    let Pass = EachKeeps b j in
-    let measuring = stays_on Pass _ _ _ _ (started Pass old (keeps_start (current old) (c.requires.quiet told))) c.len.ensures.time (c.len.ensures.disk told) in
-    let next = g.V.Volume.history c.len.new.self in
-    let still : current next ≡ current old = c.len.ensures.disk told in
-    let told_1 = c.len.ensures.told ∙ told in
-    let over = with_entry c.args.header.now c.args.slot c.args.entry in
-    let bundle : (current next).bundle.now ≡ b = ap (λ (d : Disk). d.bundle.now) still in
-    let journal : (current next).journal.now ≡ j = ap (λ (d : Disk). d.journal.now) still in
-    let redoing = during_map _ Pass _ _ (λ d each. keeps_tile b j c.args.slot c.args.entry c.args.length c.args.header.now d (c.requires.opened told) (c.requires.says told) (λ way.
-    subst (λ (l : List ℕ). EachImage (λ map. map ≡ tiles (over l)) d) bundle (each (way_at b (current next).bundle.now j (current next).journal.now c.args.slot c.args.entry c.args.header.now bundle journal way))))
-    (c.redo.ensures.images told_1) in
-    during_join Pass _ _ _ measuring redoing
+    keeps_putting c.args.slot c.args.entry c.args.length c.args.header.now _ _ _ _ (c.requires.quiet told) (c.requires.opened told) (c.requires.says told)
+    c.len.ensures.time (c.len.ensures.disk told) (c.redo.ensures.images (c.len.ensures.told ∙ told))
 
 pub returns-clause-done : goal.returns-clause-done
 returns-clause-done g c = λ told.

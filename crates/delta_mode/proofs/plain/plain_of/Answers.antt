@@ -1,5 +1,4 @@
-use Rattle.std.proofs.Common.{rules, ◌≡◌, ◌*◌, ◌+◌, ◌%◌, ℕ, List, map, sym, ap, ◌∙◌, subst, arith}
-use Rattle.raster_values.specs.declared.kind.PixelType.TheVariants.{I8, U8, I16, U16, I32, U32}
+use Rattle.std.proofs.Common.{◌*◌, ◌+◌, ◌%◌, map, sym, ap, ◌∙◌}
 use Rattle.raster_values.proofs.Deep.{values_in_range}
 use Rattle.raster_values.specs.Raster.{valid_count, values_of}
 use Rattle.delta_mode.proofs.Bytes.{one_each, plain_signed, plain_unsigned}

@@ -1,7 +1,7 @@
 use Rattle.std.proofs.Common.{List, ℕ, drop, ◌∙◌, refl, ap, subst, arith}
 use Rattle.std.proofs.lemmas.List.{take_rest}
 use Rattle.raster_values.specs.Flat.{marks_of}
-use Rattle.lerc_grammar.specs.declared.outline.ImageForm.TheVariants.{Blocks}
+use Rattle.lerc_grammar.specs.declared.parts.ImageForm.TheVariants.{Blocks}
 use Rattle.lerc_decode.specs.inside.Blocks.{AreTopsOf}
 use Rattle.lerc_decode.proofs.Bodies.{blocks_fault, coded_there, err_map, image_blocks, ok_map}
 use Rattle.lerc_decode.proofs.body.pour_topped.Goals as goal

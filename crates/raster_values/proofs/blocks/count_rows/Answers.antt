@@ -13,6 +13,7 @@ overflow_add-n c =
       c.loop-i.invariant.within,
       c.count_run-n.ensures,
       length_places c.args.marks.now (c.loop-i.i * c.args.cols + c.args.col) c.args.wide,
+      c.requires.few,
     )
 
 pub loop-i-preserved : goal.loop-i-preserved

@@ -1,43 +1,28 @@
-use Rattle.std.proofs.Common.{◌≡◌, ◌+◌, ◌-◌, ◌*◌, length, get_or, set, arith, ap, sym, ◌∙◌, subst, false}
-use Rattle.std.specs.Prelude.{pos}
-use mir.Syntax.{w64}
-use mir.Val.{to_z, of_z}
-use Rattle.raster_values.specs.inside.Runs.{run_values, Gathers}
-use Rattle.raster_values.proofs.Views.{same_bits}
-use Rattle.raster_values.proofs.RunSteps.{gather_on, gather_off, element_below}
-use Rattle.raster_values.proofs.blocks.gather_run.Goals.{then-marks-k, else-marks-k}
+use Rattle.std.proofs.Common.{◌≡◌, ◌≤◌, ◌+◌, ◌-◌, ◌*◌, ◌∙◌, ℕ, ap, length, get_or, take, drop, map, arith}
+use Rattle.std.specs.Prelude.{ℤ, pos}
+use Rattle.std.specs.List.{range_with_len}
+use Rattle.std.proofs.lemmas.List.{length-take-le, length-drop}
+use Rattle.raster_values.proofs.PixelSteps.{gather_piece}
 use Rattle.raster_values.proofs.blocks.gather_run.Goals as goal
-
-pub overflow_mul-k : goal.overflow_mul-k
-overflow_mul-k c = omega (arith, element_below c.loop-k.k c.args.d c.args.depth (length c.args.marks.now) (length c.args.values.now.values) (omega (arith, c.requires.within)) c.requires.depth c.requires.size, c.requires.few)
-
-pub overflow_add-k : goal.overflow_add-k
-overflow_add-k c = omega (arith, element_below c.loop-k.k c.args.d c.args.depth (length c.args.marks.now) (length c.args.values.now.values) (omega (arith, c.requires.within)) c.requires.depth c.requires.size, c.requires.few)
 
 pub loop-k-preserved : goal.loop-k-preserved
 loop-k-preserved c =
-    let m = c.loop-k.k - c.args.from in
-    let at : c.args.from + m ≡ c.loop-k.k = omega arith in
-    let next : m + 1 ≡ c.loop-k.k + 1 - c.args.from = omega arith in
-    let marks = c.args.marks.now in
+    let depth = c.args.depth in
+    let d = c.args.d in
     let values = c.args.values.now.values in
+    let k = c.loop-k.k in
+    let n = c.loop-k.n in
+    let start = c.next_run-run.result.start in
+    let stop = c.next_run-run.result.end in
+    let runs = c.next_run-run.ensures.runs in
+    let next = n + (stop - start) in
+    let f : ℕ → ℤ = λ j. get_or values (j * depth + d) (pos 0) in
+    let fits : next ≤ length c.loop-k.out = omega (arith, c.loop-k.invariant.within, runs.first, runs.second, c.next_run-run.ensures.within, c.requires.room, c.loop-k.auto.out, c.loop-k.invariant.low) in
+    let size : length (take (next - n) (drop n c.loop-k.out)) ≡ stop - start = length-take-le (next - n) (drop n c.loop-k.out) (omega (arith, length-drop n c.loop-k.out)) ∙ omega arith in
     record {
-      within = elim c.if-marks-k.branch [
-        | then-marks-k w ↦ omega (arith, w.n-is, c.loop-k.invariant.within)
-        | else-marks-k w ↦ omega (arith, w.n-is, c.loop-k.invariant.within)
-      ];
-      gathered = subst (λ i. Gathers (run_values c.args.depth c.args.d marks values c.args.from i) c.args.out.now c.if-marks-k.out c.args.at c.if-marks-k.n) next
-          (elim c.if-marks-k.branch [
-            | then-marks-k w ↦
-                let same : to_z w64 (of_z w64 w.get.result) ≡ get_or values ((c.args.from + m) * c.args.depth + c.args.d) (pos 0) =
-                same_bits c.args.values.now.kind w.get.result w.get.ensures.in_range ∙ w.get.ensures.value ∙ ap (λ i. get_or values (i * c.args.depth + c.args.d) (pos 0)) (sym at) in
-                subst (λ out. Gathers (run_values c.args.depth c.args.d marks values c.args.from (m + 1)) c.args.out.now out c.args.at c.if-marks-k.n) (sym w.out-is)
-                (subst (λ n. Gathers (run_values c.args.depth c.args.d marks values c.args.from (m + 1)) c.args.out.now (set c.loop-k.out c.loop-k.n (to_z w64 (of_z w64 w.get.result))) c.args.at n) (sym w.n-is)
-                (gather_on c.args.depth c.args.d marks values c.args.out.now c.loop-k.out c.args.from m c.args.at c.loop-k.n _ (ap (λ i. get_or marks i false) at ∙ w.if-marks-k.true)
-                (omega (arith, c.loop-k.invariant.within, c.requires.room, c.loop-k.auto.out)) same c.loop-k.invariant.gathered))
-            | else-marks-k w ↦
-                subst (λ out. Gathers (run_values c.args.depth c.args.d marks values c.args.from (m + 1)) c.args.out.now out c.args.at c.if-marks-k.n) (sym w.out-is)
-                (subst (λ n. Gathers (run_values c.args.depth c.args.d marks values c.args.from (m + 1)) c.args.out.now c.loop-k.out c.args.at n) (sym w.n-is)
-                (gather_off c.args.depth c.args.d marks values c.args.out.now c.loop-k.out c.args.from m c.args.at c.loop-k.n (ap (λ i. get_or marks i false) at ∙ w.if-marks-k.false) c.loop-k.invariant.gathered))
-          ]);
+      low = omega (arith, runs.first, runs.second, c.loop-k.invariant.low);
+      high = c.next_run-run.ensures.within;
+      within = omega (arith, c.loop-k.invariant.within, runs.first, runs.second, c.loop-k.invariant.low);
+      gathered = gather_piece depth d c.args.marks.now values c.args.out.now c.loop-k.out c.get_pixels.new.out c.args.from k start stop c.args.at n next c.loop-k.invariant.low runs (let e : next ≡ n + (stop - start) = omega arith in e) fits
+          (c.get_pixels.ensures ∙ ap (λ j. map f (range_with_len start j)) size) c.loop-k.invariant.gathered;
     }

@@ -1,4 +1,4 @@
-use Rattle.std.proofs.Common.{◌≡◌, ◌<◌, ◌≤◌, ◌-◌, ◌+◌, ◌++◌, ℕ, List, length, get_or, take, drop, arith, ap, sym, ◌∙◌, ⊎_elim, length-append}
+use Rattle.std.proofs.Common.{◌≡◌, ◌<◌, ◌≤◌, ◌-◌, ◌+◌, ◌++◌, ℕ, List, length, get_or, take, drop, arith, ap, ◌∙◌, ⊎_elim, length-append}
 use Rattle.std.proofs.lemmas.List.{length-take-le, length-drop, with_items_is, get_or_append_left, get_or-append-add, get_or_past}
 use Rattle.std.proofs.lemmas.Bool.{cases_lt}
 use borrow.Rule.Slice.PartMut.{put_mid}

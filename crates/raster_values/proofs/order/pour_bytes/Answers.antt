@@ -2,7 +2,7 @@ use Rattle.std.proofs.Common.{◌≡◌, ◌≤◌, ◌+◌, ◌-◌, ◌*◌, a
 use Rattle.raster_values.specs.declared.kind.PixelType.{PixelType}
 use Rattle.raster_values.specs.PixelType.{bytes_of}
 use Rattle.raster_values.specs.inside.CellList.{CellList}
-use Rattle.raster_values.proofs.MarkedRuns.{AreRuns}
+use Rattle.raster_values.specs.inside.Runs.{AreRuns}
 use Rattle.raster_values.proofs.Spelled.{bytes_put}
 use Rattle.raster_values.proofs.Poured.{Pours, pours_none, pours_within, pours_more, poured_all, run_within, piece_long}
 use Rattle.raster_values.proofs.order.pour_bytes.Goals as goal
@@ -12,16 +12,16 @@ loop-at-init c = record { kind = refl; pours = pours_none c.args.values.now.kind
 
 pub put_bytes-requires-clause-within : goal.put_bytes-requires-clause-within
 put_bytes-requires-clause-within c =
-    let start = c.run_end-start.result in
-    let end = c.run_end-end.result in
-    let runs : AreRuns c.args.marks.now c.loop-at.at start end = record { first = c.run_end-start.ensures.from; second = c.run_end-end.ensures.from; within = c.run_end-end.ensures.within; off = c.run_end-start.ensures.run; on = c.run_end-end.ensures.run } in
+    let start = c.next_run-run.result.start in
+    let end = c.next_run-run.result.end in
+    let runs : AreRuns c.args.marks.now c.loop-at.at start end = c.next_run-run.ensures.runs in
     run_within c.args.depth c.loop-at.at start end (length c.loop-at.values.values) c.args.marks.now runs (c.loop-at.invariant.pours.size ∙ c.requires.size)
 
 pub slice_bounds-put_bytes-end : goal.slice_bounds-put_bytes-end
 slice_bounds-put_bytes-end c =
-    let start = c.run_end-start.result in
-    let end = c.run_end-end.result in
-    let runs : AreRuns c.args.marks.now c.loop-at.at start end = record { first = c.run_end-start.ensures.from; second = c.run_end-end.ensures.from; within = c.run_end-end.ensures.within; off = c.run_end-start.ensures.run; on = c.run_end-end.ensures.run } in
+    let start = c.next_run-run.result.start in
+    let end = c.next_run-run.result.end in
+    let runs : AreRuns c.args.marks.now c.loop-at.at start end = c.next_run-run.ensures.runs in
     let kind = c.args.values.now.kind in
     let count = (end - start) * c.args.depth in
     let same : count * c.bytes-size.result ≡ count * bytes_of kind = ap (λ n. count * n) (c.bytes-size.ensures ∙ ap bytes_of c.kind.ensures) in
@@ -31,9 +31,9 @@ slice_bounds-put_bytes-end c =
 
 pub put_bytes-requires-clause-size : goal.put_bytes-requires-clause-size
 put_bytes-requires-clause-size c =
-    let start = c.run_end-start.result in
-    let end = c.run_end-end.result in
-    let runs : AreRuns c.args.marks.now c.loop-at.at start end = record { first = c.run_end-start.ensures.from; second = c.run_end-end.ensures.from; within = c.run_end-end.ensures.within; off = c.run_end-start.ensures.run; on = c.run_end-end.ensures.run } in
+    let start = c.next_run-run.result.start in
+    let end = c.next_run-run.result.end in
+    let runs : AreRuns c.args.marks.now c.loop-at.at start end = c.next_run-run.ensures.runs in
     let kind = c.args.values.now.kind in
     let count = (end - start) * c.args.depth in
     let same : count * c.bytes-size.result ≡ count * bytes_of kind = ap (λ n. count * n) (c.bytes-size.ensures ∙ ap bytes_of c.kind.ensures) in
@@ -42,9 +42,9 @@ put_bytes-requires-clause-size c =
 
 pub loop-at-preserved : goal.loop-at-preserved
 loop-at-preserved c =
-    let start = c.run_end-start.result in
-    let end = c.run_end-end.result in
-    let runs : AreRuns c.args.marks.now c.loop-at.at start end = record { first = c.run_end-start.ensures.from; second = c.run_end-end.ensures.from; within = c.run_end-end.ensures.within; off = c.run_end-start.ensures.run; on = c.run_end-end.ensures.run } in
+    let start = c.next_run-run.result.start in
+    let end = c.next_run-run.result.end in
+    let runs : AreRuns c.args.marks.now c.loop-at.at start end = c.next_run-run.ensures.runs in
     let kind = c.args.values.now.kind in
     let count = (end - start) * c.args.depth in
     let next = c.loop-at.from + count * c.bytes-size.result in
@@ -60,4 +60,4 @@ loop-at-preserved c =
     }
 
 pub returns-clause-poured : goal.returns-clause-poured
-returns-clause-poured c = poured_all c.args.values.now.kind c.args.depth c.args.marks.now c.args.bytes.now c.args.values.now.values c.loop-at.values.values c.loop-at.at c.loop-at.from c.loop-at-test.false c.loop-at.invariant.pours
+returns-clause-poured c = poured_all c.args.values.now.kind c.args.depth c.args.marks.now c.args.bytes.now c.args.values.now.values c.loop-at.values.values c.loop-at.at c.loop-at.from (let e : length c.args.marks.now ≤ c.loop-at.at = omega (arith, c.len.ensures.value, c.loop-at-test.false) in e) c.loop-at.invariant.pours

@@ -1,50 +1,26 @@
-use Rattle.std.proofs.Common.{◌≡◌, ◌<◌, ◌+◌, ◌*◌, ap, sym, ◌∙◌, subst, length, get_or, set, arith}
-use Rattle.std.specs.Prelude.{All, pos}
-use mir.Syntax.{w64}
-use mir.Val.{to_z, of_z}
-use Rattle.std.proofs.lemmas.List.{length-set}
-use Rattle.std.proofs.lemmas.List.Elements.{All-set}
+use Rattle.std.proofs.Common.{◌≡◌, ◌-◌, ◌∙◌, ap, subst, sym, take, drop, arith}
+use Rattle.std.specs.Prelude.{All}
 use Rattle.raster_values.specs.PixelType.{InRange}
-use Rattle.raster_values.specs.inside.CellList.{CellList}
-use Rattle.raster_values.specs.inside.Ordered.{PutsMarked}
-use Rattle.raster_values.proofs.Views.{same_bits}
-use Rattle.raster_values.proofs.RunSteps.{element_below}
-use Rattle.raster_values.proofs.OrderSteps.{puts_on, puts_off}
-use Rattle.raster_values.proofs.order.put_values.Goals.{then-marks-k, else-marks-k}
+use Rattle.raster_values.proofs.PixelSteps.{puts_piece}
 use Rattle.raster_values.proofs.order.put_values.Goals as goal
 
-pub loop-i-preserved : goal.loop-i-preserved
-loop-i-preserved c =
-    let depth = c.args.depth in
-    let d = c.args.d in
-    let marks = c.args.marks.now in
+pub loop-k-preserved : goal.loop-k-preserved
+loop-k-preserved c =
     let place = c.args.place in
     let input = c.args.input.now in
-    let i = c.loop-i.i in
-    let old = c.loop-i.values.values in
-    let first = c.args.values.now.values in
-    let kind = c.args.values.now.kind in
-    let full : length old ≡ length marks * depth = c.loop-i.invariant.size ∙ c.requires.size in
-    let inside : (place + i) * depth + d < length old = element_below (place + i) d depth (length marks) (length old) (omega (arith, c.requires.within)) c.requires.depth full in
-    elim c.if-marks-k.branch [
-      | then-marks-k w ↦
-          let x = to_z w64 (of_z w64 (get_or input i (pos 0))) in
-          let fits : InRange kind (get_or input i (pos 0)) = c.requires.in_range i (pos 0) (omega arith) in
-          let same : x ≡ get_or input i (pos 0) = same_bits kind (get_or input i (pos 0)) fits in
-          let after : c.if-marks-k.values ≡ record c.loop-i.values { values = set old ((place + i) * depth + d) x } = w.values-is ∙ w.set.ensures in
-          let is : c.if-marks-k.values.values ≡ set old ((place + i) * depth + d) x = ap (λ (l : CellList). l.values) after in
-          record {
-            kind = ap (λ (l : CellList). l.kind) after ∙ c.loop-i.invariant.kind;
-            in_range = λ before. subst (All (InRange kind)) (sym is) (All-set (InRange kind) old ((place + i) * depth + d) x (subst (InRange kind) (sym same) fits) (c.loop-i.invariant.in_range before));
-            size = ap length is ∙ length-set old ((place + i) * depth + d) x ∙ c.loop-i.invariant.size;
-            put = subst (PutsMarked depth d marks place (i + 1) input first) (sym is) (puts_on depth d marks place i input first old x c.requires.depth inside w.if-marks-k.true same c.loop-i.invariant.put);
-          }
-      | else-marks-k w ↦
-          let is : c.if-marks-k.values.values ≡ old = ap (λ (l : CellList). l.values) w.values-is in
-          record {
-            kind = ap (λ (l : CellList). l.kind) w.values-is ∙ c.loop-i.invariant.kind;
-            in_range = λ before. subst (All (InRange kind)) (sym is) (c.loop-i.invariant.in_range before);
-            size = ap length is ∙ c.loop-i.invariant.size;
-            put = subst (PutsMarked depth d marks place (i + 1) input first) (sym is) (puts_off depth d marks place i input first old w.if-marks-k.false c.loop-i.invariant.put);
-          }
-    ]
+    let old = c.loop-k.values.values in
+    let new = c.put_pixels.new.self.values in
+    let start = c.next_run-run.result.start in
+    let stop = c.next_run-run.result.end in
+    let runs = c.next_run-run.ensures.runs in
+    let from = start - place in
+    let piece = take (stop - place - from) (drop from input) in
+    let cut : piece ≡ take (stop - start) (drop from input) = ap (λ j. take j (drop from input)) (let e : stop - place - from ≡ stop - start = omega (arith, runs.first, c.loop-k.invariant.low) in e) in
+    record {
+      low = omega (arith, runs.first, runs.second, c.loop-k.invariant.low);
+      high = c.next_run-run.ensures.within;
+      kind = c.put_pixels.ensures.kind ∙ c.loop-k.invariant.kind;
+      in_range = λ before. subst (λ t. All (InRange t) new) c.loop-k.invariant.kind (c.put_pixels.ensures.in_range (subst (λ t. All (InRange t) old) (sym c.loop-k.invariant.kind) (c.loop-k.invariant.in_range before)));
+      size = c.put_pixels.ensures.size ∙ c.loop-k.invariant.size;
+      put = puts_piece c.args.depth c.args.d c.args.marks.now input piece c.args.values.now.values old new place c.loop-k.k start stop c.requires.depth c.loop-k.invariant.low runs c.next_run-run.ensures.within cut c.put_pixels.ensures.put c.loop-k.invariant.put;
+    }

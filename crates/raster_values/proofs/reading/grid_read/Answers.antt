@@ -1,13 +1,13 @@
-use Rattle.std.proofs.Common.{◌≡◌, ◌+◌, ◌*◌, ◌≤◌, ◌++◌, ap, ◌∙◌, sym, subst, arith, append_assoc}
+use Rattle.std.proofs.Common.{◌≡◌, ◌+◌, ◌*◌, ◌≤◌, ◌++◌, ap, ◌∙◌, sym, subst, arith}
 use Rattle.std.proofs.lemmas.Result.{err_from_is_err_and}
 use Rattle.raster_values.specs.PixelType.{bytes_of}
-use Rattle.raster_values.specs.Raster.{Pixels, blank, valid_count}
+use Rattle.raster_values.specs.Raster.{Pixels, valid_count}
 use Rattle.raster_values.specs.Flat.{marks_of}
-use Rattle.raster_values.specs.ReadGrid.{AreMarks, TookBytes, count_of}
+use Rattle.raster_values.specs.ReadGrid.{AreMarks, count_of}
 use Rattle.raster_values.proofs.Pack.{on_err}
 use Rattle.raster_values.proofs.Filled.{valid_count-blank}
 use Rattle.raster_values.proofs.Taken.{took_join, took_more}
-use Rattle.raster_values.proofs.GridParts.{count_marks, grid_is, told_oom, head_told, marks_told, values_told, area_few}
+use Rattle.raster_values.proofs.GridParts.{count_marks, grid_is, head_told, marks_told, values_told, area_few}
 use Rattle.raster_values.proofs.reading.grid_read.Goals as goal
 
 pub returns-in_err-head-clause-fault : goal.returns-in_err-head-clause-fault

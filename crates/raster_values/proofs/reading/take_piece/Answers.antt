@@ -1,7 +1,6 @@
-use Rattle.std.proofs.Common.{◌≡◌, ◌+◌, ◌≤◌, ◌<◌, ℕ, take, length, ap, ◌∙◌, sym, subst, arith, refl, ◌++◌}
+use Rattle.std.proofs.Common.{◌≡◌, ◌+◌, ◌≤◌, ◌<◌, ℕ, take, length, ◌∙◌, sym, subst, arith, refl, ◌++◌}
 use Rattle.std.proofs.lemmas.List.{length-take-le}
 use Rattle.raster_values.specs.declared.reading.GridReason.{GridReason}
-use Rattle.raster_values.specs.declared.reading.GridReason.TheVariants.{Truncated, BadMark}
 use Rattle.raster_values.specs.declared.reading.GridStop.{GridStop}
 use Rattle.raster_values.specs.ReadGrid.{mark_faults, IsToldFault}
 use Rattle.raster_values.proofs.Taken.{took_front, on_err_some, told, ended, piece_wrong, piece_cut, only_lawful}

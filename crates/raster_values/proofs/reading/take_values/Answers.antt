@@ -1,16 +1,16 @@
-use Rattle.std.proofs.Common.{◌≡◌, ◌≤◌, ◌<◌, ◌+◌, ◌-◌, ◌*◌, ◌^◌, ◌++◌, ℕ, List, [], take, length, ap, ◌∙◌, sym, subst, arith, refl}
-use Rattle.std.proofs.lemmas.List.{length-take-le, length-append, take_all, append_assoc}
+use Rattle.std.proofs.Common.{◌≡◌, ◌≤◌, ◌<◌, ◌+◌, ◌-◌, ◌*◌, ◌^◌, ◌++◌, ℕ, [], take, length, ap, ◌∙◌, sym, subst, arith, refl}
+use Rattle.std.proofs.lemmas.List.{length-take-le, length-append, take_all}
 use Rattle.raster_values.specs.declared.kind.PixelType.{PixelType}
 use Rattle.raster_values.specs.declared.reading.GridReason.{GridReason}
 use Rattle.raster_values.specs.declared.reading.GridStop.{GridStop}
 use Rattle.raster_values.specs.PixelType.{bytes_of}
 use Rattle.raster_values.specs.Raster.{values_of}
-use Rattle.raster_values.specs.Grid.{values_bytes}
 use Rattle.raster_values.specs.ReadGrid.{TookBytes, IsToldFault, value_faults}
 use Rattle.raster_values.specs.inside.CellList.{CellList}
 use Rattle.raster_values.specs.inside.View.{pixels_of}
 use Rattle.raster_values.proofs.Pack.{on_err}
-use Rattle.raster_values.proofs.MarkedRuns.{AreRuns, fits_more}
+use Rattle.raster_values.specs.inside.Runs.{AreRuns}
+use Rattle.raster_values.proofs.MarkedRuns.{fits_more}
 use Rattle.raster_values.proofs.Poured.{Kept, fills_start, run_within, filled_all}
 use Rattle.raster_values.proofs.TakenRuns.{kept_put, fills_put, size_few, run_few}
 use Rattle.raster_values.proofs.Taken.{took_none, took_join, took_front, took_some, took_more, told, ended, values_cut}
@@ -28,62 +28,62 @@ loop-done-init g c = record {
 
 pub take_run-requires : goal.take_run-requires
 take_run-requires g c =
-    let start = c.run_end-start.result in
-    let end = c.run_end-end.result in
-    let runs : AreRuns c.args.marks.now c.loop-done.done start end = record { first = c.run_end-start.ensures.from; second = c.run_end-end.ensures.from; within = c.run_end-end.ensures.within; off = c.run_end-start.ensures.run; on = c.run_end-end.ensures.run } in
+    let start = c.next_run-run.result.start in
+    let end = c.next_run-run.result.end in
+    let runs : AreRuns c.args.marks.now c.loop-done.done start end = c.next_run-run.ensures.runs in
     let kind = c.args.values.now.kind in
     run_within c.args.depth c.loop-done.done start end (length c.loop-done.values.values) c.args.marks.now runs (c.loop-done.invariant.fills.kept.size ∙ c.requires.size)
 
 pub returns-in_err-n-clause-in_range : goal.returns-in_err-n-clause-in_range
 returns-in_err-n-clause-in_range g c =
-    let start = c.run_end-start.result in
-    let end = c.run_end-end.result in
-    let runs : AreRuns c.args.marks.now c.loop-done.done start end = record { first = c.run_end-start.ensures.from; second = c.run_end-end.ensures.from; within = c.run_end-end.ensures.within; off = c.run_end-start.ensures.run; on = c.run_end-end.ensures.run } in
+    let start = c.next_run-run.result.start in
+    let end = c.next_run-run.result.end in
+    let runs : AreRuns c.args.marks.now c.loop-done.done start end = c.next_run-run.ensures.runs in
     let kind = c.args.values.now.kind in
     let kept : Kept kind c.args.depth c.args.marks.now c.args.values.now.values c.take_run.new.self.values = kept_put kind c.args.depth c.loop-done.done start end c.args.marks.now c.args.values.now.values c.loop-done.values c.take_run.new.self _ c.loop-done.invariant.kind c.requires.size runs c.loop-done.invariant.fills.kept c.take_run.ensures.put in
     kept.in_range
 
 pub returns-then-n-count-clause-in_range : goal.returns-then-n-count-clause-in_range
 returns-then-n-count-clause-in_range g c =
-    let start = c.run_end-start.result in
-    let end = c.run_end-end.result in
-    let runs : AreRuns c.args.marks.now c.loop-done.done start end = record { first = c.run_end-start.ensures.from; second = c.run_end-end.ensures.from; within = c.run_end-end.ensures.within; off = c.run_end-start.ensures.run; on = c.run_end-end.ensures.run } in
+    let start = c.next_run-run.result.start in
+    let end = c.next_run-run.result.end in
+    let runs : AreRuns c.args.marks.now c.loop-done.done start end = c.next_run-run.ensures.runs in
     let kind = c.args.values.now.kind in
     let kept : Kept kind c.args.depth c.args.marks.now c.args.values.now.values c.take_run.new.self.values = kept_put kind c.args.depth c.loop-done.done start end c.args.marks.now c.args.values.now.values c.loop-done.values c.take_run.new.self _ c.loop-done.invariant.kind c.requires.size runs c.loop-done.invariant.fills.kept c.take_run.ensures.put in
     kept.in_range
 
 pub returns-in_err-n-clause-size : goal.returns-in_err-n-clause-size
 returns-in_err-n-clause-size g c =
-    let start = c.run_end-start.result in
-    let end = c.run_end-end.result in
-    let runs : AreRuns c.args.marks.now c.loop-done.done start end = record { first = c.run_end-start.ensures.from; second = c.run_end-end.ensures.from; within = c.run_end-end.ensures.within; off = c.run_end-start.ensures.run; on = c.run_end-end.ensures.run } in
+    let start = c.next_run-run.result.start in
+    let end = c.next_run-run.result.end in
+    let runs : AreRuns c.args.marks.now c.loop-done.done start end = c.next_run-run.ensures.runs in
     let kind = c.args.values.now.kind in
     let kept : Kept kind c.args.depth c.args.marks.now c.args.values.now.values c.take_run.new.self.values = kept_put kind c.args.depth c.loop-done.done start end c.args.marks.now c.args.values.now.values c.loop-done.values c.take_run.new.self _ c.loop-done.invariant.kind c.requires.size runs c.loop-done.invariant.fills.kept c.take_run.ensures.put in
     kept.size
 
 pub returns-then-n-count-clause-size : goal.returns-then-n-count-clause-size
 returns-then-n-count-clause-size g c =
-    let start = c.run_end-start.result in
-    let end = c.run_end-end.result in
-    let runs : AreRuns c.args.marks.now c.loop-done.done start end = record { first = c.run_end-start.ensures.from; second = c.run_end-end.ensures.from; within = c.run_end-end.ensures.within; off = c.run_end-start.ensures.run; on = c.run_end-end.ensures.run } in
+    let start = c.next_run-run.result.start in
+    let end = c.next_run-run.result.end in
+    let runs : AreRuns c.args.marks.now c.loop-done.done start end = c.next_run-run.ensures.runs in
     let kind = c.args.values.now.kind in
     let kept : Kept kind c.args.depth c.args.marks.now c.args.values.now.values c.take_run.new.self.values = kept_put kind c.args.depth c.loop-done.done start end c.args.marks.now c.args.values.now.values c.loop-done.values c.take_run.new.self _ c.loop-done.invariant.kind c.requires.size runs c.loop-done.invariant.fills.kept c.take_run.ensures.put in
     kept.size
 
 pub returns-in_err-n-clause-rest : goal.returns-in_err-n-clause-rest
 returns-in_err-n-clause-rest g c =
-    let start = c.run_end-start.result in
-    let end = c.run_end-end.result in
-    let runs : AreRuns c.args.marks.now c.loop-done.done start end = record { first = c.run_end-start.ensures.from; second = c.run_end-end.ensures.from; within = c.run_end-end.ensures.within; off = c.run_end-start.ensures.run; on = c.run_end-end.ensures.run } in
+    let start = c.next_run-run.result.start in
+    let end = c.next_run-run.result.end in
+    let runs : AreRuns c.args.marks.now c.loop-done.done start end = c.next_run-run.ensures.runs in
     let kind = c.args.values.now.kind in
     let kept : Kept kind c.args.depth c.args.marks.now c.args.values.now.values c.take_run.new.self.values = kept_put kind c.args.depth c.loop-done.done start end c.args.marks.now c.args.values.now.values c.loop-done.values c.take_run.new.self _ c.loop-done.invariant.kind c.requires.size runs c.loop-done.invariant.fills.kept c.take_run.ensures.put in
     kept.rest
 
 pub returns-then-n-count-clause-rest : goal.returns-then-n-count-clause-rest
 returns-then-n-count-clause-rest g c =
-    let start = c.run_end-start.result in
-    let end = c.run_end-end.result in
-    let runs : AreRuns c.args.marks.now c.loop-done.done start end = record { first = c.run_end-start.ensures.from; second = c.run_end-end.ensures.from; within = c.run_end-end.ensures.within; off = c.run_end-start.ensures.run; on = c.run_end-end.ensures.run } in
+    let start = c.next_run-run.result.start in
+    let end = c.next_run-run.result.end in
+    let runs : AreRuns c.args.marks.now c.loop-done.done start end = c.next_run-run.ensures.runs in
     let kind = c.args.values.now.kind in
     let kept : Kept kind c.args.depth c.args.marks.now c.args.values.now.values c.take_run.new.self.values = kept_put kind c.args.depth c.loop-done.done start end c.args.marks.now c.args.values.now.values c.loop-done.values c.take_run.new.self _ c.loop-done.invariant.kind c.requires.size runs c.loop-done.invariant.fills.kept c.take_run.ensures.put in
     kept.rest
@@ -94,9 +94,9 @@ returns-in_err-n-clause-some g c =
 
 pub overflow_mul-count-in-loop-done : goal.overflow_mul-count-in-loop-done
 overflow_mul-count-in-loop-done g c =
-    let start = c.run_end-start.result in
-    let end = c.run_end-end.result in
-    let runs : AreRuns c.args.marks.now c.loop-done.done start end = record { first = c.run_end-start.ensures.from; second = c.run_end-end.ensures.from; within = c.run_end-end.ensures.within; off = c.run_end-start.ensures.run; on = c.run_end-end.ensures.run } in
+    let start = c.next_run-run.result.start in
+    let end = c.next_run-run.result.end in
+    let runs : AreRuns c.args.marks.now c.loop-done.done start end = c.next_run-run.ensures.runs in
     let kind = c.args.values.now.kind in
     let same : (end - start) * c.args.depth * c.bytes-size.result ≡ (end - start) * c.args.depth * bytes_of kind = ap (λ n. (end - start) * c.args.depth * n) (c.bytes-size.ensures ∙ ap bytes_of c.kind.ensures) in
     let run : (end - start) * c.args.depth * bytes_of kind ≤ 67108864 = run_few kind c.args.depth c.loop-done.done start end (length c.args.values.now.values) c.args.marks.now runs c.requires.size c.requires.few in
@@ -106,9 +106,9 @@ overflow_mul-count-in-loop-done g c =
 
 pub overflow_add-from : goal.overflow_add-from
 overflow_add-from g c =
-    let start = c.run_end-start.result in
-    let end = c.run_end-end.result in
-    let runs : AreRuns c.args.marks.now c.loop-done.done start end = record { first = c.run_end-start.ensures.from; second = c.run_end-end.ensures.from; within = c.run_end-end.ensures.within; off = c.run_end-start.ensures.run; on = c.run_end-end.ensures.run } in
+    let start = c.next_run-run.result.start in
+    let end = c.next_run-run.result.end in
+    let runs : AreRuns c.args.marks.now c.loop-done.done start end = c.next_run-run.ensures.runs in
     let kind = c.args.values.now.kind in
     let same : (end - start) * c.args.depth * c.bytes-size.result ≡ (end - start) * c.args.depth * bytes_of kind = ap (λ n. (end - start) * c.args.depth * n) (c.bytes-size.ensures ∙ ap bytes_of c.kind.ensures) in
     let run : (end - start) * c.args.depth * bytes_of kind ≤ 67108864 = run_few kind c.args.depth c.loop-done.done start end (length c.args.values.now.values) c.args.marks.now runs c.requires.size c.requires.few in
@@ -119,9 +119,9 @@ overflow_add-from g c =
 
 pub stop_at-requires : goal.stop_at-requires
 stop_at-requires g c =
-    let start = c.run_end-start.result in
-    let end = c.run_end-end.result in
-    let runs : AreRuns c.args.marks.now c.loop-done.done start end = record { first = c.run_end-start.ensures.from; second = c.run_end-end.ensures.from; within = c.run_end-end.ensures.within; off = c.run_end-start.ensures.run; on = c.run_end-end.ensures.run } in
+    let start = c.next_run-run.result.start in
+    let end = c.next_run-run.result.end in
+    let runs : AreRuns c.args.marks.now c.loop-done.done start end = c.next_run-run.ensures.runs in
     let kind = c.args.values.now.kind in
     let same : (end - start) * c.args.depth * c.bytes-size.result ≡ (end - start) * c.args.depth * bytes_of kind = ap (λ n. (end - start) * c.args.depth * n) (c.bytes-size.ensures ∙ ap bytes_of c.kind.ensures) in
     let run : (end - start) * c.args.depth * bytes_of kind ≤ 67108864 = run_few kind c.args.depth c.loop-done.done start end (length c.args.values.now.values) c.args.marks.now runs c.requires.size c.requires.few in
@@ -133,9 +133,9 @@ stop_at-requires g c =
 
 pub returns-then-n-count-clause-err : goal.returns-then-n-count-clause-err
 returns-then-n-count-clause-err g c =
-    let start = c.run_end-start.result in
-    let end = c.run_end-end.result in
-    let runs : AreRuns c.args.marks.now c.loop-done.done start end = record { first = c.run_end-start.ensures.from; second = c.run_end-end.ensures.from; within = c.run_end-end.ensures.within; off = c.run_end-start.ensures.run; on = c.run_end-end.ensures.run } in
+    let start = c.next_run-run.result.start in
+    let end = c.next_run-run.result.end in
+    let runs : AreRuns c.args.marks.now c.loop-done.done start end = c.next_run-run.ensures.runs in
     let kind = c.args.values.now.kind in
     let same : (end - start) * c.args.depth * c.bytes-size.result ≡ (end - start) * c.args.depth * bytes_of kind = ap (λ n. (end - start) * c.args.depth * n) (c.bytes-size.ensures ∙ ap bytes_of c.kind.ensures) in
     let run : (end - start) * c.args.depth * bytes_of kind ≤ 67108864 = run_few kind c.args.depth c.loop-done.done start end (length c.args.values.now.values) c.args.marks.now runs c.requires.size c.requires.few in
@@ -170,9 +170,9 @@ returns-then-n-count-clause-some g c =
 
 pub overflow_add-from-in-loop-done : goal.overflow_add-from-in-loop-done
 overflow_add-from-in-loop-done g c =
-    let start = c.run_end-start.result in
-    let end = c.run_end-end.result in
-    let runs : AreRuns c.args.marks.now c.loop-done.done start end = record { first = c.run_end-start.ensures.from; second = c.run_end-end.ensures.from; within = c.run_end-end.ensures.within; off = c.run_end-start.ensures.run; on = c.run_end-end.ensures.run } in
+    let start = c.next_run-run.result.start in
+    let end = c.next_run-run.result.end in
+    let runs : AreRuns c.args.marks.now c.loop-done.done start end = c.next_run-run.ensures.runs in
     let kind = c.args.values.now.kind in
     let same : (end - start) * c.args.depth * c.bytes-size.result ≡ (end - start) * c.args.depth * bytes_of kind = ap (λ n. (end - start) * c.args.depth * n) (c.bytes-size.ensures ∙ ap bytes_of c.kind.ensures) in
     let run : (end - start) * c.args.depth * bytes_of kind ≤ 67108864 = run_few kind c.args.depth c.loop-done.done start end (length c.args.values.now.values) c.args.marks.now runs c.requires.size c.requires.few in
@@ -184,9 +184,9 @@ overflow_add-from-in-loop-done g c =
 
 pub loop-done-preserved : goal.loop-done-preserved
 loop-done-preserved g c =
-    let start = c.run_end-start.result in
-    let end = c.run_end-end.result in
-    let runs : AreRuns c.args.marks.now c.loop-done.done start end = record { first = c.run_end-start.ensures.from; second = c.run_end-end.ensures.from; within = c.run_end-end.ensures.within; off = c.run_end-start.ensures.run; on = c.run_end-end.ensures.run } in
+    let start = c.next_run-run.result.start in
+    let end = c.next_run-run.result.end in
+    let runs : AreRuns c.args.marks.now c.loop-done.done start end = c.next_run-run.ensures.runs in
     let kind = c.args.values.now.kind in
     let same : (end - start) * c.args.depth * c.bytes-size.result ≡ (end - start) * c.args.depth * bytes_of kind = ap (λ n. (end - start) * c.args.depth * n) (c.bytes-size.ensures ∙ ap bytes_of c.kind.ensures) in
     let run : (end - start) * c.args.depth * bytes_of kind ≤ 67108864 = run_few kind c.args.depth c.loop-done.done start end (length c.args.values.now.values) c.args.marks.now runs c.requires.size c.requires.few in
@@ -214,5 +214,5 @@ pub returns-clause-ok : goal.returns-clause-ok
 returns-clause-ok g c =
     let kind = c.args.values.now.kind in
     subst (TookBytes (g.S.Source.left c.args.src.now) (g.S.Source.left c.loop-done.src))
-    (sym (filled_all kind c.args.depth c.args.marks.now _ c.loop-done.invariant.read c.args.values.now.values c.loop-done.values.values c.loop-done.done c.loop-done-test.false c.loop-done.invariant.fills))
+    (sym (filled_all kind c.args.depth c.args.marks.now _ c.loop-done.invariant.read c.args.values.now.values c.loop-done.values.values c.loop-done.done (let e : length c.args.marks.now ≤ c.loop-done.done = omega (arith, c.len.ensures.value, c.loop-done-test.false) in e) c.loop-done.invariant.fills))
     c.loop-done.invariant.took

@@ -1,16 +1,18 @@
-use Rattle.std.proofs.Common.{ap, ◌∙◌, set, arith}
-use mir.Syntax.{w64}
-use mir.Val.{to_z, of_z}
+use Rattle.std.proofs.Common.{◌≡◌, ◌<◌, ◌+◌, ◌*◌, ap, sym, ◌∙◌, length, get_or, replicate, arith}
+use Rattle.std.specs.Prelude.{pos}
+use Rattle.std.proofs.lemmas.List.{ext_get_or, length-replicate, get_or-replicate}
 use Rattle.raster_values.specs.inside.CellList.{CellList}
-use Rattle.raster_values.proofs.CellBytes.{fill_more}
+use Rattle.raster_values.proofs.Views.{same_bits}
 use Rattle.raster_values.proofs.cells.Cells.fill.Goals as goal
 
-pub loop-at-preserved : goal.loop-at-preserved
-loop-at-preserved c =
-    let v = to_z w64 (of_z w64 c.args.value) in
-    record {
-      kind = ap (λ (l : CellList). l.kind) c.set.ensures ∙ c.loop-at.invariant.kind;
-      count = c.loop-at.invariant.count;
-      values = ap (λ (l : CellList). l.values) c.set.ensures ∙ ap (λ xs. set xs c.loop-at.at v) c.loop-at.invariant.values
-          ∙ fill_more c.args.self.now.values c.loop-at.at v (omega (arith, c.loop-at-test.true, c.loop-at.invariant.count));
-    }
+pub returns : goal.returns
+returns c =
+    let vs = c.fill_pixels.new.self.values in
+    let n = length c.args.self.now.values in
+    let count : c.self.inside.count ≡ n = sym c.self.invariant.counted ∙ ap (λ (l : CellList). length l.values) c.self.view_is in
+    let same : vs ≡ replicate n c.args.value = ext_get_or (pos 0) vs (replicate n c.args.value) (c.fill_pixels.ensures.size ∙ sym (length-replicate n c.args.value)) (λ k below.
+    let less : k < n = omega (arith, c.fill_pixels.ensures.size) in
+    let at : k ≡ k * 1 + 0 = omega arith in
+    ap (λ j. get_or vs j (pos 0)) at ∙ c.fill_pixels.ensures.filled.each k 0 (omega arith) (omega (arith, count)) (omega arith)
+    ∙ same_bits c.args.self.now.kind c.args.value c.requires ∙ sym (get_or-replicate n k c.args.value (pos 0) less)) in
+    λ i. record { kind = c.fill_pixels.ensures.kind i; values = same i }

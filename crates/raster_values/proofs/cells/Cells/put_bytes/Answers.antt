@@ -3,8 +3,8 @@ use Rattle.raster_values.specs.PixelType.{bytes_of}
 use Rattle.raster_values.specs.Grid.{values_bytes}
 use Rattle.raster_values.specs.inside.CellList.{CellList, values_in}
 use Rattle.raster_values.specs.inside.CellView.{listed}
-use Rattle.raster_values.proofs.CellBytes.{are_cells, values_is, length-values_in}
-use Rattle.raster_values.proofs.Spelled.{AreBytes, bytes_laid, values_fit, bytes_put, length-bytes_put, bytes_put_in_range}
+use Rattle.raster_values.proofs.CellBytes.{are_cells, values_is}
+use Rattle.raster_values.proofs.Spelled.{AreBytes, bytes_laid, bytes_put, length-bytes_put, bytes_put_in_range}
 use Rattle.raster_values.proofs.cells.Cells.put_bytes.Goals as goal
 
 within : (c : goal.After-lay_bytes) → c.args.at + c.args.count ≤ length (listed c.self.inside)

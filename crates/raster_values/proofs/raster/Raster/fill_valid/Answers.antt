@@ -1,4 +1,4 @@
-use Rattle.std.proofs.Common.{◌≡◌, ap, ◌∙◌, sym, subst, length}
+use Rattle.std.proofs.Common.{◌≡◌, sym, subst, length}
 use Rattle.raster_values.specs.Raster.{Pixels}
 use Rattle.raster_values.specs.Order.{FillsValid}
 use Rattle.raster_values.specs.inside.CellList.{CellList}
@@ -12,9 +12,9 @@ returns c =
     let a = c.self.inside in
     let vs = c.fill_marked.new.values.values in
     let cells : c.fill_marked.new.values ≡ record a.values { values = vs } = λ i. record { kind = c.fill_marked.ensures.kind i; values = vs } in
-    let fills : FillsMarked (length a.marks.items) a.marks.items c.args.values.now a.values.values vs =
-    subst (λ ms. FillsMarked (length ms) ms c.args.values.now a.values.values vs) c.deref.ensures.value c.fill_marked.ensures.filled in
-    subst (λ (l : CellList). FillsValid c.args.self.now (record { kind = l.kind; rows = a.rows; cols = a.cols; depth = a.depth; pixels = pixels_of a.depth a.marks.items l.values }) c.args.values.now) (sym cells)
+    let fills : FillsMarked (length a.marks) a.marks c.args.values.now a.values.values vs =
+    c.fill_marked.ensures.filled in
+    subst (λ (l : CellList). FillsValid c.args.self.now (record { kind = l.kind; rows = a.rows; cols = a.cols; depth = a.depth; pixels = pixels_of a.depth a.marks l.values }) c.args.values.now) (sym cells)
     (subst (λ (r : Pixels). length c.args.values.now ≡ r.depth → FillsValid r (with_values a vs) c.args.values.now) c.self.view_is
     (λ deep. fills_valid a c.args.values.now vs c.self.invariant deep
     (fills_keep a c.args.values.now vs c.self.invariant deep c.fill_marked.ensures.size (c.fill_marked.ensures.in_range c.self.invariant.in_range) fills) fills) c.requires.count)

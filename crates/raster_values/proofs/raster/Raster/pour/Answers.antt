@@ -1,4 +1,4 @@
-use Rattle.std.proofs.Common.{◌≡◌, ◌*◌, ap, ◌∙◌, sym, subst, length}
+use Rattle.std.proofs.Common.{◌≡◌, ◌*◌, ap, ◌∙◌, sym, subst}
 use Rattle.raster_values.specs.PixelType.{bytes_of}
 use Rattle.raster_values.specs.Grid.{values_bytes}
 use Rattle.raster_values.specs.Raster.{Pixels, values_of, valid_count}
@@ -15,16 +15,15 @@ pour_bytes-requires-clause-count c =
     let a = c.self.inside in
     c.requires ∙ ap (λ (r : Pixels). valid_count r * r.depth * bytes_of r.kind) (sym c.self.view_is)
     ∙ ap (λ n. n * bytes_of a.values.kind) (sym (count_values (seen a) (sound a c.self.invariant)))
-    ∙ ap (λ ms. length (values_of (pixels_of a.depth ms a.values.values)) * bytes_of a.values.kind) (sym c.deref.ensures.value)
 
 pub returns : goal.returns
 returns c =
     let a = c.self.inside in
     let vs = c.pour_bytes.new.values.values in
     let cells : c.pour_bytes.new.values ≡ record a.values { values = vs } = λ i. record { kind = c.pour_bytes.ensures.kind i; values = vs } in
-    let kept : KeepsUnmarked a.depth a.marks.items a.values.values vs = subst (λ ms. KeepsUnmarked a.depth ms a.values.values vs) c.deref.ensures.value c.pour_bytes.ensures.rest in
-    let poured : values_bytes a.values.kind (values_of (pixels_of a.depth a.marks.items vs)) ≡ c.args.bytes.now =
-    ap (λ ms. values_bytes a.values.kind (values_of (pixels_of a.depth ms vs))) (sym c.deref.ensures.value) ∙ c.pour_bytes.ensures.poured in
-    subst (λ (l : CellList). PoursBytes c.args.self.now (record { kind = l.kind; rows = a.rows; cols = a.cols; depth = a.depth; pixels = pixels_of a.depth a.marks.items l.values }) c.args.bytes.now) (sym cells)
+    let kept : KeepsUnmarked a.depth a.marks a.values.values vs = c.pour_bytes.ensures.rest in
+    let poured : values_bytes a.values.kind (values_of (pixels_of a.depth a.marks vs)) ≡ c.args.bytes.now =
+    c.pour_bytes.ensures.poured in
+    subst (λ (l : CellList). PoursBytes c.args.self.now (record { kind = l.kind; rows = a.rows; cols = a.cols; depth = a.depth; pixels = pixels_of a.depth a.marks l.values }) c.args.bytes.now) (sym cells)
     (subst (λ (r : Pixels). PoursBytes r (with_values a vs) c.args.bytes.now) c.self.view_is
     (pours_bytes a c.args.bytes.now vs c.self.invariant (pours_keep a vs c.self.invariant c.pour_bytes.ensures.size (c.pour_bytes.ensures.in_range c.self.invariant.in_range) kept) poured))

@@ -14,10 +14,9 @@ pour_rows-requires-clause-count c =
     let a = c.self.inside in
     c.requires.count
     ∙ ap (λ (r : Pixels). block_count r c.args.row c.args.col c.args.side) (sym c.self.view_is)
-    ∙ count_of_rows a.values.kind a.rows a.cols a.depth a.marks.items a.values.values c.args.row c.args.col c.args.side c.self.invariant.zeros c.self.invariant.marks c.self.invariant.shape.depth_above
-    ∙ sym (ap (λ ms. length (rows_places ms a.cols c.args.row c.args.col c.min-high.result c.min-wide.result)) c.deref.ensures.value
-    ∙ ap (λ n. length (rows_places a.marks.items a.cols c.args.row c.args.col n c.min-wide.result)) c.min-high.ensures
-    ∙ ap (λ n. length (rows_places a.marks.items a.cols c.args.row c.args.col (min c.args.side (a.rows - c.args.row)) n)) c.min-wide.ensures)
+    ∙ count_of_rows a.values.kind a.rows a.cols a.depth a.marks a.values.values c.args.row c.args.col c.args.side c.self.invariant.zeros c.self.invariant.marks c.self.invariant.shape.depth_above
+    ∙ sym (ap (λ n. length (rows_places a.marks a.cols c.args.row c.args.col n c.min-wide.result)) c.min-high.ensures
+    ∙ ap (λ n. length (rows_places a.marks a.cols c.args.row c.args.col (min c.args.side (a.rows - c.args.row)) n)) c.min-wide.ensures)
 
 pub returns : goal.returns
 returns c =
@@ -26,19 +25,17 @@ returns c =
     let cells : c.pour_rows.new.values ≡ record a.values { values = vs } = λ i. record { kind = c.pour_rows.ensures.kind i; values = vs } in
     let high = min c.args.side (a.rows - c.args.row) in
     let wide = min c.args.side (a.cols - c.args.col) in
-    let poured : rows_values a.depth c.args.d a.marks.items vs a.cols c.args.row c.args.col high wide ≡ c.args.values.now =
-    sym (ap (λ ms. rows_values a.depth c.args.d ms vs a.cols c.args.row c.args.col c.min-high.result c.min-wide.result) c.deref.ensures.value
-    ∙ ap (λ n. rows_values a.depth c.args.d a.marks.items vs a.cols c.args.row c.args.col n c.min-wide.result) c.min-high.ensures
-    ∙ ap (λ n. rows_values a.depth c.args.d a.marks.items vs a.cols c.args.row c.args.col high n) c.min-wide.ensures)
+    let poured : rows_values a.depth c.args.d a.marks vs a.cols c.args.row c.args.col high wide ≡ c.args.values.now =
+    sym (ap (λ n. rows_values a.depth c.args.d a.marks vs a.cols c.args.row c.args.col n c.min-wide.result) c.min-high.ensures
+    ∙ ap (λ n. rows_values a.depth c.args.d a.marks vs a.cols c.args.row c.args.col high n) c.min-wide.ensures)
     ∙ c.pour_rows.ensures.poured in
-    let leaves : LeavesRows a.depth c.args.d a.marks.items a.cols c.args.row c.args.col high wide a.values.values vs =
-    subst (λ n. LeavesRows a.depth c.args.d a.marks.items a.cols c.args.row c.args.col high n a.values.values vs) c.min-wide.ensures
-    (subst (λ n. LeavesRows a.depth c.args.d a.marks.items a.cols c.args.row c.args.col n c.min-wide.result a.values.values vs) c.min-high.ensures
-    (subst (λ ms. LeavesRows a.depth c.args.d ms a.cols c.args.row c.args.col c.min-high.result c.min-wide.result a.values.values vs) c.deref.ensures.value
-    c.pour_rows.ensures.rest)) in
-    subst (λ (l : CellList). PoursBlock c.args.self.now (record { kind = l.kind; rows = a.rows; cols = a.cols; depth = a.depth; pixels = pixels_of a.depth a.marks.items l.values }) c.args.row c.args.col c.args.side c.args.d c.args.values.now) (sym cells)
+    let leaves : LeavesRows a.depth c.args.d a.marks a.cols c.args.row c.args.col high wide a.values.values vs =
+    subst (λ n. LeavesRows a.depth c.args.d a.marks a.cols c.args.row c.args.col high n a.values.values vs) c.min-wide.ensures
+    (subst (λ n. LeavesRows a.depth c.args.d a.marks a.cols c.args.row c.args.col n c.min-wide.result a.values.values vs) c.min-high.ensures
+    c.pour_rows.ensures.rest) in
+    subst (λ (l : CellList). PoursBlock c.args.self.now (record { kind = l.kind; rows = a.rows; cols = a.cols; depth = a.depth; pixels = pixels_of a.depth a.marks l.values }) c.args.row c.args.col c.args.side c.args.d c.args.values.now) (sym cells)
     (subst (λ (r : Pixels). c.args.d < r.depth → All (InRange r.kind) c.args.values.now
-    → PoursBlock r (record (seen a) { pixels = pixels_of a.depth a.marks.items vs }) c.args.row c.args.col c.args.side c.args.d c.args.values.now) c.self.view_is
+    → PoursBlock r (record (seen a) { pixels = pixels_of a.depth a.marks vs }) c.args.row c.args.col c.args.side c.args.d c.args.values.now) c.self.view_is
     (λ below fits.
     pour_pours a c.args.row c.args.col c.args.side c.args.d c.args.values.now vs c.self.invariant below
     (pour_keeps a c.args.row c.args.col c.args.side c.args.d c.args.values.now vs c.self.invariant c.pour_rows.ensures.size (c.pour_rows.ensures.in_range c.self.invariant.in_range) leaves)

@@ -1,11 +1,9 @@
-use Rattle.std.proofs.Common.{◌≡◌, ◌<◌, ◌≤◌, ◌+◌, ◌*◌, ap, ◌∙◌, sym, subst, length, arith}
-use Rattle.std.specs.Prelude.{All}
-use Rattle.raster_values.specs.PixelType.{InRange}
+use Rattle.std.proofs.Common.{◌≡◌, ◌<◌, ◌≤◌, ◌+◌, ◌*◌, sym, subst, length, arith}
 use Rattle.raster_values.specs.Raster.{Pixels}
 use Rattle.raster_values.specs.Flat.{PutsFrom}
 use Rattle.raster_values.specs.inside.CellList.{CellList}
 use Rattle.raster_values.specs.inside.Ordered.{PutsMarked}
-use Rattle.raster_values.specs.inside.View.{seen, pixels_of}
+use Rattle.raster_values.specs.inside.View.{pixels_of}
 use Rattle.raster_values.proofs.FlatViews.{puts_keep, puts_from, with_values}
 use Rattle.raster_values.proofs.raster.Raster.put_from.Goals as goal
 
@@ -14,9 +12,9 @@ returns c =
     let a = c.self.inside in
     let vs = c.put_values.new.values.values in
     let cells : c.put_values.new.values ≡ record a.values { values = vs } = λ i. record { kind = c.put_values.ensures.kind i; values = vs } in
-    let puts : PutsMarked a.depth c.args.d a.marks.items c.args.place (length c.args.values.now) c.args.values.now a.values.values vs =
-    subst (λ ms. PutsMarked a.depth c.args.d ms c.args.place (length c.args.values.now) c.args.values.now a.values.values vs) c.deref.ensures.value c.put_values.ensures.put in
-    subst (λ (l : CellList). PutsFrom c.args.self.now (record { kind = l.kind; rows = a.rows; cols = a.cols; depth = a.depth; pixels = pixels_of a.depth a.marks.items l.values }) c.args.place c.args.d c.args.values.now) (sym cells)
+    let puts : PutsMarked a.depth c.args.d a.marks c.args.place (length c.args.values.now) c.args.values.now a.values.values vs =
+    c.put_values.ensures.put in
+    subst (λ (l : CellList). PutsFrom c.args.self.now (record { kind = l.kind; rows = a.rows; cols = a.cols; depth = a.depth; pixels = pixels_of a.depth a.marks l.values }) c.args.place c.args.d c.args.values.now) (sym cells)
     (subst (λ (r : Pixels). c.args.place + length c.args.values.now ≤ r.rows * r.cols → c.args.d < r.depth → PutsFrom r (with_values a vs) c.args.place c.args.d c.args.values.now) c.self.view_is
     (λ within below.
     puts_from a c.args.d c.args.place c.args.values.now vs c.self.invariant

@@ -1,7 +1,7 @@
-use Rattle.std.proofs.Common.{◌≡◌, ◌*◌, ap, ◌∙◌, sym, length}
+use Rattle.std.proofs.Common.{◌*◌, ap, ◌∙◌, sym}
 use Rattle.raster_values.specs.PixelType.{bytes_of}
-use Rattle.raster_values.specs.Raster.{Pixels, values_of, valid_count}
-use Rattle.raster_values.specs.inside.View.{seen, pixels_of}
+use Rattle.raster_values.specs.Raster.{Pixels, valid_count}
+use Rattle.raster_values.specs.inside.View.{seen}
 use Rattle.raster_values.proofs.Views.{sound}
 use Rattle.raster_values.proofs.FlatViews.{count_values}
 use Rattle.raster_values.proofs.raster.Raster.value_bytes.Goals as goal
@@ -11,4 +11,3 @@ write_valid-requires-clause-room c =
     let a = c.self.inside in
     c.requires ∙ ap (λ (r : Pixels). valid_count r * r.depth * bytes_of r.kind) (sym c.self.view_is)
     ∙ ap (λ n. n * bytes_of a.values.kind) (sym (count_values (seen a) (sound a c.self.invariant)))
-    ∙ ap (λ ms. length (values_of (pixels_of a.depth ms a.values.values)) * bytes_of a.values.kind) (sym c.deref.ensures.value)

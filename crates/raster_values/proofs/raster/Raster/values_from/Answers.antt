@@ -1,5 +1,6 @@
-use Rattle.std.proofs.Common.{◌≡◌, ◌<◌, ◌≤◌, ◌+◌, ◌*◌, ap, ◌∙◌, sym, subst, length, get_or, arith}
-use Rattle.std.specs.Prelude.{pos}
+use Rattle.std.proofs.Common.{◌≡◌, ◌<◌, ◌≤◌, ◌+◌, ◌*◌, ◌∙◌, ℕ, ap, sym, refl, subst, length, get_or, arith}
+use Rattle.std.specs.Prelude.{ℤ, pos}
+use Rattle.std.proofs.lemmas.List.FromFn.{get_or-map-range_with_len}
 use Rattle.raster_values.specs.Raster.{Pixels}
 use Rattle.raster_values.specs.Flat.{value_in}
 use Rattle.raster_values.proofs.FlatViews.{value_flat, keeps_itself}
@@ -8,6 +9,8 @@ use Rattle.raster_values.proofs.raster.Raster.values_from.Goals as goal
 pub returns-clause-values : goal.returns-clause-values
 returns-clause-values c i below =
     let a = c.self.inside in
-    c.copy_values.ensures.values i below
+    let f : ℕ → ℤ = λ k. get_or a.values.values (k * a.depth + c.args.d) (pos 0) in
+    ap (λ xs. get_or xs i (pos 0)) c.get_pixels.ensures
+    ∙ get_or-map-range_with_len f c.args.place (length c.args.out.now) i (c.args.place + i) (pos 0) below refl
     ∙ subst (λ (r : Pixels). c.args.place + length c.args.out.now ≤ r.rows * r.cols → c.args.d < r.depth → get_or a.values.values ((c.args.place + i) * a.depth + c.args.d) (pos 0) ≡ value_in r c.args.d (c.args.place + i)) c.self.view_is
     (λ within deep. sym (value_flat a a.values.values (c.args.place + i) c.args.d (keeps_itself a c.self.invariant) (omega (arith, within, below, c.self.invariant.marks)) deep)) c.requires.place c.requires.depth

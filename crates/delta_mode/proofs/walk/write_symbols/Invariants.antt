@@ -1,0 +1,16 @@
+use Rattle.std.proofs.Common.{◌≡◌, ℕ, ◌+◌, ◌-ℤ◌, ◌<◌, length, get_or, true}
+use Rattle.delta_mode.specs.Symbols.{symbol_of}
+use Rattle.delta_mode.specs.inside.Pieces.{rank, last_from, left_of, guess, mark_at, value_of_place}
+use Rattle.delta_mode.proofs.walk.write_symbols.Given as goal
+
+abbrev pub invariant-loop-i : goal.invariant-loop-i
+invariant-loop-i l = record {
+  left : l.left ≡ left_of l.fn.walk.left (mark_at l.marks) l.i;
+  last : l.last ≡ last_from l.fn.walk.last (mark_at l.marks) (value_of_place l.values) l.i;
+  count : l.count ≡ l.fn.walk.count + rank (mark_at l.marks) l.i;
+  room : length l.out ≡ length l.fn.out;
+  before : (j : ℕ) → j < l.fn.walk.count → get_or l.out j 0 ≡ get_or l.fn.out j 0;
+  symbols : (k : ℕ) → k < l.i → mark_at l.marks k ≡ true
+      → symbol_of l.fn.kind (value_of_place l.values k -ℤ guess l.fn.walk.left l.fn.walk.last (mark_at l.marks) (mark_at l.up) (value_of_place l.above) (value_of_place l.values) k)
+      ≡ get_or l.out (l.fn.walk.count + rank (mark_at l.marks) k) 0;
+}

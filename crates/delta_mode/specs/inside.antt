@@ -1,0 +1,3 @@
+-- Words of the private functions: nothing here has to be believed.
+pub mod Pieces
+pub mod Turned

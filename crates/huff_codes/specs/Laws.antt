@@ -1,0 +1,34 @@
+-- The laws of code lengths and canonical codes in the words of the format.
+use Rattle.std.specs.Prelude.{ℕ, ◌≡◌, ◌+◌, ◌-◌, ◌*◌, ◌/◌, ◌^◌, ◌<◌, Bool, true, false, List, [], ◌∷◌, length, All, slice_index}
+use Rattle.huff_codes.specs.Tree.{Tree, is_before, used_below, after_joins}
+use Rattle.huff_codes.specs.Bits.{bits_of}
+use Rattle.huff_codes.specs.Codes.{AreLengths, is_earlier, start_of, canonical_code}
+
+-- no later tree comes before an earlier one, so the first two are the least of all
+abbrev pub StandInOrder : List ℕ → List Tree → Type 0
+StandInOrder counts [] = Unit
+StandInOrder counts (t ∷ ts) = All (λ u. is_before counts u t ≡ false) ts × StandInOrder counts ts
+
+-- the trees stand so at first, and after any number of joins
+abbrev pub JoinsTakeTheLeast : Type 0
+JoinsTakeTheLeast = (counts : List ℕ) (n : ℕ) → StandInOrder counts (after_joins counts n (used_below counts 256))
+
+-- the number whose bits, as many as its length says, are the code of a symbol
+unfoldable pub code_number : List ℕ → ℕ → ℕ
+code_number lengths s = start_of lengths s / 2 ^ (32 - slice_index lengths s)
+
+-- the code of b comes right behind that of a, in the order of (length, symbol)
+pub record ComesNext (lengths : List ℕ) (a b : ℕ) : Type 0 where
+  pub later : is_earlier lengths a b ≡ true
+  pub none_between : (t : ℕ) → is_earlier lengths a t ≡ true → is_earlier lengths t b ≡ true → ⊥
+
+-- The canonical codes count up: each is the bits of its number, the first number is 0, and the next one is the one before
+-- plus 1, with zeros appended up to its length.
+pub record CountUp (lengths : List ℕ) : Type 0 where
+  pub bits : (s : ℕ) → s < 256 → canonical_code lengths s ≡ bits_of (slice_index lengths s) (code_number lengths s)
+  pub first : (s : ℕ) → ((t : ℕ) → is_earlier lengths t s ≡ true → ⊥) → code_number lengths s ≡ 0
+  pub next : (a b : ℕ) → a < 256 → b < 256 → ComesNext lengths a b
+      → code_number lengths b ≡ (code_number lengths a + 1) * 2 ^ (slice_index lengths b - slice_index lengths a)
+
+abbrev pub CanonicalCodesCountUp : Type 0
+CanonicalCodesCountUp = (lengths : List ℕ) → AreLengths lengths → CountUp lengths

@@ -1,0 +1,17 @@
+use Rattle.std.proofs.Common.{refl}
+use Rattle.raster_values.specs.Flat.{marks_of}
+use Rattle.lerc_grammar.specs.declared.parts.ImageForm.TheVariants.{Delta}
+use Rattle.lerc_decode.proofs.Bodies.{coded_there, deltas_fault, err_map, image_deltas, ok_map}
+use Rattle.lerc_decode.proofs.body.read_deltas.Goals as goal
+
+pub returns-clause-ok : goal.returns-clause-ok
+returns-clause-ok c =
+    let h = c.args.header.now in
+    let there = coded_there h c.args.blob.now c.args.mask.now (Delta c.args.place) c.args.place refl c.requires.mask c.requires.form in
+    ok_map _ _ (λ b. image_deltas h c.args.blob.now c.args.mask.now c.args.place c.pour_deltas.new.raster there b) c.pour_deltas.result c.pour_deltas.ensures.ok
+
+pub returns-clause-fault : goal.returns-clause-fault
+returns-clause-fault c =
+    let h = c.args.header.now in
+    let there = coded_there h c.args.blob.now c.args.mask.now (Delta c.args.place) c.args.place refl c.requires.mask c.requires.form in
+    err_map _ _ (λ p r w. deltas_fault h c.args.blob.now c.args.mask.now (marks_of c.args.raster.now) c.args.place there p r w) c.pour_deltas.result c.pour_deltas.ensures.fault

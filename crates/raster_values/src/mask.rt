@@ -1,0 +1,342 @@
+//! The mask of a raster, as bytes.
+
+ghost use Rattle.std.specs.Prelude.{◌≡◌, ℕ, ◌+◌, ◌*◌, ◌/◌, ◌<◌, ◌≤◌, Bool, List, IfOk, IsTrue, length, get_or, replicate, slice_set, take, drop, nat_eq, nat_lt, map, ◌++◌, ◌-◌, true, false, if◌then◌else◌, ◌&&◌};
+ghost use Rattle.std.specs.List.{count_by, filter, range_with_len};
+ghost use Rattle.raster_values.specs.Order.{mask_bit, marks_in};
+ghost use Rattle.raster_values.specs.inside.Bits.{byte_bit, bit_after};
+ghost use Rattle.raster_values.specs.inside.Runs.{run_places, AreRuns};
+ghost use Rattle.raster_values.specs.inside.Pack.{mark_bytes};
+
+use std::alloc::{AllocError, Global};
+use std::marker::Model;
+
+/// Which pixels are valid: a bit for each, row by row and the highest of each byte first, and how many
+/// there are. The bits behind the last pixel are 0.
+///
+/// A contract sees the list of the marks.
+#[derive(Drop)]
+pub struct Mask {
+    count: usize,
+    valid: usize,
+    bytes: Vec<u8>,
+}
+
+impl Model for Mask {
+    ghost use Rattle.std.specs.Prelude.{Bool, List};
+
+    ghost Value = { List Bool };
+
+    ghost use Rattle.raster_values.specs.inside.MaskView.{seen_mask, IsMask};
+
+    ghost view = { seen_mask };
+
+    ghost invariant = { IsMask };
+}
+
+/// The pixels from number `start` on, up to number `end`.
+#[derive(Clone, Copy)]
+pub struct Run {
+    pub start: usize,
+    pub end: usize,
+}
+
+/// Whether each bit of a byte is `mark`.
+fn is_full(byte: u8, mark: bool) -> bool
+    ensures { IsTrue result → (q : ℕ) → q < 8 → byte_bit byte q ≡ mark }
+{
+    if mark { byte == 255 } else { byte == 0 }
+}
+
+/// The byte with a bit set or cleared, its bits counted from the highest.
+fn with_bit(byte: u8, place: usize, mark: bool) -> u8
+    requires { place < 8 }
+    ensures { (q : ℕ) → q < 8 → byte_bit result q ≡ (if nat_eq q place then mark else byte_bit byte q) }
+{
+    let bit = 1u8 << (7 - place);
+    if mark { byte | bit } else { byte & !bit }
+}
+
+/// The byte with its first bits alone.
+fn front_bits(byte: u8, count: usize) -> u8
+    requires above { 0 < count }
+    requires below { count < 8 }
+    ensures { (q : ℕ) → q < 8 → byte_bit result q ≡ (nat_lt q count && byte_bit byte q) }
+{
+    byte & (255u8 << (8 - count))
+}
+
+/// Sets bit number k.
+fn put_bit(bytes: &mut Vec<u8>, k: usize, mark: bool)
+    requires { k / 8 < length bytes.old.items }
+    ensures size { length bytes.new.items ≡ length bytes.old.items }
+    ensures bits { (j : ℕ) → mask_bit bytes.new.items j
+        ≡ (if nat_eq j k then mark else mask_bit bytes.old.items j) }
+{
+    bytes[k / 8] = with_bit(bytes[k / 8], k % 8, mark);
+}
+
+/// Clears the bits from number `count` on, which are fewer than eight.
+fn clear_spare(bytes: &mut Vec<u8>, count: usize)
+    requires few { count ≤ 16777216 }
+    requires size { length bytes.old.items ≡ (count + 7) / 8 }
+    ensures size { length bytes.new.items ≡ length bytes.old.items }
+    ensures bits { (k : ℕ) → mask_bit bytes.new.items k ≡ (nat_lt k count && mask_bit bytes.old.items k) }
+{
+    if count % 8 > 0 {
+        bytes[count / 8] = front_bits(bytes[count / 8], count % 8);
+    }
+}
+
+/// Sets every bit.
+fn fill_bits(bytes: &mut Vec<u8>)
+    ensures { bytes.new.items ≡ replicate (length bytes.old.items) 255 }
+{
+    let all = &mut bytes[..];
+    all.fill(255);
+}
+
+/// Sets the bits before number `count`, and clears the others.
+fn set_front(bytes: &mut Vec<u8>, count: usize)
+    requires few { count ≤ 16777216 }
+    requires size { length bytes.old.items ≡ (count + 7) / 8 }
+    ensures size { length bytes.new.items ≡ length bytes.old.items }
+    ensures bits { (k : ℕ) → mask_bit bytes.new.items k ≡ nat_lt k count }
+{
+    fill_bits(bytes);
+    clear_spare(bytes, count);
+}
+
+/// Lays bytes over as many.
+fn lay(bytes: &mut Vec<u8>, mask: &[u8])
+    requires { length mask.now ≡ length bytes.old.items }
+    ensures { bytes.new.items ≡ mask.now }
+{
+    let all = &mut bytes[..];
+    all.copy_from_slice(mask);
+}
+
+/// How many of `count` bits of a byte from `from` on are 1, the bits counted from the highest.
+fn ones_within(byte: u8, from: usize, count: usize) -> usize
+    requires above { 0 < count }
+    requires within { from + count ≤ 8 }
+    ensures { result ≡ length (filter (byte_bit byte) (range_with_len from count)) }
+{
+    let run = (byte >> (8 - from - count)) & (255u8 >> (8 - count));
+    run.count_ones() as usize
+}
+
+/// How many of `count` bits from `from` on are 1.
+fn count_bits(bytes: &[u8], from: usize, count: usize) -> usize
+    requires few { from + count ≤ 16777216 }
+    requires within { from + count ≤ 8 * length bytes.now }
+    ensures { result ≡ length (filter (mask_bit bytes.now) (range_with_len from count)) }
+{
+    let end = from + count;
+    let mut n = 0;
+    let mut k = from;
+    while k < end {
+        let next = end.min(k / 8 * 8 + 8);
+        n += ones_within(bytes[k / 8], k % 8, next - k);
+        k = next;
+    }
+    n
+}
+
+/// Sets the bits from `from` on: to 1 where the byte is 1.
+fn put_bits(bytes: &mut Vec<u8>, from: usize, marks: &[u8])
+    requires few { from + length marks.now ≤ 16777216 }
+    requires within { from + length marks.now ≤ 8 * length bytes.old.items }
+    ensures size { length bytes.new.items ≡ length bytes.old.items }
+    ensures bits { (k : ℕ) → mask_bit bytes.new.items k ≡ bit_after bytes.old.items marks.now from (length marks.now) k }
+{
+    for (i, mark) in marks.iter().enumerate() {
+        put_bit(bytes, from + i, *mark == 1);
+    }
+}
+
+impl Mask {
+    /// A mask of so many pixels, of which none is valid.
+    pub fn new(alloc: Global, count: usize) -> Result<Mask, AllocError>
+        requires { count ≤ 16777216 }
+        ensures { IfOk result (λ m. m ≡ replicate count false) }
+    {
+        let bytes = vec![in alloc; 0u8; count.div_ceil(8)]?;
+        Ok(Mask {
+            count,
+            valid: 0,
+            bytes,
+        })
+    }
+
+    /// The number of pixels.
+    pub fn len(&self) -> usize
+        ensures value { result ≡ length self.now }
+        ensures few { result ≤ 16777216 }
+    {
+        self.count
+    }
+
+    /// How many pixels are valid.
+    pub fn valid_count(&self) -> usize
+        ensures { result ≡ count_by (λ m. m) self.now }
+    {
+        self.valid
+    }
+
+    /// Whether a pixel is valid.
+    pub fn get(&self, k: usize) -> bool
+        requires { k < length self.now }
+        ensures { result ≡ get_or self.now k false }
+    {
+        (self.bytes[k / 8] >> (7 - k % 8)) % 2 == 1
+    }
+
+    /// Makes a pixel valid or invalid.
+    pub fn set(&mut self, k: usize, mark: bool)
+        requires { k < length self.old }
+        ensures { self.new ≡ slice_set self.old k mark }
+    {
+        let was = self.get(k);
+        put_bit(&mut self.bytes, k, mark);
+        self.valid = self.valid + usize::from(mark) - usize::from(was);
+    }
+
+    /// Makes every pixel valid.
+    pub fn fill(&mut self)
+        ensures { self.new ≡ replicate (length self.old) true }
+    {
+        let count = self.count;
+        set_front(&mut self.bytes, count);
+        self.valid = count;
+    }
+
+    /// Makes the pixels valid whose bits are 1, and the others invalid. The bits behind the last pixel are
+    /// not looked at.
+    pub fn set_all(&mut self, mask: &[u8])
+        requires { length mask.now ≡ (length self.old + 7) / 8 }
+        ensures { self.new ≡ marks_in (length self.old) mask.now }
+    {
+        let count = self.count;
+        lay(&mut self.bytes, mask);
+        clear_spare(&mut self.bytes, count);
+        self.valid = count_bits(&self.bytes, 0, count);
+    }
+
+    /// The bits, eight to a byte.
+    pub fn bytes(&self) -> &[u8]
+        ensures size { length result.now ≡ (length self.now + 7) / 8 }
+        ensures bits { (k : ℕ) → mask_bit result.now k ≡ get_or self.now k false }
+    {
+        &self.bytes
+    }
+
+    /// A mask equal to this one.
+    pub fn copy(&self, alloc: Global) -> Result<Mask, AllocError>
+        ensures { IfOk result (λ m. m ≡ self.now) }
+    {
+        let mut bytes = Vec::with_capacity(alloc, self.bytes.len())?;
+        bytes.extend_from_slice(&self.bytes)?;
+        Ok(Mask {
+            count: self.count,
+            valid: self.valid,
+            bytes,
+        })
+    }
+
+    /// How many of `count` pixels from `from` on are valid.
+    pub fn count_run(&self, from: usize, count: usize) -> usize
+        requires { from + count ≤ length self.now }
+        ensures { result ≡ length (run_places self.now from count) }
+    {
+        if self.valid == self.count {
+            return count;
+        }
+        count_bits(&self.bytes, from, count)
+    }
+
+    /// Makes the pixels from `from` on valid where the byte is 1, and the others of them invalid.
+    pub fn set_run(&mut self, from: usize, marks: &[u8])
+        requires { from + length marks.now ≤ length self.old }
+        ensures { self.new ≡ take from self.old ++ (map (λ b. nat_eq b 1) marks.now
+            ++ drop (from + length marks.now) self.old) }
+    {
+        let before = count_bits(&self.bytes, from, marks.len());
+        put_bits(&mut self.bytes, from, marks);
+        let after = count_bits(&self.bytes, from, marks.len());
+        self.valid = self.valid - before + after;
+    }
+
+    /// Lays a byte for each of `count` pixels from `from` on over the front: 1 for a valid one.
+    pub fn write_run(&self, from: usize, count: usize, out: &mut [u8])
+        requires within { from + count ≤ length self.now }
+        requires room { count ≤ length out.old }
+        ensures { out.new ≡ mark_bytes (take count (drop from self.now)) ++ drop count out.old }
+    {
+        let _ = self.len();
+        for i in 0..count {
+            out[i] = u8::from(self.get(from + i));
+        }
+    }
+
+    /// Copies the marks of the pixels from `from` on.
+    pub fn copy_run(&self, from: usize, out: &mut [bool])
+        requires { from + length out.old ≤ length self.now }
+        ensures { (i : ℕ) → i < length out.old → get_or out.new i false ≡ get_or self.now (from + i) false }
+    {
+        let _ = self.len();
+        for i in 0..out.len() {
+            out[i] = self.get(from + i);
+        }
+    }
+
+    /// The first place behind a pixel with this mark, at most eight further, before which all have it.
+    fn past(&self, at: usize, limit: usize, mark: bool) -> usize
+        requires order { at < limit }
+        requires within { limit ≤ length self.now }
+        requires here { get_or self.now at false ≡ mark }
+        ensures from { at < result }
+        ensures within { result ≤ limit }
+        ensures run { (k : ℕ) → at ≤ k → k < result → get_or self.now k false ≡ mark }
+    {
+        if at % 8 == 0 && is_full(self.bytes[at / 8], mark) {
+            return limit.min(at + 8);
+        }
+        at + 1
+    }
+
+    /// Where the run of equal marks from `at` on ends, which is looked for before `limit`.
+    pub fn run_end(&self, at: usize, limit: usize, mark: bool) -> usize
+        requires order { at ≤ limit }
+        requires within { limit ≤ length self.now }
+        ensures from { at ≤ result }
+        ensures within { result ≤ limit }
+        ensures run { (k : ℕ) → at ≤ k → k < result → get_or self.now k false ≡ mark }
+        ensures end { result < limit → get_or self.now result false ≡ mark → ⊥ }
+    {
+        let mut end = at;
+        while end < limit && self.get(end) == mark {
+            end = self.past(end, limit, mark);
+        }
+        end
+    }
+
+    /// The next run of valid pixels from `at` on, before `limit`. It is empty, and at `limit`, where there
+    /// is none.
+    pub fn next_run(&self, at: usize, limit: usize) -> Run
+        requires order { at ≤ limit }
+        requires within { limit ≤ length self.now }
+        ensures runs { AreRuns self.now at result.start result.end }
+        ensures within { result.end ≤ limit }
+        ensures forth { at < limit → at < result.end }
+    {
+        if self.valid == self.count {
+            return Run {
+                start: at,
+                end: limit,
+            };
+        }
+        let start = self.run_end(at, limit, false);
+        let end = self.run_end(start, limit, true);
+        Run { start, end }
+    }
+}
