@@ -1,11 +1,9 @@
 -- Blocks by their numbers: how many there are, where they stand, and how long they are.
-use Rattle.std.proofs.Common.{◌≡◌, ℕ, ◌+◌, ◌-◌, ◌*◌, ◌/◌, ◌%◌, ◌<◌, ◌≤◌, zero, suc, Bool, true, false, List, [], ◌∷◌, ◌++◌, length, get_or, take, drop, map, refl, sym, ap, ◌∙◌, subst, arith, length-append, append_assoc, Option, Some, None, ◌⊎◌, inl, inr}
-use Rattle.std.specs.Prelude.{ℤ, pos, ◌≤ℤ◌, All, unwrap_or}
-use Rattle.std.specs.List.{flat_map, range_with_len}
+use Rattle.std.proofs.Common.{◌≡◌, ℕ, ◌+◌, ◌-◌, ◌*◌, ◌/◌, ◌%◌, ◌<◌, ◌≤◌, zero, suc, List, [], ◌∷◌, ◌++◌, length, get_or, take, drop, refl, sym, ap, ◌∙◌, subst, arith, length-append, append_assoc, Option, Some, None, ◌⊎◌, inl, inr}
+use Rattle.std.specs.Prelude.{ℤ, pos, All, unwrap_or}
 use Rattle.std.proofs.lemmas.Bool.{cases_lt}
-use Rattle.std.proofs.lemmas.Int.{ints}
 use Rattle.std.proofs.lemmas.Nat.{div_below, mod_below}
-use Rattle.std.proofs.lemmas.List.{get_or_past, take_at, drop_at, drop-drop, take_rest, length-map}
+use Rattle.std.proofs.lemmas.List.{get_or_past, take_at, drop_at, drop-drop, take_rest}
 use Rattle.std.proofs.lemmas.List.Elements.{All-map}
 use Rattle.std.proofs.Math.Nat.{mul-le-mul_left, mul-le-mul_right}
 use borrow.Rule.Slice.PartMut.{put_mid}
@@ -13,22 +11,20 @@ use Rattle.bit_stuff.proofs.Buffers.{end_written}
 use Rattle.raster_values.specs.declared.kind.PixelType.{PixelType}
 use Rattle.raster_values.specs.PixelType.{InRange, bytes_of}
 use Rattle.raster_values.specs.Raster.{Pixels, IsRaster, IsPixel}
-use Rattle.raster_values.specs.Block.{block_values, valid_in_block, block_count}
+use Rattle.raster_values.specs.Block.{block_values, block_count}
 use Rattle.raster_values.specs.Flat.{value_in}
 use Rattle.raster_values.proofs.BlockLaws.{has_count}
 use Rattle.raster_values.proofs.NumberedBlocks.{block_numbered}
+use Rattle.raster_values.proofs.Pack.{length-values_bytes}
 use Rattle.raster_values.proofs.Spelled.{few_bytes}
 use Rattle.raster_values.proofs.Views.{zero_in_range}
 use Rattle.lerc_header.specs.declared.header.Header.{Header}
 use Rattle.micro_block.specs.Fewest.{first_least}
 use Rattle.micro_block.specs.Choice as micro
 use Rattle.micro_block.specs.Choice.{block_bytes, chosen_form, form_bytes, forms}
-use Rattle.micro_block.proofs.Fewest.{IsTaken, is_first_least}
-use Rattle.micro_block.proofs.Closed.{length_raw}
-use Rattle.lerc_grammar.specs.Blocks.{blocks_across, blocks_down, coded_blocks, block_depth, block_row, block_col, coded_values}
-use Rattle.lerc_encode.specs.Images.{coded_bytes}
-use Rattle.lerc_encode.specs.inside.Blocked.{IsBlocked, IsSpot}
-use Rattle.lerc_encode.specs.declared.blocks.Spot.{Spot}
+use Rattle.lerc_encode.proofs.Fewest.{IsTaken, is_first_least}
+use Rattle.lerc_grammar.specs.Blocks.{blocks_across, blocks_down, coded_blocks, block_depth, block_row, block_col}
+use Rattle.lerc_encode.specs.inside.Blocked.{IsBlocked}
 
 -- ---- how many
 
@@ -116,6 +112,10 @@ block_gathered h r is kind same out rest row col side d n e joined =
     (gathered (InRange r.kind) out (block_values r row col side d) rest n (block_count r row col side) e (has_count r row col side d) joined (block_fits r is.sound row col side d))
 
 -- ---- how long
+
+length_raw : (kind : PixelType) (col step : ℕ) (values : List ℤ) → length (form_bytes kind col step values micro.raw) ≡ 1 + length values * bytes_of kind
+unfolding form_bytes
+length_raw kind col step values = let long = length-values_bytes kind values in omega (arith, long)
 
 -- the raw form is always there
 pub chosen_few : (kind : PixelType) (col step : ℕ) (values : List ℤ) → length (block_bytes kind col step values) ≤ 1 + length values * bytes_of kind

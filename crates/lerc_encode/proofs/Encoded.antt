@@ -1,27 +1,21 @@
 -- The chosen blob: how long it is, and the raster for which it stands.
-use Rattle.std.proofs.Common.{◌≡◌, ◌≢◌, ℕ, ◌+◌, ◌-◌, ◌*◌, ◌/◌, ◌^◌, ◌<◌, ◌≤◌, zero, suc, Bool, true, false, List, [], ◌∷◌, ◌++◌, length, get_or, take, drop, map, replicate, refl, sym, ap, ◌∙◌, subst, arith, length-append, Option, Some, None, ◌⊎◌, inl, inr}
-use Rattle.std.specs.Prelude.{ℤ, pos, is_some, unwrap_or, nat_eq, ◌&&◌, ◌||◌, All, if◌then◌else◌}
-use Rattle.std.specs.List.{range_with_len}
+use Rattle.std.proofs.Common.{◌≡◌, ℕ, ◌+◌, ◌*◌, ◌^◌, ◌<◌, ◌≤◌, zero, suc, Bool, true, false, List, [], ◌∷◌, ◌++◌, length, get_or, drop, refl, sym, ap, ◌∙◌, subst, arith, length-append, Option, Some, None, ◌⊎◌, inl, inr}
+use Rattle.std.specs.Prelude.{pos, is_some, unwrap_or, nat_eq, ◌&&◌, ◌||◌, All, if◌then◌else◌}
 use Rattle.std.proofs.lemmas.Bool.{eqb-true, eq-eqb}
 use Rattle.std.proofs.lemmas.Bool.Decides.{nat_tests}
 use Rattle.std.proofs.lemmas.Int.{ints}
 use Rattle.std.proofs.lemmas.Nat.{mul-add-lt}
-use Rattle.std.proofs.lemmas.List.{length-map, get_or-map, drop-append-le, drop_at}
+use Rattle.std.proofs.lemmas.List.{get_or-map, drop-append-le, drop_at}
 use Rattle.byteorder.specs.Numbers.{little_number-reads_back}
 use Rattle.std.proofs.lemmas.List.Sums.{count_by-le-length}
 use Rattle.std.proofs.Math.Nat.{mul-le-mul_right, mul-le-mul_left}
-use Rattle.byteorder.specs.Endian.{little_bytes, little_number, twos_complement}
-use Rattle.mask_runs.specs.Chosen.{chosen_runs}
+use Rattle.byteorder.specs.Endian.{little_bytes, twos_complement}
 use Rattle.mask_runs.specs.Runs.{Runs}
 use Rattle.mask_runs.proofs.Chosen.{chosen_are_runs}
-use Rattle.raster_values.specs.Raster.{Pixels, IsRaster, InShape, IsValidAt, value_at, values_of, valid_count}
-use Rattle.raster_values.specs.Grid.{values_bytes}
-use Rattle.raster_values.specs.PixelType.{InRange, bytes_of}
-use Rattle.raster_values.specs.Order.{marks_in, mask_bit}
+use Rattle.raster_values.specs.Raster.{Pixels, IsRaster, value_at, values_of, valid_count}
+use Rattle.raster_values.specs.PixelType.{bytes_of}
 use Rattle.raster_values.specs.Flat.{marks_of, value_in}
-use Rattle.raster_values.proofs.Pack.{length-values_bytes}
 use Rattle.raster_values.proofs.Spelled.{few_bytes}
-use Rattle.lerc_header.specs.declared.header.Header.{Header}
 use Rattle.lerc_header.specs.declared.header.Version.{Version}
 use Rattle.lerc_header.specs.declared.header.Version.TheVariants.{V3, V4}
 use Rattle.lerc_header.specs.Head.{HeadAt, head_length, i32_at, IsTwiceError}
@@ -30,21 +24,20 @@ use Rattle.lerc_header.specs.Checksum.{sum_of}
 use Rattle.lerc_header.proofs.WrittenHeads.{length-head, drop-head, head_stands, field-checksum}
 use Rattle.micro_block.specs.Choice as micro
 use Rattle.micro_block.specs.Near.{IsNear}
-use Rattle.micro_block.specs.Fewest.{first_least}
-use Rattle.micro_block.proofs.Fewest.{is_first_least, IsTaken}
-use Rattle.lerc_grammar.specs.Mask.{IsMask, alike, mixed, count_of, mask_size, IsAlike}
+use Rattle.lerc_encode.proofs.Fewest.{is_first_least, IsTaken}
+use Rattle.lerc_grammar.specs.Mask.{IsMask, alike, mixed, count_of, IsAlike}
 use Rattle.lerc_grammar.specs.Image.{IsImage}
 use Rattle.lerc_grammar.specs.Near.{Near}
 use Rattle.lerc_grammar.specs.Blob.{Blob, BlobParts, IsJoinOf, IsHeadOf}
 use Rattle.lerc_grammar.proofs.Blobs.{one_raster}
-use Rattle.lerc_encode.specs.Ranges.{greatest_value, leasts, greatests, front_bytes, is_bare, is_level}
+use Rattle.lerc_encode.specs.Ranges.{greatest_value, front_bytes, is_bare, is_level}
 use Rattle.lerc_encode.specs.Masks.{packed, are_alike, mask_runs_of, mask_part}
 use Rattle.lerc_encode.specs.Heads.{header_of}
-use Rattle.lerc_encode.specs.Images.{Form, sweep, blocks_8, blocks_16, is_v4, Ending, bare, level, coded, side_at, side_of, image_bytes, form_bytes, forms, chosen_form, ending}
+use Rattle.lerc_encode.specs.Images.{Form, sweep, blocks_8, blocks_16, is_v4, Ending, bare, level, coded, side_at, image_bytes, form_bytes, forms, chosen_form, ending}
 use Rattle.lerc_encode.specs.Choice.{behind_head, header_with, checksum_of, choice}
 use Rattle.lerc_encode.specs.Encoded.{IsAsked, IsEncodedOnce}
 use Rattle.lerc_encode.specs.inside.Suits.{IsBeside}
-use Rattle.lerc_encode.proofs.Extremes.{in_order, length_values, no_values, all_least_fits, all_greatest_fits, length_leasts, length_greatests}
+use Rattle.lerc_encode.proofs.Extremes.{in_order, no_values, all_least_fits, all_greatest_fits}
 use Rattle.lerc_encode.proofs.Packing.{count_marks, long_marks, mask_few, alike_runs, mixed_runs, packed_bits, packed_below, length_packed, all_off, all_on}
 use Rattle.lerc_encode.proofs.Forming.{length_front, length_sweep}
 use Rattle.lerc_encode.proofs.Endings.{ImageStands, bare_stands, level_stands, coded_stands}

@@ -1,17 +1,15 @@
 -- What the image stands for, by how it ends.
-use Rattle.std.proofs.Common.{◌≡◌, ◌≢◌, ℕ, ◌+◌, ◌-◌, ◌*◌, ◌<◌, ◌≤◌, zero, suc, Bool, true, false, List, [], ◌∷◌, ◌++◌, length, get_or, map, replicate, refl, sym, ap, ◌∙◌, subst, arith, length-append, Option, Some, None, ◌⊎◌, inl, inr}
-use Rattle.std.specs.Prelude.{ℤ, pos, ◌≤ℤ◌, is_some, unwrap_or, nat_eq, ◌&&◌, ◌||◌, All, if◌then◌else◌, IfSome}
+use Rattle.std.proofs.Common.{◌≡◌, ℕ, ◌<◌, Bool, true, false, List, [], ◌++◌, length, get_or, replicate, refl, sym, ap, ◌∙◌, subst, arith, Option, Some, None, ◌⊎◌, inl, inr}
+use Rattle.std.specs.Prelude.{ℤ, pos, is_some, unwrap_or, nat_eq, ◌&&◌, ◌||◌, IfSome}
 use Rattle.std.specs.Ordering.{int_eq}
 use Rattle.std.proofs.lemmas.Int.{ints}
 use Rattle.std.proofs.lemmas.Bool.{eqb-true, eq-eqb}
 use Rattle.std.proofs.lemmas.Bool.Decides.{Decides-int_eq}
-use Rattle.std.proofs.lemmas.List.{get_or-map, length-map, ext_get_or, length-replicate, get_or-replicate}
+use Rattle.std.proofs.lemmas.List.{get_or-map, ext_get_or, length-replicate, get_or-replicate}
 use Rattle.std.proofs.lemmas.List.Elements.{All-append}
 use Rattle.raster_values.specs.Raster.{Pixels, IsRaster, IsPixel, values_of, valid_count}
-use Rattle.raster_values.specs.Grid.{values_bytes}
 use Rattle.raster_values.specs.PixelType.{InRange}
 use Rattle.raster_values.specs.Flat.{EachValid, marks_of, value_in}
-use Rattle.lerc_header.specs.declared.header.Header.{Header}
 use Rattle.lerc_header.specs.declared.header.Version.{Version}
 use Rattle.lerc_header.specs.declared.header.Version.TheVariants.{V3, V4}
 use Rattle.micro_block.specs.Choice as micro

@@ -1,11 +1,11 @@
 -- The least and the greatest value of a raster and of its depths.
-use Rattle.std.proofs.Common.{◌≡◌, ℕ, ◌+◌, ◌*◌, ◌<◌, ◌≤◌, zero, suc, Bool, true, false, List, [], ◌∷◌, ◌++◌, length, get_or, map, refl, sym, ap, ◌∙◌, subst, arith, length-append, Option, Some, None, ◌⊎◌, inl, inr}
+use Rattle.std.proofs.Common.{◌≡◌, ℕ, ◌+◌, ◌*◌, ◌<◌, ◌≤◌, zero, suc, true, false, List, [], ◌∷◌, length, get_or, map, refl, sym, ap, ◌∙◌, subst, arith, length-append, Option, Some, None, ◌⊎◌, inl, inr}
 use Rattle.std.specs.Prelude.{ℤ, pos, ◌≤ℤ◌, is_some, unwrap_or, IfSome, All, Contains, fold, cond}
 use Rattle.std.specs.Int.{int_min, int_max}
-use Rattle.std.specs.List.{flat_map, range_with_len, count_by}
+use Rattle.std.specs.List.{flat_map, range_with_len}
 use Rattle.std.proofs.lemmas.Int.{ints, clamps, fold-int_min_reached, fold-int_max_reached}
 use Rattle.lane_kernels.specs.Kernels.{IsLeast, IsGreatest}
-use Rattle.std.proofs.lemmas.List.{get_or-map, length-map}
+use Rattle.std.proofs.lemmas.List.{get_or-map}
 use Rattle.std.proofs.lemmas.List.FromFn.{length-map-range_with_len}
 use Rattle.raster_values.specs.Raster.{Pixels, IsRaster, IsPixel, values_of, valid_count}
 use Rattle.raster_values.specs.PixelType.{InRange, type_least, type_greatest}
@@ -15,7 +15,7 @@ use Rattle.raster_values.specs.declared.kind.PixelType.TheVariants.{I8, U8, I16,
 use mir.Syntax.{w64}
 use mir.Val.{to_z, of_z}
 use Rattle.micro_block.proofs.Written.{zero_of, least_in_range}
-use Rattle.micro_block.proofs.Range.{reread}
+use Rattle.raster_values.proofs.Views.{same_bits}
 use Rattle.micro_block.specs.Choice.{least_value}
 use Rattle.lerc_encode.specs.Ranges.{greatest_value, depth_values, at_depth, leasts, greatests}
 use Rattle.lerc_encode.proofs.Members.{Has, at_index, index_of, in_flat_map, in_map, in_range, has_flat_map, has_map, has_range}
@@ -172,10 +172,10 @@ ends_in_range U32 = ((omega (arith, ints), omega (arith, ints)), (omega (arith, 
 
 -- the ends of a type as numbers of 64 bits
 pub least_again : (kind : PixelType) → to_z w64 (of_z w64 (type_least kind)) ≡ type_least kind
-least_again kind = reread kind (type_least kind) (ends_in_range kind).0
+least_again kind = same_bits kind (type_least kind) (ends_in_range kind).0
 
 pub greatest_again : (kind : PixelType) → to_z w64 (of_z w64 (type_greatest kind)) ≡ type_greatest kind
-greatest_again kind = reread kind (type_greatest kind) (ends_in_range kind).1
+greatest_again kind = same_bits kind (type_greatest kind) (ends_in_range kind).1
 
 -- the least and the greatest value are the type's
 pub depth_least_fits : (r : Pixels) → IsRaster r → (d : ℕ) → d < r.depth → InRange r.kind (least_value (depth_values r d))
@@ -302,10 +302,10 @@ whole_greatest r is vs m e greatest = by (valid_count r) refl
 
 -- the least of values of a type is one of the type, and is the same as a number of 64 bits
 pub least_kept : (kind : PixelType) (vs : List ℤ) (m : ℤ) → All (InRange kind) vs → IsLeast vs m → IsLeast vs (to_z w64 (of_z w64 m))
-least_kept kind vs m fits is = subst (λ (u : ℤ). IsLeast vs u) (sym (reread kind m (subst (InRange kind) is.0.2 (fits is.0.0 m is.0.1)))) is
+least_kept kind vs m fits is = subst (λ (u : ℤ). IsLeast vs u) (sym (same_bits kind m (subst (InRange kind) is.0.2 (fits is.0.0 m is.0.1)))) is
 
 pub greatest_kept : (kind : PixelType) (vs : List ℤ) (m : ℤ) → All (InRange kind) vs → IsGreatest vs m → IsGreatest vs (to_z w64 (of_z w64 m))
-greatest_kept kind vs m fits is = subst (λ (u : ℤ). IsGreatest vs u) (sym (reread kind m (subst (InRange kind) is.0.2 (fits is.0.0 m is.0.1)))) is
+greatest_kept kind vs m fits is = subst (λ (u : ℤ). IsGreatest vs u) (sym (same_bits kind m (subst (InRange kind) is.0.2 (fits is.0.0 m is.0.1)))) is
 
 all_depths : (P : ℤ → Type 0) (f : ℕ → ℤ) (n : ℕ) → ((d : ℕ) → d < n → P (f d)) → All P (map f (range_with_len 0 n))
 all_depths P f n h = all_of P (map f (range_with_len 0 n)) (λ v m. let a = at_depths f n v m in subst P (sym a.1.1) (h a.0 a.1.0))

@@ -1,15 +1,12 @@
 -- The forms of an image's values, and the choice among them.
-use Rattle.std.proofs.Common.{◌≡◌, ℕ, ◌+◌, ◌-◌, ◌*◌, ◌/◌, ◌%◌, ◌<◌, ◌≤◌, zero, suc, Bool, true, false, List, [], ◌∷◌, ◌++◌, length, get_or, take, drop, map, refl, sym, ap, ◌∙◌, subst, arith, length-append, Option, Some, None, ◌⊎◌, inl, inr}
-use Rattle.std.specs.Prelude.{ℤ, pos, nat_eq, ◌&&◌, ◌||◌, if◌then◌else◌, unwrap_or, MatchOption, ◌≢◌, set}
+use Rattle.std.proofs.Common.{◌≡◌, ℕ, ◌+◌, ◌-◌, ◌*◌, ◌/◌, ◌<◌, ◌≤◌, zero, suc, Bool, true, false, List, [], ◌∷◌, ◌++◌, length, get_or, map, refl, sym, ap, ◌∙◌, subst, arith, length-append, Option, Some, None, ◌⊎◌, inl, inr}
+use Rattle.std.specs.Prelude.{ℤ, nat_eq, ◌&&◌, ◌||◌, if◌then◌else◌, unwrap_or, MatchOption, ◌≢◌, set}
 use Rattle.std.specs.Option.{option_map}
-use Rattle.std.specs.List.{flat_map}
 use Rattle.std.proofs.lemmas.Bool.{eqb-true, cases_eq}
 use Rattle.std.proofs.lemmas.Bool.Decides.{nat_tests, Decides-int_eq}
 use Rattle.std.specs.Ordering.{int_eq}
 use Rattle.std.specs.Cmp.Lexicographic.{pointwise}
-use Rattle.std.proofs.lemmas.Int.{ints}
 use Rattle.std.proofs.lemmas.List.Concat.{flat_map-append}
-use Rattle.std.proofs.Math.Nat.{mul-le-mul_left, mul-le-mul_right}
 use Rattle.std.proofs.Math.ListN.{length-set}
 use borrow.Rule.Slice.PartMut.{put_mid}
 use mir.Syntax.{w64}
@@ -20,16 +17,15 @@ use Rattle.raster_values.specs.PixelType.{InRange, bytes_of, value_bytes}
 use Rattle.raster_values.specs.Raster.{Pixels, IsRaster, values_of, valid_count}
 use Rattle.raster_values.specs.Grid.{values_bytes}
 use Rattle.raster_values.proofs.Pack.{length-values_bytes}
-use Rattle.raster_values.proofs.Spelled.{few_bytes}
 use Rattle.lerc_header.specs.declared.header.Header.{Header}
 use Rattle.lerc_header.specs.declared.header.Version.{Version}
-use Rattle.lerc_header.specs.declared.header.Version.TheVariants.{V3, V4}
+use Rattle.lerc_header.specs.declared.header.Version.TheVariants.{V4}
 use Rattle.lerc_header.specs.Head.{IsTwiceError}
 use Rattle.micro_block.specs.Choice.{least_value}
 use Rattle.micro_block.specs.Frame.{IsBlockStep}
 use Rattle.micro_block.specs.Fewest.{first_least, IsFirstLeast}
-use Rattle.micro_block.proofs.Range.{reread}
-use Rattle.micro_block.proofs.Steps.{by_sizes}
+use Rattle.raster_values.proofs.Views.{same_bits}
+use Rattle.lerc_encode.proofs.Best.{by_sizes}
 use Rattle.lerc_encode.specs.Heads.{header_of}
 use Rattle.lerc_encode.specs.Ranges.{greatest_value, leasts, greatests, front_bytes, is_bare, is_level}
 use Rattle.lerc_encode.specs.Images as images
@@ -149,7 +145,7 @@ eq_true a b e = grind (arith, nat_tests, e)
 pub same_test : (kind : PixelType) (a b : ℤ) → InRange kind a → InRange kind b → nat_eq (of_z w64 a) (of_z w64 b) ≡ int_eq a b
 same_test kind a b fa fb =
     true_both (nat_eq (of_z w64 a) (of_z w64 b)) (int_eq a b)
-    (λ t. (Decides-int_eq a b).1 (sym (reread kind a fa) ∙ ap (to_z w64) (eqb-true (of_z w64 a) (of_z w64 b) t) ∙ reread kind b fb))
+    (λ t. (Decides-int_eq a b).1 (sym (same_bits kind a fa) ∙ ap (to_z w64) (eqb-true (of_z w64 a) (of_z w64 b) t) ∙ same_bits kind b fb))
     (λ t. eq_true (of_z w64 a) (of_z w64 b) (ap (of_z w64) (one_number a b t)))
 
 and_true : (p q : Bool) → (p && q) ≡ true → (p ≡ true) × (q ≡ true)

@@ -1,14 +1,14 @@
 -- The blocks that are written stand for a raster that is near.
-use Rattle.std.proofs.Common.{◌≡◌, ℕ, ◌+◌, ◌-◌, ◌*◌, ◌/◌, ◌%◌, ◌<◌, ◌≤◌, min, zero, suc, Bool, true, false, List, [], ◌∷◌, ◌++◌, length, get_or, map, refl, sym, ap, ◌∙◌, subst, arith, length-append, Option, Some, None, ◌⊎◌, inl, inr}
-use Rattle.std.specs.Prelude.{ℤ, pos, ◌≤ℤ◌, is_some, unwrap_or, IfSome, All, fold, cond}
+use Rattle.std.proofs.Common.{◌≡◌, ℕ, ◌+◌, ◌-◌, ◌*◌, ◌/◌, ◌%◌, ◌<◌, ◌≤◌, min, suc, Bool, true, false, List, [], ◌∷◌, ◌++◌, length, get_or, map, sym, ap, ◌∙◌, subst, arith, length-append, Option, Some, None}
+use Rattle.std.specs.Prelude.{ℤ, pos, ◌≤ℤ◌, is_some, unwrap_or, cond}
 use Rattle.std.specs.List.{flat_map, filter, range_with_len}
-use Rattle.std.proofs.lemmas.Int.{ints, clamps}
-use Rattle.std.proofs.lemmas.List.{get_or-map, length-map}
+use Rattle.std.proofs.lemmas.Int.{ints}
+use Rattle.std.proofs.lemmas.List.{length-map}
 use Rattle.std.proofs.lemmas.List.FromFn.{length-range_with_len}
 use Rattle.std.proofs.lemmas.Nat.{div_below, mod_below, div-mul-add, mod-mul-add, div-add-mod', mul-add-lt, le-div}
 use Rattle.std.proofs.lemmas.Simd.{map-map}
 use Rattle.std.proofs.Math.Nat.{mul-le-mul_left}
-use Rattle.raster_values.specs.Raster.{Pixels, IsRaster, IsPixel, values_of, valid_count}
+use Rattle.raster_values.specs.Raster.{Pixels, IsRaster, IsPixel}
 use Rattle.raster_values.specs.PixelType.{InRange}
 use Rattle.raster_values.specs.declared.kind.PixelType.{PixelType}
 use Rattle.raster_values.specs.Flat.{marks_of, value_in, revalued}
@@ -16,7 +16,7 @@ use Rattle.raster_values.proofs.NumberedBlocks.{block_numbered}
 use Rattle.raster_values.proofs.Revalued.{new_shape, new_marks, new_value, new_raster}
 use Rattle.lerc_header.specs.declared.header.Header.{Header}
 use Rattle.micro_block.specs.Choice as micro
-use Rattle.micro_block.specs.Frame.{Frame, AreWritable}
+use Rattle.micro_block.specs.Frame.{AreWritable}
 use Rattle.micro_block.specs.Block.{IsBlock}
 use Rattle.micro_block.specs.Near.{IsNear}
 use Rattle.micro_block.proofs.Written.{written_stands, kept_near, kept_between, least_in_range}

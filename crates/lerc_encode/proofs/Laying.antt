@@ -1,5 +1,5 @@
 -- How a blob is laid out.
-use Rattle.std.proofs.Common.{◌≡◌, ℕ, ◌+◌, ◌-◌, ◌*◌, ◌^◌, ◌<◌, ◌≤◌, List, [], ◌++◌, length, take, drop, refl, sym, ap, ◌∙◌, subst, arith, length-append, length-drop}
+use Rattle.std.proofs.Common.{◌≡◌, ℕ, ◌+◌, ◌-◌, ◌^◌, ◌<◌, ◌≤◌, List, ◌++◌, length, take, drop, refl, sym, ap, ◌∙◌, subst, arith, length-append, length-drop}
 use Rattle.std.specs.Prelude.{ℤ}
 use Rattle.std.proofs.lemmas.List.{drop_at, length-take-le, take-append-drop}
 use Rattle.byteorder.specs.Endian.{little_bytes}
@@ -8,22 +8,22 @@ use mir.Syntax.{w64}
 use mir.Val.{to_z, of_z}
 use Rattle.bit_stuff.proofs.Buffers.{end_written}
 use Rattle.raster_values.specs.declared.kind.PixelType.{PixelType}
-use Rattle.raster_values.specs.Raster.{Pixels, IsRaster, values_of, valid_count}
+use Rattle.raster_values.specs.Raster.{Pixels, values_of, valid_count}
 use Rattle.raster_values.specs.Flat.{marks_of}
 use Rattle.lerc_header.specs.declared.header.Header.{Header}
 use Rattle.lerc_header.specs.declared.header.Version.{Version}
 use Rattle.lerc_header.specs.Head.{head_length}
-use Rattle.lerc_header.specs.Written.{IsHeader, head_bytes}
+use Rattle.lerc_header.specs.Written.{head_bytes}
 use Rattle.lerc_header.specs.Checksum.{sum_of}
 use Rattle.lerc_header.proofs.WrittenHeads.{length-head}
 use Rattle.micro_block.specs.Choice.{least_value}
-use Rattle.micro_block.proofs.Range.{reread}
+use Rattle.raster_values.proofs.Views.{same_bits}
 use Rattle.lerc_encode.specs.Ranges.{greatest_value}
 use Rattle.lerc_encode.specs.Masks.{mask_part, mask_runs_of}
 use Rattle.lerc_encode.specs.Heads.{header_of}
 use Rattle.lerc_encode.specs.Images.{ending, image_bytes, side_at}
 use Rattle.lerc_encode.specs.Choice.{behind_head, header_with, checksum_of, choice}
-use Rattle.lerc_encode.specs.Encoded.{IsAsked, IsEncodedOnce}
+use Rattle.lerc_encode.specs.Encoded.{IsAsked}
 use Rattle.lerc_encode.specs.inside.Choosing.{IsBase}
 use Rattle.lerc_encode.specs.inside.Layout.{IsSealed}
 use Rattle.lerc_encode.proofs.Extremes.{all_least_fits, all_greatest_fits}
@@ -34,8 +34,8 @@ pub base_of : (r : Pixels) (version : Version) (step : ℕ) → IsAsked r versio
     → IsBase (record { version = version; checksum = 0; rows = rows; cols = cols; depth = depth; valid = valid; side = 8; size = 0; kind = kind; step = step; least = to_z w64 (of_z w64 least); greatest = to_z w64 (of_z w64 greatest) }) r
 unfolding header_of
 base_of r version step asked rows cols depth valid kind least greatest e1 e2 e3 e4 e5 e6 e7 =
-    let low = ap (λ (z : ℤ). to_z w64 (of_z w64 z)) e6 ∙ reread r.kind (least_value (values_of r.pixels)) (all_least_fits r asked.sound) in
-    let high = ap (λ (z : ℤ). to_z w64 (of_z w64 z)) e7 ∙ reread r.kind (greatest_value (values_of r.pixels)) (all_greatest_fits r asked.sound) in
+    let low = ap (λ (z : ℤ). to_z w64 (of_z w64 z)) e6 ∙ same_bits r.kind (least_value (values_of r.pixels)) (all_least_fits r asked.sound) in
+    let high = ap (λ (z : ℤ). to_z w64 (of_z w64 z)) e7 ∙ same_bits r.kind (greatest_value (values_of r.pixels)) (all_greatest_fits r asked.sound) in
     record {
       sound = asked.sound;
       step = asked.step_allowed;
@@ -50,8 +50,8 @@ pub laid_out : (b : Header) (r : Pixels) → IsBase b r → (side size : ℕ) �
 unfolding header_with header_of
 laid_out b r base side size e f =
     let is = base.is in
-    let low = ap (λ (x : Header). to_z w64 (of_z w64 x.least)) is ∙ reread r.kind (least_value (values_of r.pixels)) (all_least_fits r base.sound) in
-    let high = ap (λ (x : Header). to_z w64 (of_z w64 x.greatest)) is ∙ reread r.kind (greatest_value (values_of r.pixels)) (all_greatest_fits r base.sound) in
+    let low = ap (λ (x : Header). to_z w64 (of_z w64 x.least)) is ∙ same_bits r.kind (least_value (values_of r.pixels)) (all_least_fits r base.sound) in
+    let high = ap (λ (x : Header). to_z w64 (of_z w64 x.greatest)) is ∙ same_bits r.kind (greatest_value (values_of r.pixels)) (all_greatest_fits r base.sound) in
     λ t. record {
       version = b.version;
       checksum = ap (λ (x : Header). x.checksum) is t;

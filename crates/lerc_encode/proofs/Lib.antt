@@ -1,3 +1,5 @@
+pub mod Fewest
+pub mod Best
 pub mod Runs
 pub mod Members
 pub mod Extremes

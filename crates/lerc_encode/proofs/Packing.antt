@@ -1,20 +1,19 @@
 -- The mask that is written for marks.
-use Rattle.std.proofs.Common.{◌≡◌, ℕ, ◌+◌, ◌-◌, ◌*◌, ◌/◌, ◌%◌, ◌^◌, ◌<◌, ◌≤◌, zero, suc, Bool, true, false, cond, List, [], ◌∷◌, ◌++◌, length, get_or, take, drop, map, replicate, refl, sym, ap, ◌∙◌, subst, arith, length-append, Option, Some, None, ◌⊎◌, inl, inr, min, All}
-use Rattle.std.specs.Prelude.{is_some, nat_eq, nat_le, ◌==◌, if◌then◌else◌, ◌||◌, fold, pos, ℤ}
-use Rattle.std.specs.List.{count_by, prefix_len, flat_map, range_with_len}
+use Rattle.std.proofs.Common.{◌≡◌, ℕ, ◌+◌, ◌-◌, ◌*◌, ◌/◌, ◌%◌, ◌^◌, ◌<◌, ◌≤◌, zero, suc, Bool, true, false, cond, List, [], ◌∷◌, ◌++◌, length, get_or, take, drop, map, replicate, refl, sym, ap, ◌∙◌, subst, arith, length-append, Option, None, ◌⊎◌, inl, inr, min}
+use Rattle.std.specs.Prelude.{is_some, nat_eq, nat_le, ◌==◌, if◌then◌else◌, ◌||◌, fold, ℤ}
+use Rattle.std.specs.List.{prefix_len, flat_map, range_with_len}
 use Rattle.std.proofs.lemmas.Bool.{cases_lt, eqb-true, leb-true}
 use Rattle.std.proofs.lemmas.Bool.Decides.{nat_tests}
-use Rattle.std.proofs.lemmas.Int.{ints}
-use Rattle.std.proofs.lemmas.List.{ext_get_or, get_or_past, get_or-map, length-map, length-drop, length-replicate, drop_all, take_at, drop_at}
+use Rattle.std.proofs.lemmas.List.{ext_get_or, get_or_past, get_or-map, length-map, length-drop, length-replicate, drop_all}
 use Rattle.std.proofs.lemmas.List.Sums.{prefix_len-le-length, sum_by-cons, count_by-le-length}
 use Rattle.std.proofs.lemmas.List.FromFn.{length-map-range_with_len, get_or-map-range_with_len}
 use borrow.Rule.Slice.PartMut.{put_mid}
 use Rattle.bit_stuff.proofs.Buffers.{end_written}
 use Rattle.std.proofs.Math.Nat.{mul-le-mul_left}
 use Rattle.byteorder.specs.Endian.{little_bytes}
-use Rattle.mask_runs.specs.Runs.{MaskPiece, Literal, Repeat, Runs, end_mark, piece_content}
+use Rattle.mask_runs.specs.Runs.{MaskPiece, Literal, Repeat, end_mark, piece_content}
 use Rattle.mask_runs.specs.Chosen.{chosen_runs, chosen_pieces, piece_bytes, equal_bytes, before_repeat, first_piece}
-use Rattle.mask_runs.proofs.Chosen.{pieces_go_on, chosen_are_runs}
+use Rattle.mask_runs.proofs.Chosen.{pieces_go_on}
 use Rattle.raster_values.specs.Raster.{Pixels, IsRaster, valid_count}
 use Rattle.raster_values.specs.Order.{IsMaskOf, mask_bit, marks_in}
 use Rattle.raster_values.specs.Flat.{marks_of}

@@ -1,18 +1,16 @@
 -- What is written behind the lists stands for a raster that is near.
-use Rattle.std.proofs.Common.{◌≡◌, ℕ, ◌+◌, ◌-◌, ◌*◌, ◌/◌, ◌%◌, ◌<◌, ◌≤◌, zero, suc, Bool, true, false, List, [], ◌∷◌, ◌++◌, length, get_or, take, drop, map, refl, sym, ap, ◌∙◌, subst, arith, length-append, Option, Some, None, ◌⊎◌, inl, inr}
-use Rattle.std.specs.Prelude.{ℤ, pos, ◌≤ℤ◌, is_some, unwrap_or, nat_eq, ◌&&◌, All, if◌then◌else◌}
+use Rattle.std.proofs.Common.{◌≡◌, ℕ, ◌+◌, ◌<◌, ◌≤◌, zero, suc, Bool, true, false, List, [], ◌∷◌, ◌++◌, length, get_or, map, refl, sym, subst, arith, ◌⊎◌, inl, inr}
+use Rattle.std.specs.Prelude.{ℤ, pos, ◌≤ℤ◌, nat_eq, ◌&&◌, if◌then◌else◌}
 use Rattle.std.specs.List.{flat_map, range_with_len}
 use Rattle.std.proofs.lemmas.Bool.{eqb-true}
-use Rattle.std.proofs.lemmas.List.{get_or-map, length-map}
-use Rattle.std.proofs.lemmas.List.FromFn.{length-range_with_len, get_or-range_with_len, length-map-range_with_len, get_or-map-range_with_len}
-use Rattle.first_fault.specs.Faults.{Numbered, AllNumbered}
-use Rattle.raster_values.specs.Raster.{Pixels, IsRaster, values_of, valid_count}
+use Rattle.std.proofs.lemmas.List.FromFn.{length-map-range_with_len, get_or-map-range_with_len}
+use Rattle.first_fault.specs.Faults.{Numbered}
+use Rattle.raster_values.specs.Raster.{Pixels, IsRaster, values_of}
 use Rattle.raster_values.specs.Grid.{values_bytes}
 use Rattle.raster_values.specs.PixelType.{InRange, bytes_of}
 use Rattle.raster_values.specs.Flat.{marks_of, value_in}
 use Rattle.raster_values.specs.declared.kind.PixelType.{PixelType}
 use Rattle.raster_values.proofs.Revalued.{new_marks}
-use Rattle.lerc_header.specs.declared.header.Header.{Header}
 use Rattle.lerc_header.specs.declared.header.Version.{Version}
 use Rattle.lerc_header.specs.declared.header.Version.TheVariants.{V3, V4}
 use Rattle.delta_mode.specs.Symbols.{IsByteType}
@@ -21,13 +19,13 @@ use Rattle.micro_block.specs.Block.{IsBlock}
 use Rattle.micro_block.proofs.Written.{raw_stands, nothing_off}
 use Rattle.lerc_grammar.specs.Image.{Ends, top_of, HasMode, IsBlocksMode, IsCoded, value_count}
 use Rattle.lerc_grammar.specs.Image as grammar
-use Rattle.lerc_grammar.specs.Blocks.{coded_blocks, block_frame, block_col, coded_values, all_blocks, AreBlocks}
+use Rattle.lerc_grammar.specs.Blocks.{coded_blocks, block_frame, coded_values, all_blocks, AreBlocks}
 use Rattle.lerc_encode.specs.Ranges.{greatest_value, depth_values, leasts, greatests, front_of}
 use Rattle.lerc_encode.specs.Heads.{header_of}
 use Rattle.lerc_encode.specs.Images.{Form, sweep, blocks_8, blocks_16, side_of, has_mode, blocks_bytes, coded_bytes, mode_bytes, form_bytes}
 use Rattle.lerc_encode.specs.inside.Suits.{Suits, IsBeside}
 use Rattle.lerc_encode.proofs.Extremes.{all_of, greatest_above, greatest_in_range, value_among, value_of_all, values_in_range, depth_in_range, length_values}
-use Rattle.lerc_encode.proofs.Kept.{kept_in, kept_raster, blocks_stand, kept_sound, kept_raster_near}
+use Rattle.lerc_encode.proofs.Kept.{kept_raster, blocks_stand, kept_sound, kept_raster_near}
 
 -- ---- numbered parts, joined
 

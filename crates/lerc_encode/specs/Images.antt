@@ -7,7 +7,7 @@ use Rattle.raster_values.specs.Grid.{values_bytes}
 use Rattle.lerc_header.specs.declared.header.Header.{Header}
 use Rattle.lerc_header.specs.declared.header.Version.{Version}
 use Rattle.lerc_header.specs.declared.header.Version.TheVariants.{V3, V4}
-use Rattle.micro_block.specs.Fewest.{allowed, first_least}
+use Rattle.micro_block.specs.Fewest.{first_least}
 use Rattle.micro_block.specs.Choice.{block_bytes}
 use Rattle.lerc_grammar.specs.Blocks.{block_col, coded_blocks, coded_values}
 use Rattle.lerc_encode.specs.Heads.{header_of}

@@ -1,5 +1,5 @@
 -- The mask that is written for the marks of pixels.
-use Rattle.std.specs.Prelude.{ℕ, ◌+◌, ◌*◌, Bool, true, false, ◌||◌, nat_eq, if◌then◌else◌, List, [], ◌++◌, length, get_or, map}
+use Rattle.std.specs.Prelude.{ℕ, ◌+◌, ◌*◌, Bool, false, ◌||◌, nat_eq, if◌then◌else◌, List, [], ◌++◌, length, get_or, map}
 use Rattle.std.specs.List.{range_with_len}
 use Rattle.byteorder.specs.Endian.{little_bytes}
 use Rattle.mask_runs.specs.Chosen.{chosen_runs}

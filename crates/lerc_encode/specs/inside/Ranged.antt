@@ -1,5 +1,5 @@
 -- The range of values, as far as it is known.
-use Rattle.std.specs.Prelude.{◌≡◌, ℕ, ℤ, pos, Bool, false, ◌*◌, List, [], ◌∷◌, length, get_or, fold, Option, None, if◌then◌else◌}
+use Rattle.std.specs.Prelude.{ℕ, ℤ, pos, Bool, false, List, [], ◌∷◌, get_or, fold, None, if◌then◌else◌}
 use Rattle.std.specs.Int.{int_min, int_max}
 use Rattle.std.specs.List.{flat_map, range_with_len}
 use Rattle.raster_values.specs.Raster.{Pixels}

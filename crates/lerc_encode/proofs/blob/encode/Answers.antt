@@ -1,4 +1,4 @@
-use Rattle.std.proofs.Common.{◌≡◌, ℕ, ◌<◌, ◌≤◌, ap, sym, ◌∙◌, subst, List, length, arith, Bool, true, false, ◌⊎◌, inl, inr}
+use Rattle.std.proofs.Common.{◌≡◌, ℕ, ◌<◌, ◌≤◌, sym, ◌∙◌, subst, List, length, arith, Bool, true, false, ◌⊎◌, inl, inr}
 use Rattle.std.specs.Prelude.{IsTrue, ◌↔◌}
 use Rattle.std.proofs.lemmas.Bool.{cases_lt}
 use Rattle.raster_values.specs.Raster.{Pixels, IsRaster}
@@ -6,7 +6,6 @@ use Rattle.lerc_header.specs.Head.{IsTwiceError}
 use Rattle.lerc_header.specs.declared.header.Version.{Version}
 use Rattle.lerc_header.specs.declared.header.Version.TheVariants.{V3}
 use Rattle.lerc_encode.specs.Encoded.{IsAsked, IsEncodedOnce}
-use Rattle.lerc_encode.specs.Choice.{choice, checksum_of}
 use Rattle.lerc_encode.proofs.Encoded.{encoded_once, few}
 use Rattle.lerc_encode.proofs.blob.encode.Goals as goal
 

@@ -1,10 +1,8 @@
-use Rattle.std.proofs.Common.{◌≡◌, ◌+◌, ◌-◌, ◌≤◌, ◌^◌, ◌<◌, ◌++◌, List, ℕ, length, take, drop, refl, sym, ap, ◌∙◌, subst, arith}
-use Rattle.std.proofs.lemmas.List.{take_rest}
+use Rattle.std.proofs.Common.{◌≡◌, ◌-◌, length, drop, sym, ap, ◌∙◌, subst, arith}
 use borrow.Rule.Slice.PartMut.{put_mid}
 use Rattle.lerc_header.specs.Head.{head_length}
 use Rattle.lerc_header.specs.Written.{IsHeader}
 use Rattle.lerc_header.specs.declared.header.Header.{Header}
-use Rattle.lerc_encode.specs.Choice.{behind_head, header_with}
 use Rattle.lerc_encode.proofs.Encoded.{is_header, few, length_choice}
 use Rattle.lerc_encode.proofs.Laying.{sealed_is, sealed_sum, end_behind, put_long, version_with}
 use Rattle.lerc_encode.proofs.blob.fill.Goals as goal

@@ -1,4 +1,4 @@
-use Rattle.std.proofs.Common.{◌≡◌, ◌+◌, ◌-◌, ◌^◌, ◌<◌, ◌≤◌, length, take, drop, refl, arith}
+use Rattle.std.proofs.Common.{refl, arith}
 use Rattle.std.proofs.lemmas.List.{take_rest}
 use Rattle.lerc_encode.proofs.Laying.{sealed}
 use Rattle.lerc_encode.proofs.blob.seal.Goals as goal

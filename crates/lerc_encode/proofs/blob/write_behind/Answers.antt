@@ -1,8 +1,6 @@
-use Rattle.std.proofs.Common.{◌≡◌, ◌+◌, ◌-◌, ◌≤◌, ◌++◌, length, take, drop, refl, sym, ap, ◌∙◌, arith, length-append, length-drop}
+use Rattle.std.proofs.Common.{◌≡◌, ◌++◌, length, take, drop, refl, ap, ◌∙◌, arith, length-append, length-drop}
 use Rattle.std.proofs.lemmas.List.{take_rest, length-take-le}
-use Rattle.raster_values.specs.Flat.{marks_of}
 use Rattle.lerc_encode.specs.Images.{ending, image_bytes}
-use Rattle.lerc_encode.specs.Masks.{mask_runs_of}
 use Rattle.lerc_encode.proofs.Laying.{behind_length, behind_written}
 use Rattle.lerc_encode.proofs.blob.write_behind.Goals as goal
 

@@ -1,4 +1,4 @@
-use Rattle.std.proofs.Common.{◌≡◌, ◌*◌, ◌≤◌, ◌+◌, ◌∙◌, ◌++◌, ap, length, length-append, subst, sym, arith}
+use Rattle.std.proofs.Common.{◌≡◌, ◌+◌, ◌∙◌, ◌++◌, ap, length, length-append, arith}
 use Rattle.std.specs.List.{flat_map, range_with_len}
 use Rattle.lerc_encode.specs.Images.{blocks_bytes, coded_bytes}
 use Rattle.lerc_encode.proofs.Runs.{one_more}

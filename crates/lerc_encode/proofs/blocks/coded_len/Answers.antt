@@ -1,7 +1,5 @@
-use Rattle.std.proofs.Common.{◌≡◌, ◌≤◌, ◌∙◌, ap, refl, subst, sym, length, get_or, take, arith}
-use Rattle.std.specs.Prelude.{ℤ, pos, ◌≤ℤ◌}
-use Rattle.raster_values.specs.PixelType.{InRange, type_greatest}
-use Rattle.raster_values.specs.declared.kind.PixelType.{PixelType}
+use Rattle.std.proofs.Common.{◌≡◌, ◌≤◌, ap, refl, subst, sym, length, get_or, take, arith}
+use Rattle.std.specs.Prelude.{ℤ, ◌≤ℤ◌}
 use Rattle.micro_block.specs.declared.context.BlockCtx.{BlockCtx}
 use Rattle.lerc_encode.proofs.Blocking.{block_gathered, coded_few, take_short}
 use Rattle.lerc_encode.proofs.blocks.coded_len.Goals as goal

@@ -1,5 +1,4 @@
-use Rattle.std.proofs.Common.{◌≡◌, ◌*◌, ◌≤◌, ◌+◌, ◌-◌, ◌/◌, ap, subst, sym, arith}
-use Rattle.lerc_grammar.specs.Blocks.{coded_blocks}
+use Rattle.std.proofs.Common.{◌*◌, ◌≤◌, ◌+◌, ◌-◌, ◌/◌, subst, sym, arith}
 use Rattle.lerc_encode.proofs.Blocking.{count_few}
 use Rattle.lerc_encode.proofs.blocks.count.Goals as goal
 

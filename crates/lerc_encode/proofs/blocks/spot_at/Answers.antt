@@ -1,6 +1,4 @@
-use Rattle.std.proofs.Common.{◌≡◌, ◌*◌, ◌<◌, ◌≤◌, ◌+◌, ◌-◌, ◌/◌, ◌%◌, ap, subst, sym, refl, arith}
-use Rattle.lerc_grammar.specs.Blocks.{block_row, block_col}
-use Rattle.lerc_encode.specs.inside.Blocked.{IsSpot}
+use Rattle.std.proofs.Common.{◌*◌, ◌<◌, ◌/◌, ◌%◌, ap, subst, sym, refl, arith}
 use Rattle.lerc_encode.proofs.Blocking.{row_within, col_within, depth_within}
 use Rattle.lerc_encode.proofs.blocks.spot_at.Goals as goal
 

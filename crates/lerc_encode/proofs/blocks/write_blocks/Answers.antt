@@ -1,4 +1,4 @@
-use Rattle.std.proofs.Common.{◌≡◌, ◌*◌, ◌<◌, ◌≤◌, ◌+◌, ◌-◌, ◌∙◌, ◌++◌, ap, length, length-append, length-drop, [], drop, take, refl, subst, sym, arith}
+use Rattle.std.proofs.Common.{◌≡◌, ◌<◌, ◌+◌, ◌∙◌, ◌++◌, ap, length, length-append, length-drop, [], drop, subst, arith}
 use Rattle.std.proofs.lemmas.List.{append-nil, drop_all, take_rest}
 use Rattle.lerc_grammar.specs.Blocks.{coded_blocks}
 use Rattle.std.specs.List.{flat_map, range_with_len}

@@ -1,4 +1,4 @@
-use Rattle.std.proofs.Common.{◌≡◌, ◌≤◌, ◌++◌, drop, length}
+use Rattle.std.proofs.Common.{◌≡◌, ◌++◌, drop, length}
 use Rattle.std.specs.List.{flat_map, range_with_len}
 use Rattle.lerc_encode.specs.Images.{coded_bytes}
 use Rattle.lerc_encode.proofs.blocks.write_blocks.Given as goal

@@ -1,4 +1,4 @@
-use Rattle.std.proofs.Common.{◌≡◌, ap, sym, ◌∙◌, length, refl, subst}
+use Rattle.std.proofs.Common.{ap, ◌∙◌, length}
 use Rattle.lerc_encode.proofs.Forming.{base_blocked, large_blocked, sweep_is, small_is, large_is, chosen_is}
 use Rattle.lerc_encode.proofs.choosing.choose.Goals as goal
 

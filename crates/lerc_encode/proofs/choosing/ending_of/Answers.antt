@@ -1,4 +1,4 @@
-use Rattle.std.proofs.Common.{◌≡◌, ap, sym, ◌∙◌}
+use Rattle.std.proofs.Common.{sym, ◌∙◌}
 use Rattle.lerc_encode.proofs.Forming.{ends_bare, ends_level, ends_coded}
 use Rattle.lerc_encode.proofs.choosing.ending_of.Goals as goal
 

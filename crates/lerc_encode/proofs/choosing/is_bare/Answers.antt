@@ -1,4 +1,3 @@
-use Rattle.std.proofs.Common.{◌≡◌, ap, sym, ◌∙◌}
 use Rattle.lerc_encode.proofs.Forming.{bare_valid, bare_other}
 use Rattle.lerc_encode.proofs.choosing.is_bare.Goals as goal
 

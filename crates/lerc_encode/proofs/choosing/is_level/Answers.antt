@@ -1,4 +1,4 @@
-use Rattle.std.proofs.Common.{◌≡◌, ap, sym, ◌∙◌}
+use Rattle.std.proofs.Common.{◌∙◌}
 use Rattle.lerc_encode.proofs.Forming.{level_is}
 use Rattle.lerc_encode.proofs.choosing.is_level.Goals as goal
 

@@ -1,4 +1,4 @@
-use Rattle.std.proofs.Common.{◌≡◌, ◌<◌, ap, sym, ◌∙◌, ◌++◌, ◌∷◌, length, refl, arith, subst, List, [], Bool}
+use Rattle.std.proofs.Common.{ap, sym, ◌∙◌, ◌++◌, ◌∷◌, arith, Bool}
 use Rattle.lerc_encode.specs.Images as images
 use Rattle.lerc_encode.specs.Images.{blocks_bytes}
 use Rattle.lerc_encode.proofs.Forming.{behind_one, behind_two, mode_if}

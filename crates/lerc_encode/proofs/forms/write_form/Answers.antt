@@ -1,4 +1,4 @@
-use Rattle.std.proofs.Common.{◌≡◌, ap, sym, ◌∙◌, length, refl, subst}
+use Rattle.std.proofs.Common.{ap, sym, ◌∙◌, length}
 use Rattle.lerc_encode.specs.Images.{form_bytes}
 use Rattle.lerc_encode.specs.inside.Choosing.{named}
 use Rattle.lerc_encode.specs.declared.forms.ValueForm.{ValueForm}

@@ -1,4 +1,4 @@
-use Rattle.std.proofs.Common.{◌≡◌, ◌+◌, ◌-◌, ◌*◌, ◌/◌, ap, sym, ◌∙◌, ◌++◌, length, length-append, length-drop, take, drop, refl, subst, arith}
+use Rattle.std.proofs.Common.{◌≡◌, ◌+◌, ◌-◌, ◌*◌, ◌/◌, ap, sym, ◌∙◌, ◌++◌, length, length-append, length-drop, take, drop, subst, arith}
 use Rattle.std.specs.Prelude.{All}
 use Rattle.std.proofs.lemmas.List.{take_rest, length-take-le}
 use Rattle.raster_values.specs.PixelType.{InRange, bytes_of}

@@ -1,4 +1,4 @@
-use Rattle.std.proofs.Common.{◌≡◌, ◌<◌, ◌+◌, ◌*◌, ap, sym, ◌∙◌, length, length-drop, refl, arith}
+use Rattle.std.proofs.Common.{◌≡◌, ap, ◌∙◌, length, length-drop, refl, arith}
 use Rattle.std.specs.Prelude.{set}
 use Rattle.std.proofs.lemmas.List.{take_rest}
 use Rattle.raster_values.specs.Raster.{valid_count}

@@ -1,4 +1,4 @@
-use Rattle.std.proofs.Common.{◌≡◌, ◌∙◌, ap, take, drop, length, arith}
+use Rattle.std.proofs.Common.{◌∙◌, arith}
 use Rattle.std.proofs.lemmas.List.{take_at}
 use Rattle.lerc_encode.proofs.Packing.{mask_packed}
 use Rattle.lerc_encode.proofs.masks.mask_of.Goals as goal

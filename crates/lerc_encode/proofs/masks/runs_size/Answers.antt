@@ -1,4 +1,4 @@
-use Rattle.std.proofs.Common.{◌≡◌, ◌∙◌, ◌≤◌, ap, sym, length, subst, arith}
+use Rattle.std.proofs.Common.{◌≡◌, ◌∙◌, ap, sym, length, arith}
 use Rattle.raster_values.specs.Flat.{marks_of}
 use Rattle.mask_runs.specs.Chosen.{chosen_runs}
 use Rattle.lerc_encode.specs.Masks.{mask_runs_of}

@@ -1,4 +1,4 @@
-use Rattle.std.proofs.Common.{◌≡◌, ◌∙◌, ◌≤◌, ◌+◌, ◌-◌, ap, sym, length, length-append, length-drop, take, drop, refl, subst, arith}
+use Rattle.std.proofs.Common.{◌≡◌, ◌∙◌, ap, length, length-drop, refl, arith}
 use Rattle.std.proofs.lemmas.List.{take_rest}
 use Rattle.raster_values.specs.Flat.{marks_of}
 use Rattle.mask_runs.specs.Chosen.{chosen_runs}

@@ -1,4 +1,4 @@
-use Rattle.std.proofs.Common.{◌≡◌, ◌∙◌, ap, sym, arith}
+use Rattle.std.proofs.Common.{◌∙◌, ap, sym}
 use Rattle.micro_block.specs.Choice.{least_value}
 use Rattle.lerc_encode.specs.Ranges.{greatest_value}
 use Rattle.lerc_encode.proofs.Extremes.{depth_none}

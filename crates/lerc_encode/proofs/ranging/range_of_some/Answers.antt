@@ -1,12 +1,10 @@
-use Rattle.std.proofs.Common.{◌≡◌, ℕ, ◌+◌, ◌*◌, ◌<◌, ◌≤◌, ◌∙◌, ap, length, min, subst, sym, arith, refl}
-use Rattle.std.specs.Prelude.{ℤ, fold}
-use Rattle.std.specs.Int.{int_min, int_max}
+use Rattle.std.proofs.Common.{◌≡◌, ◌*◌, ◌≤◌, ◌∙◌, ap, length, arith}
+use Rattle.std.specs.Prelude.{ℤ}
 use Rattle.raster_values.specs.PixelType.{type_least, type_greatest}
 use Rattle.std.proofs.lemmas.List.{length-take-le}
 use mir.Syntax.{w64}
 use mir.Val.{to_z, of_z}
 use Rattle.lerc_encode.specs.declared.ranging.Range.{Range}
-use Rattle.lerc_encode.specs.Ranges.{depth_values}
 use Rattle.lerc_encode.specs.inside.Ranged.{grown, run_values}
 use Rattle.lerc_encode.proofs.Runs.{depth_range, grown_more}
 use Rattle.lerc_encode.proofs.Extremes.{greatest_again, least_again}

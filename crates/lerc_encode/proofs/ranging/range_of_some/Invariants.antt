@@ -1,6 +1,4 @@
-use Rattle.std.proofs.Common.{◌≡◌, ◌≤◌, ◌*◌, ◌-◌}
-use Rattle.std.specs.Prelude.{fold}
-use Rattle.raster_values.specs.PixelType.{type_least, type_greatest}
+use Rattle.std.proofs.Common.{◌≡◌, ◌≤◌, ◌-◌}
 use Rattle.lerc_encode.specs.inside.Ranged.{grown, run_values}
 use Rattle.lerc_encode.proofs.ranging.range_of_some.Given as goal
 

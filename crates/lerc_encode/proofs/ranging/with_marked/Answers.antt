@@ -1,10 +1,8 @@
-use Rattle.std.proofs.Common.{◌≡◌, ◌+◌, ◌≤◌, pos, get_or, ap, ◌∙◌, subst, arith, rules, false, true, sym}
-use Rattle.std.specs.Prelude.{fold}
+use Rattle.std.proofs.Common.{pos, get_or, ◌∙◌, arith, rules}
 use Rattle.std.specs.Int.{int_min, int_max}
 use Rattle.std.proofs.lemmas.Int.{ints, to_z-of_z}
 use mir.Syntax.{w64}
 use mir.Val.{SFits, to_z, of_z}
-use Rattle.lerc_encode.specs.inside.Ranged.{marked_values}
 use Rattle.lerc_encode.proofs.Runs.{with_one, with_none}
 use Rattle.lerc_encode.proofs.ranging.with_marked.Goals.{then-marks-i, else-marks-i}
 use Rattle.lerc_encode.proofs.ranging.with_marked.Goals as goal

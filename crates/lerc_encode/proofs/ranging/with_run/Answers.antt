@@ -1,5 +1,5 @@
-use Rattle.std.proofs.Common.{◌≡◌, ◌<◌, ◌∙◌, ap, length, subst, sym, arith}
-use Rattle.lerc_encode.specs.inside.Ranged.{grown, marked_values, run_values}
+use Rattle.std.proofs.Common.{◌≡◌, ◌<◌, ◌∙◌, ap, length, subst, sym}
+use Rattle.lerc_encode.specs.inside.Ranged.{grown, marked_values}
 use Rattle.lerc_encode.proofs.Runs.{run_is}
 use Rattle.lerc_encode.proofs.ranging.with_run.Goals as goal
 
