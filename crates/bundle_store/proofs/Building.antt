@@ -1,5 +1,5 @@
 -- Sizes and records, slot by slot.
-use Rattle.std.proofs.Common.{◌≡◌, inl, inr, refl, ℕ, zero, suc, ◌+◌, ◌*◌, ◌<◌, ◌≤◌, max, List, [], ◌++◌, length, Option, Some, None, IfSome, sym, ◌∙◌, ap, subst, arith, length-append}
+use Rattle.std.proofs.Common.{◌≡◌, inl, inr, refl, ℕ, zero, suc, ◌+◌, ◌<◌, ◌≤◌, max, List, [], ◌++◌, length, Option, Some, None, IfSome, sym, ◌∙◌, ap, arith, length-append}
 use Rattle.std.proofs.Common.{Bool, true, false, ◌==◌, if◌then◌else◌, drop, take}
 use Rattle.std.proofs.lemmas.Bool.{cases_eq}
 use Rattle.std.proofs.lemmas.Bool.Decides.{nat_tests}
@@ -11,9 +11,9 @@ use Rattle.bundle_index.specs.Header.{bytes_left_behind}
 use Rattle.bundle_index.specs.declared.entry.Entry.{Entry}
 use Rattle.byteorder.specs.Endian.{little_bytes}
 use Rattle.bundle_store.specs.inside.Table.{entry_of_size}
-use Rattle.bundle_store.specs.Layout.{entries, greatest_size, entry_behind, record_of, records, size_of, record_bytes}
+use Rattle.bundle_store.specs.Layout.{entries, greatest_size, entry_behind, record_of, records, size_of}
 use Rattle.bundle_store.specs.Tiles.{AreTiles, TileMap}
-use Rattle.bundle_store.proofs.Layouts.{entries_more, length-records, records_more}
+use Rattle.bundle_store.proofs.Layouts.{entries_more, records_more}
 
 abbrev Fits : Option (List ℕ) → Type 0
 Fits o = IfSome o (λ t. (0 < length t) × (length t < 16777216))

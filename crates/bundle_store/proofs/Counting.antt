@@ -1,17 +1,17 @@
 -- What a check counts.
-use Rattle.std.proofs.Common.{◌≡◌, ◌≢◌, ◌⊎◌, inl, inr, refl, Bool, true, false, ℕ, zero, suc, ◌+◌, ◌*◌, ◌-◌, ◌<◌, ◌≤◌, ◌==◌, nat_eq, nat_lt, if◌then◌else◌, List, [], length, get_or, take, drop, Option, Some, None, sym, ◌∙◌, ap, subst, arith}
+use Rattle.std.proofs.Common.{◌≡◌, ◌≢◌, inl, inr, refl, Bool, true, false, ℕ, zero, suc, ◌+◌, ◌*◌, ◌-◌, ◌<◌, ◌≤◌, ◌==◌, nat_eq, nat_lt, if◌then◌else◌, List, length, get_or, take, drop, Option, Some, None, sym, ◌∙◌, ap, subst, arith}
 use mathlib.Core.Bool.{not}
 use Rattle.std.proofs.lemmas.Bool.{cases_eq, cases_lt}
 use Rattle.std.proofs.lemmas.Bool.Decides.{nat_tests}
-use Rattle.std.proofs.lemmas.List.{nil_from_length, places}
-use Rattle.bundle_index.specs.Entry.{entry_at, entry_of, place_of}
+use Rattle.std.proofs.lemmas.List.{places}
+use Rattle.bundle_index.specs.Entry.{entry_at, place_of}
 use Rattle.bundle_index.specs.Numbers.{u32_at, u64_at}
 use Rattle.bundle_index.specs.declared.entry.Entry.{Entry}
 use Rattle.bundle_index.proofs.Numbers.{SameAt, same_u64}
 use Rattle.bundle_store.specs.declared.check.CheckReport.{CheckReport}
 use Rattle.bundle_store.specs.Check.{IsFirstBad, Reports, bad_count, byte_count, is_bad, tile_count}
-use Rattle.bundle_store.specs.Tiles.{HasIndex, IsBundle, IsReadable, IsWithin, Opens}
-use Rattle.bundle_store.specs.inside.Checking.{IsSmall, NextReport, SameEntries, first_bad_with}
+use Rattle.bundle_store.specs.Tiles.{IsReadable, IsWithin, Opens}
+use Rattle.bundle_store.specs.inside.Checking.{NextReport, SameEntries, first_bad_with}
 
 test_same : (n m : ℕ) → n ≡ m → (n == m) ≡ true
 test_same n m is = grind (arith, nat_tests)

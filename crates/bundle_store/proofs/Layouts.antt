@@ -1,16 +1,16 @@
 -- A layout, read back.
-use Rattle.std.proofs.Common.{◌≡◌, ◌≢◌, ◌⊎◌, inl, inr, refl, ℕ, zero, suc, ◌+◌, ◌*◌, ◌-◌, ◌^◌, ◌<◌, ◌≤◌, ◌==◌, List, [], ◌++◌, length, get_or, take, drop, Option, Some, None, IfSome, sym, ◌∙◌, ap, subst, rules, arith}
+use Rattle.std.proofs.Common.{◌≡◌, ◌⊎◌, inl, inr, refl, ℕ, zero, suc, ◌+◌, ◌*◌, ◌<◌, ◌≤◌, List, [], ◌++◌, length, take, drop, Option, Some, None, IfSome, sym, ◌∙◌, ap, subst, arith}
 use Rattle.std.proofs.lemmas.List.{places, same_lists, append-nil, append_assoc, length-append}
-use Rattle.std.proofs.lemmas.Bool.{cases_eq, cases_lt}
+use Rattle.std.proofs.lemmas.Bool.{cases_eq}
 use Rattle.byteorder.specs.Endian.{little_bytes}
 use Rattle.bundle_index.specs.Entry.{IsEntry, entry_at, entry_bytes, entry_of, place_of}
-use Rattle.bundle_index.specs.Header.{HasHeader, fresh_header}
+use Rattle.bundle_index.specs.Header.{fresh_header}
 use Rattle.bundle_index.specs.Numbers.{u64_at}
 use Rattle.bundle_index.specs.declared.entry.Entry.{Entry}
 use Rattle.bundle_index.proofs.Headers.{fresh_has, length-fresh_header}
 use Rattle.bundle_index.proofs.Numbers.{entry_read, length-entry_bytes}
-use Rattle.bundle_store.specs.Layout.{entries, greatest_size, entry_behind, layout, record_of, records, size_of, record_bytes}
-use Rattle.bundle_store.specs.Tiles.{AreTiles, HasIndex, IsBundle, IsWithin, TileMap, no_tiles, tile_in, tiles}
+use Rattle.bundle_store.specs.Layout.{entries, greatest_size, entry_behind, layout, record_of, records}
+use Rattle.bundle_store.specs.Tiles.{AreTiles, IsBundle, IsWithin, TileMap, no_tiles, tile_in, tiles}
 use Rattle.bundle_store.proofs.Region.{tile_none, tile_some, tiles_by}
 
 -- a list begins with another one

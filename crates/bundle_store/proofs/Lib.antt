@@ -1,9 +1,11 @@
 pub mod Building
 pub mod Counting
+pub mod Fresh
 pub mod Fronts
 pub mod PutLaws
 pub mod Layouts
 pub mod Numbering
+pub mod OneRecovery
 pub mod Opening
 pub mod Padded
 pub mod Putting

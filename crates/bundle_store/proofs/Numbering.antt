@@ -1,9 +1,9 @@
 -- The table of the last tile of each slot.
-use Rattle.std.proofs.Common.{◌≡◌, ◌≢◌, inl, inr, refl, ℕ, ◌+◌, ◌<◌, ◌≤◌, List, [], ◌∷◌, ◌++◌, length, get_or, set, replicate, take, Option, Some, None, IfSome, sym, ◌∙◌, ap, subst, arith}
+use Rattle.std.proofs.Common.{◌≡◌, inl, inr, refl, ℕ, ◌<◌, List, [], ◌∷◌, ◌++◌, length, get_or, set, replicate, Option, Some, None, IfSome, sym, ◌∙◌, ap, arith}
 use Rattle.std.proofs.lemmas.Bool.{cases_eq, cases_lt}
-use Rattle.std.proofs.lemmas.List.{get_or-replicate, get_or-set_other, get_or-set_same, get_or_past, length-replicate, take_more}
+use Rattle.std.proofs.lemmas.List.{get_or-replicate, get_or-set_other, get_or-set_same, get_or_past, length-replicate}
 use Rattle.bundle_store.specs.inside.Table.{IsTable, table_map, tile_of_number}
-use Rattle.bundle_store.specs.Build.{EachFits, map_after, bytes_at, last_tiles}
+use Rattle.bundle_store.specs.Build.{EachFits, map_after, bytes_at}
 use Rattle.bundle_store.specs.Tiles.{AreTiles, TileMap, no_tiles, with_tile}
 use Rattle.bundle_store.specs.declared.tile_rec.TileRec.{TileRec}
 use Rattle.bundle_store.proofs.Putting.{with_other, with_own}

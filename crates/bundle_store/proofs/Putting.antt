@@ -1,20 +1,20 @@
 -- A put, read back.
-use Rattle.std.proofs.Common.{◌≡◌, ◌≢◌, ◌⊎◌, inl, inr, refl, Bool, true, false, ℕ, zero, suc, ◌+◌, ◌*◌, ◌-◌, ◌^◌, ◌<◌, ◌≤◌, ◌==◌, List, [], ◌++◌, length, get_or, take, drop, Option, Some, None, if◌then◌else◌, sym, ◌∙◌, ap, subst, rules, arith}
-use Rattle.std.proofs.lemmas.List.{places, same_lists, get_or_append_left, length-append, take_at, drop_at, length-take-le, get_or-take}
+use Rattle.std.proofs.Common.{◌≡◌, ◌≢◌, ◌⊎◌, inl, inr, refl, Bool, true, false, ℕ, ◌+◌, ◌-◌, ◌^◌, ◌<◌, ◌≤◌, ◌==◌, List, [], ◌++◌, length, get_or, take, drop, Some, if◌then◌else◌, sym, ◌∙◌, ap, subst, arith}
+use Rattle.std.proofs.lemmas.List.{places, same_lists, get_or_append_left, length-append, length-take-le, get_or-take}
 use Rattle.std.proofs.lemmas.Bool.{cases_eq, cases_lt}
 use Rattle.std.proofs.lemmas.Bool.Decides.{nat_tests}
 use Rattle.byteorder.specs.Endian.{little_bytes}
 use Rattle.outside_io.specs.volume.Disk.{laid}
 use Rattle.outside_io.proofs.VolumeLemmas.Laid.{length-laid, laid_before, laid_in, laid_after}
-use Rattle.bundle_index.specs.Entry.{IsEntry, entry_at, entry_bytes, entry_of, place_of}
-use Rattle.bundle_index.specs.Header.{HasHeader, header_after}
+use Rattle.bundle_index.specs.Entry.{IsEntry, entry_at, entry_bytes, place_of}
+use Rattle.bundle_index.specs.Header.{HasHeader}
 use Rattle.bundle_index.specs.declared.entry.Entry.{Entry}
 use Rattle.bundle_index.proofs.Headers.{after_has, length-header_after, same_has}
 use Rattle.bundle_index.proofs.Numbers.{entry_read, length-entry_bytes}
 use Rattle.bundle_store.specs.Appended.{with_entry, put_entry, put_header, bundle_with_tile}
 use Rattle.bundle_store.specs.Layout.{record_bytes}
 use Rattle.bundle_store.specs.Tiles.{HasIndex, IsBundle, IsWithin, TileMap, tile_in, tiles, with_tile}
-use Rattle.bundle_store.proofs.Region.{Agree, IsMap, same_entry, same_part, same_tile, same_within, tile_some, tiles_at, tiles_by, tiles_past}
+use Rattle.bundle_store.proofs.Region.{Agree, same_entry, same_part, same_tile, same_within, tile_some, tiles_at, tiles_by, tiles_past}
 
 -- a header and an entry laid over a bundle
 module _ (header : List ℕ) (slot : ℕ) (e : Entry) (b : List ℕ) (header_size : length header ≡ 64) (below : slot < 16384) (long : 131136 ≤ length b) where

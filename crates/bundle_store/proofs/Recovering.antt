@@ -1,29 +1,28 @@
 -- What recovery does to the images.
-use Rattle.std.proofs.Common.{◌≡◌, ◌≢◌, ◌⊎◌, inl, inr, refl, ℕ, zero, suc, ◌+◌, ◌<◌, ◌≤◌, List, [], ◌∷◌, length, get_or, take, drop, sym, ◌∙◌, ap, Result, subst, arith}
-use Rattle.std.proofs.lemmas.List.{drop_all, nil_from_length}
+use Rattle.std.proofs.Common.{◌≡◌, inl, refl, ℕ, List, [], ◌∷◌, length, get_or, drop, sym, ◌∙◌, ap, Result, subst, arith}
+use Rattle.std.proofs.lemmas.List.{drop_all}
 use Rattle.byteorder.specs.Endian.{little_number}
-use Rattle.outside_io.specs.volume.Disk.{Disk, File, IsImage, IsQuiet, IsSettled, settled}
+use Rattle.outside_io.specs.volume.Disk.{Disk, IsImage, IsQuiet, settled}
 use Rattle.outside_io.specs.volume.History.{During, History, Ticks, current}
 use Rattle.outside_io.proofs.VolumeLemmas.Images.{only_image}
-use Rattle.outside_io.proofs.VolumeLemmas.Moments.{during_join, during_map, started, stays_on}
+use Rattle.outside_io.proofs.VolumeLemmas.Moments.{during_end, during_join, during_map, started, stays_on}
 use Rattle.bundle_index.specs.Entry.{entry_at, entry_of, place_of}
 use Rattle.bundle_index.specs.Numbers.{u64_at}
 use Rattle.bundle_index.specs.declared.entry.Entry.{Entry}
-use Rattle.side_journal.specs.declared.body.Body.{Body}
 use Rattle.side_journal.specs.declared.body.Body.TheVariants.{Tile, Build}
 use Rattle.side_journal.specs.declared.body.JournalState.{JournalState}
 use Rattle.side_journal.specs.declared.body.JournalState.TheVariants.{Closed, Open, Bad}
-use Rattle.side_journal.specs.Says.{Fails, IsOpen, Says, SaysBody, SaysBuild, SaysTile}
-use Rattle.side_journal.specs.Steps.{KeepsBody, SameBehindGate}
+use Rattle.side_journal.specs.Says.{IsOpen, Says, SaysBuild, SaysTile}
+use Rattle.side_journal.specs.Steps.{KeepsBody}
 use Rattle.side_journal.proofs.Gates.{image_is}
 use Rattle.side_journal.proofs.OneState.{one_state}
 use Rattle.bundle_store.specs.Appended.{with_entry}
 use Rattle.bundle_store.specs.inside.Parts.{EachKeeps, IsUnderWay, KeepsJournal}
 use Rattle.bundle_store.specs.Images.{EachImage, IsSoundWith, Shows, StandsFor}
-use Rattle.bundle_store.specs.Recover.{EachStandsForOneOf, IsRecovered, IsTooShort, Refuses, StandsForOneOf}
-use Rattle.bundle_store.specs.Tiles.{IsReadable, TileMap, no_tiles, tile_in, tiles}
+use Rattle.bundle_store.specs.Recover.{EachStandsForOneOf, IsRecovered}
+use Rattle.bundle_store.specs.Tiles.{IsReadable, TileMap, no_tiles, tiles}
 use Rattle.bundle_store.proofs.Region.{tile_none, tiles_by}
-use Rattle.bundle_store.proofs.Standing.{closed_good, in_gate, open_good, way_at}
+use Rattle.bundle_store.proofs.Standing.{in_gate, open_good, way_at}
 
 -- an empty file has no tiles
 pub nothing_at : (place : ℕ) → ◌≡◌ {A = ℕ} (u64_at [] place) 0
@@ -143,5 +142,24 @@ keeps_putting slot e n header old next last r quiet opened says tick same during
     let journal : (current next).journal.now ≡ j = ap (λ (d : Disk). d.journal.now) same in
     during_join (EachKeeps b j) old next last (keeps_measuring old next r quiet tick same)
     (during_map _ _ next last (λ d each. keeps_tile b j slot e n header d opened says (λ way.
-      subst (λ (l : List ℕ). EachImage (λ map. map ≡ tiles (with_entry header slot e l)) d) bundle (each (way_at b (current next).bundle.now j (current next).journal.now slot e header bundle journal way))))
+    subst (λ (l : List ℕ). EachImage (λ map. map ≡ tiles (with_entry header slot e l)) d) bundle (each (way_at b (current next).bundle.now j (current next).journal.now slot e header bundle journal way))))
     during)
+
+-- the journal is read, and a bundle that was being built is emptied
+pub keeps_emptying : (s : JournalState) (old next last : History) → s ≡ Open Build → Says (current old).journal.now s → IsQuiet (current old) → During (λ d. d ≡ current old) old next
+    → During (EachImage (λ map. map ≡ no_tiles)) next last → During (EachKeeps (current old).bundle.now (current old).journal.now) old last
+keeps_emptying s old next last is says quiet reading emptying =
+    let b = (current old).bundle.now in
+    let j = (current old).journal.now in
+    let build : Says j (Open Build) = subst (Says j) is says in
+    during_join _ old next last (keeps_reading old next quiet reading) (during_map _ _ next last (λ d each. keeps_empty b j d build.0 build.1 each) emptying)
+
+pub emptied : (s : JournalState) (old next last : History) → s ≡ Open Build → Says (current old).journal.now s → During (λ d. d ≡ current old) old next
+    → current last ≡ (let x : Disk = record { bundle = settled []; journal = settled (0 ∷ drop 1 (current next).journal.now) } in x)
+    → IsRecovered (current old).bundle.now (current old).journal.now (current last)
+emptied s old next last is says reading done =
+    let j = (current old).journal.now in
+    let build : Says j (Open Build) = subst (Says j) is says in
+    let still : current next ≡ current old = during_end (λ d. d ≡ current old) old next reading in
+    recovered_empty (current old).bundle.now j (current last) build.0 build.1
+    (done ∙ ap (λ (d : Disk). let x : Disk = record { bundle = settled []; journal = settled (0 ∷ drop 1 d.journal.now) } in x) still)

@@ -1,9 +1,9 @@
 -- What follows from an answer, by its cause.
-use Rattle.std.proofs.Common.{◌≡◌, ℕ, Result, Ok, Err, List}
+use Rattle.std.proofs.Common.{Result, Ok, Err, List}
 use Rattle.bundle_store.specs.declared.fault.StoreFault.{StoreFault}
 use Rattle.bundle_store.specs.declared.fault.StoreFault.TheVariants.{Device, BadBundle, BadJournal, NoTile, Beyond, TileTooLarge, EmptyTile, Full, NotEmpty, OutOfMemory, Stopped}
 use Rattle.bundle_store.specs.declared.tile_rec.TileRec.{TileRec}
-use Rattle.bundle_store.specs.Causes.{OnCause, OnRefusal, UnlessDevice}
+use Rattle.bundle_store.specs.Causes.{OnCause, UnlessDevice}
 use Rattle.bundle_store.specs.Session.{BuildFails}
 use Rattle.bundle_store.specs.inside.Table.{TilesFail}
 

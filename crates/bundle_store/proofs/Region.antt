@@ -1,16 +1,14 @@
 -- Parts of bundles that agree.
-use Rattle.std.proofs.Common.{◌≡◌, inl, inr, refl, Bool, true, false, ℕ, zero, suc, ◌+◌, ◌*◌, ◌-◌, ◌<◌, ◌≤◌, ◌==◌, nat_lt, List, ◌++◌, length, get_or, take, drop, Option, Some, None, if◌then◌else◌, sym, ◌∙◌, ap, subst, rules, arith}
+use Rattle.std.proofs.Common.{◌≡◌, inl, inr, Bool, true, false, ℕ, ◌+◌, ◌<◌, ◌≤◌, ◌==◌, nat_lt, List, ◌++◌, length, get_or, take, drop, Some, None, if◌then◌else◌, sym, ◌∙◌, ap, subst, arith}
 use Rattle.std.proofs.lemmas.List.{places, same_lists, get_or_append_left, length-append}
 use Rattle.std.proofs.lemmas.Bool.{cases_eq, cases_lt}
 use Rattle.std.proofs.lemmas.Bool.Decides.{nat_tests}
 use Rattle.bundle_index.specs.Entry.{entry_at, entry_of, place_of}
-use Rattle.bundle_index.specs.Header.{HasHeader}
-use Rattle.bundle_index.specs.Numbers.{u64_at}
 use Rattle.bundle_index.specs.declared.entry.Entry.{Entry}
 use Rattle.bundle_index.proofs.Headers.{same_has}
-use Rattle.bundle_index.proofs.Numbers.{SameAt, same_u64}
+use Rattle.bundle_index.proofs.Numbers.{same_u64}
 use Rattle.bundle_store.specs.Session.{GetGives}
-use Rattle.bundle_store.specs.Tiles.{HasIndex, IsBundle, IsWithin, TileMap, tile_in, tiles}
+use Rattle.bundle_store.specs.Tiles.{IsBundle, IsWithin, TileMap, tile_in, tiles}
 
 -- the bytes from one place to another are the same in both
 abbrev pub Agree : ℕ → ℕ → List ℕ → List ℕ → Type 0

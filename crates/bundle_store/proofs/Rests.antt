@@ -1,5 +1,5 @@
 -- What a put and a build leave for the next call.
-use Rattle.std.proofs.Common.{◌≡◌, ◌≢◌, inl, inr, refl, Bool, true, false, ℕ, ◌+◌, ◌^◌, ◌<◌, ◌≤◌, ◌==◌, List, [], ◌++◌, length, take, if◌then◌else◌, sym, ◌∙◌, ap, subst, arith}
+use Rattle.std.proofs.Common.{◌≢◌, inl, inr, ℕ, ◌+◌, ◌^◌, ◌<◌, ◌≤◌, List, length, sym, ◌∙◌, ap, subst, arith}
 use Rattle.outside_io.specs.volume.Disk.{Disk, File, settled}
 use Rattle.bundle_store.specs.Appended.{bundle_with_tile}
 use Rattle.bundle_store.specs.Images.{HoldsClosed}

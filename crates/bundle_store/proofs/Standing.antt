@@ -1,23 +1,21 @@
 -- What images stand for.
-use Rattle.std.proofs.Common.{◌≡◌, ◌≢◌, ◌⊎◌, inl, inr, refl, ℕ, suc, ◌+◌, ◌<◌, ◌≤◌, List, [], ◌∷◌, ◌++◌, length, get_or, take, drop, sym, ◌∙◌, ap, subst, arith}
+use Rattle.std.proofs.Common.{◌≡◌, inl, inr, refl, ℕ, ◌<◌, ◌≤◌, List, ◌∷◌, ◌++◌, length, get_or, drop, sym, ◌∙◌, ap, subst, arith}
 use Rattle.std.proofs.lemmas.Bool.{cases_eq}
 use Rattle.std.proofs.lemmas.List.{length-drop, length-take-le}
 use Rattle.outside_io.specs.volume.Disk.{Disk, File, IsImage, IsQuiet, IsSettled, settled}
 use Rattle.outside_io.proofs.VolumeLemmas.Images.{only_image}
 use Rattle.bundle_index.specs.declared.entry.Entry.{Entry}
 use Rattle.side_journal.specs.declared.body.Body.{Body}
-use Rattle.side_journal.specs.declared.body.Body.TheVariants.{Tile, Build}
-use Rattle.side_journal.specs.declared.body.JournalState.{JournalState}
-use Rattle.side_journal.specs.declared.body.JournalState.TheVariants.{Closed, Open, Bad}
-use Rattle.side_journal.specs.Says.{IsOpen, Says, SaysBody, SaysTile}
+use Rattle.side_journal.specs.declared.body.Body.TheVariants.{Tile}
+use Rattle.side_journal.specs.declared.body.JournalState.TheVariants.{Closed, Open}
+use Rattle.side_journal.specs.Says.{IsOpen, SaysBody, SaysTile}
 use Rattle.side_journal.specs.Steps.{KeepsBody, KeepsClosed, SameBehindGate}
 use Rattle.side_journal.proofs.Gates.{image_is}
 use Rattle.side_journal.proofs.Spells.{says_behind}
 use Rattle.bundle_store.specs.Appended.{with_entry}
-use Rattle.bundle_store.specs.inside.Parts.{BeginsWith, IsUnderWay, KeepsFront, KeepsUnder, SameUnder}
-use Rattle.bundle_store.specs.Images.{EachImage, IsSoundWith, Shows, StandsFor}
-use Rattle.bundle_store.specs.Layout.{record_bytes}
-use Rattle.bundle_store.specs.Tiles.{IsBundle, IsReadable, TileMap, no_tiles, tiles}
+use Rattle.bundle_store.specs.inside.Parts.{IsUnderWay, KeepsFront, KeepsUnder}
+use Rattle.bundle_store.specs.Images.{EachImage, IsSoundWith, Shows}
+use Rattle.bundle_store.specs.Tiles.{IsBundle, IsReadable, TileMap, tiles}
 use Rattle.bundle_store.proofs.Region.{front_bundle, front_tiles}
 use Rattle.bundle_store.proofs.Unders.{over_twice}
 use Rattle.bundle_store.proofs.Putting.{length-with_entry}

@@ -2,9 +2,9 @@
 use Rattle.std.proofs.Common.{◌≡◌, ◌⊎◌, inl, inr, refl, ℕ, Result, ◌+◌, ◌-◌, ◌<◌, ◌≤◌, List, length, get_or, sym, ◌∙◌, ap, arith}
 use Rattle.std.proofs.lemmas.Bool.{cases_lt}
 use Rattle.std.proofs.lemmas.List.{same_lists, get_or_default}
-use Rattle.outside_io.specs.volume.Disk.{AreBytes, Disk, File, change, laid, wrote}
+use Rattle.outside_io.specs.volume.Disk.{Disk, File, change, laid, wrote}
 use Rattle.outside_io.specs.declared.volume.VolFile.TheVariants.{Bundle}
-use Rattle.outside_io.proofs.VolumeLemmas.Laid.{length-laid, laid_before, laid_in, laid_after}
+use Rattle.outside_io.proofs.VolumeLemmas.Laid.{length-laid, laid_in}
 use Rattle.outside_io.specs.volume.Disk.{IsSettled, Struck}
 use Rattle.outside_io.specs.volume.History.{During, History, Ticks, current}
 use Rattle.outside_io.proofs.VolumeLemmas.Limits.{Allowed, Keeps, Limits, Run, limits_wrote, run_start, run_during, run_on}

@@ -1,6 +1,5 @@
 -- A bundle after a put.
 use Rattle.std.specs.Prelude.{ℕ, ◌+◌, ◌==◌, List, ◌++◌, length, take, if◌then◌else◌}
-use Rattle.byteorder.specs.Endian.{little_bytes}
 use Rattle.outside_io.specs.volume.Disk.{laid}
 use Rattle.bundle_index.specs.Entry.{entry_at, entry_bytes, place_of}
 use Rattle.bundle_index.specs.Header.{header_after}

@@ -1,5 +1,5 @@
 -- Lists of tiles, and the table of the last tile of each slot.
-use Rattle.std.specs.Prelude.{◌≡◌, ℕ, zero, suc, ◌<◌, ◌≤◌, List, [], ◌∷◌, length, get_or, Option, Some, None}
+use Rattle.std.specs.Prelude.{ℕ, ◌<◌, List, [], ◌∷◌, length, get_or}
 use Rattle.bundle_store.specs.declared.tile_rec.TileRec.{TileRec}
 use Rattle.bundle_store.specs.Tiles.{TileMap, no_tiles, with_tile}
 

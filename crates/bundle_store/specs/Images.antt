@@ -1,12 +1,10 @@
 -- What an image of both files stands for.
 use Rattle.std.specs.Prelude.{◌≡◌, ◌⊎◌, ℕ, ◌≤◌, List, length}
 use Rattle.outside_io.specs.volume.Disk.{Disk, IsImage, IsSettled, settled}
-use Rattle.side_journal.specs.declared.body.Body.{Body}
 use Rattle.side_journal.specs.declared.body.Body.TheVariants.{Tile, Build}
 use Rattle.side_journal.specs.declared.body.JournalState.{JournalState}
 use Rattle.side_journal.specs.declared.body.JournalState.TheVariants.{Closed, Open, Bad}
-use Rattle.bundle_index.specs.declared.entry.Entry.{Entry}
-use Rattle.side_journal.specs.Says.{IsOpen, Says, SaysBuild, SaysTile}
+use Rattle.side_journal.specs.Says.{IsOpen, Says}
 use Rattle.bundle_store.specs.Appended.{with_entry}
 use Rattle.bundle_store.specs.Tiles.{IsReadable, TileMap, no_tiles, tiles, with_tile}
 

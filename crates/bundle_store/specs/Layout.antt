@@ -1,5 +1,5 @@
 -- A new bundle of a map.
-use Rattle.std.specs.Prelude.{ℕ, zero, suc, ◌+◌, ◌==◌, max, if◌then◌else◌, List, [], ◌++◌, length, Option, Some, None}
+use Rattle.std.specs.Prelude.{ℕ, zero, suc, ◌+◌, max, List, [], ◌++◌, length, Option, Some, None}
 use Rattle.byteorder.specs.Endian.{little_bytes}
 use Rattle.bundle_index.specs.Entry.{entry_bytes}
 use Rattle.bundle_index.specs.Header.{fresh_header}

@@ -5,7 +5,7 @@ ghost use Rattle.outside_io.specs.streams.Faults.{CountsFaults};
 ghost use Rattle.outside_io.specs.volume.History.{During, contents, current};
 ghost use Rattle.side_journal.specs.Says.{IsOpen, SaysBuild};
 ghost use Rattle.bundle_store.specs.inside.Parts.{IsAtRest, IsBegun};
-ghost use Rattle.bundle_store.specs.inside.Table.{IsTable, TilesFail, table_map};
+ghost use Rattle.bundle_store.specs.inside.Table.{HasRoom, IsTable, TilesFail, table_map};
 ghost use Rattle.bundle_store.specs.Build.{EachFits, last_tiles};
 ghost use Rattle.bundle_store.specs.Causes.{CountsDevice, OnRefusal, UnlessDevice};
 ghost use Rattle.bundle_store.specs.Session.{BuildFails, KeepsLength};
@@ -43,7 +43,9 @@ pub(crate) fn build_empty<V: Volume>(
     vol: &mut V,
     tiles: &[TileRec],
     table: &[Option<usize>],
+    buffer: &mut [u8],
 ) -> Result<(), Failed>
+    requires buffer { HasRoom tiles.now (length buffer.old) }
     requires table { IsTable tiles.now table.now }
     requires tiles { AreTiles (table_map tiles.now table.now) }
     requires empty { IsTrue (V.told vol.old) → contents Bundle (V.history vol.old) ≡ [] }
@@ -59,7 +61,7 @@ pub(crate) fn build_empty<V: Volume>(
     ensures counted { CountsFaults result (V.faults vol.old) (V.faults vol.new) }
 {
     begin(vol)?;
-    lay_out(vol, tiles, table)?;
+    lay_out(vol, tiles, table, buffer)?;
     close_gate(vol)
 }
 
@@ -79,6 +81,18 @@ pub(crate) fn number_tiles(
         table[slot] = Some(number);
     }
     Ok(table)
+}
+
+/// Bytes for the record of one tile, whichever it is.
+pub(crate) fn record_buffer(alloc: Global, tiles: &[TileRec]) -> Result<Vec<u8>, AllocError>
+    requires { EachFits tiles.now }
+    ensures { IfOk result (λ b. HasRoom tiles.now (length b.items)) }
+{
+    let mut most = 0;
+    for i in 0..tiles.len() {
+        most = most.max(tiles[i].bytes.len());
+    }
+    vec![in alloc; 0u8; most + 4]
 }
 
 /// The first tile that is empty or too large.
@@ -106,7 +120,9 @@ pub(crate) fn build_on<V: Volume>(
     vol: &mut V,
     tiles: &[TileRec],
     table: &[Option<usize>],
+    buffer: &mut [u8],
 ) -> Result<(), StoreFault>
+    requires buffer { HasRoom tiles.now (length buffer.old) }
     requires table { IsTable tiles.now table.now }
     requires tiles { AreTiles (table_map tiles.now table.now) }
     requires fits { EachFits tiles.now }
@@ -139,6 +155,6 @@ pub(crate) fn build_on<V: Volume>(
     if len != 0 {
         return Err(StoreFault::NotEmpty { len });
     }
-    build_empty(vol, tiles, table)?;
+    build_empty(vol, tiles, table, buffer)?;
     Ok(())
 }

@@ -1,14 +1,19 @@
 // Laws of the definitions, for the crates above. Each function does nothing: its contract is the
 // law.
 
-ghost use Rattle.std.specs.Prelude.{◌≡◌, ◌++◌, ◌+◌, ◌^◌, ◌<◌, ◌≤◌, ℕ, List, [], length};
+ghost use Rattle.std.specs.Prelude.{◌≡◌, ◌≢◌, ◌++◌, ◌+◌, ◌^◌, ◌<◌, ◌≤◌, ℕ, List, [], Result, Err, length, replicate};
 ghost use Rattle.bundle_index.specs.Entry.{entry_at};
+ghost use Rattle.bundle_index.specs.Header.{fresh_header};
+ghost use Rattle.bundle_store.specs.declared.fault.StoreFault.{StoreFault};
+ghost use Rattle.bundle_store.specs.declared.fault.StoreFault.TheVariants.{Device};
+ghost use Rattle.bundle_store.specs.declared.recovery.Recovery.{Recovery};
 ghost use Rattle.bundle_store.specs.declared.tile_rec.TileRec.{TileRec};
 ghost use Rattle.bundle_store.specs.Appended.{bundle_after_put};
 ghost use Rattle.bundle_store.specs.Build.{map_after};
 ghost use Rattle.bundle_store.specs.Check.{bad_count};
 ghost use Rattle.bundle_store.specs.Images.{StandsFor};
 ghost use Rattle.bundle_store.specs.Layout.{layout};
+ghost use Rattle.bundle_store.specs.Recover.{RecoverySays};
 ghost use Rattle.bundle_store.specs.Tiles.{AreTiles, IsBundle, IsReadable, Opens, TileMap, no_tiles, tiles, with_tile};
 
 /// An image stands for one map at most.
@@ -54,4 +59,17 @@ pub fn readable_bundles_have_their_tiles()
     ensures { (bundle : List ℕ) (slot : ℕ) → IsReadable bundle → slot < 16384 →
         0 < (entry_at bundle slot).size →
         (entry_at bundle slot).offset + (entry_at bundle slot).size ≤ length bundle }
+{}
+
+/// The bundle of no tiles is a fresh header and an index of zeros.
+pub fn the_bundle_of_no_tiles_is_fresh()
+    ensures { layout no_tiles ≡ fresh_header 0 131136 ++ replicate 131072 0 }
+{}
+
+/// No two answers of a recovery but Device say something that holds of the same files. So each of
+/// them comes exactly where the files say so.
+pub fn recoveries_have_one_answer()
+    ensures { (bundle journal : List ℕ) (one two : Result Recovery StoreFault) →
+        RecoverySays bundle journal one → RecoverySays bundle journal two →
+        one ≢ Err Device → two ≢ Err Device → one ≡ two }
 {}

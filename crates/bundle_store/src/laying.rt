@@ -1,12 +1,12 @@
-ghost use Rattle.std.specs.Prelude.{◌≡◌, ◌+◌, ◌*◌, ◌^◌, ◌<◌, ◌≤◌, ◌++◌, [], length, IsTrue, IfOk, OnOk};
+ghost use Rattle.std.specs.Prelude.{◌≡◌, ◌+◌, ◌*◌, ◌^◌, ◌<◌, ◌≤◌, ◌++◌, [], length, take, IsTrue, IfOk, OnOk};
 ghost use Rattle.outside_io.specs.declared.volume.VolFile.TheVariants.{Bundle, Journal};
-ghost use Rattle.outside_io.specs.volume.Disk.{IsQuiet, settled};
+ghost use Rattle.outside_io.specs.volume.Disk.{laid, settled};
 ghost use Rattle.outside_io.specs.streams.Faults.{CountsFaults};
 ghost use Rattle.outside_io.specs.volume.History.{During, contents, current};
 ghost use Rattle.bundle_index.specs.Entry.{IsEntry};
 ghost use Rattle.bundle_index.specs.Header.{fresh_header, bytes_left_behind};
 ghost use Rattle.bundle_store.specs.inside.Parts.{Extends, KeepsJournal};
-ghost use Rattle.bundle_store.specs.inside.Table.{IsTable, entry_of_size, table_map};
+ghost use Rattle.bundle_store.specs.inside.Table.{HasRoom, IsTable, entry_of_size, table_map};
 ghost use Rattle.bundle_store.specs.Layout.{entries, greatest_size, layout, record_of, records, size_of, record_bytes};
 ghost use Rattle.bundle_store.specs.Tiles.{AreTiles};
 
@@ -74,9 +74,37 @@ fn measure(tiles: &[TileRec], table: &[Option<usize>]) -> (u32, u64)
     (most as u32, total)
 }
 
-/// A record behind the bundle's end.
-fn write_record<V: Volume>(vol: &mut V, at: u64, tile: &[u8]) -> Result<(), Failed>
+/// Lays bytes over others from a place on.
+fn lay(out: &mut [u8], at: usize, bytes: &[u8])
+    requires { at + length bytes.now ≤ length out.old }
+    ensures { out.new ≡ laid at bytes.now out.old }
+{
+    out[at..at + bytes.len()].copy_from_slice(bytes);
+}
+
+/// Puts the record of a tile in front of the buffer, and answers how many bytes it has.
+fn spell_record(tile: &[u8], buffer: &mut [u8]) -> usize
     requires size { length tile.now < 2 ^ 24 }
+    requires room { length tile.now + 4 ≤ length buffer.old }
+    ensures bytes { take result buffer.new ≡ record_bytes tile.now }
+    ensures count { result ≡ length tile.now + 4 }
+    ensures kept { length buffer.new ≡ length buffer.old }
+{
+    let size = (tile.len() as u32).to_le_bytes();
+    lay(buffer, 0, &size);
+    lay(buffer, 4, tile);
+    tile.len() + 4
+}
+
+/// A record behind the bundle's end, by one call.
+fn write_record<V: Volume>(
+    vol: &mut V,
+    at: u64,
+    tile: &[u8],
+    buffer: &mut [u8],
+) -> Result<(), Failed>
+    requires size { length tile.now < 2 ^ 24 }
+    requires buffer { length tile.now + 4 ≤ length buffer.old }
     requires room { at + 4 + length tile.now ≤ 2 ^ 40 }
     requires end { IsTrue (V.told vol.old) → at ≡ length (contents Bundle (V.history vol.old)) }
     ensures done { IsTrue (V.told vol.old) → OnOk result (Extends (current (V.history vol.old))
@@ -86,9 +114,8 @@ fn write_record<V: Volume>(vol: &mut V, at: u64, tile: &[u8]) -> Result<(), Fail
     ensures told { V.told vol.new ≡ V.told vol.old }
     ensures counted { CountsFaults result (V.faults vol.old) (V.faults vol.new) }
 {
-    let size = (tile.len() as u32).to_le_bytes();
-    vol.write(VolFile::Bundle, at, &size)?;
-    vol.write(VolFile::Bundle, at + 4, tile)
+    let end = spell_record(tile, buffer);
+    vol.write(VolFile::Bundle, at, &buffer[..end])
 }
 
 /// The record of the slot's tile, if it has one, and where the next one begins.
@@ -98,7 +125,9 @@ fn write_slot<V: Volume>(
     table: &[Option<usize>],
     slot: usize,
     at: u64,
+    buffer: &mut [u8],
 ) -> Result<u64, Failed>
+    requires buffer { HasRoom tiles.now (length buffer.old) }
     requires table { IsTable tiles.now table.now }
     requires tiles { AreTiles (table_map tiles.now table.now) }
     requires room { at < 2 ^ 39 }
@@ -119,7 +148,7 @@ fn write_slot<V: Volume>(
         return Ok(at);
     };
     let tile = tiles[number].bytes.as_slice();
-    write_record(vol, at, tile)?;
+    write_record(vol, at, tile, buffer)?;
     Ok(at + 4 + tile.len() as u64)
 }
 
@@ -128,7 +157,9 @@ fn write_records<V: Volume>(
     vol: &mut V,
     tiles: &[TileRec],
     table: &[Option<usize>],
+    buffer: &mut [u8],
 ) -> Result<(), Failed>
+    requires buffer { HasRoom tiles.now (length buffer.old) }
     requires table { IsTable tiles.now table.now }
     requires tiles { AreTiles (table_map tiles.now table.now) }
     requires end { IsTrue (V.told vol.old) → length (contents Bundle (V.history vol.old))
@@ -142,7 +173,7 @@ fn write_records<V: Volume>(
 {
     let mut at = RECORDS;
     for slot in 0..16384 {
-        at = write_slot(vol, tiles, table, slot, at)?;
+        at = write_slot(vol, tiles, table, slot, at, buffer)?;
     }
     Ok(())
 }
@@ -200,12 +231,14 @@ fn write_index<V: Volume>(
 }
 
 /// Writes header, index and records of the tiles that the table numbers into the empty bundle, and
-/// syncs it.
+/// syncs it. The buffer takes one record.
 pub(crate) fn lay_out<V: Volume>(
     vol: &mut V,
     tiles: &[TileRec],
     table: &[Option<usize>],
+    buffer: &mut [u8],
 ) -> Result<(), Failed>
+    requires buffer { HasRoom tiles.now (length buffer.old) }
     requires table { IsTable tiles.now table.now }
     requires tiles { AreTiles (table_map tiles.now table.now) }
     requires empty { IsTrue (V.told vol.old) → contents Bundle (V.history vol.old) ≡ [] }
@@ -220,6 +253,6 @@ pub(crate) fn lay_out<V: Volume>(
     let header = BundleHeader::fresh(most, RECORDS + total).bytes();
     vol.write(VolFile::Bundle, 0, &header)?;
     write_index(vol, tiles, table)?;
-    write_records(vol, tiles, table)?;
+    write_records(vol, tiles, table, buffer)?;
     vol.sync(VolFile::Bundle)
 }

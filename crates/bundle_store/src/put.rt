@@ -179,7 +179,7 @@ pub(crate) fn put_on_nothing<V: Volume>(vol: &mut V, slot: Slot, tile: &[u8]) ->
     ensures told { V.told vol.new ≡ V.told vol.old }
     ensures counted { CountsFaults result (V.faults vol.old) (V.faults vol.new) }
 {
-    build_empty(vol, &[], &[])?;
+    build_empty(vol, &[], &[], &mut [])?;
     put_on_bundle(vol, 131136, slot, tile)
 }
 

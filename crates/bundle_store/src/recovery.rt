@@ -4,8 +4,7 @@ ghost use Rattle.outside_io.specs.volume.Disk.{IsQuiet, settled};
 ghost use Rattle.outside_io.specs.streams.Faults.{CountsFaults};
 ghost use Rattle.bundle_index.specs.Entry.{IsEntry};
 ghost use Rattle.outside_io.specs.volume.History.{During, contents, current};
-ghost use Rattle.side_journal.specs.Says.{IsOpen, SaysBody, SaysBuild, SaysTile};
-ghost use Rattle.side_journal.specs.Bodies.{IsBody};
+ghost use Rattle.side_journal.specs.Says.{IsOpen, SaysBuild, SaysTile};
 ghost use Rattle.bundle_store.specs.Causes.{CountsDevice};
 ghost use Rattle.bundle_store.specs.inside.Parts.{EachKeeps};
 ghost use Rattle.bundle_store.specs.Images.{EachImage};
@@ -85,41 +84,6 @@ fn finish_tile<V: Volume>(
     Ok(Recovery::Applied)
 }
 
-/// Does what an open journal says.
-fn follow<V: Volume>(vol: &mut V, body: &Body) -> Result<Recovery, StoreFault>
-    requires body { IsBody body.now }
-    requires quiet { IsTrue (V.told vol.old) → IsQuiet (current (V.history vol.old)) }
-    requires opened { IsTrue (V.told vol.old) → IsOpen (contents Journal (V.history vol.old)) }
-    requires says { IsTrue (V.told vol.old) →
-        SaysBody (contents Journal (V.history vol.old)) body.now }
-    ensures says { IsTrue (V.told vol.old) → RecoverySays (contents Bundle (V.history vol.old))
-        (contents Journal (V.history vol.old)) result }
-    ensures images { IsTrue (V.told vol.old) →
-        During (EachKeeps (contents Bundle (V.history vol.old)) (contents Journal
-        (V.history vol.old))) (V.history vol.old) (V.history vol.new) }
-    ensures done { IsTrue (V.told vol.old) →
-        OnOk result (IsRecovered (contents Bundle (V.history vol.old)) (contents Journal
-        (V.history vol.old)) (current (V.history vol.new))) }
-    ensures answers { IfErr result (λ f. RecoverFails f) }
-    ensures refused { IsTrue (V.told vol.old) → OnBadJournal result (current (V.history vol.new)
-        ≡ current (V.history vol.old)) }
-    ensures told { V.told vol.new ≡ V.told vol.old }
-    ensures counted { CountsDevice result (V.faults vol.old) (V.faults vol.new) }
-{
-    match body {
-        Body::Tile {
-            slot,
-            entry,
-            length,
-            header,
-        } => finish_tile(vol, header, *slot, *entry, *length),
-        Body::Build => {
-            empty(vol)?;
-            Ok(Recovery::Emptied)
-        }
-    }
-}
-
 /// Does what the journal says, nothing being pending.
 fn finish<V: Volume>(vol: &mut V) -> Result<Recovery, StoreFault>
     requires quiet { IsTrue (V.told vol.old) → IsQuiet (current (V.history vol.old)) }
@@ -137,10 +101,25 @@ fn finish<V: Volume>(vol: &mut V) -> Result<Recovery, StoreFault>
     ensures told { V.told vol.new ≡ V.told vol.old }
     ensures counted { CountsDevice result (V.faults vol.old) (V.faults vol.new) }
 {
-    match read_journal(vol)? {
+    let state = read_journal(vol)?;
+    match &state {
         JournalState::Closed => Ok(Recovery::Closed),
-        JournalState::Bad { place, found } => Err(StoreFault::BadJournal { place, found }),
-        JournalState::Open(body) => follow(vol, &body),
+        JournalState::Bad { place, found } => Err(StoreFault::BadJournal {
+            place: *place,
+            found: *found,
+        }),
+        JournalState::Open(body) => match body {
+            Body::Tile {
+                slot,
+                entry,
+                length,
+                header,
+            } => finish_tile(vol, header, *slot, *entry, *length),
+            Body::Build => {
+                empty(vol)?;
+                Ok(Recovery::Emptied)
+            }
+        },
     }
 }
 

@@ -11,7 +11,7 @@ ghost use Rattle.bundle_store.specs.Images.{EachImage, EmptyOr, HoldsClosed, Wit
 ghost use Rattle.bundle_store.specs.Tiles.{IsReadable, tiles};
 ghost use Rattle.bundle_store.specs.Session.{BuildFails, GetFails, GetGives, GetRefuses, IsReadyToPut, KeepsLength, OpenFails, OpenRefuses, PutFails, Serves};
 
-use crate::build::{build_on, check_tiles, number_tiles};
+use crate::build::{build_on, check_tiles, number_tiles, record_buffer};
 use crate::check::check_index;
 use crate::put::put_tile;
 use crate::reading::{header_fault_of, read_entry};
@@ -275,7 +275,8 @@ impl Session {
         }
         check_tiles(tiles)?;
         let table = number_tiles(self.alloc, tiles)?;
-        let built = build_on(vol, tiles, table.as_slice());
+        let mut buffer = record_buffer(self.alloc, tiles)?;
+        let built = build_on(vol, tiles, table.as_slice(), buffer.as_mut_slice());
         if let Err(StoreFault::Device) = built {
             self.stopped = true;
         }

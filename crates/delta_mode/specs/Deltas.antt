@@ -1,5 +1,5 @@
--- The symbols of a raster. Its pixels are numbered row by row; `valid` says which are valid, and `value`
--- what value each has at a depth.
+-- The symbols of a raster. Its pixels are numbered row by row; `valid` says which are valid, and
+-- `value` what value each has at a depth.
 use Rattle.std.specs.Prelude.{ℕ, zero, suc, ◌≡◌, ◌-◌, ◌*◌, ◌%◌, ◌<◌, Bool, ◌&&◌, nat_lt, nat_le}
 use Rattle.std.specs.Prelude.{List, map, get_or, None, is_some, ℤ, pos, ◌-ℤ◌}
 use Rattle.std.specs.Prelude.{if◌then◌else◌}
@@ -23,8 +23,8 @@ unfoldable pub last_value : (ℕ → Bool) → (ℕ → ℤ) → ℕ → ℤ
 last_value valid value zero = pos 0
 last_value valid value (suc k) = if valid k then value k else last_value valid value k
 
--- the value of the left neighbour where that is valid, else of the upper one where that is valid, else
--- of the last valid pixel before
+-- the value of the left neighbour where that is valid, else of the upper one where that is valid,
+-- else of the last valid pixel before
 unfoldable pub predictor : ℕ → (ℕ → Bool) → (ℕ → ℤ) → ℕ → ℤ
 predictor cols valid value k =
     if has_left cols valid k then value (k - 1)
@@ -56,8 +56,8 @@ plain r = map (symbol_of r.kind) (values_of r.pixels)
 abbrev pub ArePlain : Pixels → List ℕ → Type 0
 ArePlain r symbols = symbols ≡ plain r
 
--- The valid pixels have the values at a depth that the symbols say. All else is as it was: type, shape,
--- mask, and every value at another depth.
+-- The valid pixels have the values at a depth that the symbols say. All else is as it was: type,
+-- shape, mask, and every value at another depth.
 pub record TakesDeltas (old new : Pixels) (d : ℕ) (symbols : List ℕ) : Type 0 where
   pub same : SameMask old new
   pub taken : AreDeltas new d symbols

@@ -31,23 +31,28 @@ AreSymbols count symbols = (length symbols ≡ count) × All (λ symbol. symbol 
 
 -- the valid pixels of a raster of bytes may be given any symbols at a depth
 abbrev pub DepthIsThere : Type 0
-DepthIsThere = (r : Pixels) (d : ℕ) (symbols : List ℕ) → IsRaster r → IsByteType r.kind → d < r.depth
+DepthIsThere = (r : Pixels) (d : ℕ) (symbols : List ℕ) → IsRaster r → IsByteType r.kind
+    → d < r.depth
     → AreSymbols (valid_count r) symbols → (s : Pixels) × (IsRaster s × TakesDeltas r s d symbols)
 
 -- and at all depths
 abbrev pub RasterIsThere : Type 0
 RasterIsThere = (r : Pixels) (symbols : ℕ → List ℕ) → IsRaster r → IsByteType r.kind
     → ((d : ℕ) → d < r.depth → AreSymbols (valid_count r) (symbols d))
-    → (s : Pixels) × (IsRaster s × (SameMask r s × ((d : ℕ) → d < r.depth → AreDeltas s d (symbols d))))
+    → (s : Pixels) × (IsRaster s × (SameMask r s
+    × ((d : ℕ) → d < r.depth → AreDeltas s d (symbols d))))
 
 -- and any plain symbols
 abbrev pub PlainIsThere : Type 0
 PlainIsThere = (r : Pixels) (symbols : List ℕ) → IsRaster r → IsByteType r.kind
-    → AreSymbols (valid_count r * r.depth) symbols → (s : Pixels) × (IsRaster s × TakesPlain r s symbols)
+    → AreSymbols (valid_count r * r.depth) symbols
+    → (s : Pixels) × (IsRaster s × TakesPlain r s symbols)
 
 -- no other lists are symbols
 abbrev pub DeltasAreSymbols : Type 0
-DeltasAreSymbols = (r : Pixels) (d : ℕ) (symbols : List ℕ) → IsRaster r → AreDeltas r d symbols → AreSymbols (valid_count r) symbols
+DeltasAreSymbols = (r : Pixels) (d : ℕ) (symbols : List ℕ) → IsRaster r → AreDeltas r d symbols
+    → AreSymbols (valid_count r) symbols
 
 abbrev pub PlainAreSymbols : Type 0
-PlainAreSymbols = (r : Pixels) (symbols : List ℕ) → IsRaster r → ArePlain r symbols → AreSymbols (valid_count r * r.depth) symbols
+PlainAreSymbols = (r : Pixels) (symbols : List ℕ) → IsRaster r → ArePlain r symbols
+    → AreSymbols (valid_count r * r.depth) symbols

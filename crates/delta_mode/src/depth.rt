@@ -92,7 +92,8 @@ fn take_piece(
     walk
 }
 
-/// The symbols of a depth of a raster of bytes: of each valid pixel's value less its predictor, row by row.
+/// The symbols of a depth of a raster of bytes: of each valid pixel's value less its predictor, row
+/// by row.
 pub fn deltas_of(raster: &Raster, d: u32, out: &mut [u8])
     requires kind { IsByteType raster.now.kind }
     requires depth { d < raster.now.depth }

@@ -1,6 +1,7 @@
 //! Laws of symbols. Each function does nothing: its contract is the law.
 
-ghost use Rattle.delta_mode.specs.Laws.{OneDepth, OnePlain, OneRaster, DepthIsThere, RasterIsThere, PlainIsThere, DeltasAreSymbols, PlainAreSymbols};
+ghost use Rattle.delta_mode.specs.Laws.{OneDepth, OnePlain, OneRaster, DepthIsThere, RasterIsThere};
+ghost use Rattle.delta_mode.specs.Laws.{PlainIsThere, DeltasAreSymbols, PlainAreSymbols};
 
 /// The symbols of a depth have one list of values, for a mask.
 pub fn symbols_have_one_depth()
@@ -13,8 +14,8 @@ pub fn symbols_have_one_raster()
     ensures plain { OnePlain }
 {}
 
-/// A raster of bytes may be given any symbols, as many as it has valid pixels at a depth, at all depths, or
-/// as many as values in plain mode; no other lists are symbols of it.
+/// A raster of bytes may be given any symbols, as many as it has valid pixels at a depth, at all
+/// depths, or as many as values in plain mode; no other lists are symbols of it.
 pub fn symbols_have_a_raster()
     ensures depth { DepthIsThere }
     ensures deltas { RasterIsThere }

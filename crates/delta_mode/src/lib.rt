@@ -1,8 +1,8 @@
-//! Delta and plain mode: the symbols of rasters of bytes. It stands on `raster_values` alone and takes
-//! no memory.
+//! Delta and plain mode: the symbols of rasters of bytes. It stands on `raster_values` alone and
+//! takes no memory.
 //!
-//! The contract that the layer above uses: a pixel's symbol is that of its value less its predictor,
-//! one equation per pixel; symbols of all depths have one raster.
+//! The contract that the layer above uses: a pixel's symbol is that of its value less its
+//! predictor, one equation per pixel; symbols of all depths have one raster.
 #![tactic(auto)]
 
 mod depth;

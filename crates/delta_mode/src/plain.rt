@@ -99,8 +99,8 @@ fn turn_raster(raster: &mut Raster)
     }
 }
 
-/// Gives the valid pixels of a raster of bytes the values that the symbols say, in plain mode. All else
-/// stays.
+/// Gives the valid pixels of a raster of bytes the values that the symbols say, in plain mode. All
+/// else stays.
 pub fn unplain(symbols: &[u8], raster: &mut Raster)
     requires kind { IsByteType raster.old.kind }
     requires count { length symbols.now ≡ valid_count raster.old * raster.old.depth }

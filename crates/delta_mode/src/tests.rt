@@ -142,8 +142,8 @@ fn a_row_has_its_differences_modulo_256(rt: HostRuntime) -> Result<(), Fail> {
     Ok(())
 }
 
-/// Three rows and columns of which six pixels are valid. Their predictors are none, the pixel before in
-/// order, the one above, the one to the left, the one above and the one to the left.
+/// Three rows and columns of which six pixels are valid. Their predictors are none, the pixel
+/// before in order, the one above, the one to the left, the one above and the one to the left.
 fn masked() -> [(u32, u32, i64); 6] {
     [
         (0, 0, 10),

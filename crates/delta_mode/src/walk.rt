@@ -1,11 +1,13 @@
 //! The way along the pixels of a depth, in pieces of a row.
 
-ghost use Rattle.std.specs.Prelude.{◌≡◌, ℕ, ℤ, pos, negsuc, ◌+◌, ◌-◌, ◌*◌, ◌%◌, ◌<◌, ◌≤◌, ◌≤ℤ◌, ◌-ℤ◌, ◌+ℤ◌, length, get_or, true, false, ◌&&◌, nat_lt};
+ghost use Rattle.std.specs.Prelude.{◌≡◌, ℕ, ℤ, pos, negsuc, ◌+◌, ◌-◌, ◌*◌, ◌%◌, ◌<◌, ◌≤◌, ◌≤ℤ◌};
+ghost use Rattle.std.specs.Prelude.{◌-ℤ◌, ◌+ℤ◌, length, get_or, true, false, ◌&&◌, nat_lt};
 ghost use Rattle.raster_values.specs.PixelType.{InRange};
 ghost use Rattle.raster_values.specs.Flat.{value_in};
 ghost use Rattle.delta_mode.specs.Symbols.{IsByteType, bias, symbol_of};
 ghost use Rattle.delta_mode.specs.Deltas.{has_upper, is_valid};
-ghost use Rattle.delta_mode.specs.inside.Pieces.{rank, last_from, left_of, predicted_by, guess, biased, IsSmall, mark_at, value_of_place};
+ghost use Rattle.delta_mode.specs.inside.Pieces.{rank, last_from, left_of, predicted_by, guess};
+ghost use Rattle.delta_mode.specs.inside.Pieces.{biased, IsSmall, mark_at, value_of_place};
 
 use raster_values::{PixelType, Raster};
 
@@ -105,8 +107,8 @@ pub(super) fn write_symbols(
     Walk { left, last, count }
 }
 
-/// Finds the values of the valid pixels of a piece, whose symbols stand behind the first `walk.count`.
-/// The others get 0.
+/// Finds the values of the valid pixels of a piece, whose symbols stand behind the first
+/// `walk.count`. The others get 0.
 pub(super) fn find_values(
     kind: PixelType,
     walk: Walk,
@@ -122,7 +124,8 @@ pub(super) fn find_values(
     requires room { length out.old ≡ length marks.now }
     requires last_in_range { InRange kind walk.last }
     requires above_in_range { (i : ℕ) → InRange kind (value_of_place above.now i) }
-    requires symbols { walk.count + rank (mark_at marks.now) (length marks.now) ≤ length symbols.now }
+    requires symbols { walk.count + rank (mark_at marks.now)
+        (length marks.now) ≤ length symbols.now }
     ensures left { result.left ≡ left_of walk.left (mark_at marks.now) (length marks.now) }
     ensures last { result.last ≡ last_from walk.last (mark_at marks.now)
         (value_of_place out.new) (length marks.now) }

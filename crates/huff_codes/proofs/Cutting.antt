@@ -36,7 +36,7 @@ enough_bits lengths words size = omega (arith, size, length-word_bits words)
 place_symbol : (first k : ℕ) → first < 256 → k < 256 → place_in first (symbol_in first k) ≡ k
 place_symbol first k f lt = omega arith
 
-symbol_place : (first s : ℕ) → first < 256 → s < 256 → symbol_in first (place_in first s) ≡ s
+pub symbol_place : (first s : ℕ) → first < 256 → s < 256 → symbol_in first (place_in first s) ≡ s
 symbol_place first s f lt = omega arith
 
 -- ---- cutting
@@ -117,7 +117,7 @@ at_symbol first lengths bits codes k f few lt h =
     let at : place_in first (symbol_in first k) ≡ k = place_symbol first k f (omega arith) in
     (h.each (symbol_in first k) (omega arith)).done (omega (arith, at)) ∙ ap (λ (j : ℕ). take (slice_index lengths j) (drop (bits_before lengths j) bits)) at
 
-symbols_more : (first n : ℕ) → symbols_in first (n + 1) ≡ symbols_in first n ++ symbol_in first n ∷ []
+pub symbols_more : (first n : ℕ) → symbols_in first (n + 1) ≡ symbols_in first n ++ symbol_in first n ∷ []
 symbols_more first n = map-range_with_len_more (symbol_in first) 0 n n (omega arith)
 
 joined_cut : (first : ℕ) (lengths : List ℕ) (bits : List Bool) (codes : List (List Bool)) (m : ℕ) → first < 256 → length lengths ≤ 256 → m ≤ length lengths → AreCutBits first lengths bits codes

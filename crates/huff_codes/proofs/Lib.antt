@@ -24,3 +24,7 @@ pub mod Cutting
 pub mod TableLaws
 pub mod Decided
 pub mod Counting
+pub mod Filling
+pub mod ChosenRuns
+pub mod ChosenTables
+pub mod Counted

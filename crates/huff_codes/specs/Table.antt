@@ -23,8 +23,8 @@ use Rattle.huff_codes.specs.declared.faults.CodeReason.TheVariants.{Cut, BadTabl
 unfoldable pub int_at : List ℕ → ℕ → ℤ
 int_at bytes place = twos_complement 4 (little_number 4 (drop place bytes))
 
--- the 16 bytes are a version of at least 2, the size 256, the first symbol, which is 0 to 255, and the
--- one behind the last, which is 1 to 256 further on
+-- the 16 bytes are a version of at least 2, the size 256, the first symbol, which is 0 to 255, and
+-- the one behind the last, which is 1 to 256 further on
 pub record IsRange (bytes : List ℕ) (range : SymbolRange) : Type 0 where
   pub size : length bytes ≡ 16
   pub version : pos 2 ≤ℤ int_at bytes 0
@@ -98,8 +98,8 @@ symbols_in first count = map (symbol_in first) (range_with_len 0 count)
 abbrev pub words_size : List ℕ → ℕ
 words_size lengths = 4 * word_count (sum lengths)
 
--- The bytes are the fewest words that hold the joined codes of the symbols of the range, and begin with
--- them. The codes have the lengths of the list, and no other symbol has one.
+-- The bytes are the fewest words that hold the joined codes of the symbols of the range, and begin
+-- with them. The codes have the lengths of the list, and no other symbol has one.
 pub record HoldCodes (first : ℕ) (lengths bytes : List ℕ) (codes : List (List Bool)) : Type 0 where
   pub symbols : length codes ≡ 256
   pub inside : (k : ℕ) → k < length lengths

@@ -1,5 +1,6 @@
 -- Code lengths: the two least trees are joined until one is left.
-use Rattle.std.specs.Prelude.{ℕ, zero, suc, ◌+◌, ◌-◌, ◌^◌, min, Bool, ◌&&◌, ◌||◌, nat_eq, nat_lt, List, [], ◌∷◌, length, map, slice_index, if◌then◌else◌}
+use Rattle.std.specs.Prelude.{ℕ, zero, suc, ◌+◌, ◌-◌, ◌^◌, min, Bool, ◌&&◌, ◌||◌, nat_eq, nat_lt}
+use Rattle.std.specs.Prelude.{List, [], ◌∷◌, length, map, slice_index, if◌then◌else◌}
 use Rattle.std.specs.List.{range_with_len}
 use Rattle.huff_codes.specs.Sums.{sum_below}
 
@@ -37,7 +38,8 @@ is_before counts a b =
 -- a tree put at its place among trees that stand in order
 unfoldable pub with_tree : List ℕ → Tree → List Tree → List Tree
 with_tree counts t [] = t ∷ []
-with_tree counts t (u ∷ us) = if is_before counts t u then t ∷ (u ∷ us) else u ∷ with_tree counts t us
+with_tree counts t (u ∷ us) =
+    if is_before counts t u then t ∷ (u ∷ us) else u ∷ with_tree counts t us
 
 -- in order, the used symbols below n, each a tree of its own
 unfoldable pub used_below : List ℕ → ℕ → List Tree
@@ -46,7 +48,8 @@ used_below counts (suc n) = if nat_eq (slice_index counts n) 0 then used_below c
 
 -- n times, the two least are replaced by their join
 unfoldable pub after_joins : List ℕ → ℕ → List Tree → List Tree
-after_joins counts (suc n) (a ∷ (b ∷ rest)) = after_joins counts n (with_tree counts (join a b) rest)
+after_joins counts (suc n) (a ∷ (b ∷ rest)) =
+    after_joins counts n (with_tree counts (join a b) rest)
 after_joins counts n trees = trees
 
 -- a symbol's joins in the first of the trees

@@ -6,3 +6,4 @@ pub mod Places
 pub mod Nodes
 pub mod Forests
 pub mod Cutting
+pub mod Filling

@@ -4,14 +4,16 @@
 ghost use Rattle.std.specs.Prelude.{◌≡◌, ◌≤◌, ℕ, List, Bool, All, length};
 ghost use Rattle.first_fault.specs.Parts.{IsDecided, IsPart};
 ghost use Rattle.huff_codes.specs.Tree.{lengths_of, used_count};
-ghost use Rattle.huff_codes.specs.Codes.{AreCodes, AreLengths, HasCode, IsPrefixFree, canonical_codes};
+ghost use Rattle.huff_codes.specs.Codes.{AreCodes, AreLengths, HasCode, IsPrefixFree};
+ghost use Rattle.huff_codes.specs.Codes.{canonical_codes};
 ghost use Rattle.huff_codes.specs.Laws.{CanonicalCodesCountUp, JoinsTakeTheLeast};
+ghost use Rattle.huff_codes.specs.Laws.{CountedHaveLengths, WrittenTablesAreTables};
 ghost use Rattle.huff_codes.specs.Table.{IsCoding, IsTable, coding_faults, table_faults};
 ghost use Rattle.huff_codes.specs.Words.{AreWords, word_faults};
 ghost use Rattle.huff_codes.specs.Written.{AreWritten};
 
-/// Words of codes have one reading, whatever follows them; bytes that begin with words have no fault
-/// of them, and all others have one first fault.
+/// Words of codes have one reading, whatever follows them; bytes that begin with words have no
+/// fault of them, and all others have one first fault.
 pub fn words_are_a_part()
     ensures part { (codes : List (List Bool)) (n : ℕ)
         → IsPrefixFree codes → IsPart (AreWords codes n) (word_faults codes n) }
@@ -19,8 +21,8 @@ pub fn words_are_a_part()
         → AreCodes codes → IsDecided (AreWords codes n) (word_faults codes n) }
 {}
 
-/// Tables have one reading, whatever follows them; bytes that begin with a table have no fault of it,
-/// and all others have one first fault. So have a table and words behind it.
+/// Tables have one reading, whatever follows them; bytes that begin with a table have no fault of
+/// it, and all others have one first fault. So have a table and words behind it.
 pub fn tables_are_a_part()
     ensures table { IsPart IsTable table_faults }
     ensures coding { (n : ℕ) → IsPart (IsCoding n) (coding_faults n) }
@@ -38,14 +40,14 @@ pub fn canonical_codes_are_codes()
     ensures { (lengths : List ℕ) → AreLengths lengths → AreCodes (canonical_codes lengths) }
 {}
 
-/// Canonical codes count up in the order of length and symbol: the first is zeros, and each next one is
-/// the one before plus 1, with zeros appended.
+/// Canonical codes count up in the order of length and symbol: the first is zeros, and each next
+/// one is the one before plus 1, with zeros appended.
 pub fn canonical_codes_count_up()
     ensures { CanonicalCodesCountUp }
 {}
 
-/// The trees stand in order of weight and least symbol before each join, so the two that are joined are
-/// the least of all.
+/// The trees stand in order of weight and least symbol before each join, so the two that are joined
+/// are the least of all.
 pub fn joins_take_the_least()
     ensures { JoinsTakeTheLeast }
 {}
@@ -60,4 +62,14 @@ pub fn chosen_lengths_are_lengths()
 pub fn written_words_are_words()
     ensures { (codes : List (List Bool)) (symbols bytes : List ℕ) → All (HasCode codes) symbols
         → AreWritten codes symbols bytes → AreWords codes (length symbols) bytes symbols }
+{}
+
+/// What is written of lengths is a table of their canonical codes, so it is read back.
+pub fn written_tables_are_tables()
+    ensures { WrittenTablesAreTables }
+{}
+
+/// Where two symbols or more are used, those that are counted have lengths, and no others have.
+pub fn counted_symbols_have_lengths()
+    ensures { CountedHaveLengths }
 {}

@@ -1,17 +1,21 @@
 // Code lengths, and the codes that they make.
 
-ghost use Rattle.std.specs.Prelude.{◌≡◌, ℕ, ◌^◌, ◌≤◌, ◌<◌, slice_index, All, HoldsAt, EachIndex, SomeIndex, List, Bool, length, IfSome, IsNone, ◌↔◌, ◌⊎◌, sum};
+ghost use Rattle.std.specs.Prelude.{◌≡◌, ℕ, ◌^◌, ◌≤◌, ◌<◌, slice_index, All, HoldsAt, EachIndex};
+ghost use Rattle.std.specs.Prelude.{SomeIndex, List, Bool, length, IfSome, IsNone, ◌↔◌, ◌⊎◌, sum};
 ghost use Rattle.std.specs.Bool.{MatchBool};
 ghost use Rattle.huff_codes.specs.Sums.{sum_below};
 ghost use Rattle.huff_codes.specs.Tree.{lengths_of, share, shares, used_count};
 ghost use Rattle.huff_codes.specs.Codes.{AreLengths, canonical_codes};
+ghost use Rattle.huff_codes.specs.inside.Spans.{IsLaid};
+ghost use Rattle.huff_codes.specs.inside.Stored.{codes_held};
 ghost use Rattle.huff_codes.specs.inside.Places.{IsCanonical, place_of};
 
 use crate::codes::{Code, Codes};
 use crate::joining::all_lengths;
 use std::marker::Model;
 
-/// 256 code lengths: each is at most 32, and the sum of `2^(32 - length)` over those above 0 is 2^32.
+/// 256 code lengths: each is at most 32, and the sum of `2^(32 - length)` over those above 0 is
+/// 2^32.
 #[derive(Drop)]
 pub struct Lengths {
     lengths: [u8; 256],
@@ -44,7 +48,8 @@ fn used(counts: &[u32; 256]) -> u32
 
 /// Whether no length is above 32.
 fn are_short(lengths: &[u8; 256]) -> bool
-    ensures { MatchBool result (All (λ l. l ≤ 32) lengths.now) (SomeIndex lengths.now (λ s. 32 < slice_index lengths.now s)) }
+    ensures { MatchBool result (All (λ l. l ≤ 32) lengths.now)
+        (SomeIndex lengths.now (λ s. 32 < slice_index lengths.now s)) }
 {
     for l in lengths {
         if *l > 32 {
@@ -56,9 +61,9 @@ fn are_short(lengths: &[u8; 256]) -> bool
 
 impl Lengths {
     /// The code lengths of these counts: one node for each symbol that is counted, of which the two
-    /// least by weight and least symbol are joined until one is left; a symbol's length is the number
-    /// of joins that it went through. `None` where fewer than two counts are above 0, or where a length
-    /// would be above 32.
+    /// least by weight and least symbol are joined until one is left; a symbol's length is the
+    /// number of joins that it went through. `None` where fewer than two counts are above 0, or
+    /// where a length would be above 32.
     pub fn of(counts: &[u32; 256]) -> Option<Lengths>
         requires sum { sum counts.now ≤ 2 ^ 24 }
         ensures some { IfSome result (λ l. l ≡ lengths_of counts.now) }
@@ -73,6 +78,16 @@ impl Lengths {
             return None;
         }
         Some(Lengths { lengths })
+    }
+}
+
+impl Lengths {
+    /// The 256 lengths.
+    pub(crate) fn all(&self) -> &[u8; 256]
+        ensures is { result.now ≡ self.now }
+        ensures lengths { AreLengths self.now }
+    {
+        &self.lengths
     }
 }
 
@@ -131,6 +146,17 @@ fn assigned(lengths: &[u8; 256], mut places: [u64; 33]) -> [Code; 256]
         places[at] = place + share_of(length);
     }
     codes
+}
+
+/// The canonical codes, as they are held.
+pub(crate) fn codes_of(lengths: &Lengths) -> [Code; 256]
+    ensures room { length result ≡ 256 }
+    ensures laid { All IsLaid result }
+    ensures codes { codes_held result ≡ canonical_codes lengths.now }
+    ensures lengths { AreLengths lengths.now }
+{
+    let places = first_places(&lengths.lengths);
+    assigned(&lengths.lengths, places)
 }
 
 impl Codes {

@@ -1,10 +1,11 @@
 //! Code lengths, code tables and code words, read; the lengths and the codes that are chosen.
 //!
-//! The crate stands on `bit_stuff` and `lut_stuff` for its lists, and takes no memory. What the layer
-//! above uses: bytes are read exactly where they begin with a table of codes, or with the words of
-//! some symbols, and else their first fault is told.
+//! The crate stands on `bit_stuff` and `lut_stuff` for its lists, and takes no memory. What the
+//! layer above uses: bytes are read exactly where they begin with a table of codes, or with the
+//! words of some symbols, and else their first fault is told.
 #![tactic(auto)]
 
+mod chosen_table;
 mod codes;
 mod faults;
 mod joining;
@@ -12,17 +13,22 @@ mod laws;
 mod lengths;
 mod table;
 mod words;
+mod writing;
 
+pub use chosen_table::{table_size, write_code_table};
 pub use codes::Codes;
 pub use faults::{CodeFault, CodeReason};
 pub use laws::{
     canonical_codes_are_codes, canonical_codes_count_up, chosen_lengths_are_lengths,
-    joins_take_the_least, tables_are_a_part, tables_have_codes, words_are_a_part,
-    written_words_are_words,
+    counted_symbols_have_lengths, joins_take_the_least, tables_are_a_part, tables_have_codes,
+    words_are_a_part, written_tables_are_tables, written_words_are_words,
 };
 pub use lengths::Lengths;
 pub use table::read_table;
 pub use words::read_symbols;
+pub use writing::{have_lengths, symbols_len, write_symbols};
 
 #[cfg(test)]
 mod tests;
+#[cfg(test)]
+mod writing_tests;

@@ -185,7 +185,7 @@ fn code_of(word: u32, length: u32) -> Code
 }
 
 /// How many bits codes of these lengths have together.
-fn bit_count(lengths: &[u32]) -> usize
+pub(crate) fn bit_count(lengths: &[u32]) -> usize
     requires few { length lengths.now ≤ 256 }
     requires low { All (λ l. l ≤ 32) lengths.now }
     ensures { result ≡ sum lengths.now }
@@ -275,11 +275,11 @@ fn read_parts(bytes: &[u8]) -> Result<(Codes, usize), CodeFault>
 
 /// Reads a code table from the front of the bytes: the codes, and how many bytes it takes.
 ///
-/// The faults come in this order, each with its place: for each of the four numbers at 0, 4, 8 and 12
-/// `Cut` where it is cut, and `BadTable` where it fails its test; the faults of the list behind them;
-/// `BadTable` at the list's first byte where a length is above 32 or none is above 0; `Cut` at the
-/// first byte of the codes' words where these are cut; and `BadTable` there where one code is the
-/// front of another's.
+/// The faults come in this order, each with its place: for each of the four numbers at 0, 4, 8 and
+/// 12 `Cut` where it is cut, and `BadTable` where it fails its test; the faults of the list behind
+/// them; `BadTable` at the list's first byte where a length is above 32 or none is above 0; `Cut`
+/// at the first byte of the codes' words where these are cut; and `BadTable` there where one code
+/// is the front of another's.
 pub fn read_table(bytes: &[u8]) -> Result<(Codes, usize), CodeFault>
     ensures ok { IfOk result
         (λ r. (r.1 ≤ length bytes.now) × IsTable (take r.1 bytes.now) r.0) }

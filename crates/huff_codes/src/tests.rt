@@ -5,7 +5,7 @@ use bit_stuff::ListReason;
 use std::test::Fail;
 
 /// Codes of 255, 0 and 1: `11`, `10` and `0`. The range 255 to 257 wraps.
-static TABLE: [u8; 23] = [
+pub(super) static TABLE: [u8; 23] = [
     0x04, 0x00, 0x00, 0x00, 0x00, 0x01, 0x00, 0x00, 0xff, 0x00, 0x00, 0x00, 0x02, 0x01, 0x00, 0x00,
     0x82, 0x03, 0x1a, 0x00, 0x00, 0x00, 0xe0,
 ];
@@ -58,7 +58,7 @@ fn first_fault_of(bytes: &[u8]) -> Option<CodeFault> {
 
 /// The symbols of the words behind the bytes of a table, as many as `out` has; how many bytes both
 /// take.
-fn read_both(bytes: &[u8], out: &mut [u8]) -> Result<usize, CodeFault>
+pub(super) fn read_both(bytes: &[u8], out: &mut [u8]) -> Result<usize, CodeFault>
     requires { length out.old ≤ 2 ^ 24 }
 {
     match read_table(bytes) {
@@ -161,9 +161,9 @@ fn one_symbol_alone_is_read_and_other_bits_are_no_code(rt: HostRuntime) -> Resul
     Ok(())
 }
 
-/// A table of 33 symbols, whose codes are `0`, `10`, `110` and so on up to 32 bits, and the words of
-/// 32 31 0 32 5. Another program has written it.
-static LONGEST: [u8; 135] = [
+/// A table of 33 symbols, whose codes are `0`, `10`, `110` and so on up to 32 bits, and the words
+/// of 32 31 0 32 5. Another program has written it.
+pub(super) static LONGEST: [u8; 135] = [
     0x04, 0x00, 0x00, 0x00, 0x00, 0x01, 0x00, 0x00, 0x00, 0x00, 0x00, 0x00, 0x21, 0x00, 0x00, 0x00,
     0x86, 0x21, 0x81, 0x30, 0x10, 0x85, 0x71, 0x20, 0x89, 0xb2, 0x30, 0x8d, 0xf3, 0x40, 0x91, 0x34,
     0x51, 0x95, 0x75, 0x61, 0x99, 0xb6, 0x71, 0x9d, 0xf7, 0x81, 0x20, 0xef, 0xf7, 0xbd, 0x5b, 0xff,

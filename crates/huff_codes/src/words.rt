@@ -1,6 +1,7 @@
 //! Reading code words.
 
-ghost use Rattle.std.specs.Prelude.{◌≡◌, ℕ, ◌+◌, ◌-◌, ◌*◌, ◌/◌, ◌%◌, ◌≤◌, ◌<◌, ◌^◌, ◌↔◌, List, Bool, length, drop, take, MatchResult, IfOk, Ok, Err, ◌++◌};
+ghost use Rattle.std.specs.Prelude.{◌≡◌, ℕ, ◌+◌, ◌-◌, ◌*◌, ◌/◌, ◌%◌, ◌≤◌, ◌<◌, ◌^◌, ◌↔◌, List};
+ghost use Rattle.std.specs.Prelude.{Bool, length, drop, take, MatchResult, IfOk, Ok, Err, ◌++◌};
 ghost use Rattle.huff_codes.specs.declared.faults.CodeFault.{CodeFault};
 ghost use Rattle.huff_codes.specs.Bits.{word_bits};
 ghost use Rattle.huff_codes.specs.Words.{AreWords, IsStuck, whole_end, word_faults};
@@ -55,7 +56,8 @@ fn end_of_words(bytes: &[u8]) -> usize
 /// The fault of bits that no code stands in front of.
 fn stopped(bytes: &[u8], codes: &Codes, bit: usize, next: Ahead) -> CodeFault
     requires few { next.count ≤ 32 }
-    ensures { (left : List Bool) → IsAhead next left → IsStuck codes.now left → IsStop codes.now bytes.now bit left result }
+    ensures { (left : List Bool) → IsAhead next left → IsStuck codes.now left
+        → IsStop codes.now bytes.now bit left result }
 {
     if codes.is_cut(next) {
         CodeFault {
@@ -74,7 +76,8 @@ fn stopped(bytes: &[u8], codes: &Codes, bit: usize, next: Ahead) -> CodeFault
 fn read_all(bytes: &[u8], codes: &Codes, out: &mut [u8]) -> Result<usize, CodeFault>
     requires count { length out.old ≤ 2 ^ 24 }
     ensures { MatchResult result
-        (λ used. (used ≤ length bytes.now) × AreWords codes.now (length out.new) (take used bytes.now) out.new)
+        (λ used. (used ≤ length bytes.now)
+        × AreWords codes.now (length out.new) (take used bytes.now) out.new)
         (λ f. word_faults codes.now (length out.new) bytes.now f.at f.reason) }
 {
     let mut bit = 0;
@@ -98,15 +101,19 @@ fn read_all(bytes: &[u8], codes: &Codes, out: &mut [u8]) -> Result<usize, CodeFa
     Ok(used)
 }
 
-/// Reads as many symbols as `out` has, from the codes in the bits of 32-bit little-endian words, each
-/// highest bit first. Answers how many bytes the words take, one further word among them that is not
-/// looked at. After a fault `out` has any content.
+/// Reads as many symbols as `out` has, from the codes in the bits of 32-bit little-endian words,
+/// each highest bit first. Answers how many bytes the words take, one further word among them that
+/// is not looked at. After a fault `out` has any content.
 pub fn read_symbols(bytes: &[u8], codes: &Codes, out: &mut [u8]) -> Result<usize, CodeFault>
     requires count { length out.old ≤ 2 ^ 24 }
-    ensures ok { IfOk result (λ used. (used ≤ length bytes.now) × AreWords codes.now (length out.old) (take used bytes.now) out.new) }
-    ensures complete { (front rest symbols : List ℕ) → bytes.now ≡ front ++ rest → AreWords codes.now (length out.old) front symbols →
+    ensures ok { IfOk result
+        (λ used. (used ≤ length bytes.now)
+        × AreWords codes.now (length out.old) (take used bytes.now) out.new) }
+    ensures complete { (front rest symbols : List ℕ) → bytes.now ≡ front ++ rest
+        → AreWords codes.now (length out.old) front symbols →
         (result ≡ Ok (length front)) × (out.new ≡ symbols) }
-    ensures fault { (f : CodeFault) → (result ≡ Err f) ↔ word_faults codes.now (length out.old) bytes.now f.at f.reason }
+    ensures fault { (f : CodeFault) → (result ≡ Err f)
+        ↔ word_faults codes.now (length out.old) bytes.now f.at f.reason }
 {
     codes.know();
     read_all(bytes, codes, out)

@@ -1,7 +1,12 @@
 mod Ends
 mod Exact
 mod Idle
+mod Informed
+mod KeptBytes
 mod Once
+mod Outlined
+mod SixLines
+mod ToldLines
 mod WholeReads
 mod Whole
 mod Words

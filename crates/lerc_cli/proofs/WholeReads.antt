@@ -18,7 +18,8 @@ use Rattle.lerc_decode.specs.declared.from_source.FromFault.{FromFault}
 use Rattle.lerc_decode.specs.declared.from_source.FromFault.TheVariants.{Blob as FromBlob, Source as FromSource, OutOfMemory as FromMemory}
 use Rattle.lerc_decode.specs.FromSource.{CountsSource, IsSized}
 use Rattle.lerc_cli.specs.declared.stop.Reason.TheVariants.{Blob as BlobReasonOf}
-use Rattle.lerc_cli.specs.declared.command.Command.TheVariants.{Decode}
+use Rattle.lerc_cli.specs.declared.command.Command.{Command}
+use Rattle.lerc_cli.specs.declared.command.Command.TheVariants.{Decode, Info}
 use Rattle.lerc_cli.specs.declared.stop.Stop.{Stop}
 use Rattle.lerc_cli.specs.declared.stop.Stop.TheVariants.{Usage, Refused, Source, Output, Volume, OutOfMemory}
 use Rattle.lerc_cli.specs.Answer.{Ends, Files}
@@ -116,7 +117,20 @@ gained_none input OutOfMemory old new read none = none
 gained : (input : Option (List ℕ)) (stop : Stop) (old new : Option (List ℕ)) → ReadsBlob input (Err stop) → new ≡ old → Gained (Err stop) old new []
 gained input stop old new read same = gained_none input stop old new read (subst (λ (x : Option (List ℕ)). Holds old x []) (sym same) (Holds_none old))
 
--- what a command that reads one blob has meant to give
+-- a command that reads one blob was stopped before the output
+pub stopped_for : (c : Command) (K : Type 0) (held : K → Option (List ℕ)) (faults : K → ℕ) (out out_new : K) (input : Option (List ℕ)) (files : Option Files) (stop : Stop)
+    → Ends c (given input files) 0 (Err stop) [] → out_new ≡ out → ReadsBlob input (Err stop) → OfOutput c (given input files) 0 (Err stop) (out_new ≡ out) (held out) (held out_new) (faults out) (faults out_new)
+stopped_for c K held faults out out_new input files stop ends same read = record {
+  cause = record {
+    counts = (let e : faults out_new ≡ faults out = ap faults same in omega arith);
+    failed = λ is. absurd (never_output input stop (Err stop) refl is read);
+    rose = λ rose. (let e : faults out_new ≡ faults out = ap faults same in absurd (omega arith));
+  };
+  gave = ([], (ends, gained input stop (held out) (held out_new) read (ap held same)));
+  idle = λ _. same;
+}
+
+-- what it has meant to give
 decoded_stop : (input : Option (List ℕ)) (files : Option Files) (stop : Stop) → ReadsBlob input (Err stop) → Ends Decode (given input files) 0 (Err stop) []
 decoded_stop input files Usage read = read
 decoded_stop input files (Refused f) read = (read, refl)
@@ -125,15 +139,18 @@ decoded_stop input files Output read = absurd read
 decoded_stop input files Volume read = absurd read
 decoded_stop input files OutOfMemory read = (read, refl, refl)
 
--- it was stopped before the output
 pub stopped_output : (K : Type 0) (held : K → Option (List ℕ)) (faults : K → ℕ) (out out_new : K) (input : Option (List ℕ)) (files : Option Files) (stop : Stop)
     → out_new ≡ out → ReadsBlob input (Err stop) → OfOutput Decode (given input files) 0 (Err stop) (out_new ≡ out) (held out) (held out_new) (faults out) (faults out_new)
-stopped_output K held faults out out_new input files stop same read = record {
-  cause = record {
-    counts = (let e : faults out_new ≡ faults out = ap faults same in omega arith);
-    failed = λ is. absurd (never_output input stop (Err stop) refl is read);
-    rose = λ rose. (let e : faults out_new ≡ faults out = ap faults same in absurd (omega arith));
-  };
-  gave = ([], (decoded_stop input files stop read, gained input stop (held out) (held out_new) read (ap held same)));
-  idle = λ _. same;
-}
+stopped_output K held faults out out_new input files stop same read = stopped_for Decode K held faults out out_new input files stop (decoded_stop input files stop read) same read
+
+told_stop : (input : Option (List ℕ)) (files : Option Files) (stop : Stop) → ReadsBlob input (Err stop) → Ends Info (given input files) 0 (Err stop) []
+told_stop input files Usage read = read
+told_stop input files (Refused f) read = (read, refl)
+told_stop input files Source read = (tt_true, refl, refl)
+told_stop input files Output read = absurd read
+told_stop input files Volume read = absurd read
+told_stop input files OutOfMemory read = (read, refl, refl)
+
+pub stopped_lines : (K : Type 0) (held : K → Option (List ℕ)) (faults : K → ℕ) (out out_new : K) (input : Option (List ℕ)) (files : Option Files) (stop : Stop)
+    → out_new ≡ out → ReadsBlob input (Err stop) → OfOutput Info (given input files) 0 (Err stop) (out_new ≡ out) (held out) (held out_new) (faults out) (faults out_new)
+stopped_lines K held faults out out_new input files stop same read = stopped_for Info K held faults out out_new input files stop (told_stop input files stop read) same read

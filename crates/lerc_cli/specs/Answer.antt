@@ -5,7 +5,7 @@ use Rattle.raster_values.specs.Grid.{grid_of}
 use Rattle.lerc_header.specs.declared.header.Header.{Header}
 use Rattle.lerc_header.specs.Head.{HeadAt}
 use Rattle.lerc_cli.specs.declared.command.Command.{Command}
-use Rattle.lerc_cli.specs.declared.command.Command.TheVariants.{Decode}
+use Rattle.lerc_cli.specs.declared.command.Command.TheVariants.{Decode, Info}
 use Rattle.lerc_header.specs.declared.fault.BlobReason.{BlobReason}
 use Rattle.lerc_grammar.specs.Blob.{Blob}
 use Rattle.lerc_grammar.specs.Verdict.{WholeFault}
@@ -15,6 +15,7 @@ use Rattle.lerc_cli.specs.declared.stop.Stop.{Stop}
 use Rattle.lerc_cli.specs.declared.stop.Stop.TheVariants.{Usage, Refused, Source, Output, Volume, OutOfMemory}
 use Rattle.lerc_cli.specs.Command.{reads_source, calls_volume}
 use Rattle.lerc_cli.specs.Stop.{End}
+use Rattle.lerc_cli.specs.Info.{AreLinesOf}
 
 -- what a read gives of the two files as the run starts
 pub record Files : Type 0 where
@@ -39,6 +40,8 @@ IsBlob bytes = (r : Pixels) × Blob bytes r
 abbrev pub IsOutput : Command → Given → ℕ → List ℕ → Type 0
 IsOutput Decode g n output =
     (r : Pixels) × (IsRaster r × OfInput g (λ bytes. Blob bytes r) × (output ≡ grid_of r))
+IsOutput Info g n output =
+    (blob : List ℕ) × (IsBlob blob × OfInput g (λ bytes. bytes ≡ blob) × AreLinesOf blob output)
 
 -- this is the first fault of the whole input, which is to be one blob
 abbrev pub IsNoBlob : Given → Fault → Type 0
@@ -50,6 +53,8 @@ IsNoBlob g fault = (reason : BlobReason) × ((fault.reason ≡ BlobReasonOf reas
 abbrev pub IsRefusal : Command → Given → ℕ → Stop → Type 0
 IsRefusal Decode g n (Refused fault) = IsNoBlob g fault
 IsRefusal Decode g n stop = ⊥
+IsRefusal Info g n (Refused fault) = IsNoBlob g fault
+IsRefusal Info g n stop = ⊥
 
 -- what the command has meant to give by the time that an object fails
 abbrev pub IsCutOff : Command → Given → ℕ → Stop → List ℕ → Type 0
@@ -63,6 +68,7 @@ HasHead bytes = (h : Header) × HeadAt bytes h
 -- where memory may be wanted
 abbrev pub MayWant : Command → Given → Type 0
 MayWant Decode g = OfInput g HasHead
+MayWant Info g = OfInput g HasHead
 
 -- The whole answer: how the command ends, how many updates are then done, and what it has meant to
 -- give by then.

@@ -11,12 +11,13 @@ use Rattle.lerc_header.specs.declared.fault.BlobReason.{BlobReason}
 use Rattle.lerc_grammar.specs.Blob.{Blob}
 use Rattle.lerc_grammar.specs.Verdict.{WholeFault}
 use Rattle.lerc_cli.specs.declared.command.Command.{Command}
-use Rattle.lerc_cli.specs.declared.command.Command.TheVariants.{Decode}
+use Rattle.lerc_cli.specs.declared.command.Command.TheVariants.{Decode, Info}
 use Rattle.lerc_cli.specs.declared.stop.Reason.TheVariants.{Blob as BlobReasonOf}
 use Rattle.lerc_cli.specs.declared.stop.Stop.TheVariants.{Usage, Refused, Source, Output, Volume, OutOfMemory}
 use Rattle.lerc_cli.specs.Command.{reads_source, calls_volume, makes_updates}
 use Rattle.lerc_cli.specs.Stop.{End, line_of, status_at, status_of}
-use Rattle.lerc_cli.specs.Answer.{Files, Given, Ends, HasHead}
+use Rattle.lerc_cli.specs.Answer.{Files, Given, Ends, HasHead, IsBlob}
+use Rattle.lerc_cli.specs.Info.{AreLinesOf}
 use Rattle.outside_io.specs.program.Line.{GivesLine}
 use Rattle.outside_io.specs.streams.Faults.{IsCause}
 
@@ -33,6 +34,7 @@ given input files = record { input = input; files = files }
 -- how many bytes a command takes at most: one behind the longest input that it reads
 abbrev pub most_taken : Command → ℕ
 most_taken Decode = 134217729
+most_taken Info = 134217729
 
 -- The first type says that the source is as it was.
 pub record OfSource (c : Command) (end : End) (same : Type 0) (left_old left_new : Option (List ℕ))
@@ -135,3 +137,11 @@ TellsFault input old new faults_old faults_new =
 -- the bytes, where they are told, begin with a whole lawful header
 abbrev pub ToldHead : Option (List ℕ) → Type 0
 ToldHead input = IfSome input HasHead
+
+-- ---- of `info` in its own words
+
+-- the output has gained the lines of a blob, which is the input where that is told
+abbrev pub GivesLines : Option (List ℕ) → Option (List ℕ) → Option (List ℕ) → Type 0
+GivesLines input old new =
+    (blob : List ℕ) × (IsBlob blob × IfSome input (λ bytes. bytes ≡ blob)
+    × ((lines : List ℕ) × (AreLinesOf blob lines × Holds old new lines)))

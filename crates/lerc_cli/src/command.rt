@@ -9,6 +9,8 @@ use outside_io::Word;
 pub enum Command {
     /// Reads one blob, and gives its grid.
     Decode,
+    /// Reads one blob, and gives the lines of what it says of itself.
+    Info,
 }
 
 fn has_text(word: &Word, text: &[u8]) -> bool
@@ -23,6 +25,7 @@ pub fn command_of(words: &[Word]) -> Option<Command>
 {
     match words {
         [word] if has_text(word, b"decode") => Some(Command::Decode),
+        [word] if has_text(word, b"info") => Some(Command::Info),
         _ => None,
     }
 }

@@ -3,21 +3,26 @@
 //!
 //! It stands on `lerc_decode` and the layers below it. What it does is `run`, whose contract
 //! is the program's: over any words, any input, however it is cut into pieces, and objects that fail at
-//! any call, a blob is decoded exactly where the input is one, and nothing else is given. `serve` reads
-//! the words and calls it, and `main` makes the objects over the machine.
+//! any call, a blob is decoded, or told of, exactly where the input is one, and nothing else is given.
+//! `serve` reads the words and calls it, and `main` makes the objects over the machine.
 #![tactic(auto)]
 
 mod arguments;
+#[cfg(test)]
+mod coded_tests;
 mod command;
 mod decode;
+mod info;
+#[cfg(test)]
+mod info_tests;
+mod keeping;
 mod laws;
 mod lines;
+mod outline_lines;
 mod program;
 mod reading;
 mod run;
 mod stop;
-#[cfg(test)]
-mod coded_tests;
 #[cfg(test)]
 mod tests;
 

@@ -14,7 +14,7 @@ use raster_values::Raster;
 use std::alloc::Global;
 
 /// A blob's fault as a stop.
-fn stop(fault: FromFault) -> Stop
+pub(crate) fn stop(fault: FromFault) -> Stop
     ensures { result ≡ stop_of fault }
 {
     match fault {
@@ -28,7 +28,7 @@ fn stop(fault: FromFault) -> Stop
 }
 
 /// Whether the source has one byte more, which is taken.
-fn has_more<S: Source>(src: &mut S) -> Result<bool, Failed>
+pub(crate) fn has_more<S: Source>(src: &mut S) -> Result<bool, Failed>
     ensures asks { AsksOne result (S.left src.old) (S.left src.new) }
     ensures counted { CountsFaults result (S.faults src.old) (S.faults src.new) }
 {

@@ -8,11 +8,12 @@ ghost use Rattle.lerc_cli.specs.Command.{IsSpelled, IsNoCommand};
 ghost use Rattle.outside_io.specs.program.Line.{GivesLine};
 ghost use Rattle.outside_io.specs.streams.Faults.{IsCause};
 ghost use Rattle.lerc_cli.specs.Run.{OfSource, OfOutput, OfVolume, OfRun, GivesLineOf, files_of, given};
-ghost use Rattle.lerc_cli.specs.Run.{GivesGrid, GivesGridPrefix, TellsFault, ToldHead};
+ghost use Rattle.lerc_cli.specs.Run.{GivesGrid, GivesGridPrefix, GivesLines, TellsFault, ToldHead};
 ghost use Rattle.lerc_cli.specs.Stop.{status_of, status_at, line_of};
 
 use crate::command::{Command, command_of};
 use crate::decode::decode;
+use crate::info::info;
 use crate::lines::tell;
 use crate::stop::Stop;
 use outside_io::{Marks, Report, Sink, Source, Volume, Word};
@@ -40,6 +41,7 @@ fn perform<S: Source, K: Sink, V: Volume>(
 {
     match command {
         Command::Decode => decode(alloc, src, out),
+        Command::Info => info(alloc, src, out),
     }
 }
 
@@ -98,16 +100,17 @@ fn ended_status<E: Sink>(ended: Result<(), Stop>, err: &mut E) -> u8
 /// Does all that the program does: finds the command of the words, does it, and answers the status
 /// that the program ends with.
 ///
-/// The one command so far is `decode`: it reads one whole blob, and gives its grid.
+/// The commands so far are `decode` and `info`. Both read one whole blob; then `decode` gives its grid,
+/// and `info` the fourteen lines of what it says of itself.
 ///
 /// | status | it comes |
 /// |---|---|
-/// | 0 | where the input is a blob; the output has gained its grid |
+/// | 0 | where the input is a blob; the output has gained its grid, or its lines |
 /// | 1 | exactly where the words are no command; nothing is taken and nothing is given |
 /// | 2 | where the input is no blob, or has bytes behind one; the line tells its first fault |
 /// | 3 | exactly where the source failed |
-/// | 4 | exactly where the output failed, which has then gained a prefix of the grid |
-/// | 5 | exactly where the volume failed, which `decode` does not call |
+/// | 4 | exactly where the output failed, which has then gained a prefix of them |
+/// | 5 | exactly where the volume failed, which neither calls |
 /// | 6 | where memory was refused, which is wanted only behind a whole lawful header |
 ///
 /// On a status other than 0 one line is given to `err`. The faults of `err` change nothing. There are
@@ -170,6 +173,16 @@ pub fn run<S: Source, K: Sink, E: Sink, V: Volume>(
     ensures wanted { IsSpelled Command.Decode words.now → result.status ≡ 6
         → ToldHead (S.left src.old) }
     ensures nothing_given { IsSpelled Command.Decode words.now
+        → result.status ≢ 0 → result.status ≢ 4 → out.new ≡ out.old }
+
+    // What follows for `info`.
+    ensures informed_exactly { IsSpelled Command.Info words.now
+        → (input : List ℕ) → S.left src.old ≡ Some input
+        → (result.status ≡ 0) ⊎ (result.status ≡ 2) → (result.status ≡ 0) ↔ IsBlob input }
+    ensures informed { IsSpelled Command.Info words.now → result.status ≡ 0
+        → GivesLines (S.left src.old) (K.held out.old) (K.held out.new)
+        × IsAtEnd (S.left src.new) }
+    ensures not_informed { IsSpelled Command.Info words.now
         → result.status ≢ 0 → result.status ≢ 4 → out.new ≡ out.old }
 {
     let mut marks = Marks::new(alloc);

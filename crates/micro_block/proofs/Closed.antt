@@ -18,6 +18,7 @@ use Rattle.lut_stuff.proofs.Tabled.{distinct_some}
 use Rattle.std.proofs.lemmas.Bool.{cases_lt, lt-ltb}
 use Rattle.micro_block.specs.Choice as choice
 use Rattle.micro_block.specs.Choice.{Form, least_value, quantised_values, narrow_type, offset_bytes, form_bytes, forms, is_flat, is_stuffable, chosen_form, block_bytes}
+use Rattle.micro_block.proofs.Fewest.{IsTaken, is_first_least}
 use Rattle.micro_block.proofs.Steps.{by_sizes, sized}
 
 sized_allowed : {A : Type 0} (size : A → ℕ) (b : Bool) (x : A) (n : ℕ) → size x ≡ n → allowed b n ≡ option_map size (allowed b x)
@@ -177,3 +178,12 @@ found kind col step values sizes least greatest most tabled (Some q) p some ends
     let all : sizes ≡ closed_sizes kind (length values) (least_value values) (greatest_number (quantised_values step values)) tabled = sizes_is ∙ (λ i. closed_sizes kind (length values) (ends.least_is i) ((most_is ∙ ends.most step some) i) tabled) in
     let is = firsts kind step values sizes tabled q.0 q.1 tabled_is all is_first in
     subst (IsFound kind col step values) (sym e) (record { form = chosen_at kind col step values q.0 q.1 is; size = chosen_size kind col step values q.0 q.1 is })
+
+-- no chosen block is longer than the raw one
+pub block_short : (kind : PixelType) (col step : ℕ) (values : List ℤ) → length (block_bytes kind col step values) ≤ 1 + length values * bytes_of kind
+unfolding block_bytes chosen_form
+block_short kind col step values = taken (first_least (size_of kind col step values) (forms step values)) (is_first_least (size_of kind col step values) (forms step values))
+  where
+    taken : (o : Option Form) → IsTaken (size_of kind col step values) (forms step values) o → length (form_bytes kind col step values (unwrap_or o choice.raw)) ≤ 1 + length values * bytes_of kind
+    taken None none = absurd (none 2 choice.raw refl)
+    taken (Some form) (k, is) = let le = is.least 2 choice.raw refl in let raw = length_raw kind col step values in omega (arith, le, raw)

@@ -1,5 +1,5 @@
 -- Where a table can be shorter, and how many different numbers there are at least.
-use Rattle.std.proofs.Common.{◌≡◌, ℕ, zero, suc, ◌+◌, ◌-◌, ◌*◌, ◌/◌, ◌%◌, ◌^◌, ◌<◌, ◌≤◌, Bool, true, false, List, [], ◌∷◌, ◌++◌, length, get_or, take, refl, sym, ap, subst, ◌∙◌, arith, inl, inr}
+use Rattle.std.proofs.Common.{◌≡◌, ℕ, ℤ, map, zero, suc, ◌+◌, ◌-◌, ◌*◌, ◌/◌, ◌%◌, ◌^◌, ◌<◌, ◌≤◌, Bool, true, false, List, [], ◌∷◌, ◌++◌, length, get_or, take, refl, sym, ap, subst, ◌∙◌, arith, inl, inr}
 use Rattle.std.specs.Prelude.{set, min}
 use Rattle.std.proofs.lemmas.Bool.{cases_eq, cases_lt}
 use Rattle.std.proofs.lemmas.List.{get_or-set_other, get_or-set_same}
@@ -10,7 +10,7 @@ use Rattle.bit_stuff.specs.Stuffed.{stuffed_size}
 use Rattle.bit_stuff.proofs.Digits.{digits-le, digits-zero, digits_hold_below}
 use Rattle.bit_stuff.proofs.StuffedLaws.{stuffed_size-le}
 use Rattle.lut_stuff.specs.Tables.{distinct_above_0, entries_of}
-use Rattle.lut_stuff.proofs.Rising.{Has, entries_have}
+use Rattle.lut_stuff.proofs.Rising.{Has, Rising, entries_from, entries_have, entries_rising, rising_above}
 use Rattle.lut_stuff.proofs.Tabled.{distinct_is}
 use Rattle.micro_block.specs.inside.Shorter.{AreLongAbove, BoundsAt, IsLong}
 use Rattle.micro_block.proofs.Fast.{entries_fit}
@@ -207,3 +207,25 @@ seen_of_all seen count i qs s = record { members = s.members; size = s.size; dif
 
 pub few_entries : (k most n : ℕ) → k < 8 → most ≡ min n (2 * 2 ^ k - 1) → most ≤ 255
 few_entries k most n low is = let small : k ≤ 7 = omega (arith, low) in let high : 2 ^ k ≤ 2 ^ 7 = pow-le-pow_right (omega arith) small in omega (arith, is, high)
+
+-- ---- the front of a list has no more different numbers than the list
+
+rising_different : (b : ℕ) (xs : List ℕ) → Rising b xs → Different xs
+rising_different b [] up = tt
+rising_different b (x ∷ xs) up = (λ h. (let low = rising_above x xs x up.1 h in absurd (omega (arith, low))), rising_different x xs up.1)
+
+pub distinct_fit : (xs ys : List ℕ) → ((z : ℕ) → Has z xs → Has z ys) → distinct_above_0 xs ≤ distinct_above_0 ys
+distinct_fit xs ys h =
+    let le = different_fit (entries_of xs) (entries_of ys) (rising_different 0 (entries_of xs) (entries_rising xs)) (λ z has. entries_have ys z (h z (entries_from xs z has)) (rising_above 0 (entries_of xs) z (entries_rising xs) has)) in
+    let a = distinct_is xs in
+    let b = distinct_is ys in
+    omega (arith, le, a, b)
+
+front_has : (g : ℤ → ℕ) (values : List ℤ) (k z : ℕ) → Has z (map g (take k values)) → Has z (map g values)
+front_has g values zero z h = absurd h
+front_has g [] (suc k) z h = absurd h
+front_has g (v ∷ values) (suc k) z (inl e) = inl e
+front_has g (v ∷ values) (suc k) z (inr h) = inr (front_has g values k z h)
+
+pub front_distinct : (g : ℤ → ℕ) (values : List ℤ) (k bound : ℕ) → bound < distinct_above_0 (map g (take k values)) → bound < distinct_above_0 (map g values)
+front_distinct g values k bound h = let le = distinct_fit (map g (take k values)) (map g values) (λ z has. front_has g values k z has) in omega (arith, le, h)

@@ -30,7 +30,7 @@ use Rattle.micro_block.specs.Choice as choice
 use Rattle.micro_block.specs.Choice.{least_value, quantised_values, holds, narrowest, narrow_type, offset_bytes, tag_byte, form_bytes, is_flat, is_stuffable, forms, chosen_form, block_bytes, kept_by, kept, Form}
 use Rattle.micro_block.specs.inside.Forms.{May}
 use Rattle.micro_block.proofs.Fewest.{At, at_first}
-use Rattle.micro_block.proofs.Near.{near, above, below}
+use Rattle.micro_block.proofs.Near.{near, exact, above, below}
 
 -- ---- the least value
 
@@ -279,3 +279,16 @@ pub kept_between : (f : Frame) (values : List ℤ) → AreWritable f values → 
     → (least_value values ≤ℤ kept f.kind f.col f.step f.top values (get_or values i (pos 0))) × (kept f.kind f.col f.step f.top values (get_or values i (pos 0)) ≤ℤ f.top)
 unfolding kept
 kept_between f values w i within = between_by (chosen_form f.kind f.col f.step values) f.step (get_or values i (pos 0)) (least_value values) f.top (least_below values i within) (w.below i within)
+
+-- at step 1 it is the value itself
+each_same : (g : ℤ → ℤ) (vs : List ℤ) → ((i : ℕ) → i < length vs → g (get_or vs i (pos 0)) ≡ get_or vs i (pos 0)) → map g vs ≡ vs
+each_same g [] h = refl
+each_same g (v ∷ vs) h = λ i. h zero (omega arith) i ∷ each_same g vs (λ k lt. h (suc k) (omega (arith, lt))) i
+
+near_same : (step : ℕ) (v w : ℤ) → step ≡ 1 → IsNear step v w → w ≡ v
+near_same step v w one h = exact v w (subst (λ (n : ℕ). IsNear n v w) one h)
+
+pub kept_exact : (f : Frame) (values : List ℤ) → AreWritable f values → f.step ≡ 1 → map (kept f.kind f.col f.step f.top values) values ≡ values
+kept_exact f values w one =
+    each_same (kept f.kind f.col f.step f.top values) values
+    (λ i within. near_same f.step (get_or values i (pos 0)) (kept f.kind f.col f.step f.top values (get_or values i (pos 0))) one (kept_near f values w i within))

@@ -1,7 +1,7 @@
 // The form that is chosen for a block.
 
-ghost use Rattle.std.specs.Prelude.{◌≡◌, ℕ, ℤ, ◌≤◌, ◌<◌, ◌≤ℤ◌, length, All};
-ghost use Rattle.raster_values.specs.PixelType.{InRange};
+ghost use Rattle.std.specs.Prelude.{◌≡◌, ◌+◌, ◌*◌, ℕ, ℤ, ◌≤◌, ◌<◌, ◌≤ℤ◌, length, All};
+ghost use Rattle.raster_values.specs.PixelType.{InRange, bytes_of};
 ghost use Rattle.micro_block.specs.Choice as choice;
 ghost use Rattle.micro_block.specs.Frame.{IsBlockCtx};
 ghost use Rattle.micro_block.specs.inside.Sizes.{AreEnds, IsFound};
@@ -92,8 +92,9 @@ pub fn block_len(values: &[i64], ctx: &BlockCtx) -> usize
     requires ctx { IsBlockCtx ctx.now }
     requires in_range { All (InRange ctx.now.kind) values.now }
     requires capped { All (λ v. v ≤ℤ ctx.now.top) values.now }
-    ensures { result
+    ensures length { result
         ≡ length (choice.block_bytes ctx.now.kind ctx.now.col ctx.now.step values.now) }
+    ensures short { result ≤ 1 + length values.now * bytes_of ctx.now.kind }
 {
     choose(values, ctx.kind, ctx.step).size
 }

@@ -1,8 +1,7 @@
 // How long a block is in each form.
 
 ghost use Rattle.std.specs.Prelude.{◌≡◌, ℕ, ℤ, pos, ◌+◌, ◌≤◌, ◌<◌, ◌^◌, ◌≤ℤ◌, length, map};
-ghost use Rattle.std.specs.Prelude.{unsigned_abs};
-ghost use Rattle.std.specs.Prelude.{Some, None, All, IfSome, ◌⊎◌};
+ghost use Rattle.std.specs.Prelude.{unsigned_abs, true, Some, None, All, IfSome, ◌⊎◌};
 ghost use Rattle.micro_block.specs.inside.Forms.{AreListable};
 ghost use Rattle.bit_stuff.specs.Head.{head_size};
 ghost use Rattle.bit_stuff.specs.Stuffed.{stuffed_size};
@@ -192,6 +191,32 @@ fn table_within(
     table_len(qs)
 }
 
+/// Whether more different numbers of steps above 0 than the bound are found, with room for them.
+fn has_more_steps(values: &[i64], least: i64, step: u64, bound: usize, qs: &mut [u32]) -> bool
+    requires lengths { length qs.old ≡ length values.now }
+    requires listable { AreListable step least values.now }
+    requires bound { bound ≤ 256 }
+    ensures { result ≡ true → bound < distinct_above_0 (map (quantised step least) values.now) }
+{
+    steps_of(values, least, step, qs);
+    has_more(qs, bound)
+}
+
+/// The same of the first values alone, so that most lists are not quantised to their end. Where the
+/// bound is too high for so few to show more, the answer is no.
+fn front_has_more(values: &[i64], least: i64, step: u64, bound: usize) -> bool
+    requires listable { AreListable step least values.now }
+    requires bound { bound ≤ 256 }
+    ensures { result ≡ true → bound < distinct_above_0 (map (quantised step least) values.now) }
+{
+    if bound > 20 {
+        return false;
+    }
+    let count = values.len().min(32);
+    let mut qs = [0; 32];
+    has_more_steps(&values[..count], least, step, bound, &mut qs[..count])
+}
+
 /// How many bytes the list takes in the table form, where it may stand and is shorter than in the
 /// simple form. Where it is not, it may be that None is answered.
 pub(crate) fn tabled_len(
@@ -214,6 +239,9 @@ pub(crate) fn tabled_len(
     }
     let bound = most_entries(values.len(), digit_count(most as u32));
     if bound == 0 {
+        return None;
+    }
+    if front_has_more(values, least, step, bound) {
         return None;
     }
     let mut qs = [0; 256];

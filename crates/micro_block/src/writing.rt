@@ -225,6 +225,8 @@ pub fn write_block(values: &[i64], ctx: &BlockCtx, out: &mut [u8]) -> usize
     ensures near { (i : ℕ) → i < length values.now → let v = get_or values.now i (pos 0) in
         IsNear ctx.now.step v
         (kept ctx.now.kind ctx.now.col ctx.now.step ctx.now.top values.now v) }
+    ensures exact { ctx.now.step ≡ 1 →
+        IsBlock (frame_of ctx.now (length values.now)) (take result out.new) values.now }
 {
     let chosen = choose(values, ctx.kind, ctx.step);
     write_form(values, ctx, chosen, &mut out[..chosen.size]);

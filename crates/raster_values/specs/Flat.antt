@@ -20,39 +20,52 @@ value_in r d k = get_or (unwrap_or (get_or r.pixels k None) []) d (pos 0)
 abbrev pub EachValid : Pixels → (List ℤ → Type 0) → Type 0
 EachValid r P = (k : ℕ) → k < length r.pixels → IfSome (get_or r.pixels k None) P
 
--- The valid ones among the pixels from number `place` on have these values at a depth. All else is as it was: type,
--- shape, mask, and every other value.
+-- The valid ones among the pixels from number `place` on have these values at a depth. All else is
+-- as it was: type, shape, mask, and every other value.
 pub record PutsFrom (old new : Pixels) (place d : ℕ) (values : List ℤ) : Type 0 where
   pub same : SameMask old new
-  pub put : (i : ℕ) → i < length values → is_some (get_or old.pixels (place + i) None) ≡ true → value_in new d (place + i) ≡ get_or values i (pos 0)
-  pub rest : (k e : ℕ) → k < old.rows * old.cols → e < old.depth → (place ≤ k → k < place + length values → e ≡ d → ⊥) → value_in new e k ≡ value_in old e k
+  pub put : (i : ℕ) → i < length values → is_some (get_or old.pixels (place + i) None) ≡ true
+      → value_in new d (place + i) ≡ get_or values i (pos 0)
+  pub rest : (k e : ℕ) → k < old.rows * old.cols → e < old.depth
+      → (place ≤ k → k < place + length values → e ≡ d → ⊥) → value_in new e k ≡ value_in old e k
 
 -- ---- other values at the same valid pixels
 
 abbrev pub new_pixel : ℕ → (ℕ → ℤ → ℤ) → Option (List ℤ) → Option (List ℤ)
 new_pixel depth g None = None
-new_pixel depth g (Some values) = Some (map (λ d. g d (get_or values d (pos 0))) (range_with_len 0 depth))
+new_pixel depth g (Some values) =
+    Some (map (λ d. g d (get_or values d (pos 0))) (range_with_len 0 depth))
 
 -- pixel number k has g k d v at the depth d where it had v
 unfoldable pub revalued : Pixels → (ℕ → ℕ → ℤ → ℤ) → Pixels
-revalued r g = record r { pixels = map (λ k. new_pixel r.depth (g k) (get_or r.pixels k None)) (range_with_len 0 (length r.pixels)) }
+revalued r g =
+    record r {
+      pixels = map
+          (λ k. new_pixel r.depth (g k) (get_or r.pixels k None)) (range_with_len 0 (length r.pixels));
+    }
 
 -- ---- blocks
 
--- the numbers of the pixels of the block of `side` rows and columns from (row, col) on, cut off at the edges
+-- the numbers of the pixels of the block of `side` rows and columns from (row, col) on, cut off at
+-- the edges
 abbrev pub block_numbers : Pixels → ℕ → ℕ → ℕ → List ℕ
-block_numbers r row col side = flat_map (λ i. map (λ j. i * r.cols + j) (range_with_len col (min side (r.cols - col)))) (range_with_len row (min side (r.rows - row)))
+block_numbers r row col side = flat_map
+    (λ i. map
+    (λ j. i * r.cols + j) (range_with_len col (min side (r.cols - col))))
+    (range_with_len row (min side (r.rows - row)))
 
 -- those of its valid pixels
 abbrev pub valid_numbers : Pixels → ℕ → ℕ → ℕ → List ℕ
-valid_numbers r row col side = filter (λ k. get_or (marks_of r) k false) (block_numbers r row col side)
+valid_numbers r row col side = filter
+    (λ k. get_or (marks_of r) k false) (block_numbers r row col side)
 
 -- ---- rasters there are
 
 -- pixels with these marks and these values in order
 abbrev pub pixels_with : ℕ → List Bool → List ℤ → List (Option (List ℤ))
 pixels_with depth [] values = []
-pixels_with depth (true ∷ marks) values = Some (take depth values) ∷ pixels_with depth marks (drop depth values)
+pixels_with depth (true ∷ marks) values =
+    Some (take depth values) ∷ pixels_with depth marks (drop depth values)
 pixels_with depth (false ∷ marks) values = None ∷ pixels_with depth marks values
 
 -- a raster with other values in range, which differs in these alone
@@ -60,12 +73,14 @@ pub record ChangesValues (r new : Pixels) (g : ℕ → ℕ → ℤ → ℤ) : Ty
   pub raster : IsRaster new
   pub shape : SameShape r new
   pub marks : marks_of new ≡ marks_of r
-  pub values : (k d : ℕ) → k < length r.pixels → get_or (marks_of r) k false ≡ true → d < r.depth → value_in new d k ≡ g k d (value_in r d k)
+  pub values : (k d : ℕ) → k < length r.pixels → get_or (marks_of r) k false ≡ true → d < r.depth
+      → value_in new d k ≡ g k d (value_in r d k)
 
 -- the valid pixels of a raster may be given any values of its type
 abbrev pub ValuesMayChange : Type 0
 ValuesMayChange = (r : Pixels) (g : ℕ → ℕ → ℤ → ℤ) → IsRaster r
-    → ((k d : ℕ) → k < length r.pixels → get_or (marks_of r) k false ≡ true → d < r.depth → InRange r.kind (g k d (value_in r d k))) → ChangesValues r (revalued r g) g
+    → ((k d : ℕ) → k < length r.pixels → get_or (marks_of r) k false ≡ true → d < r.depth
+    → InRange r.kind (g k d (value_in r d k))) → ChangesValues r (revalued r g) g
 
 pub record HasInOrder (r : Pixels) (marks : List Bool) (values : List ℤ) : Type 0 where
   pub raster : IsRaster r
@@ -74,24 +89,37 @@ pub record HasInOrder (r : Pixels) (marks : List Bool) (values : List ℤ) : Typ
 
 -- there is a raster of each shape with any marks, and as many values of its type as they ask for
 abbrev pub RasterInOrder : Type 0
-RasterInOrder = (kind : PixelType) (rows cols depth : ℕ) (marks : List Bool) (values : List ℤ) → IsShape rows cols depth → length marks ≡ rows * cols → All (InRange kind) values
+RasterInOrder = (kind : PixelType) (rows cols depth : ℕ) (marks : List Bool) (values : List ℤ)
+    → IsShape rows cols depth → length marks ≡ rows * cols → All (InRange kind) values
     → length values ≡ count_by (λ mark. mark) marks * depth
-    → HasInOrder (record { kind = kind; rows = rows; cols = cols; depth = depth; pixels = pixels_with depth marks values }) marks values
+    → HasInOrder
+    (record {
+      kind = kind;
+      rows = rows;
+      cols = cols;
+      depth = depth;
+      pixels =
+          pixels_with depth marks values;
+    }) marks values
 
 -- and one: type, shape, marks and the values in order determine a raster
 abbrev pub OrderDetermines : Type 0
-OrderDetermines = (r s : Pixels) → IsRaster r → IsRaster s → SameShape r s → marks_of r ≡ marks_of s → values_of r.pixels ≡ values_of s.pixels → r ≡ s
+OrderDetermines = (r s : Pixels) → IsRaster r → IsRaster s → SameShape r s → marks_of r ≡ marks_of s
+    → values_of r.pixels ≡ values_of s.pixels → r ≡ s
 
 -- ---- laws of blocks and masks
 
 -- a block's values are those of its numbered valid pixels
 abbrev pub BlockIsNumbered : Type 0
-BlockIsNumbered = (r : Pixels) (row col side d : ℕ) → block_values r row col side d ≡ map (value_in r d) (valid_numbers r row col side)
+BlockIsNumbered = (r : Pixels) (row col side d : ℕ)
+    → block_values r row col side d ≡ map (value_in r d) (valid_numbers r row col side)
 
 -- a raster marked by a mask has the marks that the mask's bits say
 abbrev pub MarkedByBits : Type 0
-MarkedByBits = (old new : Pixels) (mask : List ℕ) → IsRaster new → MarksBits old new mask → marks_of new ≡ marks_in (old.rows * old.cols) mask
+MarkedByBits = (old new : Pixels) (mask : List ℕ) → IsRaster new → MarksBits old new mask
+    → marks_of new ≡ marks_in (old.rows * old.cols) mask
 
 -- and a raster's mask says its marks
 abbrev pub MaskSaysMarks : Type 0
-MaskSaysMarks = (r : Pixels) (mask : List ℕ) → IsRaster r → IsMaskOf r mask → marks_in (r.rows * r.cols) mask ≡ marks_of r
+MaskSaysMarks = (r : Pixels) (mask : List ℕ) → IsRaster r → IsMaskOf r mask
+    → marks_in (r.rows * r.cols) mask ≡ marks_of r

@@ -1,4 +1,5 @@
--- A raster in order: its values poured one behind the other, one list for every valid pixel, and its mask as bytes.
+-- A raster in order: its values poured one behind the other, one list for every valid pixel, and
+-- its mask as bytes.
 use Rattle.std.specs.Prelude.{◌≡◌, ℕ, ℤ, pos, ◌+◌, ◌-◌, ◌*◌, ◌/◌, ◌%◌, ◌^◌, ◌<◌, ◌≤◌, Bool, false, List, length, get_or, map, None, is_some, nat_eq}
 use Rattle.std.specs.List.{range_with_len}
 use Rattle.raster_values.specs.Raster.{Pixels, IsRaster, InShape, IsValidAt, valid_at, value_at, values_of}
@@ -14,7 +15,8 @@ pub record PoursAll (old new : Pixels) (values : List ℤ) : Type 0 where
 -- each valid pixel has this list
 pub record FillsValid (old new : Pixels) (values : List ℤ) : Type 0 where
   pub same : SameMask old new
-  pub each : (i j d : ℕ) → InShape old i j → IsValidAt old i j → d < old.depth → value_at new i j d ≡ get_or values d (pos 0)
+  pub each : (i j d : ℕ) → InShape old i j → IsValidAt old i j → d < old.depth
+      → value_at new i j d ≡ get_or values d (pos 0)
 
 -- bit number k of a mask, the highest of each byte first
 abbrev pub mask_bit : List ℕ → ℕ → Bool
@@ -44,11 +46,14 @@ pub record PoursBytes (old new : Pixels) (bytes : List ℕ) : Type 0 where
 
 -- no two rasters come of one filling, or of one marking
 abbrev pub FillingIsOne : Type 0
-FillingIsOne = (old r s : Pixels) (values : List ℤ) → IsRaster r → IsRaster s → FillsValid old r values → FillsValid old s values → r ≡ s
+FillingIsOne = (old r s : Pixels) (values : List ℤ) → IsRaster r → IsRaster s
+    → FillsValid old r values → FillsValid old s values → r ≡ s
 
 abbrev pub MarkingIsOne : Type 0
-MarkingIsOne = (old r s : Pixels) (mask : List ℕ) → IsRaster r → IsRaster s → MarksBits old r mask → MarksBits old s mask → r ≡ s
+MarkingIsOne = (old r s : Pixels) (mask : List ℕ) → IsRaster r → IsRaster s → MarksBits old r mask
+    → MarksBits old s mask → r ≡ s
 
 -- no two rasters come of one pouring in order
 abbrev pub PouringAllIsOne : Type 0
-PouringAllIsOne = (old r s : Pixels) (values : List ℤ) → IsRaster r → IsRaster s → PoursAll old r values → PoursAll old s values → r ≡ s
+PouringAllIsOne = (old r s : Pixels) (values : List ℤ) → IsRaster r → IsRaster s
+    → PoursAll old r values → PoursAll old s values → r ≡ s

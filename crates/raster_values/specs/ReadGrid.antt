@@ -1,5 +1,5 @@
--- Grids as they are read: a head of 17 bytes, a byte for each pixel's mark, and the bytes of the valid pixels' values;
--- and the first fault of bytes that do not begin with a grid.
+-- Grids as they are read: a head of 17 bytes, a byte for each pixel's mark, and the bytes of the
+-- valid pixels' values; and the first fault of bytes that do not begin with a grid.
 use Rattle.std.specs.Prelude.{◌≡◌, ℕ, ◌*◌, ◌<◌, ◌≤◌, Bool, List, ◌++◌, codes, length, get_or, take, drop, map, Option, None, Some, Result, Ok, Err, if◌then◌else◌}
 use Rattle.std.specs.List.{count_by}
 use Rattle.byteorder.specs.Endian.{little_number}
@@ -49,7 +49,8 @@ pub record IsGrid (bytes : List ℕ) (r : Pixels) : Type 0 where
   pub marks : List ℕ
   pub values : List ℕ
   pub joined : bytes ≡ head ++ (marks ++ values)
-  pub head_of : IsHead head (record { kind = r.kind; rows = r.rows; cols = r.cols; depth = r.depth })
+  pub head_of : IsHead head
+      (record { kind = r.kind; rows = r.rows; cols = r.cols; depth = r.depth })
   pub marks_are : AreMarks (r.rows * r.cols) marks (marks_of r)
   pub values_are : AreValues r.kind values (values_of r.pixels)
 
@@ -61,22 +62,34 @@ cut bytes = wrong Truncated (length bytes)
 
 -- what is wrong in the first 17 bytes, field by field, of which there may be fewer
 abbrev pub shape_faults : List ℕ → Faults GridReason
-shape_faults head = unless (¬ IsTooLarge (number_at head 5) (number_at head 9) (number_at head 13)) (wrong TooLarge 13) none
+shape_faults head =
+    unless (¬ IsTooLarge (number_at head 5) (number_at head 9) (number_at head 13))
+    (wrong TooLarge 13) none
 
 abbrev pub depth_faults : List ℕ → Faults GridReason
-depth_faults head = unless (17 ≤ length head) (cut head) (unless (0 < number_at head 13) (wrong BadSize 13) (shape_faults head))
+depth_faults head =
+    unless (17 ≤ length head) (cut head)
+    (unless (0 < number_at head 13) (wrong BadSize 13) (shape_faults head))
 
 abbrev pub cols_faults : List ℕ → Faults GridReason
-cols_faults head = unless (13 ≤ length head) (cut head) (unless (0 < number_at head 9) (wrong BadSize 9) (depth_faults head))
+cols_faults head =
+    unless (13 ≤ length head) (cut head)
+    (unless (0 < number_at head 9) (wrong BadSize 9) (depth_faults head))
 
 abbrev pub rows_faults : List ℕ → Faults GridReason
-rows_faults head = unless (9 ≤ length head) (cut head) (unless (0 < number_at head 5) (wrong BadSize 5) (cols_faults head))
+rows_faults head =
+    unless (9 ≤ length head) (cut head)
+    (unless (0 < number_at head 5) (wrong BadSize 5) (cols_faults head))
 
 abbrev pub type_faults : List ℕ → Faults GridReason
-type_faults head = unless (5 ≤ length head) (cut head) (unless (get_or head 4 0 ≤ 5) (wrong BadType 4) (rows_faults head))
+type_faults head =
+    unless (5 ≤ length head) (cut head)
+    (unless (get_or head 4 0 ≤ 5) (wrong BadType 4) (rows_faults head))
 
 abbrev pub magic_faults : List ℕ → Faults GridReason
-magic_faults head = unless (4 ≤ length head) (cut head) (unless (take 4 head ≡ codes "LGR1") (wrong BadMagic 0) (type_faults head))
+magic_faults head =
+    unless (4 ≤ length head) (cut head)
+    (unless (take 4 head ≡ codes "LGR1") (wrong BadMagic 0) (type_faults head))
 
 abbrev pub head_faults : List ℕ → Faults GridReason
 head_faults bytes = magic_faults (take 17 bytes)
@@ -97,7 +110,8 @@ wrong_mark n bytes place reason = IsFirstWrong n bytes place × (reason ≡ BadM
 
 -- a wrong mark that is there comes before a cut
 abbrev pub mark_faults : ℕ → List ℕ → Faults GridReason
-mark_faults n rest = unless (AreLawful n rest) (wrong_mark n rest) (unless (n ≤ length rest) (cut rest) none)
+mark_faults n rest =
+    unless (AreLawful n rest) (wrong_mark n rest) (unless (n ≤ length rest) (cut rest) none)
 
 -- the values are one field
 abbrev pub value_faults : ℕ → List ℕ → Faults GridReason
@@ -106,16 +120,18 @@ value_faults size rest = unless (size ≤ length rest) (cut rest) none
 -- what is wrong first behind a head
 abbrev pub behind_head : Head → List ℕ → Faults GridReason
 behind_head h behind =
-    in_order (AreMarks (h.rows * h.cols)) (mark_faults (h.rows * h.cols)) (λ marks. value_faults (count_of marks * h.depth * bytes_of h.kind)) behind
+    in_order (AreMarks (h.rows * h.cols)) (mark_faults (h.rows * h.cols))
+    (λ marks. value_faults (count_of marks * h.depth * bytes_of h.kind)) behind
 
--- What is wrong first in bytes that do not begin with a grid, places counting from the first of them.
+-- What is wrong first in bytes that do not begin with a grid, places counting from the first of
+-- them.
 abbrev pub grid_faults : List ℕ → Faults GridReason
 grid_faults bytes = in_order IsHead head_faults behind_head bytes
 
 -- ---- what a read leaves
 
--- these bytes, the first of those left, were taken. The first two arguments are the bytes left before and after, None for
--- a source that does not tell them.
+-- these bytes, the first of those left, were taken. The first two arguments are the bytes left
+-- before and after, None for a source that does not tell them.
 abbrev pub TookBytes : Option (List ℕ) → Option (List ℕ) → List ℕ → Type 0
 TookBytes None new bytes = new ≡ None
 TookBytes (Some left) new bytes = (rest : List ℕ) × ((left ≡ bytes ++ rest) × (new ≡ Some rest))
@@ -148,7 +164,8 @@ CountsGridStop (Err OutOfMemory) old new = new ≡ old
 abbrev pub WrittenGridStands : Type 0
 WrittenGridStands = (r : Pixels) → IsRaster r → IsGrid (grid_of r) r
 
--- A grid is read in one way, whatever follows it; bytes that begin with one have no fault; and there is one first fault.
+-- A grid is read in one way, whatever follows it; bytes that begin with one have no fault; and
+-- there is one first fault.
 abbrev pub GridsAreParts : Type 0
 GridsAreParts = IsPart IsGrid grid_faults
 

@@ -7,8 +7,8 @@ ghost use Rattle.raster_values.specs.inside.Runs.{run_places, run_values, rows_p
 use super::cells::Cells;
 use super::mask::Mask;
 
-/// Puts the values of the marked pixels among `count` from `from` on behind the first `at` values of `out`,
-/// and answers where they end.
+/// Puts the values of the marked pixels among `count` from `from` on behind the first `at` values
+/// of `out`, and answers where they end.
 fn gather_run(
     marks: &Mask,
     values: &Cells,
@@ -24,7 +24,8 @@ fn gather_run(
     requires within { from + count ≤ length marks.now }
     requires depth { d < depth }
     requires room { at + count ≤ length out.old }
-    ensures { Gathers (run_values depth d marks.now values.now.values from count) out.old out.new at result }
+    ensures { Gathers
+        (run_values depth d marks.now values.now.values from count) out.old out.new at result }
 {
     let end = from + count;
     let mut n = at;
@@ -39,8 +40,8 @@ fn gather_run(
     n
 }
 
-/// Gives the marked pixels among `count` from `from` on the values of `input` from `at` on, and answers
-/// where these end.
+/// Gives the marked pixels among `count` from `from` on the values of `input` from `at` on, and
+/// answers where these end.
 fn pour_run(
     marks: &Mask,
     depth: usize,
@@ -58,9 +59,11 @@ fn pour_run(
     requires in_range { All (InRange values.old.kind) input.now }
     requires room { at + length (run_places marks.now from count) ≤ length input.now }
     ensures end { result ≡ at + length (run_places marks.now from count) }
-    ensures poured { take at input.now ++ run_values depth d marks.now values.new.values from count ≡ take result input.now }
+    ensures poured { take at input.now ++ run_values depth d marks.now values.new.values from count
+        ≡ take result input.now }
     ensures kind { values.new.kind ≡ values.old.kind }
-    ensures in_range { All (InRange values.old.kind) values.old.values → All (InRange values.old.kind) values.new.values }
+    ensures in_range { All (InRange values.old.kind) values.old.values
+        → All (InRange values.old.kind) values.new.values }
     ensures size { length values.new.values ≡ length values.old.values }
     ensures rest { LeavesRun depth d marks.now from count values.old.values values.new.values }
 {
@@ -120,7 +123,8 @@ pub(super) fn gather_rows(
     requires within { (row + high) * cols ≤ length marks.now }
     requires depth { d < depth }
     requires room { high * wide ≤ length out.old }
-    ensures gathered { Gathers (rows_values depth d marks.now values.now.values cols row col high wide) out.old out.new 0 result }
+    ensures gathered { Gathers
+        (rows_values depth d marks.now values.now.values cols row col high wide) out.old out.new 0 result }
     ensures within { result ≤ high * wide }
 {
     let mut n = 0;
@@ -151,9 +155,11 @@ pub(super) fn pour_rows(
     requires depth { d < depth }
     requires in_range { All (InRange values.old.kind) input.now }
     requires count { length input.now ≡ length (rows_places marks.now cols row col high wide) }
-    ensures poured { rows_values depth d marks.now values.new.values cols row col high wide ≡ input.now }
+    ensures poured { rows_values depth d marks.now values.new.values cols row col high wide
+        ≡ input.now }
     ensures kind { values.new.kind ≡ values.old.kind }
-    ensures in_range { All (InRange values.old.kind) values.old.values → All (InRange values.old.kind) values.new.values }
+    ensures in_range { All (InRange values.old.kind) values.old.values
+        → All (InRange values.old.kind) values.new.values }
     ensures size { length values.new.values ≡ length values.old.values }
     ensures rest { LeavesRows depth d marks.now cols row col high wide values.old.values values.new.values }
 {

@@ -218,7 +218,8 @@ impl Cells {
         write_values(kind, values, &mut self.bytes[from..]);
     }
 
-    /// Puts values of the type at a depth of as many pixels from `first` on, of which each has `depth` values.
+    /// Puts values of the type at a depth of as many pixels from `first` on, of which each has
+    /// `depth` values.
     pub fn put_pixels(&mut self, first: usize, depth: usize, d: usize, values: &[i64])
         requires few { length self.old.values ≤ 16777216 }
         requires depth { d < depth }
@@ -228,7 +229,8 @@ impl Cells {
         ensures in_range { All (InRange self.old.kind) self.old.values
             → All (InRange self.old.kind) self.new.values }
         ensures size { length self.new.values ≡ length self.old.values }
-        ensures put { PutsPixels depth d first (length values.now) values.now self.old.values self.new.values }
+        ensures put { PutsPixels depth d first
+            (length values.now) values.now self.old.values self.new.values }
     {
         if depth == 1 {
             return self.put_run(first, values);
@@ -255,7 +257,8 @@ impl Cells {
         ensures in_range { All (InRange self.old.kind) self.old.values
             → All (InRange self.old.kind) self.new.values }
         ensures size { length self.new.values ≡ length self.old.values }
-        ensures put { PutsPixels depth d first (length values.now) values.now self.old.values self.new.values }
+        ensures put { PutsPixels depth d first
+            (length values.now) values.now self.old.values self.new.values }
     {
         for (i, value) in values.iter().enumerate() {
             self.put_run_as(kind, (first + i) * depth + d, &[*value]);
@@ -309,8 +312,8 @@ impl Cells {
         lay_bytes(&mut self.bytes, from, bytes);
     }
 
-    /// Takes the bytes of a run of values from a source, and answers how many there were. The values are
-    /// then those that the bytes stand for, where they are all there.
+    /// Takes the bytes of a run of values from a source, and answers how many there were. The
+    /// values are then those that the bytes stand for, where they are all there.
     pub fn take_run<S: Source>(
         &mut self,
         src: &mut S,

@@ -1,9 +1,9 @@
-//! Rasters: pixel types, rasters and their grid files. This crate stands on outside_io, byteorder and
-//! thiserror.
+//! Rasters: pixel types, rasters and their grid files. This crate stands on outside_io, byteorder
+//! and thiserror.
 //!
-//! The contract that the layers above use: a raster is a pixel type, a shape, a set of valid places and
-//! their values. `mark` and `set` change one place and nothing else, `fill` changes all of them, and
-//! `grid_write` gives the one grid of the raster.
+//! The contract that the layers above use: a raster is a pixel type, a shape, a set of valid places
+//! and their values. `mark` and `set` change one place and nothing else, `fill` changes all of
+//! them, and `grid_write` gives the one grid of the raster.
 #![tactic(auto)]
 
 mod blocks;

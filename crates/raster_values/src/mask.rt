@@ -10,8 +10,8 @@ ghost use Rattle.raster_values.specs.inside.Pack.{mark_bytes};
 use std::alloc::{AllocError, Global};
 use std::marker::Model;
 
-/// Which pixels are valid: a bit for each, row by row and the highest of each byte first, and how many
-/// there are. The bits behind the last pixel are 0.
+/// Which pixels are valid: a bit for each, row by row and the highest of each byte first, and how
+/// many there are. The bits behind the last pixel are 0.
 ///
 /// A contract sees the list of the marks.
 #[derive(Drop)]
@@ -50,7 +50,8 @@ fn is_full(byte: u8, mark: bool) -> bool
 /// The byte with a bit set or cleared, its bits counted from the highest.
 fn with_bit(byte: u8, place: usize, mark: bool) -> u8
     requires { place < 8 }
-    ensures { (q : ℕ) → q < 8 → byte_bit result q ≡ (if nat_eq q place then mark else byte_bit byte q) }
+    ensures { (q : ℕ) → q < 8
+        → byte_bit result q ≡ (if nat_eq q place then mark else byte_bit byte q) }
 {
     let bit = 1u8 << (7 - place);
     if mark { byte | bit } else { byte & !bit }
@@ -80,7 +81,8 @@ fn clear_spare(bytes: &mut Vec<u8>, count: usize)
     requires few { count ≤ 16777216 }
     requires size { length bytes.old.items ≡ (count + 7) / 8 }
     ensures size { length bytes.new.items ≡ length bytes.old.items }
-    ensures bits { (k : ℕ) → mask_bit bytes.new.items k ≡ (nat_lt k count && mask_bit bytes.old.items k) }
+    ensures bits { (k : ℕ)
+        → mask_bit bytes.new.items k ≡ (nat_lt k count && mask_bit bytes.old.items k) }
 {
     if count % 8 > 0 {
         bytes[count / 8] = front_bits(bytes[count / 8], count % 8);
@@ -147,7 +149,9 @@ fn put_bits(bytes: &mut Vec<u8>, from: usize, marks: &[u8])
     requires few { from + length marks.now ≤ 16777216 }
     requires within { from + length marks.now ≤ 8 * length bytes.old.items }
     ensures size { length bytes.new.items ≡ length bytes.old.items }
-    ensures bits { (k : ℕ) → mask_bit bytes.new.items k ≡ bit_after bytes.old.items marks.now from (length marks.now) k }
+    ensures bits { (k : ℕ)
+        → mask_bit bytes.new.items k
+        ≡ bit_after bytes.old.items marks.now from (length marks.now) k }
 {
     for (i, mark) in marks.iter().enumerate() {
         put_bit(bytes, from + i, *mark == 1);
@@ -210,8 +214,8 @@ impl Mask {
         self.valid = count;
     }
 
-    /// Makes the pixels valid whose bits are 1, and the others invalid. The bits behind the last pixel are
-    /// not looked at.
+    /// Makes the pixels valid whose bits are 1, and the others invalid. The bits behind the last
+    /// pixel are not looked at.
     pub fn set_all(&mut self, mask: &[u8])
         requires { length mask.now ≡ (length self.old + 7) / 8 }
         ensures { self.new ≡ marks_in (length self.old) mask.now }
@@ -281,7 +285,8 @@ impl Mask {
     /// Copies the marks of the pixels from `from` on.
     pub fn copy_run(&self, from: usize, out: &mut [bool])
         requires { from + length out.old ≤ length self.now }
-        ensures { (i : ℕ) → i < length out.old → get_or out.new i false ≡ get_or self.now (from + i) false }
+        ensures { (i : ℕ) → i < length out.old
+            → get_or out.new i false ≡ get_or self.now (from + i) false }
     {
         let _ = self.len();
         for i in 0..out.len() {
@@ -289,7 +294,8 @@ impl Mask {
         }
     }
 
-    /// The first place behind a pixel with this mark, at most eight further, before which all have it.
+    /// The first place behind a pixel with this mark, at most eight further, before which all have
+    /// it.
     fn past(&self, at: usize, limit: usize, mark: bool) -> usize
         requires order { at < limit }
         requires within { limit ≤ length self.now }
@@ -320,8 +326,8 @@ impl Mask {
         end
     }
 
-    /// The next run of valid pixels from `at` on, before `limit`. It is empty, and at `limit`, where there
-    /// is none.
+    /// The next run of valid pixels from `at` on, before `limit`. It is empty, and at `limit`,
+    /// where there is none.
     pub fn next_run(&self, at: usize, limit: usize) -> Run
         requires order { at ≤ limit }
         requires within { limit ≤ length self.now }

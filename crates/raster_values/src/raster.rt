@@ -1,4 +1,4 @@
-ghost use Rattle.std.specs.Prelude.{◌≡◌, ◌+◌, ◌-◌, ◌*◌, ◌<◌, ◌≤◌, ◌↔◌, IfOk, OnOk, OnErr, IsErrOf, true, length, replicate, ◌++◌, drop, All, pos, false, get_or, ◌/◌, ◌^◌, ℕ, List, None, is_some, IfErr};
+ghost use Rattle.std.specs.Prelude.{◌≡◌, ◌+◌, ◌-◌, ◌*◌, ◌<◌, ◌≤◌, ◌↔◌, IfOk, OnOk, OnErr, IsErrOf, true, length, min, replicate, ◌++◌, drop, All, pos, false, get_or, ◌/◌, ◌^◌, ℕ, List, None, is_some, IfErr};
 ghost use Rattle.std.specs.List.{count_by};
 ghost use Rattle.outside_io.specs.streams.Faults.{CountsFaults};
 ghost use Rattle.outside_io.specs.streams.Sink.{Holds, HoldsPrefix};
@@ -85,11 +85,19 @@ fn offset(rows: u32, cols: u32, depth: u32, row: u32, col: u32, d: u32) -> usize
     (row as usize * cols as usize + col as usize) * depth as usize + d as usize
 }
 
+/// How many of `side` rows or columns from `from` on there are: a block is cut off at the edge.
+fn edge(side: u32, from: u32, size: u32) -> u32
+    requires { from < size }
+    ensures { result ≡ min side (size - from) }
+{
+    side.min(size - from)
+}
+
 impl Raster {
     /// A raster of which no pixel is valid.
     ///
-    /// Each value that a raster may hold takes the bytes of its type, and eight pixels one more. After a
-    /// fault no memory is kept.
+    /// Each value that a raster may hold takes the bytes of its type, and eight pixels one more.
+    /// After a fault no memory is kept.
     pub fn new(
         alloc: Global,
         kind: PixelType,
@@ -220,8 +228,8 @@ impl Raster {
         self.values.fill(value);
     }
 
-    /// Makes every pixel of a raster of which none is valid valid, with the value 0 at each depth. The values
-    /// are 0 already, and are not touched.
+    /// Makes every pixel of a raster of which none is valid valid, with the value 0 at each depth.
+    /// The values are 0 already, and are not touched.
     pub fn mark_all(&mut self)
         requires { valid_count self.old ≡ 0 }
         ensures { self.new ≡ filled self.old (pos 0) }
@@ -229,9 +237,9 @@ impl Raster {
         self.marks.fill();
     }
 
-    /// Makes the pixels of a raster of which none is valid valid where their bit of the mask is 1, with the
-    /// value 0 at each depth. The bits go row by row, the highest of each byte first; those behind the last
-    /// pixel are not looked at.
+    /// Makes the pixels of a raster of which none is valid valid where their bit of the mask is 1,
+    /// with the value 0 at each depth. The bits go row by row, the highest of each byte first;
+    /// those behind the last pixel are not looked at.
     pub fn mark_from_bits(&mut self, mask: &[u8])
         requires none { valid_count self.old ≡ 0 }
         requires size { length mask.now ≡ (self.old.rows * self.old.cols + 7) / 8 }
@@ -240,15 +248,15 @@ impl Raster {
         self.marks.set_all(mask);
     }
 
-    /// How many pixels of a block are valid: of the `side` rows and columns from (row, col) on, cut off at
-    /// the raster's lower and right edges.
+    /// How many pixels of a block are valid: of the `side` rows and columns from (row, col) on, cut
+    /// off at the raster's lower and right edges.
     pub fn block_valid_count(&self, row: u32, col: u32, side: u32) -> usize
         requires { InShape self.now row col }
         ensures value { result ≡ block_count self.now row col side }
         ensures within { result ≤ side * side }
     {
-        let high = side.min(self.rows - row);
-        let wide = side.min(self.cols - col);
+        let high = edge(side, row, self.rows);
+        let wide = edge(side, col, self.cols);
         blocks::count_rows(
             &self.marks,
             self.cols as usize,
@@ -259,8 +267,8 @@ impl Raster {
         )
     }
 
-    /// Puts the values at a depth of a block's valid pixels in front of `out`, row by row, and answers how
-    /// many these are. The rest of `out` stays.
+    /// Puts the values at a depth of a block's valid pixels in front of `out`, row by row, and
+    /// answers how many these are. The rest of `out` stays.
     pub fn gather_block(&self, row: u32, col: u32, side: u32, d: u32, out: &mut [i64]) -> usize
         requires place { InShape self.now row col }
         requires depth { d < self.now.depth }
@@ -270,8 +278,8 @@ impl Raster {
         ensures values { out.new ≡ block_values self.now row col side d
             ++ drop (block_count self.now row col side) out.old }
     {
-        let high = side.min(self.rows - row);
-        let wide = side.min(self.cols - col);
+        let high = edge(side, row, self.rows);
+        let wide = edge(side, col, self.cols);
         blocks::gather_rows(
             &self.marks,
             &self.values,
@@ -294,8 +302,8 @@ impl Raster {
         requires in_range { All (InRange self.old.kind) values.now }
         ensures { PoursBlock self.old self.new row col side d values.now }
     {
-        let high = side.min(self.rows - row);
-        let wide = side.min(self.cols - col);
+        let high = edge(side, row, self.rows);
+        let wide = edge(side, col, self.cols);
         let depth = self.depth;
         let cols = self.cols;
         blocks::pour_rows(
@@ -362,8 +370,8 @@ impl Raster {
         order::fill_marked(&self.marks, values, &mut self.values);
     }
 
-    /// Gives the valid pixels the values that the bytes stand for, pixel by pixel and depth innermost.
-    /// All else stays.
+    /// Gives the valid pixels the values that the bytes stand for, pixel by pixel and depth
+    /// innermost. All else stays.
     pub fn pour(&mut self, bytes: &[u8])
         requires { length bytes.now
             ≡ valid_count self.old * self.old.depth * bytes_of self.old.kind }
@@ -382,8 +390,8 @@ impl Raster {
         order::write_valid(&self.marks, self.depth as usize, &self.values, out);
     }
 
-    /// Writes the raster's mask: a bit for each pixel, row by row and the highest of each byte first, 1
-    /// for a valid one. The bits behind the last pixel are 0.
+    /// Writes the raster's mask: a bit for each pixel, row by row and the highest of each byte
+    /// first, 1 for a valid one. The bits behind the last pixel are 0.
     pub fn mask_bytes(&self, out: &mut [u8])
         requires { length out.old ≡ (self.now.rows * self.now.cols + 7) / 8 }
         ensures { IsMaskOf self.now out.new }

@@ -110,7 +110,8 @@ fn is_allowed(rows: u32, cols: u32, depth: u32) -> bool
 fn size_at(bytes: &[u8], at: usize) -> Result<u32, GridFault>
     requires length { length bytes.now ≤ 17 }
     requires at { at ≤ 13 }
-    ensures ok { IfOk result (λ n. (at + 4 ≤ length bytes.now) × ((n ≡ number_at bytes.now at) × (0 < n))) }
+    ensures ok { IfOk result
+        (λ n. (at + 4 ≤ length bytes.now) × ((n ≡ number_at bytes.now at) × (0 < n))) }
     ensures err { IfErr result (λ f. IsSizeFault bytes.now at f.place f.reason) }
 {
     if bytes.len() < at + 4 {
@@ -190,7 +191,8 @@ fn take_piece<S: Source>(src: &mut S, at: u64, buffer: &mut [u8]) -> Result<(), 
     requires few { length buffer.old ≤ 4096 }
     ensures ok { OnOk result (TookBytes (S.left src.old) (S.left src.new) buffer.new
         × AreLawful (length buffer.new) buffer.new) }
-    ensures err { IfErr result (λ stop. IsToldFault (mark_faults (length buffer.old)) (S.left src.old) at stop) }
+    ensures err { IfErr result
+        (λ stop. IsToldFault (mark_faults (length buffer.old)) (S.left src.old) at stop) }
     ensures some { OnErr result (TookSome (S.left src.old) (S.left src.new)) }
     ensures counted { CountsGridStop result (S.faults src.old) (S.faults src.new) }
 {
@@ -225,7 +227,8 @@ pub(super) fn take_marks<S: Source>(src: &mut S, at: u64, marks: &mut Mask) -> R
     ensures size { length marks.new ≡ length marks.old }
     ensures ok { OnOk result ((bytes : List ℕ) × (AreMarks (length marks.old) bytes marks.new
         × TookBytes (S.left src.old) (S.left src.new) bytes)) }
-    ensures err { IfErr result (λ stop. IsToldFault (mark_faults (length marks.old)) (S.left src.old) at stop) }
+    ensures err { IfErr result
+        (λ stop. IsToldFault (mark_faults (length marks.old)) (S.left src.old) at stop) }
     ensures some { OnErr result (TookSome (S.left src.old) (S.left src.new)) }
     ensures counted { CountsGridStop result (S.faults src.old) (S.faults src.new) }
 {
@@ -260,7 +263,8 @@ pub(super) fn take_values<S: Source>(
     ensures ok { OnOk result (TookBytes (S.left src.old) (S.left src.new)
         (values_bytes values.old.kind (values_of (pixels_of depth marks.now values.new.values)))) }
     ensures err { IfErr result (λ stop. IsToldFault (value_faults
-        (length (values_of (pixels_of depth marks.now values.old.values)) * bytes_of values.old.kind))
+        (length
+        (values_of (pixels_of depth marks.now values.old.values)) * bytes_of values.old.kind))
         (S.left src.old) at stop) }
     ensures some { OnErr result (TookSome (S.left src.old) (S.left src.new)) }
     ensures counted { CountsGridStop result (S.faults src.old) (S.faults src.new) }
@@ -281,8 +285,8 @@ pub(super) fn take_values<S: Source>(
     Ok(())
 }
 
-/// The raster of a head, of which no pixel is valid. A head has a shape of its own, so only memory may be
-/// wanting.
+/// The raster of a head, of which no pixel is valid. A head has a shape of its own, so only memory
+/// may be wanting.
 fn blank_raster(alloc: Global, head: Head) -> Result<Raster, GridStop>
     ensures ok { IfOk result (λ r. r ≡ blank head.kind head.rows head.cols head.depth) }
     ensures err { IfErr result (λ stop. stop ≡ GridStop.OutOfMemory) }
@@ -295,8 +299,8 @@ fn blank_raster(alloc: Global, head: Head) -> Result<Raster, GridStop>
 
 /// Reads a grid from the source, and takes the grid's bytes alone.
 ///
-/// A fault is the first one of the bytes that are left, its place counted from `at`, the place of the first
-/// of them. After any refusal some bytes are taken.
+/// A fault is the first one of the bytes that are left, its place counted from `at`, the place of
+/// the first of them. After any refusal some bytes are taken.
 pub fn grid_read<S: Source>(alloc: Global, src: &mut S, at: u64) -> Result<Raster, GridStop>
     requires { at < 2 ^ 60 }
     ensures ok { IfOk result (λ r. TookGrid (S.left src.old) (S.left src.new) r) }

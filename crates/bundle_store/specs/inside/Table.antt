@@ -1,5 +1,5 @@
 -- The table of the number of each slot's last tile, and the map that it shows.
-use Rattle.std.specs.Prelude.{◌≡◌, ℕ, ◌+◌, ◌<◌, ◌==◌, if◌then◌else◌, List, length, get_or, Option, Some, None}
+use Rattle.std.specs.Prelude.{◌≡◌, ℕ, ◌+◌, ◌<◌, ◌≤◌, ◌==◌, if◌then◌else◌, List, length, get_or, Option, Some, None}
 use Rattle.bundle_index.specs.declared.entry.Entry.{Entry}
 use Rattle.bundle_store.specs.declared.tile_rec.TileRec.{TileRec}
 use Rattle.bundle_store.specs.Build.{bytes_at}
@@ -21,6 +21,10 @@ table_map tiles table slot = tile_of_number tiles (get_or table slot None)
 abbrev pub IsTable : List TileRec → List (Option ℕ) → Type 0
 IsTable tiles table = (slot number : ℕ) → get_or table slot None ≡ Some number →
     number < length tiles
+
+-- so many bytes are enough for the record of each tile
+abbrev pub HasRoom : List TileRec → ℕ → Type 0
+HasRoom tiles size = (i : ℕ) → i < length tiles → length (bytes_at tiles i) + 4 ≤ size
 
 -- the entry of a tile whose record stands behind so many bytes of records, by the tile's size; 0
 -- for none

@@ -1,6 +1,7 @@
--- Pieces of a row of pixels: what is kept from pixel to pixel. `mark` says which pixels of a piece are valid, `now` what
--- values they have, `up` and `above` the same of the pixels above.
-use Rattle.std.specs.Prelude.{ℕ, zero, suc, ◌≡◌, ◌-◌, ◌+◌, ◌<◌, ◌≤◌, Bool, true, false, ℤ, pos, negsuc, ◌≤ℤ◌, ◌+ℤ◌, unsigned_abs, if◌then◌else◌, List, get_or}
+-- Pieces of a row of pixels: what is kept from pixel to pixel. `mark` says which pixels of a piece
+-- are valid, `now` what values they have, `up` and `above` the same of the pixels above.
+use Rattle.std.specs.Prelude.{ℕ, zero, suc, ◌≡◌, ◌-◌, ◌+◌, ◌<◌, ◌≤◌, Bool, true, false, ℤ, pos}
+use Rattle.std.specs.Prelude.{negsuc, ◌≤ℤ◌, ◌+ℤ◌, unsigned_abs, if◌then◌else◌, List, get_or}
 use Rattle.std.specs.Int.{int_rem_euclid}
 use Rattle.raster_values.specs.declared.kind.PixelType.{PixelType}
 use Rattle.delta_mode.specs.Deltas.{delta, last_value}
@@ -26,7 +27,8 @@ predicted_by left up above last = if left then last else (if up then above else 
 
 -- the predictor of pixel number i of a piece
 abbrev pub guess : Bool → ℤ → (ℕ → Bool) → (ℕ → Bool) → (ℕ → ℤ) → (ℕ → ℤ) → ℕ → ℤ
-guess left before mark up above now i = predicted_by (left_of left mark i) (up i) (above i) (last_from before mark now i)
+guess left before mark up above now i =
+    predicted_by (left_of left mark i) (up i) (above i) (last_from before mark now i)
 
 -- the symbol of a number, by what is added to it
 abbrev pub biased : ℤ → ℤ → ℕ
@@ -42,13 +44,16 @@ mark_at marks i = get_or marks i false
 abbrev pub value_of_place : List ℤ → ℕ → ℤ
 value_of_place values i = get_or values i (pos 0)
 
--- what is known in front of pixel number k of a depth: whether the pixel before it is valid, the value of the last valid
--- one, and how many are valid
-pub record IsAt (valid : ℕ → Bool) (value : ℕ → ℤ) (k : ℕ) (left : Bool) (last : ℤ) (count : ℕ) : Type 0 where
+-- what is known in front of pixel number k of a depth: whether the pixel before it is valid, the
+-- value of the last valid one, and how many are valid
+pub record IsAt (valid : ℕ → Bool) (value : ℕ → ℤ) (k : ℕ) (left : Bool) (last : ℤ) (count : ℕ) :
+    Type 0 where
   pub left_is : 0 < k → left ≡ valid (k - 1)
   pub last_is : last ≡ last_value valid value k
   pub count_is : count ≡ rank valid k
 
 -- the pixels from number `from` on and below `to` have the symbols that a list says
-pub record AreCoded (kind : PixelType) (cols : ℕ) (valid : ℕ → Bool) (value : ℕ → ℤ) (from to : ℕ) (symbols : List ℕ) : Type 0 where
-  pub each : (k : ℕ) → from ≤ k → k < to → valid k ≡ true → delta kind cols valid value k ≡ get_or symbols (rank valid k) 0
+pub record AreCoded (kind : PixelType) (cols : ℕ) (valid : ℕ → Bool) (value : ℕ → ℤ) (from to : ℕ)
+    (symbols : List ℕ) : Type 0 where
+  pub each : (k : ℕ) → from ≤ k → k < to → valid k ≡ true
+      → delta kind cols valid value k ≡ get_or symbols (rank valid k) 0

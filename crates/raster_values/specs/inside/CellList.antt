@@ -11,4 +11,6 @@ pub record CellList : Type 0 where
 -- the first n values that the bytes stand for
 unfoldable pub values_in : PixelType → ℕ → List ℕ → List ℤ
 values_in kind zero bytes = []
-values_in kind (suc n) bytes = value_of kind (little_number (bytes_of kind) bytes) ∷ values_in kind n (drop (bytes_of kind) bytes)
+values_in kind (suc n) bytes =
+    value_of kind (little_number (bytes_of kind) bytes)
+    ∷ values_in kind n (drop (bytes_of kind) bytes)

@@ -7,4 +7,6 @@ use Rattle.raster_values.specs.ReadGrid.{cut, number_at}
 
 -- the number at the place is not there, or is 0
 abbrev pub IsSizeFault : List ℕ → ℕ → Faults GridReason
-IsSizeFault bytes at = unless (at + 4 ≤ length bytes) (cut bytes) (unless (0 < number_at bytes at) (wrong BadSize at) none)
+IsSizeFault bytes at =
+    unless (at + 4 ≤ length bytes) (cut bytes)
+    (unless (0 < number_at bytes at) (wrong BadSize at) none)

@@ -16,14 +16,17 @@ run_places marks from count = filter (λ k. get_or marks k false) (range_with_le
 
 -- their values at a depth
 abbrev pub run_values : ℕ → ℕ → List Bool → List ℤ → ℕ → ℕ → List ℤ
-run_values depth d marks values from count = map (λ k. get_or values (k * depth + d) (pos 0)) (run_places marks from count)
+run_values depth d marks values from count = map
+    (λ k. get_or values (k * depth + d) (pos 0)) (run_places marks from count)
 
 -- the same of `high` runs of `wide` pixels, one in each row, from (row, col) on
 abbrev pub rows_places : List Bool → ℕ → ℕ → ℕ → ℕ → ℕ → List ℕ
-rows_places marks cols row col high wide = flat_map (λ i. run_places marks (i * cols + col) wide) (range_with_len row high)
+rows_places marks cols row col high wide = flat_map
+    (λ i. run_places marks (i * cols + col) wide) (range_with_len row high)
 
 abbrev pub rows_values : ℕ → ℕ → List Bool → List ℤ → ℕ → ℕ → ℕ → ℕ → ℕ → List ℤ
-rows_values depth d marks values cols row col high wide = flat_map (λ i. run_values depth d marks values (i * cols + col) wide) (range_with_len row high)
+rows_values depth d marks values cols row col high wide = flat_map
+    (λ i. run_values depth d marks values (i * cols + col) wide) (range_with_len row high)
 
 -- the values were put behind the first `at` of `old`, up to `end`, and nothing else was changed
 pub record Gathers (values old new : List ℤ) (at end : ℕ) : Type 0 where
@@ -33,15 +36,23 @@ pub record Gathers (values old new : List ℤ) (at end : ℕ) : Type 0 where
 
 -- values of a type stay values of it
 abbrev pub StayInRange : List ℤ → List ℤ → List ℤ → Type 0
-StayInRange input old new = (kind : PixelType) → All (InRange kind) input → All (InRange kind) old → All (InRange kind) new
+StayInRange input old new = (kind : PixelType) → All (InRange kind) input → All (InRange kind) old
+    → All (InRange kind) new
 
--- the values at a depth of the marked pixels among `count` from `from` on were replaced, and no other value
-pub record LeavesRun (depth d : ℕ) (marks : List Bool) (from count : ℕ) (old new : List ℤ) : Type 0 where
-  pub rest : (k e : ℕ) → e < depth → (from ≤ k → k < from + count → get_or marks k false ≡ true → e ≡ d → ⊥) → get_or new (k * depth + e) (pos 0) ≡ get_or old (k * depth + e) (pos 0)
+-- the values at a depth of the marked pixels among `count` from `from` on were replaced, and no
+-- other value
+pub record LeavesRun (depth d : ℕ) (marks : List Bool) (from count : ℕ)
+    (old new : List ℤ) : Type 0 where
+  pub rest : (k e : ℕ) → e < depth
+      → (from ≤ k → k < from + count → get_or marks k false ≡ true → e ≡ d → ⊥)
+      → get_or new (k * depth + e) (pos 0) ≡ get_or old (k * depth + e) (pos 0)
 
 -- the same of runs of rows
-pub record LeavesRows (depth d : ℕ) (marks : List Bool) (cols row col high wide : ℕ) (old new : List ℤ) : Type 0 where
-  pub rest : (k e : ℕ) → e < depth → ((i : ℕ) → row ≤ i → i < row + high → i * cols + col ≤ k → k < i * cols + col + wide → get_or marks k false ≡ true → e ≡ d → ⊥)
+pub record LeavesRows (depth d : ℕ) (marks : List Bool) (cols row col high wide : ℕ)
+    (old new : List ℤ) : Type 0 where
+  pub rest : (k e : ℕ) → e < depth
+      → ((i : ℕ) → row ≤ i → i < row + high → i * cols + col ≤ k → k < i * cols + col + wide
+      → get_or marks k false ≡ true → e ≡ d → ⊥)
       → get_or new (k * depth + e) (pos 0) ≡ get_or old (k * depth + e) (pos 0)
 
 -- no pixel from `at` on is marked, then every one from `start` on, up to `end`

@@ -7,7 +7,8 @@ use Rattle.raster_values.specs.inside.CellList.{CellList, values_in}
 
 -- as many bytes as the run has were taken, or fewer and then none is left
 abbrev pub TakesRun : Result ℕ Failed → Option (List ℕ) → Option (List ℕ) → List ℕ → Type 0
-TakesRun (Ok n) old new run = (n ≤ length run) × (TakesFront old new n run × (n < length run → IsAtEnd new))
+TakesRun (Ok n) old new run = (n ≤ length run)
+    × (TakesFront old new n run × (n < length run → IsAtEnd new))
 TakesRun (Err e) old new run = TakesUpTo (length run) old new
 
 -- some bytes were laid over those from `from` to `end`, of which P holds
@@ -23,5 +24,9 @@ pub record PutsRun (old new : CellList) (at count : ℕ) (P : List ℕ → Type 
   pub run : List ℕ
   pub size : length run ≡ count * bytes_of old.kind
   pub small : (i : ℕ) → get_or run i 0 < 256
-  pub put : new ≡ record old { values = take at old.values ++ (values_in old.kind count run ++ drop (at + count) old.values) }
+  pub put : new
+      ≡ record old {
+        values =
+            take at old.values ++ (values_in old.kind count run ++ drop (at + count) old.values);
+      }
   pub of_run : P run

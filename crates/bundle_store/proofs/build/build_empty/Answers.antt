@@ -1,20 +1,16 @@
-use Rattle.std.proofs.Common.{◌≡◌, ◌≢◌, ◌<◌, ◌≤◌, ◌⊎◌, inl, inr, refl, ℕ, suc, ◌+◌, List, [], ◌∷◌, ◌++◌, drop, get_or, length, take, sym, ap, ◌∙◌, subst, arith, rules}
-use Rattle.std.proofs.lemmas.Result.{on_ok_weaker}
-use Rattle.outside_io.specs.volume.Disk.{Disk, File, settled}
-use Rattle.outside_io.specs.volume.History.{During, contents, current}
+use Rattle.std.proofs.Common.{◌≡◌, inl, inr, refl, ap, ◌∙◌}
+use Rattle.outside_io.specs.volume.Disk.{File}
+use Rattle.outside_io.specs.volume.History.{current}
 use Rattle.outside_io.proofs.VolumeLemmas.Moments.{during_end, during_join, during_map}
 use Rattle.side_journal.specs.declared.body.Body.TheVariants.{Build}
-use Rattle.side_journal.specs.Says.{IsOpen, SaysBuild}
-use Rattle.side_journal.specs.Bodies.{build_bytes}
-use Rattle.side_journal.proofs.Spells.{length-body_bytes, says_behind, says_body}
 use Rattle.bundle_store.specs.inside.Parts.{IsBegun, KeepsJournal}
 use Rattle.bundle_store.specs.inside.Table.{table_map}
 use Rattle.bundle_store.specs.Images.{EachImage, EmptyOr}
 use Rattle.bundle_store.specs.Layout.{layout}
-use Rattle.bundle_store.specs.Tiles.{TileMap, no_tiles, tiles}
+use Rattle.bundle_store.specs.Tiles.{no_tiles}
 use Rattle.bundle_store.proofs.Layouts.{layout_bundle, layout_tiles}
-use Rattle.bundle_store.proofs.Recovering.{in_wiping, tiles_empty}
-use Rattle.bundle_store.proofs.Standing.{in_closed, in_gate, weaker}
+use Rattle.bundle_store.proofs.Recovering.{in_wiping}
+use Rattle.bundle_store.proofs.Standing.{in_gate, weaker}
 use Rattle.bundle_store.proofs.build.build_empty.Goals as goal
 
 pub returns-in_err-begin-clause-images : goal.returns-in_err-begin-clause-images

@@ -1,11 +1,10 @@
-use Rattle.std.proofs.Common.{◌≡◌, inl, refl, false, List, [], length, sym, ap, subst, ◌∙◌}
+use Rattle.std.proofs.Common.{◌≡◌, inl, [], length, ap, ◌∙◌}
 use Rattle.outside_io.specs.volume.Disk.{Disk}
 use Rattle.outside_io.specs.volume.History.{current}
 use Rattle.outside_io.proofs.VolumeLemmas.Moments.{during_join, during_map, started, stays_on}
 use Rattle.bundle_store.specs.inside.Table.{table_map}
-use Rattle.bundle_store.specs.Build.{last_tiles}
 use Rattle.bundle_store.specs.Images.{EachImage, EmptyOr}
-use Rattle.bundle_store.specs.Tiles.{TileMap, tiles}
+use Rattle.bundle_store.specs.Tiles.{tiles}
 use Rattle.bundle_store.proofs.Recovering.{tiles_empty}
 use Rattle.bundle_store.proofs.Standing.{still_good}
 use Rattle.bundle_store.specs.Layout.{layout}

@@ -1,8 +1,8 @@
-use Rattle.std.proofs.Common.{◌≡◌, ◌≢◌, ◌<◌, inl, inr, refl, ℕ, ◌+◌, ◌-◌, List, [], ◌∷◌, ◌++◌, get_or, length, replicate, set, take, Option, Some, None, sym, ◌∙◌, ap, subst, arith, rules}
+use Rattle.std.proofs.Common.{◌≡◌, ◌<◌, ℕ, ◌-◌, List, [], ◌++◌, get_or, length, replicate, take, Option, Some, sym, ◌∙◌, ap, subst, arith}
 use Rattle.std.proofs.lemmas.List.{get_or_default, length-replicate, length-set, take_more}
 use Rattle.bundle_store.specs.inside.Table.{IsTable, table_map}
-use Rattle.bundle_store.specs.Build.{map_after, bytes_at, last_tiles}
-use Rattle.bundle_store.specs.Tiles.{TileMap, no_tiles, with_tile}
+use Rattle.bundle_store.specs.Build.{last_tiles}
+use Rattle.bundle_store.specs.Tiles.{no_tiles, with_tile}
 use Rattle.bundle_store.specs.declared.tile_rec.TileRec.{TileRec}
 use Rattle.bundle_store.proofs.Numbering.{after_more, no_number, nothing, shown_none, shown_set, table_none, table_set}
 use Rattle.bundle_store.proofs.build.number_tiles.Goals as goal

@@ -1,10 +1,8 @@
-use Rattle.std.proofs.Common.{◌≡◌, ◌<◌, ◌≤◌, refl, ℕ, ◌+◌, ◌*◌, List, length, replicate, sym, ap, ◌∙◌, subst, arith, rules}
+use Rattle.std.proofs.Common.{◌≡◌, refl, ℕ, ◌+◌, ◌*◌, length, sym, ap, ◌∙◌, subst, arith}
 use Rattle.outside_io.specs.volume.Disk.{Disk}
-use Rattle.outside_io.specs.volume.History.{contents, current}
-use Rattle.outside_io.specs.declared.volume.VolFile.TheVariants.{Bundle}
+use Rattle.outside_io.specs.volume.History.{current}
 use Rattle.outside_io.proofs.VolumeLemmas.Moments.{during_end, during_join, during_map, started, stays_on}
 use Rattle.std.proofs.lemmas.List.{length-replicate}
-use Rattle.bundle_index.specs.Entry.{place_of}
 use Rattle.bundle_store.specs.Check.{Reports}
 use Rattle.bundle_store.specs.inside.Checking.{IsSmall, SameEntries}
 use Rattle.bundle_store.proofs.Counting.{part_entries, reports_none}

@@ -1,9 +1,8 @@
-use Rattle.std.proofs.Common.{◌≡◌, ◌<◌, ◌≤◌, refl, ℕ, ◌+◌, ◌*◌, List, ◌++◌, length, take, sym, ap, ◌∙◌, subst, arith, rules}
+use Rattle.std.proofs.Common.{length, sym, ap, arith}
 use Rattle.bundle_index.specs.Header.{bytes_left_behind}
 use Rattle.bundle_store.specs.inside.Table.{table_map}
-use Rattle.bundle_store.specs.Layout.{entries, greatest_size, records, size_of}
 use Rattle.bundle_store.proofs.Layouts.{length-records}
-use Rattle.bundle_store.proofs.Building.{entries_none, entries_step, greatest_below, greatest_more, greatest_none, left_below, length-record_of, part_step, records_next, records_none, records_step, size_below}
+use Rattle.bundle_store.proofs.Building.{greatest_below, greatest_more, greatest_none, left_below, records_next, records_none, size_below}
 use Rattle.bundle_store.proofs.laying.measure.Goals as goal
 
 pub loop-slot-init : goal.loop-slot-init

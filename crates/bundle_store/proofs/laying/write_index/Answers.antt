@@ -1,14 +1,12 @@
-use Rattle.std.proofs.Common.{◌≡◌, ◌<◌, ◌≤◌, refl, ℕ, ◌+◌, ◌*◌, List, ◌++◌, length, take, sym, ap, ◌∙◌, subst, arith, rules}
-use Rattle.bundle_store.specs.inside.Parts.{Extends, KeepsJournal}
+use Rattle.std.proofs.Common.{◌≡◌, refl, ℕ, ◌+◌, ◌*◌, List, ◌++◌, length, sym, ap, ◌∙◌, arith}
+use Rattle.bundle_store.specs.inside.Parts.{KeepsJournal}
 use Rattle.bundle_store.specs.inside.Table.{table_map}
-use Rattle.bundle_store.specs.Layout.{entries, greatest_size, records, size_of}
-use Rattle.bundle_store.proofs.Layouts.{length-records}
-use Rattle.bundle_store.proofs.Building.{entries_none, entries_step, greatest_below, greatest_more, greatest_none, left_below, length-record_of, part_step, records_next, records_none, records_step, size_below}
-use Rattle.std.proofs.lemmas.List.{append-nil, append_assoc, take_all}
-use Rattle.outside_io.specs.volume.Disk.{Disk, File, laid, settled}
-use Rattle.outside_io.specs.volume.History.{During, contents, current}
-use Rattle.outside_io.specs.declared.volume.VolFile.TheVariants.{Bundle}
-use Rattle.outside_io.proofs.VolumeLemmas.Moments.{during_join, during_map, goes_on, started}
+use Rattle.bundle_store.specs.Layout.{entries, records}
+use Rattle.bundle_store.proofs.Building.{entries_none, records_none}
+use Rattle.std.proofs.lemmas.List.{append-nil, append_assoc}
+use Rattle.outside_io.specs.volume.Disk.{Disk}
+use Rattle.outside_io.specs.volume.History.{current}
+use Rattle.outside_io.proofs.VolumeLemmas.Moments.{goes_on, started}
 use Rattle.std.proofs.Common.{length-append}
 use Rattle.bundle_store.proofs.Layouts.{length-entries}
 use Rattle.bundle_store.proofs.Building.{laid_end}

@@ -1,4 +1,4 @@
-use Rattle.std.proofs.Common.{◌≡◌, ◌+◌, ◌*◌, length, IsTrue}
+use Rattle.std.proofs.Common.{◌≡◌, ◌*◌, length, IsTrue}
 use Rattle.outside_io.specs.volume.History.{During, current}
 use Rattle.bundle_store.specs.inside.Parts.{Extends, KeepsJournal}
 use Rattle.bundle_store.specs.inside.Table.{table_map}

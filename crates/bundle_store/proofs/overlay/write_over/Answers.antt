@@ -1,8 +1,4 @@
-use Rattle.std.proofs.Common.{◌≡◌, ◌<◌, length, sym, ap, ◌∙◌, subst, List, rules}
-use Rattle.outside_io.specs.volume.Disk.{Struck, wrote}
-use Rattle.outside_io.specs.volume.History.{current}
-use Rattle.outside_io.specs.declared.volume.VolFile.TheVariants.{Bundle}
-use Rattle.bundle_index.specs.Entry.{place_of}
+use Rattle.std.proofs.Common.{◌≡◌, length, ◌∙◌, rules}
 use Rattle.bundle_store.proofs.Unders.{header_during, header_over, entry_during, sync_during}
 use Rattle.bundle_store.proofs.overlay.write_over.Goals as goal
 

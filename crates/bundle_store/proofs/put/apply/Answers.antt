@@ -1,14 +1,12 @@
-use Rattle.std.proofs.Common.{◌≡◌, ◌<◌, ◌≤◌, ◌⊎◌, inl, inr, refl, ℕ, suc, List, ◌∷◌, ◌++◌, drop, length, sym, ap, ◌∙◌, arith, rules}
-use Rattle.outside_io.specs.volume.Disk.{Disk, File, settled}
-use Rattle.outside_io.specs.volume.History.{During, contents, current}
+use Rattle.std.proofs.Common.{◌≡◌, ◌⊎◌, inl, inr, refl, ℕ, List, ap, ◌∙◌}
+use Rattle.outside_io.specs.volume.Disk.{Disk}
+use Rattle.outside_io.specs.volume.History.{current}
 use Rattle.outside_io.proofs.VolumeLemmas.Moments.{during_join, during_map}
 use Rattle.bundle_store.specs.Appended.{with_entry}
 use Rattle.bundle_store.specs.inside.Parts.{IsUnderWay}
 use Rattle.bundle_store.specs.Images.{EachImage}
-use Rattle.bundle_store.specs.Layout.{record_bytes}
 use Rattle.bundle_store.specs.Tiles.{IsBundle, TileMap, tiles}
 use Rattle.side_journal.specs.declared.body.Body.TheVariants.{Tile}
-use Rattle.side_journal.proofs.Spells.{says_behind}
 use Rattle.bundle_store.proofs.Standing.{in_gate, way_gated, weaker}
 use Rattle.bundle_store.proofs.put.apply.Goals as goal
 

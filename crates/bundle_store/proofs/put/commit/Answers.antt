@@ -1,22 +1,19 @@
-use Rattle.std.proofs.Common.{◌≡◌, ◌<◌, ◌≤◌, ◌⊎◌, inl, inr, refl, ℕ, suc, ◌+◌, List, ◌∷◌, ◌++◌, drop, length, take, sym, ap, ◌∙◌, subst, arith, rules}
-use Rattle.outside_io.specs.volume.Disk.{Disk, File, settled}
-use Rattle.outside_io.specs.volume.History.{During, contents, current}
-use Rattle.outside_io.proofs.VolumeLemmas.Moments.{during_end, during_join, during_map}
-use Rattle.bundle_index.specs.Entry.{entry_at}
-use Rattle.bundle_index.specs.declared.entry.Entry.{Entry}
-use Rattle.side_journal.specs.declared.body.Body.{Body}
+use Rattle.std.proofs.Common.{◌≡◌, ◌⊎◌, inl, inr, ℕ, suc, ◌+◌, List, ◌∷◌, ◌++◌, length, sym, ap, ◌∙◌, subst, arith, rules}
+use Rattle.outside_io.specs.volume.Disk.{Disk}
+use Rattle.outside_io.specs.volume.History.{current}
+use Rattle.outside_io.proofs.VolumeLemmas.Moments.{during_join, during_map}
 use Rattle.side_journal.specs.declared.body.Body.TheVariants.{Tile}
 use Rattle.side_journal.specs.Bodies.{IsTile, tile_bytes}
 use Rattle.side_journal.proofs.Spells.{length-body_bytes, says_body}
-use Rattle.bundle_store.specs.Appended.{with_entry, put_entry, put_header, bundle_with_tile}
+use Rattle.bundle_store.specs.Appended.{with_entry}
 use Rattle.bundle_store.specs.inside.Parts.{IsUnderWay}
-use Rattle.bundle_store.specs.Images.{EachImage, WithOrWithout}
+use Rattle.bundle_store.specs.Images.{EachImage}
 use Rattle.bundle_store.specs.Layout.{record_bytes}
-use Rattle.bundle_store.specs.Tiles.{IsBundle, IsReadable, TileMap, tiles, with_tile}
+use Rattle.bundle_store.specs.Tiles.{IsBundle, IsReadable, TileMap, tiles}
 use Rattle.bundle_store.proofs.Region.{front_bundle, front_tiles}
 use Rattle.std.proofs.Common.{length-append}
 use Rattle.bundle_store.proofs.Putting.{length-record_bytes}
-use Rattle.bundle_store.proofs.Standing.{still_good, way_at, weaker}
+use Rattle.bundle_store.proofs.Standing.{way_at, weaker}
 use Rattle.bundle_store.proofs.put.commit.Goals as goal
 
 pub returns-in_err-stage-clause-images : goal.returns-in_err-stage-clause-images

@@ -1,20 +1,13 @@
-use Rattle.std.proofs.Common.{◌≡◌, ◌<◌, ◌≤◌, ◌⊎◌, inl, inr, refl, ℕ, suc, ◌+◌, List, ◌∷◌, ◌++◌, drop, length, take, sym, ap, ◌∙◌, subst, arith, rules}
-use Rattle.outside_io.specs.volume.Disk.{Disk, File, settled}
-use Rattle.outside_io.specs.volume.History.{During, contents, current}
+use Rattle.std.proofs.Common.{◌≡◌, ◌≤◌, ◌⊎◌, inl, inr, refl, ◌+◌, ◌++◌, length, sym, ap, ◌∙◌, subst, arith}
+use Rattle.outside_io.specs.volume.Disk.{Disk, settled}
+use Rattle.outside_io.specs.volume.History.{current}
 use Rattle.outside_io.proofs.VolumeLemmas.Moments.{during_end, during_join, during_map}
-use Rattle.bundle_index.specs.Entry.{entry_at}
 use Rattle.bundle_index.specs.declared.entry.Entry.{Entry}
-use Rattle.side_journal.specs.declared.body.Body.{Body}
-use Rattle.side_journal.specs.declared.body.Body.TheVariants.{Tile}
-use Rattle.side_journal.specs.Bodies.{IsTile, tile_bytes}
-use Rattle.side_journal.proofs.Spells.{length-body_bytes, says_body}
-use Rattle.bundle_store.specs.Appended.{with_entry, put_entry, put_header, bundle_with_tile}
-use Rattle.bundle_store.specs.inside.Parts.{IsUnderWay}
+use Rattle.bundle_store.specs.Appended.{with_entry, put_entry, put_header}
 use Rattle.bundle_store.specs.Images.{EachImage, WithOrWithout}
 use Rattle.bundle_store.specs.Layout.{record_bytes}
-use Rattle.bundle_store.specs.Tiles.{IsBundle, TileMap, tiles, with_tile}
-use Rattle.bundle_store.proofs.Region.{front_bundle, front_tiles}
-use Rattle.bundle_store.proofs.Standing.{still_good, way_at, weaker}
+use Rattle.bundle_store.specs.Tiles.{IsBundle, tiles}
+use Rattle.bundle_store.proofs.Standing.{still_good, weaker}
 use Rattle.std.proofs.Common.{◌^◌, get_or}
 use Rattle.bundle_index.specs.Header.{header_after}
 use Rattle.std.proofs.lemmas.Result.{on_ok_weaker}

@@ -2,25 +2,15 @@ use Rattle.std.proofs.Common.{◌≡◌, inl, refl, ℕ, List, Result, length, s
 use Rattle.outside_io.specs.volume.Disk.{Disk, IsQuiet}
 use Rattle.outside_io.specs.volume.History.{During, History, Ticks, current}
 use Rattle.side_journal.specs.Says.{IsOpen}
-use Rattle.outside_io.proofs.VolumeLemmas.Moments.{during_end, during_join, during_map}
-use Rattle.bundle_index.specs.Entry.{entry_at}
-use Rattle.bundle_index.specs.declared.entry.Entry.{Entry}
-use Rattle.side_journal.specs.declared.body.Body.{Body}
-use Rattle.side_journal.specs.declared.body.Body.TheVariants.{Tile}
-use Rattle.side_journal.specs.Bodies.{IsTile, tile_bytes}
-use Rattle.side_journal.proofs.Spells.{length-body_bytes, says_body}
-use Rattle.bundle_store.specs.Appended.{with_entry, put_entry, put_header, bundle_with_tile}
-use Rattle.bundle_store.specs.inside.Parts.{IsUnderWay}
+use Rattle.outside_io.proofs.VolumeLemmas.Moments.{during_join, during_map}
+use Rattle.bundle_store.specs.Appended.{bundle_with_tile}
 use Rattle.bundle_store.specs.Images.{EachImage, WithOrWithout}
-use Rattle.bundle_store.specs.Layout.{record_bytes}
-use Rattle.bundle_store.specs.Tiles.{IsBundle, TileMap, tiles, with_tile}
-use Rattle.bundle_store.proofs.Region.{front_bundle, front_tiles}
-use Rattle.bundle_store.proofs.Standing.{still_good, way_at, weaker}
+use Rattle.bundle_store.specs.Tiles.{TileMap, tiles}
+use Rattle.bundle_store.proofs.Standing.{still_good}
 use Rattle.std.proofs.lemmas.List.{nil_from_length}
 use Rattle.outside_io.proofs.VolumeLemmas.Moments.{started, stays_on}
 use Rattle.bundle_store.specs.Tiles.{IsReadable, no_tiles}
 use Rattle.bundle_store.proofs.Recovering.{tiles_empty}
-use Rattle.outside_io.proofs.VolumeLemmas.Moments.{during_end}
 use Rattle.bundle_store.specs.inside.Parts.{IsAtRest}
 use Rattle.bundle_store.specs.Tiles.{Opens}
 use Rattle.bundle_store.specs.Appended.{bundle_with_tile}

@@ -1,11 +1,10 @@
-use Rattle.std.proofs.Common.{◌≡◌, ◌<◌, ◌≤◌, ◌⊎◌, inl, inr, refl, ℕ, suc, List, ◌∷◌, ◌++◌, drop, length, sym, ap, ◌∙◌, arith, rules}
-use Rattle.outside_io.specs.volume.Disk.{Disk, File, settled}
-use Rattle.outside_io.specs.volume.History.{During, contents, current}
+use Rattle.std.proofs.Common.{◌≡◌, inr, refl, ◌++◌, ap, ◌∙◌}
+use Rattle.outside_io.specs.volume.Disk.{Disk}
+use Rattle.outside_io.specs.volume.History.{current}
 use Rattle.outside_io.proofs.VolumeLemmas.Moments.{during_join, during_map}
-use Rattle.bundle_store.specs.Appended.{with_entry}
 use Rattle.bundle_store.specs.Images.{EachImage}
 use Rattle.bundle_store.specs.Layout.{record_bytes}
-use Rattle.bundle_store.specs.Tiles.{IsBundle, TileMap, tiles}
+use Rattle.bundle_store.specs.Tiles.{IsBundle, tiles}
 use Rattle.bundle_store.proofs.Region.{front_bundle, front_tiles}
 use Rattle.bundle_store.proofs.Standing.{in_append, in_closed}
 use Rattle.bundle_store.proofs.put.stage.Goals as goal

@@ -1,7 +1,7 @@
-use Rattle.std.proofs.Common.{◌≡◌, refl, sym, ap, ◌∙◌, rules}
+use Rattle.std.proofs.Common.{◌≡◌, refl, ap, ◌∙◌}
 use Rattle.outside_io.specs.declared.volume.VolFile.TheVariants.{Bundle}
 use Rattle.outside_io.specs.volume.History.{contents}
-use Rattle.bundle_index.specs.Entry.{entry_at, entry_of, place_of}
+use Rattle.bundle_index.specs.Entry.{entry_of}
 use Rattle.bundle_index.specs.Numbers.{u64_at}
 use Rattle.bundle_index.proofs.Numbers.{same_u64}
 use Rattle.bundle_store.proofs.Padded.{padded, zeros_8}

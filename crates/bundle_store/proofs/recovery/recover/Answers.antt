@@ -1,15 +1,12 @@
-use Rattle.std.proofs.Common.{◌≡◌, ◌<◌, ◌≤◌, ◌⊎◌, inl, inr, refl, ℕ, suc, ◌+◌, List, [], ◌∷◌, ◌++◌, drop, length, take, sym, ap, ◌∙◌, subst, arith, rules}
-use Rattle.outside_io.specs.volume.Disk.{Disk, File, settled}
-use Rattle.outside_io.specs.volume.History.{During, contents, current}
+use Rattle.std.proofs.Common.{ℕ, List, ap, ◌∙◌, subst}
+use Rattle.outside_io.specs.volume.Disk.{Disk}
+use Rattle.outside_io.specs.volume.History.{current}
 use Rattle.outside_io.proofs.VolumeLemmas.Images.{present_of}
 use Rattle.outside_io.specs.declared.volume.VolFile.TheVariants.{Bundle, Journal}
-use Rattle.outside_io.proofs.VolumeLemmas.Moments.{during_end, during_join, during_map, started, stays_on}
-use Rattle.bundle_store.specs.Appended.{with_entry}
-use Rattle.bundle_store.specs.inside.Parts.{EachKeeps, IsUnderWay}
-use Rattle.bundle_store.specs.Images.{EachImage}
-use Rattle.bundle_store.specs.Recover.{EachStandsForOneOf, IsRecovered}
-use Rattle.bundle_store.specs.Tiles.{TileMap, no_tiles, tiles}
-use Rattle.bundle_store.proofs.Recovering.{in_emptied, in_wiping, keeps_empty, keeps_start, keeps_tile, one_of, recovered_empty, recovered_tile}
+use Rattle.outside_io.proofs.VolumeLemmas.Moments.{during_join, during_map}
+use Rattle.bundle_store.specs.inside.Parts.{EachKeeps}
+use Rattle.bundle_store.specs.Recover.{EachStandsForOneOf}
+use Rattle.bundle_store.proofs.Recovering.{one_of}
 use Rattle.bundle_store.proofs.recovery.recover.Goals as goal
 
 pub returns-clause-images : goal.returns-clause-images

@@ -1,12 +1,11 @@
-use Rattle.std.proofs.Common.{◌≡◌, ◌<◌, ◌≤◌, ◌⊎◌, inl, inr, refl, ℕ, suc, List, ◌∷◌, ◌++◌, drop, length, sym, ap, ◌∙◌, arith, rules}
-use Rattle.outside_io.specs.volume.Disk.{Disk, File, settled}
-use Rattle.outside_io.specs.volume.History.{During, contents, current}
+use Rattle.std.proofs.Common.{◌≡◌, refl, ap, ◌∙◌}
+use Rattle.outside_io.specs.volume.Disk.{Disk}
+use Rattle.outside_io.specs.volume.History.{current}
 use Rattle.outside_io.proofs.VolumeLemmas.Moments.{during_join, during_map}
 use Rattle.bundle_store.specs.Appended.{with_entry}
 use Rattle.bundle_store.specs.inside.Parts.{IsUnderWay}
 use Rattle.bundle_store.specs.Images.{EachImage}
-use Rattle.bundle_store.specs.Layout.{record_bytes}
-use Rattle.bundle_store.specs.Tiles.{TileMap, tiles}
+use Rattle.bundle_store.specs.Tiles.{tiles}
 use Rattle.bundle_store.proofs.Standing.{in_closing, in_over, said_header}
 use Rattle.bundle_store.proofs.redo.redo.Goals as goal
 

@@ -1,8 +1,9 @@
 use Rattle.std.proofs.Common.{ap, sym, ◌∙◌, rules}
 use Rattle.lerc_cli.specs.Stop.{status_at}
-use Rattle.lerc_cli.specs.declared.command.Command.TheVariants.{Decode}
+use Rattle.lerc_cli.specs.declared.command.Command.TheVariants.{Decode, Info}
 use Rattle.lerc_cli.proofs.Ends.{ok_at, output_status, some_status, source_status, unsaid, usage_said, usage_status, volume_status}
 use Rattle.lerc_cli.proofs.Exact.{complete, cut_short, decoded, exact, nothing_given, refused, wanted}
+use Rattle.lerc_cli.proofs.Informed.{informed, informed_exactly, not_informed}
 use Rattle.lerc_cli.proofs.run.run.Goals as goal
 
 pub returns-clause-usage : goal.returns-clause-usage
@@ -71,3 +72,15 @@ returns-clause-wanted g c = λ spelled six. wanted _ _ _ _ _ _ _ _ _ _ c.ended_s
 
 pub returns-clause-nothing_given : goal.returns-clause-nothing_given
 returns-clause-nothing_given g c = λ spelled zero four. nothing_given _ _ _ _ _ _ _ _ _ _ c.ended_status-status.ensures.status zero four (c.act-ended.ensures.output Decode spelled)
+
+pub returns-clause-informed_exactly : goal.returns-clause-informed_exactly
+returns-clause-informed_exactly g c = λ spelled input told which. informed_exactly _ input _ _ _ _ _ _ _ _ _ told c.ended_status-status.ensures.status which (c.act-ended.ensures.output Info spelled)
+
+pub returns-clause-informed : goal.returns-clause-informed
+returns-clause-informed g c = λ spelled zero. (
+  informed _ _ _ _ _ _ _ _ _ _ c.ended_status-status.ensures.status zero (c.act-ended.ensures.output Info spelled),
+  (c.act-ended.ensures.source Info spelled).whole (search rules) (ok_at _ (sym c.ended_status-status.ensures.status ∙ zero)),
+)
+
+pub returns-clause-not_informed : goal.returns-clause-not_informed
+returns-clause-not_informed g c = λ spelled zero four. not_informed _ _ _ _ _ _ _ _ _ _ c.ended_status-status.ensures.status zero four (c.act-ended.ensures.output Info spelled)

@@ -12,8 +12,8 @@ pub returns-in-Ok-clause-fault : goal.returns-in-Ok-clause-fault
 returns-in-Ok-clause-fault c =
     let h = c.args.header.now in
     subst (λ r. IfErr r (IsStopOf (moved c.args.place (blocks_faults h (marks_of c.args.raster.now) (top_in c.args.tops.now) c.args.rest.now)))) (sym c.stopped-in-Ok.ensures)
-    (bytes_behind_blocks h (marks_of c.args.raster.now) c.args.tops.now c.args.rest.now c.args.place c.in-Ok.at c.read_rows.new.raster (omega (arith, c.if-header-gt32.false)) c.if-at-rest.true c.in-Ok.ensures.ok)
+    (bytes_behind_blocks h (marks_of c.args.raster.now) c.args.tops.now c.args.rest.now c.args.place c.in-Ok.at c.read_rows.new.raster (omega arith) c.if-at-rest.true c.in-Ok.ensures.ok)
 
 pub returns-in-Ok-2-clause-ok : goal.returns-in-Ok-2-clause-ok
 returns-in-Ok-2-clause-ok c =
-    all_stand c.args.header.now (marks_of c.args.raster.now) c.args.tops.now c.args.rest.now c.in-Ok.at c.read_rows.new.raster (omega (arith, c.if-header-gt32.false)) c.if-at-rest.false c.in-Ok.ensures.ok
+    all_stand c.args.header.now (marks_of c.args.raster.now) c.args.tops.now c.args.rest.now c.in-Ok.at c.read_rows.new.raster (omega arith) c.if-at-rest.false c.in-Ok.ensures.ok

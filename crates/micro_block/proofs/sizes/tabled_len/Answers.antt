@@ -36,6 +36,11 @@ table_within-requires-clause-listable c =
     listable_below c.args.kind c.args.step c.args.values.now (to_z w64 (of_z w64 c.args.least)) c.requires.count c.requires.in_range c.requires.step.0 c.requires.step.1
     (to_z-of_z w64 c.args.least c.ranges.least ∙ c.requires.least) (omega (arith, c.requires.most, c.if-most.false))
 
+pub front_has_more-requires-clause-listable : goal.front_has_more-requires-clause-listable
+front_has_more-requires-clause-listable c =
+    listable_below c.args.kind c.args.step c.args.values.now (to_z w64 (of_z w64 c.args.least)) c.requires.count c.requires.in_range c.requires.step.0 c.requires.step.1
+    (to_z-of_z w64 c.args.least c.ranges.least ∙ c.requires.least) (omega (arith, c.requires.most, c.if-most.false))
+
 pub most_entries-bound-requires-clause-width : goal.most_entries-bound-requires-clause-width
 most_entries-bound-requires-clause-width c =
     let some : 0 < c.args.most = omega arith in
@@ -53,3 +58,8 @@ pub returns-clause-value : goal.returns-clause-value
 returns-clause-value c =
     found_either c.args.values.now c.args.step c.most_entries-bound.result c.digit_count.result c.args.most (to_z w64 (of_z w64 c.args.least)) c.table_within.result
     (to_z-of_z w64 c.args.least c.ranges.least ∙ c.requires.least) c.requires.most (omega arith) (omega arith) c.digit_count.ensures.value c.most_entries-bound.ensures.long c.table_within.ensures.value
+
+pub returns-then-front_has_more-clause-value : goal.returns-then-front_has_more-clause-value
+returns-then-front_has_more-clause-value c =
+    let more = subst (λ (z : ℤ). c.most_entries-bound.result < distinct_above_0 (map (quantised c.args.step z) c.args.values.now)) (to_z-of_z w64 c.args.least c.ranges.least ∙ c.requires.least) (c.front_has_more.ensures c.if-front_has_more.true) in
+    longer c.args.values.now c.args.step c.most_entries-bound.result c.digit_count.result c.args.most c.requires.most (omega arith) c.digit_count.ensures.value more c.most_entries-bound.ensures.long

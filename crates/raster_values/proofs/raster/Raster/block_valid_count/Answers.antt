@@ -10,6 +10,6 @@ returns-clause-value c =
     let a = c.self.inside in
     let found : c.count_rows.result ≡ length (rows_places a.marks a.cols c.args.row c.args.col (min c.args.side (a.rows - c.args.row)) (min c.args.side (a.cols - c.args.col))) =
     c.count_rows.ensures.value
-    ∙ ap (λ n. length (rows_places a.marks a.cols c.args.row c.args.col n c.min-wide.result)) c.min-high.ensures
-    ∙ ap (λ n. length (rows_places a.marks a.cols c.args.row c.args.col (min c.args.side (a.rows - c.args.row)) n)) c.min-wide.ensures in
+    ∙ ap (λ n. length (rows_places a.marks a.cols c.args.row c.args.col n c.edge-wide.result)) c.edge-high.ensures
+    ∙ ap (λ n. length (rows_places a.marks a.cols c.args.row c.args.col (min c.args.side (a.rows - c.args.row)) n)) c.edge-wide.ensures in
     subst (λ (r : Pixels). c.count_rows.result ≡ block_count r c.args.row c.args.col c.args.side) c.self.view_is (count_is a c.args.row c.args.col c.args.side c.count_rows.result c.self.invariant found)

@@ -11,8 +11,8 @@ both c =
     let a = c.self.inside in
     let g : Gathers (rows_values a.depth c.args.d a.marks a.values.values a.cols c.args.row c.args.col (min c.args.side (a.rows - c.args.row)) (min c.args.side (a.cols - c.args.col))) c.args.out.now c.gather_rows.new.out 0 c.gather_rows.result =
     subst (λ vs. Gathers vs c.args.out.now c.gather_rows.new.out 0 c.gather_rows.result)
-    (ap (λ n. rows_values a.depth c.args.d a.marks a.values.values a.cols c.args.row c.args.col n c.min-wide.result) c.min-high.ensures
-    ∙ ap (λ n. rows_values a.depth c.args.d a.marks a.values.values a.cols c.args.row c.args.col (min c.args.side (a.rows - c.args.row)) n) c.min-wide.ensures)
+    (ap (λ n. rows_values a.depth c.args.d a.marks a.values.values a.cols c.args.row c.args.col n c.edge-wide.result) c.edge-high.ensures
+    ∙ ap (λ n. rows_values a.depth c.args.d a.marks a.values.values a.cols c.args.row c.args.col (min c.args.side (a.rows - c.args.row)) n) c.edge-wide.ensures)
     c.gather_rows.ensures.gathered in
     subst (λ (r : Pixels). c.args.d < r.depth → (c.gather_rows.result ≡ block_count r c.args.row c.args.col c.args.side)
     × (c.gather_rows.new.out ≡ block_values r c.args.row c.args.col c.args.side c.args.d ++ drop (block_count r c.args.row c.args.col c.args.side) c.args.out.now)) c.self.view_is

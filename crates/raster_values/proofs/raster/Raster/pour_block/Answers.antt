@@ -15,8 +15,8 @@ pour_rows-requires-clause-count c =
     c.requires.count
     ∙ ap (λ (r : Pixels). block_count r c.args.row c.args.col c.args.side) (sym c.self.view_is)
     ∙ count_of_rows a.values.kind a.rows a.cols a.depth a.marks a.values.values c.args.row c.args.col c.args.side c.self.invariant.zeros c.self.invariant.marks c.self.invariant.shape.depth_above
-    ∙ sym (ap (λ n. length (rows_places a.marks a.cols c.args.row c.args.col n c.min-wide.result)) c.min-high.ensures
-    ∙ ap (λ n. length (rows_places a.marks a.cols c.args.row c.args.col (min c.args.side (a.rows - c.args.row)) n)) c.min-wide.ensures)
+    ∙ sym (ap (λ n. length (rows_places a.marks a.cols c.args.row c.args.col n c.edge-wide.result)) c.edge-high.ensures
+    ∙ ap (λ n. length (rows_places a.marks a.cols c.args.row c.args.col (min c.args.side (a.rows - c.args.row)) n)) c.edge-wide.ensures)
 
 pub returns : goal.returns
 returns c =
@@ -26,12 +26,12 @@ returns c =
     let high = min c.args.side (a.rows - c.args.row) in
     let wide = min c.args.side (a.cols - c.args.col) in
     let poured : rows_values a.depth c.args.d a.marks vs a.cols c.args.row c.args.col high wide ≡ c.args.values.now =
-    sym (ap (λ n. rows_values a.depth c.args.d a.marks vs a.cols c.args.row c.args.col n c.min-wide.result) c.min-high.ensures
-    ∙ ap (λ n. rows_values a.depth c.args.d a.marks vs a.cols c.args.row c.args.col high n) c.min-wide.ensures)
+    sym (ap (λ n. rows_values a.depth c.args.d a.marks vs a.cols c.args.row c.args.col n c.edge-wide.result) c.edge-high.ensures
+    ∙ ap (λ n. rows_values a.depth c.args.d a.marks vs a.cols c.args.row c.args.col high n) c.edge-wide.ensures)
     ∙ c.pour_rows.ensures.poured in
     let leaves : LeavesRows a.depth c.args.d a.marks a.cols c.args.row c.args.col high wide a.values.values vs =
-    subst (λ n. LeavesRows a.depth c.args.d a.marks a.cols c.args.row c.args.col high n a.values.values vs) c.min-wide.ensures
-    (subst (λ n. LeavesRows a.depth c.args.d a.marks a.cols c.args.row c.args.col n c.min-wide.result a.values.values vs) c.min-high.ensures
+    subst (λ n. LeavesRows a.depth c.args.d a.marks a.cols c.args.row c.args.col high n a.values.values vs) c.edge-wide.ensures
+    (subst (λ n. LeavesRows a.depth c.args.d a.marks a.cols c.args.row c.args.col n c.edge-wide.result a.values.values vs) c.edge-high.ensures
     c.pour_rows.ensures.rest) in
     subst (λ (l : CellList). PoursBlock c.args.self.now (record { kind = l.kind; rows = a.rows; cols = a.cols; depth = a.depth; pixels = pixels_of a.depth a.marks l.values }) c.args.row c.args.col c.args.side c.args.d c.args.values.now) (sym cells)
     (subst (λ (r : Pixels). c.args.d < r.depth → All (InRange r.kind) c.args.values.now
