@@ -1,0 +1,250 @@
+-- The forms of an image's values, and the choice among them.
+use Rattle.std.proofs.Common.{◌≡◌, ℕ, ◌+◌, ◌-◌, ◌*◌, ◌/◌, ◌<◌, ◌≤◌, zero, suc, Bool, true, false, List, [], ◌∷◌, ◌++◌, length, get_or, map, refl, sym, ap, ◌∙◌, subst, arith, length-append, Option, Some, None, ◌⊎◌, inl, inr}
+use Rattle.std.specs.Prelude.{ℤ, nat_eq, ◌&&◌, ◌||◌, if◌then◌else◌, unwrap_or, MatchOption, ◌≢◌, set}
+use Rattle.std.specs.Option.{option_map}
+use Rattle.std.proofs.lemmas.Bool.{eqb-true, cases_eq}
+use Rattle.std.proofs.lemmas.Bool.Decides.{nat_tests, Decides-int_eq}
+use Rattle.std.specs.Ordering.{int_eq}
+use Rattle.std.specs.Cmp.Lexicographic.{pointwise}
+use Rattle.std.proofs.lemmas.List.Concat.{flat_map-append}
+use Rattle.std.proofs.Math.ListN.{length-set}
+use borrow.Rule.Slice.PartMut.{put_mid}
+use mir.Syntax.{w64}
+use mir.Val.{to_z, of_z}
+use Rattle.bit_stuff.proofs.Buffers.{end_written}
+use Rattle.raster_values.specs.declared.kind.PixelType.{PixelType}
+use Rattle.raster_values.specs.PixelType.{InRange, bytes_of, value_bytes}
+use Rattle.raster_values.specs.Raster.{Pixels, IsRaster, values_of, valid_count}
+use Rattle.raster_values.specs.Grid.{values_bytes}
+use Rattle.raster_values.proofs.Pack.{length-values_bytes}
+use Rattle.lerc_header.specs.declared.header.Header.{Header}
+use Rattle.lerc_header.specs.declared.header.Version.{Version}
+use Rattle.lerc_header.specs.declared.header.Version.TheVariants.{V4}
+use Rattle.lerc_header.specs.Head.{IsTwiceError}
+use Rattle.micro_block.specs.Choice.{least_value}
+use Rattle.micro_block.specs.Frame.{IsBlockStep}
+use Rattle.micro_block.specs.Fewest.{first_least, IsFirstLeast}
+use Rattle.raster_values.proofs.Views.{same_bits}
+use Rattle.lerc_encode.proofs.Best.{by_sizes}
+use Rattle.lerc_encode.specs.Heads.{header_of}
+use Rattle.lerc_encode.specs.Ranges.{greatest_value, leasts, greatests, front_bytes, is_bare, is_level}
+use Rattle.lerc_encode.specs.Images as images
+use Rattle.lerc_encode.specs.Images.{Form, blocks_bytes, mode_bytes, form_bytes, forms, chosen_form, ending, is_v4}
+use Rattle.lerc_encode.specs.inside.Blocked.{IsBlocked}
+use Rattle.lerc_encode.specs.inside.Choosing.{IsBase, IsChosen, named, form_at}
+use Rattle.lerc_encode.specs.declared.forms.ValueForm.{ValueForm}
+use Rattle.lerc_encode.proofs.Extremes.{all_least_fits, all_greatest_fits, length_values, length_leasts, length_greatests}
+
+-- ---- the header so far
+
+block_step : (step : ℕ) → IsTwiceError step → IsBlockStep step
+block_step step is = by (cases_eq step 1)
+  where
+    by : (step ≡ 1) ⊎ (step ≢ 1) → IsBlockStep step
+    by (inl e) = inl e
+    by (inr ne) = let even = is.even ne in let above = is.above in inr (even, (omega (arith, even, above, ne), is.below))
+
+pub base_blocked : (h : Header) (r : Pixels) → IsBase h r → IsBlocked h r
+unfolding header_of
+base_blocked h r b =
+    let is = b.is in
+    record {
+      sound = b.sound;
+      kind = ap (λ (x : Header). x.kind) is;
+      rows = ap (λ (x : Header). x.rows) is;
+      cols = ap (λ (x : Header). x.cols) is;
+      depth = ap (λ (x : Header). x.depth) is;
+      side_above = let e : h.side ≡ 8 = ap (λ (x : Header). x.side) is in omega (arith, e);
+      side_below = let e : h.side ≡ 8 = ap (λ (x : Header). x.side) is in omega (arith, e);
+      step = block_step h.step b.step;
+    }
+
+pub large_blocked : (h g : Header) (r : Pixels) → IsBase h r → g ≡ record h { side = 16 } → IsBlocked g r
+large_blocked h g r b e =
+    let is = base_blocked h r b in
+    subst (λ (x : Header). IsBlocked x r) (sym e) (record { sound = is.sound; kind = is.kind; rows = is.rows; cols = is.cols; depth = is.depth; side_above = omega arith; side_below = omega arith; step = is.step })
+
+-- ---- forms
+
+pub sweep_is : (r : Pixels) (version : Version) (step : ℕ) → 1 ∷ values_bytes r.kind (values_of r.pixels) ≡ form_bytes r version step images.sweep
+unfolding form_bytes
+sweep_is r version step = refl
+
+pub small_is : (h : Header) (r : Pixels) → IsBase h r → 0 ∷ (mode_bytes r h.step ++ blocks_bytes h r) ≡ form_bytes r h.version h.step images.blocks_8
+unfolding form_bytes
+small_is h r b = ap (λ (x : Header). 0 ∷ (mode_bytes r h.step ++ blocks_bytes x r)) b.is
+
+large_header : (h : Header) (r : Pixels) → IsBase h r → record h { side = 16 } ≡ header_of r h.version h.step 16 0 0
+unfolding header_of
+large_header h r b = ap (λ (x : Header). record x { side = 16 }) b.is
+
+pub large_is : (h g : Header) (r : Pixels) → IsBase h r → g ≡ record h { side = 16 } → 0 ∷ (mode_bytes r g.step ++ blocks_bytes g r) ≡ form_bytes r h.version h.step images.blocks_16
+unfolding form_bytes
+large_is h g r b e = ap (λ (x : Header). 0 ∷ (mode_bytes r x.step ++ blocks_bytes x r)) e ∙ ap (λ (x : Header). 0 ∷ (mode_bytes r h.step ++ blocks_bytes x r)) (large_header h r b)
+
+-- ---- lengths
+
+pub length_sweep : (r : Pixels) → IsRaster r → (valid depth bytes : ℕ) → valid ≡ valid_count r → depth ≡ r.depth → bytes ≡ bytes_of r.kind → 1 + valid * depth * bytes ≡ length (1 ∷ values_bytes r.kind (values_of r.pixels))
+length_sweep r is valid depth bytes v d b =
+    let long = length-values_bytes r.kind (values_of r.pixels) in
+    let same : valid * depth * bytes ≡ length (values_of r.pixels) * bytes_of r.kind = (λ t. v t * d t * b t) ∙ ap (λ n. n * bytes_of r.kind) (sym (length_values r is)) in
+    omega (arith, long, same)
+
+front_half : (r : Pixels) (vs : List ℤ) → length vs ≡ r.depth → length (values_bytes r.kind vs) ≡ r.depth * bytes_of r.kind
+front_half r vs e = length-values_bytes r.kind vs ∙ ap (λ n. n * bytes_of r.kind) e
+
+pub front_split : (kind : PixelType) (vs ws : List ℤ) → values_bytes kind (vs ++ ws) ≡ values_bytes kind vs ++ values_bytes kind ws
+front_split kind vs ws = flat_map-append (value_bytes kind) vs ws
+
+pub length_front : (r : Pixels) → length (front_bytes r V4) ≡ 2 * (r.depth * bytes_of r.kind)
+length_front r =
+    let a = front_half r (leasts r) (length_leasts r) in
+    let b = front_half r (greatests r) (length_greatests r) in
+    let both : length (front_bytes r V4) ≡ length (values_bytes r.kind (leasts r)) + length (values_bytes r.kind (greatests r)) = ap length (front_split r.kind (leasts r) (greatests r)) ∙ length-append (values_bytes r.kind (leasts r)) (values_bytes r.kind (greatests r)) in
+    omega (arith, a, b, both)
+
+pub front_long : (r : Pixels) (depth bytes : ℕ) → depth ≡ r.depth → bytes ≡ bytes_of r.kind → 2 * depth * bytes ≡ length (front_bytes r V4)
+front_long r depth bytes d b = (λ t. 2 * d t * b t) ∙ (let e : 2 * r.depth * bytes_of r.kind ≡ 2 * (r.depth * bytes_of r.kind) = omega arith in e) ∙ sym (length_front r)
+
+-- both lists, one behind the other
+pub lists_written : (r : Pixels) (half : ℕ) (first second rest : List ℕ) → length first ≡ half → first ≡ values_bytes r.kind (leasts r) → second ≡ values_bytes r.kind (greatests r)
+    → put_mid half (length (first ++ rest) - half) (first ++ rest) second ≡ front_bytes r V4
+lists_written r half first second rest long a b =
+    end_written first rest second half (length (first ++ rest) - half) long (let l = length-append first rest in omega (arith, l, long))
+    ∙ (λ t. a t ++ b t) ∙ sym (front_split r.kind (leasts r) (greatests r))
+
+-- ---- what is written behind a byte or two
+
+abbrev pub mode_if : Bool → List ℕ
+mode_if b = if b then 0 ∷ [] else []
+
+pub behind_two : (out new all : List ℕ) (b : Bool) → b ≡ true → length out ≡ length (0 ∷ (mode_if b ++ all)) → new ≡ all
+    → put_mid 2 (length (set (set out 0 0) 1 0) - 2) (set (set out 0 0) 1 0) new ≡ 0 ∷ (mode_if b ++ all)
+behind_two [] new all b on room e = absurd (omega (arith, room))
+behind_two (x ∷ []) new all b on room e = absurd (let two = ap (λ (c : Bool). length (0 ∷ (mode_if c ++ all))) on in omega (arith, room, two))
+behind_two (x ∷ y ∷ zs) new all b on room e =
+    end_written (0 ∷ 0 ∷ []) zs new 2 (length (0 ∷ 0 ∷ zs) - 2) refl (omega arith) ∙ ap (λ (u : List ℕ). 0 ∷ 0 ∷ u) e ∙ ap (λ (c : Bool). 0 ∷ (mode_if c ++ all)) (sym on)
+
+pub behind_one : (first : ℕ) (out new all : List ℕ) → 0 < length out → new ≡ all → put_mid 1 (length (set out 0 first) - 1) (set out 0 first) new ≡ first ∷ all
+behind_one first [] new all some e = absurd (omega (arith, some))
+behind_one first (x ∷ xs) new all some e = end_written (first ∷ []) xs new 1 (length (first ∷ xs) - 1) refl (omega arith) ∙ ap (λ (u : List ℕ). first ∷ u) e
+
+-- ---- numbers and lists that are the same
+
+one_number : (a b : ℤ) → int_eq a b ≡ true → a ≡ b
+one_number a b e = (Decides-int_eq a b).0 e
+
+true_both : (p q : Bool) → (p ≡ true → q ≡ true) → (q ≡ true → p ≡ true) → p ≡ q
+true_both true q f g = sym (f refl)
+true_both false true f g = g refl
+true_both false false f g = refl
+
+eq_true : (a b : ℕ) → a ≡ b → nat_eq a b ≡ true
+eq_true a b e = grind (arith, nat_tests, e)
+
+pub same_test : (kind : PixelType) (a b : ℤ) → InRange kind a → InRange kind b → nat_eq (of_z w64 a) (of_z w64 b) ≡ int_eq a b
+same_test kind a b fa fb =
+    true_both (nat_eq (of_z w64 a) (of_z w64 b)) (int_eq a b)
+    (λ t. (Decides-int_eq a b).1 (sym (same_bits kind a fa) ∙ ap (to_z w64) (eqb-true (of_z w64 a) (of_z w64 b) t) ∙ same_bits kind b fb))
+    (λ t. eq_true (of_z w64 a) (of_z w64 b) (ap (of_z w64) (one_number a b t)))
+
+and_true : (p q : Bool) → (p && q) ≡ true → (p ≡ true) × (q ≡ true)
+and_true true q e = (refl, e)
+and_true false q e = absurd (cc)
+
+pub same_lists : (vs ws : List ℤ) → pointwise int_eq vs ws ≡ true → vs ≡ ws
+same_lists [] [] e = refl
+same_lists [] (w ∷ ws) e = absurd (cc)
+same_lists (v ∷ vs) [] e = absurd (cc)
+same_lists (v ∷ vs) (w ∷ ws) e =
+    let both = and_true (int_eq v w) (pointwise int_eq vs ws) e in
+    (λ t. one_number v w both.0 t ∷ same_lists vs ws both.1 t)
+
+same_itself : (vs : List ℤ) → pointwise int_eq vs vs ≡ true
+same_itself [] = refl
+same_itself (v ∷ vs) = (λ t. (Decides-int_eq v v).1 refl t && same_itself vs t)
+
+pub lists_same : (vs ws : List ℤ) → vs ≡ ws → pointwise int_eq vs ws ≡ true
+lists_same vs ws e = subst (λ us. pointwise int_eq vs us ≡ true) e (same_itself vs)
+
+pub level_is : (r : Pixels) (vs ws : List ℤ) (b : Bool) → vs ≡ leasts r → ws ≡ greatests r → b ≡ pointwise int_eq vs ws → b ≡ is_level r
+level_is r vs ws b e f h = h ∙ (λ t. pointwise int_eq (e t) (f t))
+
+neq_false : (a b : ℕ) → (a ≡ b → ⊥) → nat_eq a b ≡ false
+neq_false a b ne = grind (arith, nat_tests, ne)
+
+pub bare_valid : (h : Header) (r : Pixels) → IsBase h r → h.valid ≡ 0 → nat_eq h.valid 0 ≡ is_bare r
+unfolding header_of
+bare_valid h r b e =
+    let t = eq_true h.valid 0 e in
+    t ∙ sym (ap (λ (x : Bool). x || int_eq (least_value (values_of r.pixels)) (greatest_value (values_of r.pixels))) (ap (λ (x : Header). nat_eq x.valid 0) (sym b.is) ∙ t))
+
+pub bare_other : (h : Header) (r : Pixels) → IsBase h r → (h.valid ≡ 0 → ⊥) → nat_eq (of_z w64 h.least) (of_z w64 h.greatest) ≡ is_bare r
+unfolding header_of
+bare_other h r b ne =
+    let t = neq_false h.valid 0 ne in
+    let least : h.least ≡ least_value (values_of r.pixels) = ap (λ (x : Header). x.least) b.is in
+    let greatest : h.greatest ≡ greatest_value (values_of r.pixels) = ap (λ (x : Header). x.greatest) b.is in
+    (λ i. nat_eq (of_z w64 (least i)) (of_z w64 (greatest i)))
+    ∙ same_test r.kind (least_value (values_of r.pixels)) (greatest_value (values_of r.pixels)) (all_least_fits r b.sound) (all_greatest_fits r b.sound)
+    ∙ sym (ap (λ (x : Bool). x || int_eq (least_value (values_of r.pixels)) (greatest_value (values_of r.pixels))) (ap (λ (x : Header). nat_eq x.valid 0) (sym b.is) ∙ t))
+
+-- ---- the choice
+
+some_same : {A : Type 0} (x y : A) → Some x ≡ Some y → x ≡ y
+some_same x y e = cc
+
+-- the form at a place of the candidates
+placed : (k : ℕ) (n : ℕ) (a b c : ℕ) → get_or (Some a ∷ Some b ∷ Some c ∷ []) k None ≡ Some n → get_or forms k None ≡ Some (named (form_at k))
+placed zero n a b c e = refl
+placed (suc zero) n a b c e = refl
+placed (suc (suc zero)) n a b c e = refl
+placed (suc (suc (suc k))) n a b c e = absurd (cc)
+
+pub chosen_is : (r : Pixels) (version : Version) (step a b c : ℕ) (first : Option (ℕ × ℕ)) (p : ℕ × ℕ) (f : ValueForm)
+    → a ≡ length (form_bytes r version step images.sweep) → b ≡ length (form_bytes r version step images.blocks_8) → c ≡ length (form_bytes r version step images.blocks_16) → a ≤ 67108865
+    → MatchOption first ((i n : ℕ) → get_or (Some a ∷ Some b ∷ Some c ∷ []) i None ≡ Some n → ⊥) (λ q. IsFirstLeast (λ m. m) (Some a ∷ Some b ∷ Some c ∷ []) q.0 q.1) → p ≡ unwrap_or first (0, 0)
+    → f ≡ form_at p.0 → IsChosen r version step (record { form = f; size = p.1 })
+unfolding chosen_form
+chosen_is r version step a b c None p f la lb lc few none e at = absurd (none 0 a refl)
+chosen_is r version step a b c (Some q) p f la lb lc few first e at =
+    let size = λ (form : Form). length (form_bytes r version step form) in
+    let sizes : Some a ∷ Some b ∷ Some c ∷ [] ≡ map (option_map size) forms = (λ t. Some (la t) ∷ Some (lb t) ∷ Some (lc t) ∷ []) in
+    let there = placed q.0 q.1 a b c first.there in
+    let is : first_least size forms ≡ Some (named (form_at q.0)) = by_sizes size forms q.0 q.1 (named (form_at q.0)) there (subst (λ us. IsFirstLeast (λ m. m) us q.0 q.1) sizes first) in
+    let form : named f ≡ unwrap_or (first_least size forms) images.sweep = ap named (at ∙ ap (λ (x : ℕ × ℕ). form_at x.0) e) ∙ ap (λ x. unwrap_or x images.sweep) (sym is) in
+    let long : q.1 ≡ size (named (form_at q.0)) = sized_at q.0 q.1 first.there in
+    let low = first.least 0 a refl in
+    let second : p.1 ≡ q.1 = ap (λ (x : ℕ × ℕ). x.1) e in
+    record {
+      form = form;
+      size = second ∙ long ∙ ap size (sym (ap (λ x. unwrap_or x images.sweep) is));
+      few = omega (arith, second, low, few);
+    }
+  where
+    sized_at : (k n : ℕ) → get_or (Some a ∷ Some b ∷ Some c ∷ []) k None ≡ Some n → n ≡ length (form_bytes r version step (named (form_at k)))
+    sized_at zero n e = sym (some_same a n e) ∙ la
+    sized_at (suc zero) n e = sym (some_same b n e) ∙ lb
+    sized_at (suc (suc zero)) n e = sym (some_same c n e) ∙ lc
+    sized_at (suc (suc (suc k))) n e = absurd (cc)
+
+-- ---- the ending
+
+pub ends_bare : (r : Pixels) (version : Version) (step : ℕ) → is_bare r ≡ true → ending r version step ≡ images.bare
+unfolding ending
+ends_bare r version step e = ap (λ (b : Bool). if b then images.bare else (if is_v4 version && is_level r then images.level else images.coded (chosen_form r version step))) e
+
+pub ends_level : (r : Pixels) (version : Version) (step : ℕ) → is_bare r ≡ false → (is_v4 version && is_level r) ≡ true → ending r version step ≡ images.level
+unfolding ending
+ends_level r version step e f = (λ t. if e t then images.bare else (if f t then images.level else images.coded (chosen_form r version step)))
+
+pub ends_coded : (r : Pixels) (version : Version) (step : ℕ) → is_bare r ≡ false → (is_v4 version && is_level r) ≡ false → ending r version step ≡ images.coded (chosen_form r version step)
+unfolding ending
+ends_coded r version step e f = (λ t. if e t then images.bare else (if f t then images.level else images.coded (chosen_form r version step)))
+
+pub length_set : (xs : List ℕ) (i v : ℕ) → length (set xs i v) ≡ length xs
+length_set xs i v = length-set xs i v
+
+-- half of the room for both lists
+pub front_room : (r : Pixels) (out : List ℕ) → length out ≡ length (front_bytes r V4) → length out / 2 ≡ r.depth * bytes_of r.kind
+front_room r out e = let whole = length_front r in omega (arith, e, whole)

@@ -1,0 +1,13 @@
+pub mod Fewest
+pub mod Best
+pub mod Runs
+pub mod Members
+pub mod Extremes
+pub mod Blocking
+pub mod Packing
+pub mod Forming
+pub mod Kept
+pub mod Standing
+pub mod Endings
+pub mod Encoded
+pub mod Laying

@@ -1,0 +1,14 @@
+use Rattle.std.proofs.Common.{◌≡◌, ◌<◌, ◌∙◌, ap, length, subst, sym}
+use Rattle.lerc_encode.specs.inside.Ranged.{grown, marked_values}
+use Rattle.lerc_encode.proofs.Runs.{run_is}
+use Rattle.lerc_encode.proofs.ranging.with_run.Goals as goal
+
+pub returns : goal.returns
+returns c =
+    let n = length c.args.marks.now in
+    let room : length c.marks_from.new.out ≡ n = c.marks_from.ensures.room in
+    let room_too : length c.args.values.now ≡ n = c.requires.lengths in
+    c.with_marked.ensures
+    ∙ ap (λ k. grown c.args.range (marked_values c.marks_from.new.out c.values_from.new.out k)) room
+    ∙ ap (grown c.args.range) (run_is c.args.raster.now c.args.d c.args.place n c.marks_from.new.out c.values_from.new.out
+    (λ i h. c.marks_from.ensures.marks i h) (λ i h. c.values_from.ensures.values i (subst (λ m. i < m) (sym room_too) h)))

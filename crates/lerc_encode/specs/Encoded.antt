@@ -1,0 +1,22 @@
+-- What the bytes of an encoded raster are.
+use Rattle.std.specs.Prelude.{◌≡◌, ℕ, List}
+use Rattle.raster_values.specs.Raster.{Pixels, IsRaster}
+use Rattle.lerc_header.specs.declared.header.Version.{Version}
+use Rattle.lerc_header.specs.declared.header.Version.TheVariants.{V3}
+use Rattle.lerc_header.specs.Head.{IsTwiceError}
+use Rattle.lerc_grammar.specs.Blob.{Blob}
+use Rattle.lerc_grammar.specs.Near.{Near}
+
+-- a raster that a blob of this version can hold, and a step that a header can declare
+pub record IsAsked (r : Pixels) (version : Version) (step : ℕ) : Type 0 where
+  pub sound : IsRaster r
+  pub step_allowed : IsTwiceError step
+  pub flat : version ≡ V3 → r.depth ≡ 1
+
+-- The bytes are a blob of exactly one raster, and that one is near the given one: of one type and shape,
+-- with the same valid pixels, and each value within half a step.
+pub record IsEncodedOnce (bytes : List ℕ) (r : Pixels) (step : ℕ) : Type 0 where
+  pub raster : Pixels
+  pub blob : Blob bytes raster
+  pub only : (s : Pixels) → Blob bytes s → s ≡ raster
+  pub near : Near r raster step

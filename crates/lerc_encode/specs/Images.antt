@@ -1,0 +1,84 @@
+-- The images that are written for a raster: the forms of its values, and the one that is chosen.
+use Rattle.std.specs.Prelude.{ℕ, Bool, true, false, ◌&&◌, nat_eq, if◌then◌else◌, List, [], ◌∷◌, ◌++◌, length, Option, Some, unwrap_or}
+use Rattle.std.specs.List.{flat_map, range_with_len}
+use Rattle.raster_values.specs.PixelType.{bytes_of}
+use Rattle.raster_values.specs.Raster.{Pixels, values_of}
+use Rattle.raster_values.specs.Grid.{values_bytes}
+use Rattle.lerc_header.specs.declared.header.Header.{Header}
+use Rattle.lerc_header.specs.declared.header.Version.{Version}
+use Rattle.lerc_header.specs.declared.header.Version.TheVariants.{V3, V4}
+use Rattle.micro_block.specs.Fewest.{first_least}
+use Rattle.micro_block.specs.Choice.{block_bytes}
+use Rattle.lerc_grammar.specs.Blocks.{block_col, coded_blocks, coded_values}
+use Rattle.lerc_encode.specs.Heads.{header_of}
+use Rattle.lerc_encode.specs.Ranges.{front_bytes, is_bare, is_level}
+
+-- the bytes of coded block number k
+abbrev pub coded_bytes : Header → Pixels → ℕ → List ℕ
+coded_bytes h r k = block_bytes h.kind (block_col h k) h.step (coded_values h r k)
+
+-- the chosen blocks, one behind the other
+unfoldable pub blocks_bytes : Header → Pixels → List ℕ
+blocks_bytes h r = flat_map (coded_bytes h r) (range_with_len 0 (coded_blocks h))
+
+-- a value takes one byte, and none may change: a mode byte stands in front of the blocks
+abbrev pub has_mode : Pixels → ℕ → Bool
+has_mode r step = nat_eq (bytes_of r.kind) 1 && nat_eq step 1
+
+abbrev pub mode_bytes : Pixels → ℕ → List ℕ
+mode_bytes r step = if has_mode r step then 0 ∷ [] else []
+
+-- ---- the forms of the values, in order
+
+pub data Form : Type 0 where
+  sweep : Form
+  blocks_8 : Form
+  blocks_16 : Form
+
+-- the side that the header says
+abbrev pub side_of : Form → ℕ
+side_of sweep = 8
+side_of blocks_8 = 8
+side_of blocks_16 = 16
+
+unfoldable pub form_bytes : Pixels → Version → ℕ → Form → List ℕ
+form_bytes r version step sweep = 1 ∷ values_bytes r.kind (values_of r.pixels)
+form_bytes r version step blocks_8 =
+    0 ∷ (mode_bytes r step ++ blocks_bytes (header_of r version step 8 0 0) r)
+form_bytes r version step blocks_16 =
+    0 ∷ (mode_bytes r step ++ blocks_bytes (header_of r version step 16 0 0) r)
+
+abbrev pub forms : List (Option Form)
+forms = Some sweep ∷ Some blocks_8 ∷ Some blocks_16 ∷ []
+
+-- the first of those with the fewest bytes
+unfoldable pub chosen_form : Pixels → Version → ℕ → Form
+chosen_form r version step =
+    unwrap_or (first_least (λ form. length (form_bytes r version step form)) forms) sweep
+
+-- ---- how the image ends: before the lists, behind them, or with the values in a form
+
+pub data Ending : Type 0 where
+  bare : Ending
+  level : Ending
+  coded : Form → Ending
+
+abbrev pub is_v4 : Version → Bool
+is_v4 V3 = false
+is_v4 V4 = true
+
+unfoldable pub ending : Pixels → Version → ℕ → Ending
+ending r version step =
+    if is_bare r then bare
+    else (if is_v4 version && is_level r then level
+    else coded (chosen_form r version step))
+
+abbrev pub side_at : Ending → ℕ
+side_at bare = 8
+side_at level = 8
+side_at (coded form) = side_of form
+
+abbrev pub image_bytes : Pixels → Version → ℕ → Ending → List ℕ
+image_bytes r version step bare = []
+image_bytes r version step level = front_bytes r version
+image_bytes r version step (coded form) = front_bytes r version ++ form_bytes r version step form

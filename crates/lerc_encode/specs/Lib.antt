@@ -1,0 +1,7 @@
+pub mod Ranges
+pub mod Masks
+pub mod Heads
+pub mod Images
+pub mod Choice
+pub mod Encoded
+pub mod inside

@@ -1,0 +1,53 @@
+-- The least and the greatest values of a raster, and the lists in front of an image.
+use Rattle.std.specs.Prelude.{ℕ, ℤ, pos, Bool, ◌||◌, nat_eq, List, [], ◌∷◌, ◌++◌, get_or, map, fold, Option, Some, None}
+use Rattle.std.specs.Int.{int_max}
+use Rattle.std.specs.Ordering.{int_eq}
+use Rattle.std.specs.Cmp.Lexicographic.{pointwise}
+use Rattle.std.specs.List.{flat_map, range_with_len}
+use Rattle.raster_values.specs.Raster.{Pixels, valid_count, values_of}
+use Rattle.raster_values.specs.Grid.{values_bytes}
+use Rattle.lerc_header.specs.declared.header.Version.{Version}
+use Rattle.lerc_header.specs.declared.header.Version.TheVariants.{V3, V4}
+use Rattle.micro_block.specs.Choice.{least_value}
+use Rattle.lerc_grammar.specs.Image.{Ends}
+
+-- the greatest value, and 0 of none
+abbrev pub greatest_value : List ℤ → ℤ
+greatest_value [] = pos 0
+greatest_value (v ∷ values) = fold int_max v values
+
+-- the value of a pixel at a depth, where it is valid
+abbrev pub at_depth : ℕ → Option (List ℤ) → List ℤ
+at_depth d None = []
+at_depth d (Some values) = get_or values d (pos 0) ∷ []
+
+-- the values of the valid pixels at one depth, row by row
+unfoldable pub depth_values : Pixels → ℕ → List ℤ
+depth_values r d = flat_map (at_depth d) r.pixels
+
+-- the least and the greatest value of each depth
+abbrev pub leasts : Pixels → List ℤ
+leasts r = map (λ d. least_value (depth_values r d)) (range_with_len 0 r.depth)
+
+abbrev pub greatests : Pixels → List ℤ
+greatests r = map (λ d. greatest_value (depth_values r d)) (range_with_len 0 r.depth)
+
+-- the lists that stand behind the mask in version 4, and none in version 3
+abbrev pub front_of : Pixels → Version → Option Ends
+front_of r V3 = None
+front_of r V4 = Some (record { least = leasts r; greatest = greatests r })
+
+abbrev pub front_bytes : Pixels → Version → List ℕ
+front_bytes r V3 = []
+front_bytes r V4 = values_bytes r.kind (leasts r ++ greatests r)
+
+-- ---- images that end early
+
+-- no pixel is valid, or all values are one
+abbrev pub is_bare : Pixels → Bool
+is_bare r =
+    nat_eq (valid_count r) 0 || int_eq (least_value (values_of r.pixels)) (greatest_value (values_of r.pixels))
+
+-- each depth has one value
+abbrev pub is_level : Pixels → Bool
+is_level r = pointwise int_eq (leasts r) (greatests r)

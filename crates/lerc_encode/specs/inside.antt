@@ -1,0 +1,6 @@
+-- The words of private functions alone: no public clause cites them.
+pub mod Ranged
+pub mod Blocked
+pub mod Choosing
+pub mod Suits
+pub mod Layout

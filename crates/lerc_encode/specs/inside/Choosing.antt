@@ -1,0 +1,52 @@
+-- The form that is chosen for the values of an image, and how the image ends.
+use Rattle.std.specs.Prelude.{◌≡◌, ℕ, ◌≤◌, length, nat_eq, if◌then◌else◌}
+use Rattle.raster_values.specs.Raster.{Pixels, IsRaster}
+use Rattle.lerc_header.specs.declared.header.Header.{Header}
+use Rattle.lerc_header.specs.declared.header.Version.{Version}
+use Rattle.lerc_header.specs.declared.header.Version.TheVariants.{V3}
+use Rattle.lerc_header.specs.Head.{IsTwiceError}
+use Rattle.lerc_encode.specs.Heads.{header_of}
+use Rattle.lerc_encode.specs.Ranges.{leasts, greatests}
+use Rattle.lerc_encode.specs.Images as images
+use Rattle.lerc_encode.specs.Images.{Form, chosen_form, form_bytes, ending}
+use Rattle.lerc_encode.specs.declared.forms.ValueForm.{ValueForm}
+use Rattle.lerc_encode.specs.declared.forms.ValueForm.TheVariants.{Sweep, SmallBlocks, LargeBlocks}
+use Rattle.lerc_encode.specs.declared.choosing.Chosen.{Chosen}
+use Rattle.lerc_encode.specs.declared.choosing.Ending.{Ending}
+use Rattle.lerc_encode.specs.declared.choosing.Ending.TheVariants.{Bare, Level, Coded}
+use Rattle.lerc_encode.specs.declared.ranging.Ranges.{Ranges}
+
+-- the form of the definitions
+abbrev pub named : ValueForm → Form
+named Sweep = images.sweep
+named SmallBlocks = images.blocks_8
+named LargeBlocks = images.blocks_16
+
+-- the form at a place in their order
+abbrev pub form_at : ℕ → ValueForm
+form_at place = if nat_eq place 0 then Sweep else (if nat_eq place 1 then SmallBlocks else LargeBlocks)
+
+-- the header of a raster's blob as far as it is known before the blob is laid out, with side 8
+pub record IsBase (h : Header) (r : Pixels) : Type 0 where
+  pub sound : IsRaster r
+  pub step : IsTwiceError h.step
+  pub flat : h.version ≡ V3 → r.depth ≡ 1
+  pub is : h ≡ header_of r h.version h.step 8 0 0
+
+-- the form that is chosen, and the number of its bytes
+pub record IsChosen (r : Pixels) (version : Version) (step : ℕ) (c : Chosen) : Type 0 where
+  pub form : named c.form ≡ chosen_form r version step
+  pub size : c.size ≡ length (form_bytes r version step (chosen_form r version step))
+  pub few : c.size ≤ 67108865
+
+-- the lists of the least and the greatest values
+pub record AreRanges (r : Pixels) (ranges : Ranges) : Type 0 where
+  pub least : ranges.leasts.items ≡ leasts r
+  pub greatest : ranges.greatests.items ≡ greatests r
+
+-- how the image ends
+abbrev pub IsEnding : Pixels → Version → ℕ → Ending → Type 0
+IsEnding r version step Bare = ending r version step ≡ images.bare
+IsEnding r version step Level = ending r version step ≡ images.level
+IsEnding r version step (Coded c) =
+    (ending r version step ≡ images.coded (chosen_form r version step)) × IsChosen r version step c

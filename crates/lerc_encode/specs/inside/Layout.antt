@@ -1,0 +1,27 @@
+-- What is known of a blob before it is written.
+use Rattle.std.specs.Prelude.{◌≡◌, ℕ, ◌^◌, ◌<◌, ◌≤◌, List, ◌++◌, drop, length}
+use Rattle.lerc_header.specs.Checksum.{sum_of}
+use Rattle.lerc_header.specs.Written.{head_bytes}
+use Rattle.raster_values.specs.Raster.{Pixels}
+use Rattle.raster_values.specs.Flat.{marks_of}
+use Rattle.lerc_header.specs.declared.header.Header.{Header}
+use Rattle.lerc_header.specs.declared.header.Version.{Version}
+use Rattle.lerc_encode.specs.Masks.{mask_runs_of, packed}
+use Rattle.lerc_encode.specs.inside.Choosing.{AreRanges, IsBase, IsEnding}
+use Rattle.lerc_encode.specs.declared.blob.Plan.{Plan}
+
+-- the header so far, the ranges, the mask with the length of its runs, and how the image ends
+pub record IsPlan (r : Pixels) (version : Version) (step : ℕ) (p : Plan) : Type 0 where
+  pub base : IsBase p.base r
+  pub version_is : p.base.version ≡ version
+  pub step_is : p.base.step ≡ step
+  pub ranges : AreRanges r p.ranges
+  pub mask : p.mask.items ≡ packed (marks_of r)
+  pub runs : p.runs ≡ length (mask_runs_of (marks_of r))
+  pub few : p.runs ≤ 6291458
+  pub ending : IsEnding r version step p.ending
+
+-- the bytes are the header with the checksum of what it covers, and what stands behind it
+pub record IsSealed (h : Header) (behind blob : List ℕ) : Type 0 where
+  pub fits : sum_of (drop 14 (head_bytes h ++ behind)) < 2 ^ 32
+  pub bytes : blob ≡ head_bytes (record h { checksum = sum_of (drop 14 (head_bytes h ++ behind)) }) ++ behind

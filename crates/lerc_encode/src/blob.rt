@@ -1,0 +1,239 @@
+//! The chosen blob of a raster.
+
+ghost use Rattle.std.specs.Prelude.{◌≡◌, ◌+◌, ◌^◌, ◌<◌, ◌≤◌, ◌↔◌, ◌++◌, IfOk, IsErrOf, IsTrue, drop, length};
+ghost use Rattle.lerc_header.specs.declared.header.Version.TheVariants.{V3};
+ghost use Rattle.lerc_header.specs.Head.{head_length};
+ghost use Rattle.lerc_header.specs.Written.{IsHeader, head_bytes};
+ghost use Rattle.lerc_encode.specs.Choice.{behind_head, checksum_of, choice, header_with};
+ghost use Rattle.lerc_encode.specs.Encoded.{IsAsked, IsEncodedOnce};
+ghost use Rattle.lerc_encode.specs.inside.Choosing.{AreRanges, IsBase};
+ghost use Rattle.lerc_encode.specs.inside.Layout.{IsPlan, IsSealed};
+
+use crate::choosing::{Ending, ending_of};
+use crate::images::{image_len, side_of, write_image};
+use crate::masks::{mask_of, runs_size, write_mask};
+use crate::ranging::{Ranges, ranges_of, whole_range};
+use lerc_header::{Header, Step, Version, checksum, write_header};
+use outside_io::Bytes;
+use raster_values::Raster;
+use std::alloc::{AllocError, Global};
+
+/// Why there is no blob of a raster.
+#[derive(Debug, Drop)]
+pub enum EncodeFault {
+    /// The raster has more than one depth, which version 3 has no place for.
+    DepthNeedsV4,
+    /// There is no memory for the blob, or for what is known of the raster meanwhile.
+    OutOfMemory,
+}
+
+impl From<AllocError> for EncodeFault {
+    ghost use Rattle.lerc_encode.specs.declared.blob.EncodeFault.TheVariants.{OutOfMemory};
+
+    ghost from_gives = { λ _ e. e ≡ OutOfMemory };
+
+    fn from(_: AllocError) -> EncodeFault {
+        EncodeFault::OutOfMemory
+    }
+}
+
+/// What is known of a blob before it is written.
+#[derive(Drop)]
+struct Plan {
+    /// The header so far.
+    base: Header,
+    /// The least and the greatest value of each depth.
+    ranges: Ranges,
+    /// The bytes of the mask, and how many bytes their runs take.
+    mask: Vec<u8>,
+    runs: usize,
+    /// How the image ends.
+    ending: Ending,
+}
+
+/// The header as far as it is known before the blob is laid out.
+fn base_header(raster: &Raster, version: Version, step: u64, found: &Ranges) -> Header
+    requires asked { IsAsked raster.now version step }
+    requires ranges { AreRanges raster.now found.now }
+    ensures base { IsBase result raster.now }
+    ensures version { result.version ≡ version }
+    ensures step { result.step ≡ step }
+{
+    let range = whole_range(found, raster);
+    Header {
+        version,
+        checksum: 0,
+        rows: raster.rows(),
+        cols: raster.cols(),
+        depth: raster.depth(),
+        valid: raster.valid_count(),
+        side: 8,
+        size: 0,
+        kind: raster.kind(),
+        step,
+        least: range.least,
+        greatest: range.greatest,
+    }
+}
+
+/// What is known of the blob of a raster.
+fn plan_of(alloc: Global, raster: &Raster, version: Version, step: u64) -> Result<Plan, AllocError>
+    requires { IsAsked raster.now version step }
+    ensures { IfOk result (λ p. IsPlan raster.now version step p) }
+{
+    let ranges = ranges_of(alloc, raster)?;
+    let mask = mask_of(alloc, raster)?;
+    let base = base_header(raster, version, step, &ranges);
+    let runs = runs_size(raster, &mask);
+    let ending = ending_of(&base, &ranges, raster);
+    Ok(Plan {
+        base,
+        ranges,
+        mask,
+        runs,
+        ending,
+    })
+}
+
+/// How many bytes stand behind the head.
+fn behind_len(plan: &Plan, raster: &Raster) -> usize
+    requires { IsPlan raster.now plan.now.base.version plan.now.base.step plan.now }
+    ensures value { result
+        ≡ length (behind_head raster.now plan.now.base.version plan.now.base.step) }
+    ensures few { result ≤ 73924615 }
+{
+    4 + plan.runs + image_len(plan.ending, &plan.base, raster)
+}
+
+/// Writes what stands behind the head over all of `out`.
+fn write_behind(plan: &Plan, raster: &Raster, out: &mut [u8])
+    requires plan { IsPlan raster.now plan.now.base.version plan.now.base.step plan.now }
+    requires room { length out.old
+        ≡ length (behind_head raster.now plan.now.base.version plan.now.base.step) }
+    ensures { out.new ≡ behind_head raster.now plan.now.base.version plan.now.base.step }
+{
+    let front = (4 + plan.runs).min(out.len());
+    write_mask(raster, &plan.mask, plan.runs, &mut out[..front]);
+    write_image(
+        plan.ending,
+        &plan.base,
+        &plan.ranges,
+        raster,
+        &mut out[front..],
+    );
+}
+
+/// The header of the blob, with the checksum 0.
+fn header_of(plan: &Plan, raster: &Raster, size: usize) -> Header
+    requires plan { IsPlan raster.now plan.now.base.version plan.now.base.step plan.now }
+    requires size { size ≡ head_length plan.now.base.version
+        + length (behind_head raster.now plan.now.base.version plan.now.base.step) }
+    requires few { size < 2 ^ 32 }
+    ensures { result ≡ header_with raster.now plan.now.base.version plan.now.base.step 0 }
+{
+    Header {
+        side: side_of(plan.ending, &plan.base, raster),
+        size: size as u32,
+        ..plan.base
+    }
+}
+
+/// Lays a header over the front of a blob.
+fn put_header(header: &Header, blob: &mut [u8])
+    requires header { IsHeader header.now }
+    requires room { head_length header.now.version ≤ length blob.old }
+    ensures { blob.new ≡ head_bytes header.now ++ drop (head_length header.now.version) blob.old }
+{
+    let mut head = [0; 66];
+    let size = write_header(header, &mut head);
+    blob[..size].copy_from_slice(&head[..size]);
+}
+
+/// The header with a checksum.
+fn with_sum(header: &Header, sum: u32) -> Header
+    ensures { result ≡ record header.now { checksum = sum } }
+{
+    Header {
+        checksum: sum,
+        ..*header
+    }
+}
+
+/// Lays the header with its checksum over the front of a blob.
+fn seal(header: &Header, blob: &mut [u8])
+    requires header { IsHeader header.now }
+    requires room { head_length header.now.version ≤ length blob.old }
+    ensures { IsSealed header.now (drop (head_length header.now.version) blob.old) blob.new }
+{
+    put_header(header, blob);
+    let sum = checksum(&blob[14..]);
+    put_header(&with_sum(header, sum), blob);
+}
+
+/// Writes the chosen blob over all of `blob`, whose length is its size.
+fn fill(plan: &Plan, raster: &Raster, blob: &mut [u8])
+    requires asked { IsAsked raster.now plan.now.base.version plan.now.base.step }
+    requires plan { IsPlan raster.now plan.now.base.version plan.now.base.step plan.now }
+    requires room { length blob.old ≡ head_length plan.now.base.version
+        + length (behind_head raster.now plan.now.base.version plan.now.base.step) }
+    ensures chosen { blob.new ≡ choice raster.now plan.now.base.version plan.now.base.step }
+    ensures sum { checksum_of raster.now plan.now.base.version plan.now.base.step < 2 ^ 32 }
+{
+    let size = blob.len();
+    let head = plan.base.version.head_length().min(size);
+    write_behind(plan, raster, &mut blob[head..]);
+    seal(&header_of(plan, raster, size), blob);
+}
+
+/// The bytes of the chosen blob.
+fn blob_of(
+    alloc: Global,
+    raster: &Raster,
+    version: Version,
+    step: u64,
+) -> Result<Vec<u8>, AllocError>
+    requires { IsAsked raster.now version step }
+    ensures chosen { IfOk result (λ blob. blob.items ≡ choice raster.now version step) }
+    ensures sum { IfOk result (λ blob. checksum_of raster.now version step < 2 ^ 32) }
+{
+    let plan = plan_of(alloc, raster, version, step)?;
+    let size = version.head_length() + behind_len(&plan, raster);
+    let mut blob = vec![in alloc; 0u8; size]?;
+    fill(&plan, raster, &mut blob);
+    Ok(blob)
+}
+
+/// Whether the version has no place for the raster's depths.
+fn needs_v4(version: Version, raster: &Raster) -> bool
+    ensures { IsTrue result ↔ ((version ≡ V3) × (1 < raster.now.depth)) }
+{
+    match version {
+        Version::V3 => raster.depth() > 1,
+        Version::V4 => false,
+    }
+}
+
+/// The blob of a raster, in this version and with this step between values that it can tell.
+///
+/// Of the forms that an image may have it is the one with the fewest bytes, of several the first; a
+/// block likewise. It is a blob of exactly one raster, whose values are within half a step of the
+/// given ones, and are these at step 1. It has at most 2^27 bytes.
+pub fn encode(
+    alloc: Global,
+    raster: &Raster,
+    version: Version,
+    step: Step,
+) -> Result<Bytes, EncodeFault>
+    ensures depth { IsErrOf result EncodeFault.DepthNeedsV4
+        ↔ ((version ≡ V3) × (1 < raster.now.depth)) }
+    ensures chosen { IfOk result (λ blob. blob ≡ choice raster.now version step) }
+    ensures few { IfOk result (λ blob. length blob ≤ 134217728) }
+    ensures decodes { IfOk result (λ blob. IsEncodedOnce blob raster.now step) }
+{
+    let _rows = raster.rows();
+    if needs_v4(version, raster) {
+        return Err(EncodeFault::DepthNeedsV4);
+    }
+    let blob = blob_of(alloc, raster, version, step.get())?;
+    Ok(Bytes::from_vec(blob))
+}

@@ -1,0 +1,103 @@
+// What is chosen for the image of a raster.
+
+ghost use Rattle.std.specs.Prelude.{◌≡◌, ◌&&◌};
+ghost use Rattle.lerc_encode.specs.Images.{is_v4};
+ghost use Rattle.lerc_encode.specs.Ranges as ranges;
+ghost use Rattle.lerc_encode.specs.inside.Choosing as inside;
+ghost use Rattle.lerc_encode.specs.inside.Choosing.{AreRanges, IsBase, IsChosen, IsEnding};
+
+use crate::first::first_least;
+use crate::forms::{ValueForm, block_form_len, sweep_len, with_large};
+use crate::ranging::Ranges;
+use lerc_header::{Header, Version};
+use raster_values::Raster;
+
+/// The form that is chosen for an image's values, and the number of its bytes.
+#[derive(Clone, Copy)]
+pub(crate) struct Chosen {
+    pub(crate) form: ValueForm,
+    pub(crate) size: usize,
+}
+
+/// How an image ends.
+#[derive(Clone, Copy)]
+pub(crate) enum Ending {
+    /// Before the lists: no pixel is valid, or all values are one.
+    Bare,
+    /// Behind the lists: each depth has one value.
+    Level,
+    /// With the values in a form.
+    Coded(Chosen),
+}
+
+/// The form at a place in their order.
+fn form_at(place: usize) -> ValueForm
+    ensures { result ≡ inside.form_at place }
+{
+    match place {
+        0 => ValueForm::Sweep,
+        1 => ValueForm::SmallBlocks,
+        _ => ValueForm::LargeBlocks,
+    }
+}
+
+/// The form with the fewest bytes, of several the first.
+fn choose(base: &Header, raster: &Raster) -> Chosen
+    requires { IsBase base.now raster.now }
+    ensures { IsChosen raster.now base.now.version base.now.step result }
+{
+    let sizes = [
+        Some(sweep_len(raster)),
+        Some(block_form_len(base, raster)),
+        Some(block_form_len(&with_large(base), raster)),
+    ];
+    let (place, size) = first_least(&sizes).unwrap_or((0, 0));
+    Chosen {
+        form: form_at(place),
+        size,
+    }
+}
+
+/// Whether no pixel is valid, or all values are one.
+fn is_bare(base: &Header, raster: &Raster) -> bool
+    requires { IsBase base.now raster.now }
+    ensures { result ≡ ranges.is_bare raster.now }
+{
+    base.valid == 0 || base.least == base.greatest
+}
+
+/// Whether each depth has one value.
+fn is_level(found: &Ranges, raster: &Raster) -> bool
+    requires { AreRanges raster.now found.now }
+    ensures { result ≡ ranges.is_level raster.now }
+{
+    let _depth = raster.depth();
+    let (leasts, greatests) = (found.leasts.as_slice(), found.greatests.as_slice());
+    leasts == greatests
+}
+
+/// Whether the image ends behind the lists.
+fn ends_behind_lists(version: Version, found: &Ranges, raster: &Raster) -> bool
+    requires { AreRanges raster.now found.now }
+    ensures { result ≡ (is_v4 version && ranges.is_level raster.now) }
+{
+    match version {
+        Version::V3 => false,
+        Version::V4 => is_level(found, raster),
+    }
+}
+
+/// How the image of a raster ends.
+pub(crate) fn ending_of(base: &Header, found: &Ranges, raster: &Raster) -> Ending
+    requires base { IsBase base.now raster.now }
+    requires ranges { AreRanges raster.now found.now }
+    ensures { IsEnding raster.now base.now.version base.now.step result }
+{
+    if is_bare(base, raster) {
+        return Ending::Bare;
+    }
+    if ends_behind_lists(base.version, found, raster) {
+        return Ending::Level;
+    }
+    Ending::Coded(choose(base, raster))
+}

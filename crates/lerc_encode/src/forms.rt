@@ -1,0 +1,148 @@
+// The forms of an image's values: how many bytes each takes, and these bytes.
+
+ghost use Rattle.std.specs.Prelude.{◌≡◌, ◌*◌, ◌≤◌, ◌∷◌, ◌++◌, All, length};
+ghost use Rattle.raster_values.specs.PixelType.{InRange, bytes_of};
+ghost use Rattle.raster_values.specs.Grid.{values_bytes};
+ghost use Rattle.lerc_header.specs.declared.header.Version.TheVariants.{V4};
+ghost use Rattle.raster_values.specs.Raster.{values_of};
+ghost use Rattle.lerc_encode.specs.Images as images;
+ghost use Rattle.lerc_encode.specs.Images.{blocks_bytes, form_bytes, mode_bytes};
+ghost use Rattle.lerc_encode.specs.Ranges.{front_bytes};
+ghost use Rattle.lerc_encode.specs.inside.Blocked.{IsBlocked};
+ghost use Rattle.lerc_encode.specs.inside.Choosing.{AreRanges, IsBase, named};
+
+use crate::blocks::{blocks_len, write_blocks};
+use crate::ranging::Ranges;
+use lerc_header::{Header, Version};
+use raster_values::{PixelType, Raster};
+
+/// The forms of an image's values, in the order in which they are tried.
+#[derive(Clone, Copy)]
+pub(crate) enum ValueForm {
+    /// The values as they are.
+    Sweep,
+    /// Blocks of 8 rows and columns.
+    SmallBlocks,
+    /// Blocks of 16 rows and columns.
+    LargeBlocks,
+}
+
+/// The header with blocks of 16 rows and columns.
+pub(crate) fn with_large(base: &Header) -> Header
+    ensures { result ≡ record base.now { side = 16 } }
+{
+    Header { side: 16, ..*base }
+}
+
+/// Whether a mode byte stands in front of blocks.
+fn has_mode(raster: &Raster, step: u64) -> bool
+    ensures { result ≡ images.has_mode raster.now step }
+{
+    raster.kind().bytes() == 1 && step == 1
+}
+
+/// How many bytes the sweep takes.
+pub(crate) fn sweep_len(raster: &Raster) -> usize
+    ensures value { result
+        ≡ length (1 ∷ values_bytes raster.now.kind (values_of raster.now.pixels)) }
+    ensures few { result ≤ 67108865 }
+{
+    1 + raster.valid_count() as usize * raster.depth() as usize * raster.kind().bytes()
+}
+
+/// How many bytes the form of blocks takes.
+pub(crate) fn block_form_len(h: &Header, raster: &Raster) -> usize
+    requires { IsBlocked h.now raster.now }
+    ensures { result
+        ≡ length (0 ∷ (mode_bytes raster.now h.now.step ++ blocks_bytes h.now raster.now)) }
+{
+    1 + usize::from(has_mode(raster, h.step)) + blocks_len(h, raster)
+}
+
+/// Writes the sweep.
+fn write_sweep(raster: &Raster, out: &mut [u8])
+    requires { length out.old
+        ≡ length (1 ∷ values_bytes raster.now.kind (values_of raster.now.pixels)) }
+    ensures { out.new ≡ 1 ∷ values_bytes raster.now.kind (values_of raster.now.pixels) }
+{
+    let _kind = raster.kind();
+    out[0] = 1;
+    raster.value_bytes(&mut out[1..]);
+}
+
+/// Writes the form of blocks.
+fn write_block_form(h: &Header, raster: &Raster, out: &mut [u8])
+    requires blocked { IsBlocked h.now raster.now }
+    requires room { length out.old
+        ≡ length (0 ∷ (mode_bytes raster.now h.now.step ++ blocks_bytes h.now raster.now)) }
+    ensures { out.new ≡ 0 ∷ (mode_bytes raster.now h.now.step ++ blocks_bytes h.now raster.now) }
+{
+    out[0] = 0;
+    if has_mode(raster, h.step) {
+        out[1] = 0;
+        write_blocks(h, raster, &mut out[2..]);
+    } else {
+        write_blocks(h, raster, &mut out[1..]);
+    }
+}
+
+/// Writes a form over all of `out`.
+pub(crate) fn write_form(form: ValueForm, base: &Header, raster: &Raster, out: &mut [u8])
+    requires base { IsBase base.now raster.now }
+    requires room { length out.old
+        ≡ length (form_bytes raster.now base.now.version base.now.step (named form)) }
+    ensures { out.new ≡ form_bytes raster.now base.now.version base.now.step (named form) }
+{
+    match form {
+        ValueForm::Sweep => write_sweep(raster, out),
+        ValueForm::SmallBlocks => write_block_form(base, raster, out),
+        ValueForm::LargeBlocks => write_block_form(&with_large(base), raster, out),
+    }
+}
+
+/// Writes the bytes of the values.
+fn write_values(kind: PixelType, values: &[i64], out: &mut [u8])
+    requires room { length out.old ≡ length values.now * bytes_of kind }
+    requires in_range { All (InRange kind) values.now }
+    ensures { out.new ≡ values_bytes kind values.now }
+{
+    let size = kind.bytes();
+    for (i, value) in values.iter().enumerate() {
+        kind.write_value(*value, &mut out[i * size..]);
+    }
+}
+
+/// How many bytes the lists in front of an image take.
+pub(crate) fn front_len(version: Version, raster: &Raster) -> usize
+    ensures value { result ≡ length (front_bytes raster.now version) }
+    ensures few { result ≤ 524288 }
+{
+    match version {
+        Version::V3 => 0,
+        Version::V4 => 2 * raster.depth() as usize * raster.kind().bytes(),
+    }
+}
+
+/// Writes both lists.
+fn write_lists(ranges: &Ranges, raster: &Raster, out: &mut [u8])
+    requires ranges { AreRanges raster.now ranges.now }
+    requires room { length out.old ≡ length (front_bytes raster.now V4) }
+    ensures { out.new ≡ front_bytes raster.now V4 }
+{
+    let kind = raster.kind();
+    let half = out.len() / 2;
+    write_values(kind, &ranges.leasts, &mut out[..half]);
+    write_values(kind, &ranges.greatests, &mut out[half..]);
+}
+
+/// Writes the lists in front of an image, if the version has them.
+pub(crate) fn write_front(version: Version, ranges: &Ranges, raster: &Raster, out: &mut [u8])
+    requires ranges { AreRanges raster.now ranges.now }
+    requires room { length out.old ≡ length (front_bytes raster.now version) }
+    ensures { out.new ≡ front_bytes raster.now version }
+{
+    match version {
+        Version::V3 => {}
+        Version::V4 => write_lists(ranges, raster, out),
+    }
+}

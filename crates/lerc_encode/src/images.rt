@@ -1,0 +1,68 @@
+// The image of a raster, by how it ends.
+
+ghost use Rattle.std.specs.Prelude.{◌≡◌, ◌≤◌, length};
+ghost use Rattle.lerc_encode.specs.Images.{ending, image_bytes, side_at};
+ghost use Rattle.lerc_encode.specs.inside.Choosing.{AreRanges, IsBase, IsEnding};
+
+use crate::choosing::Ending;
+use crate::forms::{ValueForm, front_len, write_form, write_front};
+use crate::ranging::Ranges;
+use lerc_header::Header;
+use raster_values::Raster;
+
+/// The side of blocks that the header says.
+pub(crate) fn side_of(end: Ending, base: &Header, raster: &Raster) -> u32
+    requires base { IsBase base.now raster.now }
+    requires ending { IsEnding raster.now base.now.version base.now.step end }
+    ensures { result ≡ side_at (ending raster.now base.now.version base.now.step) }
+{
+    match end {
+        Ending::Coded(chosen) => match chosen.form {
+            ValueForm::LargeBlocks => 16,
+            _ => 8,
+        },
+        _ => 8,
+    }
+}
+
+/// How many bytes the image takes.
+pub(crate) fn image_len(end: Ending, base: &Header, raster: &Raster) -> usize
+    requires base { IsBase base.now raster.now }
+    requires ending { IsEnding raster.now base.now.version base.now.step end }
+    ensures value { result ≡ length (image_bytes raster.now base.now.version base.now.step
+        (ending raster.now base.now.version base.now.step)) }
+    ensures few { result ≤ 67633153 }
+{
+    match end {
+        Ending::Bare => 0,
+        Ending::Level => front_len(base.version, raster),
+        Ending::Coded(chosen) => front_len(base.version, raster) + chosen.size,
+    }
+}
+
+/// Writes the image over all of `out`.
+pub(crate) fn write_image(
+    end: Ending,
+    base: &Header,
+    found: &Ranges,
+    raster: &Raster,
+    out: &mut [u8],
+)
+    requires base { IsBase base.now raster.now }
+    requires ranges { AreRanges raster.now found.now }
+    requires ending { IsEnding raster.now base.now.version base.now.step end }
+    requires room { length out.old ≡ length (image_bytes raster.now base.now.version base.now.step
+        (ending raster.now base.now.version base.now.step)) }
+    ensures { out.new ≡ image_bytes raster.now base.now.version base.now.step
+        (ending raster.now base.now.version base.now.step) }
+{
+    match end {
+        Ending::Bare => {}
+        Ending::Level => write_front(base.version, found, raster, out),
+        Ending::Coded(chosen) => {
+            let front = front_len(base.version, raster);
+            write_front(base.version, found, raster, &mut out[..front]);
+            write_form(chosen.form, base, raster, &mut out[front..]);
+        }
+    }
+}

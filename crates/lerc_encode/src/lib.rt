@@ -1,0 +1,16 @@
+//! The encoder: the blob that is chosen for a raster.
+#![tactic(auto)]
+
+mod blob;
+mod blocks;
+mod choosing;
+mod first;
+mod forms;
+mod images;
+mod masks;
+mod ranging;
+
+pub use blob::{EncodeFault, encode};
+
+#[cfg(test)]
+mod tests;
