@@ -28,3 +28,4 @@ pub mod Filling
 pub mod ChosenRuns
 pub mod ChosenTables
 pub mod Counted
+pub mod Once

@@ -1,11 +1,12 @@
 -- The laws of code lengths and canonical codes in the words of the format.
-use Rattle.std.specs.Prelude.{ℕ, ◌≡◌, ◌+◌, ◌-◌, ◌*◌, ◌/◌, ◌^◌, ◌<◌, true, false, List, []}
+use Rattle.std.specs.Prelude.{Bool, ℕ, ◌≡◌, ◌+◌, ◌-◌, ◌*◌, ◌/◌, ◌^◌, ◌<◌, true, false, List, []}
 use Rattle.std.specs.Prelude.{◌∷◌, ◌≤◌, ◌↔◌, All, slice_index}
 use Rattle.huff_codes.specs.Tree.{Tree, is_before, used_below, after_joins, lengths_of, used_count}
 use Rattle.huff_codes.specs.Bits.{bits_of}
 use Rattle.huff_codes.specs.Codes.{AreLengths, is_earlier, start_of, canonical_code, canonical_codes}
 use Rattle.huff_codes.specs.Table.{IsTable}
-use Rattle.huff_codes.specs.Written.{IsWrittenTable}
+use Rattle.first_fault.specs.Parts.{AreBytes}
+use Rattle.huff_codes.specs.Written.{AreWritten, IsWrittenTable}
 
 -- no later tree comes before an earlier one, so the first two are the least of all
 abbrev pub StandInOrder : List ℕ → List Tree → Type 0
@@ -41,10 +42,20 @@ CanonicalCodesCountUp = (lengths : List ℕ) → AreLengths lengths → CountUp 
 
 -- what is written of lengths is a table of their canonical codes
 abbrev pub WrittenTablesAreTables : Type 0
-WrittenTablesAreTables = (lengths bytes : List ℕ) → AreLengths lengths → IsWrittenTable lengths bytes
+WrittenTablesAreTables = (lengths bytes : List ℕ) → AreLengths lengths
+    → IsWrittenTable lengths bytes
     → IsTable bytes (canonical_codes lengths)
 
 -- where two symbols or more are used, those that are counted have lengths, and no others
 abbrev pub CountedHaveLengths : Type 0
 CountedHaveLengths = (counts : List ℕ) (s : ℕ) → 2 ≤ used_count counts → s < 256
     → (0 < slice_index counts s) ↔ (0 < slice_index (lengths_of counts) s)
+
+-- bytes that are written of symbols, or of lengths, are the only ones
+abbrev pub WrittenWordsAreOnce : Type 0
+WrittenWordsAreOnce = (codes : List (List Bool)) (symbols a b : List ℕ) → AreBytes a → AreBytes b
+    → AreWritten codes symbols a → AreWritten codes symbols b → a ≡ b
+
+abbrev pub WrittenTablesAreOnce : Type 0
+WrittenTablesAreOnce = (lengths a b : List ℕ) → AreBytes a → AreBytes b → IsWrittenTable lengths a
+    → IsWrittenTable lengths b → a ≡ b

@@ -44,7 +44,8 @@ with_tree counts t (u ∷ us) =
 -- in order, the used symbols below n, each a tree of its own
 unfoldable pub used_below : List ℕ → ℕ → List Tree
 used_below counts zero = []
-used_below counts (suc n) = if nat_eq (slice_index counts n) 0 then used_below counts n else with_tree counts (leaf n) (used_below counts n)
+used_below counts (suc n) = if nat_eq (slice_index counts n) 0 then used_below counts n
+    else with_tree counts (leaf n) (used_below counts n)
 
 -- n times, the two least are replaced by their join
 unfoldable pub after_joins : List ℕ → ℕ → List Tree → List Tree

@@ -52,13 +52,14 @@ abbrev pub run_lengths : List ℕ → SymbolRange → List ℕ
 run_lengths lengths range =
     map (λ k. slice_index lengths (symbol_in range.first k)) (range_with_len 0 range.count)
 
--- the four numbers in front: version 4, 256 symbols, the first one of the range, and the one behind it
+-- the four numbers in front: version 4, 256 symbols, the first one of the range, and the one behind
+-- it
 abbrev pub table_head : SymbolRange → List ℕ
 table_head range = little_bytes 4 4 ++ (little_bytes 4 256
     ++ (little_bytes 4 range.first ++ little_bytes 4 (range.first + range.count)))
 
--- the bytes are the chosen table of the lengths: the numbers of the shortest range, its lengths as a
--- simple list, and the words of its symbols' codes
+-- the bytes are the chosen table of the lengths: the numbers of the shortest range, its lengths as
+-- a simple list, and the words of its symbols' codes
 pub record IsWrittenTable (lengths bytes : List ℕ) : Type 0 where
   pub range : SymbolRange
   pub words : List ℕ

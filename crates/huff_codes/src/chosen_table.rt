@@ -15,8 +15,8 @@ use crate::writing::fill;
 use bit_stuff::{simple_len, write_simple};
 use byteorder::{ByteOrder, LittleEndian};
 
-/// How many symbols from one on, counted modulo 256, hold all that have a length: it ends at the last
-/// one that has.
+/// How many symbols from one on, counted modulo 256, hold all that have a length: it ends at the
+/// last one that has.
 fn count_from(lengths: &[u8; 256], first: usize) -> usize
     requires lengths { AreLengths lengths.now }
     requires first { first < 256 }
@@ -119,8 +119,8 @@ pub fn table_size(lengths: &Lengths) -> usize
 }
 
 /// Writes the code table of the canonical codes of these lengths: version 4; the shortest range of
-/// symbols that holds all which have a length, and of several the one that begins first; their lengths
-/// as a simple list; and their codes, in words whose last bits are 0.
+/// symbols that holds all which have a length, and of several the one that begins first; their
+/// lengths as a simple list; and their codes, in words whose last bits are 0.
 pub fn write_code_table(lengths: &Lengths, out: &mut [u8])
     requires { IsTableSize lengths.now (length out.old) }
     ensures written { IsWrittenTable lengths.now out.new }

@@ -8,6 +8,7 @@ ghost use Rattle.huff_codes.specs.Codes.{AreCodes, AreLengths, HasCode, IsPrefix
 ghost use Rattle.huff_codes.specs.Codes.{canonical_codes};
 ghost use Rattle.huff_codes.specs.Laws.{CanonicalCodesCountUp, JoinsTakeTheLeast};
 ghost use Rattle.huff_codes.specs.Laws.{CountedHaveLengths, WrittenTablesAreTables};
+ghost use Rattle.huff_codes.specs.Laws.{WrittenTablesAreOnce, WrittenWordsAreOnce};
 ghost use Rattle.huff_codes.specs.Table.{IsCoding, IsTable, coding_faults, table_faults};
 ghost use Rattle.huff_codes.specs.Words.{AreWords, word_faults};
 ghost use Rattle.huff_codes.specs.Written.{AreWritten};
@@ -72,4 +73,10 @@ pub fn written_tables_are_tables()
 /// Where two symbols or more are used, those that are counted have lengths, and no others have.
 pub fn counted_symbols_have_lengths()
     ensures { CountedHaveLengths }
+{}
+
+/// What is written of symbols, and of lengths, is one list of bytes.
+pub fn written_bytes_are_once()
+    ensures words { WrittenWordsAreOnce }
+    ensures table { WrittenTablesAreOnce }
 {}

@@ -21,7 +21,7 @@ pub use faults::{CodeFault, CodeReason};
 pub use laws::{
     canonical_codes_are_codes, canonical_codes_count_up, chosen_lengths_are_lengths,
     counted_symbols_have_lengths, joins_take_the_least, tables_are_a_part, tables_have_codes,
-    words_are_a_part, written_tables_are_tables, written_words_are_words,
+    words_are_a_part, written_bytes_are_once, written_tables_are_tables, written_words_are_words,
 };
 pub use lengths::Lengths;
 pub use table::read_table;

@@ -3,8 +3,8 @@ use Rattle.std.specs.Prelude.{ℕ, ◌≡◌, ◌-◌, ◌*◌, ◌^◌, ◌<◌
 use Rattle.std.specs.Prelude.{replicate}
 use Rattle.huff_codes.specs.Bits.{bits_of, word_bits}
 
--- The bits are those of the words in front of a place, and `count` more, fewer than a word has, which a
--- number holds.
+-- The bits are those of the words in front of a place, and `count` more, fewer than a word has,
+-- which a number holds.
 pub record IsPending (bits : List Bool) (out : List ℕ) (held count at : ℕ) : Type 0 where
   pub words : ℕ
   pub whole : at ≡ 4 * words
