@@ -4,8 +4,8 @@ use Rattle.std.specs.Prelude.{◌≡◌, ℕ, ◌≤◌, ◌<◌, List, length, 
 use Rattle.std.specs.declared.env.FillError.{FillError}
 use Rattle.std.specs.declared.env.FillError.TheVariants.{NotPresent, TooLong}
 
--- The text with this number stands at the front of the buffer, or there is none, or the buffer is too
--- short for it.
+-- The text with this number stands at the front of the buffer, or there is none, or the buffer is
+-- too short for it.
 abbrev pub GivesText : Option (List (List ℕ)) → ℕ → Result ℕ FillError → List ℕ → Type 0
 GivesText None number result buf = Unit {0}
 GivesText (Some texts) number (Ok n) buf = slice_get texts number ≡ Some (take n buf)

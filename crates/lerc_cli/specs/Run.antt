@@ -1,5 +1,5 @@
--- What a run leaves of the objects that it is lent, whatever it answers. What an object tells is None,
--- or false, where it tells nothing.
+-- What a run leaves of the objects that it is lent, whatever it answers. What an object tells is
+-- None, or false, where it tells nothing.
 use Rattle.std.specs.Prelude.{◌≡◌, ℕ, ◌≤◌, List, [], length, Option, Some, None, IfSome, Bool, IsTrue, IsFalse, if◌then◌else◌, Ok, Err}
 use Rattle.outside_io.specs.volume.History.{History, contents}
 use Rattle.outside_io.specs.declared.volume.VolFile.TheVariants.{Bundle, Journal}
@@ -24,7 +24,8 @@ use Rattle.outside_io.specs.streams.Faults.{IsCause}
 -- what a volume tells of its files as a run starts
 abbrev pub files_of : Bool → History → Option Files
 files_of told h =
-    if told then Some (record { bundle = contents Bundle h; journal = contents Journal h }) else None
+    if told then Some (record { bundle = contents Bundle h; journal = contents Journal h })
+    else None
 
 abbrev pub given : Option (List ℕ) → Option Files → Given
 given input files = record { input = input; files = files }
@@ -79,8 +80,8 @@ pub record OfVolume (c : Command) (end : End) (same : Type 0) (marks : List ℕ)
 
 -- ---- the error output
 
--- The line of the stop, and none where all went well. The first type says that the error output is as
--- it was.
+-- The line of the stop, and none where all went well. The first type says that the error output is
+-- as it was.
 abbrev pub GivesLineOf : End → Type 0 → Option (List ℕ) → Option (List ℕ) → ℕ → ℕ → Type 0
 GivesLineOf (Ok x) same old new faults_old faults_new = same
 GivesLineOf (Err stop) same old new faults_old faults_new =
@@ -126,8 +127,8 @@ GivesGridPrefix input old new =
     (r : Pixels) × (IsRaster r × IfSome input (λ bytes. Blob bytes r)
     × HoldsPrefix old new (grid_of r))
 
--- The error output was given the line of a fault, which where the bytes are told is the first fault of
--- the whole input.
+-- The error output was given the line of a fault, which where the bytes are told is the first fault
+-- of the whole input.
 abbrev pub TellsFault : Option (List ℕ) → Option (List ℕ) → Option (List ℕ) → ℕ → ℕ → Type 0
 TellsFault input old new faults_old faults_new =
     (place : ℕ) × ((reason : BlobReason) × (IfSome input (λ bytes. WholeFault bytes place reason)

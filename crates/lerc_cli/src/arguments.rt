@@ -10,9 +10,9 @@ pub trait Arguments {
     /// All the texts, each a list of bytes, where they are told.
     ghost texts: { Self → Option (List (List ℕ)) };
 
-    /// Copies the text with this number, counted from 0, to the front of the buffer, and answers its
-    /// length. It is `NotPresent` behind the last, and `TooLong` where the text is longer than the
-    /// buffer.
+    /// Copies the text with this number, counted from 0, to the front of the buffer, and answers
+    /// its length. It is `NotPresent` behind the last, and `TooLong` where the text is longer than
+    /// the buffer.
     fn text_at(&self, number: usize, buf: &mut [u8]) -> Result<usize, FillError>
         ensures within { IfOk result (λ n. n ≤ length buf.new) }
         ensures text { GivesText (texts self.now) number result buf.new };

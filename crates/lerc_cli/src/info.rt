@@ -22,8 +22,8 @@ fn outline_of(blob: &[u8]) -> Outline
     }
 }
 
-/// Reads one blob from the source whole, and gives the fourteen lines of what it says of itself to the
-/// output. The blob is decoded before anything is given.
+/// Reads one blob from the source whole, and gives the fourteen lines of what it says of itself to
+/// the output. The blob is decoded before anything is given.
 pub fn info<S: Source, K: Sink>(alloc: Global, src: &mut S, out: &mut K) -> Result<(), Stop>
     ensures source { OfSource Command.Info result (src.new ≡ src.old)
         (S.left src.old) (S.left src.new) (S.faults src.old) (S.faults src.new) }

@@ -1,5 +1,5 @@
-//! What `info` gives, whatever the pieces and whichever call fails. The lines are worked by hand from
-//! the bytes of the blobs.
+//! What `info` gives, whatever the pieces and whichever call fails. The lines are worked by hand
+//! from the bytes of the blobs.
 
 use crate::tests::{
     BAD_RUN, BLOB, MISCOUNTED, NO_SWEEP, NONE_VALID, NONE_VALID_ODD, RANGES, RUNS, SWEEP, USAGE,

@@ -30,8 +30,8 @@ fn keep(kept: &mut Option<Vec<u8>>, bytes: &[u8])
     }
 }
 
-/// Feeds the decoder with one call on the source, of at most as many bytes as it wants, and keeps what
-/// it takes. Answers how many bytes came.
+/// Feeds the decoder with one call on the source, of at most as many bytes as it wants, and keeps
+/// what it takes. Answers how many bytes came.
 fn keep_once<S: Source>(
     src: &mut S,
     decoder: &mut Decoder,
@@ -123,9 +123,9 @@ fn keep_blob<S: Source>(alloc: Global, src: &mut S) -> Result<Vec<u8>, FromFault
     }
 }
 
-/// Reads the bytes of the blob that is all that the source has, once it was decoded whole. Behind the
-/// blob it asks for one byte more, so that it knows the end. Memory is wanted only where a lawful
-/// header stands whole.
+/// Reads the bytes of the blob that is all that the source has, once it was decoded whole. Behind
+/// the blob it asks for one byte more, so that it knows the end. Memory is wanted only where a
+/// lawful header stands whole.
 pub fn read_kept<S: Source>(alloc: Global, src: &mut S) -> Result<Vec<u8>, Stop>
     ensures blob { KeepsBlob (S.left src.old) result }
     ensures source { IsCause (result ≡ Err Stop.Source) (S.faults src.old) (S.faults src.new) }

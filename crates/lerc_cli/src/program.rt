@@ -23,8 +23,8 @@ fn exit_code(status: u8) -> ExitCode
 }
 
 /// The program over what gives its arguments and over its objects: a run of the words behind the
-/// program's name and the bundle's path. Where memory for these words is refused, the line of that is
-/// all that it gives.
+/// program's name and the bundle's path. Where memory for these words is refused, the line of that
+/// is all that it gives.
 pub fn serve<A: Arguments, S: Source, K: Sink, E: Sink, V: Volume>(
     alloc: Global,
     args: &A,

@@ -40,8 +40,8 @@ pub(crate) fn has_more<S: Source>(src: &mut S) -> Result<bool, Failed>
     }
 }
 
-/// Reads the raster of the blob that is all that the source has. Behind the blob it asks for one byte
-/// more, so that it knows the end. Memory is wanted only where a lawful header stands whole.
+/// Reads the raster of the blob that is all that the source has. Behind the blob it asks for one
+/// byte more, so that it knows the end. Memory is wanted only where a lawful header stands whole.
 pub fn read_blob<S: Source>(alloc: Global, src: &mut S) -> Result<Raster, Stop>
     ensures blob { ReadsBlob (S.left src.old) result }
     ensures source { IsCause (result ≡ Err Stop.Source) (S.faults src.old) (S.faults src.new) }

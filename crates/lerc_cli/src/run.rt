@@ -100,8 +100,8 @@ fn ended_status<E: Sink>(ended: Result<(), Stop>, err: &mut E) -> u8
 /// Does all that the program does: finds the command of the words, does it, and answers the status
 /// that the program ends with.
 ///
-/// The commands so far are `decode` and `info`. Both read one whole blob; then `decode` gives its grid,
-/// and `info` the fourteen lines of what it says of itself.
+/// The commands so far are `decode` and `info`. Both read one whole blob; then `decode` gives its
+/// grid, and `info` the fourteen lines of what it says of itself.
 ///
 /// | status | it comes |
 /// |---|---|
@@ -113,8 +113,8 @@ fn ended_status<E: Sink>(ended: Result<(), Stop>, err: &mut E) -> u8
 /// | 5 | exactly where the volume failed, which neither calls |
 /// | 6 | where memory was refused, which is wanted only behind a whole lawful header |
 ///
-/// On a status other than 0 one line is given to `err`. The faults of `err` change nothing. There are
-/// no marks.
+/// On a status other than 0 one line is given to `err`. The faults of `err` change nothing. There
+/// are no marks.
 pub fn run<S: Source, K: Sink, E: Sink, V: Volume>(
     alloc: Global,
     words: &[Word],

@@ -1,6 +1,6 @@
-//! What `run` gives, whatever the pieces and whichever call fails, and which words a command line has.
-//! The blobs and grids are worked by hand or written by Esri's own library, and the lines are those of
-//! the program's documents.
+//! What `run` gives, whatever the pieces and whichever call fails, and which words a command line
+//! has. The blobs and grids are worked by hand or written by Esri's own library, and the lines are
+//! those of the program's documents.
 
 ghost use Rattle.std.specs.Prelude.{◌<◌, None};
 
@@ -177,8 +177,8 @@ pub(crate) struct Left {
     pub(crate) err: MemSink,
 }
 
-/// Runs over a source of these bytes and an output, each with its pieces and the numbers of its failing
-/// calls.
+/// Runs over a source of these bytes and an output, each with its pieces and the numbers of its
+/// failing calls.
 pub(crate) fn left_by(
     alloc: Global,
     words: &[&str],

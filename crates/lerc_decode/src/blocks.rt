@@ -57,8 +57,8 @@ fn refused(fault: BlockFault, at: usize) -> Result<usize, BlobFault>
     })
 }
 
-/// Reads the block in row `a` and column `b` of blocks at depth `d`, which begins at this place, and
-/// answers the place behind it.
+/// Reads the block in row `a` and column `b` of blocks at depth `d`, which begins at this place,
+/// and answers the place behind it.
 fn read_one(
     rest: &[u8],
     at: usize,
@@ -236,7 +236,8 @@ fn read_rows(
     Ok(at)
 }
 
-/// Gives the valid pixels the values of blocks, the first of which begins at this place of the blob.
+/// Gives the valid pixels the values of blocks, the first of which begins at this place of the
+/// blob.
 pub(crate) fn pour_blocks(
     rest: &[u8],
     place: usize,

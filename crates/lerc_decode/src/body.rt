@@ -71,8 +71,8 @@ pub(crate) fn many(alloc: Global, value: i64, count: usize) -> Option<Vec<i64>>
     vec![in alloc; value; count].ok()
 }
 
-/// Makes the pixels valid that the runs say, which begin at this place of the blob. The mask's bytes
-/// are read into `mask`.
+/// Makes the pixels valid that the runs say, which begin at this place of the blob. The mask's
+/// bytes are read into `mask`.
 fn mark_by(
     runs: &[u8],
     place: usize,
@@ -293,7 +293,8 @@ fn has_one_top(header: &Header) -> bool
     header.version == Version::V3 || header.depth == 1
 }
 
-/// Reads the tops of the depths, where they are not all the header's. The bytes begin with the lists.
+/// Reads the tops of the depths, where they are not all the header's. The bytes begin with the
+/// lists.
 fn read_tops(bytes: &[u8], header: &Header, tops: &mut [i64])
     requires few { header.now.depth ≤ 65536 }
     requires top { InRange header.now.kind header.now.greatest }

@@ -1,4 +1,5 @@
-//! What a decoder gives of blobs of blocks and of codes that were worked by hand, in pieces of any length.
+//! What a decoder gives of blobs of blocks and of codes that were worked by hand, in pieces of any
+//! length.
 
 ghost use Rattle.std.specs.Prelude.{◌≤◌, length};
 

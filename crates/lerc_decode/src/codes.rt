@@ -44,7 +44,8 @@ fn refused(fault: CodeFault, place: usize) -> Result<(), BodyStop>
     stopped(reason_of_code(fault.reason), place + fault.at)
 }
 
-/// Reads the words of as many symbols as `symbols` has, which begin at this place and are the blob's last bytes.
+/// Reads the words of as many symbols as `symbols` has, which begin at this place and are the
+/// blob's last bytes.
 fn read_words(rest: &[u8], place: usize, codes: &Codes, symbols: &mut [u8]) -> Result<(), BodyStop>
     requires count { length symbols.old ≤ 16777216 }
     requires few { place + length rest.now < 2 ^ 62 }
@@ -59,8 +60,8 @@ fn read_words(rest: &[u8], place: usize, codes: &Codes, symbols: &mut [u8]) -> R
     }
 }
 
-/// Reads a code table, and as many symbols as `symbols` has. They begin at this place, and are the blob's
-/// last bytes.
+/// Reads a code table, and as many symbols as `symbols` has. They begin at this place, and are the
+/// blob's last bytes.
 fn read_codes(rest: &[u8], place: usize, symbols: &mut [u8]) -> Result<(), BodyStop>
     requires count { length symbols.old ≤ 16777216 }
     requires few { place + length rest.now < 2 ^ 62 }
@@ -93,7 +94,8 @@ fn take_deltas(symbols: &[u8], header: &Header, raster: &mut Raster)
     }
 }
 
-/// Gives the valid pixels the values of a table and words of differences, which begin at this place.
+/// Gives the valid pixels the values of a table and words of differences, which begin at this
+/// place.
 pub(crate) fn pour_deltas(
     rest: &[u8],
     place: usize,

@@ -74,8 +74,8 @@ impl Model for Decoder {
     ghost invariant = { IsInside };
 }
 
-/// Puts bytes of the piece behind those that are there, as many as are missing to `want`. Answers how
-/// many.
+/// Puts bytes of the piece behind those that are there, as many as are missing to `want`. Answers
+/// how many.
 fn fill(head: &mut [u8; 70], have: usize, want: usize, piece: &[u8]) -> usize
     requires have { have ≤ want }
     requires want { want ≤ 70 }

@@ -30,8 +30,8 @@ pub enum FromFault {
     OutOfMemory,
 }
 
-/// Feeds the decoder with one call on the source, of at most as many bytes as it wants. Answers how many
-/// bytes came.
+/// Feeds the decoder with one call on the source, of at most as many bytes as it wants. Answers how
+/// many bytes came.
 fn feed_once<S: Source>(
     src: &mut S,
     decoder: &mut Decoder,

@@ -29,4 +29,5 @@ checksum_of r version step =
 
 unfoldable pub choice : Pixels → Version → ℕ → List ℕ
 choice r version step =
-    head_bytes (header_with r version step (checksum_of r version step)) ++ behind_head r version step
+    head_bytes (header_with r version step (checksum_of r version step))
+    ++ behind_head r version step

@@ -13,8 +13,8 @@ pub record IsAsked (r : Pixels) (version : Version) (step : ℕ) : Type 0 where
   pub step_allowed : IsTwiceError step
   pub flat : version ≡ V3 → r.depth ≡ 1
 
--- The bytes are a blob of exactly one raster, and that one is near the given one: of one type and shape,
--- with the same valid pixels, and each value within half a step.
+-- The bytes are a blob of exactly one raster, and that one is near the given one: of one type and
+-- shape, with the same valid pixels, and each value within half a step.
 pub record IsEncodedOnce (bytes : List ℕ) (r : Pixels) (step : ℕ) : Type 0 where
   pub raster : Pixels
   pub blob : Blob bytes raster

@@ -9,7 +9,8 @@ use Rattle.lerc_grammar.specs.Mask.{count_of, mask_size}
 abbrev pub bit_of : List Bool → ℕ → ℕ
 bit_of marks k = if get_or marks k false then 1 else 0
 
--- the bits of eight pixels from number k on, the first of them highest; a bit behind the last pixel is 0
+-- the bits of eight pixels from number k on, the first of them highest; a bit behind the last pixel
+-- is 0
 unfoldable pub mask_byte : List Bool → ℕ → ℕ
 mask_byte marks k =
     128 * bit_of marks k + (64 * bit_of marks (k + 1) + (32 * bit_of marks (k + 2)

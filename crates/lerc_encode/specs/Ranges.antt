@@ -46,7 +46,8 @@ front_bytes r V4 = values_bytes r.kind (leasts r ++ greatests r)
 -- no pixel is valid, or all values are one
 abbrev pub is_bare : Pixels → Bool
 is_bare r =
-    nat_eq (valid_count r) 0 || int_eq (least_value (values_of r.pixels)) (greatest_value (values_of r.pixels))
+    nat_eq (valid_count r) 0
+    || int_eq (least_value (values_of r.pixels)) (greatest_value (values_of r.pixels))
 
 -- each depth has one value
 abbrev pub is_level : Pixels → Bool

@@ -38,8 +38,8 @@ fn with_marked(range: Range, marks: &[bool], values: &[i64]) -> Range
     Range { least, greatest }
 }
 
-/// The range with the values at a depth of the valid ones among the pixels from a place on, as many as
-/// the buffers have room for.
+/// The range with the values at a depth of the valid ones among the pixels from a place on, as many
+/// as the buffers have room for.
 fn with_run(
     range: Range,
     raster: &Raster,

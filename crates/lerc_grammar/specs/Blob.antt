@@ -11,7 +11,8 @@ use Rattle.lerc_header.specs.declared.fault.BlobReason.TheVariants.{BadChecksum}
 use Rattle.lerc_grammar.specs.Mask.{IsMask, mask_faults}
 use Rattle.lerc_grammar.specs.Image.{IsImage, image_faults}
 
--- the head says what the raster and the blob are: type, shape, number of valid pixels, length, checksum
+-- the head says what the raster and the blob are: type, shape, number of valid pixels, length,
+-- checksum
 pub record IsHeadOf (h : Header) (bytes : List ℕ) (r : Pixels) : Type 0 where
   pub kind : h.kind ≡ r.kind
   pub rows : h.rows ≡ r.rows

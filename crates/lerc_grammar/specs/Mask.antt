@@ -22,14 +22,14 @@ count_of marks = count_by (λ mark. mark) marks
 abbrev pub IsAlike : ℕ → ℕ → Type 0
 IsAlike pixels valid = (valid ≡ 0) ⊎ (valid ≡ pixels)
 
--- The bytes are the mask of so many pixels, of which so many are valid, and these are the marks of the
--- pixels, row by row.
+-- The bytes are the mask of so many pixels, of which so many are valid, and these are the marks of
+-- the pixels, row by row.
 pub data IsMask (pixels valid : ℕ) (bytes : List ℕ) (marks : List Bool) : Type 0 where
   -- all pixels are alike: the length is 0, and nothing follows it
   alike : (mark : Bool) → valid ≡ (if mark then pixels else 0) → length bytes ≡ 4 →
       i32_at bytes 0 ≡ pos 0 → marks ≡ replicate pixels mark → IsMask pixels valid bytes marks
-  -- else runs follow, as many bytes as the length says, of a mask with a bit for each pixel, of which as
-  -- many are 1 as pixels are valid
+  -- else runs follow, as many bytes as the length says, of a mask with a bit for each pixel, of
+  -- which as many are 1 as pixels are valid
   mixed : (mask : List ℕ) → ¬ IsAlike pixels valid → 4 ≤ length bytes →
       i32_at bytes 0 ≡ pos (length (drop 4 bytes)) → Runs (drop 4 bytes) mask →
       length mask ≡ mask_size pixels → marks ≡ marks_in pixels mask → count_of marks ≡ valid →
@@ -57,7 +57,8 @@ abbrev pub runs_faults : ℕ → ℕ → List ℕ → Faults BlobReason
 runs_faults pixels valid runs place reason =
     in_runs runs (mask_size pixels) place reason ⊎ miscounted pixels valid runs place reason
 
--- Below, `inside` is what may be wrong inside the runs: the decoder looks there, `mask_part` does not.
+-- Below, `inside` is what may be wrong inside the runs: the decoder looks there, `mask_part` does
+-- not.
 
 -- the length is n, above 0: the runs lie within the bytes
 abbrev pub in_mask_of : (List ℕ → Faults BlobReason) → List ℕ → ℕ → Faults BlobReason

@@ -43,7 +43,8 @@ image_place h Full = head_length h.version + 4
 image_place h (Runs at len) = head_length h.version + 4 + len
 
 -- the bytes are the lists, where there are any, and then others
-pub record HasLists (h : Header) (rest : List ℕ) (front : Option Ends) (behind : List ℕ) : Type 0 where
+pub record HasLists (h : Header) (rest : List ℕ) (front : Option Ends)
+    (behind : List ℕ) : Type 0 where
   pub lists : List ℕ
   pub joined : rest ≡ lists ++ behind
   pub stand : IsFront h h.version lists front

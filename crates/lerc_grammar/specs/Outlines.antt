@@ -1,5 +1,5 @@
--- The header of a blob and the forms of its two parts, all at once, and what is wrong first where one
--- of them does not stand. Bytes behind the blob have no part in it.
+-- The header of a blob and the forms of its two parts, all at once, and what is wrong first where
+-- one of them does not stand. Bytes behind the blob have no part in it.
 use Rattle.std.specs.Prelude.{◌≡◌, ℕ, ◌≤◌, ◌⊎◌, List, length, drop, take}
 use Rattle.first_fault.specs.Faults.{Faults, wrong, unless}
 use Rattle.lerc_header.specs.declared.header.Header.{Header}

@@ -9,9 +9,9 @@ use Rattle.lerc_header.specs.declared.fault.BlobReason.TheVariants.{Truncated, L
 use Rattle.lerc_header.specs.HeadFaults.{HasKey, HasVersion, key_faults, field_faults}
 use Rattle.lerc_grammar.specs.Blob.{Blob, blob_faults}
 
--- A fault is decided late: that of key and version by ten bytes, that of another field of the header by
--- a whole header, that of the checksum or of a field behind the header by as many bytes as the header
--- says that the blob has.
+-- A fault is decided late: that of key and version by ten bytes, that of another field of the
+-- header by a whole header, that of the checksum or of a field behind the header by as many bytes
+-- as the header says that the blob has.
 pub data FirstFault (bytes : List ℕ) (place : ℕ) (reason : BlobReason) : Type 0 where
   of_key : 10 ≤ length bytes → key_faults (take 10 bytes) place reason →
       FirstFault bytes place reason

@@ -73,8 +73,9 @@ fn first_outline(bytes: &[u8]) -> Result<Outline, BlobFault>
     parts_of(&bytes[..size], header)
 }
 
-/// The header of the blob that comes first in the bytes, and the forms of its mask and of its image;
-/// or what is wrong first with its header, with its length, with its checksum or with these forms.
+/// The header of the blob that comes first in the bytes, and the forms of its mask and of its
+/// image; or what is wrong first with its header, with its length, with its checksum or with these
+/// forms.
 ///
 /// It looks neither into the runs of the mask nor at the values, nor at bytes behind the blob. It
 /// takes no memory.

@@ -142,8 +142,8 @@ fn first_mask_form(blob: &[u8], header: &Header) -> Result<MaskForm, BlobFault>
 
 /// The form of the mask, or what is wrong first with its length.
 ///
-/// It tests the length and that the runs lie within the blob, and does not look inside them. It takes no
-/// memory.
+/// It tests the length and that the runs lie within the blob, and does not look inside them. It
+/// takes no memory.
 pub fn mask_part(blob: &[u8], header: &Header) -> Result<MaskForm, BlobFault>
     requires head { HeadAt blob.now header.now }
     requires size { length blob.now ≡ header.now.size }
@@ -364,10 +364,11 @@ fn first_image_form(blob: &[u8], header: &Header, mask: &MaskForm) -> Result<Ima
     }
 }
 
-/// The form of the image, or what is wrong first with its lists or with the bytes that tell the form.
+/// The form of the image, or what is wrong first with its lists or with the bytes that tell the
+/// form.
 ///
-/// It does not look at the values, but tells bytes that are left over where there are none. It takes no
-/// memory.
+/// It does not look at the values, but tells bytes that are left over where there are none. It
+/// takes no memory.
 pub fn image_part(blob: &[u8], header: &Header, mask: &MaskForm) -> Result<ImageForm, BlobFault>
     requires head { HeadAt blob.now header.now }
     requires size { length blob.now ≡ header.now.size }

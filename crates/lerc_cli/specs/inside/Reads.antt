@@ -20,11 +20,13 @@ ReadsBlob input _ = ⊥
 
 -- why a source gave no raster, as a stop
 abbrev pub stop_of : FromFault → Stop
-stop_of (FromBlob fault) = Refused (record { reason = BlobReasonOf fault.reason; place = fault.place })
+stop_of (FromBlob fault) =
+    Refused (record { reason = BlobReasonOf fault.reason; place = fault.place })
 stop_of FromSource = Source
 stop_of FromMemory = OutOfMemory
 
--- One byte more was asked for: it was there and was taken, or nothing is left. A failure takes no byte.
+-- One byte more was asked for: it was there and was taken, or nothing is left. A failure takes no
+-- byte.
 abbrev pub AsksOne : Result Bool Failed → Option (List ℕ) → Option (List ℕ) → Type 0
 AsksOne result None new = new ≡ None
 AsksOne (Ok true) (Some left) new = (0 < length left) × (new ≡ Some (drop 1 left))

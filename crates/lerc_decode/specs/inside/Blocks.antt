@@ -42,19 +42,24 @@ IsOneTop h = (h.version ≡ V3) ⊎ (h.depth ≡ 1)
 
 -- in version 4 both lists are there
 abbrev pub HasBoth : Header → List ℕ → Type 0
-HasBoth h bytes = h.version ≡ V4 → h.depth * bytes_of h.kind + h.depth * bytes_of h.kind ≤ length bytes
+HasBoth h bytes =
+    h.version ≡ V4 → h.depth * bytes_of h.kind + h.depth * bytes_of h.kind ≤ length bytes
 
 -- they are those of the lists with which these bytes begin
 pub record AreTopsOf (h : Header) (bytes : List ℕ) (tops : List ℤ) : Type 0 where
   pub tops_are : AreTops h tops
-  pub each : (front : Option Ends) (behind : List ℕ) → HasLists h bytes front behind → (d : ℕ) → d < h.depth → top_in tops d ≡ top_of h front d
+  pub each : (front : Option Ends) (behind : List ℕ) → HasLists h bytes front behind →
+      (d : ℕ) → d < h.depth → top_in tops d ≡ top_of h front d
 
 -- the first `at` bytes are the first k blocks of the raster
-pub record HasRead (h : Header) (marks : List Bool) (tops : List ℤ) (rest : List ℕ) (k at : ℕ) (r : Pixels) : Type 0 where
+pub record HasRead (h : Header) (marks : List Bool) (tops : List ℤ) (rest : List ℕ) (k at : ℕ)
+    (r : Pixels) : Type 0 where
   pub within : at ≤ length rest
-  pub stand : Numbered (λ j. IsBlock (block_frame h marks (top_in tops) j)) 0 (take at rest) (map (coded_values h r) (range_with_len 0 k))
+  pub stand : Numbered (λ j. IsBlock (block_frame h marks (top_in tops) j)) 0 (take at rest)
+      (map (coded_values h r) (range_with_len 0 k))
 
 -- all bytes are the blocks of the raster
-pub record HasBlocks (h : Header) (marks : List Bool) (tops : List ℤ) (rest : List ℕ) (r : Pixels) : Type 0 where
+pub record HasBlocks (h : Header) (marks : List Bool) (tops : List ℤ) (rest : List ℕ)
+    (r : Pixels) : Type 0 where
   pub side : h.side ≤ 32
   pub stand : AreBlocks h marks (top_in tops) rest (all_blocks h r)

@@ -24,7 +24,8 @@ named LargeBlocks = images.blocks_16
 
 -- the form at a place in their order
 abbrev pub form_at : ℕ → ValueForm
-form_at place = if nat_eq place 0 then Sweep else (if nat_eq place 1 then SmallBlocks else LargeBlocks)
+form_at place =
+    if nat_eq place 0 then Sweep else (if nat_eq place 1 then SmallBlocks else LargeBlocks)
 
 -- the header of a raster's blob as far as it is known before the blob is laid out, with side 8
 pub record IsBase (h : Header) (r : Pixels) : Type 0 where

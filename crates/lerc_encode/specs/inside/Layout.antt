@@ -24,4 +24,5 @@ pub record IsPlan (r : Pixels) (version : Version) (step : ℕ) (p : Plan) : Typ
 -- the bytes are the header with the checksum of what it covers, and what stands behind it
 pub record IsSealed (h : Header) (behind blob : List ℕ) : Type 0 where
   pub fits : sum_of (drop 14 (head_bytes h ++ behind)) < 2 ^ 32
-  pub bytes : blob ≡ head_bytes (record h { checksum = sum_of (drop 14 (head_bytes h ++ behind)) }) ++ behind
+  pub bytes : blob
+      ≡ head_bytes (record h { checksum = sum_of (drop 14 (head_bytes h ++ behind)) }) ++ behind

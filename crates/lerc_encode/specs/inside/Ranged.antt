@@ -16,8 +16,10 @@ marked_values marks values n = flat_map (marked_at marks values) (range_with_len
 
 -- the values at a depth of the valid ones among n pixels from a place on
 abbrev pub run_values : Pixels → ℕ → ℕ → ℕ → List ℤ
-run_values r d place n = flat_map (λ k. at_depth d (get_or r.pixels k None)) (range_with_len place n)
+run_values r d place n =
+    flat_map (λ k. at_depth d (get_or r.pixels k None)) (range_with_len place n)
 
 -- the range once these values are taken in as well
 abbrev pub grown : Range → List ℤ → Range
-grown r values = record { least = fold int_min r.least values; greatest = fold int_max r.greatest values }
+grown r values =
+    record { least = fold int_min r.least values; greatest = fold int_max r.greatest values }

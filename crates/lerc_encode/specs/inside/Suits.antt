@@ -17,11 +17,14 @@ pub record Suits (h : Header) (front : Option Ends) (r : Pixels) : Type 0 where
   pub side : 0 < h.side
   pub side_below : h.side ≤ 16
   pub step : 0 < h.step
-  pub tops : (p d : ℕ) → p < length r.pixels → get_or (marks_of r) p false ≡ true → d < r.depth → value_in r d p ≤ℤ top_of h front d
+  pub tops : (p d : ℕ) → p < length r.pixels → get_or (marks_of r) p false ≡ true → d < r.depth
+      → value_in r d p ≤ℤ top_of h front d
   pub tops_in_range : (d : ℕ) → d < r.depth → InRange r.kind (top_of h front d)
 
--- one type, shape and mask, and each value of a valid pixel near the other's, by the numbers of pixels
+-- one type, shape and mask, and each value of a valid pixel near the other's, by the numbers of
+-- pixels
 pub record IsBeside (r s : Pixels) (step : ℕ) : Type 0 where
   pub shape : SameShape r s
   pub marks : marks_of r ≡ marks_of s
-  pub each : (k d : ℕ) → k < length r.pixels → get_or (marks_of r) k false ≡ true → d < r.depth → IsNear step (value_in r d k) (value_in s d k)
+  pub each : (k d : ℕ) → k < length r.pixels → get_or (marks_of r) k false ≡ true → d < r.depth
+      → IsNear step (value_in r d k) (value_in s d k)
