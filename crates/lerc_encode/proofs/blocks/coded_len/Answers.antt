@@ -17,4 +17,4 @@ block_len-requires-clause-capped c =
 pub returns-clause-few : goal.returns-clause-few
 returns-clause-few c =
     let few : length (take c.gather_block-n.result c.gather_block-n.new.out) ≤ 256 = (let h = take_short c.gather_block-n.result c.gather_block-n.new.out in let kept : length c.gather_block-n.new.out ≡ length c.args.values.now = c.gather_block-n.auto.out in let room = c.requires.room in omega (arith, h, kept, room)) in
-    coded_few _ _ _ c.block_len.result _ c.block_len.ensures few
+    coded_few _ _ _ c.block_len.result _ c.block_len.ensures.length few
