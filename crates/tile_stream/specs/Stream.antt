@@ -61,7 +61,7 @@ pub record HasTile (rest : List ℕ) (t : Tile) : Type 0 where
   pub tile : IsTile front t
 
 -- The first refusals, one record each. Each speaks of the tiles in front, which pass, and of what
--- follows them; no two hold of the same input.
+-- follows them.
 
 -- there is a byte behind 1,048,576 tiles
 pub record IsOverfull (deep : Bool) (blob : Pixels → List ℕ) (bytes : List ℕ) : Type 0 where
