@@ -109,11 +109,11 @@ no_memory_follows s joins e = subst (λ (t : Stage). Follows t joins) (sym e) tt
 at_end : (left1 : Option (List ℕ)) (rest : List ℕ) → left1 ≡ Some rest → IsAtEnd left1 → rest ≡ []
 at_end left1 rest e end = subst IsAtEnd e end
 
-found_more : (left0 left1 : Option (List ℕ)) (taken : List ℕ) → IsMore taken → Joins left0 left1 [] taken → IsAtEnd left1 → IsSized (Err (Blob (record { reason = Truncated; place = length taken }))) left0 left1
+pub found_more : (left0 left1 : Option (List ℕ)) (taken : List ℕ) → IsMore taken → Joins left0 left1 [] taken → IsAtEnd left1 → IsSized (Err (Blob (record { reason = Truncated; place = length taken }))) left0 left1
 found_more None left1 taken more j end = j
 found_more (Some input) left1 taken more (rest, (e, j)) end = (taken, (rest, (j, (e, inr (more, (at_end left1 rest e end, refl))))))
 
-waits : (n : ℕ) (P : Type 0) → 0 < n → (n ≡ 0) ⊎ P → P
+pub waits : (n : ℕ) (P : Type 0) → 0 < n → (n ≡ 0) ⊎ P → P
 waits n P some (inl e) = absurd (omega (arith, some, e))
 waits n P some (inr p) = p
 

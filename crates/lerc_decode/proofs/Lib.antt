@@ -3,7 +3,7 @@ mod Filling
 mod Bodies
 mod Fields
 mod Steps
-mod Feeding
+pub mod Feeding
 pub mod Tops
 pub mod BlockReading
 pub mod CodePlaces

@@ -22,7 +22,7 @@ use Rattle.lerc_header.specs.declared.header.Header.{Header}
 use Rattle.micro_block.specs.Fewest.{first_least}
 use Rattle.micro_block.specs.Choice as micro
 use Rattle.micro_block.specs.Choice.{block_bytes, chosen_form, form_bytes, forms}
-use Rattle.lerc_encode.proofs.Fewest.{IsTaken, is_first_least}
+use Rattle.micro_block.proofs.Fewest.{IsTaken, is_first_least}
 use Rattle.lerc_grammar.specs.Blocks.{blocks_across, blocks_down, coded_blocks, block_depth, block_row, block_col}
 use Rattle.lerc_encode.specs.inside.Blocked.{IsBlocked}
 

@@ -24,7 +24,7 @@ use Rattle.lerc_header.specs.Checksum.{sum_of}
 use Rattle.lerc_header.proofs.WrittenHeads.{length-head, drop-head, head_stands, field-checksum}
 use Rattle.micro_block.specs.Choice as micro
 use Rattle.micro_block.specs.Near.{IsNear}
-use Rattle.lerc_encode.proofs.Fewest.{is_first_least, IsTaken}
+use Rattle.micro_block.proofs.Fewest.{is_first_least, IsTaken}
 use Rattle.lerc_grammar.specs.Mask.{IsMask, alike, mixed, count_of, IsAlike}
 use Rattle.lerc_grammar.specs.Image.{IsImage}
 use Rattle.lerc_grammar.specs.Near.{Near}

@@ -25,7 +25,7 @@ use Rattle.micro_block.specs.Choice.{least_value}
 use Rattle.micro_block.specs.Frame.{IsBlockStep}
 use Rattle.micro_block.specs.Fewest.{first_least, IsFirstLeast}
 use Rattle.raster_values.proofs.Views.{same_bits}
-use Rattle.lerc_encode.proofs.Best.{by_sizes}
+use Rattle.micro_block.proofs.Steps.{by_sizes}
 use Rattle.lerc_encode.specs.Heads.{header_of}
 use Rattle.lerc_encode.specs.Ranges.{greatest_value, leasts, greatests, front_bytes, is_bare, is_level}
 use Rattle.lerc_encode.specs.Images as images

@@ -1,5 +1,3 @@
-pub mod Fewest
-pub mod Best
 pub mod Runs
 pub mod Members
 pub mod Extremes

@@ -1,10 +1,10 @@
 pub mod Blocks
 pub mod Written
 pub mod BlockSteps
-mod Fewest
+pub mod Fewest
 mod Near
 mod Fast
-mod Steps
+pub mod Steps
 mod Closed
 mod Range
 mod SizeSteps

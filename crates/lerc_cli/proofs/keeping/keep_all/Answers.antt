@@ -1,7 +1,7 @@
 use Rattle.std.proofs.Common.{◌≡◌, length, ap, refl, ◌∙◌, arith}
 use Rattle.lerc_decode.specs.Decoding.{Stage, Decoding}
 use Rattle.lerc_decode.specs.inside.Feeding.{work_at, work_left}
-use Rattle.lerc_cli.proofs.KeptBytes.{begins_more, begins_same, few_more, follow_any, follow_more, joins_same, takes_none, joins_more, no_memory_follows}
+use Rattle.lerc_decode.proofs.Feeding.{begins_more, begins_same, few_more, follow_any, follow_more, joins_same, takes_none, joins_more, no_memory_follows}
 use Rattle.lerc_cli.proofs.keeping.keep_all.Goals as goal
 
 pub returns-then-got-eq0-clause-fed : goal.returns-then-got-eq0-clause-fed

@@ -1,7 +1,7 @@
 use Rattle.std.proofs.Common.{◌≡◌, ◌≤◌, length, take, arith}
 use Rattle.std.proofs.lemmas.List.{length-take-le}
 use Rattle.lerc_decode.specs.States.{missing_at}
-use Rattle.lerc_cli.proofs.KeptBytes.{begins_once, begins_same, fed_once, less_work, takes_few}
+use Rattle.lerc_decode.proofs.Feeding.{begins_once, begins_same, fed_once, less_work, takes_few}
 use Rattle.lerc_cli.proofs.keeping.keep_once.Goals as goal
 
 pub returns-then-got-gt0-clause-fed : goal.returns-then-got-gt0-clause-fed

@@ -1,5 +1,5 @@
 use Rattle.std.proofs.Common.{arith}
-use Rattle.lerc_encode.proofs.Best.{best_all}
+use Rattle.micro_block.proofs.Steps.{best_all}
 use Rattle.lerc_encode.proofs.first.first_least.Goals as goal
 
 pub returns : goal.returns

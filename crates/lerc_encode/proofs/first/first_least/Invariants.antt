@@ -1,4 +1,4 @@
-use Rattle.lerc_encode.proofs.Best.{Best}
+use Rattle.micro_block.proofs.Steps.{Best}
 use Rattle.lerc_encode.proofs.first.first_least.Given as goal
 
 abbrev pub invariant-loop-k : goal.invariant-loop-k
