@@ -32,3 +32,5 @@ pub mod NumberedBlocks
 pub mod GivenBlocks
 pub mod GridLaws
 pub mod GridDecided
+pub mod Repeats
+pub mod AllCells
