@@ -32,3 +32,5 @@ pub mod NumberedBlocks
 mod GivenBlocks
 pub mod GridLaws
 mod GridDecided
+mod Repeats
+pub mod AllCells
