@@ -29,3 +29,4 @@ pub mod ChosenRuns
 pub mod ChosenTables
 pub mod Counted
 pub mod Once
+pub mod Lookups
