@@ -23,10 +23,10 @@ mod Turns
 mod Cutting
 pub mod TableLaws
 pub mod Decided
-pub mod Counting
-pub mod Filling
-pub mod ChosenRuns
-pub mod ChosenTables
-pub mod Counted
-pub mod Once
+mod Counting
+mod Filling
+mod ChosenRuns
+mod ChosenTables
+mod Counted
+mod Once
 mod Lookups
