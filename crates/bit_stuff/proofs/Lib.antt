@@ -1,5 +1,6 @@
 pub mod Numbers
 pub mod Fields
+pub mod Fronts
 pub mod Buffers
 pub mod Digits
 pub mod StuffedLaws
