@@ -1,6 +1,6 @@
 pub mod Numbers
-pub mod Fields
-pub mod Fronts
+mod Fields
+mod Fronts
 pub mod Buffers
 pub mod Digits
 pub mod StuffedLaws

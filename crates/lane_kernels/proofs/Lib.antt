@@ -1,4 +1,4 @@
-pub mod Bounds
-pub mod Caps
-pub mod MinMax
-pub mod Within
+mod Bounds
+mod Caps
+mod MinMax
+mod Within
