@@ -1,0 +1,4 @@
+pub mod Passing
+pub mod Refusals
+pub mod SoFar
+pub mod StreamsDecided
