@@ -2,18 +2,16 @@
 use Rattle.std.proofs.Common.{◌≡◌, ℕ, ◌+◌, ◌*◌, ◌<◌, ◌≤◌, List, ◌++◌, length, get_or, take, drop, refl, sym, ap, ◌∙◌, arith, ◌⊎◌, inl, inr, append_assoc}
 use Rattle.std.proofs.lemmas.Bool.{cases_lt, cases_eq}
 use Rattle.std.proofs.lemmas.List.{length-take, take-append-drop}
-use Rattle.first_fault.specs.Faults.{Faults, none, wrong, unless, in_order}
+use Rattle.first_fault.specs.Faults.{none, wrong, unless}
 use Rattle.first_fault.specs.Parts.{AreBytes, InFront, HasFault, IsDecided}
 use Rattle.first_fault.proofs.Decided.{Joined, decided_in_order, decided_unless}
 use Rattle.raster_values.specs.Raster.{Pixels}
 use Rattle.raster_values.specs.ReadGrid.{IsGrid, grid_faults}
-use Rattle.raster_values.specs.declared.reading.GridReason.{GridReason}
 use Rattle.raster_values.specs.declared.reading.GridReason.TheVariants.{Truncated}
 use Rattle.raster_values.proofs.GridDecided.{grids_are_decided}
-use Rattle.tile_stream.specs.declared.tile.Tile.{Tile}
 use Rattle.tile_stream.specs.declared.tile.TileReason.{TileReason}
 use Rattle.tile_stream.specs.declared.tile.TileReason.TheVariants.{BadTileMark, BadSlot, Grid}
-use Rattle.tile_stream.specs.Tile.{IsTile, IsTileHead, TilesAreDecided, col_faults, cut, head_faults, mark_faults, of_grid, row_faults, tile_faults}
+use Rattle.tile_stream.specs.Tile.{IsTile, IsTileHead, TilesAreDecided, col_faults, cut, head_faults, of_grid, row_faults, tile_faults}
 
 at_most : (m n : ℕ) → (m ≤ n) ⊎ (¬ (m ≤ n))
 at_most m n = by (cases_lt n m)

@@ -1,7 +1,7 @@
 -- How many bytes a tile has.
 use Rattle.std.proofs.Common.{◌≡◌, ℕ, ◌+◌, ◌*◌, List, ◌++◌, length, ap, ◌∙◌, arith, length-append}
 use Rattle.std.proofs.lemmas.List.{length-map}
-use Rattle.raster_values.specs.Raster.{Pixels, valid_count, values_of}
+use Rattle.raster_values.specs.Raster.{Pixels, valid_count}
 use Rattle.raster_values.specs.PixelType.{bytes_of}
 use Rattle.raster_values.specs.ReadGrid.{IsGrid}
 use Rattle.raster_values.specs.Flat.{marks_of}

@@ -1,4 +1,4 @@
-use Rattle.std.proofs.Common.{◌≡◌, ◌+◌, ◌*◌, ◌∙◌, ap, length}
+use Rattle.std.proofs.Common.{◌≡◌, ◌+◌, ◌*◌, ◌∙◌}
 use Rattle.raster_values.specs.Raster.{valid_count}
 use Rattle.raster_values.specs.PixelType.{bytes_of}
 use Rattle.tile_stream.proofs.Sizes.{tile_size}
