@@ -1,4 +1,4 @@
 pub mod Decided
-pub mod Sizes
+mod Sizes
 pub mod Streams
 pub mod Tiles

@@ -1,4 +1,4 @@
-pub mod Passing
-pub mod Refusals
-pub mod SoFar
-pub mod StreamsDecided
+mod Passing
+mod Refusals
+mod SoFar
+mod StreamsDecided
