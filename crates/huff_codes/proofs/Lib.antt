@@ -29,3 +29,4 @@ mod ChosenRuns
 mod ChosenTables
 mod Counted
 mod Once
+mod Lookups
