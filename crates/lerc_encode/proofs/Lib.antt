@@ -4,8 +4,13 @@ pub mod Extremes
 pub mod Blocking
 pub mod Packing
 pub mod Forming
+pub mod WordBytes
+pub mod TableBytes
 pub mod Kept
+pub mod SymbolForms
+pub mod SymbolSteps
 pub mod Standing
+pub mod Candidates
 pub mod Endings
 pub mod Encoded
 pub mod Laying

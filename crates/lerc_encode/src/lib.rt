@@ -4,6 +4,7 @@
 mod blob;
 mod blocks;
 mod choosing;
+mod codings;
 mod first;
 mod forms;
 mod images;
