@@ -14,4 +14,6 @@ mod ranging;
 pub use blob::{EncodeFault, encode};
 
 #[cfg(test)]
+mod symbol_tests;
+#[cfg(test)]
 mod tests;
