@@ -1,5 +1,5 @@
 pub mod Numbers
-pub mod Fields
+mod Fields
 pub mod Buffers
 pub mod Digits
 pub mod StuffedLaws

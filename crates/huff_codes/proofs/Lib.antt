@@ -1,31 +1,32 @@
-pub mod Kraft
-pub mod Forest
+mod Kraft
+mod Forest
 pub mod BitLists
-pub mod Canonical
+mod Canonical
 pub mod Windows
-pub mod Held
-pub mod Reading
-pub mod WordLaws
-pub mod Sides
-pub mod Made
-pub mod Putting
-pub mod Homes
+mod Held
+mod Reading
+mod WordLaws
+mod Sides
+mod Made
+mod Putting
+mod Homes
 pub mod Uses
-pub mod Spans
-pub mod Order
+mod Spans
+mod Order
 pub mod WrittenBack
-pub mod Totals
-pub mod Pairs
-pub mod Least
-pub mod Answered
-pub mod SpanLists
-pub mod Turns
+mod Totals
+mod Pairs
+mod Least
+mod Answered
+mod SpanLists
+mod Turns
 pub mod Cutting
 pub mod TableLaws
 pub mod Decided
-pub mod Counting
+mod Counting
 pub mod Filling
 pub mod ChosenRuns
 pub mod ChosenTables
 pub mod Counted
 pub mod Once
+mod Lookups

@@ -1,3 +1,3 @@
-pub mod Bounds
-pub mod Caps
-pub mod MinMax
+mod Bounds
+mod Caps
+mod MinMax

@@ -1,16 +1,16 @@
-pub mod Runs
-pub mod Members
-pub mod Extremes
-pub mod Blocking
-pub mod Packing
-pub mod Forming
-pub mod WordBytes
-pub mod TableBytes
-pub mod Kept
-pub mod SymbolForms
-pub mod SymbolSteps
-pub mod Standing
-pub mod Candidates
-pub mod Endings
-pub mod Encoded
-pub mod Laying
+mod Runs
+mod Members
+mod Extremes
+mod Blocking
+mod Packing
+mod Forming
+mod WordBytes
+mod TableBytes
+mod Kept
+mod SymbolForms
+mod SymbolSteps
+mod Standing
+mod Candidates
+mod Endings
+mod Encoded
+mod Laying

@@ -277,6 +277,10 @@ impl Mask {
         ensures { out.new ≡ mark_bytes (take count (drop from self.now)) ++ drop count out.old }
     {
         let _ = self.len();
+        if self.valid == self.count {
+            out[..count].fill(1);
+            return;
+        }
         for i in 0..count {
             out[i] = u8::from(self.get(from + i));
         }
@@ -289,6 +293,10 @@ impl Mask {
             → get_or out.new i false ≡ get_or self.now (from + i) false }
     {
         let _ = self.len();
+        if self.valid == self.count {
+            out.fill(true);
+            return;
+        }
         for i in 0..out.len() {
             out[i] = self.get(from + i);
         }

@@ -1,2 +1,2 @@
-pub mod Streams
-pub mod Tiles
+mod Streams
+mod Tiles
