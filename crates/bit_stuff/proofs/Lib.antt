@@ -1,5 +1,6 @@
 pub mod Numbers
-pub mod Fields
+mod Fields
+mod Fronts
 pub mod Buffers
 pub mod Digits
 pub mod StuffedLaws

@@ -1,17 +1,17 @@
-pub mod Building
-pub mod Counting
-pub mod Fresh
-pub mod Fronts
+mod Building
+mod Counting
+mod Fresh
+mod Fronts
 pub mod PutLaws
-pub mod Layouts
-pub mod Numbering
-pub mod OneRecovery
-pub mod Opening
-pub mod Padded
-pub mod Putting
-pub mod Recovering
-pub mod Refusals
-pub mod Region
-pub mod Rests
+mod Layouts
+mod Numbering
+mod OneRecovery
+mod Opening
+mod Padded
+mod Putting
+mod Recovering
+mod Refusals
+mod Region
+mod Rests
 pub mod Standing
-pub mod Unders
+mod Unders

@@ -9,7 +9,8 @@ use Rattle.bundle_store.specs.declared.fault.StoreFault.{StoreFault}
 use Rattle.bundle_store.specs.declared.fault.StoreFault.TheVariants.{Device, BadBundle, BadJournal, NoTile, Beyond, TileTooLarge, EmptyTile, Full, NotEmpty, OutOfMemory, Stopped}
 use Rattle.bundle_store.specs.declared.recovery.Recovery.{Recovery}
 use Rattle.bundle_store.specs.declared.recovery.Recovery.TheVariants.{Closed, Applied, Emptied}
-use Rattle.bundle_store.specs.Recover.{RecoverySays}
+use Rattle.bundle_store.specs.Appended.{with_entry}
+use Rattle.bundle_store.specs.Recover.{AppliesTo, Leaves, RecoverySays}
 
 -- the answer beside a bundle of so many bytes, by what the journal says
 abbrev Answers : ℕ → JournalState → Result Recovery StoreFault → Type 0
@@ -54,3 +55,23 @@ one_answer b j one two first second some other =
     let f = found b j one first some in
     let s = found b j two second other in
     same_answer (length b) f.state one two f.answers (subst (λ (x : JournalState). Answers (length b) x two) (one_state j s.state f.state s.says f.says) s.answers)
+
+-- ---- what recoveries of the same files leave
+
+one_over : (b j : List ℕ) (one two : AppliesTo b j) → with_entry one.header one.slot one.entry b ≡ with_entry two.header two.slot two.entry b
+one_over b j one two =
+    let header = sym one.says.header_is ∙ two.says.header_is in
+    let slot = sym one.says.slot_is ∙ two.says.slot_is in
+    let entry = sym one.says.entry_is ∙ two.says.entry_is in
+    λ i. with_entry (header i) (slot i) (entry i) b
+
+pub one_left : (b j : List ℕ) (one two : Recovery) (left other : List ℕ) → Leaves b j one left → Leaves b j two other → (one ≡ two) × (left ≡ other)
+one_left b j Closed Closed left other l m = (refl, l.1 ∙ sym m.1)
+one_left b j Closed Applied left other l m = absurd (l.0 m.0.opened)
+one_left b j Closed Emptied left other l m = absurd (l.0 m.0)
+one_left b j Applied Closed left other l m = absurd (m.0 l.0.opened)
+one_left b j Applied Applied left other l m = (refl, l.1 ∙ one_over b j l.0 m.0 ∙ sym m.1)
+one_left b j Applied Emptied left other l m = absurd (let no : ⊥ = omega (arith, l.0.says.kind, m.1.kind) in no)
+one_left b j Emptied Closed left other l m = absurd (m.0 l.0)
+one_left b j Emptied Applied left other l m = absurd (let no : ⊥ = omega (arith, m.0.says.kind, l.1.kind) in no)
+one_left b j Emptied Emptied left other l m = (refl, l.2 ∙ sym m.2)

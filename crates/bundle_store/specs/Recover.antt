@@ -1,5 +1,5 @@
 -- What recovery answers and leaves.
-use Rattle.std.specs.Prelude.{◌≡◌, ◌⊎◌, ℕ, ◌<◌, ◌≤◌, List, length, Result, Ok, Err}
+use Rattle.std.specs.Prelude.{◌≡◌, ◌⊎◌, ℕ, ◌<◌, ◌≤◌, List, [], length, Result, Ok, Err}
 use Rattle.outside_io.specs.volume.Disk.{Disk, IsImage, IsQuiet, settled}
 use Rattle.bundle_index.specs.declared.entry.Entry.{Entry}
 use Rattle.side_journal.specs.Says.{Fails, IsOpen, IsWrongAt, SaysBuild, SaysTile}
@@ -7,6 +7,7 @@ use Rattle.bundle_store.specs.declared.fault.StoreFault.{StoreFault}
 use Rattle.bundle_store.specs.declared.fault.StoreFault.TheVariants.{Device, BadBundle, BadJournal, NoTile, Beyond, TileTooLarge, EmptyTile, Full, NotEmpty, OutOfMemory, Stopped}
 use Rattle.bundle_store.specs.declared.recovery.Recovery.{Recovery}
 use Rattle.bundle_store.specs.declared.recovery.Recovery.TheVariants.{Closed, Applied, Emptied}
+use Rattle.bundle_store.specs.Appended.{with_entry}
 use Rattle.bundle_store.specs.Images.{StandsFor}
 use Rattle.bundle_store.specs.Tiles.{TileMap}
 
@@ -50,6 +51,13 @@ RecoverySays bundle journal (Err (Full len)) = ⊥
 RecoverySays bundle journal (Err (NotEmpty len)) = ⊥
 RecoverySays bundle journal (Err OutOfMemory) = ⊥
 RecoverySays bundle journal (Err Stopped) = ⊥
+
+-- What a recovery that is not refused has done with these files, and the bundle that it leaves.
+abbrev pub Leaves : List ℕ → List ℕ → Recovery → List ℕ → Type 0
+Leaves bundle journal Closed left = (¬ IsOpen journal) × (left ≡ bundle)
+Leaves bundle journal Applied left =
+    (a : AppliesTo bundle journal) × (left ≡ with_entry a.header a.slot a.entry bundle)
+Leaves bundle journal Emptied left = IsOpen journal × SaysBuild journal × (left ≡ [])
 
 -- nothing is pending on either file, which hold what they held
 abbrev pub synced_disk : Disk → Disk

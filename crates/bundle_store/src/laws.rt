@@ -13,7 +13,7 @@ ghost use Rattle.bundle_store.specs.Build.{map_after};
 ghost use Rattle.bundle_store.specs.Check.{bad_count};
 ghost use Rattle.bundle_store.specs.Images.{StandsFor};
 ghost use Rattle.bundle_store.specs.Layout.{layout};
-ghost use Rattle.bundle_store.specs.Recover.{RecoverySays};
+ghost use Rattle.bundle_store.specs.Recover.{Leaves, RecoverySays};
 ghost use Rattle.bundle_store.specs.Tiles.{AreTiles, IsBundle, IsReadable, Opens, TileMap, no_tiles, tiles, with_tile};
 
 /// An image stands for one map at most.
@@ -72,4 +72,11 @@ pub fn recoveries_have_one_answer()
     ensures { (bundle journal : List ℕ) (one two : Result Recovery StoreFault) →
         RecoverySays bundle journal one → RecoverySays bundle journal two →
         one ≢ Err Device → two ≢ Err Device → one ≡ two }
+{}
+
+/// Recoveries of the same files do the same, and leave the same bundle.
+pub fn recoveries_leave_one_bundle()
+    ensures { (bundle journal : List ℕ) (one two : Recovery) (left other : List ℕ) →
+        Leaves bundle journal one left → Leaves bundle journal two other →
+        (one ≡ two) × (left ≡ other) }
 {}

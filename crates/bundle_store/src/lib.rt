@@ -17,6 +17,7 @@ mod put;
 mod reading;
 mod recovery;
 mod redo;
+mod rows;
 mod session;
 mod syncs;
 #[cfg(test)]
@@ -28,7 +29,8 @@ pub use fault::StoreFault;
 pub use laws::{
     bundles_without_bad_entries_are_readable, empty_files_have_no_tiles, images_stand_for_one_map,
     layouts_hold_their_map, lists_of_tiles_join, puts_replace_one_tile,
-    readable_bundles_have_their_tiles, recoveries_have_one_answer, the_bundle_of_no_tiles_is_fresh,
+    readable_bundles_have_their_tiles, recoveries_have_one_answer, recoveries_leave_one_bundle,
+    the_bundle_of_no_tiles_is_fresh,
 };
 pub use recovery::{Recovery, recover};
 pub use session::Session;

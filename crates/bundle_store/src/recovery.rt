@@ -1,4 +1,4 @@
-ghost use Rattle.std.specs.Prelude.{◌≡◌, ◌≤◌, ◌∷◌, [], drop, IsTrue, IfErr, OnOk};
+ghost use Rattle.std.specs.Prelude.{◌≡◌, ◌≤◌, ◌∷◌, [], drop, IsTrue, IfErr, IfOk, OnOk};
 ghost use Rattle.outside_io.specs.declared.volume.VolFile.TheVariants.{Bundle, Journal};
 ghost use Rattle.outside_io.specs.volume.Disk.{IsQuiet, settled};
 ghost use Rattle.outside_io.specs.streams.Faults.{CountsFaults};
@@ -8,7 +8,7 @@ ghost use Rattle.side_journal.specs.Says.{IsOpen, SaysBuild, SaysTile};
 ghost use Rattle.bundle_store.specs.Causes.{CountsDevice};
 ghost use Rattle.bundle_store.specs.inside.Parts.{EachKeeps};
 ghost use Rattle.bundle_store.specs.Images.{EachImage};
-ghost use Rattle.bundle_store.specs.Recover.{EachStandsForOneOf, IsRecovered, OnBadJournal, RecoverFails, RecoverySays, synced_disk};
+ghost use Rattle.bundle_store.specs.Recover.{EachStandsForOneOf, IsRecovered, Leaves, OnBadJournal, RecoverFails, RecoverySays, synced_disk};
 ghost use Rattle.bundle_store.specs.Tiles.{no_tiles};
 
 use crate::StoreFault;
@@ -68,6 +68,9 @@ fn finish_tile<V: Volume>(
     ensures done { IsTrue (V.told vol.old) →
         OnOk result (IsRecovered (contents Bundle (V.history vol.old)) (contents Journal
         (V.history vol.old)) (current (V.history vol.new))) }
+    ensures leaves { IsTrue (V.told vol.old) → IfOk result (λ r. Leaves (contents Bundle
+        (V.history vol.old)) (contents Journal (V.history vol.old)) r
+        (contents Bundle (V.history vol.new))) }
     ensures answers { IfErr result (λ f. RecoverFails f) }
     ensures refused { IsTrue (V.told vol.old) → OnBadJournal result (current (V.history vol.new)
         ≡ current (V.history vol.old)) }
@@ -95,6 +98,9 @@ fn finish<V: Volume>(vol: &mut V) -> Result<Recovery, StoreFault>
     ensures done { IsTrue (V.told vol.old) →
         OnOk result (IsRecovered (contents Bundle (V.history vol.old)) (contents Journal
         (V.history vol.old)) (current (V.history vol.new))) }
+    ensures leaves { IsTrue (V.told vol.old) → IfOk result (λ r. Leaves (contents Bundle
+        (V.history vol.old)) (contents Journal (V.history vol.old)) r
+        (contents Bundle (V.history vol.new))) }
     ensures answers { IfErr result (λ f. RecoverFails f) }
     ensures refused { IsTrue (V.told vol.old) → OnBadJournal result (current (V.history vol.new)
         ≡ current (V.history vol.old)) }
@@ -133,6 +139,9 @@ pub fn recover<V: Volume>(vol: &mut V) -> Result<Recovery, StoreFault>
     ensures done { IsTrue (V.told vol.old) →
         OnOk result (IsRecovered (contents Bundle (V.history vol.old)) (contents Journal
         (V.history vol.old)) (current (V.history vol.new))) }
+    ensures leaves { IsTrue (V.told vol.old) → IfOk result (λ r. Leaves (contents Bundle
+        (V.history vol.old)) (contents Journal (V.history vol.old)) r
+        (contents Bundle (V.history vol.new))) }
     ensures answers { IfErr result (λ f. RecoverFails f) }
     ensures refused { IsTrue (V.told vol.old) → OnBadJournal result (current (V.history vol.new)
         ≡ synced_disk (current (V.history vol.old))) }

@@ -1,11 +1,11 @@
-pub mod Numbers
-pub mod Predictors
+mod Numbers
+mod Predictors
 pub mod Marks
 pub mod SymbolLaws
-pub mod Bytes
-pub mod Pieces
-pub mod Kernels
-pub mod InPieces
-pub mod WholeDepth
-pub mod Turning
+mod Bytes
+mod Pieces
+mod Kernels
+mod InPieces
+mod WholeDepth
+mod Turning
 pub mod Existence

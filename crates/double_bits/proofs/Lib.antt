@@ -1,4 +1,4 @@
 pub mod HalfBits
 pub mod OneHalf
-pub mod Powers
-pub mod Signs
+mod Powers
+mod Signs

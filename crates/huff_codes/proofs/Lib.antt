@@ -1,31 +1,32 @@
-pub mod Kraft
-pub mod Forest
-pub mod BitLists
-pub mod Canonical
+mod Kraft
+mod Forest
+mod BitLists
+mod Canonical
 pub mod Windows
-pub mod Held
-pub mod Reading
-pub mod WordLaws
-pub mod Sides
-pub mod Made
-pub mod Putting
-pub mod Homes
-pub mod Uses
-pub mod Spans
-pub mod Order
-pub mod WrittenBack
-pub mod Totals
-pub mod Pairs
-pub mod Least
-pub mod Answered
-pub mod SpanLists
-pub mod Turns
-pub mod Cutting
+mod Held
+mod Reading
+mod WordLaws
+mod Sides
+mod Made
+mod Putting
+mod Homes
+mod Uses
+mod Spans
+mod Order
+mod WrittenBack
+mod Totals
+mod Pairs
+mod Least
+mod Answered
+mod SpanLists
+mod Turns
+mod Cutting
 pub mod TableLaws
 pub mod Decided
-pub mod Counting
-pub mod Filling
-pub mod ChosenRuns
-pub mod ChosenTables
-pub mod Counted
-pub mod Once
+mod Counting
+mod Filling
+mod ChosenRuns
+mod ChosenTables
+mod Counted
+mod Once
+mod Lookups

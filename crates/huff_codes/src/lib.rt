@@ -11,6 +11,7 @@ mod faults;
 mod joining;
 mod laws;
 mod lengths;
+mod lookup;
 mod table;
 mod words;
 mod writing;

@@ -1,3 +1,4 @@
-pub mod Bounds
-pub mod Caps
-pub mod MinMax
+mod Bounds
+mod Caps
+mod MinMax
+mod Within

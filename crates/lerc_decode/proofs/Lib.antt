@@ -4,7 +4,7 @@ mod Bodies
 mod Fields
 mod Steps
 pub mod Feeding
-pub mod Tops
-pub mod BlockReading
-pub mod CodePlaces
-pub mod Symbols
+mod Tops
+mod BlockReading
+mod CodePlaces
+mod Symbols

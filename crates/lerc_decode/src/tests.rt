@@ -169,9 +169,18 @@ fn the_last_byte_decides(rt: HostRuntime) {
 #[test]
 fn no_byte_behind_the_blob_is_taken(rt: HostRuntime) -> Result<(), Fail> {
     let longer = [BLOB.as_slice(), &[0]].concat(rt.alloc())?;
-    let mut decoder = Decoder::new(rt.alloc());
-    let fed = decoder.feed(&longer);
-    assert_eq!(rt; (fed.used, fed.state), (66, FedState::Done));
+    for piece in PIECES {
+        assert!(rt; piece > 0);
+        let mut decoder = Decoder::new(rt.alloc());
+        let mut taken: usize = 0;
+        let mut state = FedState::More;
+        for part in longer.chunks(piece) {
+            let fed = decoder.feed(part);
+            taken = taken.saturating_add(fed.used);
+            state = fed.state;
+        }
+        assert_eq!(rt; (taken, state), (66, FedState::Done), "in pieces of {piece}");
+    }
     Ok(())
 }
 

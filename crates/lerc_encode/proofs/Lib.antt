@@ -1,11 +1,11 @@
-pub mod Runs
-pub mod Members
-pub mod Extremes
-pub mod Blocking
-pub mod Packing
-pub mod Forming
-pub mod Kept
-pub mod Standing
-pub mod Endings
-pub mod Encoded
-pub mod Laying
+mod Runs
+mod Members
+mod Extremes
+mod Blocking
+mod Packing
+mod Forming
+mod Kept
+mod Standing
+mod Endings
+mod Encoded
+mod Laying

@@ -1,28 +1,28 @@
-pub mod Alike
+mod Alike
 pub mod Blobs
-pub mod Images
-pub mod Masks
+mod Images
+mod Masks
 pub mod More
-pub mod Nearness
+mod Nearness
 pub mod Outlines
 pub mod Verdicts
-pub mod WholeVerdicts
-pub mod Exact
+mod WholeVerdicts
+mod Exact
 pub mod Lists
-pub mod BlobDecided
+mod BlobDecided
 pub mod Looking
 pub mod Counts
-pub mod Existing
+mod Existing
 pub mod ImageDecided
-pub mod Cases
+mod Cases
 pub mod MaskDecided
 pub mod Forms
 pub mod Bytes
-pub mod Told
-pub mod BlockParts
+mod Told
+mod BlockParts
 pub mod OneBlocks
 pub mod CodedOnce
-pub mod Rising
+mod Rising
 pub mod BlockRasters
-pub mod CodedDecided
-pub mod CodeParts
+mod CodedDecided
+mod CodeParts

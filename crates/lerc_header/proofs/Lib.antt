@@ -2,8 +2,8 @@ pub mod DecidedHeads
 pub mod FaultLemmas
 pub mod Fronts
 pub mod HeadLemmas
-pub mod Lawful
-pub mod LongerHeads
+mod Lawful
+mod LongerHeads
 pub mod Prefixes
 pub mod WrittenHeads
 mod Exits

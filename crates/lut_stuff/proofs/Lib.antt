@@ -1,5 +1,5 @@
 pub mod Lists
-pub mod ReadSteps
+mod ReadSteps
 pub mod Rising
 pub mod Tabled
 pub mod Below

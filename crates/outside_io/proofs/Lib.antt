@@ -1,4 +1,4 @@
 mod Inside
-pub mod ProgramLemmas
+mod ProgramLemmas
 pub mod StreamLemmas
 pub mod VolumeLemmas

@@ -1,34 +1,36 @@
 pub mod Views
-pub mod MaskBits
-pub mod MaskCounts
-pub mod Points
+mod MaskBits
+mod MaskCounts
+mod Points
 pub mod Same
-pub mod Places
-pub mod Changes
+mod Places
+mod Changes
 pub mod Pack
-pub mod Filled
+mod Filled
 pub mod OneGrid
 pub mod Every
 pub mod BlockLaws
-pub mod RunSteps
-pub mod RowSteps
-pub mod BlockViews
+mod RunSteps
+mod RowSteps
+mod BlockViews
 pub mod CellBytes
-pub mod WholeRuns
-pub mod InOrder
+mod WholeRuns
+mod InOrder
 pub mod Blank
 pub mod Spelled
-pub mod MarkedRuns
-pub mod PixelSteps
-pub mod OrderSteps
-pub mod Poured
+mod MarkedRuns
+mod PixelSteps
+mod OrderSteps
+mod Poured
 pub mod Deep
-pub mod FlatViews
+mod FlatViews
 pub mod Taken
-pub mod TakenRuns
-pub mod GridParts
+mod TakenRuns
+mod GridParts
 pub mod Revalued
 pub mod NumberedBlocks
-pub mod GivenBlocks
+mod GivenBlocks
 pub mod GridLaws
 pub mod GridDecided
+mod Repeats
+pub mod AllCells

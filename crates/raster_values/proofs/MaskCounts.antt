@@ -1,11 +1,11 @@
 -- How many bits are 1.
-use Rattle.std.proofs.Common.{◌≡◌, ◌≢◌, ℕ, ◌+◌, ◌-◌, ◌*◌, ◌/◌, ◌%◌, ◌^◌, ◌<◌, ◌≤◌, zero, suc, Bool, true, false, cond, List, [], ◌∷◌, ◌++◌, length, get_or, take, drop, map, refl, sym, ap, ◌∙◌, arith, ⊎_elim, ◌&&◌, length-append, append_assoc}
+use Rattle.std.proofs.Common.{◌≡◌, ◌≢◌, ℕ, ◌+◌, ◌-◌, ◌*◌, ◌/◌, ◌%◌, ◌^◌, ◌<◌, ◌≤◌, zero, suc, Bool, true, false, cond, List, [], ◌∷◌, ◌++◌, length, get_or, take, drop, replicate, map, refl, sym, ap, ◌∙◌, arith, ⊎_elim, ◌&&◌, length-append, append_assoc}
 use Rattle.std.specs.Prelude.{nat_eq, nat_lt, nat_le, bit_and, min}
 use Rattle.std.specs.Int.{bit_at}
 use Rattle.std.specs.List.{count_by, filter, range_with_len}
 use Rattle.std.specs.Int.RustNames.{count_ones}
 use lib.Count.{ones_step}
-use Rattle.std.proofs.lemmas.List.{ext_get_or, get_or-take, get_or-drop, length-take-le, length-drop, length-map, get_or-map, get_or_append_left, get_or-append_right, take-append-drop, drop-drop, take_at, drop_at}
+use Rattle.std.proofs.lemmas.List.{ext_get_or, get_or-take, get_or-drop, length-replicate, get_or-replicate, length-take-le, length-drop, length-map, get_or-map, get_or_append_left, get_or-append_right, take-append-drop, drop-drop, take_at, drop_at}
 use Rattle.std.proofs.lemmas.List.FromFn.{length-range_with_len, get_or-range_with_len}
 use Rattle.std.proofs.lemmas.List.Sums.{sum_by-cons, sum_by-append, length-filter, count_by-le-length}
 use Rattle.std.proofs.lemmas.List.Elements.{filter-append}
@@ -232,3 +232,11 @@ count_after ms xs old new marks from valid before after within bits bits_new is 
     let same_front : count_by (λ m. m) (take from xs) ≡ count_by (λ m. m) (take from ms) = ap (count_by (λ m. m)) front in
     let same_back : count_by (λ m. m) (drop (from + n) xs) ≡ count_by (λ m. m) (drop (from + n) ms) = ap (count_by (λ m. m)) back in
     (omega (arith, one, counted, b), omega (arith, one, two, counted, b, a, same_front, same_back))
+
+-- a run of a mask of which all is set
+pub set_run : (ms : List Bool) (from n : ℕ) → count_by (λ m. m) ms ≡ length ms → from + n ≤ length ms → take n (drop from ms) ≡ replicate n true
+set_run ms from n full within =
+    let long : length (take n (drop from ms)) ≡ n = length-take-le n (drop from ms) (omega (arith, length-drop from ms)) in
+    ext_get_or false (take n (drop from ms)) (replicate n true) (long ∙ sym (length-replicate n true)) (λ k below.
+    let less : k < n = omega (arith, long) in
+    get_or-take n (drop from ms) k false less ∙ get_or-drop from ms k false ∙ all_set ms (from + k) full (omega arith) ∙ sym (get_or-replicate n k true false less))

@@ -1,8 +1,9 @@
 -- A raster by the numbers of its pixels: row by row, from 0.
-use Rattle.std.specs.Prelude.{◌≡◌, ◌≤◌, ◌<◌, ℕ, ℤ, pos, ◌+◌, ◌-◌, ◌*◌, Bool, true, false, List, [], ◌∷◌, length, get_or, take, drop, map, min, Option, Some, None, is_some, unwrap_or, IfSome, All}
+use Rattle.std.specs.Prelude.{◌≡◌, ◌≤◌, ◌<◌, ℕ, ℤ, pos, ◌+◌, ◌-◌, ◌*◌, Bool, true, false, List, [], ◌∷◌, length, get_or, take, drop, map, min, replicate, Option, Some, None, is_some, unwrap_or, IfSome, All}
 use Rattle.std.specs.List.{count_by, filter, flat_map, range_with_len}
 use Rattle.raster_values.specs.declared.kind.PixelType.{PixelType}
-use Rattle.raster_values.specs.PixelType.{InRange}
+use Rattle.raster_values.specs.PixelType.{InRange, Spells, bytes_of}
+use Rattle.raster_values.specs.Grid.{values_bytes}
 use Rattle.raster_values.specs.Raster.{Pixels, IsRaster, IsShape, values_of}
 use Rattle.raster_values.specs.Places.{SameShape}
 use Rattle.raster_values.specs.Block.{SameMask, block_values}
@@ -28,6 +29,40 @@ pub record PutsFrom (old new : Pixels) (place d : ℕ) (values : List ℤ) : Typ
       → value_in new d (place + i) ≡ get_or values i (pos 0)
   pub rest : (k e : ℕ) → k < old.rows * old.cols → e < old.depth
       → (place ≤ k → k < place + length values → e ≡ d → ⊥) → value_in new e k ≡ value_in old e k
+
+-- ---- the values of all pixels
+
+-- one list for each pixel, row by row: the values of a valid one, and 0 at each depth of an invalid
+-- one
+unfoldable pub all_values : Pixels → List ℤ
+all_values r = flat_map (λ p. unwrap_or p (replicate r.depth (pos 0))) r.pixels
+
+-- The valid pixels have the values that the bytes stand for, which are the bytes of the values of
+-- all pixels: those at the places of invalid ones are free.
+pub record PutsAll (old new : Pixels) (bytes : List ℕ) : Type 0 where
+  pub same : SameMask old new
+  pub put : (k d : ℕ) → k < old.rows * old.cols → is_some (get_or old.pixels k None) ≡ true
+      → d < old.depth
+      → Spells old.kind (drop ((k * old.depth + d) * bytes_of old.kind) bytes) (value_in new d k)
+
+-- where each value stands among all, and how many these are
+pub record AllStand (r : Pixels) : Type 0 where
+  pub size : length (all_values r) ≡ r.rows * r.cols * r.depth
+  pub each : (k d : ℕ) → k < r.rows * r.cols → d < r.depth
+      → get_or (all_values r) (k * r.depth + d) (pos 0) ≡ value_in r d k
+
+abbrev pub AllValuesStand : Type 0
+AllValuesStand = (r : Pixels) → IsRaster r → AllStand r
+
+-- no two rasters come of one putting of all values
+abbrev pub PuttingAllIsOne : Type 0
+PuttingAllIsOne = (old r s : Pixels) (bytes : List ℕ) → IsRaster r → IsRaster s
+    → PutsAll old r bytes → PutsAll old s bytes → r ≡ s
+
+-- the values of all pixels of a raster, put into one with its mask, give the raster
+abbrev pub AllPutGive : Type 0
+AllPutGive = (r old new : Pixels) → IsRaster r → IsRaster new → SameMask r old
+    → PutsAll old new (values_bytes r.kind (all_values r)) → new ≡ r
 
 -- ---- other values at the same valid pixels
 

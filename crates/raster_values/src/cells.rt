@@ -1,4 +1,4 @@
-ghost use Rattle.std.specs.Prelude.{◌≡◌, ◌+◌, ◌*◌, ◌<◌, ◌≤◌, ◌++◌, pos, IfOk, All, length, get_or, take, drop, map, replicate, slice_set};
+ghost use Rattle.std.specs.Prelude.{◌≡◌, ◌+◌, ◌-◌, ◌*◌, ◌<◌, ◌≤◌, ◌++◌, pos, IfOk, All, length, get_or, take, drop, map, replicate, slice_set};
 ghost use Rattle.raster_values.specs.PixelType.{InRange, bytes_of};
 ghost use Rattle.raster_values.specs.Grid.{values_bytes};
 ghost use Rattle.raster_values.specs.inside.CellList.{CellList, values_in};
@@ -12,6 +12,12 @@ use super::kind::PixelType;
 use outside_io::{Failed, Source, take_all};
 use std::alloc::{AllocError, Global};
 use std::marker::Model;
+
+/// How many bytes 0 are laid down at once.
+const BLOCK: usize = 4096;
+
+/// How many values are laid down at once where one list is repeated.
+const SPAN: usize = 8192;
 
 /// Values of one type, kept as the bytes that stand for them in a file.
 #[derive(Drop)]
@@ -96,6 +102,32 @@ fn lay_bytes(bytes: &mut Vec<u8>, at: usize, run: &[u8])
     place.copy_from_slice(run);
 }
 
+/// Lays the bytes from `from` to `end` also over as many from `to` on, which stand behind them.
+fn repeat_bytes(bytes: &mut Vec<u8>, from: usize, end: usize, to: usize)
+    requires order { from ≤ end }
+    requires behind { end ≤ to }
+    requires within { to + (end - from) ≤ length bytes.old.items }
+    ensures { bytes.new.items ≡ take to bytes.old.items ++ (take (end - from) (drop from bytes.old.items)
+        ++ drop (to + (end - from)) bytes.old.items) }
+{
+    let all = &mut bytes[..];
+    let (front, back) = all.split_at_mut(to);
+    back[..end - from].copy_from_slice(&front[from..end]);
+}
+
+/// So many bytes 0.
+fn zeros(alloc: Global, count: usize) -> Result<Vec<u8>, AllocError>
+    ensures { IfOk result (λ bytes. bytes.items ≡ replicate count 0) }
+{
+    let block = [0u8; BLOCK];
+    let mut bytes = Vec::with_capacity(alloc, count)?;
+    while bytes.len() < count {
+        let some = BLOCK.min(count - bytes.len());
+        bytes.extend_from_slice(&block[..some])?;
+    }
+    Ok(bytes)
+}
+
 /// Lays the bytes of values over the front.
 #[inline(always)]
 fn write_values(kind: PixelType, values: &[i64], out: &mut [u8])
@@ -133,7 +165,7 @@ impl Cells {
         requires { count ≤ 16777216 }
         ensures { IfOk result (λ c. c ≡ record { kind = kind; values = replicate count (pos 0) }) }
     {
-        let bytes = vec![in alloc; 0u8; place(kind, count, count)]?;
+        let bytes = zeros(alloc, place(kind, count, count))?;
         Ok(Cells { kind, count, bytes })
     }
 
@@ -277,26 +309,42 @@ impl Cells {
         ensures size { length self.new.values ≡ length self.old.values }
         ensures filled { FillsPixels first count pixel.now self.old.values self.new.values }
     {
-        by_kind!(self.kind, kind => self.fill_pixels_as(kind, first, count, pixel))
+        if count == 0 {
+            return;
+        }
+        let depth = pixel.len();
+        let span = (SPAN / depth).max(1);
+        let at = first * depth;
+        self.put_run(at, pixel);
+        let mut done = 1;
+        while done < count {
+            let more = done.min(count - done).min(span);
+            self.repeat_run(at, at + done * depth, more * depth);
+            done += more;
+        }
     }
 
-    /// Does what `fill_pixels` does, for a type that is known before.
-    #[inline(always)]
-    fn fill_pixels_as(&mut self, kind: PixelType, first: usize, count: usize, pixel: &[i64])
-        requires kind { kind ≡ self.old.kind }
-        requires few { length self.old.values ≤ 16777216 }
-        requires depth { 0 < length pixel.now }
-        requires within { (first + count) * length pixel.now ≤ length self.old.values }
-        requires in_range { All (InRange self.old.kind) pixel.now }
-        ensures kind { self.new.kind ≡ self.old.kind }
-        ensures in_range { All (InRange self.old.kind) self.old.values
-            → All (InRange self.old.kind) self.new.values }
-        ensures size { length self.new.values ≡ length self.old.values }
-        ensures filled { FillsPixels first count pixel.now self.old.values self.new.values }
+    /// Puts the `count` values from `at` on also in the place of those from `to` on, which stand
+    /// behind them.
+    fn repeat_run(&mut self, at: usize, to: usize, count: usize)
+        requires behind { at + count ≤ to }
+        requires within { to + count ≤ length self.old.values }
+        ensures { self.new ≡ record self.old {
+          values = take to self.old.values ++ (take count (drop at self.old.values)
+              ++ drop (to + count) self.old.values);
+        } }
     {
-        for i in 0..count {
-            self.put_run_as(kind, (first + i) * pixel.len(), pixel);
-        }
+        let from = place(self.kind, self.count, at);
+        let end = place(self.kind, self.count, at + count);
+        let dest = place(self.kind, self.count, to);
+        repeat_bytes(&mut self.bytes, from, end, dest);
+    }
+
+    /// The bytes of all values.
+    pub fn bytes(&self) -> &[u8]
+        ensures { result.now ≡ values_bytes self.now.kind self.now.values }
+    {
+        &self.bytes
     }
 
     /// Puts the values that so many values' bytes stand for in the place of as many from `at` on.

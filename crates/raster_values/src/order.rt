@@ -6,7 +6,7 @@ ghost use Rattle.raster_values.specs.Raster.{values_of};
 ghost use Rattle.raster_values.specs.Order.{mask_bit};
 ghost use Rattle.raster_values.specs.inside.View.{pixels_of};
 ghost use Rattle.raster_values.specs.Grid.{values_bytes};
-ghost use Rattle.raster_values.specs.inside.Ordered.{FillsMarked, KeepsUnmarked, PutsMarked};
+ghost use Rattle.raster_values.specs.inside.Ordered.{FillsMarked, KeepsUnmarked, PutsMarked, PutsMarkedBytes};
 
 use super::cells::Cells;
 use super::mask::Mask;
@@ -108,6 +108,29 @@ pub(super) fn write_valid(marks: &Mask, depth: usize, values: &Cells, out: &mut 
         let next = from + count * size;
         out[from..next].copy_from_slice(values.bytes_of_run(run.start * depth, count));
         from = next;
+        at = run.end;
+    }
+}
+
+/// Gives the marked pixels the values that the bytes of all pixels' values stand for.
+pub(super) fn put_cells(marks: &Mask, depth: usize, bytes: &[u8], values: &mut Cells)
+    requires size { length values.old.values ≡ length marks.now * depth }
+    requires few { length values.old.values ≤ 16777216 }
+    requires bytes { length bytes.now ≡ length values.old.values * bytes_of values.old.kind }
+    ensures kind { values.new.kind ≡ values.old.kind }
+    ensures in_range { All (InRange values.old.kind) values.old.values
+        → All (InRange values.old.kind) values.new.values }
+    ensures size { length values.new.values ≡ length values.old.values }
+    ensures put { PutsMarkedBytes values.old.kind depth (length marks.now) marks.now bytes.now
+        values.old.values values.new.values }
+{
+    let size = values.kind().bytes();
+    let mut at = 0;
+    while at < marks.len() {
+        let run = marks.next_run(at, marks.len());
+        let from = run.start * depth;
+        let end = run.end * depth;
+        values.put_bytes(from, end - from, &bytes[from * size..end * size]);
         at = run.end;
     }
 }

@@ -7,7 +7,7 @@ ghost use Rattle.raster_values.specs.Raster.{IsRaster, HasZero, IsTooLarge, blan
 ghost use Rattle.raster_values.specs.Places.{SameShape, ChangesMark, ChangesValue};
 ghost use Rattle.raster_values.specs.Grid.{grid_marks, values_bytes};
 ghost use Rattle.raster_values.specs.Order.{FillsValid, IsMaskOf, MarksBits, PoursBytes, mask_bit};
-ghost use Rattle.raster_values.specs.Flat.{PutsFrom, marks_of, value_in};
+ghost use Rattle.raster_values.specs.Flat.{PutsFrom, PutsAll, all_values, marks_of, value_in};
 ghost use Rattle.raster_values.specs.ReadGrid.{AreMarks, TookBytes, TookSome, IsToldFault, CountsGridStop, mark_faults, value_faults};
 ghost use Rattle.raster_values.specs.Values.{AreValues};
 ghost use Rattle.raster_values.specs.Block.{SameMask, block_count, block_values, PoursBlock};
@@ -397,6 +397,27 @@ impl Raster {
         ensures { IsMaskOf self.now out.new }
     {
         out.copy_from_slice(self.marks.bytes());
+    }
+
+    /// The bytes of the values of all pixels, row by row and depth innermost, as they lie in memory:
+    /// those of an invalid pixel are 0.
+    pub fn cells(&self) -> &[u8]
+        ensures bytes { result.now ≡ values_bytes self.now.kind (all_values self.now) }
+        ensures size { length result.now
+            ≡ self.now.rows * self.now.cols * self.now.depth * bytes_of self.now.kind }
+    {
+        self.values.bytes()
+    }
+
+    /// Gives the valid pixels the values that these bytes stand for, which are laid out as those of
+    /// `cells`. What stands at the places of invalid pixels is not looked at. All else stays.
+    pub fn put_cells(&mut self, bytes: &[u8])
+        requires { length bytes.now
+            ≡ self.old.rows * self.old.cols * self.old.depth * bytes_of self.old.kind }
+        ensures { PutsAll self.old self.new bytes.now }
+    {
+        let depth = self.depth;
+        order::put_cells(&self.marks, depth as usize, bytes, &mut self.values);
     }
 
     /// A raster equal to this one.

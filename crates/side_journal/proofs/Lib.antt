@@ -1,4 +1,4 @@
-pub mod Closed
+mod Closed
 pub mod Gates
 pub mod OneState
 pub mod Spells

@@ -1,2 +1,4 @@
+pub mod Decided
+mod Sizes
 pub mod Streams
 pub mod Tiles

@@ -1,5 +1,7 @@
 -- Values of the marked pixels in the flat vector.
-use Rattle.std.specs.Prelude.{◌≡◌, ℕ, ℤ, pos, ◌+◌, ◌*◌, ◌<◌, ◌≤◌, Bool, true, false, List, length, get_or}
+use Rattle.std.specs.Prelude.{◌≡◌, ℕ, ℤ, pos, ◌+◌, ◌*◌, ◌<◌, ◌≤◌, Bool, true, false, List, length, get_or, drop}
+use Rattle.raster_values.specs.declared.kind.PixelType.{PixelType}
+use Rattle.raster_values.specs.PixelType.{Spells, bytes_of}
 
 -- each of the first n pixels has this list of values, where it is marked, and no other value was
 -- changed
@@ -37,3 +39,12 @@ pub record FillsPixels (first n : ℕ) (pixel old new : List ℤ) : Type 0 where
       → get_or new (k * length pixel + d) (pos 0) ≡ get_or pixel d (pos 0)
   pub rest : (k d : ℕ) → d < length pixel → (first ≤ k → k < first + n → ⊥)
       → get_or new (k * length pixel + d) (pos 0) ≡ get_or old (k * length pixel + d) (pos 0)
+
+-- each of the first n pixels has the values that the bytes of all pixels' values have at its place,
+-- where it is marked, and no other value was changed
+pub record PutsMarkedBytes (kind : PixelType) (depth n : ℕ) (marks : List Bool) (bytes : List ℕ)
+    (old new : List ℤ) : Type 0 where
+  pub each : (k d : ℕ) → k < n → d < depth → get_or marks k false ≡ true
+      → Spells kind (drop ((k * depth + d) * bytes_of kind) bytes) (get_or new (k * depth + d) (pos 0))
+  pub rest : (k d : ℕ) → d < depth → (k < n → get_or marks k false ≡ false)
+      → get_or new (k * depth + d) (pos 0) ≡ get_or old (k * depth + d) (pos 0)

@@ -1,4 +1,4 @@
-use Rattle.std.proofs.Common.{◌≡◌, ◌∷◌, drop, ap, ◌∙◌}
+use Rattle.std.proofs.Common.{◌≡◌, ◌∷◌, ◌≤◌, drop, length, ap, ◌∙◌, arith}
 use Rattle.outside_io.specs.volume.Disk.{Disk, settled}
 use Rattle.outside_io.specs.volume.History.{current}
 use Rattle.bundle_store.specs.Appended.{with_entry}
@@ -33,3 +33,16 @@ returns-clause-done g c = λ told.
     let done = c.in_ok-redo.ensures.done told_1 in
     recovered_tile b j c.args.slot c.args.entry c.args.length c.args.header.now (current (g.V.Volume.history c.redo.new.vol)) (c.requires.opened told) (c.requires.says told)
     (done ∙ (λ i. let x : Disk = record { bundle = settled (over (bundle i)); journal = settled (0 ∷ drop 1 (journal i)) } in x))
+
+pub returns-clause-leaves : goal.returns-clause-leaves
+returns-clause-leaves g c = λ told.
+    let old = g.V.Volume.history c.args.vol.now in
+    let b = (current old).bundle.now in
+    let next = g.V.Volume.history c.len.new.self in
+    let over = with_entry c.args.header.now c.args.slot c.args.entry in
+    let bundle : (current next).bundle.now ≡ b = ap (λ (d : Disk). d.bundle.now) (c.len.ensures.disk told) in
+    let done = c.in_ok-redo.ensures.done (c.len.ensures.told ∙ told) in
+    let within : c.args.length ≤ length b = omega (arith, c.if-branch-length.false, c.in_ok-len.ensures.answer told) in (
+      record { opened = c.requires.opened told; slot = c.args.slot; entry = c.args.entry; size = c.args.length; header = c.args.header.now; says = c.requires.says told; within = within },
+      ap (λ (d : Disk). d.bundle.now) done ∙ ap over bundle,
+    )

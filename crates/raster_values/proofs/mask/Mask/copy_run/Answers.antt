@@ -1,0 +1,16 @@
+use Rattle.std.proofs.Common.{◌≡◌, ◌+◌, ◌<◌, ◌≤◌, Bool, List, ap, ◌∙◌, sym, subst, length, get_or, replicate, true, false, arith, rules}
+use Rattle.std.specs.Prelude.{count_by}
+use Rattle.std.proofs.lemmas.List.{get_or-replicate}
+use Rattle.raster_values.specs.inside.MaskView.{seen_mask}
+use Rattle.raster_values.proofs.MaskBits.{count_is, size_is}
+use Rattle.raster_values.proofs.MaskCounts.{all_set}
+use Rattle.raster_values.proofs.mask.Mask.copy_run.Goals as goal
+
+pub returns-then-self : goal.returns-then-self
+returns-then-self c =
+    let ms = seen_mask c.self.inside in
+    let full : count_by (λ m. m) ms ≡ length ms = sym c.self.invariant.counted ∙ c.if-self.true ∙ sym (size_is c.self.inside) in
+    let out : c.fill.new.self ≡ replicate (length c.args.out.now) true = c.fill.ensures.after (λ y e. e) in
+    λ i less.
+    ap (λ xs. get_or xs i false) out ∙ get_or-replicate (length c.args.out.now) i true false less
+    ∙ sym (ap (λ (xs : List Bool). get_or xs (c.args.from + i) false) (sym c.self.view_is) ∙ all_set ms (c.args.from + i) full (omega (arith, c.requires, count_is c.self.inside _ c.self.view_is, size_is c.self.inside)))
