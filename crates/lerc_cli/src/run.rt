@@ -122,7 +122,7 @@ fn ended_status<E: Sink>(ended: Result<(), Stop>, err: &mut E) -> u8
 /// | 3 | exactly where the source failed |
 /// | 4 | exactly where the output failed, which has then gained a prefix of what it was to gain |
 /// | 5 | exactly where the volume failed, which none calls |
-/// | 6 | where memory was refused, which `decode` and `info` want only behind a whole lawful header |
+/// | 6 | where memory was refused; `decode` and `info` want it only behind a lawful header |
 ///
 /// On a status other than 0 one line is given to `err`. The faults of `err` change nothing. There
 /// are no marks.
