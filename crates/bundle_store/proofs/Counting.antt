@@ -131,6 +131,13 @@ part_entries b part number at is same = λ i lt. same_u64 part b (8 * i) (place_
     ∙ same (8 * i + k) (omega arith)
     ∙ ap (λ (m : ℕ). get_or b m 0) (let e : at + (8 * i + k) ≡ place_of (512 * number + i) + k = omega arith in e))
 
+-- the same of a row's bytes
+pub row_word : (b part : List ℕ) (row col at : ℕ) → at ≡ 64 + 1024 * row → col < 128 → SameAt 1024 part 0 b at → u64_at part (8 * col) ≡ u64_at b (place_of (128 * row + col))
+row_word b part row col at is less same = same_u64 part b (8 * col) (place_of (128 * row + col)) (λ k lt.
+    ap (λ (m : ℕ). get_or part m 0) (let e : 8 * col + k ≡ 0 + (8 * col + k) = omega arith in e)
+    ∙ same (8 * col + k) (omega arith)
+    ∙ ap (λ (m : ℕ). get_or b m 0) (let e : at + (8 * col + k) ≡ place_of (128 * row + col) + k = omega arith in e))
+
 -- a word of a part
 cut_at : (n at i d : ℕ) (c : List ℕ) → i < n → get_or (take n (drop at c)) i d ≡ get_or c (at + i) d
 cut_at n at i d c lt = grind (arith, places)

@@ -2,7 +2,7 @@ mod Building
 mod Counting
 mod Fresh
 mod Fronts
-mod PutLaws
+pub mod PutLaws
 mod Layouts
 mod Numbering
 mod OneRecovery
@@ -13,5 +13,5 @@ mod Recovering
 mod Refusals
 mod Region
 mod Rests
-mod Standing
+pub mod Standing
 mod Unders

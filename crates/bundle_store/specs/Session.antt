@@ -1,5 +1,5 @@
 -- Sessions.
-use Rattle.std.specs.Prelude.{◌≡◌, ◌≢◌, ◌⊎◌, ℕ, ◌+◌, ◌-◌, ◌^◌, ◌<◌, ◌≤◌, ◌==◌, nat_lt, Bool, List, length, take, drop, Option, Some, None, if◌then◌else◌}
+use Rattle.std.specs.Prelude.{◌≡◌, ◌≢◌, ◌⊎◌, ℕ, ◌+◌, ◌-◌, ◌*◌, ◌^◌, ◌<◌, ◌≤◌, ◌==◌, nat_lt, Bool, List, length, take, drop, slice_get, Option, Some, None, if◌then◌else◌}
 use Rattle.bundle_index.specs.Entry.{entry_at}
 use Rattle.bundle_index.specs.Header.{header_fault}
 use Rattle.bundle_index.specs.declared.entry.Entry.{Entry}
@@ -74,6 +74,11 @@ pub record GetGives (bundle : List ℕ) (slot : ℕ) (tile : List ℕ) : Type 0 
   pub some : 0 < (entry_at bundle slot).size
   pub within : (entry_at bundle slot).offset + (entry_at bundle slot).size ≤ length bundle
   pub bytes : tile ≡ take (entry_at bundle slot).size (drop (entry_at bundle slot).offset bundle)
+
+-- these are the entries of the 128 slots of a row, by column
+abbrev pub AreRowEntries : List ℕ → ℕ → List Entry → Type 0
+AreRowEntries bundle row entries = (col : ℕ) → col < 128 →
+    slice_get entries col ≡ Some (entry_at bundle (128 * row + col))
 
 -- the slot's entry names more bytes than the bundle has from its offset on
 pub record IsBeyond (bundle : List ℕ) (slot : ℕ) (entry : Entry) (got : ℕ) : Type 0 where

@@ -17,6 +17,7 @@ mod put;
 mod reading;
 mod recovery;
 mod redo;
+mod rows;
 mod session;
 mod syncs;
 #[cfg(test)]

@@ -1,6 +1,6 @@
-ghost use Rattle.std.specs.Prelude.{◌≡◌, ◌↔◌, ◌⊎◌, ◌+◌, ◌^◌, ◌<◌, ◌≤◌, [], false, true, None, Some, length, IsTrue, IsErrOf, IfOk, IfErr, OnOk};
+ghost use Rattle.std.specs.Prelude.{◌≡◌, ◌↔◌, ◌⊎◌, ◌+◌, ◌^◌, ◌<◌, ◌≤◌, [], false, true, None, Some, length, IsTrue, IsErrOf, IfOk, IfErr, OnErr, OnOk};
 ghost use Rattle.outside_io.specs.declared.volume.VolFile.TheVariants.{Bundle, Journal};
-ghost use Rattle.outside_io.specs.volume.History.{During, contents, current};
+ghost use Rattle.outside_io.specs.volume.History.{During, Ticks, contents, current};
 ghost use Rattle.bundle_index.specs.Entry.{entry_at};
 ghost use Rattle.bundle_store.specs.Causes.{CountsDevice, OnRefusal, UnlessDevice};
 ghost use Rattle.bundle_store.specs.Check.{Reports};
@@ -9,12 +9,13 @@ ghost use Rattle.bundle_store.specs.Build.{EachFits, last_tiles};
 ghost use Rattle.bundle_store.specs.Layout.{layout};
 ghost use Rattle.bundle_store.specs.Images.{EachImage, EmptyOr, HoldsClosed, WithOrWithout};
 ghost use Rattle.bundle_store.specs.Tiles.{IsReadable, tiles};
-ghost use Rattle.bundle_store.specs.Session.{BuildFails, GetFails, GetGives, GetRefuses, IsReadyToPut, KeepsLength, OpenFails, OpenRefuses, PutFails, Serves};
+ghost use Rattle.bundle_store.specs.Session.{AreRowEntries, BuildFails, GetFails, GetGives, GetRefuses, IsReadyToPut, KeepsLength, OpenFails, OpenRefuses, PutFails, Serves};
 
 use crate::build::{build_on, check_tiles, number_tiles, record_buffer};
 use crate::check::check_index;
 use crate::put::put_tile;
 use crate::reading::{header_fault_of, read_entry};
+use crate::rows::read_row;
 use crate::{CheckReport, StoreFault, TileRec};
 use bundle_index::{Entry, Slot};
 use outside_io::{Bytes, VolFile, Volume};
@@ -135,6 +136,36 @@ impl Session {
             return Err(StoreFault::Stopped);
         }
         Ok(read_entry(vol, slot)?)
+    }
+
+    /// The entries of the 128 slots of a row, by column, in one device call; those of an empty file
+    /// are 0. Device, Stopped, after which `entries` is as it was.
+    pub fn row_entries<V: Volume>(
+        &self,
+        vol: &mut V,
+        row: u8,
+        entries: &mut [Entry; 128],
+    ) -> Result<(), StoreFault>
+        requires serves { IsTrue (V.told vol.old) → self.now.stopped ≡ false →
+            Serves self.now (contents Bundle (V.history vol.old)) }
+        requires row { row < 128 }
+        ensures value { IsTrue (V.told vol.old) → OnOk result
+            (AreRowEntries (contents Bundle (V.history vol.old)) row entries.new) }
+        ensures same { OnErr result (entries.new ≡ entries.old) }
+        ensures stopped { IsErrOf result StoreFault.Stopped ↔ (self.now.stopped ≡ true) }
+        ensures answers { IfErr result (λ f. (f ≡ StoreFault.Device) ⊎ (f ≡ StoreFault.Stopped)) }
+        ensures disk { IsTrue (V.told vol.old) →
+            current (V.history vol.new) ≡ current (V.history vol.old) }
+        ensures time { self.now.stopped ≡ false →
+            Ticks (V.history vol.old) (V.history vol.new) result }
+        ensures idle { self.now.stopped ≡ true → vol.new ≡ vol.old }
+        ensures told { V.told vol.new ≡ V.told vol.old }
+        ensures counted { CountsDevice result (V.faults vol.old) (V.faults vol.new) }
+    {
+        if self.stopped {
+            return Err(StoreFault::Stopped);
+        }
+        Ok(read_row(vol, row, entries)?)
     }
 
     /// The bytes of the slot's tile. In this order Stopped, Device for the entry, NoTile,

@@ -4,8 +4,13 @@ mod Extremes
 mod Blocking
 mod Packing
 mod Forming
+mod WordBytes
+mod TableBytes
 mod Kept
+mod SymbolForms
+mod SymbolSteps
 mod Standing
+mod Candidates
 mod Endings
 mod Encoded
 mod Laying

@@ -42,8 +42,7 @@ returns-clause-leaves g c = λ told.
     let over = with_entry c.args.header.now c.args.slot c.args.entry in
     let bundle : (current next).bundle.now ≡ b = ap (λ (d : Disk). d.bundle.now) (c.len.ensures.disk told) in
     let done = c.in_ok-redo.ensures.done (c.len.ensures.told ∙ told) in
-    let within : c.args.length ≤ length b = omega (arith, c.if-branch-length.false, c.in_ok-len.ensures.answer told) in
-    (
+    let within : c.args.length ≤ length b = omega (arith, c.if-branch-length.false, c.in_ok-len.ensures.answer told) in (
       record { opened = c.requires.opened told; slot = c.args.slot; entry = c.args.entry; size = c.args.length; header = c.args.header.now; says = c.requires.says told; within = within },
       ap (λ (d : Disk). d.bundle.now) done ∙ ap over bundle,
     )

@@ -1,0 +1,16 @@
+pub use Rattle.outside_io.specs.program.Line
+pub use Rattle.outside_io.specs.program.Marks
+pub use Rattle.outside_io.specs.streams.Faults
+pub use Rattle.outside_io.specs.streams.Sink
+pub use Rattle.outside_io.specs.volume.Disk
+pub use Rattle.outside_io.specs.volume.History
+pub use Rattle.bundle_store.specs.Appended
+pub use Rattle.bundle_store.specs.Build
+pub use Rattle.bundle_store.specs.Check
+pub use Rattle.bundle_store.specs.Images
+pub use Rattle.bundle_store.specs.Session
+pub use Rattle.bundle_store.specs.Tiles
+pub mod Ends
+pub mod Lines
+pub mod Puts
+pub mod inside

@@ -1,0 +1,76 @@
+-- Puts one after the other: what the bundle reads as, whether there is room, and what a crash
+-- leaves at each moment, by the marks of those that were acknowledged.
+use Rattle.std.specs.Prelude.{◌≡◌, ℕ, ◌+◌, ◌^◌, ◌<◌, ◌≤◌, nat_le, List, [], ◌∷◌, length, take, slice_index, Ok, Err}
+use Rattle.std.specs.List.{count_by}
+use Rattle.outside_io.specs.volume.History.{History, DuringAt}
+use Rattle.bundle_store.specs.declared.tile_rec.TileRec.{TileRec}
+use Rattle.bundle_store.specs.Appended.{bundle_after_put}
+use Rattle.bundle_store.specs.Build.{bytes_at, map_after}
+use Rattle.bundle_store.specs.Images.{EachImage}
+use Rattle.bundle_store.specs.Tiles.{TileMap}
+use Rattle.bundle_lines.specs.declared.stop.PutStop.TheVariants.{Output, Volume, Full}
+use Rattle.bundle_lines.specs.Ends.{PutEnd}
+
+-- ---- the bundle
+
+-- the bundle after the updates were put one after the other
+abbrev pub bundle_after_puts : List ℕ → List TileRec → List ℕ
+bundle_after_puts bundle [] = bundle
+bundle_after_puts bundle (u ∷ us) =
+    bundle_after_puts (bundle_after_put bundle u.slot u.bytes) us
+
+-- the length of the bundle as update number i is put, which the updates before it leave
+abbrev pub length_before : List ℕ → List TileRec → ℕ → ℕ
+length_before bundle updates i = length (bundle_after_puts bundle (take i updates))
+
+-- there is room for each of the first n updates, as it is put
+abbrev pub HaveRoom : List ℕ → List TileRec → ℕ → Type 0
+HaveRoom bundle updates n =
+    (i : ℕ) → i < n → length_before bundle updates i + 4 + length (bytes_at updates i) ≤ 2 ^ 40
+
+-- update number n is the first for which there is none, and this is the length then
+pub record IsFirstFull (bundle : List ℕ) (updates : List TileRec) (n len : ℕ) : Type 0 where
+  pub len_is : len ≡ length_before bundle updates n
+  pub full : 2 ^ 40 < len + 4 + length (bytes_at updates n)
+  pub before : HaveRoom bundle updates n
+
+-- what the end of the puts, n of which have a mark, says of the room
+abbrev pub EndsByRoom : PutEnd → List ℕ → List TileRec → ℕ → Type 0
+EndsByRoom (Ok x) bundle updates n = HaveRoom bundle updates n
+EndsByRoom (Err Output) bundle updates n = HaveRoom bundle updates n
+EndsByRoom (Err Volume) bundle updates n = HaveRoom bundle updates n
+EndsByRoom (Err (Full len)) bundle updates n = IsFirstFull bundle updates n len
+
+-- the kept length leaves no room for update number n, whatever the volume tells
+abbrev pub KeepsFullLength : PutEnd → List TileRec → ℕ → Type 0
+KeepsFullLength (Ok x) updates n = Unit {0}
+KeepsFullLength (Err Output) updates n = Unit {0}
+KeepsFullLength (Err Volume) updates n = Unit {0}
+KeepsFullLength (Err (Full len)) updates n = 2 ^ 40 < len + 4 + length (bytes_at updates n)
+
+-- ---- marks
+
+-- how many marks are not later than a moment
+abbrev pub marked : List ℕ → ℕ → ℕ
+marked marks t = count_by (λ mark. nat_le mark t) marks
+
+-- they never fall, none is earlier than the start, and none is later than the end
+pub record AreMarks (marks : List ℕ) (from to : ℕ) : Type 0 where
+  pub rising : (i j : ℕ) → i ≤ j → j < length marks → slice_index marks i ≤ slice_index marks j
+  pub within : (i : ℕ) → i < length marks → (from ≤ slice_index marks i) × (slice_index marks i ≤ to)
+
+-- ---- crashes
+
+-- The map at the start with the first few updates done: at least those acknowledged by this moment,
+-- and at most one more.
+pub record IsAfterSome (start : TileMap) (updates : List TileRec) (marks : List ℕ) (t : ℕ)
+    (map : TileMap) : Type 0 where
+  pub count : ℕ
+  pub least : marked marks t ≤ count
+  pub most : count ≤ marked marks t + 1
+  pub map_is : map ≡ map_after start (take count updates)
+
+-- at each moment each image is sound and stands for such a map
+abbrev pub PutsKeep : TileMap → List TileRec → List ℕ → History → History → Type 0
+PutsKeep start updates marks old new =
+    DuringAt (λ t d. EachImage (IsAfterSome start updates marks t) d) old new

@@ -1,0 +1,19 @@
+//! What is told of a bundle: the lines of puts, of a build, a listing, a check and a recovery. It
+//! stands on `outside_io`, `bundle_index` and `bundle_store`.
+//!
+//! The contract that the layer above uses: through `put_all`, at each moment each image that a
+//! crash may leave stands for the tiles after as many updates as have a mark by then, or one more,
+//! and the lines given are those of the updates with a mark.
+#![tactic(auto)]
+
+mod checking;
+mod lines;
+mod listing;
+mod puts;
+mod stop;
+
+pub use checking::check_all;
+pub use lines::{give_built, give_recovery, give_report};
+pub use listing::list_all;
+pub use puts::put_all;
+pub use stop::{LineStop, PutStop};
