@@ -1,5 +1,5 @@
 -- Where a table can be shorter, and how many different numbers there are at least.
-use Rattle.std.proofs.Common.{◌≡◌, ℕ, ℤ, map, zero, suc, ◌+◌, ◌-◌, ◌*◌, ◌/◌, ◌%◌, ◌^◌, ◌<◌, ◌≤◌, Bool, true, false, List, [], ◌∷◌, ◌++◌, length, get_or, take, refl, sym, ap, subst, ◌∙◌, arith, inl, inr}
+use Rattle.std.proofs.Common.{◌≡◌, ℕ, ℤ, map, zero, suc, ◌+◌, ◌-◌, ◌*◌, ◌/◌, ◌%◌, ◌^◌, ◌<◌, ◌≤◌, Bool, cond, true, false, List, [], ◌∷◌, ◌++◌, length, get_or, take, refl, sym, ap, subst, ◌∙◌, arith, inl, inr}
 use Rattle.std.specs.Prelude.{set, min}
 use Rattle.std.proofs.lemmas.Bool.{cases_eq, cases_lt}
 use Rattle.std.proofs.lemmas.List.{get_or-set_other, get_or-set_same}
@@ -232,6 +232,7 @@ front_distinct g values k bound h = let le = distinct_fit (map g (take k values)
 
 -- a number that is marked, whether its remainder was before or not
 pub seen_next : (seen : List Bool) (count : ℕ) (front : List ℕ) (x n : ℕ) → x % 1024 < length seen → n ≡ cond (get_or seen (x % 1024) false) 0 1 → AreSeen seen count front → AreSeen (set seen (x % 1024) true) (count + n) (front ++ x ∷ [])
+unfolding seen_again
 seen_next seen count front x n within e s = by (get_or seen (x % 1024) false) refl
   where
     kept : (r : ℕ) → get_or seen r false ≡ true → get_or (set seen (x % 1024) true) r false ≡ true

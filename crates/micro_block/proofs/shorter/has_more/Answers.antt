@@ -20,12 +20,12 @@ pub returns-then-count-bound : goal.returns-then-count-bound
 returns-then-count-bound c t =
     let qs = c.args.qs.now in
     let i = c.loop-q.q-index in
-    let s = next c.loop-q.seen c.loop-q.count i c.from.result qs c.loop-q.invariant.1.0 c.loop-q-test.true c.from.ensures c.loop-q.invariant.0 in
-    let le = seen_distinct (set c.loop-q.seen (get_or qs i 0 % 1024) true) (c.loop-q.count + c.from.result) qs (seen_of_all (set c.loop-q.seen (get_or qs i 0 % 1024) true) (c.loop-q.count + c.from.result) (i + 1) qs s) in
+    let s = next c.loop-q.seen c.loop-q.count i c.from-count.result qs c.loop-q.invariant.1.0 c.loop-q-test.true c.from-count.ensures c.loop-q.invariant.0 in
+    let le = seen_distinct (set c.loop-q.seen (get_or qs i 0 % 1024) true) (c.loop-q.count + c.from-count.result) qs (seen_of_all (set c.loop-q.seen (get_or qs i 0 % 1024) true) (c.loop-q.count + c.from-count.result) (i + 1) qs s) in
     omega (arith, le, c.if-count-bound.true)
 
 pub loop-q-preserved : goal.loop-q-preserved
 loop-q-preserved c =
     let qs = c.args.qs.now in
     let i = c.loop-q.q-index in
-    (next c.loop-q.seen c.loop-q.count i c.from.result qs c.loop-q.invariant.1.0 c.loop-q-test.true c.from.ensures c.loop-q.invariant.0, (length-set c.loop-q.seen (get_or qs i 0 % 1024) true ∙ c.loop-q.invariant.1.0, c.if-count-bound.false))
+    (next c.loop-q.seen c.loop-q.count i c.from-count.result qs c.loop-q.invariant.1.0 c.loop-q-test.true c.from-count.ensures c.loop-q.invariant.0, (length-set c.loop-q.seen (get_or qs i 0 % 1024) true ∙ c.loop-q.invariant.1.0, c.if-count-bound.false))
