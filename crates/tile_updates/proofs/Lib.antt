@@ -1,0 +1,4 @@
+mod Passing
+mod Refusals
+mod SoFar
+mod StreamsDecided
