@@ -193,7 +193,7 @@ fn table_for(codes: &Codes, count: usize) -> [Entry; 2048]
     ensures short { All IsShort result }
     ensures are { AreEntries codes.now result }
 {
-    if count < 1024 {
+    if count < 256 {
         no_entries()
     } else {
         entries_of(codes)

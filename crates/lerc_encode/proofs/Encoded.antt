@@ -35,7 +35,7 @@ use Rattle.lerc_encode.specs.Masks.{packed, are_alike, mask_runs_of, mask_part}
 use Rattle.lerc_encode.specs.Heads.{header_of}
 use Rattle.lerc_encode.specs.Images.{Form, sweep, blocks_8, blocks_16, delta, plain, is_v4, Ending, bare, level, coded, side_at, image_bytes, form_bytes, forms, chosen_form, ending}
 use Rattle.lerc_encode.specs.Choice.{behind_head, header_with, checksum_of, choice}
-use Rattle.lerc_encode.specs.Encoded.{IsAsked, IsEncodedOnce}
+use Rattle.lerc_encode.specs.Encoded.{Declares, IsAsked, IsEncodedOnce}
 use Rattle.lerc_encode.specs.inside.Suits.{IsBeside}
 use Rattle.lerc_encode.proofs.Extremes.{in_order, no_values, all_least_fits, all_greatest_fits}
 use Rattle.lerc_encode.proofs.Packing.{count_marks, long_marks, mask_few, alike_runs, mixed_runs, packed_bits, packed_below, length_packed, all_off, all_on}
@@ -392,3 +392,7 @@ pub encoded_once : (r : Pixels) (version : Version) (step : ℕ) → IsAsked r v
 encoded_once r version step asked sum_fits =
     let e = encoded r version step asked sum_fits in
     record { raster = e.raster; blob = e.blob; near = e.near; only = λ s b. one_raster (choice r version step) s e.raster b e.blob }
+
+pub declares : (r : Pixels) (version : Version) (step : ℕ) → IsAsked r version step → checksum_of r version step < 2 ^ 32 → Declares (choice r version step) version step
+unfolding header_with header_of
+declares r version step asked sum_fits = (header_with r version step (checksum_of r version step), (head_there r version step asked sum_fits, refl, refl))

@@ -5,7 +5,7 @@ ghost use Rattle.lerc_header.specs.declared.header.Version.TheVariants.{V3};
 ghost use Rattle.lerc_header.specs.Head.{head_length};
 ghost use Rattle.lerc_header.specs.Written.{IsHeader, head_bytes};
 ghost use Rattle.lerc_encode.specs.Choice.{behind_head, checksum_of, choice, header_with};
-ghost use Rattle.lerc_encode.specs.Encoded.{IsAsked, IsEncodedOnce};
+ghost use Rattle.lerc_encode.specs.Encoded.{Declares, IsAsked, IsEncodedOnce};
 ghost use Rattle.lerc_encode.specs.inside.Choosing.{AreRanges, IsBase};
 ghost use Rattle.lerc_encode.specs.inside.Layout.{IsPlan, IsSealed};
 
@@ -229,6 +229,7 @@ pub fn encode(
     ensures chosen { IfOk result (λ blob. blob ≡ choice raster.now version step) }
     ensures few { IfOk result (λ blob. length blob ≤ 134217728) }
     ensures decodes { IfOk result (λ blob. IsEncodedOnce blob raster.now step) }
+    ensures declares { IfOk result (λ blob. Declares blob version step) }
 {
     let _rows = raster.rows();
     if needs_v4(version, raster) {

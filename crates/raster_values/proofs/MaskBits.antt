@@ -1,6 +1,6 @@
 -- How the bytes of a mask stand for its marks.
 use Rattle.std.proofs.Common.{◌≡◌, ◌≢◌, ℕ, ◌+◌, ◌-◌, ◌*◌, ◌/◌, ◌%◌, ◌^◌, ◌<◌, ◌≤◌, zero, suc, Bool, true, false, cond, List, [], ◌∷◌, ◌++◌, length, get_or, replicate, set, take, drop, map, refl, sym, ap, ◌∙◌, subst, arith, ⊎_elim, ◌&&◌}
-use Rattle.std.specs.Prelude.{nat_eq, nat_lt}
+use Rattle.std.specs.Prelude.{nat_eq, nat_lt, IsTrue}
 use Rattle.std.specs.List.{count_by, filter, range_with_len}
 use Rattle.std.proofs.lemmas.List.{ext_get_or, get_or_past, get_or-set_same, get_or-set_other, length-set, length-replicate, get_or-replicate, map-append, length-map, get_or-map}
 use Rattle.std.proofs.lemmas.List.FromFn.{length-range_with_len, get_or-range_with_len}
@@ -67,6 +67,11 @@ bit_in_front byte count q above below within =
     let gone : min (bit_at byte (7 - q)) (bit_at (2 ^ 8 - 2 ^ k) (7 - q)) ≡ 0 = omega (arith, none) in
     ap (λ n. nat_eq n 1) (both ∙ gone) ∙ ap (λ u. u && byte_bit byte q) (sym t))
     (cases_lt q count)
+
+pub full_byte : (byte q : ℕ) → IsTrue (nat_eq byte 255) → q < 8 → byte_bit byte q ≡ true
+full_byte byte q e within =
+    let all : byte ≡ 255 = grind (arith, nat_tests) in
+    ap (λ n. byte_bit n q) all ∙ ap (λ n. nat_eq n 1) (bit_at_ones 8 (7 - q) (omega arith))
 
 -- the bits before the first 1 of those from one of them on
 pub zeros_before : (byte from q : ℕ) → from < 8 → from ≤ q → q < count_leading_zeros 8 (bit_and byte (255 / 2 ^ from)) → byte_bit byte q ≡ false

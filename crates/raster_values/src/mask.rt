@@ -40,6 +40,13 @@ pub struct Run {
     pub end: usize,
 }
 
+/// Whether each bit of a byte is `mark`.
+fn is_full(byte: u8, mark: bool) -> bool
+    ensures { IsTrue result → (q : ℕ) → q < 8 → byte_bit byte q ≡ mark }
+{
+    if mark { byte == 255 } else { byte == 0 }
+}
+
 /// How many bits of a byte from `from` on are 0 before one that is not, the bits counted from the
 /// highest.
 fn zeros_from(byte: u8, from: usize) -> usize
@@ -329,8 +336,11 @@ impl Mask {
         ensures within { result ≤ limit }
         ensures run { (k : ℕ) → at ≤ k → k < result → get_or self.now k false ≡ mark }
     {
-        let run = equal_from(self.bytes[at / 8], at % 8, mark);
-        limit.min(at + run.max(1))
+        let byte = self.bytes[at / 8];
+        if at % 8 == 0 && is_full(byte, mark) {
+            return limit.min(at + 8);
+        }
+        limit.min(at + equal_from(byte, at % 8, mark).max(1))
     }
 
     /// Where the run of equal marks from `at` on ends, which is looked for before `limit`.
