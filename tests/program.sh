@@ -61,6 +61,9 @@ expect() {
 
 plainly() { "$program" "$@" >out 2>err; }
 
+# Its output is decoded by the program once more.
+then_decoded() { "$program" "$@" 2>err | "$program" - decode >out; }
+
 # Its output is closed, or takes no byte, or is a pipe of which nobody reads more than a byte.
 output_closed() { "$program" "$@" >&- 2>err; }
 output_full() { "$program" "$@" >/dev/full 2>err; }
@@ -229,6 +232,20 @@ bytes 4c 47 52 31 01 01 00 00 00 03 00 00 00 02 00 00 00 01 01 01 05 09 06 09 08
     yes | head -c 51400 | tr 'y\n' '\000\200'
 } >wide_grid
 
+# A row of 10 11 12 13 in two bytes each; the same with a second depth, 100 100 100 103. Coded with the
+# error 1 these are the blocks above.
+bytes 4c 47 52 31 02 01 00 00 00 04 00 00 00 01 00 00 00 01 01 01 01 0a 00 0b 00 0c 00 0d 00 >tens
+{
+    bytes 4c 47 52 31 02 01 00 00 00 04 00 00 00 02 00 00 00 01 01 01 01 0a 00 64 00 0b 00 64 00 0c
+    bytes 00 64 00 0d 00 67 00
+} >tens_deep
+
+# A grid with an unknown type, with a mark that is none, without its last byte, and with a byte behind it.
+{ head -c 4 grid; bytes 06; tail -c +6 grid; } >bad_type_grid
+{ head -c 17 grid; bytes 02 07; } >bad_mark_grid
+head -c 18 grid >short_grid
+{ cat grid; bytes 00; } >longer_grid
+
 : >nothing
 bad_text=$(printf '\377\376')
 long=$(printf '%5000s' '' | tr ' ' 'x')
@@ -255,10 +272,51 @@ expect 'a word of 5,000 bytes' 1 nothing "$usage" plainly - "$long" <blob
 expect 'a second word' 1 nothing "$usage" plainly - decode x <blob
 expect 'a second word that is empty' 1 nothing "$usage" plainly - decode '' <blob
 expect 'a second word that is no UTF-8' 1 nothing "$usage" plainly - decode "$bad_text" <blob
-for command in encode build put get list check recover sample; do
+for command in build put get list check recover sample; do
     expect "a command that is not built yet: $command" 1 nothing "$usage" plainly - "$command" <blob
 done
 expect 'words come before a failing source' 1 nothing "$usage" input_closed - x
+
+# ---- encode
+
+expect 'encode: a grid' 0 blob '' plainly - encode 3 0 <grid
+expect 'encode: a grid of 77,117 bytes' 0 wide '' plainly - encode 3 0 <wide_grid
+for input in none_valid runs sweep; do
+    expect "encode: a grid, $input" 0 "$input" '' plainly - encode 3 0 <"${input}_grid"
+done
+expect 'encode: lists that are equal' 0 ranges '' plainly - encode 4 0 <ranges_grid
+expect 'encode: blocks' 0 steps '' plainly - encode 3 1 <tens
+expect 'encode: blocks of two depths' 0 steps_deep '' plainly - encode 4 1 <tens_deep
+for version in 3 4; do
+    expect "encode, decode: without an error, version $version" 0 tens '' then_decoded - encode "$version" 0 <tens
+    expect "encode, decode: with the error 1, version $version" 0 steps_grid '' then_decoded - encode "$version" 1 <tens
+done
+expect 'encode, decode: two depths without an error' 0 tens_deep '' then_decoded - encode 4 0 <tens_deep
+expect 'encode, decode: two depths with the error 1' 0 steps_deep_grid '' then_decoded - encode 4 1 <tens_deep
+expect 'encode, decode: a grid of 77,117 bytes' 0 wide_grid '' then_decoded - encode 4 0 <wide_grid
+
+# Refuses a file, whose first fault is told by this line.
+encode_refuses() {
+    expect "encode: no grid, $1" 2 nothing "refused: $2" plainly - encode 3 0 <"$1"
+}
+
+encode_refuses nothing 'Truncated at 0'
+encode_refuses blob 'BadMagic at 0'
+encode_refuses bad_type_grid 'BadType at 4'
+encode_refuses bad_mark_grid 'BadMark at 17'
+encode_refuses short_grid 'Truncated at 18'
+encode_refuses longer_grid 'Leftover at 19'
+encode_refuses tens_deep 'DepthNeedsV4 at 13'
+
+for words in '' 3 '3 0 0' '5 0' '03 0' '3 00' '3 -1' '3 4294967296'; do
+    # shellcheck disable=SC2086
+    expect "encode: no command, '$words'" 1 nothing "$usage" plainly - encode $words <grid
+done
+expect 'encode: a folder as the input' 3 nothing "$no_source" plainly - encode 3 0 </
+expect 'encode: a closed input' 3 nothing "$no_source" input_closed - encode 3 0
+expect 'encode: a closed output' 4 nothing "$no_output" output_closed - encode 3 0 <grid
+expect 'encode: a full output' 4 nothing "$no_output" output_full - encode 3 0 <grid
+expect 'encode: no grid and a closed output' 2 nothing 'refused: Truncated at 18' output_closed - encode 3 0 <short_grid
 
 # ---- decode
 

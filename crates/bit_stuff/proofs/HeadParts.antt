@@ -1,11 +1,10 @@
 -- A head is a part: it is read in one way, and it stands or has one first fault.
-use Rattle.std.proofs.Common.{◌≡◌, ℕ, zero, suc, ◌+◌, ◌*◌, ◌/◌, ◌%◌, ◌<◌, ◌≤◌, ◌↔◌, ◌⊎◌, Bool, true, false, IsTrue, List, [], ◌∷◌, ◌++◌, length, get_or, slice_index, take, drop, refl, sym, ap, ◌∙◌, subst, inl, inr, arith}
+use Rattle.std.proofs.Common.{◌≡◌, ℕ, zero, suc, ◌+◌, ◌<◌, ◌≤◌, ◌↔◌, ◌⊎◌, Bool, true, false, IsTrue, List, ◌++◌, length, take, drop, refl, sym, ap, ◌∙◌, subst, inl, inr, arith}
 use Rattle.std.proofs.lemmas.Bool.{cases_lt, false≢true}
-use Rattle.std.proofs.lemmas.List.{append_cancel_left, append_assoc, length-append, length-take-le, length-take, take-append-drop, take_at}
-use Rattle.byteorder.specs.Endian.{little_number}
-use Rattle.first_fault.specs.Faults.{Faults, none, wrong, unless}
-use Rattle.first_fault.specs.Parts.{IsSingle, IsPart, IsDecided, AreBytes, InFront, HasFault}
-use Rattle.first_fault.proofs.Parts.{single-none, single-wrong, single-unless, passed}
+use Rattle.std.proofs.lemmas.List.{length-take-le, take-append-drop, take_at}
+use Rattle.first_fault.specs.Faults.{none, wrong, unless}
+use Rattle.first_fault.specs.Parts.{IsSingle, IsPart, IsDecided, InFront}
+use Rattle.first_fault.proofs.Parts.{single-none, single-unless, passed}
 use Rattle.first_fault.proofs.Decided.{decided_unless}
 use Rattle.bit_stuff.specs.declared.heads.ListHead.{ListHead}
 use Rattle.bit_stuff.specs.declared.heads.ListReason.{ListReason}

@@ -1,5 +1,6 @@
 pub mod Numbers
 mod Fields
+mod Fronts
 pub mod Buffers
 pub mod Digits
 pub mod StuffedLaws

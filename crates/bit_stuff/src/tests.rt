@@ -2,7 +2,7 @@ ghost use Rattle.std.specs.Prelude.{◌^◌, ◌<◌, ◌≤◌, length, All};
 
 use crate::{
     ListFault, ListHead, ListReason, read_head, simple_len, stuff, stuffed_len, unstuff,
-    write_simple,
+    unstuff_front, write_simple,
 };
 use std::process::Abort;
 
@@ -85,21 +85,27 @@ fn fields_are_read_and_written_whatever_the_spare_bits(rt: HostRuntime) {
         );
         let len = stuffed_len(count, width);
         assert!(rt; len <= 3968, "the length at {width}, {count}");
-        let bytes = &mut bytes[..len];
+        let front = &mut bytes[..len];
         let written = &mut written[..len];
         let values = &mut values[..count];
-        fill(bytes);
+        fill(front);
         let above = count * width as usize % 8;
         if len > 0 && above > 0 {
-            bytes[len - 1] |= 255 << above;
+            front[len - 1] |= 255 << above;
         }
-        unstuff(bytes, width, values);
+        unstuff(front, width, values);
         assert_eq!(rt; digest(values), want, "read at {width}, {count}");
         stuff(values, width, written);
         if len > 0 && above > 0 {
-            bytes[len - 1] &= (1 << above) - 1;
+            front[len - 1] &= (1 << above) - 1;
         }
-        assert!(rt; &*written == &*bytes, "written at {width}, {count}");
+        assert!(rt; &*written == &*front, "written at {width}, {count}");
+        unstuff_front(&bytes, width, values);
+        assert_eq!(rt;
+            digest(values),
+            want,
+            "read from the front at {width}, {count}"
+        );
     }
 }
 

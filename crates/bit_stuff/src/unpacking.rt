@@ -1,6 +1,6 @@
 // Reading stuffed numbers.
 
-ghost use Rattle.std.specs.Prelude.{◌≡◌, ◌+◌, ◌*◌, ◌/◌, ◌%◌, ◌^◌, ◌<◌, ◌≤◌, ℕ, length, slice_index, All};
+ghost use Rattle.std.specs.Prelude.{◌≡◌, ◌+◌, ◌*◌, ◌/◌, ◌%◌, ◌^◌, ◌<◌, ◌≤◌, ℕ, length, slice_index, take, All};
 ghost use Rattle.bit_stuff.specs.Stuffed.{IsLeastHolding, IsStuffed, field_at, number_of_bytes, stuffed_size};
 
 use byteorder::{ByteOrder, LittleEndian};
@@ -74,6 +74,7 @@ fn unstuff_eight(bytes: &[u8], width: u32, at: usize, out: &mut [u32], done: usi
 
 /// Reads numbers by eights, which are `width` bytes each, as far as eight more bytes follow; how
 /// many it has read.
+#[inline(always)]
 fn unstuff_eights(bytes: &[u8], width: u32, out: &mut [u32]) -> usize
     requires count { length out.old ≤ 2 ^ 24 }
     requires width { width ≤ 31 }
@@ -91,15 +92,54 @@ fn unstuff_eights(bytes: &[u8], width: u32, out: &mut [u32]) -> usize
     done
 }
 
+/// Does what `unstuff_eights` does. The loop in it is made once for each width, so that no shift is
+/// by a number that is not known before.
+fn unstuff_by_width(bytes: &[u8], width: u32, out: &mut [u32]) -> usize
+    requires count { length out.old ≤ 2 ^ 24 }
+    requires width { width ≤ 31 }
+    ensures within { result ≤ length out.old }
+    ensures read { (k : ℕ) → k < result →
+        slice_index out.new k ≡ field_at width (number_of_bytes bytes.now) k }
+{
+    match width {
+        1 => unstuff_eights(bytes, 1, out),
+        2 => unstuff_eights(bytes, 2, out),
+        3 => unstuff_eights(bytes, 3, out),
+        4 => unstuff_eights(bytes, 4, out),
+        5 => unstuff_eights(bytes, 5, out),
+        6 => unstuff_eights(bytes, 6, out),
+        7 => unstuff_eights(bytes, 7, out),
+        8 => unstuff_eights(bytes, 8, out),
+        9 => unstuff_eights(bytes, 9, out),
+        10 => unstuff_eights(bytes, 10, out),
+        11 => unstuff_eights(bytes, 11, out),
+        12 => unstuff_eights(bytes, 12, out),
+        13 => unstuff_eights(bytes, 13, out),
+        14 => unstuff_eights(bytes, 14, out),
+        15 => unstuff_eights(bytes, 15, out),
+        16 => unstuff_eights(bytes, 16, out),
+        17 => unstuff_eights(bytes, 17, out),
+        18 => unstuff_eights(bytes, 18, out),
+        19 => unstuff_eights(bytes, 19, out),
+        20 => unstuff_eights(bytes, 20, out),
+        21 => unstuff_eights(bytes, 21, out),
+        22 => unstuff_eights(bytes, 22, out),
+        23 => unstuff_eights(bytes, 23, out),
+        24 => unstuff_eights(bytes, 24, out),
+        _ => unstuff_eights(bytes, width, out),
+    }
+}
+
 /// Reads the numbers of eight bytes or more.
 fn unstuff_long(bytes: &[u8], width: u32, out: &mut [u32])
     requires count { length out.old ≤ 2 ^ 24 }
     requires width { width ≤ 31 }
     requires long { 8 ≤ length bytes.now }
-    requires size { length bytes.now ≡ stuffed_size (length out.old) width }
-    ensures { IsStuffed bytes.now width out.new }
+    requires size { stuffed_size (length out.old) width ≤ length bytes.now }
+    ensures { (k : ℕ) → k < length out.old →
+        slice_index out.new k ≡ field_at width (number_of_bytes bytes.now) k }
 {
-    let done = unstuff_eights(bytes, width, out);
+    let done = unstuff_by_width(bytes, width, out);
     for i in done..out.len() {
         out[i] = number_at(bytes, width, i);
     }
@@ -108,14 +148,36 @@ fn unstuff_long(bytes: &[u8], width: u32, out: &mut [u32])
 /// Reads the numbers of fewer than eight bytes, which are one word.
 fn unstuff_short(bytes: &[u8], width: u32, out: &mut [u32])
     requires width { width ≤ 31 }
-    requires some { 0 < length bytes.now }
+    requires some { 0 < width }
+    requires there { 0 < length bytes.now }
     requires short { length bytes.now < 8 }
-    requires size { length bytes.now ≡ stuffed_size (length out.old) width }
-    ensures { IsStuffed bytes.now width out.new }
+    requires size { stuffed_size (length out.old) width ≤ length bytes.now }
+    ensures { (k : ℕ) → k < length out.old →
+        slice_index out.new k ≡ field_at width (number_of_bytes bytes.now) k }
 {
     let word = LittleEndian::read_uint(bytes, bytes.len());
     for (i, value) in out.iter_mut().enumerate() {
         *value = field(word, width as usize * i, width);
+    }
+}
+
+/// Reads as many numbers of `width` bits as `out` has from the front of the bytes, as `unstuff` does
+/// from bytes that are just theirs. What follows them changes nothing; but where eight bytes or more
+/// follow, it is faster.
+pub fn unstuff_front(bytes: &[u8], width: u32, out: &mut [u32])
+    requires count { length out.old ≤ 2 ^ 24 }
+    requires width { width ≤ 31 }
+    requires size { stuffed_size (length out.old) width ≤ length bytes.now }
+    ensures stuffed { IsStuffed (take (stuffed_size (length out.old) width) bytes.now) width
+        out.new }
+    ensures below { All (λ v. v < 2 ^ width) out.new }
+{
+    if width == 0 || bytes.is_empty() {
+        out.fill(0);
+    } else if bytes.len() < 8 {
+        unstuff_short(bytes, width, out);
+    } else {
+        unstuff_long(bytes, width, out);
     }
 }
 
@@ -129,11 +191,5 @@ pub fn unstuff(bytes: &[u8], width: u32, out: &mut [u32])
     ensures stuffed { IsStuffed bytes.now width out.new }
     ensures below { All (λ v. v < 2 ^ width) out.new }
 {
-    if bytes.is_empty() {
-        out.fill(0);
-    } else if bytes.len() < 8 {
-        unstuff_short(bytes, width, out);
-    } else {
-        unstuff_long(bytes, width, out);
-    }
+    unstuff_front(bytes, width, out);
 }

@@ -1,7 +1,8 @@
 //! The way along the pixels of a depth, in pieces of a row.
 
 ghost use Rattle.std.specs.Prelude.{◌≡◌, ℕ, ℤ, pos, negsuc, ◌+◌, ◌-◌, ◌*◌, ◌%◌, ◌<◌, ◌≤◌, ◌≤ℤ◌};
-ghost use Rattle.std.specs.Prelude.{◌-ℤ◌, ◌+ℤ◌, length, get_or, true, false, ◌&&◌, nat_lt};
+ghost use Rattle.std.specs.Prelude.{◌-ℤ◌, ◌+ℤ◌, ◌<ℤ◌, length, get_or, true, false, ◌&&◌, nat_lt};
+ghost use Rattle.std.specs.Int.{int_rem_euclid};
 ghost use Rattle.raster_values.specs.PixelType.{InRange};
 ghost use Rattle.raster_values.specs.Flat.{value_in};
 ghost use Rattle.delta_mode.specs.Symbols.{IsByteType, bias, symbol_of};
@@ -32,6 +33,18 @@ fn bias(kind: PixelType) -> i64
     }
 }
 
+/// The number modulo 256.
+#[inline(always)]
+fn modulo_256(number: i64) -> i64
+    requires low { negsuc 511 ≤ℤ number }
+    requires high { number ≤ℤ pos 1023 }
+    ensures value { result ≡ int_rem_euclid number (pos 256) }
+    ensures lower_bound { pos 0 ≤ℤ result }
+    ensures upper_bound { result <ℤ pos 256 }
+{
+    ((number + 512) as u64 % 256) as i64
+}
+
 /// The symbol of a value less its predictor.
 fn symbol(bias: i64, value: i64, predictor: i64) -> u8
     requires bias { IsSmall bias }
@@ -39,7 +52,7 @@ fn symbol(bias: i64, value: i64, predictor: i64) -> u8
     requires predictor { IsSmall predictor }
     ensures { result ≡ biased bias (value -ℤ predictor) }
 {
-    (value - predictor + bias).rem_euclid(256) as u8
+    modulo_256(value - predictor + bias) as u8
 }
 
 /// The predictor of a pixel: the value to the left where that is valid, which is then the last one,
@@ -58,7 +71,7 @@ fn value(bias: i64, symbol: u8, predictor: i64) -> i64
     ensures low { pos 0 ≤ℤ (result +ℤ bias) }
     ensures high { (result +ℤ bias) ≤ℤ pos 255 }
 {
-    (i64::from(symbol) + predictor).rem_euclid(256) - bias
+    modulo_256(i64::from(symbol) + predictor) - bias
 }
 
 /// Writes the symbols of the valid pixels of a piece behind the first `walk.count`.

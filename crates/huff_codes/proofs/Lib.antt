@@ -1,6 +1,6 @@
 mod Kraft
 mod Forest
-mod BitLists
+pub mod BitLists
 mod Canonical
 pub mod Windows
 mod Held
@@ -10,22 +10,23 @@ mod Sides
 mod Made
 mod Putting
 mod Homes
-mod Uses
+pub mod Uses
 mod Spans
 mod Order
-mod WrittenBack
+pub mod WrittenBack
 mod Totals
 mod Pairs
 mod Least
 mod Answered
 mod SpanLists
 mod Turns
-mod Cutting
+pub mod Cutting
 pub mod TableLaws
 pub mod Decided
 mod Counting
-mod Filling
-mod ChosenRuns
-mod ChosenTables
-mod Counted
-mod Once
+pub mod Filling
+pub mod ChosenRuns
+pub mod ChosenTables
+pub mod Counted
+pub mod Once
+mod Lookups

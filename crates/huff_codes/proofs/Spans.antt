@@ -6,7 +6,7 @@ use Rattle.huff_codes.specs.Bits.{bits_of, BeginsWith}
 use Rattle.huff_codes.proofs.BitLists.{begins_from_top}
 
 -- a place that lies in the span of q has q as its quotient
-in_span : (k a b : ℕ) → a % 2 ^ k ≡ 0 → a ≤ b → b < a + 2 ^ k → b / 2 ^ k ≡ a / 2 ^ k
+pub in_span : (k a b : ℕ) → a % 2 ^ k ≡ 0 → a ≤ b → b < a + 2 ^ k → b / 2 ^ k ≡ a / 2 ^ k
 in_span k a b aligned le lt =
     let q = a / 2 ^ k in
     let is : q * 2 ^ k ≡ a = omega (arith, shr_split a k) in

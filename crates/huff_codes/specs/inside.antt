@@ -7,3 +7,5 @@ pub mod Nodes
 pub mod Forests
 pub mod Cutting
 pub mod Filling
+pub mod Lookup
+pub mod Looking

@@ -109,7 +109,8 @@ fn write_codes(lengths: &Lengths, run: SymbolRange, out: &mut [u8])
 
 /// How many bytes `write_code_table` takes.
 pub fn table_size(lengths: &Lengths) -> usize
-    ensures { IsTableSize lengths.now result }
+    ensures size { IsTableSize lengths.now result }
+    ensures few { result ≤ 2040 }
 {
     let run = shortest_run(lengths.all());
     let mut list = [0; 256];

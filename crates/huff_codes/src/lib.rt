@@ -11,6 +11,7 @@ mod faults;
 mod joining;
 mod laws;
 mod lengths;
+mod lookup;
 mod table;
 mod words;
 mod writing;
@@ -24,7 +25,7 @@ pub use laws::{
     words_are_a_part, written_bytes_are_once, written_tables_are_tables, written_words_are_words,
 };
 pub use lengths::Lengths;
-pub use table::read_table;
+pub use table::{SymbolRange, read_table};
 pub use words::read_symbols;
 pub use writing::{have_lengths, symbols_len, write_symbols};
 

@@ -25,9 +25,11 @@ use lut_stuff::read_list;
 
 /// The symbols that have a length in a table: `count` of them, from `first` on, counted modulo 256.
 #[derive(Clone, Copy)]
-pub(crate) struct SymbolRange {
-    pub(crate) first: usize,
-    pub(crate) count: usize,
+pub struct SymbolRange {
+    /// The first symbol.
+    pub first: usize,
+    /// How many symbols there are.
+    pub count: usize,
 }
 
 /// The fault of a table at a place.

@@ -182,3 +182,19 @@ fn codes_of_32_bits_are_read(rt: HostRuntime) -> Result<(), Fail> {
     assert_eq!(rt; symbols, [32, 31, 0, 32, 5]);
     Ok(())
 }
+
+#[test]
+fn many_symbols_are_read_with_codes_of_one_to_13_bits(rt: HostRuntime) -> Result<(), Fail> {
+    let mut bytes = [0u8; 639];
+    bytes[..115].copy_from_slice(&LONGEST[..115]);
+    // each word has 0 10 110 1110 11110 1111111111110 10 10
+    for k in 0..130 {
+        bytes[115 + 4 * k..119 + 4 * k].copy_from_slice(&[0xea, 0xff, 0xbd, 0x5b]);
+    }
+    let mut symbols = [0u8; 1040];
+    assert_eq!(rt; read_both(&bytes, &mut symbols), Ok(639));
+    for word in symbols.chunks_exact(8) {
+        assert_eq!(rt; word, [0, 1, 2, 3, 4, 12, 1, 1].as_slice());
+    }
+    Ok(())
+}

@@ -1,15 +1,18 @@
 //! Reading code words.
 
 ghost use Rattle.std.specs.Prelude.{◌≡◌, ℕ, ◌+◌, ◌-◌, ◌*◌, ◌/◌, ◌%◌, ◌≤◌, ◌<◌, ◌^◌, ◌↔◌, List};
-ghost use Rattle.std.specs.Prelude.{Bool, length, drop, take, MatchResult, IfOk, Ok, Err, ◌++◌};
+ghost use Rattle.std.specs.Prelude.{Bool, All, length, drop, take, MatchResult, IfOk, Ok, Err, ◌++◌};
 ghost use Rattle.huff_codes.specs.declared.faults.CodeFault.{CodeFault};
 ghost use Rattle.huff_codes.specs.Bits.{word_bits};
 ghost use Rattle.huff_codes.specs.Words.{AreWords, IsStuck, whole_end, word_faults};
-ghost use Rattle.huff_codes.specs.inside.Reading.{IsStop};
+ghost use Rattle.huff_codes.specs.inside.Lookup.{AreEntries, IsSeen, IsShort};
+ghost use Rattle.huff_codes.specs.inside.Looking.{IsReading};
+ghost use Rattle.huff_codes.specs.inside.Reading.{HaveReached, IsStop};
 ghost use Rattle.huff_codes.specs.inside.Stored.{IsAhead};
 
 use crate::codes::{Ahead, Codes};
 use crate::faults::{CodeFault, CodeReason};
+use crate::lookup::{Entry, entries_of, no_entries};
 use byteorder::{ByteOrder, LittleEndian};
 
 /// 32 of the 64 bits of two words, from bit `skip` on.
@@ -72,6 +75,131 @@ fn stopped(bytes: &[u8], codes: &Codes, bit: usize, next: Ahead) -> CodeFault
     }
 }
 
+/// Where reading stands: behind so many bits, and so many symbols.
+#[derive(Clone, Copy)]
+pub(crate) struct Place {
+    pub(crate) bit: usize,
+    pub(crate) count: usize,
+}
+
+/// A place, and the bits that come next, which stand highest in 64.
+#[derive(Clone, Copy)]
+pub(crate) struct Cursor {
+    pub(crate) window: u64,
+    pub(crate) bit: usize,
+    pub(crate) count: usize,
+}
+
+/// The next bits from place `bit` on, of two whole words: at least 33 of them.
+#[inline(always)]
+fn window(bytes: &[u8], bit: usize) -> u64
+    requires { bit / 32 * 4 + 8 ≤ length bytes.now }
+    ensures { IsSeen 33 result (drop bit (word_bits bytes.now)) }
+{
+    let rest = &bytes[bit / 32 * 4..];
+    let first = u64::from(LittleEndian::read_u32(rest));
+    let second = u64::from(LittleEndian::read_u32(&rest[4..]));
+    (first * 4294967296 + second) << (bit % 32)
+}
+
+/// Reads the symbols that the next eleven bits have in front.
+#[inline(always)]
+fn step(entries: &[Entry; 2048], from: Cursor, out: &mut [u8]) -> Cursor
+    requires short { All IsShort entries.now }
+    requires table { length entries.now ≡ 2048 }
+    requires room { from.count + 2 ≤ length out.old }
+    requires count { length out.old ≤ 2 ^ 24 }
+    requires few { from.bit ≤ 32 * from.count }
+    ensures room { length out.new ≡ length out.old }
+    ensures few { result.bit ≤ 32 * result.count }
+    ensures more { from.count ≤ result.count }
+    ensures within { result.count ≤ from.count + 2 }
+    ensures reached { (codes : List (List Bool)) (bytes : List ℕ) (n : ℕ)
+        → AreEntries codes entries.now → IsReading codes bytes out.old (n + 11) from
+        → IsReading codes bytes out.new n result }
+{
+    let entry = entries[(from.window >> 53) as usize];
+    out[from.count] = entry.first;
+    out[from.count + 1] = entry.second;
+    Cursor {
+        window: from.window << entry.length,
+        bit: from.bit + entry.length as usize,
+        count: from.count + entry.count as usize,
+    }
+}
+
+/// Reads up to six symbols by the table, if they have room and two whole words are left.
+#[inline(always)]
+fn read_few(bytes: &[u8], entries: &[Entry; 2048], from: Place, out: &mut [u8]) -> Place
+    requires short { All IsShort entries.now }
+    requires table { length entries.now ≡ 2048 }
+    requires room { from.count ≤ length out.old }
+    requires count { length out.old ≤ 2 ^ 24 }
+    requires few { from.bit ≤ 32 * from.count }
+    ensures room { length out.new ≡ length out.old }
+    ensures few { result.bit ≤ 32 * result.count }
+    ensures more { from.count ≤ result.count }
+    ensures within { result.count ≤ length out.old }
+    ensures reached { (codes : List (List Bool)) → AreEntries codes entries.now
+        → HaveReached codes bytes.now (take from.count out.old) from.bit
+        → HaveReached codes bytes.now (take result.count out.new) result.bit }
+{
+    if from.bit / 32 * 4 + 8 > bytes.len() || from.count + 6 > out.len() {
+        return from;
+    }
+    let start = Cursor {
+        window: window(bytes, from.bit),
+        bit: from.bit,
+        count: from.count,
+    };
+    let one = step(entries, start, out);
+    let two = step(entries, one, out);
+    let three = step(entries, two, out);
+    Place {
+        bit: three.bit,
+        count: three.count,
+    }
+}
+
+/// Reads one symbol.
+fn read_one(bytes: &[u8], codes: &Codes, from: Place, out: &mut [u8]) -> Result<Place, CodeFault>
+    requires room { from.count < length out.old }
+    requires within { from.bit ≤ 32 * (length bytes.now / 4) }
+    requires count { length out.old ≤ 2 ^ 24 }
+    requires few { from.bit ≤ 32 * from.count }
+    ensures room { length out.new ≡ length out.old }
+    ensures answer { HaveReached codes.now bytes.now (take from.count out.old) from.bit →
+        MatchResult result
+        (λ place. (place.count ≡ from.count + 1) × ((place.bit ≤ 32 * place.count)
+        × HaveReached codes.now bytes.now (take place.count out.new) place.bit))
+        (λ f. word_faults codes.now (length out.new) bytes.now f.at f.reason) }
+{
+    let next = ahead(bytes, from.bit);
+    match codes.next(next) {
+        Some((found, length)) => {
+            out[from.count] = found;
+            Ok(Place {
+                bit: from.bit + length as usize,
+                count: from.count + 1,
+            })
+        }
+        None => Err(stopped(bytes, codes, from.bit, next)),
+    }
+}
+
+/// The table to read so many symbols by: an empty one where making it would take longer.
+fn table_for(codes: &Codes, count: usize) -> [Entry; 2048]
+    ensures room { length result ≡ 2048 }
+    ensures short { All IsShort result }
+    ensures are { AreEntries codes.now result }
+{
+    if count < 256 {
+        no_entries()
+    } else {
+        entries_of(codes)
+    }
+}
+
 /// Reads the symbols, with one clause for both answers.
 fn read_all(bytes: &[u8], codes: &Codes, out: &mut [u8]) -> Result<usize, CodeFault>
     requires count { length out.old ≤ 2 ^ 24 }
@@ -80,18 +208,17 @@ fn read_all(bytes: &[u8], codes: &Codes, out: &mut [u8]) -> Result<usize, CodeFa
         × AreWords codes.now (length out.new) (take used bytes.now) out.new)
         (λ f. word_faults codes.now (length out.new) bytes.now f.at f.reason) }
 {
-    let mut bit = 0;
-    for symbol in out.iter_mut() {
-        let next = ahead(bytes, bit);
-        match codes.next(next) {
-            Some((found, length)) => {
-                *symbol = found;
-                bit += length as usize;
-            }
-            None => return Err(stopped(bytes, codes, bit, next)),
-        }
+    let entries = table_for(codes, out.len());
+    let mut place = Place { bit: 0, count: 0 };
+    while place.count < out.len() {
+        let next = read_few(bytes, &entries, place, out);
+        place = if next.count > place.count {
+            next
+        } else {
+            read_one(bytes, codes, next, out)?
+        };
     }
-    let used = (bit + 31) / 32 * 4 + 4;
+    let used = (place.bit + 31) / 32 * 4 + 4;
     if used > bytes.len() {
         return Err(CodeFault {
             reason: CodeReason::Cut,

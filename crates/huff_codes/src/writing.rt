@@ -181,7 +181,8 @@ pub fn have_lengths(symbols: &[u8], lengths: &Lengths) -> bool
 /// codes, and one further word.
 pub fn symbols_len(symbols: &[u8], lengths: &Lengths) -> usize
     requires { length symbols.now ≤ 2 ^ 24 }
-    ensures { result ≡ written_size (canonical_codes lengths.now) symbols.now }
+    ensures size { result ≡ written_size (canonical_codes lengths.now) symbols.now }
+    ensures few { result ≤ 2 ^ 26 + 4 }
 {
     (bits_of_all(lengths.all(), symbols) + 31) / 32 * 4 + 4
 }

@@ -1,3 +1,4 @@
 mod Bounds
 mod Caps
 mod MinMax
+mod Within

@@ -25,7 +25,7 @@ pub fn plus_capped(qs: &[i64], offset: i64, step: i64, top: i64, out: &mut [i64]
 
 /// The least number of steps that together are more than the gap. It is at most 2^33 + 1, and the
 /// product of it and the step at most 2^34.
-fn steps_to_pass(gap: i64, step: i64) -> i64
+pub(crate) fn steps_to_pass(gap: i64, step: i64) -> i64
     requires gap { (pos 0 <ℤ gap) × (gap ≤ℤ pos 8589934592) }
     requires step { IsStepSize step }
     ensures positive { pos 0 <ℤ result }
@@ -39,7 +39,7 @@ fn steps_to_pass(gap: i64, step: i64) -> i64
 /// `top`: no more steps than these are counted, which changes no capped sum and keeps the product
 /// small.
 #[inline]
-fn capped_sum(q: i64, enough: i64, offset: i64, step: i64, top: i64) -> i64
+pub(crate) fn capped_sum(q: i64, enough: i64, offset: i64, step: i64, top: i64) -> i64
     requires from_zero { pos 0 ≤ℤ q }
     requires small_offset { IsSmall offset }
     requires step { IsStepSize step }

@@ -10,7 +10,9 @@
 mod capped;
 mod difference;
 mod extremes;
+mod unsigned;
 
 pub use capped::plus_capped;
 pub use difference::minus;
 pub use extremes::range;
+pub use unsigned::plus_capped_unsigned;

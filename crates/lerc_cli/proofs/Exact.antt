@@ -62,17 +62,6 @@ pub wanted : (left : Option (List ℕ)) (files : Option Files) (n status : ℕ) 
 wanted left files n status end same held held_new f f_new is six out =
     let here = at_end (given left files) n end (Err OutOfMemory) same held held_new f f_new (memory_at end (sym is ∙ six)) out in here.gave.1.0.0
 
-pub nothing_given : (left : Option (List ℕ)) (files : Option Files) (n status : ℕ) (end : End) (same : Type 0) (held held_new : Option (List ℕ)) (f f_new : ℕ)
-    → status ≡ status_at end → status ≢ 0 → status ≢ 4 → OfOutput Decode (given left files) n end same held held_new f f_new → same
-nothing_given left files n status (Ok x) same held held_new f f_new is zero four out = absurd (zero is)
-nothing_given left files n status (Err Usage) same held held_new f f_new is zero four out = out.idle tt
-nothing_given left files n status (Err (Refused g)) same held held_new f f_new is zero four out = out.idle tt
-nothing_given left files n status (Err Source) same held held_new f f_new is zero four out = out.idle tt
-nothing_given left files n status (Err Output) same held held_new f f_new is zero four out = absurd (four is)
-nothing_given left files n status (Err Volume) same held held_new f f_new is zero four out =
-    absurd (let never = out.gave.1.0.0 in cc)
-nothing_given left files n status (Err OutOfMemory) same held held_new f f_new is zero four out = out.idle tt
-
 -- ---- a told input that has an output gets it
 
 completes : (c : Command) (input : List ℕ) (files : Option Files) (n m status : ℕ) (end : End) (output given_out : List ℕ) (held held_new : Option (List ℕ)) → status ≡ status_at end

@@ -1,6 +1,5 @@
 -- What the end of `info` tells of its input and its output.
 use Rattle.std.proofs.Common.{◌≡◌, ℕ, ◌⊎◌, ◌↔◌, List, Option, Some, Ok, Err, sym, subst, ◌∙◌, inl, inr, arith}
-use Rattle.std.specs.Prelude.{◌≢◌}
 use Rattle.lerc_cli.specs.declared.command.Command.TheVariants.{Info}
 use Rattle.lerc_cli.specs.declared.stop.Stop.TheVariants.{Usage, Refused, Source, Output, Volume, OutOfMemory}
 use Rattle.lerc_cli.specs.Stop.{End, status_at}
@@ -30,14 +29,3 @@ informed left files n status end same held held_new f f_new is zero out =
     let here : OfOutput Info (given left files) n (Ok tt) same held held_new f f_new =
     subst (λ (x : End). OfOutput Info (given left files) n x same held held_new f f_new) (ok_at end (sym is ∙ zero)) out in
     let e = here.gave.1.0 in (e.0, (e.1.0, e.1.1, (here.gave.0, (e.1.2, here.gave.1.1))))
-
-pub not_informed : (left : Option (List ℕ)) (files : Option Files) (n status : ℕ) (end : End) (same : Type 0) (held held_new : Option (List ℕ)) (f f_new : ℕ)
-    → status ≡ status_at end → status ≢ 0 → status ≢ 4 → OfOutput Info (given left files) n end same held held_new f f_new → same
-not_informed left files n status (Ok x) same held held_new f f_new is zero four out = absurd (zero is)
-not_informed left files n status (Err Usage) same held held_new f f_new is zero four out = out.idle tt
-not_informed left files n status (Err (Refused g)) same held held_new f f_new is zero four out = out.idle tt
-not_informed left files n status (Err Source) same held held_new f f_new is zero four out = out.idle tt
-not_informed left files n status (Err Output) same held held_new f f_new is zero four out = absurd (four is)
-not_informed left files n status (Err Volume) same held held_new f f_new is zero four out =
-    absurd (let never = out.gave.1.0.0 in cc)
-not_informed left files n status (Err OutOfMemory) same held held_new f f_new is zero four out = out.idle tt

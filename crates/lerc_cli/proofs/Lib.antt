@@ -1,12 +1,17 @@
+mod Encoding
 mod Ends
 mod Exact
+mod GridReads
 mod Idle
 mod Informed
 mod KeptBytes
 mod Once
 mod Outlined
+mod Outputs
 mod SixLines
+mod Spelled
 mod ToldLines
+mod WholeGrids
 mod WholeReads
 mod Whole
 mod Words

@@ -1,14 +1,13 @@
 -- A blob has an outline: nothing that a reader of outlines finds wrong is wrong with it.
 use Rattle.std.proofs.Common.{◌≡◌, ℕ, pos, ◌+◌, ◌*◌, ◌≤◌, Bool, true, false, cond, List, ◌++◌, length, take, drop, refl, sym, ap, ◌∙◌, subst, arith, inl, inr}
-use Rattle.std.proofs.lemmas.Int.{ints}
 use Rattle.std.proofs.lemmas.List.{drop-drop, drop_at, length-drop, take_all}
-use Rattle.first_fault.specs.Faults.{Faults, wrong, moved}
+use Rattle.first_fault.specs.Faults.{wrong}
 use Rattle.first_fault.specs.Parts.{IsEmpty}
 use Rattle.first_fault.proofs.Parts.{empty-choice}
 use Rattle.raster_values.specs.Raster.{Pixels}
 use Rattle.raster_values.specs.Flat.{marks_of}
 use Rattle.lerc_header.specs.declared.header.Header.{Header}
-use Rattle.lerc_header.specs.Head.{HeadAt, i32_at, head_length}
+use Rattle.lerc_header.specs.Head.{i32_at, head_length}
 use Rattle.lerc_header.specs.Checksum.{sum_of}
 use Rattle.lerc_header.specs.declared.fault.BlobReason.{BlobReason}
 use Rattle.lerc_header.specs.declared.fault.BlobReason.TheVariants.{BadChecksum, Truncated}
@@ -17,10 +16,10 @@ use Rattle.lerc_header.proofs.Fronts.{i32_front}
 use Rattle.lerc_header.proofs.HeadLemmas.{one_head, number_once}
 use Rattle.lerc_grammar.specs.declared.parts.MaskForm.{MaskForm}
 use Rattle.lerc_grammar.specs.declared.parts.MaskForm.TheVariants.{Empty as NoneValid, Full, Runs}
-use Rattle.lerc_grammar.specs.Blob.{Blob, BlobParts, IsJoinOf, blob_faults}
-use Rattle.lerc_grammar.specs.Image.{image_faults, image_faults_of, outside}
+use Rattle.lerc_grammar.specs.Blob.{BlobParts, IsJoinOf, blob_faults}
+use Rattle.lerc_grammar.specs.Image.{image_faults}
 use Rattle.lerc_grammar.specs.Mask.{IsAlike, IsMask, alike, mixed}
-use Rattle.lerc_grammar.specs.Outline.{IsMaskForm, image_place, image_part_faults, mask_part_faults}
+use Rattle.lerc_grammar.specs.Outline.{IsMaskForm, image_place, image_part_faults}
 use Rattle.lerc_grammar.specs.Outlines.{behind_header, form_faults, part_faults, outline_faults}
 use Rattle.lerc_grammar.proofs.Blobs.{empty-blob}
 use Rattle.lerc_grammar.proofs.Looking.{image_outside, mask_outside}

@@ -1,10 +1,10 @@
 -- The verdict on a whole input: there is one.
-use Rattle.std.proofs.Common.{◌≡◌, ℕ, ◌<◌, List, ◌++◌, length, take, refl, sym, ap, subst, ◌∙◌, arith}
+use Rattle.std.proofs.Common.{◌≡◌, ℕ, List, length, sym, subst, ◌∙◌, arith}
 use Rattle.std.proofs.lemmas.List.{take_all}
 use Rattle.raster_values.specs.Raster.{Pixels}
 use Rattle.lerc_header.specs.declared.fault.BlobReason.{BlobReason}
 use Rattle.lerc_grammar.specs.Blob.{Blob}
-use Rattle.lerc_grammar.specs.Verdict.{FirstFault, IsDone, WholeFault, inside, behind, cut}
+use Rattle.lerc_grammar.specs.Verdict.{IsDone, WholeFault, inside, behind, cut}
 use Rattle.lerc_grammar.proofs.Verdicts.{done_once, done_or_fault, one_fault}
 
 pub blob_done : (input : List ℕ) (r : Pixels) → Blob input r → IsDone input r (length input)

@@ -1,31 +1,28 @@
 -- What the reader of a whole blob answers, from what decoding from a source does.
-use Rattle.std.proofs.Common.{◌≡◌, ℕ, ◌+◌, ◌<◌, ◌≤◌, Bool, true, false, List, [], length, take, drop, ◌++◌, Option, Some, None, rules, Result, Ok, Err, refl, sym, ap, subst, ◌∙◌, arith, inl, inr, ◌⊎◌}
-use Rattle.std.specs.Prelude.{IfOk, IsTrue, IfSome}
+use Rattle.std.proofs.Common.{◌≡◌, ℕ, ◌+◌, ◌≤◌, Bool, true, false, List, [], length, drop, ◌++◌, Option, Some, None, rules, Result, Ok, Err, refl, sym, ap, subst, ◌∙◌, arith, inl, inr}
+use Rattle.std.specs.Prelude.{IsTrue}
 use Rattle.std.proofs.lemmas.List.{append-nil, drop-drop, length-append, length-drop}
 use Rattle.outside_io.specs.streams.Faults.{IsCause}
 use Rattle.outside_io.specs.declared.streams.failed.Failed.{Failed}
-use Rattle.outside_io.specs.streams.Sink.{Holds}
 use Rattle.outside_io.specs.streams.Source.{IsAtEnd, TakesFront, TakesUpTo}
-use Rattle.outside_io.proofs.StreamLemmas.Gives.{Holds_none}
 use Rattle.raster_values.specs.Raster.{Pixels, IsRaster}
 use Rattle.lerc_header.specs.declared.fault.BlobFault.{BlobFault}
 use Rattle.lerc_header.specs.declared.fault.BlobReason.TheVariants.{Leftover}
 use Rattle.lerc_grammar.specs.Blob.{Blob}
-use Rattle.lerc_grammar.specs.Verdict.{FirstFault, IsDone, IsMore, Done, Fault, WholeFault, inside, behind, cut}
+use Rattle.lerc_grammar.specs.Verdict.{FirstFault, IsDone, IsMore, Done, inside, behind, cut}
 use Rattle.lerc_grammar.proofs.Verdicts.{fault_stays, verdict_stays}
 use Rattle.lerc_decode.specs.declared.from_source.Decoded.{Decoded}
 use Rattle.lerc_decode.specs.declared.from_source.FromFault.{FromFault}
 use Rattle.lerc_decode.specs.declared.from_source.FromFault.TheVariants.{Blob as FromBlob, Source as FromSource, OutOfMemory as FromMemory}
 use Rattle.lerc_decode.specs.FromSource.{CountsSource, IsSized}
 use Rattle.lerc_cli.specs.declared.stop.Reason.TheVariants.{Blob as BlobReasonOf}
-use Rattle.lerc_cli.specs.declared.command.Command.{Command}
 use Rattle.lerc_cli.specs.declared.command.Command.TheVariants.{Decode, Info}
 use Rattle.lerc_cli.specs.declared.stop.Stop.{Stop}
 use Rattle.lerc_cli.specs.declared.stop.Stop.TheVariants.{Usage, Refused, Source, Output, Volume, OutOfMemory}
 use Rattle.lerc_cli.specs.Answer.{Ends, Files}
-use Rattle.lerc_cli.specs.Run.{Gained, OfOutput, given}
-use Rattle.lerc_cli.specs.Stop.{End}
+use Rattle.lerc_cli.specs.Run.{OfOutput, given}
 use Rattle.lerc_cli.specs.inside.Reads.{AsksOne, ReadsBlob, stop_of}
+use Rattle.lerc_cli.proofs.Outputs.{stopped}
 use Rattle.lerc_cli.proofs.Whole.{done_blob}
 
 -- ---- one byte more
@@ -103,32 +100,8 @@ fault_cause FromMemory old new same = record { counts = omega (arith, same); fai
 tt_true : IsTrue true
 tt_true = search rules
 
-never_output : (input : Option (List ℕ)) (stop : Stop) (end : End) → end ≡ Err stop → end ≡ Err Output → ReadsBlob input (Err stop) → ⊥
-never_output input stop end one two read = let same : stop ≡ Output = cc in let none : ReadsBlob input (Err Output) = subst (λ (s : Stop). ReadsBlob input (Err s)) same read in none
-
-gained_none : (input : Option (List ℕ)) (stop : Stop) (old new : Option (List ℕ)) → ReadsBlob input (Err stop) → Holds old new [] → Gained (Err stop) old new []
-gained_none input Usage old new read none = none
-gained_none input (Refused f) old new read none = none
-gained_none input Source old new read none = none
-gained_none input Output old new read none = absurd read
-gained_none input Volume old new read none = none
-gained_none input OutOfMemory old new read none = none
-
-gained : (input : Option (List ℕ)) (stop : Stop) (old new : Option (List ℕ)) → ReadsBlob input (Err stop) → new ≡ old → Gained (Err stop) old new []
-gained input stop old new read same = gained_none input stop old new read (subst (λ (x : Option (List ℕ)). Holds old x []) (sym same) (Holds_none old))
-
--- a command that reads one blob was stopped before the output
-pub stopped_for : (c : Command) (K : Type 0) (held : K → Option (List ℕ)) (faults : K → ℕ) (out out_new : K) (input : Option (List ℕ)) (files : Option Files) (stop : Stop)
-    → Ends c (given input files) 0 (Err stop) [] → out_new ≡ out → ReadsBlob input (Err stop) → OfOutput c (given input files) 0 (Err stop) (out_new ≡ out) (held out) (held out_new) (faults out) (faults out_new)
-stopped_for c K held faults out out_new input files stop ends same read = record {
-  cause = record {
-    counts = (let e : faults out_new ≡ faults out = ap faults same in omega arith);
-    failed = λ is. absurd (never_output input stop (Err stop) refl is read);
-    rose = λ rose. (let e : faults out_new ≡ faults out = ap faults same in absurd (omega arith));
-  };
-  gave = ([], (ends, gained input stop (held out) (held out_new) read (ap held same)));
-  idle = λ _. same;
-}
+not_output : (input : Option (List ℕ)) (stop : Stop) → ReadsBlob input (Err stop) → stop ≡ Output → ⊥
+not_output input stop read is = let none : ReadsBlob input (Err Output) = subst (λ (s : Stop). ReadsBlob input (Err s)) is read in none
 
 -- what it has meant to give
 decoded_stop : (input : Option (List ℕ)) (files : Option Files) (stop : Stop) → ReadsBlob input (Err stop) → Ends Decode (given input files) 0 (Err stop) []
@@ -141,7 +114,7 @@ decoded_stop input files OutOfMemory read = (read, refl, refl)
 
 pub stopped_output : (K : Type 0) (held : K → Option (List ℕ)) (faults : K → ℕ) (out out_new : K) (input : Option (List ℕ)) (files : Option Files) (stop : Stop)
     → out_new ≡ out → ReadsBlob input (Err stop) → OfOutput Decode (given input files) 0 (Err stop) (out_new ≡ out) (held out) (held out_new) (faults out) (faults out_new)
-stopped_output K held faults out out_new input files stop same read = stopped_for Decode K held faults out out_new input files stop (decoded_stop input files stop read) same read
+stopped_output K held faults out out_new input files stop same read = stopped Decode (given input files) K held faults out out_new stop (decoded_stop input files stop read) same (not_output input stop read)
 
 told_stop : (input : Option (List ℕ)) (files : Option Files) (stop : Stop) → ReadsBlob input (Err stop) → Ends Info (given input files) 0 (Err stop) []
 told_stop input files Usage read = read
@@ -153,4 +126,4 @@ told_stop input files OutOfMemory read = (read, refl, refl)
 
 pub stopped_lines : (K : Type 0) (held : K → Option (List ℕ)) (faults : K → ℕ) (out out_new : K) (input : Option (List ℕ)) (files : Option Files) (stop : Stop)
     → out_new ≡ out → ReadsBlob input (Err stop) → OfOutput Info (given input files) 0 (Err stop) (out_new ≡ out) (held out) (held out_new) (faults out) (faults out_new)
-stopped_lines K held faults out out_new input files stop same read = stopped_for Info K held faults out out_new input files stop (told_stop input files stop read) same read
+stopped_lines K held faults out out_new input files stop same read = stopped Info (given input files) K held faults out out_new stop (told_stop input files stop read) same (not_output input stop read)

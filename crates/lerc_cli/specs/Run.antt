@@ -7,11 +7,16 @@ use Rattle.outside_io.specs.streams.Sink.{Holds, HoldsPrefix}
 use Rattle.outside_io.specs.streams.Source.{TakesUpTo, IsAtEnd}
 use Rattle.raster_values.specs.Raster.{Pixels, IsRaster}
 use Rattle.raster_values.specs.Grid.{grid_of}
+use Rattle.raster_values.specs.ReadGrid.{IsGrid, TookSome}
 use Rattle.lerc_header.specs.declared.fault.BlobReason.{BlobReason}
+use Rattle.lerc_header.specs.declared.header.Version.{Version}
+use Rattle.lerc_header.specs.Written.{step_of}
+use Rattle.lerc_encode.specs.Choice.{choice}
+use Rattle.lerc_encode.specs.Encoded.{Declares, IsEncodedOnce, NeedsV4}
 use Rattle.lerc_grammar.specs.Blob.{Blob}
 use Rattle.lerc_grammar.specs.Verdict.{WholeFault}
 use Rattle.lerc_cli.specs.declared.command.Command.{Command}
-use Rattle.lerc_cli.specs.declared.command.Command.TheVariants.{Decode, Info}
+use Rattle.lerc_cli.specs.declared.command.Command.TheVariants.{Encode, Decode, Info}
 use Rattle.lerc_cli.specs.declared.stop.Reason.TheVariants.{Blob as BlobReasonOf}
 use Rattle.lerc_cli.specs.declared.stop.Stop.TheVariants.{Usage, Refused, Source, Output, Volume, OutOfMemory}
 use Rattle.lerc_cli.specs.Command.{reads_source, calls_volume, makes_updates}
@@ -32,16 +37,18 @@ given input files = record { input = input; files = files }
 
 -- ---- the source
 
--- how many bytes a command takes at most: one behind the longest input that it reads
-abbrev pub most_taken : Command → ℕ
-most_taken Decode = 134217729
-most_taken Info = 134217729
+-- What a command takes: some first bytes of those left. Of a blob it is at most one byte more than
+-- the longest blob has.
+abbrev pub TakesFor : Command → Option (List ℕ) → Option (List ℕ) → Type 0
+TakesFor (Encode version error) left_old left_new = TookSome left_old left_new
+TakesFor Decode left_old left_new = TakesUpTo 134217729 left_old left_new
+TakesFor Info left_old left_new = TakesUpTo 134217729 left_old left_new
 
 -- The first type says that the source is as it was.
 pub record OfSource (c : Command) (end : End) (same : Type 0) (left_old left_new : Option (List ℕ))
     (faults_old faults_new : ℕ) : Type 0 where
   pub cause : IsCause (end ≡ Err Source) faults_old faults_new
-  pub taken : TakesUpTo (most_taken c) left_old left_new
+  pub taken : TakesFor c left_old left_new
   pub whole : IsTrue (reads_source c) → end ≡ Ok tt → IsAtEnd left_new
   pub idle : IsFalse (reads_source c) → same
 
@@ -113,6 +120,27 @@ pub record IsUnread (status : ℕ) (same_source same_output same_volume : Type 0
   pub output : same_output
   pub volume : same_volume
   pub line : GivesLine said_old said_new saying_old saying_new (line_of OutOfMemory)
+
+-- ---- of `encode` in its own words
+
+-- What the blob of a raster is: the chosen one. Its header declares the version and the error. It
+-- is a blob of exactly one raster, which is near the given one by the step, and without an error
+-- equal to it.
+pub record Encodes (version : Version) (error : ℕ) (r : Pixels) (blob : List ℕ) : Type 0 where
+  pub chosen : blob ≡ choice r version (step_of error)
+  pub declared : Declares blob version (step_of error)
+  pub once : IsEncodedOnce blob r (step_of error)
+  pub exact : error ≡ 0 → once.raster ≡ r
+
+-- the output has gained the blob of a raster, which is the grid's where the input is told
+abbrev pub GivesBlob : Version → ℕ → Option (List ℕ) → Option (List ℕ) → Option (List ℕ) → Type 0
+GivesBlob version error input old new =
+    (r : Pixels) × (IsRaster r × IfSome input (λ bytes. IsGrid bytes r)
+    × ((blob : List ℕ) × (Encodes version error r blob × Holds old new blob)))
+
+-- the bytes are the grid of a raster that the version has a place for
+abbrev pub IsGridFor : Version → List ℕ → Type 0
+IsGridFor version bytes = (r : Pixels) × (IsGrid bytes r × (¬ NeedsV4 version r))
 
 -- ---- of `decode` in its own words
 

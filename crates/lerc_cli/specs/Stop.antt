@@ -1,10 +1,12 @@
 -- How a run ends: its status, and the one line that is given to the error output.
 use Rattle.std.specs.Prelude.{ℕ, List, [], ◌∷◌, ◌++◌, codes, Result, Ok, Err}
 use Rattle.outside_io.specs.program.Line.{and_number}
+use Rattle.raster_values.specs.declared.reading.GridReason.{GridReason}
+use Rattle.raster_values.specs.declared.reading.GridReason.TheVariants.{Truncated as GridTruncated, BadMagic, BadType as GridBadType, BadSize, TooLarge as GridTooLarge, BadMark}
 use Rattle.lerc_header.specs.declared.fault.BlobReason.{BlobReason}
 use Rattle.lerc_header.specs.declared.fault.BlobReason.TheVariants.{Truncated, BadKey, BadVersion, BadRows, BadCols, BadDepth, TooLarge, BadCount, BadBlockSize, BadBlobSize, FloatPixels, BadType, BadError, BadRange, BadChecksum, BadMaskLength, BadRun, BadMaskCount, MaskMissing, BadSweep, BadMode, BadBlockTag, BadOffsetCode, BadListHead, BadListCount, BadTable, BadIndex, BadCodeTable, NoCode, PastEnd, Leftover}
 use Rattle.lerc_cli.specs.declared.stop.Reason.{Reason}
-use Rattle.lerc_cli.specs.declared.stop.Reason.TheVariants.{Blob}
+use Rattle.lerc_cli.specs.declared.stop.Reason.TheVariants.{Blob, Grid, Leftover as LeftoverOf, DepthNeedsV4}
 use Rattle.lerc_cli.specs.declared.stop.Stop.{Stop}
 use Rattle.lerc_cli.specs.declared.stop.Stop.TheVariants.{Usage, Refused, Source, Output, Volume, OutOfMemory}
 
@@ -58,8 +60,19 @@ blob_name_of NoCode = codes "NoCode"
 blob_name_of PastEnd = codes "PastEnd"
 blob_name_of Leftover = codes "Leftover"
 
+abbrev pub grid_name_of : GridReason → List ℕ
+grid_name_of GridTruncated = codes "Truncated"
+grid_name_of BadMagic = codes "BadMagic"
+grid_name_of GridBadType = codes "BadType"
+grid_name_of BadSize = codes "BadSize"
+grid_name_of GridTooLarge = codes "TooLarge"
+grid_name_of BadMark = codes "BadMark"
+
 abbrev pub name_of : Reason → List ℕ
 name_of (Blob reason) = blob_name_of reason
+name_of (Grid reason) = grid_name_of reason
+name_of LeftoverOf = codes "Leftover"
+name_of DepthNeedsV4 = codes "DepthNeedsV4"
 
 -- two numbers, each behind its word
 abbrev pub two_numbers : List ℕ → ℕ → List ℕ → ℕ → List ℕ
@@ -75,6 +88,7 @@ blob_numbers_of _ = []
 
 abbrev pub numbers_of : Reason → List ℕ
 numbers_of (Blob reason) = blob_numbers_of reason
+numbers_of _ = []
 
 abbrev pub usage_text : List ℕ
 usage_text = codes "usage: PATH encode V E, decode, info, build V E N, put V E N, get R C, get R C raw, list, check, recover, sample START COUNT"

@@ -1,3 +1,5 @@
 -- The words of functions that the program keeps to itself.
+pub mod Grids
 pub mod Keeps
 pub mod Reads
+pub mod Spelling

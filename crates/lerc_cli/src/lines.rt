@@ -1,11 +1,12 @@
 ghost use Rattle.std.specs.Prelude.{◌≡◌, ◌+◌, ◌≤◌, [], ◌++◌, length};
 ghost use Rattle.outside_io.specs.program.Line.{GivesLine};
 ghost use Rattle.lerc_cli.specs.Stop.{line_of, name_of, text_of};
-ghost use Rattle.lerc_cli.specs.Stop.{blob_name_of, blob_numbers_of, two_numbers};
+ghost use Rattle.lerc_cli.specs.Stop.{blob_name_of, blob_numbers_of, grid_name_of, two_numbers};
 
 use crate::stop::{Fault, Reason, Stop};
 use lerc_header::BlobReason;
 use outside_io::{Line, Sink, give_line};
+use raster_values::GridReason;
 
 const USAGE: &[u8] =
     b"usage: PATH encode V E, decode, info, build V E N, put V E N, get R C, get R C raw, list, check, recover, sample START COUNT";
@@ -50,6 +51,21 @@ fn blob_name(reason: BlobReason) -> &'static [u8]
     }
 }
 
+/// The name of a reason that a grid is refused for.
+fn grid_name(reason: GridReason) -> &'static [u8]
+    ensures name { result.now ≡ grid_name_of reason }
+    ensures short { length result.now ≤ 30 }
+{
+    match reason {
+        GridReason::Truncated => b"Truncated",
+        GridReason::BadMagic => b"BadMagic",
+        GridReason::BadType => b"BadType",
+        GridReason::BadSize => b"BadSize",
+        GridReason::TooLarge => b"TooLarge",
+        GridReason::BadMark => b"BadMark",
+    }
+}
+
 /// The name of a reason.
 fn name(reason: Reason) -> &'static [u8]
     ensures name { result.now ≡ name_of reason }
@@ -57,6 +73,9 @@ fn name(reason: Reason) -> &'static [u8]
 {
     match reason {
         Reason::Blob(reason) => blob_name(reason),
+        Reason::Grid(reason) => grid_name(reason),
+        Reason::Leftover => b"Leftover",
+        Reason::DepthNeedsV4 => b"DepthNeedsV4",
     }
 }
 
@@ -102,6 +121,7 @@ fn refusal(fault: Fault) -> Line
     line.number(fault.place);
     match fault.reason {
         Reason::Blob(reason) => add_numbers(&mut line, reason),
+        _ => {}
     }
     line
 }

@@ -1,10 +1,11 @@
 //! The program `lerc_cli`: the words of the command line and the bytes of a source become the bytes
 //! of an output and a status.
 //!
-//! It stands on `lerc_decode` and the layers below it. What it does is `run`, whose contract is the
-//! program's: over any words, any input, however it is cut into pieces, and objects that fail at
-//! any call, a blob is decoded, or told of, exactly where the input is one, and nothing else is
-//! given. `serve` reads the words and calls it, and `main` makes the objects over the machine.
+//! It stands on `lerc_decode`, `lerc_encode` and the layers below them. What it does is `run`,
+//! whose contract is the program's: over any words, any input, however it is cut into pieces, and
+//! objects that fail at any call, a grid is encoded exactly where the input is one, a blob is decoded, or
+//! told of, exactly where the input is one, and nothing else is given. `serve` reads the words and
+//! calls it, and `main` makes the objects over the machine.
 #![tactic(auto)]
 
 mod arguments;
@@ -12,6 +13,9 @@ mod arguments;
 mod coded_tests;
 mod command;
 mod decode;
+mod encode;
+#[cfg(test)]
+mod encode_tests;
 mod info;
 #[cfg(test)]
 mod info_tests;

@@ -1,6 +1,7 @@
-ghost use Rattle.std.specs.Prelude.{◌≡◌, ◌≢◌, ◌⊎◌, ◌↔◌, ℕ, List, [], Some, Ok, Err, length};
+ghost use Rattle.std.specs.Prelude.{◌≡◌, ◌≢◌, ◌⊎◌, ◌↔◌, ℕ, List, [], Some, Ok, Err, OnOk, length};
 ghost use Rattle.outside_io.specs.streams.Sink.{Holds};
 ghost use Rattle.outside_io.specs.streams.Source.{IsAtEnd};
+ghost use Rattle.lerc_header.specs.declared.header.Version.{Version};
 ghost use Rattle.lerc_cli.specs.declared.command.Command.{Command};
 ghost use Rattle.lerc_cli.specs.declared.stop.Stop.{Stop};
 ghost use Rattle.lerc_cli.specs.Answer.{IsBlob, IsOutput};
@@ -8,11 +9,12 @@ ghost use Rattle.lerc_cli.specs.Command.{IsSpelled, IsNoCommand};
 ghost use Rattle.outside_io.specs.program.Line.{GivesLine};
 ghost use Rattle.outside_io.specs.streams.Faults.{IsCause};
 ghost use Rattle.lerc_cli.specs.Run.{OfSource, OfOutput, OfVolume, OfRun, GivesLineOf, files_of, given};
-ghost use Rattle.lerc_cli.specs.Run.{GivesGrid, GivesGridPrefix, GivesLines, TellsFault, ToldHead};
+ghost use Rattle.lerc_cli.specs.Run.{GivesBlob, GivesGrid, GivesGridPrefix, GivesLines, IsGridFor, TellsFault, ToldHead};
 ghost use Rattle.lerc_cli.specs.Stop.{status_of, status_at, line_of};
 
 use crate::command::{Command, command_of};
 use crate::decode::decode;
+use crate::encode::encode;
 use crate::info::info;
 use crate::lines::tell;
 use crate::stop::Stop;
@@ -38,8 +40,12 @@ fn perform<S: Source, K: Sink, V: Volume>(
     ensures volume { OfVolume command result (vol.new ≡ vol.old) marks.new.marks
         (V.told vol.old) (V.told vol.new) (V.history vol.old) (V.history vol.new)
         (V.faults vol.old) (V.faults vol.new) }
+    ensures blob { (version : Version) (error : ℕ) → command ≡ Command.Encode version error
+        → OnOk result
+        (GivesBlob version error (S.left src.old) (K.held out.old) (K.held out.new)) }
 {
     match command {
+        Command::Encode { version, error } => encode(alloc, version, error, src, out),
         Command::Decode => decode(alloc, src, out),
         Command::Info => info(alloc, src, out),
     }
@@ -75,6 +81,9 @@ fn act<S: Source, K: Sink, V: Volume>(
         → OfVolume c result (vol.new ≡ vol.old) marks.new.marks
         (V.told vol.old) (V.told vol.new) (V.history vol.old) (V.history vol.new)
         (V.faults vol.old) (V.faults vol.new) }
+    ensures blob { (version : Version) (error : ℕ)
+        → IsSpelled (Command.Encode version error) words.now → OnOk result
+        (GivesBlob version error (S.left src.old) (K.held out.old) (K.held out.new)) }
 {
     match command_of(words) {
         Some(command) => perform(alloc, command, src, out, vol, marks),
@@ -100,18 +109,20 @@ fn ended_status<E: Sink>(ended: Result<(), Stop>, err: &mut E) -> u8
 /// Does all that the program does: finds the command of the words, does it, and answers the status
 /// that the program ends with.
 ///
-/// The commands so far are `decode` and `info`. Both read one whole blob; then `decode` gives its
-/// grid, and `info` the fourteen lines of what it says of itself.
+/// The commands so far are `encode`, `decode` and `info`. `encode` reads one grid, and gives the
+/// blob that is chosen for its raster; it refuses a raster of more than one depth in version 3. The
+/// others read one whole blob; then `decode` gives its grid, and `info` the fourteen lines of what
+/// it says of itself.
 ///
 /// | status | it comes |
 /// |---|---|
-/// | 0 | where the input is a blob; the output has gained its grid, or its lines |
+/// | 0 | where the input is what the command reads; the output has gained what it gives |
 /// | 1 | exactly where the words are no command; nothing is taken and nothing is given |
-/// | 2 | where the input is no blob, or has bytes behind one; the line tells its first fault |
+/// | 2 | where the input is not that, or has bytes behind it; the line tells its first fault |
 /// | 3 | exactly where the source failed |
-/// | 4 | exactly where the output failed, which has then gained a prefix of them |
-/// | 5 | exactly where the volume failed, which neither calls |
-/// | 6 | where memory was refused, which is wanted only behind a whole lawful header |
+/// | 4 | exactly where the output failed, which has then gained a prefix of what it was to gain |
+/// | 5 | exactly where the volume failed, which none calls |
+/// | 6 | where memory was refused; `decode` and `info` want it only behind a lawful header |
 ///
 /// On a status other than 0 one line is given to `err`. The faults of `err` change nothing. There
 /// are no marks.
@@ -158,6 +169,20 @@ pub fn run<S: Source, K: Sink, E: Sink, V: Volume>(
         → GivesLine (E.held err.old) (E.held err.new) (E.faults err.old) (E.faults err.new)
         (line_of Stop.Usage) }
     ensures no_line { result.status ≡ 0 → err.new ≡ err.old }
+
+    // What follows for `encode`.
+    ensures encoded { (version : Version) (error : ℕ)
+        → IsSpelled (Command.Encode version error) words.now → result.status ≡ 0
+        → GivesBlob version error (S.left src.old) (K.held out.old) (K.held out.new)
+        × IsAtEnd (S.left src.new) }
+    ensures encoded_exactly { (version : Version) (error : ℕ)
+        → IsSpelled (Command.Encode version error) words.now
+        → (input : List ℕ) → S.left src.old ≡ Some input
+        → (result.status ≡ 0) ⊎ (result.status ≡ 2)
+        → (result.status ≡ 0) ↔ IsGridFor version input }
+    ensures not_encoded { (version : Version) (error : ℕ)
+        → IsSpelled (Command.Encode version error) words.now
+        → result.status ≢ 0 → result.status ≢ 4 → out.new ≡ out.old }
 
     // What follows for `decode`.
     ensures exact { IsSpelled Command.Decode words.now

@@ -2,12 +2,19 @@ ghost use Rattle.std.specs.Prelude.{◌≡◌};
 ghost use Rattle.lerc_cli.specs.Stop.{status_of};
 
 use lerc_header::BlobReason;
+use raster_values::GridReason;
 
 /// Why an input is refused.
 #[derive(Clone, Copy)]
 pub enum Reason {
     /// It is not one whole blob.
     Blob(BlobReason),
+    /// It does not begin with a grid.
+    Grid(GridReason),
+    /// A byte stands behind the grid.
+    Leftover,
+    /// The grid's raster has more than one depth, which version 3 has no place for.
+    DepthNeedsV4,
 }
 
 /// A reason, and the place in the input where it stands.

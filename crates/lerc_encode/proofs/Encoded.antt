@@ -33,22 +33,23 @@ use Rattle.lerc_grammar.proofs.Blobs.{one_raster}
 use Rattle.lerc_encode.specs.Ranges.{greatest_value, front_bytes, is_bare, is_level}
 use Rattle.lerc_encode.specs.Masks.{packed, are_alike, mask_runs_of, mask_part}
 use Rattle.lerc_encode.specs.Heads.{header_of}
-use Rattle.lerc_encode.specs.Images.{Form, sweep, blocks_8, blocks_16, is_v4, Ending, bare, level, coded, side_at, image_bytes, form_bytes, forms, chosen_form, ending}
+use Rattle.lerc_encode.specs.Images.{Form, sweep, blocks_8, blocks_16, delta, plain, is_v4, Ending, bare, level, coded, side_at, image_bytes, form_bytes, forms, chosen_form, ending}
 use Rattle.lerc_encode.specs.Choice.{behind_head, header_with, checksum_of, choice}
-use Rattle.lerc_encode.specs.Encoded.{IsAsked, IsEncodedOnce}
+use Rattle.lerc_encode.specs.Encoded.{Declares, IsAsked, IsEncodedOnce}
 use Rattle.lerc_encode.specs.inside.Suits.{IsBeside}
 use Rattle.lerc_encode.proofs.Extremes.{in_order, no_values, all_least_fits, all_greatest_fits}
 use Rattle.lerc_encode.proofs.Packing.{count_marks, long_marks, mask_few, alike_runs, mixed_runs, packed_bits, packed_below, length_packed, all_off, all_on}
 use Rattle.lerc_encode.proofs.Forming.{length_front, length_sweep}
+use Rattle.lerc_encode.proofs.Candidates.{chosen_may}
 use Rattle.lerc_encode.proofs.Endings.{ImageStands, bare_stands, level_stands, coded_stands}
 
 -- ---- the length of the image
 
 chosen_few : (r : Pixels) (version : Version) (step : ℕ) → length (form_bytes r version step (chosen_form r version step)) ≤ length (form_bytes r version step sweep)
 unfolding chosen_form
-chosen_few r version step = few _ (is_first_least (λ form. length (form_bytes r version step form)) forms)
+chosen_few r version step = few _ (is_first_least (λ form. length (form_bytes r version step form)) (forms r version step))
   where
-    few : (taken : Option Form) → IsTaken (λ form. length (form_bytes r version step form)) forms taken → length (form_bytes r version step (unwrap_or taken sweep)) ≤ length (form_bytes r version step sweep)
+    few : (taken : Option Form) → IsTaken (λ form. length (form_bytes r version step form)) (forms r version step) taken → length (form_bytes r version step (unwrap_or taken sweep)) ≤ length (form_bytes r version step sweep)
     few None h = omega arith
     few (Some form) h = h.1.least 0 sweep refl
 
@@ -94,7 +95,7 @@ chosen_ends r is version step size sum some = by (is_bare r) refl (is_v4 version
         let form = chosen_few r version step in
         let most = sweep_few r is version step in
         let joined : length (front_bytes r version ++ form_bytes r version step (chosen_form r version step)) ≡ length (front_bytes r version) + length (form_bytes r version step (chosen_form r version step)) = length-append (front_bytes r version) (form_bytes r version step (chosen_form r version step)) in
-        record { few = omega (arith, front, form, most, joined); stands = coded_stands r is version step size sum some h k (chosen_form r version step) }
+        record { few = omega (arith, front, form, most, joined); stands = coded_stands r is version step size sum some h k (chosen_form r version step) (chosen_may r version step) }
 
 -- ---- the mask
 
@@ -206,6 +207,8 @@ side_few level = (omega arith, omega arith)
 side_few (coded sweep) = (omega arith, omega arith)
 side_few (coded blocks_8) = (omega arith, omega arith)
 side_few (coded blocks_16) = (omega arith, omega arith)
+side_few (coded delta) = (omega arith, omega arith)
+side_few (coded plain) = (omega arith, omega arith)
 
 ends_of : (r : Pixels) → IsRaster r → AreEnds r.kind (valid_count r) (micro.least_value (values_of r.pixels)) (greatest_value (values_of r.pixels))
 ends_of r is = by (valid_count r) refl
@@ -389,3 +392,7 @@ pub encoded_once : (r : Pixels) (version : Version) (step : ℕ) → IsAsked r v
 encoded_once r version step asked sum_fits =
     let e = encoded r version step asked sum_fits in
     record { raster = e.raster; blob = e.blob; near = e.near; only = λ s b. one_raster (choice r version step) s e.raster b e.blob }
+
+pub declares : (r : Pixels) (version : Version) (step : ℕ) → IsAsked r version step → checksum_of r version step < 2 ^ 32 → Declares (choice r version step) version step
+unfolding header_with header_of
+declares r version step asked sum_fits = (header_with r version step (checksum_of r version step), (head_there r version step asked sum_fits, refl, refl))

@@ -23,7 +23,7 @@ use Rattle.lerc_encode.specs.inside.Suits.{IsBeside}
 use Rattle.lerc_encode.proofs.Members.{Has}
 use Rattle.lerc_encode.proofs.Extremes.{greatest_above, least_below, value_among, value_of_all, no_values, leasts_fit, greatests_fit, length_leasts, length_greatests}
 use Rattle.lerc_encode.proofs.Forming.{same_lists, lists_same}
-use Rattle.lerc_encode.proofs.Standing.{at_greatests, at_leasts, near_itself, form_stands, form_sound, form_near, raster_of}
+use Rattle.lerc_encode.proofs.Standing.{at_greatests, at_leasts, near_itself, MayBe, form_stands, form_sound, form_near, raster_of}
 
 or_true : (a b : Bool) → (a || b) ≡ true → (a ≡ true) ⊎ (b ≡ true)
 or_true true b h = inl refl
@@ -137,17 +137,17 @@ front_of_header : (r : Pixels) → IsRaster r → (version : Version) (step side
 unfolding header_of
 front_of_header r is version step side size sum = front_stands r is version step side size sum
 
-coded_image : (r : Pixels) → IsRaster r → (version : Version) (step size sum : ℕ) → 0 < step → is_bare r ≡ false → (is_v4 version && is_level r) ≡ false → (form : Form)
+coded_image : (r : Pixels) → IsRaster r → (version : Version) (step size sum : ℕ) → 0 < step → is_bare r ≡ false → (is_v4 version && is_level r) ≡ false → (form : Form) → MayBe r version step form
     → IsImage (header_of r version step (side_of form) size sum) (front_bytes r version ++ form_bytes r version step form) (raster_of r version step size sum form)
-coded_image r is version step size sum some h k form =
+coded_image r is version step size sum some h k form may =
     grammar.coded (not_bare r version step (side_of form) size sum h) (front_bytes r version) (form_bytes r version step form) (front_of r version) refl
-    (front_of_header r is version step (side_of form) size sum) (not_equal r version k) (form_stands r is version step size sum some form)
+    (front_of_header r is version step (side_of form) size sum) (not_equal r version k) (form_stands r is version step size sum some form may)
 
-pub coded_stands : (r : Pixels) → IsRaster r → (version : Version) (step size sum : ℕ) → 0 < step → is_bare r ≡ false → (is_v4 version && is_level r) ≡ false → (form : Form) → ImageStands r version step size sum (coded form)
-coded_stands r is version step size sum some h k form =
+pub coded_stands : (r : Pixels) → IsRaster r → (version : Version) (step size sum : ℕ) → 0 < step → is_bare r ≡ false → (is_v4 version && is_level r) ≡ false → (form : Form) → MayBe r version step form → ImageStands r version step size sum (coded form)
+coded_stands r is version step size sum some h k form may =
     record {
       raster = raster_of r version step size sum form;
       sound = form_sound r is version step size sum some form;
       near = form_near r is version step size sum some form;
-      image = coded_image r is version step size sum some h k form;
+      image = coded_image r is version step size sum some h k form may;
     }

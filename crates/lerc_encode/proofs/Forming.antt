@@ -1,7 +1,6 @@
 -- The forms of an image's values, and the choice among them.
-use Rattle.std.proofs.Common.{◌≡◌, ℕ, ◌+◌, ◌-◌, ◌*◌, ◌/◌, ◌<◌, ◌≤◌, zero, suc, Bool, true, false, List, [], ◌∷◌, ◌++◌, length, get_or, map, refl, sym, ap, ◌∙◌, subst, arith, length-append, Option, Some, None, ◌⊎◌, inl, inr}
-use Rattle.std.specs.Prelude.{ℤ, nat_eq, ◌&&◌, ◌||◌, if◌then◌else◌, unwrap_or, MatchOption, ◌≢◌, set}
-use Rattle.std.specs.Option.{option_map}
+use Rattle.std.proofs.Common.{◌≡◌, ℕ, ◌+◌, ◌-◌, ◌*◌, ◌/◌, ◌<◌, Bool, true, false, List, [], ◌∷◌, ◌++◌, length, refl, sym, ap, ◌∙◌, subst, arith, length-append, ◌⊎◌, inl, inr}
+use Rattle.std.specs.Prelude.{ℤ, nat_eq, ◌&&◌, ◌||◌, if◌then◌else◌, ◌≢◌, set}
 use Rattle.std.proofs.lemmas.Bool.{eqb-true, cases_eq}
 use Rattle.std.proofs.lemmas.Bool.Decides.{nat_tests, Decides-int_eq}
 use Rattle.std.specs.Ordering.{int_eq}
@@ -23,16 +22,13 @@ use Rattle.lerc_header.specs.declared.header.Version.TheVariants.{V4}
 use Rattle.lerc_header.specs.Head.{IsTwiceError}
 use Rattle.micro_block.specs.Choice.{least_value}
 use Rattle.micro_block.specs.Frame.{IsBlockStep}
-use Rattle.micro_block.specs.Fewest.{first_least, IsFirstLeast}
 use Rattle.raster_values.proofs.Views.{same_bits}
-use Rattle.micro_block.proofs.Steps.{by_sizes}
 use Rattle.lerc_encode.specs.Heads.{header_of}
 use Rattle.lerc_encode.specs.Ranges.{greatest_value, leasts, greatests, front_bytes, is_bare, is_level}
 use Rattle.lerc_encode.specs.Images as images
 use Rattle.lerc_encode.specs.Images.{Form, blocks_bytes, mode_bytes, form_bytes, forms, chosen_form, ending, is_v4}
 use Rattle.lerc_encode.specs.inside.Blocked.{IsBlocked}
-use Rattle.lerc_encode.specs.inside.Choosing.{IsBase, IsChosen, named, form_at}
-use Rattle.lerc_encode.specs.declared.forms.ValueForm.{ValueForm}
+use Rattle.lerc_encode.specs.inside.Choosing.{IsBase}
 use Rattle.lerc_encode.proofs.Extremes.{all_least_fits, all_greatest_fits, length_values, length_leasts, length_greatests}
 
 -- ---- the header so far
@@ -188,45 +184,6 @@ bare_other h r b ne =
     (λ i. nat_eq (of_z w64 (least i)) (of_z w64 (greatest i)))
     ∙ same_test r.kind (least_value (values_of r.pixels)) (greatest_value (values_of r.pixels)) (all_least_fits r b.sound) (all_greatest_fits r b.sound)
     ∙ sym (ap (λ (x : Bool). x || int_eq (least_value (values_of r.pixels)) (greatest_value (values_of r.pixels))) (ap (λ (x : Header). nat_eq x.valid 0) (sym b.is) ∙ t))
-
--- ---- the choice
-
-some_same : {A : Type 0} (x y : A) → Some x ≡ Some y → x ≡ y
-some_same x y e = cc
-
--- the form at a place of the candidates
-placed : (k : ℕ) (n : ℕ) (a b c : ℕ) → get_or (Some a ∷ Some b ∷ Some c ∷ []) k None ≡ Some n → get_or forms k None ≡ Some (named (form_at k))
-placed zero n a b c e = refl
-placed (suc zero) n a b c e = refl
-placed (suc (suc zero)) n a b c e = refl
-placed (suc (suc (suc k))) n a b c e = absurd (cc)
-
-pub chosen_is : (r : Pixels) (version : Version) (step a b c : ℕ) (first : Option (ℕ × ℕ)) (p : ℕ × ℕ) (f : ValueForm)
-    → a ≡ length (form_bytes r version step images.sweep) → b ≡ length (form_bytes r version step images.blocks_8) → c ≡ length (form_bytes r version step images.blocks_16) → a ≤ 67108865
-    → MatchOption first ((i n : ℕ) → get_or (Some a ∷ Some b ∷ Some c ∷ []) i None ≡ Some n → ⊥) (λ q. IsFirstLeast (λ m. m) (Some a ∷ Some b ∷ Some c ∷ []) q.0 q.1) → p ≡ unwrap_or first (0, 0)
-    → f ≡ form_at p.0 → IsChosen r version step (record { form = f; size = p.1 })
-unfolding chosen_form
-chosen_is r version step a b c None p f la lb lc few none e at = absurd (none 0 a refl)
-chosen_is r version step a b c (Some q) p f la lb lc few first e at =
-    let size = λ (form : Form). length (form_bytes r version step form) in
-    let sizes : Some a ∷ Some b ∷ Some c ∷ [] ≡ map (option_map size) forms = (λ t. Some (la t) ∷ Some (lb t) ∷ Some (lc t) ∷ []) in
-    let there = placed q.0 q.1 a b c first.there in
-    let is : first_least size forms ≡ Some (named (form_at q.0)) = by_sizes size forms q.0 q.1 (named (form_at q.0)) there (subst (λ us. IsFirstLeast (λ m. m) us q.0 q.1) sizes first) in
-    let form : named f ≡ unwrap_or (first_least size forms) images.sweep = ap named (at ∙ ap (λ (x : ℕ × ℕ). form_at x.0) e) ∙ ap (λ x. unwrap_or x images.sweep) (sym is) in
-    let long : q.1 ≡ size (named (form_at q.0)) = sized_at q.0 q.1 first.there in
-    let low = first.least 0 a refl in
-    let second : p.1 ≡ q.1 = ap (λ (x : ℕ × ℕ). x.1) e in
-    record {
-      form = form;
-      size = second ∙ long ∙ ap size (sym (ap (λ x. unwrap_or x images.sweep) is));
-      few = omega (arith, second, low, few);
-    }
-  where
-    sized_at : (k n : ℕ) → get_or (Some a ∷ Some b ∷ Some c ∷ []) k None ≡ Some n → n ≡ length (form_bytes r version step (named (form_at k)))
-    sized_at zero n e = sym (some_same a n e) ∙ la
-    sized_at (suc zero) n e = sym (some_same b n e) ∙ lb
-    sized_at (suc (suc zero)) n e = sym (some_same c n e) ∙ lc
-    sized_at (suc (suc (suc k))) n e = absurd (cc)
 
 -- ---- the ending
 

@@ -116,7 +116,7 @@ filter_few : {X : Type 0} (p : X → Bool) (xs : List X) → length (filter p xs
 filter_few p [] = omega arith
 filter_few p (x ∷ xs) = cond_few (p x) x (filter p xs) (length xs) (filter_few p xs)
 
-length_flat : {X Y : Type 0} (f : X → List Y) (w : ℕ) (xs : List X) → ((x : X) → length (f x) ≡ w) → length (flat_map f xs) ≡ length xs * w
+pub length_flat : {X Y : Type 0} (f : X → List Y) (w : ℕ) (xs : List X) → ((x : X) → length (f x) ≡ w) → length (flat_map f xs) ≡ length xs * w
 length_flat f w [] h = omega arith
 length_flat f w (x ∷ xs) h =
     let one = h x in

@@ -4,8 +4,14 @@ mod Extremes
 mod Blocking
 mod Packing
 mod Forming
+mod WordBytes
+mod TableBytes
+mod FullRuns
 mod Kept
+mod SymbolForms
+mod SymbolSteps
 mod Standing
+mod Candidates
 mod Endings
 mod Encoded
 mod Laying

@@ -7,11 +7,13 @@ use Rattle.raster_values.specs.Grid.{values_bytes}
 use Rattle.lerc_header.specs.declared.header.Header.{Header}
 use Rattle.lerc_header.specs.declared.header.Version.{Version}
 use Rattle.lerc_header.specs.declared.header.Version.TheVariants.{V3, V4}
-use Rattle.micro_block.specs.Fewest.{first_least}
+use Rattle.micro_block.specs.Fewest.{allowed, first_least}
 use Rattle.micro_block.specs.Choice.{block_bytes}
+use Rattle.delta_mode.specs.Deltas.{deltas, plain as plain_symbols}
 use Rattle.lerc_grammar.specs.Blocks.{block_col, coded_blocks, coded_values}
 use Rattle.lerc_encode.specs.Heads.{header_of}
 use Rattle.lerc_encode.specs.Ranges.{front_bytes, is_bare, is_level}
+use Rattle.lerc_encode.specs.Codings.{coding_bytes, have_codes}
 
 -- the bytes of coded block number k
 abbrev pub coded_bytes : Header → Pixels → ℕ → List ℕ
@@ -28,18 +30,30 @@ has_mode r step = nat_eq (bytes_of r.kind) 1 && nat_eq step 1
 abbrev pub mode_bytes : Pixels → ℕ → List ℕ
 mode_bytes r step = if has_mode r step then 0 ∷ [] else []
 
+-- the symbols of the differences of all depths, one depth behind the other
+unfoldable pub all_deltas : Pixels → List ℕ
+all_deltas r = flat_map (deltas r) (range_with_len 0 r.depth)
+
+abbrev pub is_v4 : Version → Bool
+is_v4 V3 = false
+is_v4 V4 = true
+
 -- ---- the forms of the values, in order
 
 pub data Form : Type 0 where
   sweep : Form
   blocks_8 : Form
   blocks_16 : Form
+  delta : Form
+  plain : Form
 
 -- the side that the header says
 abbrev pub side_of : Form → ℕ
 side_of sweep = 8
 side_of blocks_8 = 8
 side_of blocks_16 = 16
+side_of delta = 8
+side_of plain = 8
 
 unfoldable pub form_bytes : Pixels → Version → ℕ → Form → List ℕ
 form_bytes r version step sweep = 1 ∷ values_bytes r.kind (values_of r.pixels)
@@ -47,14 +61,28 @@ form_bytes r version step blocks_8 =
     0 ∷ (mode_bytes r step ++ blocks_bytes (header_of r version step 8 0 0) r)
 form_bytes r version step blocks_16 =
     0 ∷ (mode_bytes r step ++ blocks_bytes (header_of r version step 16 0 0) r)
+form_bytes r version step delta = 0 ∷ 1 ∷ coding_bytes (all_deltas r)
+form_bytes r version step plain = 0 ∷ 2 ∷ coding_bytes (plain_symbols r)
 
-abbrev pub forms : List (Option Form)
-forms = Some sweep ∷ Some blocks_8 ∷ Some blocks_16 ∷ []
+-- differences and plain symbols in code words: where a mode byte stands and the symbols have codes;
+-- plain symbols in version 4
+abbrev pub may_be_delta : Pixels → ℕ → Bool
+may_be_delta r step = has_mode r step && have_codes (all_deltas r)
+
+abbrev pub may_be_plain : Pixels → Version → ℕ → Bool
+may_be_plain r version step =
+    (has_mode r step && is_v4 version) && have_codes (plain_symbols r)
+
+abbrev pub forms : Pixels → Version → ℕ → List (Option Form)
+forms r version step =
+    Some sweep ∷ Some blocks_8 ∷ Some blocks_16 ∷ allowed (may_be_delta r step) delta
+    ∷ allowed (may_be_plain r version step) plain ∷ []
 
 -- the first of those with the fewest bytes
 unfoldable pub chosen_form : Pixels → Version → ℕ → Form
 chosen_form r version step =
-    unwrap_or (first_least (λ form. length (form_bytes r version step form)) forms) sweep
+    unwrap_or (first_least (λ form. length (form_bytes r version step form)) (forms r version step))
+    sweep
 
 -- ---- how the image ends: before the lists, behind them, or with the values in a form
 
@@ -62,10 +90,6 @@ pub data Ending : Type 0 where
   bare : Ending
   level : Ending
   coded : Form → Ending
-
-abbrev pub is_v4 : Version → Bool
-is_v4 V3 = false
-is_v4 V4 = true
 
 unfoldable pub ending : Pixels → Version → ℕ → Ending
 ending r version step =

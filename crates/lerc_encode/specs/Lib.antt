@@ -1,6 +1,7 @@
 pub mod Ranges
 pub mod Masks
 pub mod Heads
+pub mod Codings
 pub mod Images
 pub mod Choice
 pub mod Encoded

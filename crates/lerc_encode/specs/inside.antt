@@ -1,6 +1,7 @@
 -- The words of private functions alone: no public clause cites them.
 pub mod Ranged
 pub mod Blocked
+pub mod Coded
 pub mod Choosing
 pub mod Suits
 pub mod Layout

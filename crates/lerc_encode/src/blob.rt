@@ -5,7 +5,7 @@ ghost use Rattle.lerc_header.specs.declared.header.Version.TheVariants.{V3};
 ghost use Rattle.lerc_header.specs.Head.{head_length};
 ghost use Rattle.lerc_header.specs.Written.{IsHeader, head_bytes};
 ghost use Rattle.lerc_encode.specs.Choice.{behind_head, checksum_of, choice, header_with};
-ghost use Rattle.lerc_encode.specs.Encoded.{IsAsked, IsEncodedOnce};
+ghost use Rattle.lerc_encode.specs.Encoded.{Declares, IsAsked, IsEncodedOnce};
 ghost use Rattle.lerc_encode.specs.inside.Choosing.{AreRanges, IsBase};
 ghost use Rattle.lerc_encode.specs.inside.Layout.{IsPlan, IsSealed};
 
@@ -85,7 +85,7 @@ fn plan_of(alloc: Global, raster: &Raster, version: Version, step: u64) -> Resul
     let mask = mask_of(alloc, raster)?;
     let base = base_header(raster, version, step, &ranges);
     let runs = runs_size(raster, &mask);
-    let ending = ending_of(&base, &ranges, raster);
+    let ending = ending_of(alloc, &base, &ranges, raster)?;
     Ok(Plan {
         base,
         ranges,
@@ -102,7 +102,7 @@ fn behind_len(plan: &Plan, raster: &Raster) -> usize
         ≡ length (behind_head raster.now plan.now.base.version plan.now.base.step) }
     ensures few { result ≤ 73924615 }
 {
-    4 + plan.runs + image_len(plan.ending, &plan.base, raster)
+    4 + plan.runs + image_len(&plan.ending, &plan.base, raster)
 }
 
 /// Writes what stands behind the head over all of `out`.
@@ -115,7 +115,7 @@ fn write_behind(plan: &Plan, raster: &Raster, out: &mut [u8])
     let front = (4 + plan.runs).min(out.len());
     write_mask(raster, &plan.mask, plan.runs, &mut out[..front]);
     write_image(
-        plan.ending,
+        &plan.ending,
         &plan.base,
         &plan.ranges,
         raster,
@@ -132,7 +132,7 @@ fn header_of(plan: &Plan, raster: &Raster, size: usize) -> Header
     ensures { result ≡ header_with raster.now plan.now.base.version plan.now.base.step 0 }
 {
     Header {
-        side: side_of(plan.ending, &plan.base, raster),
+        side: side_of(&plan.ending, &plan.base, raster),
         size: size as u32,
         ..plan.base
     }
@@ -229,6 +229,7 @@ pub fn encode(
     ensures chosen { IfOk result (λ blob. blob ≡ choice raster.now version step) }
     ensures few { IfOk result (λ blob. length blob ≤ 134217728) }
     ensures decodes { IfOk result (λ blob. IsEncodedOnce blob raster.now step) }
+    ensures declares { IfOk result (λ blob. Declares blob version step) }
 {
     let _rows = raster.rows();
     if needs_v4(version, raster) {

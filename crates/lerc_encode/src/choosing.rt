@@ -1,26 +1,30 @@
 // What is chosen for the image of a raster.
 
-ghost use Rattle.std.specs.Prelude.{◌≡◌, ◌&&◌};
+ghost use Rattle.std.specs.Prelude.{◌≡◌, ◌&&◌, IfOk};
 ghost use Rattle.lerc_encode.specs.Images.{is_v4};
 ghost use Rattle.lerc_encode.specs.Ranges as ranges;
 ghost use Rattle.lerc_encode.specs.inside.Choosing as inside;
 ghost use Rattle.lerc_encode.specs.inside.Choosing.{AreRanges, IsBase, IsChosen, IsEnding};
 
+use crate::codings::{Codings, coded_form_len, codings_of};
 use crate::first::first_least;
 use crate::forms::{ValueForm, block_form_len, sweep_len, with_large};
 use crate::ranging::Ranges;
 use lerc_header::{Header, Version};
 use raster_values::Raster;
+use std::alloc::{AllocError, Global};
 
-/// The form that is chosen for an image's values, and the number of its bytes.
-#[derive(Clone, Copy)]
+/// The form that is chosen for an image's values, and the number of its bytes; and the symbols of
+/// the values.
+#[derive(Drop)]
 pub(crate) struct Chosen {
     pub(crate) form: ValueForm,
     pub(crate) size: usize,
+    pub(crate) codings: Codings,
 }
 
 /// How an image ends.
-#[derive(Clone, Copy)]
+#[derive(Drop)]
 pub(crate) enum Ending {
     /// Before the lists: no pixel is valid, or all values are one.
     Bare,
@@ -37,25 +41,31 @@ fn form_at(place: usize) -> ValueForm
     match place {
         0 => ValueForm::Sweep,
         1 => ValueForm::SmallBlocks,
-        _ => ValueForm::LargeBlocks,
+        2 => ValueForm::LargeBlocks,
+        3 => ValueForm::Delta,
+        _ => ValueForm::Plain,
     }
 }
 
 /// The form with the fewest bytes, of several the first.
-fn choose(base: &Header, raster: &Raster) -> Chosen
+fn choose(alloc: Global, base: &Header, raster: &Raster) -> Result<Chosen, AllocError>
     requires { IsBase base.now raster.now }
-    ensures { IsChosen raster.now base.now.version base.now.step result }
+    ensures { IfOk result (IsChosen raster.now base.now.version base.now.step) }
 {
+    let codings = codings_of(alloc, raster, base.version, base.step)?;
     let sizes = [
         Some(sweep_len(raster)),
         Some(block_form_len(base, raster)),
         Some(block_form_len(&with_large(base), raster)),
+        coded_form_len(&codings.deltas),
+        coded_form_len(&codings.plains),
     ];
     let (place, size) = first_least(&sizes).unwrap_or((0, 0));
-    Chosen {
+    Ok(Chosen {
         form: form_at(place),
         size,
-    }
+        codings,
+    })
 }
 
 /// Whether no pixel is valid, or all values are one.
@@ -88,16 +98,21 @@ fn ends_behind_lists(version: Version, found: &Ranges, raster: &Raster) -> bool
 }
 
 /// How the image of a raster ends.
-pub(crate) fn ending_of(base: &Header, found: &Ranges, raster: &Raster) -> Ending
+pub(crate) fn ending_of(
+    alloc: Global,
+    base: &Header,
+    found: &Ranges,
+    raster: &Raster,
+) -> Result<Ending, AllocError>
     requires base { IsBase base.now raster.now }
     requires ranges { AreRanges raster.now found.now }
-    ensures { IsEnding raster.now base.now.version base.now.step result }
+    ensures { IfOk result (IsEnding raster.now base.now.version base.now.step) }
 {
     if is_bare(base, raster) {
-        return Ending::Bare;
+        return Ok(Ending::Bare);
     }
     if ends_behind_lists(base.version, found, raster) {
-        return Ending::Level;
+        return Ok(Ending::Level);
     }
-    Ending::Coded(choose(base, raster))
+    Ok(Ending::Coded(choose(alloc, base, raster)?))
 }

@@ -5,13 +5,14 @@ ghost use Rattle.raster_values.specs.PixelType.{InRange, bytes_of};
 ghost use Rattle.raster_values.specs.Grid.{values_bytes};
 ghost use Rattle.lerc_header.specs.declared.header.Version.TheVariants.{V4};
 ghost use Rattle.raster_values.specs.Raster.{values_of};
-ghost use Rattle.lerc_encode.specs.Images as images;
 ghost use Rattle.lerc_encode.specs.Images.{blocks_bytes, form_bytes, mode_bytes};
 ghost use Rattle.lerc_encode.specs.Ranges.{front_bytes};
 ghost use Rattle.lerc_encode.specs.inside.Blocked.{IsBlocked};
-ghost use Rattle.lerc_encode.specs.inside.Choosing.{AreRanges, IsBase, named};
+ghost use Rattle.lerc_encode.specs.inside.Choosing.{AreRanges, IsBase, IsChosen, named};
 
 use crate::blocks::{blocks_len, write_blocks};
+use crate::choosing::Chosen;
+use crate::codings::{has_mode, write_coded_form};
 use crate::ranging::Ranges;
 use lerc_header::{Header, Version};
 use raster_values::{PixelType, Raster};
@@ -25,6 +26,10 @@ pub(crate) enum ValueForm {
     SmallBlocks,
     /// Blocks of 16 rows and columns.
     LargeBlocks,
+    /// Differences in code words.
+    Delta,
+    /// Values in code words.
+    Plain,
 }
 
 /// The header with blocks of 16 rows and columns.
@@ -32,13 +37,6 @@ pub(crate) fn with_large(base: &Header) -> Header
     ensures { result ≡ record base.now { side = 16 } }
 {
     Header { side: 16, ..*base }
-}
-
-/// Whether a mode byte stands in front of blocks.
-fn has_mode(raster: &Raster, step: u64) -> bool
-    ensures { result ≡ images.has_mode raster.now step }
-{
-    raster.kind().bytes() == 1 && step == 1
 }
 
 /// How many bytes the sweep takes.
@@ -86,17 +84,21 @@ fn write_block_form(h: &Header, raster: &Raster, out: &mut [u8])
     }
 }
 
-/// Writes a form over all of `out`.
-pub(crate) fn write_form(form: ValueForm, base: &Header, raster: &Raster, out: &mut [u8])
+/// Writes the chosen form over all of `out`.
+pub(crate) fn write_form(chosen: &Chosen, base: &Header, raster: &Raster, out: &mut [u8])
     requires base { IsBase base.now raster.now }
-    requires room { length out.old
-        ≡ length (form_bytes raster.now base.now.version base.now.step (named form)) }
-    ensures { out.new ≡ form_bytes raster.now base.now.version base.now.step (named form) }
+    requires chosen { IsChosen raster.now base.now.version base.now.step chosen.now }
+    requires room { length out.old ≡ length (form_bytes raster.now base.now.version base.now.step
+        (named chosen.now.form)) }
+    ensures { out.new ≡ form_bytes raster.now base.now.version base.now.step
+        (named chosen.now.form) }
 {
-    match form {
+    match chosen.form {
         ValueForm::Sweep => write_sweep(raster, out),
         ValueForm::SmallBlocks => write_block_form(base, raster, out),
         ValueForm::LargeBlocks => write_block_form(&with_large(base), raster, out),
+        ValueForm::Delta => write_coded_form(1, &chosen.codings.deltas, out),
+        ValueForm::Plain => write_coded_form(2, &chosen.codings.plains, out),
     }
 }
 

@@ -11,9 +11,9 @@ use lerc_header::Header;
 use raster_values::Raster;
 
 /// The side of blocks that the header says.
-pub(crate) fn side_of(end: Ending, base: &Header, raster: &Raster) -> u32
+pub(crate) fn side_of(end: &Ending, base: &Header, raster: &Raster) -> u32
     requires base { IsBase base.now raster.now }
-    requires ending { IsEnding raster.now base.now.version base.now.step end }
+    requires ending { IsEnding raster.now base.now.version base.now.step end.now }
     ensures { result ≡ side_at (ending raster.now base.now.version base.now.step) }
 {
     match end {
@@ -26,9 +26,9 @@ pub(crate) fn side_of(end: Ending, base: &Header, raster: &Raster) -> u32
 }
 
 /// How many bytes the image takes.
-pub(crate) fn image_len(end: Ending, base: &Header, raster: &Raster) -> usize
+pub(crate) fn image_len(end: &Ending, base: &Header, raster: &Raster) -> usize
     requires base { IsBase base.now raster.now }
-    requires ending { IsEnding raster.now base.now.version base.now.step end }
+    requires ending { IsEnding raster.now base.now.version base.now.step end.now }
     ensures value { result ≡ length (image_bytes raster.now base.now.version base.now.step
         (ending raster.now base.now.version base.now.step)) }
     ensures few { result ≤ 67633153 }
@@ -42,7 +42,7 @@ pub(crate) fn image_len(end: Ending, base: &Header, raster: &Raster) -> usize
 
 /// Writes the image over all of `out`.
 pub(crate) fn write_image(
-    end: Ending,
+    end: &Ending,
     base: &Header,
     found: &Ranges,
     raster: &Raster,
@@ -50,7 +50,7 @@ pub(crate) fn write_image(
 )
     requires base { IsBase base.now raster.now }
     requires ranges { AreRanges raster.now found.now }
-    requires ending { IsEnding raster.now base.now.version base.now.step end }
+    requires ending { IsEnding raster.now base.now.version base.now.step end.now }
     requires room { length out.old ≡ length (image_bytes raster.now base.now.version base.now.step
         (ending raster.now base.now.version base.now.step)) }
     ensures { out.new ≡ image_bytes raster.now base.now.version base.now.step
@@ -62,7 +62,7 @@ pub(crate) fn write_image(
         Ending::Coded(chosen) => {
             let front = front_len(base.version, raster);
             write_front(base.version, found, raster, &mut out[..front]);
-            write_form(chosen.form, base, raster, &mut out[front..]);
+            write_form(chosen, base, raster, &mut out[front..]);
         }
     }
 }

@@ -4,6 +4,7 @@
 mod blob;
 mod blocks;
 mod choosing;
+mod codings;
 mod first;
 mod forms;
 mod images;
@@ -12,5 +13,7 @@ mod ranging;
 
 pub use blob::{EncodeFault, encode};
 
+#[cfg(test)]
+mod symbol_tests;
 #[cfg(test)]
 mod tests;

@@ -15,7 +15,12 @@ fn raster_of(alloc: Global, grid: &[u8]) -> Result<Raster, Fail> {
 }
 
 /// The blob of a grid.
-fn blob_of(alloc: Global, grid: &[u8], version: Version, error: u32) -> Result<Bytes, Fail> {
+pub(crate) fn blob_of(
+    alloc: Global,
+    grid: &[u8],
+    version: Version,
+    error: u32,
+) -> Result<Bytes, Fail> {
     let raster = raster_of(alloc, grid)?;
     Ok(encode(alloc, &raster, version, Step::of(error)).map_err(|_| "refused")?)
 }

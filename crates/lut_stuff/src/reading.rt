@@ -9,7 +9,9 @@ ghost use Rattle.lut_stuff.specs.Faults.{list_faults, table_faults};
 ghost use Rattle.lut_stuff.specs.Lists.{IsList, IsTabled};
 ghost use Rattle.lut_stuff.specs.inside.Indexes.{AreLookedUp, HasEntries, HasIndexes, IsBody};
 
-use bit_stuff::{ListFault, ListHead, ListReason, digit_count, read_head, stuffed_len, unstuff};
+use bit_stuff::{
+    ListFault, ListHead, ListReason, digit_count, read_head, stuffed_len, unstuff_front,
+};
 
 /// The answer with this fault.
 fn refused(reason: ListReason, at: usize) -> Result<usize, ListFault>
@@ -42,7 +44,7 @@ fn read_numbers(bytes: &[u8], width: u32, out: &mut [u32]) -> Result<usize, List
     if bytes.len() < used {
         return refused(ListReason::Cut, 0);
     }
-    unstuff(&bytes[..used], width, out);
+    unstuff_front(bytes, width, out);
     Ok(used)
 }
 

@@ -1,5 +1,5 @@
 -- Steps of reading a block.
-use Rattle.std.proofs.Common.{◌≡◌, ℕ, zero, suc, ℤ, pos, negsuc, ◌+◌, ◌*◌, ◌/◌, ◌%◌, ◌^◌, ◌<◌, ◌≤◌, ◌+ℤ◌, ◌*ℤ◌, ◌≤ℤ◌, List, [], ◌∷◌, ◌++◌, length, get_or, slice_index, take, drop, map, refl, sym, ap, ◌∙◌, subst, inl, inr, arith}
+use Rattle.std.proofs.Common.{◌≡◌, ℕ, zero, suc, ℤ, pos, negsuc, ◌+◌, ◌*◌, ◌/◌, ◌%◌, ◌<◌, ◌≤◌, ◌+ℤ◌, ◌*ℤ◌, ◌≤ℤ◌, List, [], ◌∷◌, ◌++◌, length, get_or, slice_index, take, drop, map, refl, sym, ap, ◌∙◌, subst, inl, inr, arith}
 use Rattle.std.specs.Prelude.{All, Result, Ok, Err, MatchResult, IfOk, ◌↔◌, Option, Some}
 use Rattle.std.specs.Int.{int_min}
 use Rattle.std.proofs.Math.Seq.{take-add}
@@ -16,7 +16,7 @@ use Rattle.raster_values.specs.PixelType.{InRange, Spells, bytes_of, value_of}
 use Rattle.raster_values.specs.Values.{AreValues}
 use Rattle.raster_values.proofs.Spelled.{value_fits}
 use Rattle.bit_stuff.proofs.Numbers.{bytes_drop}
-use Rattle.lane_kernels.specs.Kernels.{IsQuantised, IsSmall, capped_sums}
+use Rattle.lane_kernels.specs.Kernels.{IsSmall, capped_sums}
 use Rattle.lut_stuff.specs.Faults.{list_faults}
 use Rattle.micro_block.specs.declared.context.BlockFault.{BlockFault}
 use Rattle.micro_block.specs.declared.context.BlockReason.{BlockReason}
@@ -53,22 +53,17 @@ value_small U32 v h = (omega (arith, ints), omega (arith, ints))
 pub is_small : (kind : PixelType) (v : ℤ) → InRange kind v → IsSmall v
 is_small kind v h = let s = value_small kind v h in omega (arith, ints, s)
 
-pub wide_quantised : (qs : List ℕ) (wide : List ℤ) → wide ≡ map pos qs → All (λ q. q < 2 ^ 31) qs → All IsQuantised wide
-wide_quantised qs wide e below =
-    subst (λ (u : List ℤ). All IsQuantised u) (sym e)
-    (All-map IsQuantised pos qs (All-from_get_or (λ q. IsQuantised (pos q)) qs 0 (λ i lt. let b = below i 0 lt in (omega (arith, ints), omega (arith, ints, b)))))
-
-pub steps_values : (qs : List ℕ) (wide out : List ℤ) (offset far top : ℤ) (step : ℕ) → far ≡ pos step → wide ≡ map pos qs → out ≡ capped_sums wide offset far top → out ≡ map (stands_for step top offset) qs
-steps_values qs wide out offset far top step e w o =
-    o ∙ (λ i. capped_sums (w i) offset (e i) top) ∙ map-map (λ q. int_min (offset +ℤ q *ℤ pos step) top) pos qs
+pub steps_values : (qs : List ℕ) (out : List ℤ) (offset far top : ℤ) (step : ℕ) → far ≡ pos step → out ≡ capped_sums (map pos qs) offset far top → out ≡ map (stands_for step top offset) qs
+steps_values qs out offset far top step e o =
+    o ∙ (λ i. capped_sums (map pos qs) offset (e i) top) ∙ map-map (λ q. int_min (offset +ℤ q *ℤ pos step) top) pos qs
 
 pub step_small : (step : ℕ) → IsBlockStep step → (1 ≤ step) × (step ≤ 8589934590)
 step_small step (inl one) = (omega (arith, one), omega (arith, one))
 step_small step (inr even) = (omega (arith, even.1.0), even.1.1)
 
 -- the same, of numbers as the code reads them again
-pub steps_read : (qs : List ℕ) (wide out : List ℤ) (x far t offset top : ℤ) (step : ℕ) → x ≡ offset → far ≡ pos step → t ≡ top → wide ≡ map pos qs → out ≡ capped_sums wide x far t → out ≡ map (stands_for step top offset) qs
-steps_read qs wide out x far t offset top step ex ef et w o = steps_values qs wide out offset far top step ef w (o ∙ (λ i. capped_sums wide (ex i) far (et i)))
+pub steps_read : (qs : List ℕ) (out : List ℤ) (x far t offset top : ℤ) (step : ℕ) → x ≡ offset → far ≡ pos step → t ≡ top → out ≡ capped_sums (map pos qs) x far t → out ≡ map (stands_for step top offset) qs
+steps_read qs out x far t offset top step ex ef et o = steps_values qs out offset far top step ef (o ∙ (λ i. capped_sums (map pos qs) (ex i) far (et i)))
 
 -- ---- an offset and a list
 

@@ -16,7 +16,7 @@ ghost use Rattle.micro_block.specs.Frame.{IsBlockCtx, frame_of};
 ghost use Rattle.micro_block.specs.inside.Tagged.{HasConstant, HasSteps, HasStuffed, HasTagged};
 
 use crate::context::{BlockCtx, BlockFault, BlockReason};
-use lane_kernels::plus_capped;
+use lane_kernels::plus_capped_unsigned;
 use lut_stuff::read_list;
 use raster_values::PixelType;
 
@@ -99,16 +99,6 @@ fn read_constant(bytes: &[u8], kind: PixelType, out: &mut [i64]) -> Result<usize
     Ok(used)
 }
 
-/// Writes the same numbers with a sign.
-fn widen(qs: &[u32], out: &mut [i64])
-    requires { length out.old ≡ length qs.now }
-    ensures { out.new ≡ map pos qs.now }
-{
-    for (i, q) in qs.iter().enumerate() {
-        out[i] = i64::from(*q);
-    }
-}
-
 /// The same step with a sign.
 fn signed(step: u64) -> i64
     requires { step ≤ 8589934590 }
@@ -123,12 +113,10 @@ fn read_steps(
     ctx: &BlockCtx,
     offset: i64,
     qs: &mut [u32],
-    wide: &mut [i64],
     out: &mut [i64],
 ) -> Result<usize, BlockFault>
     requires few { length out.old ≤ 1024 }
     requires room { length qs.old ≡ length out.old }
-    requires wide { length wide.old ≡ length out.old }
     requires ctx { IsBlockCtx ctx.now }
     requires offset { IsSmall offset }
     ensures { MatchResult result
@@ -138,8 +126,7 @@ fn read_steps(
 {
     match read_list(bytes, qs) {
         Ok(used) => {
-            widen(qs, wide);
-            plus_capped(wide, offset, signed(ctx.step), ctx.top, out);
+            plus_capped_unsigned(qs, offset, signed(ctx.step), ctx.top, out);
             Ok(used)
         }
         Err(fault) => refused(BlockReason::List(fault.reason), fault.at),
@@ -152,12 +139,10 @@ fn read_stuffed(
     ctx: &BlockCtx,
     kind: PixelType,
     qs: &mut [u32],
-    wide: &mut [i64],
     out: &mut [i64],
 ) -> Result<usize, BlockFault>
     requires few { length out.old ≤ 1024 }
     requires room { length qs.old ≡ length out.old }
-    requires wide { length wide.old ≡ length out.old }
     requires ctx { IsBlockCtx ctx.now }
     ensures { MatchResult result
         (λ used. HasStuffed (frame_of ctx.now (length out.old)) kind bytes.now used out.new)
@@ -169,7 +154,7 @@ fn read_stuffed(
         return refused(BlockReason::Cut, 0);
     }
     let offset = kind.read_value(bytes);
-    behind(size, read_steps(&bytes[size..], ctx, offset, qs, wide, out))
+    behind(size, read_steps(&bytes[size..], ctx, offset, qs, out))
 }
 
 /// Reads what follows a tag of the stuffed form.
@@ -189,12 +174,13 @@ fn read_listed(
     let count = out.len();
     if count <= 64 {
         let mut qs = [0; 64];
-        let mut wide = [0; 64];
-        read_stuffed(bytes, ctx, kind, &mut qs[..count], &mut wide[..count], out)
+        read_stuffed(bytes, ctx, kind, &mut qs[..count], out)
+    } else if count <= 256 {
+        let mut qs = [0; 256];
+        read_stuffed(bytes, ctx, kind, &mut qs[..count], out)
     } else {
         let mut qs = [0; 1024];
-        let mut wide = [0; 1024];
-        read_stuffed(bytes, ctx, kind, &mut qs[..count], &mut wide[..count], out)
+        read_stuffed(bytes, ctx, kind, &mut qs[..count], out)
     }
 }
 

@@ -31,6 +31,6 @@ pub mod Revalued
 pub mod NumberedBlocks
 mod GivenBlocks
 pub mod GridLaws
-mod GridDecided
+pub mod GridDecided
 mod Repeats
 pub mod AllCells

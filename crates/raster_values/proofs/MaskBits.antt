@@ -7,7 +7,10 @@ use Rattle.std.proofs.lemmas.List.FromFn.{length-range_with_len, get_or-range_wi
 use Rattle.std.proofs.lemmas.List.Sums.{sum_by-set, sum_by-cons, count_by-le-length}
 use Rattle.std.proofs.lemmas.Bool.{cases_eq, cases_lt}
 use Rattle.std.proofs.lemmas.Bool.Decides.{nat_tests}
-use Rattle.std.proofs.lemmas.Nat.Bits.{bit_at_set_same, bit_at_set_other, bit_at_clear_same, bit_at_clear_other, bit_at_and, bit_at_mask_inside, bit_at_mask_below, bit_at-lt, bit_at-zero, bit_at_ones, ones_shl}
+use Rattle.std.proofs.lemmas.Nat.Bits.{bit_at_set_same, bit_at_set_other, bit_at_clear_same, bit_at_clear_other, bit_at_and, bit_at_not, bit_at_mask_inside, bit_at_mask_below, bit_at-lt, bit_at-zero, bit_at_ones, ones_shl, ones_shr}
+use Rattle.std.proofs.lemmas.Nat.{and_le_r, leading_le, leading_length}
+use Rattle.std.proofs.Math.Nat.{div-eq_of_lt, div-le_self, pow-le-pow_right}
+use lib.Count.{count_leading_zeros}
 use Rattle.std.specs.Prelude.{bit_and, bit_or, min}
 use Rattle.std.specs.Int.{bit_at}
 use mir.Syntax.{w8}
@@ -69,6 +72,31 @@ pub full_byte : (byte q : ℕ) → IsTrue (nat_eq byte 255) → q < 8 → byte_b
 full_byte byte q e within =
     let all : byte ≡ 255 = grind (arith, nat_tests) in
     ap (λ n. byte_bit n q) all ∙ ap (λ n. nat_eq n 1) (bit_at_ones 8 (7 - q) (omega arith))
+
+-- the bits before the first 1 of those from one of them on
+pub zeros_before : (byte from q : ℕ) → from < 8 → from ≤ q → q < count_leading_zeros 8 (bit_and byte (255 / 2 ^ from)) → byte_bit byte q ≡ false
+zeros_before byte from q at low below =
+    let rest = bit_and byte (255 / 2 ^ from) in
+    let full : 255 / 2 ^ from ≡ 2 ^ (8 - from) - 1 = ones_shr 8 from (omega (arith, at)) in
+    let small : rest < 2 ^ 8 = omega (arith, and_le_r byte (255 / 2 ^ from), div-le_self 255 (2 ^ from)) in
+    let top = leading_length 8 rest small in
+    let within : top.0 ≤ 7 - q = omega (arith, top.1, below) in
+    let longer : 2 ^ top.0 ≤ 2 ^ (7 - q) = pow-le-pow_right (omega arith) within in
+    let under : rest < 2 ^ (7 - q) = omega (arith, top.2, longer) in
+    let none : bit_at rest (7 - q) ≡ 0 = ap (λ n. n % 2) (div-eq_of_lt under) in
+    let inside : 7 - q < 8 - from = omega (arith, low, at, below, leading_le 8 rest) in
+    let one : bit_at (255 / 2 ^ from) (7 - q) ≡ 1 = ap (λ n. bit_at n (7 - q)) full ∙ bit_at_ones (8 - from) (7 - q) inside in
+    let gone : bit_at byte (7 - q) ≡ 0 = omega (arith, none, one, bit_at_and byte (255 / 2 ^ from) (7 - q), bit_at-lt byte (7 - q)) in
+    ap (λ n. nat_eq n 1) gone
+
+-- where a bit of the other byte is 0, it is 1
+pub other_bit : (byte q : ℕ) → byte < 256 → q < 8 → byte_bit (255 - byte) q ≡ false → byte_bit byte q ≡ true
+other_bit byte q small within zero_ =
+    let there : 7 - q < 8 = omega arith in
+    let turned : bit_at (255 - byte) (7 - q) ≡ 1 - bit_at byte (7 - q) = bit_at_not w8 byte (7 - q) small there in
+    let no : bit_at (255 - byte) (7 - q) ≢ 1 = λ e. absurd (let t : nat_eq (bit_at (255 - byte) (7 - q)) 1 ≡ true = grind (arith, nat_tests) in let bad : true ≡ false = sym t ∙ zero_ in cc) in
+    let set : bit_at byte (7 - q) ≡ 1 = omega (arith, turned, no, bit_at-lt byte (7 - q)) in
+    ap (λ n. nat_eq n 1) set
 
 -- ---- marks
 
@@ -216,9 +244,10 @@ run_counted a new marks read after_read from before after h within bits r s b e 
     count_after ms _ a.bytes.items new marks from a.valid before after within (bit_is a h) (λ k. bits k ∙ run_marks a.bytes.items ms marks from k within (bit_is a h)) refl h.counted
     (b ∙ ap (λ xs. length (filter (mask_bit xs) (range_with_len from n))) r) (e ∙ ap (λ xs. length (filter (mask_bit xs) (range_with_len from n))) s)
 
--- the marks that the bits of one byte say
-pub one_byte : (a : Inside) (ms : List Bool) (at k : ℕ) (byte : ℕ) (mark : Bool) → IsMask a → seen_mask a ≡ ms → at % 8 ≡ 0 → at ≤ k → k < at + 8 → byte ≡ get_or a.bytes.items (at / 8) 0
-    → ((q : ℕ) → q < 8 → byte_bit byte q ≡ mark) → get_or ms k false ≡ mark
-one_byte a ms at k byte mark h e even low high is full =
+-- the marks that the bits of one byte from one of them on say
+pub in_byte : (a : Inside) (ms : List Bool) (at k run byte : ℕ) (mark : Bool) → IsMask a → seen_mask a ≡ ms → at ≤ k → k < at + run → at % 8 + run ≤ 8 → byte ≡ get_or a.bytes.items (at / 8) 0
+    → ((q : ℕ) → at % 8 ≤ q → q < at % 8 + run → byte_bit byte q ≡ mark) → get_or ms k false ≡ mark
+in_byte a ms at k run byte mark h e low high one is equal =
     let here : k / 8 ≡ at / 8 = omega arith in
-    ap (λ (xs : List Bool). get_or xs k false) (sym e) ∙ sym (bit_is a h k) ∙ ap (λ i. byte_bit (get_or a.bytes.items i 0) (k % 8)) here ∙ ap (λ b. byte_bit b (k % 8)) (sym is) ∙ full (k % 8) (omega arith)
+    let bit : k % 8 ≡ at % 8 + (k - at) = omega arith in
+    ap (λ (xs : List Bool). get_or xs k false) (sym e) ∙ sym (bit_is a h k) ∙ ap (λ i. byte_bit (get_or a.bytes.items i 0) (k % 8)) here ∙ ap (λ b. byte_bit b (k % 8)) (sym is) ∙ equal (k % 8) (omega (arith, bit)) (omega (arith, bit, low, high))

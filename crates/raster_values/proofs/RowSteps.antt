@@ -1,12 +1,13 @@
 -- The loops over the rows of a block.
-use Rattle.std.proofs.Common.{◌≡◌, ℕ, ◌+◌, ◌-◌, ◌*◌, ◌<◌, ◌≤◌, zero, suc, Bool, List, [], ◌++◌, length, take, sym, ap, ◌∙◌, subst, arith, length-append}
+use Rattle.std.proofs.Common.{◌≡◌, ℕ, ◌+◌, ◌-◌, ◌*◌, ◌<◌, ◌≤◌, zero, suc, Bool, true, false, cond, List, [], ◌∷◌, ◌++◌, length, get_or, take, refl, sym, ap, ◌∙◌, subst, arith, length-append, ⊎_elim}
+use Rattle.std.proofs.lemmas.Bool.{cases_lt}
 use Rattle.std.specs.Prelude.{ℤ}
 use Rattle.std.specs.List.{flat_map, range_with_len}
 use Rattle.std.proofs.lemmas.List.{flat_map_more}
 use Rattle.std.proofs.Math.Nat.{mul-le-mul_left, mul-le-mul_right}
 use Rattle.raster_values.specs.inside.Runs.{run_places, run_values, rows_places, rows_values, Gathers, LeavesRun, LeavesRows}
 use Rattle.raster_values.proofs.Every.{every_range, same_flat_map}
-use Rattle.raster_values.proofs.RunSteps.{range_more, run_same, gathers_join}
+use Rattle.raster_values.proofs.RunSteps.{length_places, range_more, run_same, gathers_join}
 
 pub pieces_more : {Y : Type 0} (f : ℕ → List Y) (a n : ℕ) → flat_map f (range_with_len a (n + 1)) ≡ flat_map f (range_with_len a n) ++ f (a + n)
 pieces_more f a n = ap (flat_map f) (range_more a n) ∙ sym (flat_map_more f [] (range_with_len a n) (a + n))
@@ -76,3 +77,47 @@ leaves_more depth d marks old values new cols row col h wide before here = recor
       here.rest k e less (λ lo hi valid is. out (row + h) (omega arith) (omega arith) lo hi valid is)
       ∙ before.rest k e less (λ i from to lo hi valid is. out i from (omega arith) lo hi valid is);
 }
+
+-- so many rows have no more marked pixels than pixels
+rows_most : (marks : List Bool) (cols row col wide n : ℕ) → length (rows_places marks cols row col n wide) ≤ n * wide
+rows_most marks cols row col wide zero = omega arith
+rows_most marks cols row col wide (suc n) =
+    let f : ℕ → List ℕ = λ i. run_places marks (i * cols + col) wide in
+    let more : length (flat_map f (range_with_len row (suc n))) ≡ length (flat_map f (range_with_len row n)) + length (f (row + n)) =
+    ap (λ m. length (flat_map f (range_with_len row m))) (let e : suc n ≡ n + 1 = omega arith in e) ∙ ap length (pieces_more f row n) ∙ length-append (flat_map f (range_with_len row n)) (f (row + n)) in
+    omega (arith, more, rows_most marks cols row col wide n, length_places marks ((row + n) * cols + col) wide)
+
+-- so many rows behind others add no more either
+rows_rise : (marks : List Bool) (cols row col wide n more : ℕ) → length (rows_places marks cols row col (n + more) wide) ≤ length (rows_places marks cols row col n wide) + more * wide
+rows_rise marks cols row col wide n zero = subst (λ m. length (rows_places marks cols row col m wide) ≤ length (rows_places marks cols row col n wide) + 0 * wide) (let e : n ≡ n + 0 = omega arith in e) (omega arith)
+rows_rise marks cols row col wide n (suc more) =
+    let f : ℕ → List ℕ = λ i. run_places marks (i * cols + col) wide in
+    let last : length (rows_places marks cols row col (n + suc more) wide) ≡ length (rows_places marks cols row col (n + more) wide) + length (f (row + (n + more))) =
+    ap (λ m. length (flat_map f (range_with_len row m))) (let e : n + suc more ≡ n + more + 1 = omega arith in e) ∙ ap length (pieces_more f row (n + more)) ∙ length-append (flat_map f (range_with_len row (n + more))) (f (row + (n + more))) in
+    omega (arith, last, rows_rise marks cols row col wide n more, length_places marks ((row + (n + more)) * cols + col) wide)
+
+-- where all pixels of a block are marked, so are those of each row
+pub row_full : (marks : List Bool) (cols row col high wide h : ℕ) → length (rows_places marks cols row col high wide) ≡ high * wide → h < high → length (run_places marks ((row + h) * cols + col) wide) ≡ wide
+row_full marks cols row col high wide h all below =
+    let f : ℕ → List ℕ = λ i. run_places marks (i * cols + col) wide in
+    let more = high - h - 1 in
+    let split : h + 1 + more ≡ high = omega arith in
+    let rise : length (rows_places marks cols row col high wide) ≤ length (rows_places marks cols row col (h + 1) wide) + more * wide =
+    subst (λ m. length (rows_places marks cols row col m wide) ≤ length (rows_places marks cols row col (h + 1) wide) + more * wide) split (rows_rise marks cols row col wide (h + 1) more) in
+    let here : length (rows_places marks cols row col (h + 1) wide) ≡ length (rows_places marks cols row col h wide) + length (f (row + h)) = ap length (pieces_more f row h) ∙ length-append (flat_map f (range_with_len row h)) (f (row + h)) in
+    let area : high * wide ≡ h * wide + wide + more * wide = ap (λ m. m * wide) (sym split) ∙ omega arith in
+    omega (arith, all, rise, here, area, rows_most marks cols row col wide h, length_places marks ((row + h) * cols + col) wide)
+
+-- and each pixel of a row of which all are marked is
+pub all_marked : (marks : List Bool) (from n : ℕ) → length (run_places marks from n) ≡ n → (k : ℕ) → from ≤ k → k < from + n → get_or marks k false ≡ true
+all_marked marks from zero full k low high = absurd (omega arith)
+all_marked marks from (suc n) full k low high =
+    first (get_or marks from false) refl full (λ rest lt. all_marked marks (from + 1) n rest k (omega (arith, lt)) (omega (arith, high)))
+  where
+    first : (b : Bool) → get_or marks from false ≡ b → length (cond b (from ∷ run_places marks (from + 1) n) (run_places marks (from + 1) n)) ≡ suc n
+        → (length (run_places marks (from + 1) n) ≡ n → from < k → get_or marks k false ≡ true) → get_or marks k false ≡ true
+    first true e size later = ⊎_elim
+        (λ (lt : from < k). later (omega (arith, size)) lt)
+        (λ (ge : k ≤ from). let same : from ≡ k = omega arith in subst (λ (j : ℕ). get_or marks j false ≡ true) same e)
+        (cases_lt from k)
+    first false e size later = absurd (let no : ⊥ = omega (arith, size, length_places marks (from + 1) n) in no)

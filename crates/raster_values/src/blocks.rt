@@ -1,11 +1,11 @@
 // Blocks of the mask and the values of a raster: `high` rows of `wide` pixels from (row, col) on.
 
-ghost use Rattle.std.specs.Prelude.{◌≡◌, ℕ, ◌+◌, ◌*◌, ◌<◌, ◌≤◌, length, take, drop, All, ◌++◌};
+ghost use Rattle.std.specs.Prelude.{◌≡◌, ℕ, ◌+◌, ◌*◌, ◌<◌, ◌≤◌, Bool, true, false, length, get_or, take, drop, All, ◌++◌};
 ghost use Rattle.raster_values.specs.PixelType.{InRange};
-ghost use Rattle.raster_values.specs.inside.Runs.{run_places, run_values, rows_places, rows_values, Gathers, LeavesRun, LeavesRows};
+ghost use Rattle.raster_values.specs.inside.Runs.{AreRuns, run_places, run_values, rows_places, rows_values, Gathers, LeavesRun, LeavesRows};
 
 use super::cells::Cells;
-use super::mask::Mask;
+use super::mask::{Mask, Run};
 
 /// Puts the values of the marked pixels among `count` from `from` on behind the first `at` values
 /// of `out`, and answers where they end.
@@ -40,14 +40,35 @@ fn gather_run(
     n
 }
 
-/// Gives the marked pixels among `count` from `from` on the values of `input` from `at` on, and
-/// answers where these end.
+/// The next run of marked pixels, as `next_run` has it, which is not looked for where it is known
+/// that all are marked.
+fn run_from(marks: &Mask, at: usize, limit: usize, all: bool) -> Run
+    requires order { at ≤ limit }
+    requires within { limit ≤ length marks.now }
+    requires all { all ≡ true → (k : ℕ) → at ≤ k → k < limit → get_or marks.now k false ≡ true }
+    ensures runs { AreRuns marks.now at result.start result.end }
+    ensures within { result.end ≤ limit }
+    ensures forth { at < limit → at < result.end }
+{
+    if all {
+        Run {
+            start: at,
+            end: limit,
+        }
+    } else {
+        marks.next_run(at, limit)
+    }
+}
+
+/// Gives the marked pixels among `count` from `from` on, which are all of these where `all` says
+/// so, the values of `input` from `at` on, and answers where these end.
 fn pour_run(
     marks: &Mask,
     depth: usize,
     d: usize,
     from: usize,
     count: usize,
+    all: bool,
     input: &[i64],
     at: usize,
     values: &mut Cells,
@@ -56,6 +77,8 @@ fn pour_run(
     requires few { length values.old.values ≤ 16777216 }
     requires within { from + count ≤ length marks.now }
     requires depth { d < depth }
+    requires all { all ≡ true → (k : ℕ) → from ≤ k → k < from + count
+        → get_or marks.now k false ≡ true }
     requires in_range { All (InRange values.old.kind) input.now }
     requires room { at + length (run_places marks.now from count) ≤ length input.now }
     ensures end { result ≡ at + length (run_places marks.now from count) }
@@ -71,7 +94,7 @@ fn pour_run(
     let mut n = at;
     let mut k = from;
     while k < end {
-        let run = marks.next_run(k, end);
+        let run = run_from(marks, k, end, all);
         let next = n + (run.end - run.start);
         values.put_pixels(run.start, depth, d, &input[n..next]);
         n = next;
@@ -163,8 +186,9 @@ pub(super) fn pour_rows(
     ensures size { length values.new.values ≡ length values.old.values }
     ensures rest { LeavesRows depth d marks.now cols row col high wide values.old.values values.new.values }
 {
+    let all = input.len() == high * wide;
     let mut n = 0;
     for i in row..row + high {
-        n = pour_run(marks, depth, d, i * cols + col, wide, input, n, values);
+        n = pour_run(marks, depth, d, i * cols + col, wide, all, input, n, values);
     }
 }

@@ -47,6 +47,30 @@ fn is_full(byte: u8, mark: bool) -> bool
     if mark { byte == 255 } else { byte == 0 }
 }
 
+/// How many bits of a byte from `from` on are 0 before one that is not, the bits counted from the
+/// highest.
+fn zeros_from(byte: u8, from: usize) -> usize
+    requires { from < 8 }
+    ensures within { from + result ≤ 8 }
+    ensures zeros { (q : ℕ) → from ≤ q → q < from + result → byte_bit byte q ≡ false }
+{
+    let rest = byte & (255u8 >> from);
+    (rest.leading_zeros() as usize).saturating_sub(from)
+}
+
+/// How many bits of a byte from `from` on are `mark` before one that is not.
+fn equal_from(byte: u8, from: usize, mark: bool) -> usize
+    requires { from < 8 }
+    ensures within { from + result ≤ 8 }
+    ensures equal { (q : ℕ) → from ≤ q → q < from + result → byte_bit byte q ≡ mark }
+{
+    if mark {
+        zeros_from(!byte, from)
+    } else {
+        zeros_from(byte, from)
+    }
+}
+
 /// The byte with a bit set or cleared, its bits counted from the highest.
 fn with_bit(byte: u8, place: usize, mark: bool) -> u8
     requires { place < 8 }
@@ -312,10 +336,11 @@ impl Mask {
         ensures within { result ≤ limit }
         ensures run { (k : ℕ) → at ≤ k → k < result → get_or self.now k false ≡ mark }
     {
-        if at % 8 == 0 && is_full(self.bytes[at / 8], mark) {
+        let byte = self.bytes[at / 8];
+        if at % 8 == 0 && is_full(byte, mark) {
             return limit.min(at + 8);
         }
-        at + 1
+        limit.min(at + equal_from(byte, at % 8, mark).max(1))
     }
 
     /// Where the run of equal marks from `at` on ends, which is looked for before `limit`.

@@ -1,2 +1,4 @@
-mod Streams
-mod Tiles
+pub mod Decided
+mod Sizes
+pub mod Streams
+pub mod Tiles

@@ -1,14 +1,78 @@
 -- Streams.
-use Rattle.std.proofs.Common.{◌≡◌, ℕ, ◌≤◌, suc, List, [], ◌∷◌, ◌++◌, length, refl, sym, ap, ◌∙◌, arith, length-append}
+use Rattle.std.proofs.Common.{◌≡◌, ℕ, ◌≤◌, suc, List, [], ◌∷◌, ◌++◌, length, refl, sym, ap, ◌∙◌, arith, append_assoc, length-append}
+use Rattle.std.proofs.lemmas.List.{append-nil}
 use Rattle.first_fault.specs.Faults.{Numbered}
 use Rattle.first_fault.proofs.Parts.{same_rest}
 use Rattle.tile_stream.specs.declared.tile.Tile.{Tile}
-use Rattle.tile_stream.specs.Stream.{StreamsHaveOneList}
+use Rattle.tile_stream.specs.Stream.{IsStream, StreamsHaveOneList}
 use Rattle.tile_stream.specs.Tile.{IsTile}
 use Rattle.tile_stream.proofs.Tiles.{tile_part}
 
-tile_long : (bytes : List ℕ) (t : Tile) → IsTile bytes t → 3 ≤ length bytes
+pub tile_long : (bytes : List ℕ) (t : Tile) → IsTile bytes t → 3 ≤ length bytes
 tile_long bytes t is = let size : length bytes ≡ length (is.head ++ is.grid) = ap length is.joined in omega (arith, length-append is.head is.grid, is.head_is.size)
+
+-- ---- one tile more
+
+pushed : (k : ℕ) (a b : List ℕ) (tiles : List Tile) (t : Tile) → Numbered (λ k. IsTile) k a tiles → IsTile b t → Numbered (λ k. IsTile) k (a ++ b) (tiles ++ t ∷ [])
+pushed k a b [] t is tile = (b, ([], (ap (λ (u : List ℕ). u ++ b) is ∙ sym (append-nil b), (tile, refl))))
+pushed k a b (x ∷ xs) t (front, (rest, (joined, (stands, more)))) tile = (front, (rest ++ b, (ap (λ (u : List ℕ). u ++ b) joined ∙ append_assoc front rest b, (stands, pushed (suc k) rest b xs t more tile))))
+
+pub stream_push : (bytes more : List ℕ) (tiles : List Tile) (t : Tile) → IsStream bytes tiles → IsTile more t → IsStream (bytes ++ more) (tiles ++ t ∷ [])
+stream_push bytes more tiles t is tile = pushed 0 bytes more tiles t is tile
+
+-- ---- two streams in front of the same bytes
+
+-- the numbers of the tiles say nothing
+renumbered : (k j : ℕ) (bytes : List ℕ) (tiles : List Tile) → Numbered (λ k. IsTile) k bytes tiles → Numbered (λ k. IsTile) j bytes tiles
+renumbered k j bytes [] is = is
+renumbered k j bytes (t ∷ ts) (front, (rest, (joined, (tile, more)))) = (front, (rest, (joined, (tile, renumbered (suc k) (suc j) rest ts more))))
+
+-- the longer stream goes on behind the shorter one
+pub record GoesOn (front rest other behind : List ℕ) (tiles others : List Tile) : Type 0 where
+  pub later : List Tile
+  pub middle : List ℕ
+  pub tiles_are : others ≡ tiles ++ later
+  pub bytes_are : other ≡ front ++ middle
+  pub rest_is : rest ≡ middle ++ behind
+  pub stream : IsStream middle later
+
+next_joins : (front rest other behind f r g q : List ℕ) → front ≡ f ++ r → other ≡ g ++ q → front ++ rest ≡ other ++ behind → f ++ (r ++ rest) ≡ g ++ (q ++ behind)
+next_joins front rest other behind f r g q one two e =
+    let left : f ++ (r ++ rest) ≡ front ++ rest = sym (append_assoc f r rest) ∙ ap (λ (u : List ℕ). u ++ rest) (sym one) in
+    let right : other ++ behind ≡ g ++ (q ++ behind) = ap (λ (u : List ℕ). u ++ behind) two ∙ append_assoc g q behind in
+    left ∙ e ∙ right
+
+joined_on : (front other f r g q middle : List ℕ) → front ≡ f ++ r → other ≡ g ++ q → f ≡ g → q ≡ r ++ middle → other ≡ front ++ middle
+joined_on front other f r g q middle one two same more =
+    let parts : g ++ q ≡ f ++ (r ++ middle) = λ i. sym same i ++ more i in
+    let back : f ++ (r ++ middle) ≡ front ++ middle = sym (append_assoc f r middle) ∙ ap (λ (u : List ℕ). u ++ middle) (sym one) in
+    two ∙ parts ∙ back
+
+pub goes_on : (front rest other behind : List ℕ) (tiles others : List Tile) → IsStream front tiles → IsStream other others → front ++ rest ≡ other ++ behind → length tiles ≤ length others
+    → GoesOn front rest other behind tiles others
+goes_on front rest other behind [] others is its e fewer = record {
+  later = others;
+  middle = other;
+  tiles_are = refl;
+  bytes_are = ap (λ (u : List ℕ). u ++ other) (sym is);
+  rest_is = ap (λ (u : List ℕ). u ++ rest) (sym is) ∙ e;
+  stream = its;
+}
+goes_on front rest other behind (t ∷ ts) [] is its e fewer = absurd (omega (arith, fewer))
+goes_on front rest other behind (t ∷ ts) (s ∷ ss) (f, (r, (joined, (tile, more)))) (g, (q, (joined', (tile', more')))) e fewer =
+    let joins = next_joins front rest other behind f r g q joined joined' e in
+    let first = tile_part.once f g (r ++ rest) (q ++ behind) t s tile tile' joins in
+    let on = goes_on r rest q behind ts ss (renumbered 1 0 r ts more) (renumbered 1 0 q ss more') (same_rest f g (r ++ rest) (q ++ behind) first.0 joins) (omega (arith, fewer)) in
+    record {
+      later = on.later;
+      middle = on.middle;
+      tiles_are = λ i. sym first.1 i ∷ on.tiles_are i;
+      bytes_are = joined_on front other f r g q on.middle joined joined' first.0 on.bytes_are;
+      rest_is = on.rest_is;
+      stream = on.stream;
+    }
+
+-- ---- one list
 
 no_more : (a front rest : List ℕ) (t : Tile) → a ≡ [] → a ≡ front ++ rest → IsTile front t → ⊥
 no_more a front rest t empty joined is =

@@ -2,7 +2,7 @@
 -- from the first of the bytes.
 use Rattle.std.specs.Prelude.{◌≡◌, ℕ, ◌+◌, ◌*◌, ◌<◌, ◌≤◌, List, [], ◌++◌, length, get_or, take, Option, None, Some, Result, Ok, Err}
 use Rattle.first_fault.specs.Faults.{Faults, none, wrong, unless, moved, in_order}
-use Rattle.first_fault.specs.Parts.{IsPart}
+use Rattle.first_fault.specs.Parts.{IsPart, IsDecided}
 use Rattle.outside_io.specs.streams.Faults.{FailedBetween}
 use Rattle.raster_values.specs.ReadGrid.{IsGrid, TookBytes, grid_faults}
 use Rattle.raster_values.specs.declared.reading.GridReason.{GridReason}
@@ -94,3 +94,7 @@ CountsTileStop (Err OutOfMemory) old new = new ≡ old
 -- there is one first fault.
 abbrev pub TilesAreParts : Type 0
 TilesAreParts = IsPart IsTile tile_faults
+
+-- bytes begin with a tile or have a first fault
+abbrev pub TilesAreDecided : Type 0
+TilesAreDecided = IsDecided IsTile tile_faults

@@ -1,6 +1,6 @@
 ghost use Rattle.std.specs.Prelude.{◌≡◌, ℕ, ◌+◌, ◌^◌, ◌<◌, ◌≤◌, List, None, Some, IfOk, IfErr, OnErr, MatchResult, length};
 ghost use Rattle.raster_values.specs.ReadGrid.{TookSome};
-ghost use Rattle.tile_stream.specs.Tile.{CountsTileStop, IsTileHead, IsToldStop, TookTile, mark_faults, stop_of};
+ghost use Rattle.tile_stream.specs.Tile.{CountsTileStop, IsTile, IsTileHead, IsToldStop, TookTile, mark_faults, stop_of};
 
 use bundle_index::Slot;
 use outside_io::{Failed, Source, take_all};
@@ -12,6 +12,19 @@ use std::alloc::Global;
 pub struct Tile {
     pub slot: Slot,
     pub raster: Raster,
+}
+
+impl Tile {
+    /// How many bytes the tile has in a stream.
+    pub fn size(&self) -> u64
+        ensures size { (bytes : List ℕ) → IsTile bytes self.now → result ≡ length bytes }
+        ensures few { result ≤ 83886100 }
+    {
+        let raster = &self.raster;
+        let places = raster.rows() as u64 * raster.cols() as u64;
+        let values = raster.valid_count() as u64 * raster.depth() as u64;
+        20 + places + values * raster.kind().bytes() as u64
+    }
 }
 
 /// Why bytes do not begin with a tile.

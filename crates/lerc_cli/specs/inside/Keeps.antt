@@ -5,7 +5,7 @@ use Rattle.raster_values.specs.Raster.{Pixels}
 use Rattle.lerc_decode.specs.declared.decoder.DecodeFault.{DecodeFault}
 use Rattle.lerc_decode.specs.declared.decoder.DecodeFault.TheVariants.{Blob as BlobOf, OutOfMemory as NoMemoryOf}
 use Rattle.lerc_decode.specs.declared.from_source.FromFault.{FromFault}
-use Rattle.lerc_decode.specs.declared.from_source.FromFault.TheVariants.{Blob, Source, OutOfMemory}
+use Rattle.lerc_decode.specs.declared.from_source.FromFault.TheVariants.{Blob, OutOfMemory}
 use Rattle.lerc_decode.specs.FromSource.{IsSized}
 use Rattle.lerc_decode.specs.inside.Feeding.{Joins}
 use Rattle.lerc_cli.specs.declared.stop.Stop.{Stop}

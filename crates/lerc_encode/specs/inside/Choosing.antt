@@ -7,10 +7,11 @@ use Rattle.lerc_header.specs.declared.header.Version.TheVariants.{V3}
 use Rattle.lerc_header.specs.Head.{IsTwiceError}
 use Rattle.lerc_encode.specs.Heads.{header_of}
 use Rattle.lerc_encode.specs.Ranges.{leasts, greatests}
+use Rattle.lerc_encode.specs.inside.Coded.{AreCodings}
 use Rattle.lerc_encode.specs.Images as images
 use Rattle.lerc_encode.specs.Images.{Form, chosen_form, form_bytes, ending}
 use Rattle.lerc_encode.specs.declared.forms.ValueForm.{ValueForm}
-use Rattle.lerc_encode.specs.declared.forms.ValueForm.TheVariants.{Sweep, SmallBlocks, LargeBlocks}
+use Rattle.lerc_encode.specs.declared.forms.ValueForm.TheVariants.{Sweep, SmallBlocks, LargeBlocks, Delta, Plain}
 use Rattle.lerc_encode.specs.declared.choosing.Chosen.{Chosen}
 use Rattle.lerc_encode.specs.declared.choosing.Ending.{Ending}
 use Rattle.lerc_encode.specs.declared.choosing.Ending.TheVariants.{Bare, Level, Coded}
@@ -21,11 +22,14 @@ abbrev pub named : ValueForm → Form
 named Sweep = images.sweep
 named SmallBlocks = images.blocks_8
 named LargeBlocks = images.blocks_16
+named Delta = images.delta
+named Plain = images.plain
 
 -- the form at a place in their order
 abbrev pub form_at : ℕ → ValueForm
 form_at place =
-    if nat_eq place 0 then Sweep else (if nat_eq place 1 then SmallBlocks else LargeBlocks)
+    if nat_eq place 0 then Sweep else (if nat_eq place 1 then SmallBlocks
+    else (if nat_eq place 2 then LargeBlocks else (if nat_eq place 3 then Delta else Plain)))
 
 -- the header of a raster's blob as far as it is known before the blob is laid out, with side 8
 pub record IsBase (h : Header) (r : Pixels) : Type 0 where
@@ -34,11 +38,12 @@ pub record IsBase (h : Header) (r : Pixels) : Type 0 where
   pub flat : h.version ≡ V3 → r.depth ≡ 1
   pub is : h ≡ header_of r h.version h.step 8 0 0
 
--- the form that is chosen, and the number of its bytes
+-- the form that is chosen, the number of its bytes, and the symbols
 pub record IsChosen (r : Pixels) (version : Version) (step : ℕ) (c : Chosen) : Type 0 where
   pub form : named c.form ≡ chosen_form r version step
   pub size : c.size ≡ length (form_bytes r version step (chosen_form r version step))
   pub few : c.size ≤ 67108865
+  pub codings_are : AreCodings r version step c.codings
 
 -- the lists of the least and the greatest values
 pub record AreRanges (r : Pixels) (ranges : Ranges) : Type 0 where

@@ -18,5 +18,5 @@ returns c =
     let sum : to_z w64 (of_z w64 (to_z w64 (of_z w64 c.args.value) -ℤ to_z w64 (of_z w64 c.args.predictor))) +ℤ to_z w64 (of_z w64 c.args.bias) ≡ (c.args.value -ℤ c.args.predictor) +ℤ c.args.bias = λ i. d i +ℤ b i in
     let y = ap (λ z. to_z w64 (of_z w64 z)) sum
     ∙ kept ((c.args.value -ℤ c.args.predictor) +ℤ c.args.bias) (omega (arith, ints, h.value.0, h.predictor.1, h.bias.0)) (omega (arith, ints, h.value.1, h.predictor.0, h.bias.1)) in
-    let r = kept c.rem_euclid.result (omega (arith, ints, c.rem_euclid.ensures.lower_bound, c.rem_euclid.ensures.upper_bound)) (omega (arith, ints, c.rem_euclid.ensures.lower_bound, c.rem_euclid.ensures.upper_bound)) in
-    ap unsigned_abs (r ∙ c.rem_euclid.ensures.value ∙ ap (λ z. int_rem_euclid z (pos 256)) y)
+    let r = kept c.modulo_256.result (omega (arith, ints, c.modulo_256.ensures.lower_bound, c.modulo_256.ensures.upper_bound)) (omega (arith, ints, c.modulo_256.ensures.lower_bound, c.modulo_256.ensures.upper_bound)) in
+    ap unsigned_abs (r ∙ c.modulo_256.ensures.value ∙ ap (λ z. int_rem_euclid z (pos 256)) y)

@@ -14,8 +14,8 @@ returns-clause-symbol c =
     let from : to_z w64 (of_z w64 c.from.result) ≡ pos s = ap (λ z. to_z w64 (of_z w64 z)) c.from.ensures ∙ kept (pos s) (omega arith) (omega (arith, ints, lt)) in
     let sum : to_z w64 (of_z w64 c.from.result) +ℤ to_z w64 (of_z w64 c.args.predictor) ≡ pos s +ℤ c.args.predictor = λ i. from i +ℤ p i in
     let y = ap (λ z. to_z w64 (of_z w64 z)) sum ∙ kept (pos s +ℤ c.args.predictor) (omega (arith, ints, c.requires.predictor.0, lt)) (omega (arith, ints, c.requires.predictor.1, lt)) in
-    let r = kept c.rem_euclid.result (omega (arith, ints, c.rem_euclid.ensures.lower_bound, c.rem_euclid.ensures.upper_bound)) (omega (arith, ints, c.rem_euclid.ensures.lower_bound, c.rem_euclid.ensures.upper_bound)) in
-    let less : to_z w64 (of_z w64 c.rem_euclid.result) -ℤ to_z w64 (of_z w64 c.args.bias) ≡ c.rem_euclid.result -ℤ c.args.bias = λ i. r i -ℤ b i in
+    let r = kept c.modulo_256.result (omega (arith, ints, c.modulo_256.ensures.lower_bound, c.modulo_256.ensures.upper_bound)) (omega (arith, ints, c.modulo_256.ensures.lower_bound, c.modulo_256.ensures.upper_bound)) in
+    let less : to_z w64 (of_z w64 c.modulo_256.result) -ℤ to_z w64 (of_z w64 c.args.bias) ≡ c.modulo_256.result -ℤ c.args.bias = λ i. r i -ℤ b i in
     let z = ap (λ z. to_z w64 (of_z w64 z)) less
-    ∙ kept (c.rem_euclid.result -ℤ c.args.bias) (omega (arith, ints, c.rem_euclid.ensures.lower_bound, c.rem_euclid.ensures.upper_bound, c.requires.bias.1)) (omega (arith, ints, c.rem_euclid.ensures.lower_bound, c.rem_euclid.ensures.upper_bound, c.requires.bias.0)) in
-    value_bits c.args.bias c.args.predictor c.rem_euclid.result _ _ s lt c.requires.bias c.requires.predictor c.rem_euclid.ensures.value y z
+    ∙ kept (c.modulo_256.result -ℤ c.args.bias) (omega (arith, ints, c.modulo_256.ensures.lower_bound, c.modulo_256.ensures.upper_bound, c.requires.bias.1)) (omega (arith, ints, c.modulo_256.ensures.lower_bound, c.modulo_256.ensures.upper_bound, c.requires.bias.0)) in
+    value_bits c.args.bias c.args.predictor c.modulo_256.result _ _ s lt c.requires.bias c.requires.predictor c.modulo_256.ensures.value y z

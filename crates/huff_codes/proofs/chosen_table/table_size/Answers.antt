@@ -1,4 +1,4 @@
-use Rattle.std.proofs.Common.{rules, ◌≡◌, ℕ, List, ◌+◌, ◌*◌, ◌/◌, ◌<◌, length, ap, ◌∙◌, subst, arith}
+use Rattle.std.proofs.Common.{rules, ◌≡◌, ℕ, List, ◌+◌, ◌*◌, ◌/◌, ◌<◌, ◌≤◌, length, ap, ◌∙◌, subst, arith}
 use Rattle.std.specs.Prelude.{sum}
 use Rattle.bit_stuff.specs.Simple.{simple_bytes}
 use Rattle.huff_codes.specs.Written.{IsShortestRun, run_lengths}
@@ -27,8 +27,16 @@ overflow_add-result-3 c =
     let fits : 16 + c.simple_len.result + (c.bit_count.result + 31) / 32 * 4 < 18446744073709551616 = omega (arith, c.simple_len.ensures, short, c.bit_count.ensures, few) in
     search rules
 
-pub returns : goal.returns
-returns c =
+pub returns-clause-few : goal.returns-clause-few
+returns-clause-few c =
+    let long = ap length c.list_lengths.ensures.is ∙ run_long c.all-2.result.now c.shortest_run-run.result in
+    let within : length c.list_lengths.new.out ≤ 256 = omega (arith, long, c.shortest_run-run.ensures.within) in
+    let short = list_short c.list_lengths.new.out within c.list_lengths.ensures.low in
+    let few = sum_short c.list_lengths.new.out within c.list_lengths.ensures.low in
+    omega (arith, c.simple_len.ensures, short, c.bit_count.ensures, few)
+
+pub returns-clause-size : goal.returns-clause-size
+returns-clause-size c =
     let list = c.list_lengths.new.out in
     let run = c.shortest_run-run.result in
     let is : list ≡ run_lengths c.args.lengths.now run = c.list_lengths.ensures.is ∙ ap (λ (l : List ℕ). run_lengths l run) c.all-2.ensures.is in

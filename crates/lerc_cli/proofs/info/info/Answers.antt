@@ -1,6 +1,7 @@
-use Rattle.std.proofs.Common.{refl}
+use Rattle.std.proofs.Common.{refl, rules}
 use Rattle.lerc_cli.proofs.WholeReads.{stopped_lines}
-use Rattle.lerc_cli.proofs.ToldLines.{cut_lines, gave_lines, source_read}
+use Rattle.lerc_cli.proofs.Outputs.{source_read}
+use Rattle.lerc_cli.proofs.ToldLines.{cut_lines, gave_lines}
 use Rattle.lerc_cli.proofs.info.info.Goals as goal
 
 pub returns-in-Err-clause-output : goal.returns-in-Err-clause-output
@@ -12,7 +13,7 @@ returns-in-Ok-give_outline-clause-output g c = λ files.
 
 pub returns-clause-source : goal.returns-clause-source
 returns-clause-source g c =
-    source_read _ _ _ _ _ _ _ (λ e. absurd cc) (λ e. absurd cc) c.in-Ok.ensures.source c.in-Ok.ensures.taken c.in-Ok.ensures.end
+    source_read _ _ _ _ _ _ _ _ (search rules) (λ e. absurd cc) (λ e. absurd cc) c.in-Ok.ensures.source c.in-Ok.ensures.taken c.in-Ok.ensures.end
 
 pub returns-clause-output : goal.returns-clause-output
 returns-clause-output g c = λ files.

@@ -1,9 +1,11 @@
-use Rattle.std.proofs.Common.{ap, sym, ◌∙◌, rules}
+use Rattle.std.proofs.Common.{ap, refl, sym, ◌∙◌, rules}
 use Rattle.lerc_cli.specs.Stop.{status_at}
-use Rattle.lerc_cli.specs.declared.command.Command.TheVariants.{Decode, Info}
+use Rattle.lerc_cli.specs.declared.command.Command.TheVariants.{Encode, Decode, Info}
+use Rattle.lerc_cli.proofs.Encoding.{encoded_exactly}
 use Rattle.lerc_cli.proofs.Ends.{ok_at, output_status, some_status, source_status, unsaid, usage_said, usage_status, volume_status}
-use Rattle.lerc_cli.proofs.Exact.{complete, cut_short, decoded, exact, nothing_given, refused, wanted}
-use Rattle.lerc_cli.proofs.Informed.{informed, informed_exactly, not_informed}
+use Rattle.lerc_cli.proofs.Exact.{complete, cut_short, decoded, exact, refused, wanted}
+use Rattle.lerc_cli.proofs.Informed.{informed, informed_exactly}
+use Rattle.lerc_cli.proofs.Outputs.{nothing_given, on_ok}
 use Rattle.lerc_cli.proofs.run.run.Goals as goal
 
 pub returns-clause-usage : goal.returns-clause-usage
@@ -52,6 +54,20 @@ returns-clause-usage_line g c = λ one. usage_said _ _ _ _ _ _ (usage_status _ _
 pub returns-clause-no_line : goal.returns-clause-no_line
 returns-clause-no_line g c = λ zero. unsaid _ _ _ _ _ _ (ok_at _ (sym c.ended_status-status.ensures.status ∙ zero)) c.ended_status-status.ensures.line
 
+pub returns-clause-encoded : goal.returns-clause-encoded
+returns-clause-encoded g c = λ version error spelled zero. (
+  on_ok _ (ok_at _ (sym c.ended_status-status.ensures.status ∙ zero)) (c.act-ended.ensures.blob version error spelled),
+  (c.act-ended.ensures.source (Encode version error) spelled).whole (search rules) (ok_at _ (sym c.ended_status-status.ensures.status ∙ zero)),
+)
+
+pub returns-clause-encoded_exactly : goal.returns-clause-encoded_exactly
+returns-clause-encoded_exactly g c = λ version error spelled input told which.
+    encoded_exactly version error _ input _ _ _ _ _ _ _ _ _ told c.ended_status-status.ensures.status which (c.act-ended.ensures.output (Encode version error) spelled)
+
+pub returns-clause-not_encoded : goal.returns-clause-not_encoded
+returns-clause-not_encoded g c = λ version error spelled zero four.
+    nothing_given (Encode version error) _ _ _ _ _ _ _ _ _ refl c.ended_status-status.ensures.status zero four (c.act-ended.ensures.output (Encode version error) spelled)
+
 pub returns-clause-exact : goal.returns-clause-exact
 returns-clause-exact g c = λ spelled input told which. exact _ input _ _ _ _ _ _ _ _ _ told c.ended_status-status.ensures.status which (c.act-ended.ensures.output Decode spelled)
 
@@ -71,7 +87,7 @@ pub returns-clause-wanted : goal.returns-clause-wanted
 returns-clause-wanted g c = λ spelled six. wanted _ _ _ _ _ _ _ _ _ _ c.ended_status-status.ensures.status six (c.act-ended.ensures.output Decode spelled)
 
 pub returns-clause-nothing_given : goal.returns-clause-nothing_given
-returns-clause-nothing_given g c = λ spelled zero four. nothing_given _ _ _ _ _ _ _ _ _ _ c.ended_status-status.ensures.status zero four (c.act-ended.ensures.output Decode spelled)
+returns-clause-nothing_given g c = λ spelled zero four. nothing_given Decode _ _ _ _ _ _ _ _ _ refl c.ended_status-status.ensures.status zero four (c.act-ended.ensures.output Decode spelled)
 
 pub returns-clause-informed_exactly : goal.returns-clause-informed_exactly
 returns-clause-informed_exactly g c = λ spelled input told which. informed_exactly _ input _ _ _ _ _ _ _ _ _ told c.ended_status-status.ensures.status which (c.act-ended.ensures.output Info spelled)
@@ -83,4 +99,4 @@ returns-clause-informed g c = λ spelled zero. (
 )
 
 pub returns-clause-not_informed : goal.returns-clause-not_informed
-returns-clause-not_informed g c = λ spelled zero four. not_informed _ _ _ _ _ _ _ _ _ _ c.ended_status-status.ensures.status zero four (c.act-ended.ensures.output Info spelled)
+returns-clause-not_informed g c = λ spelled zero four. nothing_given Info _ _ _ _ _ _ _ _ _ refl c.ended_status-status.ensures.status zero four (c.act-ended.ensures.output Info spelled)

@@ -5,8 +5,8 @@ use Rattle.raster_values.specs.Raster.{Pixels, IsRaster}
 use Rattle.lerc_header.specs.Head.{IsTwiceError}
 use Rattle.lerc_header.specs.declared.header.Version.{Version}
 use Rattle.lerc_header.specs.declared.header.Version.TheVariants.{V3}
-use Rattle.lerc_encode.specs.Encoded.{IsAsked, IsEncodedOnce}
-use Rattle.lerc_encode.proofs.Encoded.{encoded_once, few}
+use Rattle.lerc_encode.specs.Encoded.{Declares, IsAsked, IsEncodedOnce}
+use Rattle.lerc_encode.proofs.Encoded.{declares, encoded_once, few}
 use Rattle.lerc_encode.proofs.blob.encode.Goals as goal
 
 asked_of : (r : Pixels) (version : Version) (step : ℕ) (b : Bool) → IsRaster r → IsTwiceError step → b ≡ false → (IsTrue b ↔ ((version ≡ V3) × (1 < r.depth))) → IsAsked r version step
@@ -32,3 +32,10 @@ returns-clause-decodes c =
     let asked = asked_of r c.args.version c.get.result c.needs_v4.result c.rows-rows.ensures.sound c.get.ensures.allowed c.if-needs_v4.false c.needs_v4.ensures in
     subst (λ step. IsEncodedOnce c.from_vec.result r step) c.get.ensures.step
     (subst (λ (bytes : List ℕ). IsEncodedOnce bytes r c.get.result) (sym (c.from_vec.ensures ∙ c.in_ok-blob.ensures.chosen)) (encoded_once r c.args.version c.get.result asked c.in_ok-blob.ensures.sum))
+
+pub returns-clause-declares : goal.returns-clause-declares
+returns-clause-declares c =
+    let r = c.args.raster.now in
+    let asked = asked_of r c.args.version c.get.result c.needs_v4.result c.rows-rows.ensures.sound c.get.ensures.allowed c.if-needs_v4.false c.needs_v4.ensures in
+    subst (λ step. Declares c.from_vec.result c.args.version step) c.get.ensures.step
+    (subst (λ (bytes : List ℕ). Declares bytes c.args.version c.get.result) (sym (c.from_vec.ensures ∙ c.in_ok-blob.ensures.chosen)) (declares r c.args.version c.get.result asked c.in_ok-blob.ensures.sum))

@@ -11,4 +11,4 @@ returns-then-ends_behind_lists c =
 
 pub returns : goal.returns
 returns c =
-    (ends_coded c.args.raster.now c.args.base.now.version c.args.base.now.step (sym c.is_bare.ensures ∙ c.if-is_bare.false) (sym c.ends_behind_lists.ensures ∙ c.if-ends_behind_lists.false), c.choose.ensures)
+    (ends_coded c.args.raster.now c.args.base.now.version c.args.base.now.step (sym c.is_bare.ensures ∙ c.if-is_bare.false) (sym c.ends_behind_lists.ensures ∙ c.if-ends_behind_lists.false), c.in_ok-choose.ensures)

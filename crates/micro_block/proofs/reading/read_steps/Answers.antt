@@ -2,12 +2,8 @@ use Rattle.std.proofs.Common.{◌∙◌, arith}
 use Rattle.std.proofs.lemmas.Int.{ints, to_z-of_z}
 use mir.Syntax.{w64}
 use mir.Val.{SFits, of_z, to_z}
-use Rattle.lut_stuff.proofs.Below.{list_below}
-use Rattle.micro_block.proofs.BlockSteps.{step_small, steps_read, value_small, wide_quantised}
+use Rattle.micro_block.proofs.BlockSteps.{step_small, steps_read, value_small}
 use Rattle.micro_block.proofs.reading.read_steps.Goals as goal
-
-pub plus_capped-requires-clause-quantised : goal.plus_capped-requires-clause-quantised
-plus_capped-requires-clause-quantised c = wide_quantised c.read_list.new.out c.widen.new.out c.widen.ensures (list_below _ c.read_list.new.out c.in-Ok.ensures.ok.1)
 
 pub returns-in-Ok : goal.returns-in-Ok
 returns-in-Ok c =
@@ -19,6 +15,6 @@ returns-in-Ok c =
       room = c.in-Ok.ensures.ok.0;
       qs = c.read_list.new.out;
       list = (c.read_list.auto.out ∙ c.requires.room, c.in-Ok.ensures.ok.1);
-      values_are = steps_read c.read_list.new.out c.widen.new.out c.plus_capped.new.out (to_z w64 (of_z w64 c.args.offset)) (to_z w64 (of_z w64 c.signed.result)) (to_z w64 (of_z w64 ctx.top)) c.args.offset ctx.top ctx.step
-          (to_z-of_z w64 c.args.offset c.ranges.offset) (to_z-of_z w64 c.signed.result step_fits ∙ c.signed.ensures) (to_z-of_z w64 ctx.top top_fits) c.widen.ensures c.plus_capped.ensures;
+      values_are = steps_read c.read_list.new.out c.plus_capped_unsigned.new.out (to_z w64 (of_z w64 c.args.offset)) (to_z w64 (of_z w64 c.signed.result)) (to_z w64 (of_z w64 ctx.top)) c.args.offset ctx.top ctx.step
+          (to_z-of_z w64 c.args.offset c.ranges.offset) (to_z-of_z w64 c.signed.result step_fits ∙ c.signed.ensures) (to_z-of_z w64 ctx.top top_fits) c.plus_capped_unsigned.ensures;
     }

@@ -1,8 +1,8 @@
-use Rattle.std.proofs.Common.{◌≡◌, ◌+◌, ◌-◌, ◌*◌, ◌++◌, List, ℕ, length, take, arith, ap, sym, ◌∙◌, subst}
+use Rattle.std.proofs.Common.{◌≡◌, ◌+◌, ◌-◌, ◌*◌, ◌++◌, List, ℕ, length, take, arith, ap, sym, ◌∙◌, subst, eqb-true}
 use Rattle.std.specs.Prelude.{All}
 use Rattle.raster_values.specs.PixelType.{InRange}
 use Rattle.raster_values.specs.inside.Runs.{run_places, run_values, rows_places, rows_values, LeavesRun, LeavesRows}
-use Rattle.raster_values.proofs.RowSteps.{piece_fits, count_more, pour_more, leaves_more}
+use Rattle.raster_values.proofs.RowSteps.{all_marked, row_full, piece_fits, count_more, pour_more, leaves_more}
 use Rattle.raster_values.proofs.blocks.pour_rows.Goals as goal
 
 pub pour_run-n-requires-clause-room : goal.pour_run-n-requires-clause-room
@@ -11,6 +11,19 @@ pour_run-n-requires-clause-room c =
     let at : c.loop-i.i ≡ c.args.row + h = omega arith in
     let f : ℕ → List ℕ = λ i. run_places c.args.marks.now (i * c.args.cols + c.args.col) c.args.wide in
     omega (arith, piece_fits f c.args.row h c.args.high (omega arith), ap (λ i. length (f i)) at, c.loop-i.invariant.found, c.requires.count)
+
+pub pour_run-n-requires-clause-all : goal.pour_run-n-requires-clause-all
+pour_run-n-requires-clause-all c same =
+    let h = c.loop-i.i - c.args.row in
+    let at : c.args.row + h ≡ c.loop-i.i = omega arith in
+    let marks = c.args.marks.now in
+    let cols = c.args.cols in
+    let col = c.args.col in
+    let wide = c.args.wide in
+    let all : length (rows_places marks cols c.args.row col c.args.high wide) ≡ c.args.high * wide = sym c.requires.count ∙ eqb-true _ _ same in
+    let row : length (run_places marks (c.loop-i.i * cols + col) wide) ≡ wide =
+    subst (λ i. length (run_places marks (i * cols + col) wide) ≡ wide) at (row_full marks cols c.args.row col c.args.high wide h all (omega arith)) in
+    all_marked marks (c.loop-i.i * cols + col) wide row
 
 pub loop-i-preserved : goal.loop-i-preserved
 loop-i-preserved c =

@@ -7,11 +7,11 @@ use Rattle.raster_values.proofs.blocks.pour_run.Goals as goal
 
 pub slice_bounds-put_pixels-end : goal.slice_bounds-put_pixels-end
 slice_bounds-put_pixels-end c =
-    let start = c.next_run-run.result.start in
-    let stop = c.next_run-run.result.end in
-    let runs = c.next_run-run.ensures.runs in
+    let start = c.run_from-run.result.start in
+    let stop = c.run_from-run.result.end in
+    let runs = c.run_from-run.ensures.runs in
     let longer = places_longer c.args.marks.now c.args.from c.loop-k.k start stop c.loop-k.invariant.low runs in
-    let room = places_room c.args.marks.now c.args.from c.args.count stop c.next_run-run.ensures.within (omega (arith, runs.first, runs.second, c.loop-k.invariant.low)) in
+    let room = places_room c.args.marks.now c.args.from c.args.count stop c.run_from-run.ensures.within (omega (arith, runs.first, runs.second, c.loop-k.invariant.low)) in
     let fits : c.loop-k.n + (stop - start) ≤ length c.args.input.now = omega (arith, longer, room, c.loop-k.invariant.ends, c.requires.room) in
     search (rules, fits)
 
@@ -27,19 +27,19 @@ loop-k-preserved c =
     let old = c.loop-k.values.values in
     let new = c.put_pixels.new.self.values in
     let kind = c.args.values.now.kind in
-    let start = c.next_run-run.result.start in
-    let stop = c.next_run-run.result.end in
-    let runs = c.next_run-run.ensures.runs in
+    let start = c.run_from-run.result.start in
+    let stop = c.run_from-run.result.end in
+    let runs = c.run_from-run.ensures.runs in
     let next = n + (stop - start) in
     let longer = places_longer marks from k start stop c.loop-k.invariant.low runs in
-    let room = places_room marks from c.args.count stop c.next_run-run.ensures.within (omega (arith, runs.first, runs.second, c.loop-k.invariant.low)) in
+    let room = places_room marks from c.args.count stop c.run_from-run.ensures.within (omega (arith, runs.first, runs.second, c.loop-k.invariant.low)) in
     let fits : next ≤ length input = omega (arith, longer, room, c.loop-k.invariant.ends, c.requires.room) in
     let piece = take (next - n) (drop n input) in
     let cut : piece ≡ take (stop - start) (drop n input) = ap (λ j. take j (drop n input)) (let e : next - n ≡ stop - start = omega arith in e) in
     let long : length piece ≡ stop - start = ap length cut ∙ length-take-le (stop - start) (drop n input) (omega (arith, length-drop n input)) in
     record {
       low = omega (arith, runs.first, runs.second, c.loop-k.invariant.low);
-      high = c.next_run-run.ensures.within;
+      high = c.run_from-run.ensures.within;
       ends = omega (arith, longer, c.loop-k.invariant.ends);
       poured = pour_piece depth d marks input piece old new from k start stop c.args.at n next c.requires.depth c.loop-k.invariant.low runs (let e : next ≡ n + (stop - start) = omega arith in e) fits cut c.put_pixels.ensures.put c.loop-k.invariant.poured;
       kind = c.put_pixels.ensures.kind ∙ c.loop-k.invariant.kind;

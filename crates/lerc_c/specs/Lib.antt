@@ -1,0 +1,5 @@
+-- What contracts of this crate cite.
+pub mod Told
+pub mod Arrays
+pub mod Names
+pub mod inside

@@ -1,0 +1,89 @@
+-- What a call tells of a blob: its header, or its first fault, as numbers.
+use Rattle.std.specs.Prelude.{◌≡◌, ℕ, ◌≤◌, ◌⊎◌, List, length, take}
+use Rattle.raster_values.specs.PixelType.{code_of}
+use Rattle.lerc_header.specs.declared.header.Header.{Header}
+use Rattle.lerc_header.specs.Head.{number_of}
+use Rattle.lerc_header.specs.declared.fault.BlobReason.{BlobReason}
+use Rattle.lerc_header.specs.declared.fault.BlobReason.TheVariants.{Truncated, BadKey, BadVersion, BadRows, BadCols, BadDepth, TooLarge, BadCount, BadBlockSize, BadBlobSize, FloatPixels, BadType, BadError, BadRange, BadChecksum, BadMaskLength, BadRun, BadMaskCount, MaskMissing, BadSweep, BadMode, BadBlockTag, BadOffsetCode, BadListHead, BadListCount, BadTable, BadIndex, BadCodeTable, NoCode, PastEnd, Leftover}
+use Rattle.lerc_grammar.specs.Verdict.{FirstFault, IsMore}
+use Rattle.lerc_c.specs.declared.told.Fault.{Fault}
+use Rattle.lerc_c.specs.declared.told.Head.{Head}
+
+-- the number of a reason: they are counted from 0 in the order of a blob's parts
+abbrev pub reason_number : BlobReason → ℕ
+reason_number Truncated = 0
+reason_number BadKey = 1
+reason_number BadVersion = 2
+reason_number BadRows = 3
+reason_number BadCols = 4
+reason_number BadDepth = 5
+reason_number TooLarge = 6
+reason_number BadCount = 7
+reason_number BadBlockSize = 8
+reason_number BadBlobSize = 9
+reason_number FloatPixels = 10
+reason_number BadType = 11
+reason_number BadError = 12
+reason_number BadRange = 13
+reason_number (BadChecksum stored computed) = 14
+reason_number BadMaskLength = 15
+reason_number BadRun = 16
+reason_number (BadMaskCount header counted) = 17
+reason_number MaskMissing = 18
+reason_number BadSweep = 19
+reason_number BadMode = 20
+reason_number BadBlockTag = 21
+reason_number BadOffsetCode = 22
+reason_number BadListHead = 23
+reason_number BadListCount = 24
+reason_number BadTable = 25
+reason_number BadIndex = 26
+reason_number BadCodeTable = 27
+reason_number NoCode = 28
+reason_number PastEnd = 29
+reason_number Leftover = 30
+
+-- the two numbers that did not agree: what the blob says, and what was found; 0 for other reasons
+abbrev pub stated_of : BlobReason → ℕ
+stated_of (BadChecksum stored computed) = stored
+stated_of (BadMaskCount header counted) = header
+stated_of _ = 0
+
+abbrev pub found_of : BlobReason → ℕ
+found_of (BadChecksum stored computed) = computed
+found_of (BadMaskCount header counted) = counted
+found_of _ = 0
+
+-- the numbers are those of a fault
+pub record TellsFault (f : Fault) (place : ℕ) (reason : BlobReason) : Type 0 where
+  pub place : f.place ≡ place
+  pub reason : f.reason ≡ reason_number reason
+  pub stated : f.stated ≡ stated_of reason
+  pub found : f.found ≡ found_of reason
+
+-- the numbers are those of a header
+pub record TellsHead (head : Head) (h : Header) : Type 0 where
+  pub version : head.version ≡ number_of h.version
+  pub kind : head.kind ≡ code_of h.kind
+  pub rows : head.rows ≡ h.rows
+  pub cols : head.cols ≡ h.cols
+  pub depth : head.depth ≡ h.depth
+  pub valid : head.valid ≡ h.valid
+  pub side : head.side ≡ h.side
+  pub size : head.size ≡ h.size
+  pub checksum : head.checksum ≡ h.checksum
+  pub step : head.step ≡ h.step
+  pub least : head.least ≡ h.least
+  pub greatest : head.greatest ≡ h.greatest
+
+-- some first bytes have a first fault, or the bytes end before anything is decided
+abbrev pub IsRefused : List ℕ → ℕ → BlobReason → Type 0
+IsRefused bytes place reason =
+    ((n : ℕ) × ((n ≤ length bytes) × FirstFault (take n bytes) place reason))
+    ⊎ (IsMore bytes × ((place ≡ length bytes) × (reason ≡ Truncated)))
+
+-- the numbers are those of the bytes' fault
+pub record TellsRefusal (bytes : List ℕ) (f : Fault) : Type 0 where
+  pub reason : BlobReason
+  pub refused : IsRefused bytes f.place reason
+  pub numbers : TellsFault f f.place reason

@@ -1,0 +1,75 @@
+//! Blobs decoded into arrays.
+
+ghost use Rattle.std.specs.Prelude.{◌≡◌, ℕ, ◌↔◌, IfOk, IfErr, OnOk, OnErr, IsTrue, length};
+ghost use Rattle.raster_values.specs.Grid.{values_bytes};
+ghost use Rattle.raster_values.specs.Flat.{all_values};
+ghost use Rattle.raster_values.specs.Order.{IsMaskOf};
+ghost use Rattle.lerc_grammar.specs.Verdict.{IsDone};
+ghost use Rattle.lerc_c.specs.Arrays.{HaveSizes, IsDecoded};
+ghost use Rattle.lerc_c.specs.inside.Stops.{IsRasterStop, IsArrayStop};
+
+use lerc_decode::{DecodeFault, Decoder};
+use lerc_header::BlobFault;
+use raster_values::Raster;
+use std::alloc::Global;
+
+/// Why no blob was decoded into arrays.
+#[derive(Clone, Copy, Debug)]
+pub(crate) enum DecodeStop {
+    Refused(BlobFault),
+    OutOfMemory,
+    Sizes,
+}
+
+/// The raster of the blob with which the bytes begin.
+fn raster_of(alloc: Global, blob: &[u8]) -> Result<Raster, DecodeFault>
+    ensures ok { IfOk result (λ r. (size : ℕ) × IsDone blob.now r size) }
+    ensures stop { IfErr result (λ stop. IsRasterStop blob.now stop) }
+{
+    let mut decoder = Decoder::new(alloc);
+    decoder.feed(blob);
+    decoder.finish()
+}
+
+/// Whether arrays of these lengths hold the raster.
+fn have_sizes(raster: &Raster, values: usize, mask: usize) -> bool
+    ensures { IsTrue result ↔ HaveSizes raster.now values mask }
+{
+    let pixels = raster.rows() as usize * raster.cols() as usize;
+    let size = pixels * raster.depth() as usize * raster.kind().bytes();
+    values == size && mask == pixels.div_ceil(8)
+}
+
+/// Writes a raster into arrays.
+fn write_arrays(raster: &Raster, values: &mut [u8], mask: &mut [u8])
+    requires { HaveSizes raster.now (length values.old) (length mask.old) }
+    ensures values { values.new ≡ values_bytes raster.now.kind (all_values raster.now) }
+    ensures mask { IsMaskOf raster.now mask.new }
+{
+    values.copy_from_slice(raster.cells());
+    raster.mask_bytes(mask);
+}
+
+/// Decodes the blob with which the bytes begin into arrays, which stay as they are where it fails.
+pub(crate) fn decode_into(
+    alloc: Global,
+    blob: &[u8],
+    values: &mut [u8],
+    mask: &mut [u8],
+) -> Result<(), DecodeStop>
+    ensures ok { OnOk result (IsDecoded blob.now values.new mask.new) }
+    ensures stop { IfErr result (λ stop.
+        IsArrayStop blob.now (length values.old) (length mask.old) stop) }
+    ensures kept { OnErr result ((values.new ≡ values.old) × (mask.new ≡ mask.old)) }
+{
+    let raster = match raster_of(alloc, blob) {
+        Ok(raster) => raster,
+        Err(DecodeFault::Blob(fault)) => return Err(DecodeStop::Refused(fault)),
+        Err(DecodeFault::OutOfMemory) => return Err(DecodeStop::OutOfMemory),
+    };
+    if !have_sizes(&raster, values.len(), mask.len()) {
+        return Err(DecodeStop::Sizes);
+    }
+    write_arrays(&raster, values, mask);
+    Ok(())
+}

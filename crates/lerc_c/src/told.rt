@@ -1,0 +1,149 @@
+//! What a call tells of a blob, as numbers that C reads.
+
+ghost use Rattle.std.specs.Prelude.{◌≡◌};
+ghost use Rattle.raster_values.specs.PixelType.{code_of};
+ghost use Rattle.lerc_header.specs.Head.{number_of};
+ghost use Rattle.lerc_c.specs.Told.{TellsFault, TellsHead, found_of, reason_number, stated_of};
+
+use lerc_header::{BlobFault, BlobReason, Header, Version};
+
+/// The first fault of a blob.
+#[repr(C)]
+#[derive(Clone, Copy)]
+pub struct Fault {
+    /// Where the field begins that fails, in bytes from the blob's first.
+    pub place: u64,
+    /// The number of the reason.
+    pub reason: u32,
+    /// Where two numbers do not agree: what the blob says, and what was found. Else 0.
+    pub stated: u32,
+    pub found: u32,
+}
+
+/// What the header of a blob says.
+#[repr(C)]
+#[derive(Clone, Copy)]
+pub struct Head {
+    /// Twice the greatest error of a value; 1 where no value was changed.
+    pub step: u64,
+    /// The least and the greatest value, both 0 where no pixel is valid.
+    pub least: i64,
+    pub greatest: i64,
+    /// 3 or 4.
+    pub version: u32,
+    /// The number of the pixel type: 0 to 5 for I8, U8, I16, U16, I32 and U32.
+    pub kind: u32,
+    pub rows: u32,
+    pub cols: u32,
+    pub depth: u32,
+    /// How many pixels are valid.
+    pub valid: u32,
+    /// The side of a block.
+    pub side: u32,
+    /// How many bytes the blob has.
+    pub size: u32,
+    pub checksum: u32,
+}
+
+/// The number of a version.
+fn version_number(version: Version) -> u32
+    ensures { result ≡ number_of version }
+{
+    match version {
+        Version::V3 => 3,
+        Version::V4 => 4,
+    }
+}
+
+/// The numbers of a header.
+pub(crate) fn head_of(header: &Header) -> Head
+    ensures { TellsHead result header.now }
+{
+    Head {
+        step: header.step,
+        least: header.least,
+        greatest: header.greatest,
+        version: version_number(header.version),
+        kind: u32::from(header.kind.code()),
+        rows: header.rows,
+        cols: header.cols,
+        depth: header.depth,
+        valid: header.valid,
+        side: header.side,
+        size: header.size,
+        checksum: header.checksum,
+    }
+}
+
+/// The number of a reason.
+fn number_of_reason(reason: BlobReason) -> u32
+    ensures { result ≡ reason_number reason }
+{
+    match reason {
+        BlobReason::Truncated => 0,
+        BlobReason::BadKey => 1,
+        BlobReason::BadVersion => 2,
+        BlobReason::BadRows => 3,
+        BlobReason::BadCols => 4,
+        BlobReason::BadDepth => 5,
+        BlobReason::TooLarge => 6,
+        BlobReason::BadCount => 7,
+        BlobReason::BadBlockSize => 8,
+        BlobReason::BadBlobSize => 9,
+        BlobReason::FloatPixels => 10,
+        BlobReason::BadType => 11,
+        BlobReason::BadError => 12,
+        BlobReason::BadRange => 13,
+        BlobReason::BadChecksum { .. } => 14,
+        BlobReason::BadMaskLength => 15,
+        BlobReason::BadRun => 16,
+        BlobReason::BadMaskCount { .. } => 17,
+        BlobReason::MaskMissing => 18,
+        BlobReason::BadSweep => 19,
+        BlobReason::BadMode => 20,
+        BlobReason::BadBlockTag => 21,
+        BlobReason::BadOffsetCode => 22,
+        BlobReason::BadListHead => 23,
+        BlobReason::BadListCount => 24,
+        BlobReason::BadTable => 25,
+        BlobReason::BadIndex => 26,
+        BlobReason::BadCodeTable => 27,
+        BlobReason::NoCode => 28,
+        BlobReason::PastEnd => 29,
+        BlobReason::Leftover => 30,
+    }
+}
+
+/// What the blob says, where two numbers do not agree.
+fn stated(reason: BlobReason) -> u32
+    ensures { result ≡ stated_of reason }
+{
+    match reason {
+        BlobReason::BadChecksum { stored, .. } => stored,
+        BlobReason::BadMaskCount { header, .. } => header,
+        _ => 0,
+    }
+}
+
+/// What was found, where two numbers do not agree.
+fn found(reason: BlobReason) -> u32
+    ensures { result ≡ found_of reason }
+{
+    match reason {
+        BlobReason::BadChecksum { computed, .. } => computed,
+        BlobReason::BadMaskCount { counted, .. } => counted,
+        _ => 0,
+    }
+}
+
+/// The numbers of a fault.
+pub(crate) fn fault_of(fault: BlobFault) -> Fault
+    ensures { TellsFault result fault.place fault.reason }
+{
+    Fault {
+        place: fault.place,
+        reason: number_of_reason(fault.reason),
+        stated: stated(fault.reason),
+        found: found(fault.reason),
+    }
+}

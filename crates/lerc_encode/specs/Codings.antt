@@ -1,0 +1,84 @@
+-- Symbols as code words, in bytes: their counts and the lengths of their codes, the code table, and
+-- the words.
+use Rattle.std.specs.Prelude.{ℕ, zero, suc, ◌+◌, ◌-◌, ◌*◌, ◌%◌, ◌^◌, Bool, false, ◌&&◌, nat_eq, nat_le, if◌then◌else◌, List, [], ◌∷◌, ◌++◌, length, slice_index, take, drop, replicate, map, unwrap_or, Some}
+use Rattle.std.specs.List.{count_by, list_all, range_with_len}
+use Rattle.byteorder.specs.Endian.{little_bytes}
+use Rattle.bit_stuff.specs.Simple.{greatest_number, simple_bytes}
+use Rattle.micro_block.specs.Fewest.{first_least}
+use Rattle.huff_codes.specs.Tree.{lengths_of, used_count}
+use Rattle.huff_codes.specs.Codes.{canonical_codes}
+use Rattle.huff_codes.specs.Words.{joined_codes, word_count}
+use Rattle.huff_codes.specs.Table.{symbols_in}
+use Rattle.huff_codes.specs.Written.{run_lengths, table_head}
+use Rattle.huff_codes.specs.declared.table.SymbolRange.{SymbolRange}
+
+-- ---- words of bits
+
+-- the number of these bits, the highest of them first
+unfoldable pub number_of : List Bool → ℕ
+number_of [] = 0
+number_of (bit ∷ bits) = (if bit then 1 else 0) * 2 ^ length bits + number_of bits
+
+-- the first 32 bits, filled up with zeros
+abbrev pub word_in_front : List Bool → List Bool
+word_in_front bits = take 32 (bits ++ replicate 32 false)
+
+-- so many 32-bit little-endian words, with these bits in front, each word's highest bit first
+unfoldable pub words_of : ℕ → List Bool → List ℕ
+words_of zero bits = []
+words_of (suc n) bits = little_bytes 4 (number_of (word_in_front bits)) ++ words_of n (drop 32 bits)
+
+-- ---- the code table
+
+-- how many symbols from one on, counted modulo 256, end with the last that has a length
+unfoldable pub reach_from : List ℕ → ℕ → ℕ
+reach_from lengths first =
+    greatest_number (map (λ s. if nat_eq (slice_index lengths s) 0 then 0
+    else (s + (256 - first)) % 256 + 1) (range_with_len 0 256))
+
+abbrev pub run_from : List ℕ → ℕ → SymbolRange
+run_from lengths first = record { first = first; count = reach_from lengths first }
+
+-- the shortest of these, and of several the one with the least first symbol
+unfoldable pub shortest_run : List ℕ → SymbolRange
+shortest_run lengths =
+    unwrap_or (first_least (λ run. run.count)
+    (map (λ first. Some (run_from lengths first)) (range_with_len 0 256))) (run_from lengths 0)
+
+-- the codes of the symbols of that range, joined
+abbrev pub table_codes : List ℕ → List Bool
+table_codes lengths =
+    joined_codes (canonical_codes lengths)
+    (symbols_in (shortest_run lengths).first (shortest_run lengths).count)
+
+-- the numbers in front, the lengths as a simple list, and the codes in words
+unfoldable pub table_bytes : List ℕ → List ℕ
+table_bytes lengths =
+    table_head (shortest_run lengths)
+    ++ (simple_bytes (run_lengths lengths (shortest_run lengths))
+    ++ words_of (word_count (length (table_codes lengths))) (table_codes lengths))
+
+-- ---- symbols
+
+-- how often each symbol stands among them
+unfoldable pub counts_of : List ℕ → List ℕ
+counts_of symbols = map (λ s. count_by (nat_eq s) symbols) (range_with_len 0 256)
+
+-- the lengths of their codes
+abbrev pub code_lengths : List ℕ → List ℕ
+code_lengths symbols = lengths_of (counts_of symbols)
+
+-- two symbols or more are used, and no length is above 32
+unfoldable pub have_codes : List ℕ → Bool
+have_codes symbols =
+    nat_le 2 (used_count (counts_of symbols)) && list_all (λ l. nat_le l 32) (code_lengths symbols)
+
+-- the codes of all symbols, joined
+abbrev pub symbol_codes : List ℕ → List Bool
+symbol_codes symbols = joined_codes (canonical_codes (code_lengths symbols)) symbols
+
+-- the code table, the words of the symbols, and one further word
+unfoldable pub coding_bytes : List ℕ → List ℕ
+coding_bytes symbols =
+    table_bytes (code_lengths symbols)
+    ++ words_of (word_count (length (symbol_codes symbols)) + 1) (symbol_codes symbols)

@@ -1,0 +1,33 @@
+-- What is known of the symbols of values and their codes before they are written.
+use Rattle.std.specs.Prelude.{◌≡◌, ℕ, ◌^◌, ◌≤◌, Bool, true, false, ◌&&◌, List, length, MatchOption}
+use Rattle.raster_values.specs.Raster.{Pixels}
+use Rattle.lerc_header.specs.declared.header.Version.{Version}
+use Rattle.delta_mode.specs.Deltas.{plain}
+use Rattle.lerc_encode.specs.Codings.{code_lengths, coding_bytes, have_codes}
+use Rattle.lerc_encode.specs.Images.{all_deltas, has_mode, is_v4}
+use Rattle.lerc_encode.specs.declared.codings.Coding.{Coding}
+use Rattle.lerc_encode.specs.declared.codings.Codings.{Codings}
+use Rattle.lerc_encode.specs.declared.codings.Symbols.{Symbols}
+
+-- the lengths of the symbols' codes, and the number of the bytes
+pub record IsCodingOf (symbols : List ℕ) (c : Coding) : Type 0 where
+  pub has : have_codes symbols ≡ true
+  pub lengths_are : c.lengths ≡ code_lengths symbols
+  pub size_is : c.size ≡ length (coding_bytes symbols)
+  pub few : c.size ≤ 67110912
+
+-- these symbols and their coding, where they are wanted and have codes
+pub record HasSymbols (wanted : Bool) (symbols : List ℕ) (s : Symbols) (c : Coding) : Type 0 where
+  pub holds : (wanted && have_codes symbols) ≡ true
+  pub all_are : s.all.items ≡ symbols
+  pub all_few : length symbols ≤ 2 ^ 24
+  pub coding_is : IsCodingOf symbols c
+
+-- where they are not, there is no coding
+abbrev pub AreSymbols : Bool → List ℕ → Symbols → Type 0
+AreSymbols wanted symbols s =
+    MatchOption s.coding ((wanted && have_codes symbols) ≡ false) (HasSymbols wanted symbols s)
+
+pub record AreCodings (r : Pixels) (version : Version) (step : ℕ) (c : Codings) : Type 0 where
+  pub deltas : AreSymbols (has_mode r step) (all_deltas r) c.deltas
+  pub plains : AreSymbols (has_mode r step && is_v4 version) (plain r) c.plains

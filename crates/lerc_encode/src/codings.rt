@@ -1,0 +1,193 @@
+// The values of a raster of bytes as symbols, and these as code words.
+
+ghost use Rattle.std.specs.Prelude.{◌≡◌, ℕ, ◌+◌, ◌*◌, ◌^◌, ◌<◌, ◌≤◌, ◌&&◌, ◌∷◌, true, false, length, sum, IfOk, IsTrue, MatchOption, None};
+ghost use Rattle.std.specs.Option.{option_map};
+ghost use Rattle.raster_values.specs.Raster.{valid_count};
+ghost use Rattle.delta_mode.specs.Symbols.{IsByteType};
+ghost use Rattle.delta_mode.specs.Deltas.{plain};
+ghost use Rattle.lerc_encode.specs.Codings.{coding_bytes, counts_of, have_codes};
+ghost use Rattle.lerc_encode.specs.Images as images;
+ghost use Rattle.lerc_encode.specs.Images.{all_deltas, is_v4};
+ghost use Rattle.lerc_encode.specs.inside.Coded.{AreCodings, AreSymbols, IsCodingOf};
+
+use delta_mode::{deltas_of, plain_of};
+use huff_codes::{Lengths, symbols_len, table_size, write_code_table, write_symbols};
+use lerc_header::Version;
+use raster_values::Raster;
+use std::alloc::{AllocError, Global};
+
+/// The lengths of the codes of some symbols, and how many bytes their table and words take.
+#[derive(Drop)]
+pub(crate) struct Coding {
+    pub(crate) lengths: Lengths,
+    pub(crate) size: usize,
+}
+
+/// The symbols of all values in one order, and how they are coded, where they may be.
+#[derive(Drop)]
+pub(crate) struct Symbols {
+    pub(crate) all: Vec<u8>,
+    pub(crate) coding: Option<Coding>,
+}
+
+/// The symbols of the differences, and those of the values.
+#[derive(Drop)]
+pub(crate) struct Codings {
+    pub(crate) deltas: Symbols,
+    pub(crate) plains: Symbols,
+}
+
+/// How often each symbol stands among these.
+fn count_symbols(symbols: &[u8]) -> [u32; 256]
+    requires { length symbols.now ≤ 2 ^ 24 }
+    ensures counts { result ≡ counts_of symbols.now }
+    ensures sum { sum result ≡ length symbols.now }
+{
+    let mut counts = [0; 256];
+    for symbol in symbols {
+        counts[usize::from(*symbol)] += 1;
+    }
+    counts
+}
+
+/// How symbols are coded. None where they have no codes.
+fn coding_of(symbols: &[u8]) -> Option<Coding>
+    requires { length symbols.now ≤ 2 ^ 24 }
+    ensures { MatchOption result (have_codes symbols.now ≡ false) (IsCodingOf symbols.now) }
+{
+    match Lengths::of(&count_symbols(symbols)) {
+        Some(lengths) => {
+            let size = table_size(&lengths) + symbols_len(symbols, &lengths);
+            Some(Coding { lengths, size })
+        }
+        None => None,
+    }
+}
+
+/// Writes the code table of symbols and their code words over all of `out`.
+fn write_coding(coding: &Coding, symbols: &[u8], out: &mut [u8])
+    requires few { length symbols.now ≤ 2 ^ 24 }
+    requires coding { IsCodingOf symbols.now coding.now }
+    requires room { length out.old ≡ length (coding_bytes symbols.now) }
+    ensures { out.new ≡ coding_bytes symbols.now }
+{
+    let table = table_size(&coding.lengths).min(out.len());
+    write_code_table(&coding.lengths, &mut out[..table]);
+    write_symbols(symbols, &coding.lengths, &mut out[table..]);
+}
+
+/// Writes the form of coded symbols: a sweep byte, the mode byte, the table and the words.
+pub(crate) fn write_coded_form(mode: u8, symbols: &Symbols, out: &mut [u8])
+    requires few { length symbols.now.all.items ≤ 2 ^ 24 }
+    requires coding { MatchOption symbols.now.coding ⊥ (IsCodingOf symbols.now.all.items) }
+    requires room { length out.old ≡ length (0 ∷ mode ∷ coding_bytes symbols.now.all.items) }
+    ensures { out.new ≡ 0 ∷ mode ∷ coding_bytes symbols.now.all.items }
+{
+    out[0] = 0;
+    out[1] = mode;
+    if let Some(coding) = &symbols.coding {
+        write_coding(coding, &symbols.all, &mut out[2..]);
+    }
+}
+
+/// How many bytes the form of coded symbols takes.
+pub(crate) fn coded_form_len(symbols: &Symbols) -> Option<usize>
+    requires { MatchOption symbols.now.coding Unit (λ c. c.size ≤ 67110912) }
+    ensures { result ≡ option_map (λ c. c.size + 2) symbols.now.coding }
+{
+    match &symbols.coding {
+        Some(coding) => Some(coding.size + 2),
+        None => None,
+    }
+}
+
+/// How many symbols a raster has.
+fn symbol_count(raster: &Raster) -> usize
+    ensures value { result ≡ valid_count raster.now * raster.now.depth }
+    ensures few { result ≤ 2 ^ 24 }
+{
+    raster.valid_count() as usize * raster.depth() as usize
+}
+
+/// Writes the symbols of the differences of all depths, one depth behind the other.
+fn write_deltas(raster: &Raster, out: &mut [u8])
+    requires kind { IsByteType raster.now.kind }
+    requires room { length out.old ≡ valid_count raster.now * raster.now.depth }
+    ensures { out.new ≡ all_deltas raster.now }
+{
+    let count = raster.valid_count() as usize;
+    for d in 0..raster.depth() {
+        let at = d as usize * count;
+        deltas_of(raster, d, &mut out[at..at + count]);
+    }
+}
+
+/// Whether symbols may stand for values: these take a byte each and none may change.
+pub(crate) fn has_mode(raster: &Raster, step: u64) -> bool
+    ensures { result ≡ images.has_mode raster.now step }
+{
+    raster.kind().bytes() == 1 && step == 1
+}
+
+/// No symbols.
+fn no_symbols(alloc: Global) -> Symbols
+    ensures { result.coding ≡ None }
+{
+    Symbols {
+        all: Vec::new(alloc),
+        coding: None,
+    }
+}
+
+/// The symbols of the differences, where they are wanted.
+fn delta_symbols(alloc: Global, raster: &Raster, wanted: bool) -> Result<Symbols, AllocError>
+    requires { IsTrue wanted → IsByteType raster.now.kind }
+    ensures { IfOk result (AreSymbols wanted (all_deltas raster.now)) }
+{
+    if !wanted {
+        return Ok(no_symbols(alloc));
+    }
+    let mut all = vec![in alloc; 0u8; symbol_count(raster)]?;
+    write_deltas(raster, &mut all);
+    let coding = coding_of(&all);
+    Ok(Symbols { all, coding })
+}
+
+/// The symbols of the values, where they are wanted.
+fn plain_symbols(alloc: Global, raster: &Raster, wanted: bool) -> Result<Symbols, AllocError>
+    requires { IsTrue wanted → IsByteType raster.now.kind }
+    ensures { IfOk result (AreSymbols wanted (plain raster.now)) }
+{
+    if !wanted {
+        return Ok(no_symbols(alloc));
+    }
+    let mut all = vec![in alloc; 0u8; symbol_count(raster)]?;
+    plain_of(raster, &mut all);
+    let coding = coding_of(&all);
+    Ok(Symbols { all, coding })
+}
+
+/// The symbols of a raster's values, as far as the version and the step allow them.
+pub(crate) fn codings_of(
+    alloc: Global,
+    raster: &Raster,
+    version: Version,
+    step: u64,
+) -> Result<Codings, AllocError>
+    ensures { IfOk result (AreCodings raster.now version step) }
+{
+    let mode = has_mode(raster, step);
+    let deltas = delta_symbols(alloc, raster, mode)?;
+    let plains = plain_symbols(alloc, raster, mode && is_version_4(version))?;
+    Ok(Codings { deltas, plains })
+}
+
+/// Whether the version is 4.
+fn is_version_4(version: Version) -> bool
+    ensures { result ≡ is_v4 version }
+{
+    match version {
+        Version::V3 => false,
+        Version::V4 => true,
+    }
+}

@@ -1,0 +1,4 @@
+mod Passing
+pub mod Refusals
+mod SoFar
+mod StreamsDecided

@@ -1,0 +1,14 @@
+pub use Rattle.bundle_store.specs.Build
+pub use Rattle.first_fault.specs.Faults
+pub use Rattle.first_fault.specs.Parts
+pub use Rattle.lerc_encode.specs.Choice
+pub use Rattle.lerc_encode.specs.Encoded
+pub use Rattle.outside_io.specs.streams.Source
+pub use Rattle.raster_values.specs.Raster
+pub use Rattle.raster_values.specs.ReadGrid
+pub use Rattle.tile_stream.specs.Stream
+pub use Rattle.tile_stream.specs.Tile
+pub mod Updates
+pub mod Stops
+pub mod Laws
+pub mod inside

@@ -1,0 +1,22 @@
+use tile_stream::TileFault;
+
+/// Why an input of tiles gives no updates. The refusals of a tile stand in the order in which they
+/// are looked for.
+#[derive(Clone, Copy, Debug, PartialEq, Eq)]
+pub enum StreamStop {
+    /// A byte follows 1,048,576 whole tiles.
+    TooManyTiles,
+    /// The mark, the slot or the grid of a tile is wrong, at a place of the input.
+    Fault(TileFault),
+    /// A tile has more than one depth, which version 3 has no place for. The place of the input is
+    /// that of the number of depths in the tile's grid.
+    DepthNeedsV4 { place: u64 },
+    /// The blob of tile number `at` has so many bytes, more than 16,777,215.
+    TileTooLarge { at: u64, len: u64 },
+    /// The blobs up to that of tile number `at` have more than 2^30 bytes together.
+    KeptTooMuch { at: u64 },
+    /// The source failed.
+    Source,
+    /// There is no memory for a raster, a blob or the list of updates.
+    OutOfMemory,
+}
