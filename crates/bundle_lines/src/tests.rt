@@ -128,8 +128,10 @@ fn two_puts_have_their_marks_and_lines(rt: HostRuntime) -> Result<(), Fail> {
     let (end, marks) = put(alloc, &mut vol, &mut out, &tiles)?;
     assert_eq!(rt; end, Ok(()));
     assert_eq!(rt; out.held(), TWO_PUTS);
-    assert_eq!(rt; marks.len(), 2);
-    assert!(rt; marks.len() == 2 && marks.at(0) < marks.at(1) && marks.at(1) == vol.moment());
+    if marks.len() != 2 {
+        return Err("marks".into());
+    }
+    assert!(rt; marks.at(0) < marks.at(1) && marks.at(1) == vol.moment());
 
     let mut out = sink(alloc, 100)?;
     assert_eq!(rt; list(alloc, &mut vol, &mut out)?, Ok(()));
