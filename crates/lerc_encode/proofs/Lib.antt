@@ -14,3 +14,4 @@ mod Candidates
 mod Endings
 mod Encoded
 mod Laying
+mod Small
