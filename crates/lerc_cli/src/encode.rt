@@ -77,7 +77,7 @@ fn blob_of(alloc: Global, raster: &Raster, version: Version, error: u32) -> Resu
     requires { IsRaster raster.now }
     ensures { MakesBlob version error raster.now result }
 {
-    // Without an error the blob's raster is near by the least step: the law says that it is the same.
+    // The law by which the blob of an encoding without an error is one of the given raster.
     nearest_is_same();
     match lerc_encode::encode(alloc, raster, version, Step::of(error)) {
         Ok(blob) => Ok(blob),
