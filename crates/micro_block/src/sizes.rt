@@ -1,6 +1,6 @@
 // How long a block is in each form.
 
-ghost use Rattle.std.specs.Prelude.{◌≡◌, ℕ, ℤ, pos, ◌+◌, ◌≤◌, ◌<◌, ◌^◌, ◌≤ℤ◌, length, map};
+ghost use Rattle.std.specs.Prelude.{◌≡◌, ℕ, ℤ, pos, ◌+◌, ◌≤◌, ◌<◌, ◌^◌, ◌≤ℤ◌, ◌-ℤ◌, length, map};
 ghost use Rattle.std.specs.Prelude.{unsigned_abs, true, Some, None, All, IfSome, ◌⊎◌};
 ghost use Rattle.micro_block.specs.inside.Forms.{AreListable};
 ghost use Rattle.bit_stuff.specs.Head.{head_size};
@@ -141,6 +141,19 @@ fn narrow(wide: &[i64], out: &mut [u32])
     }
 }
 
+/// Writes how far each value is above `least`.
+fn distances(values: &[i64], least: i64, out: &mut [u32])
+    requires lengths { length out.old ≡ length values.now }
+    requires small { All IsSmall values.now }
+    requires small_least { IsSmall least }
+    requires fits { All (λ v. (least ≤ℤ v) × (unsigned_abs (v -ℤ least) < 2 ^ 32)) values.now }
+    ensures { out.new ≡ map (λ v. unsigned_abs (v -ℤ least)) values.now }
+{
+    for (i, value) in values.iter().enumerate() {
+        out[i] = (*value - least) as u32;
+    }
+}
+
 /// Writes the number of steps of each value from `least`, with room for as many with a sign.
 fn steps_through(values: &[i64], least: i64, step: u64, wide: &mut [i64], out: &mut [u32])
     requires lengths { length out.old ≡ length values.now }
@@ -159,7 +172,9 @@ pub(crate) fn steps_of(values: &[i64], least: i64, step: u64, out: &mut [u32])
     ensures { out.new ≡ map (quantised step least) values.now }
 {
     let count = values.len();
-    if count <= 32 {
+    if step == 1 {
+        distances(values, least, out);
+    } else if count <= 32 {
         let mut wide = [0; 32];
         steps_through(values, least, step, &mut wide[..count], out);
     } else if count <= 64 {
