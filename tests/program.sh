@@ -272,8 +272,13 @@ expect 'a word of 5,000 bytes' 1 nothing "$usage" plainly - "$long" <blob
 expect 'a second word' 1 nothing "$usage" plainly - decode x <blob
 expect 'a second word that is empty' 1 nothing "$usage" plainly - decode '' <blob
 expect 'a second word that is no UTF-8' 1 nothing "$usage" plainly - decode "$bad_text" <blob
-for command in build put get list check recover sample; do
+for command in build sample; do
     expect "a command that is not built yet: $command" 1 nothing "$usage" plainly - "$command" <blob
+done
+for words in 'encode' 'put 3 0' 'put 3 0 0' 'put 3 0 65' 'get' 'get 0' 'get 128 0' 'get 0 128' 'get 01 0' 'get 0 0 row' \
+    'get 0 0 raw raw' 'list 0' 'check 0' 'recover 0'; do
+    # shellcheck disable=SC2086 # the words are split here
+    expect "no command: $words" 1 nothing "$usage" plainly - $words <blob
 done
 expect 'words come before a failing source' 1 nothing "$usage" input_closed - x
 
@@ -367,6 +372,84 @@ expect 'info: a blob without its last byte' 2 nothing "$truncated" plainly - inf
 expect 'info: a good header and a bad run' 2 nothing 'refused: BadRun at 66' plainly - info <bad_run
 expect 'info: a closed input' 3 nothing "$no_source" input_closed - info
 expect 'info: a full output' 4 nothing "$no_output" output_full - info <blob
+
+# ---- Bundles
+
+no_volume='volume failed'
+
+# A bundle of one tile, the blob, in the last slot; the same without its entry; and the journal that is
+# left open where the tile's record stands and its entry does not.
+bundle_header() {
+    bytes 03 00 00 00 00 40 00 00 42 00 00 00 05 00 00 00 00 00 00 00 00 00 00 00 86 00 02 00 00 00 00 00
+    bytes 28 00 00 00 00 00 00 00 14 00 02 00 03 00 00 00 10 00 00 00 00 40 00 00 05 00 00 00 00 00 02 00
+}
+# Its bytes behind the header: an index with this last entry, and the record.
+bundle_body() {
+    head -c 131064 /dev/zero
+    bytes "$@" 42 00 00 00
+    cat blob
+}
+{ bundle_header; bundle_body 44 00 02 00 00 42 00 00; } >one
+{ bundle_header; bundle_body 00 00 00 00 00 00 00 00; } >torn
+{
+    bytes 01 4c 42 4a 52 4e 4c 31 01 00 ff 3f 00 00 00 00 44 00 02 00 00 42 00 00 86 00 02 00 00 00 00 00
+    bundle_header
+} >open_journal
+{ bytes 00; tail -c +2 open_journal; } >closed_journal
+{ bytes 01 4c 42 4a 52 4e 4c 31 03; head -c 87 /dev/zero; } >bad_journal
+echo '127 127 131140 66' >listing
+printf 'tiles 1\nbytes 66\nbad 0\n' >report
+printf 'tiles 0\nbytes 0\nbad 0\n' >empty_report
+echo closed >closed
+echo applied >applied
+
+# Puts a bundle, and a journal where one is named, into the place of `tiles`.
+lay() {
+    rm -rf tiles tiles.jnl
+    cp "$1" tiles
+    if [ -n "${2:-}" ]; then cp "$2" tiles.jnl; fi
+}
+
+# Whether two files are alike.
+alike() {
+    if cmp -s "$2" "$3"; then count "$1" yes; else count "$1" no; fi
+}
+
+lay one
+expect 'get: the grid of a tile' 0 grid '' plainly tiles get 127 127 <nothing
+expect 'get: the bytes of a tile' 0 blob '' plainly tiles get 127 127 raw <nothing
+expect 'get: no tile' 7 nothing 'store: NoTile 0 127' plainly tiles get 0 127 <nothing
+expect 'list' 0 listing '' plainly tiles list <nothing
+expect 'check' 0 report '' plainly tiles check <nothing
+expect 'recover' 0 closed '' plainly tiles recover <nothing
+expect 'get: a full output' 4 nothing "$no_output" output_full tiles get 127 127 <nothing
+expect 'list: a full output' 4 nothing "$no_output" output_full tiles list <nothing
+alike 'reading leaves the bundle as it is' tiles one
+
+lay torn open_journal
+expect 'recover: an open journal' 0 applied '' plainly tiles recover <nothing
+alike 'recover: the bundle' tiles one
+alike 'recover: the journal' tiles.jnl closed_journal
+expect 'recover: once more' 0 closed '' plainly tiles recover <nothing
+lay torn open_journal
+expect 'list: beside an open journal' 0 listing '' plainly tiles list <nothing
+lay torn closed_journal
+expect 'list: beside a closed journal' 0 nothing '' plainly tiles list <nothing
+lay one bad_journal
+expect 'list: a journal of kind 3' 7 nothing 'store: BadJournal at 8 found 3' plainly tiles list <nothing
+expect 'recover: a journal of kind 3' 7 nothing 'store: BadJournal at 8 found 3' plainly tiles recover <nothing
+
+head -c 100 one >hundred
+lay hundred
+expect 'check: a file of 100 bytes' 7 nothing 'store: BadBundle at 100 found 100' plainly tiles check <nothing
+expect 'list: no path' 5 nothing "$no_volume" plainly - list <nothing
+expect 'list: a file that is not there' 0 nothing '' plainly missing list <nothing
+expect 'check: a file that is not there' 0 empty_report '' plainly missing check <nothing
+[ ! -e missing ] && [ ! -e missing.jnl ] && made=yes || made=no
+count 'a file that is not there is not made' "$made"
+mkdir -p folder
+expect 'list: a folder in its place' 5 nothing "$no_volume" plainly folder list <nothing
+expect 'list: a file that cannot be written' 5 nothing "$no_volume" plainly /proc/version list <nothing
 
 # ---- A failing error output changes nothing
 
