@@ -14,7 +14,7 @@ else
         column=$((column + 1))
     done >columns
     cp columns values
-    for doubling in 1 2 3 4 5 6 7 8; do
+    while [ "$(wc -c <values)" -lt 65536 ]; do
         cat values values >more
         mv more values
     done
