@@ -1,7 +1,6 @@
 -- The forms of an image's values, and the choice among them.
-use Rattle.std.proofs.Common.{◌≡◌, ℕ, ◌+◌, ◌-◌, ◌*◌, ◌/◌, ◌<◌, ◌≤◌, zero, suc, Bool, true, false, List, [], ◌∷◌, ◌++◌, length, get_or, map, refl, sym, ap, ◌∙◌, subst, arith, length-append, Option, Some, None, ◌⊎◌, inl, inr}
-use Rattle.std.specs.Prelude.{ℤ, nat_eq, ◌&&◌, ◌||◌, if◌then◌else◌, unwrap_or, MatchOption, ◌≢◌, set}
-use Rattle.std.specs.Option.{option_map}
+use Rattle.std.proofs.Common.{◌≡◌, ℕ, ◌+◌, ◌-◌, ◌*◌, ◌/◌, ◌<◌, Bool, true, false, List, [], ◌∷◌, ◌++◌, length, refl, sym, ap, ◌∙◌, subst, arith, length-append, ◌⊎◌, inl, inr}
+use Rattle.std.specs.Prelude.{ℤ, nat_eq, ◌&&◌, ◌||◌, if◌then◌else◌, ◌≢◌, set}
 use Rattle.std.proofs.lemmas.Bool.{eqb-true, cases_eq}
 use Rattle.std.proofs.lemmas.Bool.Decides.{nat_tests, Decides-int_eq}
 use Rattle.std.specs.Ordering.{int_eq}
@@ -23,16 +22,13 @@ use Rattle.lerc_header.specs.declared.header.Version.TheVariants.{V4}
 use Rattle.lerc_header.specs.Head.{IsTwiceError}
 use Rattle.micro_block.specs.Choice.{least_value}
 use Rattle.micro_block.specs.Frame.{IsBlockStep}
-use Rattle.micro_block.specs.Fewest.{first_least, IsFirstLeast}
 use Rattle.raster_values.proofs.Views.{same_bits}
-use Rattle.micro_block.proofs.Steps.{by_sizes}
 use Rattle.lerc_encode.specs.Heads.{header_of}
 use Rattle.lerc_encode.specs.Ranges.{greatest_value, leasts, greatests, front_bytes, is_bare, is_level}
 use Rattle.lerc_encode.specs.Images as images
 use Rattle.lerc_encode.specs.Images.{Form, blocks_bytes, mode_bytes, form_bytes, forms, chosen_form, ending, is_v4}
 use Rattle.lerc_encode.specs.inside.Blocked.{IsBlocked}
-use Rattle.lerc_encode.specs.inside.Choosing.{IsBase, IsChosen, named, form_at}
-use Rattle.lerc_encode.specs.declared.forms.ValueForm.{ValueForm}
+use Rattle.lerc_encode.specs.inside.Choosing.{IsBase}
 use Rattle.lerc_encode.proofs.Extremes.{all_least_fits, all_greatest_fits, length_values, length_leasts, length_greatests}
 
 -- ---- the header so far

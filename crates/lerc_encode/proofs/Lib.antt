@@ -6,6 +6,7 @@ mod Packing
 mod Forming
 mod WordBytes
 mod TableBytes
+mod FullRuns
 mod Kept
 mod SymbolForms
 mod SymbolSteps

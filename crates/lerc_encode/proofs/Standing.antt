@@ -22,7 +22,7 @@ use Rattle.lerc_grammar.specs.Image as grammar
 use Rattle.lerc_grammar.specs.Blocks.{coded_blocks, block_frame, coded_values, all_blocks, AreBlocks}
 use Rattle.lerc_encode.specs.Ranges.{greatest_value, depth_values, leasts, greatests, front_of}
 use Rattle.lerc_encode.specs.Heads.{header_of}
-use Rattle.lerc_encode.specs.Images.{Form, sweep, blocks_8, blocks_16, delta, plain, side_of, has_mode, may_be_delta, may_be_plain, is_v4, blocks_bytes, coded_bytes, mode_bytes, form_bytes}
+use Rattle.lerc_encode.specs.Images.{Form, sweep, blocks_8, blocks_16, delta, plain, side_of, has_mode, may_be_delta, may_be_plain, blocks_bytes, coded_bytes, mode_bytes, form_bytes}
 use Rattle.lerc_encode.specs.inside.Suits.{Suits, IsBeside}
 use Rattle.lerc_encode.proofs.Extremes.{all_of, greatest_above, greatest_in_range, value_among, value_of_all, values_in_range, depth_in_range, length_values}
 use Rattle.lerc_encode.proofs.SymbolForms.{delta_form, plain_form}

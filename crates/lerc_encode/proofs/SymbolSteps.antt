@@ -1,6 +1,6 @@
 -- Symbols as they are counted, measured and written.
 use Rattle.std.proofs.Common.{◌≡◌, ℕ, ◌+◌, ◌-◌, ◌*◌, ◌^◌, ◌<◌, ◌≤◌, Bool, true, false, List, [], ◌∷◌, ◌++◌, length, get_or, take, drop, replicate, refl, sym, ap, ◌∙◌, subst, arith, append_assoc, length-drop, Option, Some, None, ◌⊎◌, inl, inr}
-use Rattle.std.specs.Prelude.{cond, nat_eq, sum, set, slice_set, ◌&&◌, MatchOption}
+use Rattle.std.specs.Prelude.{nat_eq, sum, set, slice_set, ◌&&◌, MatchOption}
 use Rattle.std.specs.List.{count_by, flat_map, range_with_len}
 use Rattle.std.proofs.lemmas.Bool.{cases_eq, eq-eqb, ne_eqb}
 use Rattle.std.proofs.lemmas.List.{get_or-set_same, get_or-set_other, get_or-replicate, take-append-drop, length-take-le, take_all, drop-drop}
@@ -14,7 +14,7 @@ use Rattle.bit_stuff.proofs.Buffers.{end_written}
 use Rattle.raster_values.specs.Raster.{Pixels, IsRaster, valid_count}
 use Rattle.delta_mode.specs.Deltas.{deltas}
 use Rattle.huff_codes.proofs.ChosenTables.{laid_over, listed}
-use Rattle.lerc_encode.specs.Codings.{coding_bytes, counts_of, have_codes}
+use Rattle.lerc_encode.specs.Codings.{counts_of, have_codes}
 use Rattle.lerc_encode.specs.inside.Coded.{AreSymbols, HasSymbols, IsCodingOf}
 use Rattle.lerc_encode.specs.declared.codings.Coding.{Coding}
 use Rattle.lerc_encode.specs.declared.codings.Symbols.{Symbols}

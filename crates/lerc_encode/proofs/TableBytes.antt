@@ -1,20 +1,19 @@
 -- The chosen code table as a list of bytes, and symbols in code words behind it.
-use Rattle.std.proofs.Common.{◌≡◌, ℕ, ◌+◌, ◌-◌, ◌*◌, ◌%◌, ◌<◌, ◌≤◌, Bool, true, false, List, [], ◌∷◌, ◌++◌, length, get_or, slice_index, map, refl, sym, ap, ◌∙◌, subst, arith, length-append, Option, Some, None, ◌⊎◌, inl, inr}
+use Rattle.std.proofs.Common.{◌≡◌, ℕ, ◌+◌, ◌-◌, ◌*◌, ◌%◌, ◌<◌, ◌≤◌, Bool, true, false, List, ◌++◌, length, get_or, slice_index, map, refl, sym, ap, ◌∙◌, subst, arith, length-append, Option, Some, None, ◌⊎◌, inl, inr}
 use Rattle.std.specs.Prelude.{All, SomeIndex, cond, sum, nat_eq, nat_le, ◌&&◌, if◌then◌else◌, unwrap_or}
 use Rattle.std.specs.List.{count_by, list_all, range_with_len}
 use Rattle.std.proofs.lemmas.Bool.{cases_lt, leb-true, le-leb, lt-leb, and_parts, eq-eqb}
 use Rattle.std.proofs.lemmas.Bool.Decides.{nat_tests}
-use Rattle.std.proofs.lemmas.List.{get_or_past, get_or_default, get_or-append-add}
+use Rattle.std.proofs.lemmas.List.{get_or_past, get_or_default}
 use Rattle.std.proofs.lemmas.List.Sums.{AllPass-from_list_all, list_all-from_AllPass, get_or-le-sum_by}
 use Rattle.std.proofs.lemmas.List.Folds.{list_all_at}
 use Rattle.std.proofs.lemmas.List.FromFn.{length-map-range_with_len, get_or-map-range_with_len}
 use Rattle.bit_stuff.specs.Simple.{greatest_number, simple_bytes}
 use Rattle.bit_stuff.proofs.Digits.{greatest_above, greatest-lt}
-use Rattle.micro_block.specs.Fewest.{first_least}
 use Rattle.micro_block.proofs.Fewest.{is_first_least, IsTaken}
 use Rattle.first_fault.specs.Parts.{AreBytes}
-use Rattle.huff_codes.specs.Tree.{lengths_of, used_count}
-use Rattle.huff_codes.specs.Codes.{AreLengths, HasCode, canonical_codes}
+use Rattle.huff_codes.specs.Tree.{used_count}
+use Rattle.huff_codes.specs.Codes.{AreLengths, canonical_codes}
 use Rattle.huff_codes.specs.Words.{AreWords, joined_codes, word_count}
 use Rattle.huff_codes.specs.Table.{IsCoding, symbols_in}
 use Rattle.huff_codes.specs.Written.{AreWritten, HoldsUsed, IsShortestRun, IsTableSize, IsWrittenTable, run_lengths, table_head, written_size}

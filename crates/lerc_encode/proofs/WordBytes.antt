@@ -1,18 +1,17 @@
 -- Words as lists of bytes: they hold their bits, and written words are these.
-use Rattle.std.proofs.Common.{◌≡◌, ℕ, zero, suc, ◌+◌, ◌-◌, ◌*◌, ◌^◌, ◌<◌, ◌≤◌, Bool, true, false, List, [], ◌∷◌, ◌++◌, length, get_or, take, drop, replicate, refl, sym, ap, ◌∙◌, subst, arith, length-append, append_assoc, inl, inr}
+use Rattle.std.proofs.Common.{◌≡◌, ℕ, zero, suc, ◌+◌, ◌-◌, ◌*◌, ◌^◌, ◌<◌, ◌≤◌, Bool, true, false, List, [], ◌∷◌, ◌++◌, length, take, drop, replicate, refl, sym, ap, ◌∙◌, subst, arith, length-append, append_assoc, inl, inr}
 use Rattle.std.specs.Prelude.{if◌then◌else◌}
 use Rattle.std.proofs.lemmas.Bool.{cases_lt}
-use Rattle.std.proofs.lemmas.Nat.{pow_pos}
 use Rattle.std.proofs.lemmas.List.{length-replicate, drop_all, take-append-le, take-append-drop, length-take-le, length-drop, replicate-append-replicate, take-replicate}
 use Rattle.std.proofs.Math.Nat.{pow-succ'}
 use Rattle.std.proofs.Math.Seq.{take-append-add}
-use Rattle.byteorder.specs.Endian.{little_bytes, little_number}
+use Rattle.byteorder.specs.Endian.{little_bytes}
 use Rattle.bit_stuff.proofs.Numbers.{little_bytes-lt}
 use Rattle.first_fault.specs.Parts.{AreBytes}
 use Rattle.huff_codes.specs.Bits.{bits_of, word_bits}
 use Rattle.huff_codes.specs.Words.{joined_codes, word_count}
 use Rattle.huff_codes.specs.Written.{AreTableWords, AreWritten, IsFilled}
-use Rattle.huff_codes.proofs.BitLists.{bits-zero, bits-suc}
+use Rattle.huff_codes.proofs.BitLists.{bits-zero}
 use Rattle.huff_codes.proofs.Windows.{bits-append}
 use Rattle.huff_codes.proofs.Filling.{word-append, word-of, length-word}
 use Rattle.huff_codes.proofs.Once.{same_bytes}

@@ -1,7 +1,7 @@
 // The least and the greatest value of each depth of a raster.
 
-ghost use Rattle.std.specs.Prelude.{◌≡◌, ℕ, pos, ◌+◌, ◌*◌, ◌<◌, ◌≤◌, All, IfOk, length};
-ghost use Rattle.raster_values.specs.Raster.{valid_count, values_of};
+ghost use Rattle.std.specs.Prelude.{◌≡◌, ℕ, pos, ◌+◌, ◌*◌, ◌<◌, ◌≤◌, true, All, IfOk, length};
+ghost use Rattle.raster_values.specs.Raster.{IsRaster, valid_count, values_of};
 ghost use Rattle.raster_values.specs.PixelType.{InRange, type_greatest, type_least};
 ghost use Rattle.lane_kernels.specs.Kernels.{IsGreatest, IsLeast};
 ghost use Rattle.micro_block.specs.Choice.{least_value};
@@ -38,6 +38,27 @@ fn with_marked(range: Range, marks: &[bool], values: &[i64]) -> Range
     Range { least, greatest }
 }
 
+/// The range with all of the values.
+fn with_all(range: Range, values: &[i64]) -> Range
+    ensures { result ≡ grown range values.now }
+{
+    let mut least = range.least;
+    let mut greatest = range.greatest;
+    for value in values {
+        least = least.min(*value);
+        greatest = greatest.max(*value);
+    }
+    Range { least, greatest }
+}
+
+/// Whether every pixel is valid.
+fn is_full(raster: &Raster) -> bool
+    ensures sound { IsRaster raster.now }
+    ensures full { result ≡ true → valid_count raster.now ≡ raster.now.rows * raster.now.cols }
+{
+    raster.valid_count() == raster.rows() * raster.cols()
+}
+
 /// The range with the values at a depth of the valid ones among the pixels from a place on, as many
 /// as the buffers have room for.
 fn with_run(
@@ -53,8 +74,11 @@ fn with_run(
     requires within { place + length marks.old ≤ raster.now.rows * raster.now.cols }
     ensures { result ≡ grown range (run_values raster.now d place (length marks.old)) }
 {
-    raster.marks_from(place, marks);
     raster.values_from(place, d, values);
+    if is_full(raster) {
+        return with_all(range, values);
+    }
+    raster.marks_from(place, marks);
     with_marked(range, marks, values)
 }
 

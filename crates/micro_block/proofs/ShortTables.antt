@@ -1,5 +1,5 @@
 -- Where a table can be shorter, and how many different numbers there are at least.
-use Rattle.std.proofs.Common.{◌≡◌, ℕ, ℤ, map, zero, suc, ◌+◌, ◌-◌, ◌*◌, ◌/◌, ◌%◌, ◌^◌, ◌<◌, ◌≤◌, Bool, true, false, List, [], ◌∷◌, ◌++◌, length, get_or, take, refl, sym, ap, subst, ◌∙◌, arith, inl, inr}
+use Rattle.std.proofs.Common.{◌≡◌, ℕ, ℤ, map, zero, suc, ◌+◌, ◌-◌, ◌*◌, ◌/◌, ◌%◌, ◌^◌, ◌<◌, ◌≤◌, Bool, cond, true, false, List, [], ◌∷◌, ◌++◌, length, get_or, take, refl, sym, ap, subst, ◌∙◌, arith, inl, inr}
 use Rattle.std.specs.Prelude.{set, min}
 use Rattle.std.proofs.lemmas.Bool.{cases_eq, cases_lt}
 use Rattle.std.proofs.lemmas.List.{get_or-set_other, get_or-set_same}
@@ -229,3 +229,22 @@ front_has g (v ∷ values) (suc k) z (inr h) = inr (front_has g values k z h)
 
 pub front_distinct : (g : ℤ → ℕ) (values : List ℤ) (k bound : ℕ) → bound < distinct_above_0 (map g (take k values)) → bound < distinct_above_0 (map g values)
 front_distinct g values k bound h = let le = distinct_fit (map g (take k values)) (map g values) (λ z has. front_has g values k z has) in omega (arith, le, h)
+
+-- a number that is marked, whether its remainder was before or not
+pub seen_next : (seen : List Bool) (count : ℕ) (front : List ℕ) (x n : ℕ) → x % 1024 < length seen → n ≡ cond (get_or seen (x % 1024) false) 0 1 → AreSeen seen count front → AreSeen (set seen (x % 1024) true) (count + n) (front ++ x ∷ [])
+unfolding seen_again
+seen_next seen count front x n within e s = by (get_or seen (x % 1024) false) refl
+  where
+    kept : (r : ℕ) → get_or seen r false ≡ true → get_or (set seen (x % 1024) true) r false ≡ true
+    kept r h = elim (cases_eq r (x % 1024)) [
+      | inl same ↦ subst (λ (u : ℕ). get_or (set seen (x % 1024) true) u false ≡ true) (sym same) (get_or-set_same seen (x % 1024) true false within)
+      | inr other ↦ get_or-set_other seen (x % 1024) r true false other ∙ h
+    ]
+
+    by : (b : Bool) → get_or seen (x % 1024) false ≡ b → AreSeen (set seen (x % 1024) true) (count + n) (front ++ x ∷ [])
+    by false new = subst (λ m. AreSeen (set seen (x % 1024) true) (count + m) (front ++ x ∷ [])) (sym (e ∙ ap (λ (b : Bool). cond b 0 1) new)) (seen_first seen count front x within new s)
+    by true again =
+        let none : n ≡ 0 = e ∙ ap (λ (b : Bool). cond b 0 1) again in
+        let a = seen_again seen count front x s in
+        let size = s.size in
+        record { members = s.members; size = omega (arith, size, none); different = s.different; from = a.from; marked = λ z h. kept (z % 1024) (s.marked z h) }

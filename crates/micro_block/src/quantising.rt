@@ -18,6 +18,9 @@ pub(crate) fn quantised_value(value: i64, least: i64, step: u64) -> u64
     ensures { result ≡ quantised step least value }
 {
     let distance = (value - least) as u64;
+    if step == 1 {
+        return distance;
+    }
     (2 * distance + step) / (2 * step)
 }
 

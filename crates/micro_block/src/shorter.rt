@@ -51,12 +51,10 @@ pub(crate) fn has_more(qs: &[u32], bound: usize) -> bool
     let mut count = 0;
     for q in qs {
         let place = (*q % 1024) as usize;
-        if !seen[place] {
-            seen[place] = true;
-            count += 1;
-            if count > bound + 1 {
-                return true;
-            }
+        count += usize::from(!seen[place]);
+        seen[place] = true;
+        if count > bound + 1 {
+            return true;
         }
     }
     false

@@ -1,6 +1,6 @@
 // How long a block is in each form.
 
-ghost use Rattle.std.specs.Prelude.{◌≡◌, ℕ, ℤ, pos, ◌+◌, ◌≤◌, ◌<◌, ◌^◌, ◌≤ℤ◌, length, map};
+ghost use Rattle.std.specs.Prelude.{◌≡◌, ℕ, ℤ, pos, ◌+◌, ◌≤◌, ◌<◌, ◌^◌, ◌≤ℤ◌, ◌-ℤ◌, length, map};
 ghost use Rattle.std.specs.Prelude.{unsigned_abs, true, Some, None, All, IfSome, ◌⊎◌};
 ghost use Rattle.micro_block.specs.inside.Forms.{AreListable};
 ghost use Rattle.bit_stuff.specs.Head.{head_size};
@@ -141,6 +141,19 @@ fn narrow(wide: &[i64], out: &mut [u32])
     }
 }
 
+/// Writes how far each value is above `least`.
+fn distances(values: &[i64], least: i64, out: &mut [u32])
+    requires lengths { length out.old ≡ length values.now }
+    requires small { All IsSmall values.now }
+    requires small_least { IsSmall least }
+    requires fits { All (λ v. (least ≤ℤ v) × (unsigned_abs (v -ℤ least) < 2 ^ 32)) values.now }
+    ensures { out.new ≡ map (λ v. unsigned_abs (v -ℤ least)) values.now }
+{
+    for (i, value) in values.iter().enumerate() {
+        out[i] = (*value - least) as u32;
+    }
+}
+
 /// Writes the number of steps of each value from `least`, with room for as many with a sign.
 fn steps_through(values: &[i64], least: i64, step: u64, wide: &mut [i64], out: &mut [u32])
     requires lengths { length out.old ≡ length values.now }
@@ -159,7 +172,12 @@ pub(crate) fn steps_of(values: &[i64], least: i64, step: u64, out: &mut [u32])
     ensures { out.new ≡ map (quantised step least) values.now }
 {
     let count = values.len();
-    if count <= 64 {
+    if step == 1 {
+        distances(values, least, out);
+    } else if count <= 32 {
+        let mut wide = [0; 32];
+        steps_through(values, least, step, &mut wide[..count], out);
+    } else if count <= 64 {
         let mut wide = [0; 64];
         steps_through(values, least, step, &mut wide[..count], out);
     } else {
@@ -191,6 +209,24 @@ fn table_within(
     table_len(qs)
 }
 
+/// The same, with room that it makes.
+fn table_of(values: &[i64], least: i64, step: u64, bound: usize) -> Option<usize>
+    requires listable { AreListable step least values.now }
+    requires bound { bound ≤ 256 }
+    ensures value { (result ≡ table_size (map (quantised step least) values.now))
+        ⊎ ((result ≡ None) × (bound < distinct_above_0 (map (quantised step least) values.now))) }
+    ensures short { IfSome result (λ n. n ≤ 2000) }
+{
+    let count = values.len();
+    if count <= 64 {
+        let mut qs = [0; 64];
+        table_within(values, least, step, bound, &mut qs[..count])
+    } else {
+        let mut qs = [0; 256];
+        table_within(values, least, step, bound, &mut qs[..count])
+    }
+}
+
 /// Whether more different numbers of steps above 0 than the bound are found, with room for them.
 fn has_more_steps(values: &[i64], least: i64, step: u64, bound: usize, qs: &mut [u32]) -> bool
     requires lengths { length qs.old ≡ length values.now }
@@ -209,7 +245,7 @@ fn front_has_more(values: &[i64], least: i64, step: u64, bound: usize) -> bool
     requires bound { bound ≤ 256 }
     ensures { result ≡ true → bound < distinct_above_0 (map (quantised step least) values.now) }
 {
-    if bound > 20 {
+    if bound > 28 {
         return false;
     }
     let count = values.len().min(32);
@@ -244,6 +280,5 @@ pub(crate) fn tabled_len(
     if front_has_more(values, least, step, bound) {
         return None;
     }
-    let mut qs = [0; 256];
-    table_within(values, least, step, bound, &mut qs[..values.len()])
+    table_of(values, least, step, bound)
 }

@@ -131,8 +131,14 @@ fn write_simple_list(values: &[i64], least: i64, step: u64, out: &mut [u8])
     requires room { length out.old ≡ length (simple_bytes (map (quantised step least) values.now)) }
     ensures { out.new ≡ simple_bytes (map (quantised step least) values.now) }
 {
-    let mut qs = [0; 256];
-    write_simple_steps(values, least, step, &mut qs[..values.len()], out);
+    let count = values.len();
+    if count <= 64 {
+        let mut qs = [0; 64];
+        write_simple_steps(values, least, step, &mut qs[..count], out);
+    } else {
+        let mut qs = [0; 256];
+        write_simple_steps(values, least, step, &mut qs[..count], out);
+    }
 }
 
 /// Writes the list of the numbers of steps in the table form.

@@ -1,4 +1,4 @@
 mod Passing
-mod Refusals
+pub mod Refusals
 mod SoFar
 mod StreamsDecided

@@ -5,6 +5,7 @@ use Rattle.std.proofs.lemmas.List.{append-nil}
 use Rattle.first_fault.specs.Faults.{moved}
 use Rattle.first_fault.proofs.Parts.{single-moved}
 use Rattle.lerc_header.specs.declared.header.Version.{Version}
+use Rattle.lerc_encode.specs.Encoded.{NeedsV4}
 use Rattle.tile_stream.specs.declared.tile.Tile.{Tile}
 use Rattle.tile_stream.specs.declared.tile.TileReason.{TileReason}
 use Rattle.tile_stream.specs.Stream.{IsStream}
@@ -15,7 +16,7 @@ use Rattle.tile_updates.specs.declared.stop.StreamStop.{StreamStop}
 use Rattle.tile_updates.specs.declared.stop.StreamStop.TheVariants.{TooManyTiles, Fault, DepthNeedsV4, TileTooLarge, KeptTooMuch, Source, OutOfMemory}
 use Rattle.tile_updates.specs.Laws.{StopsAreOnce, UpdatesAreOnce, UpdatesOrStop}
 use Rattle.tile_updates.specs.Stops.{HasTile, IsRefused, IsStreamStop, IsTooLong, IsTooMuch}
-use Rattle.tile_updates.specs.Updates.{AllPass, NeedsV4, updates_of}
+use Rattle.tile_updates.specs.Updates.{AllPass, updates_of}
 use Rattle.tile_updates.proofs.Passing.{MayFollow, pass_next}
 
 -- ---- the next tile

@@ -11,7 +11,7 @@ use Rattle.raster_values.specs.ReadGrid.{TookBytes, TookSome}
 use Rattle.raster_values.proofs.Taken.{ended, took_join, took_more, took_none}
 use Rattle.lerc_header.specs.declared.header.Version.{Version}
 use Rattle.lerc_encode.specs.Choice.{choice}
-use Rattle.lerc_encode.specs.Encoded.{IsEncodedOnce}
+use Rattle.lerc_encode.specs.Encoded.{IsEncodedOnce, NeedsV4}
 use Rattle.bundle_store.specs.declared.tile_rec.TileRec.{TileRec}
 use Rattle.bundle_store.specs.Build.{EachFits}
 use Rattle.tile_stream.specs.declared.tile.Tile.{Tile}
@@ -24,7 +24,7 @@ use Rattle.tile_updates.specs.declared.stop.StreamStop.{StreamStop}
 use Rattle.tile_updates.specs.declared.stop.StreamStop.TheVariants.{TooManyTiles, Fault, DepthNeedsV4, TileTooLarge, KeptTooMuch, Source, OutOfMemory}
 use Rattle.tile_updates.specs.declared.updates.SoFar.{SoFar}
 use Rattle.tile_updates.specs.Stops.{HasTile, IsRefused, IsStreamStop, IsTooLong, IsTooMuch, TellsStop}
-use Rattle.tile_updates.specs.Updates.{AreEncoded, IsUpdates, NeedsV4, OfBytes, Passes, update_of, updates_of}
+use Rattle.tile_updates.specs.Updates.{AreEncoded, IsUpdates, OfBytes, Passes, update_of, updates_of}
 use Rattle.tile_updates.specs.inside.SoFar.{AddsTile, AddsOne, AsksOne, IsMade, IsRoomy, IsSoFar, RefusesNext, TakesTile}
 use Rattle.tile_updates.proofs.Passing.{MayFollow, kept_push, none_pass, pass_push, updates_push}
 

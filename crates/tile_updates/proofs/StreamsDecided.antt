@@ -6,6 +6,7 @@ use Rattle.first_fault.specs.Parts.{AreBytes, InFront, HasFault}
 use Rattle.lerc_header.specs.declared.header.Version.{Version}
 use Rattle.lerc_header.specs.declared.header.Version.TheVariants.{V3, V4}
 use Rattle.lerc_encode.specs.Choice.{choice}
+use Rattle.lerc_encode.specs.Encoded.{NeedsV4}
 use Rattle.bundle_store.specs.declared.tile_rec.TileRec.{TileRec}
 use Rattle.raster_values.specs.Raster.{Pixels}
 use Rattle.tile_stream.specs.declared.tile.Tile.{Tile}
@@ -17,7 +18,7 @@ use Rattle.tile_updates.specs.declared.stop.StreamStop.{StreamStop}
 use Rattle.tile_updates.specs.declared.stop.StreamStop.TheVariants.{TooManyTiles, Fault, DepthNeedsV4, TileTooLarge, KeptTooMuch}
 use Rattle.tile_updates.specs.Laws.{StreamsAreDecided}
 use Rattle.tile_updates.specs.Stops.{HasTile, IsRefused, IsStreamStop, IsTooLong, IsTooMuch}
-use Rattle.tile_updates.specs.Updates.{AllPass, IsUpdates, NeedsV4, Passes, kept_bytes, updates_of}
+use Rattle.tile_updates.specs.Updates.{AllPass, IsUpdates, Passes, kept_bytes, updates_of}
 use Rattle.tile_updates.proofs.Passing.{MayFollow, none_pass, pass_push}
 
 -- ---- the next tile

@@ -4,12 +4,13 @@ use Rattle.std.specs.Prelude.{◌≡◌, ℕ, ◌+◌, ◌^◌, ◌<◌, List, [
 use Rattle.first_fault.specs.Faults.{moved}
 use Rattle.lerc_header.specs.declared.header.Version.{Version}
 use Rattle.lerc_encode.specs.Choice.{choice}
+use Rattle.lerc_encode.specs.Encoded.{NeedsV4}
 use Rattle.tile_stream.specs.declared.tile.Tile.{Tile}
 use Rattle.tile_stream.specs.Tile.{IsTile, tile_faults}
 use Rattle.tile_stream.specs.Stream.{IsStream}
 use Rattle.tile_updates.specs.declared.stop.StreamStop.{StreamStop}
 use Rattle.tile_updates.specs.declared.stop.StreamStop.TheVariants.{TooManyTiles, Fault, DepthNeedsV4, TileTooLarge, KeptTooMuch, Source, OutOfMemory}
-use Rattle.tile_updates.specs.Updates.{AllPass, NeedsV4, OfBytes, Passes, kept_bytes, updates_of}
+use Rattle.tile_updates.specs.Updates.{AllPass, OfBytes, Passes, kept_bytes, updates_of}
 
 -- a whole tile stands in front of the bytes, and it is such
 pub record HasTile (rest : List ℕ) (Such : Tile → Type 0) : Type 0 where

@@ -1,11 +1,9 @@
 -- The updates that an input of tiles asks for: for each tile, in order, its slot and the blob that
 -- is chosen for its raster.
-use Rattle.std.specs.Prelude.{◌≡◌, ℕ, ◌^◌, ◌<◌, ◌≤◌, List, length, map, sum, All, Option, None, Some}
-use Rattle.raster_values.specs.Raster.{Pixels}
+use Rattle.std.specs.Prelude.{◌≡◌, ℕ, ◌^◌, ◌≤◌, List, length, map, sum, All, Option, None, Some}
 use Rattle.lerc_header.specs.declared.header.Version.{Version}
-use Rattle.lerc_header.specs.declared.header.Version.TheVariants.{V3}
 use Rattle.lerc_encode.specs.Choice.{choice}
-use Rattle.lerc_encode.specs.Encoded.{IsEncodedOnce}
+use Rattle.lerc_encode.specs.Encoded.{IsEncodedOnce, NeedsV4}
 use Rattle.bundle_store.specs.declared.tile_rec.TileRec.{TileRec}
 use Rattle.tile_stream.specs.declared.tile.Tile.{Tile}
 use Rattle.tile_stream.specs.Stream.{IsStream}
@@ -20,10 +18,6 @@ updates_of v step tiles = map (update_of v step) tiles
 -- how many bytes the blobs have together
 abbrev pub kept_bytes : List TileRec → ℕ
 kept_bytes updates = sum (map (λ u. length u.bytes) updates)
-
--- version 3 has no place for more than one depth
-abbrev pub NeedsV4 : Version → Pixels → Type 0
-NeedsV4 v r = (v ≡ V3) × (1 < r.depth)
 
 -- the version has a place for the tile's depths, and its blob is one that a bundle can hold
 pub record Passes (v : Version) (step : ℕ) (t : Tile) : Type 0 where

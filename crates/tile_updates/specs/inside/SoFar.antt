@@ -5,7 +5,7 @@ use Rattle.outside_io.specs.streams.Source.{IsAtEnd}
 use Rattle.raster_values.specs.ReadGrid.{TookBytes, TookSome}
 use Rattle.lerc_header.specs.declared.header.Version.{Version}
 use Rattle.lerc_encode.specs.Choice.{choice}
-use Rattle.lerc_encode.specs.Encoded.{IsEncodedOnce}
+use Rattle.lerc_encode.specs.Encoded.{IsEncodedOnce, NeedsV4}
 use Rattle.bundle_store.specs.declared.tile_rec.TileRec.{TileRec}
 use Rattle.tile_stream.specs.declared.tile.Tile.{Tile}
 use Rattle.tile_stream.specs.declared.tile.TileStop.TheVariants.{Fault as TileFaultOf}
@@ -15,7 +15,7 @@ use Rattle.tile_updates.specs.declared.stop.StreamStop.{StreamStop}
 use Rattle.tile_updates.specs.declared.stop.StreamStop.TheVariants.{TooManyTiles, Fault, DepthNeedsV4, TileTooLarge, KeptTooMuch, Source, OutOfMemory}
 use Rattle.tile_updates.specs.declared.updates.SoFar.{SoFar}
 use Rattle.tile_updates.specs.Stops.{IsTooLong}
-use Rattle.tile_updates.specs.Updates.{AllPass, NeedsV4, Passes, kept_bytes, update_of, updates_of}
+use Rattle.tile_updates.specs.Updates.{AllPass, Passes, kept_bytes, update_of, updates_of}
 
 -- one tile more can be added
 pub record IsRoomy (done : SoFar) : Type 0 where

@@ -1,4 +1,4 @@
-use Rattle.std.proofs.Common.{refl, sym, ap, ◌∙◌, ◌∷◌, [], length, Some}
+use Rattle.std.proofs.Common.{refl, ap, ◌∙◌, ◌∷◌, [], length, Some}
 use Rattle.lerc_encode.proofs.Candidates.{chosen_is, delta_size, plain_size}
 use Rattle.lerc_encode.proofs.Forming.{base_blocked, large_blocked, sweep_is, small_is, large_is}
 use Rattle.lerc_encode.proofs.choosing.choose.Goals as goal

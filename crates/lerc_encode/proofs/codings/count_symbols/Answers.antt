@@ -1,6 +1,4 @@
-use Rattle.std.proofs.Common.{◌≡◌, ◌<◌, ◌≤◌, ◌+◌, ℕ, length, get_or, sym, ◌∙◌, arith}
-use Rattle.std.specs.Prelude.{sum}
-use Rattle.std.proofs.lemmas.List.Sums.{get_or-le-sum_by}
+use Rattle.std.proofs.Common.{◌≡◌, get_or, arith}
 use Rattle.lerc_encode.proofs.SymbolSteps.{counts_begin, counts_more, counts_all}
 use Rattle.lerc_encode.proofs.codings.count_symbols.Goals as goal
 

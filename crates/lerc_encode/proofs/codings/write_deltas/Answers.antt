@@ -1,8 +1,7 @@
-use Rattle.std.proofs.Common.{◌≡◌, ◌+◌, ◌*◌, ◌≤◌, ◌<◌, ◌++◌, List, [], length, drop, sym, ap, ◌∙◌, arith}
+use Rattle.std.proofs.Common.{◌≡◌, ◌*◌, ◌++◌, [], length, drop, sym, ap, ◌∙◌, arith}
 use Rattle.std.specs.List.{flat_map, range_with_len}
 use Rattle.std.proofs.lemmas.List.{append-nil, drop_all}
 use Rattle.delta_mode.specs.Deltas.{deltas}
-use Rattle.raster_values.specs.Raster.{valid_count}
 use Rattle.lerc_encode.specs.Images.{all_deltas}
 use Rattle.lerc_encode.proofs.SymbolSteps.{depth_more}
 use Rattle.lerc_encode.proofs.codings.write_deltas.Goals as goal

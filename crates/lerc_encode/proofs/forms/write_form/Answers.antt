@@ -1,4 +1,4 @@
-use Rattle.std.proofs.Common.{◌≡◌, ℕ, ◌∷◌, ap, sym, subst, ◌∙◌, length, arith}
+use Rattle.std.proofs.Common.{◌≡◌, ℕ, ap, sym, subst, ◌∙◌, length}
 use Rattle.std.specs.Prelude.{◌&&◌}
 use Rattle.raster_values.specs.Raster.{Pixels}
 use Rattle.lerc_header.specs.declared.header.Version.{Version}
@@ -10,8 +10,6 @@ use Rattle.lerc_encode.specs.Images.{form_bytes}
 use Rattle.lerc_encode.specs.inside.Choosing.{named}
 use Rattle.lerc_encode.specs.declared.forms.ValueForm.{ValueForm}
 use Rattle.lerc_encode.proofs.Forming.{base_blocked, large_blocked, sweep_is, small_is, large_is}
-use Rattle.lerc_encode.specs.Codings.{coding_bytes}
-use Rattle.lerc_encode.specs.inside.Coded.{AreCodings}
 use Rattle.lerc_encode.specs.inside.Choosing.{IsChosen}
 use Rattle.lerc_encode.specs.declared.choosing.Chosen.{Chosen}
 use Rattle.lerc_encode.proofs.Candidates.{chosen_may, delta_is, plain_is}

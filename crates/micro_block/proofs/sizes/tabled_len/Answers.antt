@@ -31,8 +31,8 @@ found_either values step bound width most m found least is some few digits long 
     subst (λ (o : Option ℕ). IsTabledLength step values o) (sym h.0)
     (longer values step bound width most is some digits (subst (λ (z : ℤ). bound < distinct_above_0 (map (quantised step z) values)) least h.1) long)
 
-pub table_within-requires-clause-listable : goal.table_within-requires-clause-listable
-table_within-requires-clause-listable c =
+pub table_of-requires-clause-listable : goal.table_of-requires-clause-listable
+table_of-requires-clause-listable c =
     listable_below c.args.kind c.args.step c.args.values.now (to_z w64 (of_z w64 c.args.least)) c.requires.count c.requires.in_range c.requires.step.0 c.requires.step.1
     (to_z-of_z w64 c.args.least c.ranges.least ∙ c.requires.least) (omega (arith, c.requires.most, c.if-most.false))
 
@@ -56,8 +56,8 @@ returns-then-bound-eq0-clause-value c =
 
 pub returns-clause-value : goal.returns-clause-value
 returns-clause-value c =
-    found_either c.args.values.now c.args.step c.most_entries-bound.result c.digit_count.result c.args.most (to_z w64 (of_z w64 c.args.least)) c.table_within.result
-    (to_z-of_z w64 c.args.least c.ranges.least ∙ c.requires.least) c.requires.most (omega arith) (omega arith) c.digit_count.ensures.value c.most_entries-bound.ensures.long c.table_within.ensures.value
+    found_either c.args.values.now c.args.step c.most_entries-bound.result c.digit_count.result c.args.most (to_z w64 (of_z w64 c.args.least)) c.table_of.result
+    (to_z-of_z w64 c.args.least c.ranges.least ∙ c.requires.least) c.requires.most (omega arith) (omega arith) c.digit_count.ensures.value c.most_entries-bound.ensures.long c.table_of.ensures.value
 
 pub returns-then-front_has_more-clause-value : goal.returns-then-front_has_more-clause-value
 returns-then-front_has_more-clause-value c =
