@@ -2,7 +2,7 @@
 use Rattle.std.specs.Prelude.{◌≡◌, ℕ, ◌+◌, ◌*◌, ◌/◌, ◌<◌, ◌≤◌, Bool, true, List, length, get_or, drop, ◌++◌, is_some, None, nat_eq, if◌then◌else◌}
 use Rattle.raster_values.specs.declared.kind.PixelType.{PixelType}
 use Rattle.raster_values.specs.PixelType.{bytes_of, code_of, Spells}
-use Rattle.raster_values.specs.Raster.{Pixels, IsRaster}
+use Rattle.raster_values.specs.Raster.{Pixels, IsRaster, HasZero, IsTooLarge}
 use Rattle.raster_values.specs.Grid.{values_bytes}
 use Rattle.raster_values.specs.Flat.{all_values, value_in}
 use Rattle.raster_values.specs.Order.{mask_bit, IsMaskOf}
@@ -66,6 +66,10 @@ pub record IsGiven (kind : PixelType) (rows cols depth : ℕ) (values mask : Lis
 pub record GivesSizes (kind : PixelType) (rows cols depth values mask : ℕ) : Type 0 where
   pub values_is : values ≡ values_size kind rows cols depth
   pub mask_is : (mask ≡ 0 → ⊥) → mask ≡ mask_size rows cols
+
+-- there are rasters of the shape
+abbrev pub IsAllowed : ℕ → ℕ → ℕ → Type 0
+IsAllowed rows cols depth = (¬ HasZero rows cols depth) × (¬ IsTooLarge rows cols depth)
 
 -- the blob that is chosen for a raster, which is one of exactly one raster near it
 pub record IsBlobOf (blob : List ℕ) (r : Pixels) (version : Version) (step : ℕ) : Type 0 where
