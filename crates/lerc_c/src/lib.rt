@@ -160,7 +160,7 @@ pub extern "C" fn futskheri_encode(
     ensures no_room { result ≡ 9 → WithKind kind (λ k. WithVersion version (λ v. IsTooLong
         k rows cols depth values.now mask.now v (step_of error) size.new (length out.old))) }
     ensures bad_kind { result ≡ 4 → (k : PixelType) → kind ≢ code_of k }
-    ensures bad_version { result ≡ 5 → (v : Version) → version ≢ number_of v }
+    ensures bad_version { result ≡ 5 → WithKind kind (λ _. (v : Version) → version ≢ number_of v) }
     ensures bad_shape { result ≡ 6 → HasZero rows cols depth }
     ensures too_large { result ≡ 7 → ¬ HasZero rows cols depth × IsTooLarge rows cols depth }
     ensures sizes { result ≡ 3 → IsAllowed rows cols depth × WithKind kind (λ k.
