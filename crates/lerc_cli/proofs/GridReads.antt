@@ -17,7 +17,7 @@ use Rattle.lerc_cli.specs.declared.command.Command.TheVariants.{Encode}
 use Rattle.lerc_cli.specs.declared.stop.Reason.{Reason}
 use Rattle.lerc_cli.specs.declared.stop.Reason.TheVariants.{Blob, Grid, Leftover, DepthNeedsV4}
 use Rattle.lerc_cli.specs.declared.stop.Stop.{Stop}
-use Rattle.lerc_cli.specs.declared.stop.Stop.TheVariants.{Usage, Refused, Source, Output, Volume, OutOfMemory}
+use Rattle.lerc_cli.specs.declared.stop.Stop.TheVariants.{Usage, Refused, Source, Output, Volume, OutOfMemory, Store}
 use Rattle.lerc_grammar.specs.Near.{Near, NearestIsSame}
 use Rattle.lerc_encode.specs.Choice.{choice}
 use Rattle.lerc_encode.specs.Encoded.{Declares, IsEncodedOnce, NeedsV4}
@@ -110,6 +110,7 @@ read_stop version error input files Source h = (tt_true, refl, refl)
 read_stop version error input files Output h = absurd h
 read_stop version error input files Volume h = absurd h
 read_stop version error input files OutOfMemory h = (tt, refl, refl)
+read_stop version error input files (Store s) h = absurd h
 
 pub not_output : (input : Option (List ℕ)) (stop : Stop) → ReadsGrid input (Err stop) → stop ≡ Output → ⊥
 not_output input stop h is = let none : ReadsGrid input (Err Output) = subst (λ (s : Stop). ReadsGrid input (Err s)) is h in none
@@ -129,6 +130,7 @@ made_stop version error input files r Source told h = absurd h
 made_stop version error input files r Output told h = absurd h
 made_stop version error input files r Volume told h = absurd h
 made_stop version error input files r OutOfMemory told h = (tt, refl, refl)
+made_stop version error input files r (Store s) told h = absurd h
 
 pub made_no_output : (version : Version) (error : ℕ) (r : Pixels) (stop : Stop) → MakesBlob version error r (Err stop) → stop ≡ Output → ⊥
 made_no_output version error r stop h is = let none : MakesBlob version error r (Err Output) = subst (λ (s : Stop). MakesBlob version error r (Err s)) is h in none
