@@ -26,6 +26,7 @@ mod info_tests;
 mod keeping;
 mod laws;
 mod lines;
+mod numbers;
 mod opening;
 mod outline_lines;
 mod paths;
@@ -39,6 +40,7 @@ mod tile;
 
 use arguments::ProcessArguments;
 use lines::tell;
+use numbers::hold_numbers;
 use outside_io::{FileVolume, NoVolume, StdSink, StdSource};
 use paths::bundle_paths;
 use program::{exit_code, serve};
@@ -47,6 +49,7 @@ use stop::Stop;
 
 fn main(rt: HostRuntime) -> ExitCode {
     let alloc = rt.alloc();
+    let _held = hold_numbers(&rt);
     let args = ProcessArguments::new(&rt);
     let mut src = StdSource::new(rt.stdin());
     let mut out = StdSink::new(rt.stdout());
