@@ -30,6 +30,9 @@ mod opening;
 mod outline_lines;
 mod paths;
 mod program;
+mod put;
+#[cfg(test)]
+mod put_tests;
 mod reading;
 mod run;
 mod stop;
