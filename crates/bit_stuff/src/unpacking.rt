@@ -161,9 +161,9 @@ fn unstuff_short(bytes: &[u8], width: u32, out: &mut [u32])
     }
 }
 
-/// Reads as many numbers of `width` bits as `out` has from the front of the bytes, as `unstuff` does
-/// from bytes that are just theirs. What follows them changes nothing; but where eight bytes or more
-/// follow, it is faster.
+/// Reads as many numbers of `width` bits as `out` has from the front of the bytes, as `unstuff`
+/// does from bytes that are just theirs. What follows them changes nothing; but where eight bytes
+/// or more follow, it is faster.
 pub fn unstuff_front(bytes: &[u8], width: u32, out: &mut [u32])
     requires count { length out.old ≤ 2 ^ 24 }
     requires width { width ≤ 31 }

@@ -1,5 +1,5 @@
 -- How puts end.
-use Rattle.std.proofs.Common.{◌≡◌, ◌↔◌, ℕ, ◌+◌, ◌^◌, ◌<◌, List, [], ◌∷◌, ◌++◌, length, take, get_or, Option, Bool, true, false, Ok, Err, refl, sym, ap, subst, ◌∙◌, inl, inr, arith, length-append}
+use Rattle.std.proofs.Common.{◌≡◌, ◌↔◌, ℕ, ◌+◌, ◌^◌, ◌<◌, ◌≤◌, List, [], ◌∷◌, ◌++◌, length, take, get_or, Option, Bool, true, false, Ok, Err, refl, sym, ap, subst, ◌∙◌, inl, inr, arith, length-append}
 use Rattle.std.specs.Prelude.{IsTrue, IsErrOf}
 use Rattle.std.proofs.lemmas.Bool.{cases_lt}
 use Rattle.std.proofs.lemmas.List.{take_all}
@@ -29,6 +29,7 @@ pub record ToldEnd (end : PutEnd) (us : List TileRec) (marks : List ℕ) (s : Se
   pub room : EndsByRoom end (contents Bundle old) us (length marks)
   pub images : IsReadable (contents Bundle old) → PutsKeep (tiles (contents Bundle old)) us marks old new
   pub tiles_are : IsReadable (contents Bundle old) → UnlessVolume end (EachImage (λ map. map ≡ map_after (tiles (contents Bundle old)) (take (length marks) us)) (current new))
+  pub later : old.moment ≤ new.moment
   pub marks_are : AreMarks marks old.moment new.moment
   pub ready : UnlessVolume end (IsReadyToPut s (current new))
 
@@ -82,6 +83,7 @@ ended_well us k marks s told told_new old new held held_new so all = record {
     room = room_by us k marks s old new stand so.count;
     images = stand.images;
     tiles_are = tiles_by us k marks s old new stand so.count;
+    later = stand.later;
     marks_are = stand.marks_are;
     ready = stand.ready;
   };
@@ -129,6 +131,7 @@ module _ (us : List TileRec) (k : ℕ) (u : TileRec) (marks marks_new : List ℕ
           room = room_by us (k + 1) marks_new s_new old new stand count;
           images = stand.images;
           tiles_are = tiles_by us (k + 1) marks_new s_new old new stand count;
+          later = stand.later;
           marks_are = stand.marks_are;
           ready = stand.ready;
         };
@@ -153,6 +156,7 @@ module _ (us : List TileRec) (k : ℕ) (u : TileRec) (marks marks_new : List ℕ
               room = subst (HaveRoom (contents Bundle old) us) (sym count) stand.room;
               images = λ readable. subst (λ (x : List ℕ). PutsKeep (tiles (contents Bundle old)) us x old new) (sym turned.0) (images_so us k u marks s s_new old mid new stand so.count below is (during t) readable);
               tiles_are = λ readable. tt;
+              later = omega (arith, stand.later, (during t).later);
               marks_are = subst (λ (x : List ℕ). AreMarks x old.moment new.moment) (sym turned.0) (marks_so us k u marks s s_new old mid new stand so.count below is (during t));
               ready = tt;
             };
@@ -185,6 +189,7 @@ module _ (us : List TileRec) (k : ℕ) (u : TileRec) (marks marks_new : List ℕ
               };
               images = stand.images;
               tiles_are = tiles_by us k marks_new s_new old new stand count;
+              later = stand.later;
               marks_are = stand.marks_are;
               ready = stand.ready;
             };

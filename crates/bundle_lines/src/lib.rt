@@ -11,6 +11,8 @@ mod lines;
 mod listing;
 mod puts;
 mod stop;
+#[cfg(test)]
+mod tests;
 
 pub use checking::check_all;
 pub use lines::{give_built, give_recovery, give_report};

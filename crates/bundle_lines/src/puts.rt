@@ -121,6 +121,8 @@ pub fn put_all<V: Volume, K: Sink>(
         (current (V.history vol.new))) }
     ensures marks { IsTrue (V.told vol.old) → AreMarks marks.new.marks (V.history vol.old).moment
         (V.history vol.new).moment }
+    ensures later { IsTrue (V.told vol.old) →
+        (V.history vol.old).moment ≤ (V.history vol.new).moment }
     ensures ready { IsTrue (V.told vol.old) → UnlessVolume result
         (IsReadyToPut session.new (current (V.history vol.new))) }
     ensures stops { session.new.stopped ≡ true ↔ IsErrOf result PutStop.Volume }

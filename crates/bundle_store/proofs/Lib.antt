@@ -5,8 +5,8 @@ mod Fronts
 pub mod PutLaws
 mod Layouts
 mod Numbering
-mod OneRecovery
-mod Opening
+pub mod OneRecovery
+pub mod Opening
 mod Padded
 mod Putting
 mod Recovering

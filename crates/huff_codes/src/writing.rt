@@ -135,7 +135,8 @@ pub(crate) fn fill(codes: &[Code; 256], symbols: &[u8], out: &mut [u8])
     requires laid { All IsLaid codes.now }
     requires words { length out.old % 4 ≡ 0 }
     requires room { length (joined_codes (codes_held codes.now) symbols.now) ≤ 8 * length out.old }
-    ensures { IsFilled (length out.old / 4) (joined_codes (codes_held codes.now) symbols.now) out.new }
+    ensures { IsFilled (length out.old / 4)
+        (joined_codes (codes_held codes.now) symbols.now) out.new }
 {
     let mut pending = Pending {
         held: 0,
@@ -194,7 +195,8 @@ pub fn write_symbols(symbols: &[u8], lengths: &Lengths, out: &mut [u8])
     requires coded { All (λ s. 0 < slice_index lengths.now s) symbols.now }
     requires room { length out.old ≡ written_size (canonical_codes lengths.now) symbols.now }
     ensures written { AreWritten (canonical_codes lengths.now) symbols.now out.new }
-    ensures words { AreWords (canonical_codes lengths.now) (length symbols.now) out.new symbols.now }
+    ensures words { AreWords (canonical_codes lengths.now) (length symbols.now)
+        out.new symbols.now }
 {
     fill(&codes_of(lengths), symbols, out);
 }

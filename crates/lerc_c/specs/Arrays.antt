@@ -1,5 +1,5 @@
 -- Rasters as arrays of their values and of the bytes of their masks.
-use Rattle.std.specs.Prelude.{◌≡◌, ℕ, ◌+◌, ◌*◌, ◌/◌, ◌<◌, ◌≤◌, Bool, true, false, List, length, get_or, drop, ◌++◌, is_some, None, nat_eq, if◌then◌else◌}
+use Rattle.std.specs.Prelude.{◌≡◌, ℕ, ◌+◌, ◌*◌, ◌/◌, ◌<◌, ◌≤◌, Bool, true, List, length, get_or, drop, ◌++◌, is_some, None, nat_eq, if◌then◌else◌}
 use Rattle.raster_values.specs.declared.kind.PixelType.{PixelType}
 use Rattle.raster_values.specs.PixelType.{bytes_of, code_of, Spells}
 use Rattle.raster_values.specs.Raster.{Pixels, IsRaster}
@@ -10,6 +10,7 @@ use Rattle.lerc_header.specs.declared.header.Version.{Version}
 use Rattle.lerc_header.specs.Head.{number_of}
 use Rattle.lerc_grammar.specs.Verdict.{IsDone}
 use Rattle.lerc_encode.specs.Encoded.{IsEncodedOnce}
+use Rattle.lerc_encode.specs.Choice.{choice}
 
 -- ---- how long the arrays are
 
@@ -22,8 +23,8 @@ abbrev pub mask_size : ℕ → ℕ → ℕ
 mask_size rows cols = (rows * cols + 7) / 8
 
 pub record HaveSizes (r : Pixels) (values mask : ℕ) : Type 0 where
-  pub values : values ≡ values_size r.kind r.rows r.cols r.depth
-  pub mask : mask ≡ mask_size r.rows r.cols
+  pub values_is : values ≡ values_size r.kind r.rows r.cols r.depth
+  pub mask_is : mask ≡ mask_size r.rows r.cols
 
 -- ---- a blob in
 
@@ -33,8 +34,8 @@ pub record IsDecoded (bytes values mask : List ℕ) : Type 0 where
   pub raster : Pixels
   pub size : ℕ
   pub done : IsDone bytes raster size
-  pub values : values ≡ values_bytes raster.kind (all_values raster)
-  pub mask : IsMaskOf raster mask
+  pub values_are : values ≡ values_bytes raster.kind (all_values raster)
+  pub mask_is : IsMaskOf raster mask
 
 -- some first bytes are a blob, and the arrays are not as long as its raster asks for
 pub record IsMisfit (bytes : List ℕ) (values mask : ℕ) : Type 0 where
@@ -53,43 +54,55 @@ mark_at mask k = if nat_eq (length mask) 0 then true else mask_bit mask k
 pub record IsGiven (kind : PixelType) (rows cols depth : ℕ) (values mask : List ℕ)
     (r : Pixels) : Type 0 where
   pub raster : IsRaster r
-  pub kind : r.kind ≡ kind
-  pub rows : r.rows ≡ rows
-  pub cols : r.cols ≡ cols
-  pub depth : r.depth ≡ depth
+  pub kind_is : r.kind ≡ kind
+  pub rows_are : r.rows ≡ rows
+  pub cols_are : r.cols ≡ cols
+  pub depth_is : r.depth ≡ depth
   pub marks : (k : ℕ) → k < rows * cols → is_some (get_or r.pixels k None) ≡ mark_at mask k
   pub each : (k d : ℕ) → k < rows * cols → mark_at mask k ≡ true → d < depth
       → Spells kind (drop ((k * depth + d) * bytes_of kind) values) (value_in r d k)
 
 -- the array of values has the length of such a raster's, and that of mask bytes too, or none
 pub record GivesSizes (kind : PixelType) (rows cols depth values mask : ℕ) : Type 0 where
-  pub values : values ≡ values_size kind rows cols depth
-  pub mask : (mask ≡ 0 → ⊥) → mask ≡ mask_size rows cols
+  pub values_is : values ≡ values_size kind rows cols depth
+  pub mask_is : (mask ≡ 0 → ⊥) → mask ≡ mask_size rows cols
 
--- a blob of the raster that the arrays are stands in front, and nothing behind it was changed
-pub record IsEncoded (kind : PixelType) (rows cols depth step : ℕ)
-    (values mask : List ℕ) (size : ℕ) (old new : List ℕ) : Type 0 where
+-- the blob that is chosen for a raster, which is one of exactly one raster near it
+pub record IsBlobOf (blob : List ℕ) (r : Pixels) (version : Version) (step : ℕ) : Type 0 where
+  pub chosen : blob ≡ choice r version step
+  pub once : IsEncodedOnce blob r step
+
+-- the blob of the raster that the arrays are has so many bytes
+pub record HasBlob (kind : PixelType) (rows cols depth : ℕ) (values mask : List ℕ)
+    (version : Version) (step size : ℕ) (blob : List ℕ) : Type 0 where
   pub raster : Pixels
   pub given : IsGiven kind rows cols depth values mask raster
-  pub blob : List ℕ
-  pub encoded : IsEncodedOnce blob raster step
-  pub size : size ≡ length blob
-  pub room : size ≤ length old
-  pub laid : new ≡ blob ++ drop size old
+  pub blob_of : IsBlobOf blob raster version step
+  pub size_is : size ≡ length blob
 
--- and where there is no room for it
-pub record IsTooLong (kind : PixelType) (rows cols depth step : ℕ)
-    (values mask : List ℕ) (size room : ℕ) : Type 0 where
-  pub raster : Pixels
-  pub given : IsGiven kind rows cols depth values mask raster
-  pub blob : List ℕ
-  pub encoded : IsEncodedOnce blob raster step
-  pub size : size ≡ length blob
-  pub longer : room < size
+-- it stands in front of the array, and nothing behind it was changed
+abbrev pub IsEncoded : PixelType → ℕ → ℕ → ℕ → List ℕ → List ℕ → Version → ℕ → ℕ → List ℕ
+    → List ℕ → Type 0
+IsEncoded kind rows cols depth values mask version step size old new =
+    (blob : List ℕ) × (HasBlob kind rows cols depth values mask version step size blob
+    × ((size ≤ length old) × (new ≡ blob ++ drop size old)))
 
--- the numbers name a type and a version
-pub record AreNamed (kind version : ℕ) : Type 0 where
-  pub type : PixelType
-  pub type_is : kind ≡ code_of type
-  pub layout : Version
-  pub layout_is : version ≡ number_of layout
+-- it is longer than the array
+abbrev pub IsTooLong : PixelType → ℕ → ℕ → ℕ → List ℕ → List ℕ → Version → ℕ → ℕ → ℕ → Type 0
+IsTooLong kind rows cols depth values mask version step size room =
+    (blob : List ℕ) × (HasBlob kind rows cols depth values mask version step size blob
+    × (room < size))
+
+-- ---- the numbers of a type and a version
+
+-- a type has the number, and P holds of it
+abbrev pub WithKind : ℕ → (PixelType → Type 0) → Type 0
+WithKind number P = (kind : PixelType) × ((number ≡ code_of kind) × P kind)
+
+abbrev pub WithVersion : ℕ → (Version → Type 0) → Type 0
+WithVersion number P = (version : Version) × ((number ≡ number_of version) × P version)
+
+-- both numbers name something
+abbrev pub AreNamed : ℕ → ℕ → Type 0
+AreNamed kind version =
+    WithKind kind (λ _. Unit {0}) × WithVersion version (λ _. Unit {0})

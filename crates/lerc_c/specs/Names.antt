@@ -1,5 +1,5 @@
 -- The names of the reasons that a blob is refused for.
-use Rattle.std.specs.Prelude.{◌≡◌, ℕ, List, [], codes}
+use Rattle.std.specs.Prelude.{ℕ, List, [], ◌∷◌, get_or, codes}
 use Rattle.lerc_header.specs.declared.fault.BlobReason.{BlobReason}
 use Rattle.lerc_header.specs.declared.fault.BlobReason.TheVariants.{Truncated, BadKey, BadVersion, BadRows, BadCols, BadDepth, TooLarge, BadCount, BadBlockSize, BadBlobSize, FloatPixels, BadType, BadError, BadRange, BadChecksum, BadMaskLength, BadRun, BadMaskCount, MaskMissing, BadSweep, BadMode, BadBlockTag, BadOffsetCode, BadListHead, BadListCount, BadTable, BadIndex, BadCodeTable, NoCode, PastEnd, Leftover}
 
@@ -36,37 +36,42 @@ reason_name NoCode = codes "NoCode"
 reason_name PastEnd = codes "PastEnd"
 reason_name Leftover = codes "Leftover"
 
--- the name of the reason with this number, and none for a number that no reason has
+-- the names in the order of the numbers
+abbrev pub names : List (List ℕ)
+names =
+    codes "Truncated"
+    ∷ codes "BadKey"
+    ∷ codes "BadVersion"
+    ∷ codes "BadRows"
+    ∷ codes "BadCols"
+    ∷ codes "BadDepth"
+    ∷ codes "TooLarge"
+    ∷ codes "BadCount"
+    ∷ codes "BadBlockSize"
+    ∷ codes "BadBlobSize"
+    ∷ codes "FloatPixels"
+    ∷ codes "BadType"
+    ∷ codes "BadError"
+    ∷ codes "BadRange"
+    ∷ codes "BadChecksum"
+    ∷ codes "BadMaskLength"
+    ∷ codes "BadRun"
+    ∷ codes "BadMaskCount"
+    ∷ codes "MaskMissing"
+    ∷ codes "BadSweep"
+    ∷ codes "BadMode"
+    ∷ codes "BadBlockTag"
+    ∷ codes "BadOffsetCode"
+    ∷ codes "BadListHead"
+    ∷ codes "BadListCount"
+    ∷ codes "BadTable"
+    ∷ codes "BadIndex"
+    ∷ codes "BadCodeTable"
+    ∷ codes "NoCode"
+    ∷ codes "PastEnd"
+    ∷ codes "Leftover"
+    ∷ []
+
+-- the name of the reason with this number, and none where no reason has it
 abbrev pub name_at : ℕ → List ℕ
-name_at 0 = codes "Truncated"
-name_at 1 = codes "BadKey"
-name_at 2 = codes "BadVersion"
-name_at 3 = codes "BadRows"
-name_at 4 = codes "BadCols"
-name_at 5 = codes "BadDepth"
-name_at 6 = codes "TooLarge"
-name_at 7 = codes "BadCount"
-name_at 8 = codes "BadBlockSize"
-name_at 9 = codes "BadBlobSize"
-name_at 10 = codes "FloatPixels"
-name_at 11 = codes "BadType"
-name_at 12 = codes "BadError"
-name_at 13 = codes "BadRange"
-name_at 14 = codes "BadChecksum"
-name_at 15 = codes "BadMaskLength"
-name_at 16 = codes "BadRun"
-name_at 17 = codes "BadMaskCount"
-name_at 18 = codes "MaskMissing"
-name_at 19 = codes "BadSweep"
-name_at 20 = codes "BadMode"
-name_at 21 = codes "BadBlockTag"
-name_at 22 = codes "BadOffsetCode"
-name_at 23 = codes "BadListHead"
-name_at 24 = codes "BadListCount"
-name_at 25 = codes "BadTable"
-name_at 26 = codes "BadIndex"
-name_at 27 = codes "BadCodeTable"
-name_at 28 = codes "NoCode"
-name_at 29 = codes "PastEnd"
-name_at 30 = codes "Leftover"
-name_at _ = []
+name_at number = get_or names number []

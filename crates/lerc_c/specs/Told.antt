@@ -56,8 +56,8 @@ found_of _ = 0
 
 -- the numbers are those of a fault
 pub record TellsFault (f : Fault) (place : ℕ) (reason : BlobReason) : Type 0 where
-  pub place : f.place ≡ place
-  pub reason : f.reason ≡ reason_number reason
+  pub place_is : f.place ≡ place
+  pub reason_is : f.reason ≡ reason_number reason
   pub stated : f.stated ≡ stated_of reason
   pub found : f.found ≡ found_of reason
 

@@ -1,14 +1,13 @@
 //! Arrays encoded into a blob.
 
-ghost use Rattle.std.specs.Prelude.{◌≡◌, ◌↔◌, IfOk, IfErr, IsErrOf, OnErr, IsTrue, length};
+ghost use Rattle.std.specs.Prelude.{◌≡◌, ◌↔◌, [], IfOk, IfErr, IsErrOf, OnErr, IsTrue, length};
 ghost use Rattle.raster_values.specs.Raster.{IsRaster, blank, HasZero, IsTooLarge};
 ghost use Rattle.raster_values.specs.Flat.{PutsAll};
 ghost use Rattle.lerc_header.specs.declared.header.Version.TheVariants.{V3};
 ghost use Rattle.lerc_header.specs.Head.{number_of};
 ghost use Rattle.lerc_header.specs.Written.{step_of};
 ghost use Rattle.raster_values.specs.PixelType.{code_of};
-ghost use Rattle.lerc_encode.specs.Encoded.{IsEncodedOnce};
-ghost use Rattle.lerc_c.specs.Arrays.{GivesSizes, IsGiven, IsEncoded, values_size, mask_size};
+ghost use Rattle.lerc_c.specs.Arrays.{GivesSizes, IsBlobOf, IsGiven, IsEncoded, values_size, mask_size};
 ghost use Rattle.lerc_c.specs.inside.Stops.{IsBlankStop, IsGivenStop, IsBlobStop, IsWriteStop, IsWritten, IsEncodeStop};
 ghost use Rattle.lerc_c.specs.inside.Marked.{IsMarked};
 
@@ -91,6 +90,28 @@ fn note_sound(raster: &Raster)
     let _rows = raster.rows();
 }
 
+/// Makes all pixels valid.
+fn mark_every(raster: &mut Raster)
+    requires { raster.old ≡ blank raster.old.kind raster.old.rows raster.old.cols raster.old.depth }
+    ensures { IsMarked raster.old.kind raster.old.rows raster.old.cols raster.old.depth [] raster.new }
+{
+    raster.mark_all();
+    note_sound(raster);
+}
+
+/// Makes the pixels valid whose bits are 1.
+fn mark_bits(raster: &mut Raster, mask: &[u8])
+    requires blank { raster.old
+        ≡ blank raster.old.kind raster.old.rows raster.old.cols raster.old.depth }
+    requires some { length mask.now ≡ 0 → ⊥ }
+    requires size { length mask.now ≡ mask_size raster.old.rows raster.old.cols }
+    ensures { IsMarked raster.old.kind raster.old.rows raster.old.cols raster.old.depth
+        mask.now raster.new }
+{
+    raster.mark_from_bits(mask);
+    note_sound(raster);
+}
+
 /// Makes the pixels valid that the bits say, or all where there are none.
 fn mark(raster: &mut Raster, mask: &[u8])
     requires blank { raster.old
@@ -101,11 +122,10 @@ fn mark(raster: &mut Raster, mask: &[u8])
         mask.now raster.new }
 {
     if mask.is_empty() {
-        raster.mark_all();
-    } else {
-        raster.mark_from_bits(mask);
+        mark_every(raster);
+        return;
     }
-    note_sound(raster);
+    mark_bits(raster, mask);
 }
 
 /// Gives the valid pixels their values.
@@ -161,7 +181,7 @@ fn blob_of(
     version: Version,
     step: Step,
 ) -> Result<Bytes, EncodeStop>
-    ensures ok { IfOk result (λ blob. IsEncodedOnce blob raster.now step) }
+    ensures ok { IfOk result (λ blob. IsBlobOf blob raster.now version step) }
     ensures stop { IfErr result (λ stop. IsBlobStop raster.now.depth version stop) }
 {
     match encode(alloc, raster, version, step) {
@@ -179,7 +199,7 @@ fn write_blob(
     step: Step,
     out: &mut [u8],
 ) -> Result<usize, EncodeStop>
-    ensures ok { IfOk result (λ size. IsWritten raster.now step size out.old out.new) }
+    ensures ok { IfOk result (λ size. IsWritten raster.now version step size out.old out.new) }
     ensures stop { IfErr result (λ stop. IsWriteStop raster.now version step (length out.old) stop) }
     ensures kept { OnErr result (out.new ≡ out.old) }
 {
@@ -206,10 +226,10 @@ pub(crate) fn encode_into(
     error: u32,
     out: &mut [u8],
 ) -> Result<usize, EncodeStop>
-    ensures ok { IfOk result (λ size. IsEncoded
-        kind rows cols depth (step_of error) values.now mask.now size out.old out.new) }
-    ensures stop { IfErr result (λ stop. IsEncodeStop kind version rows cols depth (step_of error)
-        values.now mask.now (length out.old) stop) }
+    ensures ok { IfOk result (λ size. IsEncoded kind rows cols depth values.now mask.now
+        version (step_of error) size out.old out.new) }
+    ensures stop { IfErr result (λ stop. IsEncodeStop kind rows cols depth values.now mask.now
+        version (step_of error) (length out.old) stop) }
     ensures kept { OnErr result (out.new ≡ out.old) }
 {
     let raster = given(alloc, kind, rows, cols, depth, values, mask)?;

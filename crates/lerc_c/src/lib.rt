@@ -7,23 +7,34 @@
 mod decoding;
 mod encoding;
 mod naming;
+mod sizes;
+#[cfg(test)]
+mod tests;
 mod told;
 
 ghost use Rattle.std.specs.Prelude.{◌≡◌, ◌≢◌, ℕ, ◌<◌, ◌≤◌, ◌↔◌, ◌++◌, drop, length, min, take};
-ghost use Rattle.raster_values.specs.Raster.{HasZero, IsTooLarge};
+ghost use Rattle.raster_values.specs.Raster.{HasZero, IsShape, IsTooLarge};
+ghost use Rattle.lerc_encode.specs.Sizes.{BlobsAreSmall, greatest_size};
 ghost use Rattle.lerc_header.specs.declared.header.Header.{Header};
 ghost use Rattle.lerc_header.specs.declared.fault.BlobFault.{BlobFault};
-ghost use Rattle.lerc_header.specs.Head.{HeadAt};
+ghost use Rattle.lerc_header.specs.declared.fault.BlobReason.{BlobReason};
+ghost use Rattle.lerc_header.specs.Head.{HeadAt, number_of};
+ghost use Rattle.raster_values.specs.declared.kind.PixelType.{PixelType};
+ghost use Rattle.raster_values.specs.PixelType.{code_of};
+ghost use Rattle.lerc_header.specs.declared.header.Version.{Version};
 ghost use Rattle.lerc_header.specs.HeadFaults.{header_faults};
 ghost use Rattle.lerc_header.specs.Written.{step_of};
 ghost use Rattle.lerc_decode.specs.Decoding.{HasHeader};
-ghost use Rattle.lerc_c.specs.Told.{TellsFault, TellsHead, TellsRefusal};
-ghost use Rattle.lerc_c.specs.Arrays.{IsDecoded, IsMisfit};
-ghost use Rattle.lerc_c.specs.Names.{name_at};
+ghost use Rattle.lerc_c.specs.Told.{reason_number, TellsFault, TellsHead, TellsRefusal};
+ghost use Rattle.lerc_c.specs.Arrays.{AreNamed, GivesSizes, IsDecoded, IsEncoded, IsMisfit, IsTooLong, WithKind, WithVersion};
+ghost use Rattle.lerc_c.specs.Names.{name_at, reason_name};
 
 use decoding::{DecodeStop, decode_into};
+use encoding::{EncodeStop, encode_into, kind_of, version_of};
+use lerc_encode::blobs_are_small;
 use lerc_header::read_header;
 use naming::name_of;
+use sizes::{is_shape, size_of};
 use std::alloc::Global;
 use told::{Fault, Head, fault_of, head_of};
 
@@ -35,6 +46,18 @@ const REFUSED: u32 = 1;
 const NO_MEMORY: u32 = 2;
 /// An array is not as long as the raster asks for.
 const BAD_SIZES: u32 = 3;
+/// No pixel type has the number.
+const BAD_KIND: u32 = 4;
+/// The version is neither 3 nor 4.
+const BAD_VERSION: u32 = 5;
+/// There are no rows, no columns or no depths.
+const BAD_SHAPE: u32 = 6;
+/// There are more than 65,536 depths, or more than 2^24 values.
+const TOO_LARGE: u32 = 7;
+/// Version 3 has no place for a second depth.
+const DEPTH_NEEDS_V4: u32 = 8;
+/// The blob is longer than the room for it.
+const NO_ROOM: u32 = 9;
 
 /// Reads the header with which the bytes begin.
 ///
@@ -91,10 +114,93 @@ pub extern "C" fn futskheri_decode(
     }
 }
 
+/// A size that no blob of a raster of this type and shape passes, and 0 where there is no such
+/// raster.
+#[unsafe(no_mangle)]
+pub extern "C" fn futskheri_greatest_size(kind: u32, rows: u32, cols: u32, depth: u32) -> u64
+    ensures size { (k : PixelType) → kind ≡ code_of k → IsShape rows cols depth
+        → result ≡ greatest_size k rows cols depth }
+    ensures none { ¬ WithKind kind (λ _. IsShape rows cols depth) → result ≡ 0 }
+    ensures few { result ≤ 134217728 }
+    ensures law { BlobsAreSmall }
+{
+    blobs_are_small();
+    let Some(kind) = kind_of(kind) else {
+        return 0;
+    };
+    if !is_shape(rows, cols, depth) {
+        return 0;
+    }
+    size_of(kind, rows, cols, depth)
+}
+
+/// Encodes the raster that the arrays are into the front of `out`. A mask of no bytes makes every
+/// pixel valid.
+///
+/// 0: `size` is the blob's. 9: `size` is what the blob would have. 3 to 8 say what of the arguments
+/// is wrong, 2 that memory was refused. Where it is not 0 `out` stays; where it is neither 0 nor 9
+/// `size` does.
+#[unsafe(no_mangle)]
+pub extern "C" fn futskheri_encode(
+    alloc: Global,
+    kind: u32,
+    rows: u32,
+    cols: u32,
+    depth: u32,
+    version: u32,
+    error: u32,
+    values: &[u8],
+    mask: &[u8],
+    out: &mut [u8],
+    size: &mut u64,
+) -> u32
+    ensures status { result ≤ 9 }
+    ensures ok { result ≡ 0 → WithKind kind (λ k. WithVersion version (λ v. IsEncoded
+        k rows cols depth values.now mask.now v (step_of error) size.new out.old out.new)) }
+    ensures no_room { result ≡ 9 → WithKind kind (λ k. WithVersion version (λ v. IsTooLong
+        k rows cols depth values.now mask.now v (step_of error) size.new (length out.old))) }
+    ensures bad_kind { result ≡ 4 → (k : PixelType) → kind ≢ code_of k }
+    ensures bad_version { result ≡ 5 → (v : Version) → version ≢ number_of v }
+    ensures bad_shape { result ≡ 6 → HasZero rows cols depth }
+    ensures too_large { result ≡ 7 → ¬ HasZero rows cols depth × IsTooLarge rows cols depth }
+    ensures sizes { result ≡ 3 → WithKind kind (λ k.
+        ¬ GivesSizes k rows cols depth (length values.now) (length mask.now)) }
+    ensures deep { result ≡ 8 → (version ≡ 3) × (1 < depth) }
+    ensures named { result ≢ 4 → result ≢ 5 → AreNamed kind version }
+    ensures kept { result ≢ 0 → out.new ≡ out.old }
+    ensures size_kept { result ≢ 0 → result ≢ 9 → size.new ≡ size.old }
+{
+    let Some(kind) = kind_of(kind) else {
+        return BAD_KIND;
+    };
+    let Some(version) = version_of(version) else {
+        return BAD_VERSION;
+    };
+    match encode_into(
+        alloc, kind, rows, cols, depth, values, mask, version, error, out,
+    ) {
+        Ok(written) => {
+            *size = written as u64;
+            OK
+        }
+        Err(EncodeStop::NoRoom(wanted)) => {
+            *size = wanted as u64;
+            NO_ROOM
+        }
+        Err(EncodeStop::OutOfMemory) => NO_MEMORY,
+        Err(EncodeStop::BadSizes) => BAD_SIZES,
+        Err(EncodeStop::BadShape) => BAD_SHAPE,
+        Err(EncodeStop::TooLarge) => TOO_LARGE,
+        Err(EncodeStop::DepthNeedsV4) => DEPTH_NEEDS_V4,
+    }
+}
+
 /// Writes the name of a reason, as much of it as there is room for, and answers how long it is: 0
 /// where no reason has the number.
 #[unsafe(no_mangle)]
 pub extern "C" fn futskheri_reason_name(reason: u32, out: &mut [u8]) -> usize
+    ensures reasons { (r : BlobReason) → reason ≡ reason_number r
+        → name_at reason ≡ reason_name r }
     ensures size { result ≡ length (name_at reason) }
     ensures name { out.new ≡ take (length out.old) (name_at reason) ++ drop result out.old }
 {

@@ -2,7 +2,7 @@
 use Rattle.std.proofs.Common.{◌≡◌, ℕ, ◌⊎◌, ◌↔◌, List, Option, Some, Ok, Err, subst, inl, inr, arith}
 use Rattle.lerc_header.specs.declared.header.Version.{Version}
 use Rattle.lerc_cli.specs.declared.command.Command.TheVariants.{Encode}
-use Rattle.lerc_cli.specs.declared.stop.Stop.TheVariants.{Usage, Refused, Source, Output, Volume, OutOfMemory}
+use Rattle.lerc_cli.specs.declared.stop.Stop.TheVariants.{Usage, Refused, Source, Output, Volume, OutOfMemory, Store}
 use Rattle.lerc_cli.specs.Stop.{End, status_at}
 use Rattle.lerc_cli.specs.Answer.{Ends, Files}
 use Rattle.lerc_cli.specs.Run.{IsGridFor, OfOutput, given}
@@ -17,6 +17,7 @@ decides version error input files n status (Err Source) output is which e = absu
 decides version error input files n status (Err Output) output is which e = absurd (elim which [ inl z ↦ omega arith | inr z ↦ omega arith ])
 decides version error input files n status (Err Volume) output is which e = absurd (elim which [ inl z ↦ omega arith | inr z ↦ omega arith ])
 decides version error input files n status (Err OutOfMemory) output is which e = absurd (elim which [ inl z ↦ omega arith | inr z ↦ omega arith ])
+decides version error input files n status (Err (Store r)) output is which e = absurd (elim which [ inl z ↦ omega arith | inr z ↦ omega arith ])
 
 pub encoded_exactly : (version : Version) (error : ℕ) (left : Option (List ℕ)) (input : List ℕ) (files : Option Files) (n status : ℕ) (end : End) (same : Type 0) (held held_new : Option (List ℕ)) (f f_new : ℕ)
     → left ≡ Some input → status ≡ status_at end → (status ≡ 0) ⊎ (status ≡ 2) → OfOutput (Encode version error) (given left files) n end same held held_new f f_new → (status ≡ 0) ↔ IsGridFor version input

@@ -3,7 +3,7 @@ use Rattle.std.proofs.Common.{◌≡◌, ℕ, ◌⊎◌, List, Option, Ok, Err, 
 use Rattle.lerc_cli.specs.declared.command.Command.{Command}
 use Rattle.lerc_cli.specs.declared.stop.Fault.{Fault}
 use Rattle.lerc_cli.specs.declared.stop.Stop.{Stop}
-use Rattle.lerc_cli.specs.declared.stop.Stop.TheVariants.{Usage, Refused, Source, Output, Volume, OutOfMemory}
+use Rattle.lerc_cli.specs.declared.stop.Stop.TheVariants.{Usage, Refused, Source, Output, Volume, OutOfMemory, Store}
 use Rattle.lerc_cli.specs.Stop.{End, line_of, status_at, status_of}
 use Rattle.lerc_cli.specs.Answer.{Given, Ends}
 use Rattle.outside_io.specs.program.Line.{GivesLine}
@@ -24,6 +24,7 @@ ok_at (Err Source) is = absurd (omega arith)
 ok_at (Err Output) is = absurd (omega arith)
 ok_at (Err Volume) is = absurd (omega arith)
 ok_at (Err OutOfMemory) is = absurd (omega arith)
+ok_at (Err (Store r)) is = absurd (omega arith)
 
 pub refused_at : (end : End) → status_at end ≡ 2 → (fault : Fault) × (end ≡ Err (Refused fault))
 refused_at (Ok x) is = absurd (omega arith)
@@ -33,6 +34,7 @@ refused_at (Err Source) is = absurd (omega arith)
 refused_at (Err Output) is = absurd (omega arith)
 refused_at (Err Volume) is = absurd (omega arith)
 refused_at (Err OutOfMemory) is = absurd (omega arith)
+refused_at (Err (Store r)) is = absurd (omega arith)
 
 pub memory_at : (end : End) → status_at end ≡ 6 → end ≡ Err OutOfMemory
 memory_at (Ok x) is = absurd (omega arith)
@@ -42,6 +44,7 @@ memory_at (Err Source) is = absurd (omega arith)
 memory_at (Err Output) is = absurd (omega arith)
 memory_at (Err Volume) is = absurd (omega arith)
 memory_at (Err OutOfMemory) is = refl
+memory_at (Err (Store r)) is = absurd (omega arith)
 
 usage_at : (end : End) → status_at end ≡ 1 → end ≡ Err Usage
 usage_at (Ok x) is = absurd (omega arith)
@@ -51,6 +54,7 @@ usage_at (Err Source) is = absurd (omega arith)
 usage_at (Err Output) is = absurd (omega arith)
 usage_at (Err Volume) is = absurd (omega arith)
 usage_at (Err OutOfMemory) is = absurd (omega arith)
+usage_at (Err (Store r)) is = absurd (omega arith)
 
 source_at : (end : End) → status_at end ≡ 3 → end ≡ Err Source
 source_at (Ok x) is = absurd (omega arith)
@@ -60,6 +64,7 @@ source_at (Err Source) is = refl
 source_at (Err Output) is = absurd (omega arith)
 source_at (Err Volume) is = absurd (omega arith)
 source_at (Err OutOfMemory) is = absurd (omega arith)
+source_at (Err (Store r)) is = absurd (omega arith)
 
 pub output_at : (end : End) → status_at end ≡ 4 → end ≡ Err Output
 output_at (Ok x) is = absurd (omega arith)
@@ -69,6 +74,7 @@ output_at (Err Source) is = absurd (omega arith)
 output_at (Err Output) is = refl
 output_at (Err Volume) is = absurd (omega arith)
 output_at (Err OutOfMemory) is = absurd (omega arith)
+output_at (Err (Store r)) is = absurd (omega arith)
 
 volume_at : (end : End) → status_at end ≡ 5 → end ≡ Err Volume
 volume_at (Ok x) is = absurd (omega arith)
@@ -78,9 +84,10 @@ volume_at (Err Source) is = absurd (omega arith)
 volume_at (Err Output) is = absurd (omega arith)
 volume_at (Err Volume) is = refl
 volume_at (Err OutOfMemory) is = absurd (omega arith)
+volume_at (Err (Store r)) is = absurd (omega arith)
 
 -- a cause of an end is one of its status
-caused : (P Q : Type 0) (old new : ℕ) → (P → Q) → (Q → P) → IsCause P old new → IsCause Q old new
+pub caused : (P Q : Type 0) (old new : ℕ) → (P → Q) → (Q → P) → IsCause P old new → IsCause Q old new
 caused P Q old new to from c = record { counts = c.counts; failed = λ q. c.failed (from q); rose = λ rose. to (c.rose rose) }
 
 pub usage_status : (end : End) (status : ℕ) → status ≡ status_at end → status ≡ 1 → end ≡ Err Usage

@@ -5,9 +5,9 @@ use Rattle.outside_io.specs.streams.Sink.{Holds, HoldsPrefix}
 use Rattle.lerc_cli.specs.declared.command.Command.{Command}
 use Rattle.lerc_cli.specs.declared.command.Command.TheVariants.{Decode}
 use Rattle.lerc_cli.specs.declared.stop.Reason.TheVariants.{Blob as BlobReasonOf}
-use Rattle.lerc_cli.specs.declared.stop.Stop.TheVariants.{Usage, Refused, Source, Output, Volume, OutOfMemory}
+use Rattle.lerc_cli.specs.declared.stop.Stop.TheVariants.{Usage, Refused, Source, Output, Volume, OutOfMemory, Store}
 use Rattle.lerc_cli.specs.Stop.{End, status_at}
-use Rattle.lerc_cli.specs.Answer.{Ends, Files, Given, IsBlob, IsOutput}
+use Rattle.lerc_cli.specs.Answer.{Ends, Files, Given, IsBlob, IsOutput, Tells}
 use Rattle.lerc_cli.specs.Run.{OfOutput, given, Gained, GivesGrid, GivesGridPrefix, GivesLineOf, TellsFault, ToldHead}
 use Rattle.lerc_cli.proofs.Ends.{ok_at, refused_at, output_at, memory_at}
 use Rattle.lerc_cli.proofs.Once.{answers_once}
@@ -22,6 +22,7 @@ decides input files n status (Err Source) output is which e = absurd (elim which
 decides input files n status (Err Output) output is which e = absurd (elim which [ inl z ↦ omega arith | inr z ↦ omega arith ])
 decides input files n status (Err Volume) output is which e = absurd (elim which [ inl z ↦ omega arith | inr z ↦ omega arith ])
 decides input files n status (Err OutOfMemory) output is which e = absurd (elim which [ inl z ↦ omega arith | inr z ↦ omega arith ])
+decides input files n status (Err (Store r)) output is which e = absurd (elim which [ inl z ↦ omega arith | inr z ↦ omega arith ])
 
 pub exact : (left : Option (List ℕ)) (input : List ℕ) (files : Option Files) (n status : ℕ) (end : End) (same : Type 0) (held held_new : Option (List ℕ)) (f f_new : ℕ)
     → left ≡ Some input → status ≡ status_at end → (status ≡ 0) ⊎ (status ≡ 2) → OfOutput Decode (given left files) n end same held held_new f f_new → (status ≡ 0) ↔ IsBlob input
@@ -62,26 +63,25 @@ pub wanted : (left : Option (List ℕ)) (files : Option Files) (n status : ℕ) 
 wanted left files n status end same held held_new f f_new is six out =
     let here = at_end (given left files) n end (Err OutOfMemory) same held held_new f f_new (memory_at end (sym is ∙ six)) out in here.gave.1.0.0
 
--- ---- a told input that has an output gets it
+-- ---- where all is told that a command reads, and has an output, it gets that
 
-completes : (c : Command) (input : List ℕ) (files : Option Files) (n m status : ℕ) (end : End) (output given_out : List ℕ) (held held_new : Option (List ℕ)) → status ≡ status_at end
-    → IsOutput c (given (Some input) files) n output → Ends c (given (Some input) files) m end given_out → Gained end held held_new given_out
+completes : (c : Command) (g : Given) (n m status : ℕ) (end : End) (output given_out : List ℕ) (held held_new : Option (List ℕ)) → Tells c g → status ≡ status_at end
+    → IsOutput c g n output → Ends c g m end given_out → Gained end held held_new given_out
     → status ≢ 3 → status ≢ 4 → status ≢ 5 → status ≢ 6 → (status ≡ 0) × Holds held held_new output
-completes c input files n m status (Ok x) output given_out held held_new is has e gained s o v w =
-    let once = answers_once c input files n m (Ok x) (Ok x) output given_out tt tt has e in (is, subst (Holds held held_new) (sym once.1) gained)
-completes c input files n m status (Err Usage) output given_out held held_new is has e gained s o v w = absurd e
-completes c input files n m status (Err (Refused f)) output given_out held held_new is has e gained s o v w =
-    let once = answers_once c input files n m (Ok tt) (Err (Refused f)) output given_out tt tt has e in absurd (let never = ap status_at once.0 in omega arith)
-completes c input files n m status (Err Source) output given_out held held_new is has e gained s o v w = absurd (s is)
-completes c input files n m status (Err Output) output given_out held held_new is has e gained s o v w = absurd (o is)
-completes c input files n m status (Err Volume) output given_out held held_new is has e gained s o v w = absurd (v is)
-completes c input files n m status (Err OutOfMemory) output given_out held held_new is has e gained s o v w = absurd (w is)
+completes c g n m status (Ok x) output given_out held held_new told is has e gained s o v w =
+    let once = answers_once c g n m (Ok x) (Ok x) output given_out told tt tt has e in (is, subst (Holds held held_new) (sym once.1) gained)
+completes c g n m status (Err Usage) output given_out held held_new told is has e gained s o v w = absurd e
+completes c g n m status (Err (Refused f)) output given_out held held_new told is has e gained s o v w =
+    let once = answers_once c g n m (Ok tt) (Err (Refused f)) output given_out told tt tt has e in absurd (let never = ap status_at once.0 in omega arith)
+completes c g n m status (Err Source) output given_out held held_new told is has e gained s o v w = absurd (s is)
+completes c g n m status (Err Output) output given_out held held_new told is has e gained s o v w = absurd (o is)
+completes c g n m status (Err Volume) output given_out held held_new told is has e gained s o v w = absurd (v is)
+completes c g n m status (Err OutOfMemory) output given_out held held_new told is has e gained s o v w = absurd (w is)
+completes c g n m status (Err (Store r)) output given_out held held_new told is has e gained s o v w =
+    let once = answers_once c g n m (Ok tt) (Err (Store r)) output given_out told tt tt has e in absurd (let never = ap status_at once.0 in omega arith)
 
-pub complete : (c : Command) (left : Option (List ℕ)) (input : List ℕ) (files : Option Files) (n m status : ℕ) (end : End) (output : List ℕ) (same : Type 0) (held held_new : Option (List ℕ)) (f f_new : ℕ)
-    → left ≡ Some input → status ≡ status_at end → IsOutput c (given left files) n output → OfOutput c (given left files) m end same held held_new f f_new
+pub complete : (c : Command) (g : Given) (n m status : ℕ) (end : End) (output : List ℕ) (same : Type 0) (held held_new : Option (List ℕ)) (f f_new : ℕ)
+    → Tells c g → status ≡ status_at end → IsOutput c g n output → OfOutput c g m end same held held_new f f_new
     → status ≢ 3 → status ≢ 4 → status ≢ 5 → status ≢ 6 → (status ≡ 0) × Holds held held_new output
-complete c left input files n m status end output same held held_new f f_new told is has out =
-    completes c input files n m status end output out.gave.0 held held_new is
-    (subst (λ (x : Option (List ℕ)). IsOutput c (given x files) n output) told has)
-    (subst (λ (x : Option (List ℕ)). Ends c (given x files) m end out.gave.0) told out.gave.1.0)
-    out.gave.1.1
+complete c g n m status end output same held held_new f f_new told is has out =
+    completes c g n m status end output out.gave.0 held held_new told is has out.gave.1.0 out.gave.1.1

@@ -10,16 +10,15 @@ use Rattle.raster_values.specs.declared.reading.GridStop.TheVariants.{Fault as G
 use Rattle.raster_values.specs.PixelType.{bytes_of}
 use Rattle.raster_values.specs.Raster.{Pixels, IsRaster, valid_count}
 use Rattle.raster_values.specs.ReadGrid.{CountsGridStop, IsGrid, IsToldFault, TookGrid, TookSome, grid_faults}
-use Rattle.raster_values.proofs.FlatViews.{count_values}
+use Rattle.raster_values.proofs.Deep.{length-values_of, raster_deep}
 use Rattle.lerc_header.specs.declared.header.Version.{Version}
 use Rattle.lerc_header.specs.Written.{step_of}
 use Rattle.lerc_cli.specs.declared.command.Command.TheVariants.{Encode}
 use Rattle.lerc_cli.specs.declared.stop.Reason.{Reason}
 use Rattle.lerc_cli.specs.declared.stop.Reason.TheVariants.{Blob, Grid, Leftover, DepthNeedsV4}
 use Rattle.lerc_cli.specs.declared.stop.Stop.{Stop}
-use Rattle.lerc_cli.specs.declared.stop.Stop.TheVariants.{Usage, Refused, Source, Output, Volume, OutOfMemory}
-use Rattle.lerc_grammar.specs.Near.{Near}
-use Rattle.lerc_grammar.proofs.Nearness.{nearest_is_same}
+use Rattle.lerc_cli.specs.declared.stop.Stop.TheVariants.{Usage, Refused, Source, Output, Volume, OutOfMemory, Store}
+use Rattle.lerc_grammar.specs.Near.{Near, NearestIsSame}
 use Rattle.lerc_encode.specs.Choice.{choice}
 use Rattle.lerc_encode.specs.Encoded.{Declares, IsEncodedOnce, NeedsV4}
 use Rattle.lerc_cli.specs.Answer.{Ends, Files, IsNoGrid, IsNotEncoded}
@@ -33,7 +32,7 @@ pub grid_long : (r : Pixels) (grid : List ℕ) → IsGrid grid r → length grid
 grid_long r grid g =
     let all = ap length g.joined in
     let marks : length g.marks ≡ r.rows * r.cols = ap length g.marks_are.spelled ∙ length-map _ _ ∙ g.marks_are.count in
-    let values : length g.values ≡ valid_count r * r.depth * bytes_of r.kind = g.values_are.size ∙ ap (λ n. n * bytes_of r.kind) (count_values r g.raster) in
+    let values : length g.values ≡ valid_count r * r.depth * bytes_of r.kind = g.values_are.size ∙ ap (λ n. n * bytes_of r.kind) (length-values_of r.depth r.pixels (raster_deep r g.raster)) in
     omega (arith, all, length-append g.head (g.marks ++ g.values), length-append g.marks g.values, g.head_of.size, marks, values)
 
 -- ---- what reading tells
@@ -74,14 +73,14 @@ took_more asked (Some left) mid new (bytes, (rest, (joined, is))) asks = by aske
 
 -- ---- what the blob is
 
-pub encodes : (version : Version) (error step : ℕ) (r : Pixels) (blob : List ℕ) → IsRaster r → step ≡ step_of error → blob ≡ choice r version step → Declares blob version step → IsEncodedOnce blob r step
+pub encodes : NearestIsSame → (version : Version) (error step : ℕ) (r : Pixels) (blob : List ℕ) → IsRaster r → step ≡ step_of error → blob ≡ choice r version step → Declares blob version step → IsEncodedOnce blob r step
     → Encodes version error r blob
-encodes version error step r blob is said chosen declared once =
+encodes same version error step r blob is said chosen declared once =
     let here = subst (λ (n : ℕ). IsEncodedOnce blob r n) said once in record {
       chosen = subst (λ (n : ℕ). blob ≡ choice r version n) said chosen;
       declared = subst (λ (n : ℕ). Declares blob version n) said declared;
       once = here;
-      exact = λ none. sym (nearest_is_same r here.raster is here.blob.0 (subst (λ (n : ℕ). Near r here.raster (step_of n)) none here.near));
+      exact = λ none. sym (same r here.raster is here.blob.0 (subst (λ (n : ℕ). Near r here.raster (step_of n)) none here.near));
     }
 
 -- ---- why the source's count rose
@@ -111,6 +110,7 @@ read_stop version error input files Source h = (tt_true, refl, refl)
 read_stop version error input files Output h = absurd h
 read_stop version error input files Volume h = absurd h
 read_stop version error input files OutOfMemory h = (tt, refl, refl)
+read_stop version error input files (Store s) h = absurd h
 
 pub not_output : (input : Option (List ℕ)) (stop : Stop) → ReadsGrid input (Err stop) → stop ≡ Output → ⊥
 not_output input stop h is = let none : ReadsGrid input (Err Output) = subst (λ (s : Stop). ReadsGrid input (Err s)) is h in none
@@ -130,6 +130,7 @@ made_stop version error input files r Source told h = absurd h
 made_stop version error input files r Output told h = absurd h
 made_stop version error input files r Volume told h = absurd h
 made_stop version error input files r OutOfMemory told h = (tt, refl, refl)
+made_stop version error input files r (Store s) told h = absurd h
 
 pub made_no_output : (version : Version) (error : ℕ) (r : Pixels) (stop : Stop) → MakesBlob version error r (Err stop) → stop ≡ Output → ⊥
 made_no_output version error r stop h is = let none : MakesBlob version error r (Err Output) = subst (λ (s : Stop). MakesBlob version error r (Err s)) is h in none

@@ -1,7 +1,7 @@
 -- What the end of `info` tells of its input and its output.
 use Rattle.std.proofs.Common.{◌≡◌, ℕ, ◌⊎◌, ◌↔◌, List, Option, Some, Ok, Err, sym, subst, ◌∙◌, inl, inr, arith}
 use Rattle.lerc_cli.specs.declared.command.Command.TheVariants.{Info}
-use Rattle.lerc_cli.specs.declared.stop.Stop.TheVariants.{Usage, Refused, Source, Output, Volume, OutOfMemory}
+use Rattle.lerc_cli.specs.declared.stop.Stop.TheVariants.{Usage, Refused, Source, Output, Volume, OutOfMemory, Store}
 use Rattle.lerc_cli.specs.Stop.{End, status_at}
 use Rattle.lerc_cli.specs.Answer.{Ends, Files, IsBlob}
 use Rattle.lerc_cli.specs.Run.{OfOutput, given, GivesLines}
@@ -17,6 +17,7 @@ decides input files n status (Err Source) output is which e = absurd (elim which
 decides input files n status (Err Output) output is which e = absurd (elim which [ inl z ↦ omega arith | inr z ↦ omega arith ])
 decides input files n status (Err Volume) output is which e = absurd (elim which [ inl z ↦ omega arith | inr z ↦ omega arith ])
 decides input files n status (Err OutOfMemory) output is which e = absurd (elim which [ inl z ↦ omega arith | inr z ↦ omega arith ])
+decides input files n status (Err (Store r)) output is which e = absurd (elim which [ inl z ↦ omega arith | inr z ↦ omega arith ])
 
 pub informed_exactly : (left : Option (List ℕ)) (input : List ℕ) (files : Option Files) (n status : ℕ) (end : End) (same : Type 0) (held held_new : Option (List ℕ)) (f f_new : ℕ)
     → left ≡ Some input → status ≡ status_at end → (status ≡ 0) ⊎ (status ≡ 2) → OfOutput Info (given left files) n end same held held_new f f_new → (status ≡ 0) ↔ IsBlob input

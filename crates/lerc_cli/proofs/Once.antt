@@ -1,111 +1,280 @@
 -- One command of words, and one answer of a command.
-use Rattle.std.proofs.Common.{◌≡◌, Ok, Err, List, ℕ, refl, sym, ap, subst, ◌∙◌}
+use Rattle.std.proofs.Common.{◌≡◌, Ok, Err, List, ℕ, ◌/◌, ◌%◌, Option, Some, refl, rules, sym, ap, subst, ◌∙◌, codes, arith}
+use Rattle.std.specs.Prelude.{IsTrue}
 use Rattle.raster_values.specs.Grid.{grid_of}
 use Rattle.raster_values.specs.Raster.{Pixels}
+use Rattle.lerc_header.specs.declared.header.Version.{Version}
 use Rattle.lerc_header.specs.Written.{step_of}
 use Rattle.lerc_encode.specs.Choice.{choice}
 use Rattle.lerc_cli.specs.declared.command.Command.{Command}
-use Rattle.lerc_cli.specs.declared.command.Command.TheVariants.{Encode, Decode, Info}
+use Rattle.lerc_cli.specs.declared.command.Command.TheVariants.{Encode, Decode, Info, Get, GetRaw, List as ListAll, Check, Recover}
 use Rattle.lerc_cli.specs.declared.stop.Fault.{Fault}
 use Rattle.lerc_cli.specs.declared.stop.Reason.TheVariants.{Blob as BlobReasonOf}
-use Rattle.lerc_cli.specs.declared.stop.Stop.TheVariants.{Usage, Refused, Source, Output, Volume, OutOfMemory}
+use Rattle.lerc_cli.specs.declared.stop.Stop.TheVariants.{Usage, Refused, Source, Output, Volume, OutOfMemory, Store}
 use Rattle.lerc_grammar.specs.Blob.{Blob}
 use Rattle.lerc_grammar.specs.Outlines.{IsOutline}
 use Rattle.lerc_grammar.proofs.Outlines.{one_outline}
 use Rattle.lerc_cli.specs.Info.{outline_lines}
-use Rattle.lerc_cli.specs.Answer.{AnswersOnce}
-use Rattle.lerc_cli.specs.Command.{SpellsOne}
+use Rattle.lerc_cli.specs.declared.stop.Refusal.{Refusal}
+use Rattle.lerc_cli.specs.Stop.{End}
+use Rattle.lerc_cli.specs.Answer.{AnswersOnce, Ends, Files, IsAnswer}
+use Rattle.bundle_store.specs.Check.{Reports}
+use Rattle.bundle_lines.specs.Lines.{check_lines, listing, recovery_line}
+use Rattle.lerc_cli.specs.Run.{given}
+use Rattle.lerc_cli.proofs.OneBundle.{done_or_refused, fault_or_missing, held_or_fault, held_or_missing, one_done, one_held, one_missing, one_opening, one_tile, one_tile_fault, one_unrecovered, recovered_or_opening, same_listing, same_report, tile_or_missing}
+use Rattle.lerc_cli.specs.Command.{calls_volume, reads_source}
 use Rattle.lerc_grammar.proofs.Blobs.{one_raster}
-use Rattle.lerc_cli.proofs.Spelled.{one_encode}
 use Rattle.lerc_cli.proofs.Whole.{blob_or_fault, one_whole_fault}
 use Rattle.lerc_cli.proofs.WholeGrids.{grid_or_refusal, one_grid, one_refusal}
-
-pub spells_one : SpellsOne
-spells_one (Encode a e) (Encode b f) words one other =
-    let same = sym one.2.0 ∙ other.2.0 in
-    let v : one.0 ≡ other.0 = cc in
-    let w : one.1 ≡ other.1 = cc in
-    one_encode one.0 other.0 one.1 other.1 a b e f v w one.2.1 other.2.1 one.2.2 other.2.2
-spells_one (Encode a e) Decode words one other = absurd (let e = sym one.2.0 ∙ other in cc)
-spells_one (Encode a e) Info words one other = absurd (let e = sym one.2.0 ∙ other in cc)
-spells_one Decode (Encode a e) words one other = absurd (let e = sym one ∙ other.2.0 in cc)
-spells_one Info (Encode a e) words one other = absurd (let e = sym one ∙ other.2.0 in cc)
-spells_one Decode Decode words one other = refl
-spells_one Decode Info words one other = absurd (let e = sym one ∙ other in cc)
-spells_one Info Decode words one other = absurd (let e = sym one ∙ other in cc)
-spells_one Info Info words one other = refl
 
 same_fault : (f g : Fault) → f.reason ≡ g.reason → f.place ≡ g.place → f ≡ g
 same_fault f g reason place = λ i. record { reason = reason i; place = place i }
 
-pub answers_once : (c : Command) → AnswersOnce c
-answers_once (Encode v e) input files n m (Ok x) (Ok y) output another _ _ a b =
+-- what a command answers that reads the source, where that is told
+abbrev SourceOnce : Command → Type 0
+SourceOnce c = IsTrue (reads_source c) → (input : List ℕ) (files : Option Files) (n m : ℕ) (end other : End) (output another : List ℕ) → IsAnswer end → IsAnswer other
+    → Ends c (given (Some input) files) n end output → Ends c (given (Some input) files) m other another → (end ≡ other) × (output ≡ another)
+
+source_once : (c : Command) → SourceOnce c
+source_once (Encode v e) reads input files n m (Ok x) (Ok y) output another _ _ a b =
     (refl, a.1.3 ∙ ap (λ (r : Pixels). choice r v (step_of e)) (one_grid input a.0 b.0 a.1.1 b.1.1) ∙ sym b.1.3)
-answers_once (Encode v e) input files n m (Ok x) (Err (Refused f)) output another _ _ a b = absurd (grid_or_refusal v input files a.0 a.1.1 a.1.2 f.place f.reason b.0)
-answers_once (Encode v e) input files n m (Err (Refused f)) (Ok y) output another _ _ a b = absurd (grid_or_refusal v input files b.0 b.1.1 b.1.2 f.place f.reason a.0)
-answers_once (Encode v e) input files n m (Err (Refused f)) (Err (Refused g)) output another _ _ a b =
+source_once (Encode v e) reads input files n m (Ok x) (Err (Refused f)) output another _ _ a b = absurd (grid_or_refusal v input files a.0 a.1.1 a.1.2 f.place f.reason b.0)
+source_once (Encode v e) reads input files n m (Err (Refused f)) (Ok y) output another _ _ a b = absurd (grid_or_refusal v input files b.0 b.1.1 b.1.2 f.place f.reason a.0)
+source_once (Encode v e) reads input files n m (Err (Refused f)) (Err (Refused g)) output another _ _ a b =
     let same = one_refusal v input files f.place g.place f.reason g.reason a.0 b.0 in
     (ap (λ h. Err (Refused h)) (same_fault f g same.1 same.0), a.1 ∙ sym b.1)
-answers_once (Encode v e) input files n m (Err Usage) other output another answer _ a b = absurd answer
-answers_once (Encode v e) input files n m (Err Source) other output another answer _ a b = absurd answer
-answers_once (Encode v e) input files n m (Err Output) other output another answer _ a b = absurd answer
-answers_once (Encode v e) input files n m (Err Volume) other output another answer _ a b = absurd answer
-answers_once (Encode v e) input files n m (Err OutOfMemory) other output another answer _ a b = absurd answer
-answers_once (Encode v e) input files n m (Ok x) (Err Usage) output another _ answer a b = absurd answer
-answers_once (Encode v e) input files n m (Ok x) (Err Source) output another _ answer a b = absurd answer
-answers_once (Encode v e) input files n m (Ok x) (Err Output) output another _ answer a b = absurd answer
-answers_once (Encode v e) input files n m (Ok x) (Err Volume) output another _ answer a b = absurd answer
-answers_once (Encode v e) input files n m (Ok x) (Err OutOfMemory) output another _ answer a b = absurd answer
-answers_once (Encode v e) input files n m (Err (Refused f)) (Err Usage) output another _ answer a b = absurd answer
-answers_once (Encode v e) input files n m (Err (Refused f)) (Err Source) output another _ answer a b = absurd answer
-answers_once (Encode v e) input files n m (Err (Refused f)) (Err Output) output another _ answer a b = absurd answer
-answers_once (Encode v e) input files n m (Err (Refused f)) (Err Volume) output another _ answer a b = absurd answer
-answers_once (Encode v e) input files n m (Err (Refused f)) (Err OutOfMemory) output another _ answer a b = absurd answer
-answers_once Decode input files n m (Ok x) (Ok y) output another _ _ a b =
+source_once (Encode v e) reads input files n m (Err Usage) other output another answer _ a b = absurd answer
+source_once (Encode v e) reads input files n m (Err Source) other output another answer _ a b = absurd answer
+source_once (Encode v e) reads input files n m (Err Output) other output another answer _ a b = absurd answer
+source_once (Encode v e) reads input files n m (Err Volume) other output another answer _ a b = absurd answer
+source_once (Encode v e) reads input files n m (Err OutOfMemory) other output another answer _ a b = absurd answer
+source_once (Encode v e) reads input files n m (Err (Store r)) other output another _ _ a b = absurd a.0
+source_once (Encode v e) reads input files n m (Ok x) (Err Usage) output another _ answer a b = absurd answer
+source_once (Encode v e) reads input files n m (Ok x) (Err Source) output another _ answer a b = absurd answer
+source_once (Encode v e) reads input files n m (Ok x) (Err Output) output another _ answer a b = absurd answer
+source_once (Encode v e) reads input files n m (Ok x) (Err Volume) output another _ answer a b = absurd answer
+source_once (Encode v e) reads input files n m (Ok x) (Err OutOfMemory) output another _ answer a b = absurd answer
+source_once (Encode v e) reads input files n m (Ok x) (Err (Store r)) output another _ _ a b = absurd b.0
+source_once (Encode v e) reads input files n m (Err (Refused f)) (Err Usage) output another _ answer a b = absurd answer
+source_once (Encode v e) reads input files n m (Err (Refused f)) (Err Source) output another _ answer a b = absurd answer
+source_once (Encode v e) reads input files n m (Err (Refused f)) (Err Output) output another _ answer a b = absurd answer
+source_once (Encode v e) reads input files n m (Err (Refused f)) (Err Volume) output another _ answer a b = absurd answer
+source_once (Encode v e) reads input files n m (Err (Refused f)) (Err OutOfMemory) output another _ answer a b = absurd answer
+source_once (Encode v e) reads input files n m (Err (Refused f)) (Err (Store r)) output another _ _ a b = absurd b.0
+source_once Decode reads input files n m (Ok x) (Ok y) output another _ _ a b =
     (refl, a.1.2 ∙ ap grid_of (one_raster input a.0 b.0 a.1.1 b.1.1) ∙ sym b.1.2)
-answers_once Decode input files n m (Ok x) (Err (Refused f)) output another _ _ a b = absurd (blob_or_fault input a.0 f.place b.0.0 a.1.1 b.0.1.1)
-answers_once Decode input files n m (Err (Refused f)) (Ok y) output another _ _ a b = absurd (blob_or_fault input b.0 f.place a.0.0 b.1.1 a.0.1.1)
-answers_once Decode input files n m (Err (Refused f)) (Err (Refused g)) output another _ _ a b =
+source_once Decode reads input files n m (Ok x) (Err (Refused f)) output another _ _ a b = absurd (blob_or_fault input a.0 f.place b.0.0 a.1.1 b.0.1.1)
+source_once Decode reads input files n m (Err (Refused f)) (Ok y) output another _ _ a b = absurd (blob_or_fault input b.0 f.place a.0.0 b.1.1 a.0.1.1)
+source_once Decode reads input files n m (Err (Refused f)) (Err (Refused g)) output another _ _ a b =
     let same = one_whole_fault input f.place g.place a.0.0 b.0.0 a.0.1.1 b.0.1.1 in
     (ap (λ h. Err (Refused h)) (same_fault f g (a.0.1.0 ∙ ap BlobReasonOf same.1 ∙ sym b.0.1.0) same.0), a.1 ∙ sym b.1)
-answers_once Decode input files n m (Err Usage) other output another answer _ a b = absurd answer
-answers_once Decode input files n m (Err Source) other output another answer _ a b = absurd answer
-answers_once Decode input files n m (Err Output) other output another answer _ a b = absurd answer
-answers_once Decode input files n m (Err Volume) other output another answer _ a b = absurd answer
-answers_once Decode input files n m (Err OutOfMemory) other output another answer _ a b = absurd answer
-answers_once Decode input files n m (Ok x) (Err Usage) output another _ answer a b = absurd answer
-answers_once Decode input files n m (Ok x) (Err Source) output another _ answer a b = absurd answer
-answers_once Decode input files n m (Ok x) (Err Output) output another _ answer a b = absurd answer
-answers_once Decode input files n m (Ok x) (Err Volume) output another _ answer a b = absurd answer
-answers_once Decode input files n m (Ok x) (Err OutOfMemory) output another _ answer a b = absurd answer
-answers_once Decode input files n m (Err (Refused f)) (Err Usage) output another _ answer a b = absurd answer
-answers_once Decode input files n m (Err (Refused f)) (Err Source) output another _ answer a b = absurd answer
-answers_once Decode input files n m (Err (Refused f)) (Err Output) output another _ answer a b = absurd answer
-answers_once Decode input files n m (Err (Refused f)) (Err Volume) output another _ answer a b = absurd answer
-answers_once Decode input files n m (Err (Refused f)) (Err OutOfMemory) output another _ answer a b = absurd answer
-answers_once Info input files n m (Ok x) (Ok y) output another _ _ a b =
+source_once Decode reads input files n m (Err Usage) other output another answer _ a b = absurd answer
+source_once Decode reads input files n m (Err Source) other output another answer _ a b = absurd answer
+source_once Decode reads input files n m (Err Output) other output another answer _ a b = absurd answer
+source_once Decode reads input files n m (Err Volume) other output another answer _ a b = absurd answer
+source_once Decode reads input files n m (Err OutOfMemory) other output another answer _ a b = absurd answer
+source_once Decode reads input files n m (Err (Store r)) other output another _ _ a b = absurd a.0
+source_once Decode reads input files n m (Ok x) (Err Usage) output another _ answer a b = absurd answer
+source_once Decode reads input files n m (Ok x) (Err Source) output another _ answer a b = absurd answer
+source_once Decode reads input files n m (Ok x) (Err Output) output another _ answer a b = absurd answer
+source_once Decode reads input files n m (Ok x) (Err Volume) output another _ answer a b = absurd answer
+source_once Decode reads input files n m (Ok x) (Err OutOfMemory) output another _ answer a b = absurd answer
+source_once Decode reads input files n m (Ok x) (Err (Store r)) output another _ _ a b = absurd b.0
+source_once Decode reads input files n m (Err (Refused f)) (Err Usage) output another _ answer a b = absurd answer
+source_once Decode reads input files n m (Err (Refused f)) (Err Source) output another _ answer a b = absurd answer
+source_once Decode reads input files n m (Err (Refused f)) (Err Output) output another _ answer a b = absurd answer
+source_once Decode reads input files n m (Err (Refused f)) (Err Volume) output another _ answer a b = absurd answer
+source_once Decode reads input files n m (Err (Refused f)) (Err OutOfMemory) output another _ answer a b = absurd answer
+source_once Decode reads input files n m (Err (Refused f)) (Err (Store r)) output another _ _ a b = absurd b.0
+source_once Info reads input files n m (Ok x) (Ok y) output another _ _ a b =
     let there : IsOutline input a.1.2.0 = subst (λ (u : List ℕ). IsOutline u a.1.2.0) (sym a.1.1) a.1.2.1.0 in
     let here : IsOutline input b.1.2.0 = subst (λ (u : List ℕ). IsOutline u b.1.2.0) (sym b.1.1) b.1.2.1.0 in
     (refl, a.1.2.1.1 ∙ ap outline_lines ((one_outline input).once a.1.2.0 b.1.2.0 there here) ∙ sym b.1.2.1.1)
-answers_once Info input files n m (Ok x) (Err (Refused f)) output another _ _ a b =
+source_once Info reads input files n m (Ok x) (Err (Refused f)) output another _ _ a b =
     absurd (blob_or_fault input a.1.0.0 f.place b.0.0 (subst (λ (u : List ℕ). Blob u a.1.0.0) (sym a.1.1) a.1.0.1) b.0.1.1)
-answers_once Info input files n m (Err (Refused f)) (Ok y) output another _ _ a b =
+source_once Info reads input files n m (Err (Refused f)) (Ok y) output another _ _ a b =
     absurd (blob_or_fault input b.1.0.0 f.place a.0.0 (subst (λ (u : List ℕ). Blob u b.1.0.0) (sym b.1.1) b.1.0.1) a.0.1.1)
-answers_once Info input files n m (Err (Refused f)) (Err (Refused g)) output another _ _ a b =
+source_once Info reads input files n m (Err (Refused f)) (Err (Refused g)) output another _ _ a b =
     let same = one_whole_fault input f.place g.place a.0.0 b.0.0 a.0.1.1 b.0.1.1 in
     (ap (λ h. Err (Refused h)) (same_fault f g (a.0.1.0 ∙ ap BlobReasonOf same.1 ∙ sym b.0.1.0) same.0), a.1 ∙ sym b.1)
-answers_once Info input files n m (Err Usage) other output another answer _ a b = absurd answer
-answers_once Info input files n m (Err Source) other output another answer _ a b = absurd answer
-answers_once Info input files n m (Err Output) other output another answer _ a b = absurd answer
-answers_once Info input files n m (Err Volume) other output another answer _ a b = absurd answer
-answers_once Info input files n m (Err OutOfMemory) other output another answer _ a b = absurd answer
-answers_once Info input files n m (Ok x) (Err Usage) output another _ answer a b = absurd answer
-answers_once Info input files n m (Ok x) (Err Source) output another _ answer a b = absurd answer
-answers_once Info input files n m (Ok x) (Err Output) output another _ answer a b = absurd answer
-answers_once Info input files n m (Ok x) (Err Volume) output another _ answer a b = absurd answer
-answers_once Info input files n m (Ok x) (Err OutOfMemory) output another _ answer a b = absurd answer
-answers_once Info input files n m (Err (Refused f)) (Err Usage) output another _ answer a b = absurd answer
-answers_once Info input files n m (Err (Refused f)) (Err Source) output another _ answer a b = absurd answer
-answers_once Info input files n m (Err (Refused f)) (Err Output) output another _ answer a b = absurd answer
-answers_once Info input files n m (Err (Refused f)) (Err Volume) output another _ answer a b = absurd answer
-answers_once Info input files n m (Err (Refused f)) (Err OutOfMemory) output another _ answer a b = absurd answer
+source_once Info reads input files n m (Err Usage) other output another answer _ a b = absurd answer
+source_once Info reads input files n m (Err Source) other output another answer _ a b = absurd answer
+source_once Info reads input files n m (Err Output) other output another answer _ a b = absurd answer
+source_once Info reads input files n m (Err Volume) other output another answer _ a b = absurd answer
+source_once Info reads input files n m (Err OutOfMemory) other output another answer _ a b = absurd answer
+source_once Info reads input files n m (Err (Store r)) other output another _ _ a b = absurd a.0
+source_once Info reads input files n m (Ok x) (Err Usage) output another _ answer a b = absurd answer
+source_once Info reads input files n m (Ok x) (Err Source) output another _ answer a b = absurd answer
+source_once Info reads input files n m (Ok x) (Err Output) output another _ answer a b = absurd answer
+source_once Info reads input files n m (Ok x) (Err Volume) output another _ answer a b = absurd answer
+source_once Info reads input files n m (Ok x) (Err OutOfMemory) output another _ answer a b = absurd answer
+source_once Info reads input files n m (Ok x) (Err (Store r)) output another _ _ a b = absurd b.0
+source_once Info reads input files n m (Err (Refused f)) (Err Usage) output another _ answer a b = absurd answer
+source_once Info reads input files n m (Err (Refused f)) (Err Source) output another _ answer a b = absurd answer
+source_once Info reads input files n m (Err (Refused f)) (Err Output) output another _ answer a b = absurd answer
+source_once Info reads input files n m (Err (Refused f)) (Err Volume) output another _ answer a b = absurd answer
+source_once Info reads input files n m (Err (Refused f)) (Err OutOfMemory) output another _ answer a b = absurd answer
+source_once Info reads input files n m (Err (Refused f)) (Err (Store r)) output another _ _ a b = absurd b.0
+source_once (Get slot) reads input files n m end other output another one two a b = absurd (let bad : ⊥ = cc in bad)
+source_once (GetRaw slot) reads input files n m end other output another one two a b = absurd (let bad : ⊥ = cc in bad)
+source_once ListAll reads input files n m end other output another one two a b = absurd (let bad : ⊥ = cc in bad)
+source_once Check reads input files n m end other output another one two a b = absurd (let bad : ⊥ = cc in bad)
+source_once Recover reads input files n m end other output another one two a b = absurd (let bad : ⊥ = cc in bad)
+
+from_source : (c : Command) → IsTrue (reads_source c) → AnswersOnce c
+from_source c reads g n m end other output another tells one two a b =
+    let told = tells.input reads in
+    source_once c reads told.0 g.files n m end other output another one two
+    (subst (λ (x : Option (List ℕ)). Ends c (given x g.files) n end output) told.1 a)
+    (subst (λ (x : Option (List ℕ)). Ends c (given x g.files) m other another) told.1 b)
+
+-- what a command answers that reads the bundle, where the files are told
+abbrev BundleOnce : Command → Type 0
+BundleOnce c = (input : Option (List ℕ)) (f : Files) (n m : ℕ) (end other : End) (output another : List ℕ) → IsAnswer end → IsAnswer other
+    → Ends c (given input (Some f)) n end output → Ends c (given input (Some f)) m other another → (end ≡ other) × (output ≡ another)
+
+from_bundle : (c : Command) → IsTrue (calls_volume c) → BundleOnce c → AnswersOnce c
+from_bundle c calls once g n m end other output another tells one two a b =
+    let told = tells.files calls in
+    once g.input told.0 n m end other output another one two
+    (subst (λ (x : Option Files). Ends c (given g.input x) n end output) told.1 a)
+    (subst (λ (x : Option Files). Ends c (given g.input x) m other another) told.1 b)
+
+raw_once : (slot : ℕ) → BundleOnce (GetRaw slot)
+raw_once slot input f n m (Ok x) (Ok y) output another _ _ a b = (refl, one_tile f slot output another a b)
+raw_once slot input f n m (Ok x) (Err (Store r)) output another _ _ a b = absurd (tile_or_missing f slot output r a b.0)
+raw_once slot input f n m (Err (Store r)) (Ok y) output another _ _ a b = absurd (tile_or_missing f slot another r b a.0)
+raw_once slot input f n m (Err (Store r)) (Err (Store s)) output another _ _ a b = (ap (λ (x : Refusal). Err (Store x)) (one_missing f slot r s a.0 b.0), a.1 ∙ sym b.1)
+raw_once slot input f n m (Err (Refused r)) other output another _ _ a b = absurd a.0
+raw_once slot input f n m (Ok x) (Err (Refused s)) output another _ _ a b = absurd b.0
+raw_once slot input f n m (Err (Store r)) (Err (Refused s)) output another _ _ a b = absurd b.0
+raw_once slot input f n m (Err Usage) other output another answer _ a b = absurd answer
+raw_once slot input f n m (Err Source) other output another answer _ a b = absurd answer
+raw_once slot input f n m (Err Output) other output another answer _ a b = absurd answer
+raw_once slot input f n m (Err Volume) other output another answer _ a b = absurd answer
+raw_once slot input f n m (Err OutOfMemory) other output another answer _ a b = absurd answer
+raw_once slot input f n m (Ok x) (Err Usage) output another _ answer a b = absurd answer
+raw_once slot input f n m (Ok x) (Err Source) output another _ answer a b = absurd answer
+raw_once slot input f n m (Ok x) (Err Output) output another _ answer a b = absurd answer
+raw_once slot input f n m (Ok x) (Err Volume) output another _ answer a b = absurd answer
+raw_once slot input f n m (Ok x) (Err OutOfMemory) output another _ answer a b = absurd answer
+raw_once slot input f n m (Err (Store r)) (Err Usage) output another _ answer a b = absurd answer
+raw_once slot input f n m (Err (Store r)) (Err Source) output another _ answer a b = absurd answer
+raw_once slot input f n m (Err (Store r)) (Err Output) output another _ answer a b = absurd answer
+raw_once slot input f n m (Err (Store r)) (Err Volume) output another _ answer a b = absurd answer
+raw_once slot input f n m (Err (Store r)) (Err OutOfMemory) output another _ answer a b = absurd answer
+
+grid_once : (slot : ℕ) → BundleOnce (Get slot)
+grid_once slot input f n m (Ok x) (Ok y) output another _ _ a b = (refl, a.1.2 ∙ ap grid_of (one_held f slot a.0 b.0 a.1.1 b.1.1) ∙ sym b.1.2)
+grid_once slot input f n m (Ok x) (Err (Refused s)) output another _ _ a b = absurd (held_or_fault f slot a.0 s.place b.0.0 a.1.1 b.0.1.1)
+grid_once slot input f n m (Ok x) (Err (Store r)) output another _ _ a b = absurd (held_or_missing f slot a.0 r a.1.1 b.0)
+grid_once slot input f n m (Err (Refused r)) (Ok y) output another _ _ a b = absurd (held_or_fault f slot b.0 r.place a.0.0 b.1.1 a.0.1.1)
+grid_once slot input f n m (Err (Refused r)) (Err (Refused s)) output another _ _ a b =
+    let same = one_tile_fault f slot r.place s.place a.0.0 b.0.0 a.0.1.1 b.0.1.1 in
+    (ap (λ h. Err (Refused h)) (same_fault r s (a.0.1.0 ∙ ap BlobReasonOf same.1 ∙ sym b.0.1.0) same.0), a.1 ∙ sym b.1)
+grid_once slot input f n m (Err (Refused r)) (Err (Store s)) output another _ _ a b = absurd (fault_or_missing f slot r.place a.0.0 s a.0.1.1 b.0)
+grid_once slot input f n m (Err (Store r)) (Ok y) output another _ _ a b = absurd (held_or_missing f slot b.0 r b.1.1 a.0)
+grid_once slot input f n m (Err (Store r)) (Err (Refused s)) output another _ _ a b = absurd (fault_or_missing f slot s.place b.0.0 r b.0.1.1 a.0)
+grid_once slot input f n m (Err (Store r)) (Err (Store s)) output another _ _ a b = (ap (λ (x : Refusal). Err (Store x)) (one_missing f slot r s a.0 b.0), a.1 ∙ sym b.1)
+grid_once slot input f n m (Err Usage) other output another answer _ a b = absurd answer
+grid_once slot input f n m (Err Source) other output another answer _ a b = absurd answer
+grid_once slot input f n m (Err Output) other output another answer _ a b = absurd answer
+grid_once slot input f n m (Err Volume) other output another answer _ a b = absurd answer
+grid_once slot input f n m (Err OutOfMemory) other output another answer _ a b = absurd answer
+grid_once slot input f n m (Ok x) (Err Usage) output another _ answer a b = absurd answer
+grid_once slot input f n m (Ok x) (Err Source) output another _ answer a b = absurd answer
+grid_once slot input f n m (Ok x) (Err Output) output another _ answer a b = absurd answer
+grid_once slot input f n m (Ok x) (Err Volume) output another _ answer a b = absurd answer
+grid_once slot input f n m (Ok x) (Err OutOfMemory) output another _ answer a b = absurd answer
+grid_once slot input f n m (Err (Refused r)) (Err Usage) output another _ answer a b = absurd answer
+grid_once slot input f n m (Err (Refused r)) (Err Source) output another _ answer a b = absurd answer
+grid_once slot input f n m (Err (Refused r)) (Err Output) output another _ answer a b = absurd answer
+grid_once slot input f n m (Err (Refused r)) (Err Volume) output another _ answer a b = absurd answer
+grid_once slot input f n m (Err (Refused r)) (Err OutOfMemory) output another _ answer a b = absurd answer
+grid_once slot input f n m (Err (Store r)) (Err Usage) output another _ answer a b = absurd answer
+grid_once slot input f n m (Err (Store r)) (Err Source) output another _ answer a b = absurd answer
+grid_once slot input f n m (Err (Store r)) (Err Output) output another _ answer a b = absurd answer
+grid_once slot input f n m (Err (Store r)) (Err Volume) output another _ answer a b = absurd answer
+grid_once slot input f n m (Err (Store r)) (Err OutOfMemory) output another _ answer a b = absurd answer
+
+list_once : BundleOnce ListAll
+list_once input f n m (Ok x) (Ok y) output another _ _ a b = (refl, same_listing f output another a b)
+list_once input f n m (Ok x) (Err (Store r)) output another _ _ a b = absurd (recovered_or_opening f (λ x. output ≡ listing x 16384) r a b.0)
+list_once input f n m (Err (Store r)) (Ok y) output another _ _ a b = absurd (recovered_or_opening f (λ x. another ≡ listing x 16384) r b a.0)
+list_once input f n m (Err (Store r)) (Err (Store s)) output another _ _ a b = (ap (λ (x : Refusal). Err (Store x)) (one_opening f r s a.0 b.0), a.1 ∙ sym b.1)
+list_once input f n m (Err (Refused r)) other output another _ _ a b = absurd a.0
+list_once input f n m (Ok x) (Err (Refused s)) output another _ _ a b = absurd b.0
+list_once input f n m (Err (Store r)) (Err (Refused s)) output another _ _ a b = absurd b.0
+list_once input f n m (Err Usage) other output another answer _ a b = absurd answer
+list_once input f n m (Err Source) other output another answer _ a b = absurd answer
+list_once input f n m (Err Output) other output another answer _ a b = absurd answer
+list_once input f n m (Err Volume) other output another answer _ a b = absurd answer
+list_once input f n m (Err OutOfMemory) other output another answer _ a b = absurd answer
+list_once input f n m (Ok x) (Err Usage) output another _ answer a b = absurd answer
+list_once input f n m (Ok x) (Err Source) output another _ answer a b = absurd answer
+list_once input f n m (Ok x) (Err Output) output another _ answer a b = absurd answer
+list_once input f n m (Ok x) (Err Volume) output another _ answer a b = absurd answer
+list_once input f n m (Ok x) (Err OutOfMemory) output another _ answer a b = absurd answer
+list_once input f n m (Err (Store r)) (Err Usage) output another _ answer a b = absurd answer
+list_once input f n m (Err (Store r)) (Err Source) output another _ answer a b = absurd answer
+list_once input f n m (Err (Store r)) (Err Output) output another _ answer a b = absurd answer
+list_once input f n m (Err (Store r)) (Err Volume) output another _ answer a b = absurd answer
+list_once input f n m (Err (Store r)) (Err OutOfMemory) output another _ answer a b = absurd answer
+
+check_once : BundleOnce Check
+check_once input f n m (Ok x) (Ok y) output another _ _ a b = (refl, a.1.1 ∙ ap check_lines (same_report f a.0 b.0 a.1.0 b.1.0) ∙ sym b.1.1)
+check_once input f n m (Ok x) (Err (Store r)) output another _ _ a b = absurd (recovered_or_opening f (λ x. Reports x 16384 a.0) r a.1.0 b.0)
+check_once input f n m (Err (Store r)) (Ok y) output another _ _ a b = absurd (recovered_or_opening f (λ x. Reports x 16384 b.0) r b.1.0 a.0)
+check_once input f n m (Err (Store r)) (Err (Store s)) output another _ _ a b = (ap (λ (x : Refusal). Err (Store x)) (one_opening f r s a.0 b.0), a.1 ∙ sym b.1)
+check_once input f n m (Err (Refused r)) other output another _ _ a b = absurd a.0
+check_once input f n m (Ok x) (Err (Refused s)) output another _ _ a b = absurd b.0
+check_once input f n m (Err (Store r)) (Err (Refused s)) output another _ _ a b = absurd b.0
+check_once input f n m (Err Usage) other output another answer _ a b = absurd answer
+check_once input f n m (Err Source) other output another answer _ a b = absurd answer
+check_once input f n m (Err Output) other output another answer _ a b = absurd answer
+check_once input f n m (Err Volume) other output another answer _ a b = absurd answer
+check_once input f n m (Err OutOfMemory) other output another answer _ a b = absurd answer
+check_once input f n m (Ok x) (Err Usage) output another _ answer a b = absurd answer
+check_once input f n m (Ok x) (Err Source) output another _ answer a b = absurd answer
+check_once input f n m (Ok x) (Err Output) output another _ answer a b = absurd answer
+check_once input f n m (Ok x) (Err Volume) output another _ answer a b = absurd answer
+check_once input f n m (Ok x) (Err OutOfMemory) output another _ answer a b = absurd answer
+check_once input f n m (Err (Store r)) (Err Usage) output another _ answer a b = absurd answer
+check_once input f n m (Err (Store r)) (Err Source) output another _ answer a b = absurd answer
+check_once input f n m (Err (Store r)) (Err Output) output another _ answer a b = absurd answer
+check_once input f n m (Err (Store r)) (Err Volume) output another _ answer a b = absurd answer
+check_once input f n m (Err (Store r)) (Err OutOfMemory) output another _ answer a b = absurd answer
+
+recover_once : BundleOnce Recover
+recover_once input f n m (Ok x) (Ok y) output another _ _ a b = (refl, a.1.1 ∙ ap recovery_line (one_done f a.0 b.0 a.1.0 b.1.0) ∙ sym b.1.1)
+recover_once input f n m (Ok x) (Err (Store r)) output another _ _ a b = absurd (done_or_refused f a.0 r a.1.0 b.0)
+recover_once input f n m (Err (Store r)) (Ok y) output another _ _ a b = absurd (done_or_refused f b.0 r b.1.0 a.0)
+recover_once input f n m (Err (Store r)) (Err (Store s)) output another _ _ a b = (ap (λ (x : Refusal). Err (Store x)) (one_unrecovered f r s a.0 b.0), a.1 ∙ sym b.1)
+recover_once input f n m (Err (Refused r)) other output another _ _ a b = absurd a.0
+recover_once input f n m (Ok x) (Err (Refused s)) output another _ _ a b = absurd b.0
+recover_once input f n m (Err (Store r)) (Err (Refused s)) output another _ _ a b = absurd b.0
+recover_once input f n m (Err Usage) other output another answer _ a b = absurd answer
+recover_once input f n m (Err Source) other output another answer _ a b = absurd answer
+recover_once input f n m (Err Output) other output another answer _ a b = absurd answer
+recover_once input f n m (Err Volume) other output another answer _ a b = absurd answer
+recover_once input f n m (Err OutOfMemory) other output another answer _ a b = absurd answer
+recover_once input f n m (Ok x) (Err Usage) output another _ answer a b = absurd answer
+recover_once input f n m (Ok x) (Err Source) output another _ answer a b = absurd answer
+recover_once input f n m (Ok x) (Err Output) output another _ answer a b = absurd answer
+recover_once input f n m (Ok x) (Err Volume) output another _ answer a b = absurd answer
+recover_once input f n m (Ok x) (Err OutOfMemory) output another _ answer a b = absurd answer
+recover_once input f n m (Err (Store r)) (Err Usage) output another _ answer a b = absurd answer
+recover_once input f n m (Err (Store r)) (Err Source) output another _ answer a b = absurd answer
+recover_once input f n m (Err (Store r)) (Err Output) output another _ answer a b = absurd answer
+recover_once input f n m (Err (Store r)) (Err Volume) output another _ answer a b = absurd answer
+recover_once input f n m (Err (Store r)) (Err OutOfMemory) output another _ answer a b = absurd answer
+
+pub answers_once : (c : Command) → AnswersOnce c
+answers_once (Encode v e) = from_source (Encode v e) (search rules)
+answers_once Decode = from_source Decode (search rules)
+answers_once Info = from_source Info (search rules)
+answers_once (Get slot) = from_bundle (Get slot) (search rules) (grid_once slot)
+answers_once (GetRaw slot) = from_bundle (GetRaw slot) (search rules) (raw_once slot)
+answers_once ListAll = from_bundle ListAll (search rules) list_once
+answers_once Check = from_bundle Check (search rules) check_once
+answers_once Recover = from_bundle Recover (search rules) recover_once

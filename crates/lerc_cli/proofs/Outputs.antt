@@ -6,11 +6,13 @@ use Rattle.outside_io.specs.streams.Sink.{Holds, HoldsPrefix}
 use Rattle.outside_io.specs.streams.Source.{IsAtEnd}
 use Rattle.outside_io.proofs.StreamLemmas.Gives.{Holds_none}
 use Rattle.lerc_cli.specs.declared.command.Command.{Command}
+use Rattle.lerc_cli.specs.declared.command.Command.TheVariants.{Encode, Decode, Info, Get, GetRaw, List as ListAll, Check, Recover}
+use Rattle.lerc_cli.specs.declared.stop.Refusal.{Refusal}
 use Rattle.lerc_cli.specs.declared.stop.Stop.{Stop}
-use Rattle.lerc_cli.specs.declared.stop.Stop.TheVariants.{Usage, Refused, Source, Output, Volume, OutOfMemory}
+use Rattle.lerc_cli.specs.declared.stop.Stop.TheVariants.{Usage, Refused, Source, Output, Volume, OutOfMemory, Store}
 use Rattle.lerc_cli.specs.Command.{reads_source, calls_volume}
 use Rattle.lerc_cli.specs.Stop.{End, status_at}
-use Rattle.lerc_cli.specs.Answer.{Given, Ends}
+use Rattle.lerc_cli.specs.Answer.{Given, Ends, IsRefusal}
 use Rattle.lerc_cli.specs.Run.{Gained, OfOutput, OfSource, TakesFor}
 
 -- ---- the output
@@ -22,6 +24,7 @@ gained_none Source old new other none = none
 gained_none Output old new other none = absurd (other refl)
 gained_none Volume old new other none = none
 gained_none OutOfMemory old new other none = none
+gained_none (Store r) old new other none = none
 
 gained : (stop : Stop) (old new : Option (List ℕ)) → (stop ≡ Output → ⊥) → new ≡ old → Gained (Err stop) old new []
 gained stop old new other same = gained_none stop old new other (subst (λ (x : Option (List ℕ)). Holds old x []) (sym same) (Holds_none old))
@@ -81,6 +84,17 @@ source_stopped c stop same left left_new f f_new reads cause taken = record {
 
 -- ---- a run that gave nothing
 
+-- the store refuses no command that does not call the volume
+no_store : (c : Command) (g : Given) (n : ℕ) (r : Refusal) → IsFalse (calls_volume c) → IsRefusal c g n (Store r) → ⊥
+no_store (Encode version error) g n r calls is = is
+no_store Decode g n r calls is = is
+no_store Info g n r calls is = is
+no_store (Get slot) g n r calls is = cc
+no_store (GetRaw slot) g n r calls is = cc
+no_store ListAll g n r calls is = cc
+no_store Check g n r calls is = cc
+no_store Recover g n r calls is = cc
+
 pub nothing_given : (c : Command) (g : Given) (n status : ℕ) (end : End) (same : Type 0) (held held_new : Option (List ℕ)) (f f_new : ℕ)
     → IsFalse (calls_volume c) → status ≡ status_at end → status ≢ 0 → status ≢ 4 → OfOutput c g n end same held held_new f f_new → same
 nothing_given c g n status (Ok x) same held held_new f f_new calls is zero four out = absurd (zero is)
@@ -90,6 +104,7 @@ nothing_given c g n status (Err Source) same held held_new f f_new calls is zero
 nothing_given c g n status (Err Output) same held held_new f f_new calls is zero four out = absurd (four is)
 nothing_given c g n status (Err Volume) same held held_new f f_new calls is zero four out = absurd (let never = out.gave.1.0.0 in cc)
 nothing_given c g n status (Err OutOfMemory) same held held_new f f_new calls is zero four out = out.idle tt
+nothing_given c g n status (Err (Store r)) same held held_new f f_new calls is zero four out = absurd (no_store c g n r calls out.gave.1.0.0)
 
 pub on_ok : {P : Type 0} (end : End) → end ≡ Ok tt → OnOk end P → P
 on_ok {P} end is said = let here : OnOk {T = Unit {0}} {E = Stop} (Ok tt) P = subst (λ (e : End). OnOk e P) is said in here

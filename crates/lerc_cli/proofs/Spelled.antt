@@ -1,12 +1,13 @@
 -- Words behind the name of a command: what they stand for is one.
-use Rattle.std.proofs.Common.{◌≡◌, ℕ, ◌<◌, ◌≤◌, ◌↔◌, List, [], ◌∷◌, get_or, length, Option, Some, None, refl, sym, ap, subst, ◌∙◌, codes, arith}
+use Rattle.std.proofs.Common.{◌≡◌, ◌⊎◌, inl, inr, ℕ, ◌+◌, ◌*◌, ◌/◌, ◌%◌, ◌<◌, ◌≤◌, ◌↔◌, List, [], ◌∷◌, get_or, length, Option, Some, None, refl, sym, ap, subst, ◌∙◌, codes, arith}
+use Rattle.std.specs.Prelude.{IfSome}
 use Rattle.outside_io.specs.program.Word.{IsNumber, decimal_value}
 use Rattle.lerc_header.specs.declared.header.Version.{Version}
 use Rattle.lerc_header.specs.declared.header.Version.TheVariants.{V3, V4}
 use Rattle.lerc_cli.specs.declared.command.Command.{Command}
-use Rattle.lerc_cli.specs.declared.command.Command.TheVariants.{Encode, Decode, Info}
-use Rattle.lerc_cli.specs.Command.{IsSpelled, IsVersionWord, IsWithin}
-use Rattle.lerc_cli.specs.inside.Spelling.{IsEncode}
+use Rattle.lerc_cli.specs.declared.command.Command.TheVariants.{Encode, Decode, Info, Get, GetRaw, List as ListAll, Check, Recover}
+use Rattle.lerc_cli.specs.Command.{AreSlotWords, IsSpelled, IsVersionWord, IsWithin, SpellsOne}
+use Rattle.lerc_cli.specs.inside.Spelling.{IsEncode, IsGet, IsGetRaw}
 
 -- ---- one version, one number
 
@@ -28,7 +29,82 @@ one_encode v w e f a b n m same equal va wb en fm =
     let error = one_number e f n m equal en.0 fm.0 in
     λ i. Encode (version i) (error i)
 
+pub one_slot : (r s c d : List ℕ) (a b : ℕ) → r ≡ s → c ≡ d → AreSlotWords r c a → AreSlotWords s d b → a ≡ b
+one_slot r s c d a b row col one other =
+    let up : a / 128 ≡ b / 128 = one_number r s (a / 128) (b / 128) row one.0.0 other.0.0 in
+    let along : a % 128 ≡ b % 128 = one_number c d (a % 128) (b % 128) col one.1.0 other.1.0 in
+    omega (arith, up, along)
+
 -- ---- a number within limits
+
+pub in_limits : (word : List ℕ) (found : Option ℕ) (e least greatest : ℕ) → found ≡ Some e → ((n : ℕ) → (found ≡ Some n) ↔ IsNumber word n) → least ≤ e → e ≤ greatest
+    → (n : ℕ) → (◌≡◌ {A = Option ℕ} (Some e) (Some n)) ↔ IsWithin word n least greatest
+in_limits word found e least greatest is tells some few n = (
+  λ same. (let here : e ≡ n = cc in ((tells n).0 (is ∙ same), omega (arith, here, some), omega (arith, here, few))),
+  λ w. sym is ∙ (tells n).1 w.0,
+)
+
+pub past_limits : (word : List ℕ) (found : Option ℕ) (e least greatest : ℕ) → found ≡ Some e → ((n : ℕ) → (found ≡ Some n) ↔ IsNumber word n) → (e < least) ⊎ (greatest < e)
+    → (n : ℕ) → (◌≡◌ {A = Option ℕ} None (Some n)) ↔ IsWithin word n least greatest
+past_limits word found e least greatest is tells out n = (
+  λ same. absurd cc,
+  λ w. absurd (let other = sym is ∙ (tells n).1 w.0 in let here : e ≡ n = cc in elim out [ inl below ↦ omega (arith, here, below, w.1) | inr above ↦ omega (arith, here, above, w.2) ]),
+)
+
+pub no_limits : (word : List ℕ) (found : Option ℕ) (least greatest : ℕ) → found ≡ None → ((n : ℕ) → (found ≡ Some n) ↔ IsNumber word n)
+    → (n : ℕ) → (◌≡◌ {A = Option ℕ} None (Some n)) ↔ IsWithin word n least greatest
+no_limits word found least greatest is tells n = (
+  λ same. absurd cc,
+  λ w. absurd (let other = sym is ∙ (tells n).1 w.0 in cc),
+)
+
+-- ---- a slot
+
+slot_some : (rw cw : List ℕ) (row col s : ℕ) → IsWithin rw row 0 127 → IsWithin cw col 0 127 → s ≡ 128 * row + col → AreSlotWords rw cw s
+slot_some rw cw row col s r c is =
+    let up : row ≡ s / 128 = omega (arith, is, c.2) in
+    let along : col ≡ s % 128 = omega (arith, is, c.2) in
+    (subst (λ (n : ℕ). IsWithin rw n 0 127) up r, subst (λ (n : ℕ). IsWithin cw n 0 127) along c)
+
+pub slot_words : (rw cw : List ℕ) (row col : ℕ) (found : Option ℕ) → IsWithin rw row 0 127 → IsWithin cw col 0 127 → IfSome found (λ s. s ≡ 128 * row + col) → (found ≡ None) ↔ ((127 < row) ⊎ (127 < col))
+    → (slot : ℕ) → (found ≡ Some slot) ↔ AreSlotWords rw cw slot
+slot_words rw cw row col None r c is none slot = absurd (elim (none.0 refl) [ inl out ↦ omega (arith, out, r.2) | inr out ↦ omega (arith, out, c.2) ])
+slot_words rw cw row col (Some s) r c is none slot = (
+  λ same. (let here : s ≡ slot = cc in subst (AreSlotWords rw cw) here (slot_some rw cw row col s r c is)),
+  λ w. ap Some (one_slot rw rw cw cw s slot refl refl (slot_some rw cw row col s r c is) w),
+)
+
+pub slot_none : (rw cw : List ℕ) (found : Option ℕ) → found ≡ None → ((slot : ℕ) → AreSlotWords rw cw slot → ⊥) → (slot : ℕ) → (found ≡ Some slot) ↔ AreSlotWords rw cw slot
+slot_none rw cw found is never slot = (
+  λ same. absurd (let other = sym is ∙ same in cc),
+  λ w. absurd (never slot w),
+)
+
+pub get_some : (rw cw : List ℕ) (slot : ℕ) → AreSlotWords rw cw slot → (c : Command) → (◌≡◌ {A = Option Command} (Some (Get slot)) (Some c)) ↔ IsGet rw cw c
+get_some rw cw slot is c = (
+  λ same. (slot, ((let here : c ≡ Get slot = cc in here), is)),
+  λ s. ap Some (ap Get (one_slot rw rw cw cw slot s.0 refl refl is s.1.1) ∙ sym s.1.0),
+)
+
+pub get_none : (rw cw : List ℕ) (found : Option Command) → found ≡ None → ((slot : ℕ) → AreSlotWords rw cw slot → ⊥) → (c : Command) → (found ≡ Some c) ↔ IsGet rw cw c
+get_none rw cw found is never c = (
+  λ same. absurd (let other = sym is ∙ same in cc),
+  λ s. absurd (never s.0 s.1.1),
+)
+
+pub raw_some : (rw cw : List ℕ) (slot : ℕ) → AreSlotWords rw cw slot → (c : Command) → (◌≡◌ {A = Option Command} (Some (GetRaw slot)) (Some c)) ↔ IsGetRaw rw cw c
+raw_some rw cw slot is c = (
+  λ same. (slot, ((let here : c ≡ GetRaw slot = cc in here), is)),
+  λ s. ap Some (ap GetRaw (one_slot rw rw cw cw slot s.0 refl refl is s.1.1) ∙ sym s.1.0),
+)
+
+pub raw_none : (rw cw : List ℕ) (found : Option Command) → found ≡ None → ((slot : ℕ) → AreSlotWords rw cw slot → ⊥) → (c : Command) → (found ≡ Some c) ↔ IsGetRaw rw cw c
+raw_none rw cw found is never c = (
+  λ same. absurd (let other = sym is ∙ same in cc),
+  λ s. absurd (never s.0 s.1.1),
+)
+
+-- ---- an error
 
 pub within_some : (word : List ℕ) (found : Option ℕ) (e : ℕ) → found ≡ Some e → ((n : ℕ) → (found ≡ Some n) ↔ IsNumber word n) → e ≤ 4294967295
     → (n : ℕ) → (◌≡◌ {A = Option ℕ} (Some e) (Some n)) ↔ IsWithin word n 0 4294967295
@@ -67,7 +143,220 @@ encode_none v e found is never c = (
   λ s. absurd (never s.0 s.1.0 s.1.1.1 s.1.1.2),
 )
 
--- ---- three words
+-- ---- words spell one command
+
+-- lists that begin with other words, whose first letters differ
+other_letters : (one two : List (List ℕ)) → one ≡ two → get_or (get_or one 0 []) 0 0 ≡ get_or (get_or two 0 []) 0 0
+other_letters one two same = ap (λ (words : List (List ℕ)). get_or (get_or words 0 []) 0 0) same
+
+pub spells_one : SpellsOne
+spells_one (Encode a e) (Encode b f) words one other =
+    let same = sym one.2.0 ∙ other.2.0 in
+    let v : one.0 ≡ other.0 = cc in
+    let w : one.1 ≡ other.1 = cc in
+    one_encode one.0 other.0 one.1 other.1 a b e f v w one.2.1 other.2.1 one.2.2 other.2.2
+spells_one (Encode a e) Decode words one other = absurd (let same : ◌≡◌ {A = ℕ} 3 1 = ap length (sym one.2.0 ∙ other) in omega (arith, same))
+spells_one (Encode a e) Info words one other = absurd (let same : ◌≡◌ {A = ℕ} 3 1 = ap length (sym one.2.0 ∙ other) in omega (arith, same))
+spells_one (Encode a e) (Get t) words one other = absurd (let same : ◌≡◌ {A = ℕ} 101 103 = other_letters _ _ (sym one.2.0 ∙ other.2.0) in omega (arith, same))
+spells_one (Encode a e) (GetRaw t) words one other = absurd (let same : ◌≡◌ {A = ℕ} 3 4 = ap length (sym one.2.0 ∙ other.2.0) in omega (arith, same))
+spells_one (Encode a e) ListAll words one other = absurd (let same : ◌≡◌ {A = ℕ} 3 1 = ap length (sym one.2.0 ∙ other) in omega (arith, same))
+spells_one (Encode a e) Check words one other = absurd (let same : ◌≡◌ {A = ℕ} 3 1 = ap length (sym one.2.0 ∙ other) in omega (arith, same))
+spells_one (Encode a e) Recover words one other = absurd (let same : ◌≡◌ {A = ℕ} 3 1 = ap length (sym one.2.0 ∙ other) in omega (arith, same))
+spells_one Decode (Encode b f) words one other = absurd (let same : ◌≡◌ {A = ℕ} 1 3 = ap length (sym one ∙ other.2.0) in omega (arith, same))
+spells_one Decode Decode words one other = refl
+spells_one Decode Info words one other = absurd (let same : ◌≡◌ {A = ℕ} 100 105 = other_letters _ _ (sym one ∙ other) in omega (arith, same))
+spells_one Decode (Get t) words one other = absurd (let same : ◌≡◌ {A = ℕ} 1 3 = ap length (sym one ∙ other.2.0) in omega (arith, same))
+spells_one Decode (GetRaw t) words one other = absurd (let same : ◌≡◌ {A = ℕ} 1 4 = ap length (sym one ∙ other.2.0) in omega (arith, same))
+spells_one Decode ListAll words one other = absurd (let same : ◌≡◌ {A = ℕ} 100 108 = other_letters _ _ (sym one ∙ other) in omega (arith, same))
+spells_one Decode Check words one other = absurd (let same : ◌≡◌ {A = ℕ} 100 99 = other_letters _ _ (sym one ∙ other) in omega (arith, same))
+spells_one Decode Recover words one other = absurd (let same : ◌≡◌ {A = ℕ} 100 114 = other_letters _ _ (sym one ∙ other) in omega (arith, same))
+spells_one Info (Encode b f) words one other = absurd (let same : ◌≡◌ {A = ℕ} 1 3 = ap length (sym one ∙ other.2.0) in omega (arith, same))
+spells_one Info Decode words one other = absurd (let same : ◌≡◌ {A = ℕ} 105 100 = other_letters _ _ (sym one ∙ other) in omega (arith, same))
+spells_one Info Info words one other = refl
+spells_one Info (Get t) words one other = absurd (let same : ◌≡◌ {A = ℕ} 1 3 = ap length (sym one ∙ other.2.0) in omega (arith, same))
+spells_one Info (GetRaw t) words one other = absurd (let same : ◌≡◌ {A = ℕ} 1 4 = ap length (sym one ∙ other.2.0) in omega (arith, same))
+spells_one Info ListAll words one other = absurd (let same : ◌≡◌ {A = ℕ} 105 108 = other_letters _ _ (sym one ∙ other) in omega (arith, same))
+spells_one Info Check words one other = absurd (let same : ◌≡◌ {A = ℕ} 105 99 = other_letters _ _ (sym one ∙ other) in omega (arith, same))
+spells_one Info Recover words one other = absurd (let same : ◌≡◌ {A = ℕ} 105 114 = other_letters _ _ (sym one ∙ other) in omega (arith, same))
+spells_one (Get s) (Encode b f) words one other = absurd (let same : ◌≡◌ {A = ℕ} 103 101 = other_letters _ _ (sym one.2.0 ∙ other.2.0) in omega (arith, same))
+spells_one (Get s) Decode words one other = absurd (let same : ◌≡◌ {A = ℕ} 3 1 = ap length (sym one.2.0 ∙ other) in omega (arith, same))
+spells_one (Get s) Info words one other = absurd (let same : ◌≡◌ {A = ℕ} 3 1 = ap length (sym one.2.0 ∙ other) in omega (arith, same))
+spells_one (Get s) (Get t) words one other =
+    let same = sym one.2.0 ∙ other.2.0 in
+    let row : one.0 ≡ other.0 = cc in
+    let col : one.1 ≡ other.1 = cc in
+    ap Get (one_slot one.0 other.0 one.1 other.1 s t row col one.2.1 other.2.1)
+spells_one (Get s) (GetRaw t) words one other = absurd (let same : ◌≡◌ {A = ℕ} 3 4 = ap length (sym one.2.0 ∙ other.2.0) in omega (arith, same))
+spells_one (Get s) ListAll words one other = absurd (let same : ◌≡◌ {A = ℕ} 3 1 = ap length (sym one.2.0 ∙ other) in omega (arith, same))
+spells_one (Get s) Check words one other = absurd (let same : ◌≡◌ {A = ℕ} 3 1 = ap length (sym one.2.0 ∙ other) in omega (arith, same))
+spells_one (Get s) Recover words one other = absurd (let same : ◌≡◌ {A = ℕ} 3 1 = ap length (sym one.2.0 ∙ other) in omega (arith, same))
+spells_one (GetRaw s) (Encode b f) words one other = absurd (let same : ◌≡◌ {A = ℕ} 4 3 = ap length (sym one.2.0 ∙ other.2.0) in omega (arith, same))
+spells_one (GetRaw s) Decode words one other = absurd (let same : ◌≡◌ {A = ℕ} 4 1 = ap length (sym one.2.0 ∙ other) in omega (arith, same))
+spells_one (GetRaw s) Info words one other = absurd (let same : ◌≡◌ {A = ℕ} 4 1 = ap length (sym one.2.0 ∙ other) in omega (arith, same))
+spells_one (GetRaw s) (Get t) words one other = absurd (let same : ◌≡◌ {A = ℕ} 4 3 = ap length (sym one.2.0 ∙ other.2.0) in omega (arith, same))
+spells_one (GetRaw s) (GetRaw t) words one other =
+    let same = sym one.2.0 ∙ other.2.0 in
+    let row : one.0 ≡ other.0 = cc in
+    let col : one.1 ≡ other.1 = cc in
+    ap GetRaw (one_slot one.0 other.0 one.1 other.1 s t row col one.2.1 other.2.1)
+spells_one (GetRaw s) ListAll words one other = absurd (let same : ◌≡◌ {A = ℕ} 4 1 = ap length (sym one.2.0 ∙ other) in omega (arith, same))
+spells_one (GetRaw s) Check words one other = absurd (let same : ◌≡◌ {A = ℕ} 4 1 = ap length (sym one.2.0 ∙ other) in omega (arith, same))
+spells_one (GetRaw s) Recover words one other = absurd (let same : ◌≡◌ {A = ℕ} 4 1 = ap length (sym one.2.0 ∙ other) in omega (arith, same))
+spells_one ListAll (Encode b f) words one other = absurd (let same : ◌≡◌ {A = ℕ} 1 3 = ap length (sym one ∙ other.2.0) in omega (arith, same))
+spells_one ListAll Decode words one other = absurd (let same : ◌≡◌ {A = ℕ} 108 100 = other_letters _ _ (sym one ∙ other) in omega (arith, same))
+spells_one ListAll Info words one other = absurd (let same : ◌≡◌ {A = ℕ} 108 105 = other_letters _ _ (sym one ∙ other) in omega (arith, same))
+spells_one ListAll (Get t) words one other = absurd (let same : ◌≡◌ {A = ℕ} 1 3 = ap length (sym one ∙ other.2.0) in omega (arith, same))
+spells_one ListAll (GetRaw t) words one other = absurd (let same : ◌≡◌ {A = ℕ} 1 4 = ap length (sym one ∙ other.2.0) in omega (arith, same))
+spells_one ListAll ListAll words one other = refl
+spells_one ListAll Check words one other = absurd (let same : ◌≡◌ {A = ℕ} 108 99 = other_letters _ _ (sym one ∙ other) in omega (arith, same))
+spells_one ListAll Recover words one other = absurd (let same : ◌≡◌ {A = ℕ} 108 114 = other_letters _ _ (sym one ∙ other) in omega (arith, same))
+spells_one Check (Encode b f) words one other = absurd (let same : ◌≡◌ {A = ℕ} 1 3 = ap length (sym one ∙ other.2.0) in omega (arith, same))
+spells_one Check Decode words one other = absurd (let same : ◌≡◌ {A = ℕ} 99 100 = other_letters _ _ (sym one ∙ other) in omega (arith, same))
+spells_one Check Info words one other = absurd (let same : ◌≡◌ {A = ℕ} 99 105 = other_letters _ _ (sym one ∙ other) in omega (arith, same))
+spells_one Check (Get t) words one other = absurd (let same : ◌≡◌ {A = ℕ} 1 3 = ap length (sym one ∙ other.2.0) in omega (arith, same))
+spells_one Check (GetRaw t) words one other = absurd (let same : ◌≡◌ {A = ℕ} 1 4 = ap length (sym one ∙ other.2.0) in omega (arith, same))
+spells_one Check ListAll words one other = absurd (let same : ◌≡◌ {A = ℕ} 99 108 = other_letters _ _ (sym one ∙ other) in omega (arith, same))
+spells_one Check Check words one other = refl
+spells_one Check Recover words one other = absurd (let same : ◌≡◌ {A = ℕ} 99 114 = other_letters _ _ (sym one ∙ other) in omega (arith, same))
+spells_one Recover (Encode b f) words one other = absurd (let same : ◌≡◌ {A = ℕ} 1 3 = ap length (sym one ∙ other.2.0) in omega (arith, same))
+spells_one Recover Decode words one other = absurd (let same : ◌≡◌ {A = ℕ} 114 100 = other_letters _ _ (sym one ∙ other) in omega (arith, same))
+spells_one Recover Info words one other = absurd (let same : ◌≡◌ {A = ℕ} 114 105 = other_letters _ _ (sym one ∙ other) in omega (arith, same))
+spells_one Recover (Get t) words one other = absurd (let same : ◌≡◌ {A = ℕ} 1 3 = ap length (sym one ∙ other.2.0) in omega (arith, same))
+spells_one Recover (GetRaw t) words one other = absurd (let same : ◌≡◌ {A = ℕ} 1 4 = ap length (sym one ∙ other.2.0) in omega (arith, same))
+spells_one Recover ListAll words one other = absurd (let same : ◌≡◌ {A = ℕ} 114 108 = other_letters _ _ (sym one ∙ other) in omega (arith, same))
+spells_one Recover Check words one other = absurd (let same : ◌≡◌ {A = ℕ} 114 99 = other_letters _ _ (sym one ∙ other) in omega (arith, same))
+spells_one Recover Recover words one other = refl
+
+-- words that spell one command spell no other
+pub spelled_some : (words : List (List ℕ)) (d : Command) → IsSpelled d words → (c : Command) → (◌≡◌ {A = Option Command} (Some d) (Some c)) ↔ IsSpelled c words
+spelled_some words d is c = (
+  λ same. (let here : d ≡ c = cc in subst (λ (x : Command). IsSpelled x words) here is),
+  λ s. ap Some (spells_one d c words is s),
+)
+
+pub spelled_none : (words : List (List ℕ)) → ((c : Command) → IsSpelled c words → ⊥) → (c : Command) → (◌≡◌ {A = Option Command} None (Some c)) ↔ IsSpelled c words
+spelled_none words never c = (λ same. absurd cc, λ s. absurd (never c s))
+
+-- what was found of the words behind a name is what the words spell
+pub spelled_as : (words : List (List ℕ)) (Such : Command → Type 0) (found : Option Command) → ((c : Command) → (found ≡ Some c) ↔ Such c) → ((c : Command) → Such c → IsSpelled c words) → ((c : Command) → IsSpelled c words → Such c)
+    → (c : Command) → (found ≡ Some c) ↔ IsSpelled c words
+spelled_as words Such found tells to from c = (λ same. to c ((tells c).0 same), λ s. (tells c).1 (from c s))
+
+-- ---- one word
+
+-- a word that names no command of one word
+pub record IsNoName (word : List ℕ) : Type 0 where
+  pub decode : word ≡ codes "decode" → ⊥
+  pub info : word ≡ codes "info" → ⊥
+  pub list : word ≡ codes "list" → ⊥
+  pub check : word ≡ codes "check" → ⊥
+  pub recover : word ≡ codes "recover" → ⊥
+
+head_of : (v w : List ℕ) → ◌≡◌ {A = List (List ℕ)} (v ∷ []) (w ∷ []) → v ≡ w
+head_of v w same = ap (λ (words : List (List ℕ)). get_or words 0 []) same
+
+pub no_name : (word : List ℕ) → IsNoName word → (c : Command) → IsSpelled c (word ∷ []) → ⊥
+no_name word none (Encode a e) is = let same : ◌≡◌ {A = ℕ} 1 3 = ap length is.2.0 in omega (arith, same)
+no_name word none Decode is = none.decode (head_of word (codes "decode") is)
+no_name word none Info is = none.info (head_of word (codes "info") is)
+no_name word none (Get s) is = let same : ◌≡◌ {A = ℕ} 1 3 = ap length is.2.0 in omega (arith, same)
+no_name word none (GetRaw s) is = let same : ◌≡◌ {A = ℕ} 1 4 = ap length is.2.0 in omega (arith, same)
+no_name word none ListAll is = none.list (head_of word (codes "list") is)
+no_name word none Check is = none.check (head_of word (codes "check") is)
+no_name word none Recover is = none.recover (head_of word (codes "recover") is)
+
+-- ---- a name and two words
+
+pub encode_to : (name v e : List ℕ) → name ≡ codes "encode" → (c : Command) → IsEncode v e c → IsSpelled c (name ∷ v ∷ e ∷ [])
+encode_to name v e named c s = subst (λ (x : Command). IsSpelled x (name ∷ v ∷ e ∷ [])) (sym s.1.1.0) (v, e, (ap (λ (w : List ℕ). w ∷ v ∷ e ∷ []) named, s.1.1.1, s.1.1.2))
+
+pub encode_from : (name v e : List ℕ) → name ≡ codes "encode" → (c : Command) → IsSpelled c (name ∷ v ∷ e ∷ []) → IsEncode v e c
+encode_from name v e named (Encode a n) s =
+    let same = s.2.0 in
+    let one : s.0 ≡ v = (let x : v ≡ s.0 = cc in sym x) in
+    let other : s.1 ≡ e = (let x : e ≡ s.1 = cc in sym x) in
+    (a, (n, (refl, subst (λ (w : List ℕ). IsVersionWord w a) one s.2.1, subst (λ (w : List ℕ). IsWithin w n 0 4294967295) other s.2.2)))
+encode_from name v e named Decode s = absurd (let same : ◌≡◌ {A = ℕ} 3 1 = ap length s in omega (arith, same))
+encode_from name v e named Info s = absurd (let same : ◌≡◌ {A = ℕ} 3 1 = ap length s in omega (arith, same))
+encode_from name v e named (Get t) s = absurd (let same : ◌≡◌ {A = ℕ} 101 103 = sym (ap (λ (w : List ℕ). get_or w 0 0) named) ∙ other_letters _ _ s.2.0 in omega (arith, same))
+encode_from name v e named (GetRaw t) s = absurd (let same : ◌≡◌ {A = ℕ} 3 4 = ap length s.2.0 in omega (arith, same))
+encode_from name v e named ListAll s = absurd (let same : ◌≡◌ {A = ℕ} 3 1 = ap length s in omega (arith, same))
+encode_from name v e named Check s = absurd (let same : ◌≡◌ {A = ℕ} 3 1 = ap length s in omega (arith, same))
+encode_from name v e named Recover s = absurd (let same : ◌≡◌ {A = ℕ} 3 1 = ap length s in omega (arith, same))
+
+pub get_to : (name row col : List ℕ) → name ≡ codes "get" → (c : Command) → IsGet row col c → IsSpelled c (name ∷ row ∷ col ∷ [])
+get_to name row col named c s = subst (λ (x : Command). IsSpelled x (name ∷ row ∷ col ∷ [])) (sym s.1.0) (row, col, (ap (λ (w : List ℕ). w ∷ row ∷ col ∷ []) named, s.1.1))
+
+pub get_from : (name row col : List ℕ) → name ≡ codes "get" → (c : Command) → IsSpelled c (name ∷ row ∷ col ∷ []) → IsGet row col c
+get_from name row col named (Encode a e) s = absurd (let same : ◌≡◌ {A = ℕ} 103 101 = sym (ap (λ (w : List ℕ). get_or w 0 0) named) ∙ other_letters _ _ s.2.0 in omega (arith, same))
+get_from name row col named Decode s = absurd (let same : ◌≡◌ {A = ℕ} 3 1 = ap length s in omega (arith, same))
+get_from name row col named Info s = absurd (let same : ◌≡◌ {A = ℕ} 3 1 = ap length s in omega (arith, same))
+get_from name row col named (Get slot) s =
+    let same = s.2.0 in
+    let one : row ≡ s.0 = cc in
+    let other : col ≡ s.1 = cc in
+    (slot, (refl, subst (λ (w : List ℕ). AreSlotWords w col slot) (sym one) (subst (λ (w : List ℕ). AreSlotWords s.0 w slot) (sym other) s.2.1)))
+get_from name row col named (GetRaw t) s = absurd (let same : ◌≡◌ {A = ℕ} 3 4 = ap length s.2.0 in omega (arith, same))
+get_from name row col named ListAll s = absurd (let same : ◌≡◌ {A = ℕ} 3 1 = ap length s in omega (arith, same))
+get_from name row col named Check s = absurd (let same : ◌≡◌ {A = ℕ} 3 1 = ap length s in omega (arith, same))
+get_from name row col named Recover s = absurd (let same : ◌≡◌ {A = ℕ} 3 1 = ap length s in omega (arith, same))
+
+name_of : (name a b : List ℕ) (w x y : List ℕ) → ◌≡◌ {A = List (List ℕ)} (name ∷ a ∷ b ∷ []) (w ∷ x ∷ y ∷ []) → name ≡ w
+name_of name a b w x y same = ap (λ (words : List (List ℕ)). get_or words 0 []) same
+
+pub no_two : (name a b : List ℕ) → (name ≡ codes "encode" → ⊥) → (name ≡ codes "get" → ⊥) → (c : Command) → IsSpelled c (name ∷ a ∷ b ∷ []) → ⊥
+no_two name a b encode get (Encode v e) s = encode (name_of name a b _ _ _ s.2.0)
+no_two name a b encode get Decode s = let same : ◌≡◌ {A = ℕ} 3 1 = ap length s in omega (arith, same)
+no_two name a b encode get Info s = let same : ◌≡◌ {A = ℕ} 3 1 = ap length s in omega (arith, same)
+no_two name a b encode get (Get slot) s = get (name_of name a b _ _ _ s.2.0)
+no_two name a b encode get (GetRaw t) s = let same : ◌≡◌ {A = ℕ} 3 4 = ap length s.2.0 in omega (arith, same)
+no_two name a b encode get ListAll s = let same : ◌≡◌ {A = ℕ} 3 1 = ap length s in omega (arith, same)
+no_two name a b encode get Check s = let same : ◌≡◌ {A = ℕ} 3 1 = ap length s in omega (arith, same)
+no_two name a b encode get Recover s = let same : ◌≡◌ {A = ℕ} 3 1 = ap length s in omega (arith, same)
+
+-- ---- a name and three words
+
+pub raw_to : (name row col raw : List ℕ) → name ≡ codes "get" → raw ≡ codes "raw" → (c : Command) → IsGetRaw row col c → IsSpelled c (name ∷ row ∷ col ∷ raw ∷ [])
+raw_to name row col raw named is c s = subst (λ (x : Command). IsSpelled x (name ∷ row ∷ col ∷ raw ∷ [])) (sym s.1.0) (row, col, ((λ i. named i ∷ row ∷ col ∷ is i ∷ []), s.1.1))
+
+pub raw_from : (name row col raw : List ℕ) → (c : Command) → IsSpelled c (name ∷ row ∷ col ∷ raw ∷ []) → IsGetRaw row col c
+raw_from name row col raw (Encode a e) s = absurd (let same : ◌≡◌ {A = ℕ} 4 3 = ap length s.2.0 in omega (arith, same))
+raw_from name row col raw Decode s = absurd (let same : ◌≡◌ {A = ℕ} 4 1 = ap length s in omega (arith, same))
+raw_from name row col raw Info s = absurd (let same : ◌≡◌ {A = ℕ} 4 1 = ap length s in omega (arith, same))
+raw_from name row col raw (Get t) s = absurd (let same : ◌≡◌ {A = ℕ} 4 3 = ap length s.2.0 in omega (arith, same))
+raw_from name row col raw (GetRaw slot) s =
+    let same = s.2.0 in
+    let one : row ≡ s.0 = cc in
+    let other : col ≡ s.1 = cc in
+    (slot, (refl, subst (λ (w : List ℕ). AreSlotWords w col slot) (sym one) (subst (λ (w : List ℕ). AreSlotWords s.0 w slot) (sym other) s.2.1)))
+raw_from name row col raw ListAll s = absurd (let same : ◌≡◌ {A = ℕ} 4 1 = ap length s in omega (arith, same))
+raw_from name row col raw Check s = absurd (let same : ◌≡◌ {A = ℕ} 4 1 = ap length s in omega (arith, same))
+raw_from name row col raw Recover s = absurd (let same : ◌≡◌ {A = ℕ} 4 1 = ap length s in omega (arith, same))
+
+pub no_three : (name row col raw : List ℕ) → ((name ≡ codes "get") × (raw ≡ codes "raw") → ⊥) → (c : Command) → IsSpelled c (name ∷ row ∷ col ∷ raw ∷ []) → ⊥
+no_three name row col raw none (Encode a e) s = let same : ◌≡◌ {A = ℕ} 4 3 = ap length s.2.0 in omega (arith, same)
+no_three name row col raw none Decode s = let same : ◌≡◌ {A = ℕ} 4 1 = ap length s in omega (arith, same)
+no_three name row col raw none Info s = let same : ◌≡◌ {A = ℕ} 4 1 = ap length s in omega (arith, same)
+no_three name row col raw none (Get t) s = let same : ◌≡◌ {A = ℕ} 4 3 = ap length s.2.0 in omega (arith, same)
+no_three name row col raw none (GetRaw slot) s =
+    none (ap (λ (words : List (List ℕ)). get_or words 0 []) s.2.0, ap (λ (words : List (List ℕ)). get_or words 3 []) s.2.0)
+no_three name row col raw none ListAll s = let same : ◌≡◌ {A = ℕ} 4 1 = ap length s in omega (arith, same)
+no_three name row col raw none Check s = let same : ◌≡◌ {A = ℕ} 4 1 = ap length s in omega (arith, same)
+no_three name row col raw none Recover s = let same : ◌≡◌ {A = ℕ} 4 1 = ap length s in omega (arith, same)
+
+-- ---- the number of words
+
+pub other_length : (words : List (List ℕ)) → (length words ≡ 1 → ⊥) → (length words ≡ 3 → ⊥) → (length words ≡ 4 → ⊥) → (c : Command) → IsSpelled c words → ⊥
+other_length words one three four (Encode a e) s = three (ap length s.2.0)
+other_length words one three four Decode s = one (ap length s)
+other_length words one three four Info s = one (ap length s)
+other_length words one three four (Get t) s = three (ap length s.2.0)
+other_length words one three four (GetRaw t) s = four (ap length s.2.0)
+other_length words one three four ListAll s = one (ap length s)
+other_length words one three four Check s = one (ap length s)
+other_length words one three four Recover s = one (ap length s)
+
+-- words of so many items
 
 pub three_words : (words : List (List ℕ)) (a b c : List ℕ) → 3 ≤ length words → length words < 4 → a ≡ get_or words 0 a → b ≡ get_or words 1 b → c ≡ get_or words 2 c → words ≡ a ∷ b ∷ c ∷ []
 three_words [] a b c least below x y z = absurd (omega arith)
@@ -75,24 +364,3 @@ three_words (u ∷ []) a b c least below x y z = absurd (omega arith)
 three_words (u ∷ v ∷ []) a b c least below x y z = absurd (omega arith)
 three_words (u ∷ v ∷ w ∷ []) a b c least below x y z = λ i. sym x i ∷ sym y i ∷ sym z i ∷ []
 three_words (u ∷ v ∷ w ∷ t ∷ ts) a b c least below x y z = absurd (omega arith)
-
-pub encode_spelled : (words : List (List ℕ)) (name v e : List ℕ) (found : Option Command) → words ≡ name ∷ v ∷ e ∷ [] → name ≡ codes "encode" → ((c : Command) → (found ≡ Some c) ↔ IsEncode v e c)
-    → (c : Command) → (found ≡ Some c) ↔ IsSpelled c words
-encode_spelled words name v e found is named tells (Encode version error) = (
-  λ same. (let s = (tells (Encode version error)).0 same in
-      let one : version ≡ s.0 = (let c = s.1.1.0 in cc) in
-      let other : error ≡ s.1.0 = (let c = s.1.1.0 in cc) in
-      (v, e, (is ∙ ap (λ w. w ∷ v ∷ e ∷ []) named, subst (IsVersionWord v) (sym one) s.1.1.1, subst (λ n. IsWithin e n 0 4294967295) (sym other) s.1.1.2))),
-  λ s. (let same = sym is ∙ s.2.0 in
-      let one : s.0 ≡ v = cc in
-      let other : s.1 ≡ e = cc in
-      (tells (Encode version error)).1 (version, (error, (refl, subst (λ w. IsVersionWord w version) one s.2.1, subst (λ w. IsWithin w error 0 4294967295) other s.2.2)))),
-)
-encode_spelled words name v e found is named tells Decode = (
-  λ same. absurd (let s = (tells Decode).0 same in let c = s.1.1.0 in cc),
-  λ s. absurd (let same = sym is ∙ s in cc),
-)
-encode_spelled words name v e found is named tells Info = (
-  λ same. absurd (let s = (tells Info).0 same in let c = s.1.1.0 in cc),
-  λ s. absurd (let same = sym is ∙ s in cc),
-)

@@ -18,7 +18,7 @@ use Rattle.lerc_decode.specs.FromSource.{CountsSource, IsSized}
 use Rattle.lerc_cli.specs.declared.stop.Reason.TheVariants.{Blob as BlobReasonOf}
 use Rattle.lerc_cli.specs.declared.command.Command.TheVariants.{Decode, Info}
 use Rattle.lerc_cli.specs.declared.stop.Stop.{Stop}
-use Rattle.lerc_cli.specs.declared.stop.Stop.TheVariants.{Usage, Refused, Source, Output, Volume, OutOfMemory}
+use Rattle.lerc_cli.specs.declared.stop.Stop.TheVariants.{Usage, Refused, Source, Output, Volume, OutOfMemory, Store}
 use Rattle.lerc_cli.specs.Answer.{Ends, Files}
 use Rattle.lerc_cli.specs.Run.{OfOutput, given}
 use Rattle.lerc_cli.specs.inside.Reads.{AsksOne, ReadsBlob, stop_of}
@@ -111,6 +111,7 @@ decoded_stop input files Source read = (tt_true, refl, refl)
 decoded_stop input files Output read = absurd read
 decoded_stop input files Volume read = absurd read
 decoded_stop input files OutOfMemory read = (read, refl, refl)
+decoded_stop input files (Store r) read = absurd read
 
 pub stopped_output : (K : Type 0) (held : K → Option (List ℕ)) (faults : K → ℕ) (out out_new : K) (input : Option (List ℕ)) (files : Option Files) (stop : Stop)
     → out_new ≡ out → ReadsBlob input (Err stop) → OfOutput Decode (given input files) 0 (Err stop) (out_new ≡ out) (held out) (held out_new) (faults out) (faults out_new)
@@ -123,6 +124,7 @@ told_stop input files Source read = (tt_true, refl, refl)
 told_stop input files Output read = absurd read
 told_stop input files Volume read = absurd read
 told_stop input files OutOfMemory read = (read, refl, refl)
+told_stop input files (Store r) read = absurd read
 
 pub stopped_lines : (K : Type 0) (held : K → Option (List ℕ)) (faults : K → ℕ) (out out_new : K) (input : Option (List ℕ)) (files : Option Files) (stop : Stop)
     → out_new ≡ out → ReadsBlob input (Err stop) → OfOutput Info (given input files) 0 (Err stop) (out_new ≡ out) (held out) (held out_new) (faults out) (faults out_new)

@@ -1,11 +1,11 @@
 -- Commands: the words that spell them, and which objects they use. Each definition has one case for
 -- each command.
-use Rattle.std.specs.Prelude.{◌≡◌, ℕ, ◌≤◌, Bool, true, false, List, [], ◌∷◌, codes}
+use Rattle.std.specs.Prelude.{◌≡◌, ℕ, ◌/◌, ◌%◌, ◌≤◌, Bool, true, false, List, [], ◌∷◌, codes}
 use Rattle.outside_io.specs.program.Word.{IsNumber}
 use Rattle.lerc_header.specs.declared.header.Version.{Version}
 use Rattle.lerc_header.specs.declared.header.Version.TheVariants.{V3, V4}
 use Rattle.lerc_cli.specs.declared.command.Command.{Command}
-use Rattle.lerc_cli.specs.declared.command.Command.TheVariants.{Encode, Decode, Info}
+use Rattle.lerc_cli.specs.declared.command.Command.TheVariants.{Encode, Decode, Info, Get, GetRaw, List as ListAll, Check, Recover}
 
 -- the word names the version of a blob
 abbrev pub IsVersionWord : List ℕ → Version → Type 0
@@ -16,6 +16,10 @@ IsVersionWord word V4 = word ≡ codes "4"
 abbrev pub IsWithin : List ℕ → ℕ → ℕ → ℕ → Type 0
 IsWithin word n least greatest = IsNumber word n × (least ≤ n) × (n ≤ greatest)
 
+-- two words are the row and the column of the slot, each at most 127
+abbrev pub AreSlotWords : List ℕ → List ℕ → ℕ → Type 0
+AreSlotWords row col slot = IsWithin row (slot / 128) 0 127 × IsWithin col (slot % 128) 0 127
+
 -- the words, each a list of bytes, spell the command
 abbrev pub IsSpelled : Command → List (List ℕ) → Type 0
 IsSpelled (Encode version error) words = (v e : List ℕ)
@@ -23,6 +27,13 @@ IsSpelled (Encode version error) words = (v e : List ℕ)
     × IsWithin e error 0 4294967295)
 IsSpelled Decode words = words ≡ codes "decode" ∷ []
 IsSpelled Info words = words ≡ codes "info" ∷ []
+IsSpelled (Get slot) words = (row col : List ℕ)
+    × ((words ≡ codes "get" ∷ row ∷ col ∷ []) × AreSlotWords row col slot)
+IsSpelled (GetRaw slot) words = (row col : List ℕ)
+    × ((words ≡ codes "get" ∷ row ∷ col ∷ codes "raw" ∷ []) × AreSlotWords row col slot)
+IsSpelled ListAll words = words ≡ codes "list" ∷ []
+IsSpelled Check words = words ≡ codes "check" ∷ []
+IsSpelled Recover words = words ≡ codes "recover" ∷ []
 
 -- the words spell no command
 abbrev pub IsNoCommand : List (List ℕ) → Type 0
@@ -37,15 +48,30 @@ abbrev pub reads_source : Command → Bool
 reads_source (Encode version error) = true
 reads_source Decode = true
 reads_source Info = true
+reads_source (Get slot) = false
+reads_source (GetRaw slot) = false
+reads_source ListAll = false
+reads_source Check = false
+reads_source Recover = false
 
 -- it calls the volume
 abbrev pub calls_volume : Command → Bool
 calls_volume (Encode version error) = false
 calls_volume Decode = false
 calls_volume Info = false
+calls_volume (Get slot) = true
+calls_volume (GetRaw slot) = true
+calls_volume ListAll = true
+calls_volume Check = true
+calls_volume Recover = true
 
 -- it makes updates, each of which gets a mark
 abbrev pub makes_updates : Command → Bool
 makes_updates (Encode version error) = false
 makes_updates Decode = false
 makes_updates Info = false
+makes_updates (Get slot) = false
+makes_updates (GetRaw slot) = false
+makes_updates ListAll = false
+makes_updates Check = false
+makes_updates Recover = false

@@ -4,4 +4,5 @@ pub mod Command
 pub mod Info
 pub mod Run
 pub mod Stop
+pub mod Tiles
 pub mod inside

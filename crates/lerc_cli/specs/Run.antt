@@ -16,13 +16,15 @@ use Rattle.lerc_encode.specs.Encoded.{Declares, IsEncodedOnce, NeedsV4}
 use Rattle.lerc_grammar.specs.Blob.{Blob}
 use Rattle.lerc_grammar.specs.Verdict.{WholeFault}
 use Rattle.lerc_cli.specs.declared.command.Command.{Command}
-use Rattle.lerc_cli.specs.declared.command.Command.TheVariants.{Encode, Decode, Info}
+use Rattle.lerc_cli.specs.declared.command.Command.TheVariants.{Encode, Decode, Info, Get, GetRaw, List as ListAll, Check, Recover}
 use Rattle.lerc_cli.specs.declared.stop.Reason.TheVariants.{Blob as BlobReasonOf}
-use Rattle.lerc_cli.specs.declared.stop.Stop.TheVariants.{Usage, Refused, Source, Output, Volume, OutOfMemory}
+use Rattle.lerc_cli.specs.declared.stop.Stop.TheVariants.{Usage, Refused, Source, Output, Volume, OutOfMemory, Store}
 use Rattle.lerc_cli.specs.Command.{reads_source, calls_volume, makes_updates}
 use Rattle.lerc_cli.specs.Stop.{End, line_of, status_at, status_of}
 use Rattle.lerc_cli.specs.Answer.{Files, Given, Ends, HasHead, IsBlob}
 use Rattle.lerc_cli.specs.Info.{AreLinesOf}
+use Rattle.lerc_cli.specs.Tiles.{IsLeft, IsReady, KeepsTiles}
+use Rattle.bundle_store.specs.Tiles.{TileMap}
 use Rattle.outside_io.specs.program.Line.{GivesLine}
 use Rattle.outside_io.specs.streams.Faults.{IsCause}
 
@@ -43,6 +45,11 @@ abbrev pub TakesFor : Command → Option (List ℕ) → Option (List ℕ) → Ty
 TakesFor (Encode version error) left_old left_new = TookSome left_old left_new
 TakesFor Decode left_old left_new = TakesUpTo 134217729 left_old left_new
 TakesFor Info left_old left_new = TakesUpTo 134217729 left_old left_new
+TakesFor (Get slot) left_old left_new = left_new ≡ left_old
+TakesFor (GetRaw slot) left_old left_new = left_new ≡ left_old
+TakesFor ListAll left_old left_new = left_new ≡ left_old
+TakesFor Check left_old left_new = left_new ≡ left_old
+TakesFor Recover left_old left_new = left_new ≡ left_old
 
 -- The first type says that the source is as it was.
 pub record OfSource (c : Command) (end : End) (same : Type 0) (left_old left_new : Option (List ℕ))
@@ -81,9 +88,14 @@ pub record OfVolume (c : Command) (end : End) (same : Type 0) (marks : List ℕ)
     (told_old told_new : Bool) (old new : History) (faults_old faults_new : ℕ) : Type 0 where
   pub cause : IsCause (end ≡ Err Volume) faults_old faults_new
   pub told : told_new ≡ told_old
-  pub later : old.moment ≤ new.moment
+  pub later : IsTrue told_old → old.moment ≤ new.moment
   pub idle : IsFalse (calls_volume c) → same
   pub unmarked : IsFalse (makes_updates c) → marks ≡ []
+  -- what the bundle reads as
+  pub reads : IsTrue (calls_volume c) → IsTrue told_old → (end ≡ Err Volume → ⊥)
+      → IsLeft (contents Bundle old) (contents Journal old) (contents Bundle new)
+  -- what a crash may leave at each moment
+  pub tiles : (start : TileMap) → IsReady told_old old start → KeepsTiles start old new
 
 -- ---- the error output
 

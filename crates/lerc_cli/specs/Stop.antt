@@ -5,10 +5,13 @@ use Rattle.raster_values.specs.declared.reading.GridReason.{GridReason}
 use Rattle.raster_values.specs.declared.reading.GridReason.TheVariants.{Truncated as GridTruncated, BadMagic, BadType as GridBadType, BadSize, TooLarge as GridTooLarge, BadMark}
 use Rattle.lerc_header.specs.declared.fault.BlobReason.{BlobReason}
 use Rattle.lerc_header.specs.declared.fault.BlobReason.TheVariants.{Truncated, BadKey, BadVersion, BadRows, BadCols, BadDepth, TooLarge, BadCount, BadBlockSize, BadBlobSize, FloatPixels, BadType, BadError, BadRange, BadChecksum, BadMaskLength, BadRun, BadMaskCount, MaskMissing, BadSweep, BadMode, BadBlockTag, BadOffsetCode, BadListHead, BadListCount, BadTable, BadIndex, BadCodeTable, NoCode, PastEnd, Leftover}
+use Rattle.bundle_lines.specs.Lines.{slot_text}
 use Rattle.lerc_cli.specs.declared.stop.Reason.{Reason}
 use Rattle.lerc_cli.specs.declared.stop.Reason.TheVariants.{Blob, Grid, Leftover as LeftoverOf, DepthNeedsV4}
+use Rattle.lerc_cli.specs.declared.stop.Refusal.{Refusal}
+use Rattle.lerc_cli.specs.declared.stop.Refusal.TheVariants.{NoTile, Beyond, BadBundle, BadJournal}
 use Rattle.lerc_cli.specs.declared.stop.Stop.{Stop}
-use Rattle.lerc_cli.specs.declared.stop.Stop.TheVariants.{Usage, Refused, Source, Output, Volume, OutOfMemory}
+use Rattle.lerc_cli.specs.declared.stop.Stop.TheVariants.{Usage, Refused, Source, Output, Volume, OutOfMemory, Store}
 
 -- how a command ends: well, or with the reason of its stop
 abbrev pub End : Type 0
@@ -21,6 +24,7 @@ status_of Source = 3
 status_of Output = 4
 status_of Volume = 5
 status_of OutOfMemory = 6
+status_of (Store refusal) = 7
 
 -- the program's status
 abbrev pub status_at : End → ℕ
@@ -90,6 +94,17 @@ abbrev pub numbers_of : Reason → List ℕ
 numbers_of (Blob reason) = blob_numbers_of reason
 numbers_of _ = []
 
+abbrev pub refusal_text : Refusal → List ℕ
+refusal_text (NoTile slot) = codes "NoTile" ++ slot_text slot
+refusal_text (Beyond slot entry got) =
+    codes "Beyond" ++ (slot_text slot
+    ++ (two_numbers (codes " offset") entry.offset (codes " size") entry.size
+    ++ (codes " got" ++ and_number got)))
+refusal_text (BadBundle place found) =
+    two_numbers (codes "BadBundle at") place (codes " found") found
+refusal_text (BadJournal place found) =
+    two_numbers (codes "BadJournal at") place (codes " found") found
+
 abbrev pub usage_text : List ℕ
 usage_text = codes "usage: PATH encode V E, decode, info, build V E N, put V E N, get R C, get R C raw, list, check, recover, sample START COUNT"
 
@@ -103,6 +118,7 @@ text_of Source = codes "source failed"
 text_of Output = codes "output failed"
 text_of Volume = codes "volume failed"
 text_of OutOfMemory = codes "out of memory"
+text_of (Store refusal) = codes "store: " ++ refusal_text refusal
 
 -- the line: its text and a line feed
 unfoldable pub line_of : Stop → List ℕ

@@ -1,5 +1,6 @@
 -- The words of functions that the program keeps to itself.
 pub mod Grids
 pub mod Keeps
+pub mod Opening
 pub mod Reads
 pub mod Spelling

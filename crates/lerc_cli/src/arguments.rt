@@ -42,7 +42,11 @@ impl<'a, R: Env> Arguments for ProcessArguments<'a, R> {
 }
 
 /// The text with this number as a word, where there is one. Want of memory is its only error.
-fn word_at<A: Arguments>(alloc: Global, args: &A, number: usize) -> Result<Option<Word>, AllocError>
+pub(crate) fn word_at<A: Arguments>(
+    alloc: Global,
+    args: &A,
+    number: usize,
+) -> Result<Option<Word>, AllocError>
     ensures { IfOk result (λ word.
         IfSome (A.texts args.now) (λ texts. word ≡ slice_get texts number)) }
 {

@@ -1,9 +1,10 @@
-ghost use Rattle.std.specs.Prelude.{◌≡◌, ◌↔◌, ℕ, Some, IsTrue};
+ghost use Rattle.std.specs.Prelude.{◌≡◌, ◌↔◌, ◌∷◌, [], ℕ, Some, IsTrue};
 ghost use Rattle.lerc_header.specs.declared.header.Version.{Version};
-ghost use Rattle.lerc_cli.specs.Command.{IsSpelled, IsVersionWord, IsWithin};
+ghost use Rattle.lerc_cli.specs.Command.{AreSlotWords, IsSpelled, IsVersionWord, IsWithin};
 ghost use Rattle.lerc_cli.specs.declared.command.Command.{Command};
-ghost use Rattle.lerc_cli.specs.inside.Spelling.{IsEncode};
+ghost use Rattle.lerc_cli.specs.inside.Spelling.{IsEncode, IsGet, IsGetRaw};
 
+use bundle_index::Slot;
 use lerc_header::Version;
 use outside_io::Word;
 
@@ -17,6 +18,16 @@ pub enum Command {
     Decode,
     /// Reads one blob, and gives the lines of what it says of itself.
     Info,
+    /// Gives the grid of the slot's tile.
+    Get { slot: Slot },
+    /// Gives the bytes of the slot's tile.
+    GetRaw { slot: Slot },
+    /// Gives a line for each tile of the bundle.
+    List,
+    /// Checks the bundle, and gives the lines of what was found.
+    Check,
+    /// Makes whole what a crash left, and gives the line of what that was.
+    Recover,
 }
 
 fn has_text(word: &Word, text: &[u8]) -> bool
@@ -57,14 +68,96 @@ fn encode_of(version: &Word, error: &Word) -> Option<Command>
     Some(Command::Encode { version, error })
 }
 
+/// The row or the column that a word stands for.
+fn up_to_127(word: &Word) -> Option<u8>
+    ensures { (n : ℕ) → (result ≡ Some n) ↔ IsWithin word.now n 0 127 }
+{
+    match word.number() {
+        Some(n) if n <= 127 => Some(n as u8),
+        _ => None,
+    }
+}
+
+/// The slot that a row's and a column's words stand for.
+fn slot_of(row: &Word, col: &Word) -> Option<Slot>
+    ensures { (slot : ℕ) → (result ≡ Some slot) ↔ AreSlotWords row.now col.now slot }
+{
+    let row = up_to_127(row)?;
+    let col = up_to_127(col)?;
+    Slot::of(row, col)
+}
+
+/// The command `get` of a row's word and a column's.
+fn get_of(row: &Word, col: &Word) -> Option<Command>
+    ensures { (c : Command) → (result ≡ Some c) ↔ IsGet row.now col.now c }
+{
+    let slot = slot_of(row, col)?;
+    Some(Command::Get { slot })
+}
+
+/// The same of the tile's bytes.
+fn get_raw_of(row: &Word, col: &Word) -> Option<Command>
+    ensures { (c : Command) → (result ≡ Some c) ↔ IsGetRaw row.now col.now c }
+{
+    let slot = slot_of(row, col)?;
+    Some(Command::GetRaw { slot })
+}
+
+/// The command of one word.
+fn plain_of(word: &Word) -> Option<Command>
+    ensures { (c : Command) → (result ≡ Some c) ↔ IsSpelled c (word.now ∷ []) }
+{
+    if has_text(word, b"decode") {
+        return Some(Command::Decode);
+    }
+    if has_text(word, b"info") {
+        return Some(Command::Info);
+    }
+    if has_text(word, b"list") {
+        return Some(Command::List);
+    }
+    if has_text(word, b"check") {
+        return Some(Command::Check);
+    }
+    if has_text(word, b"recover") {
+        return Some(Command::Recover);
+    }
+    None
+}
+
+/// The command of a name and two words.
+fn with_two(name: &Word, first: &Word, second: &Word) -> Option<Command>
+    ensures { (c : Command) → (result ≡ Some c)
+        ↔ IsSpelled c (name.now ∷ first.now ∷ second.now ∷ []) }
+{
+    if has_text(name, b"encode") {
+        return encode_of(first, second);
+    }
+    if has_text(name, b"get") {
+        return get_of(first, second);
+    }
+    None
+}
+
+/// The command of a name and three words.
+fn with_three(name: &Word, first: &Word, second: &Word, third: &Word) -> Option<Command>
+    ensures { (c : Command) → (result ≡ Some c)
+        ↔ IsSpelled c (name.now ∷ first.now ∷ second.now ∷ third.now ∷ []) }
+{
+    if has_text(name, b"get") && has_text(third, b"raw") {
+        return get_raw_of(first, second);
+    }
+    None
+}
+
 /// The command that the words spell.
 pub fn command_of(words: &[Word]) -> Option<Command>
     ensures { (c : Command) → (result ≡ Some c) ↔ IsSpelled c words.now }
 {
     match words {
-        [word, version, error] if has_text(word, b"encode") => encode_of(version, error),
-        [word] if has_text(word, b"decode") => Some(Command::Decode),
-        [word] if has_text(word, b"info") => Some(Command::Info),
+        [word] => plain_of(word),
+        [name, first, second] => with_two(name, first, second),
+        [name, first, second, third] => with_three(name, first, second, third),
         _ => None,
     }
 }

@@ -13,6 +13,7 @@ ghost use Rattle.lerc_cli.specs.inside.Grids.{MakesBlob, ReadsGrid, grid_stop_of
 use crate::reading::has_more;
 use crate::stop::{Fault, Reason, Stop};
 use lerc_encode::EncodeFault;
+use lerc_grammar::nearest_is_same;
 use lerc_header::{Step, Version};
 use outside_io::{Bytes, Sink, Source, give_all};
 use raster_values::{GridStop, Raster, grid_read};
@@ -76,6 +77,8 @@ fn blob_of(alloc: Global, raster: &Raster, version: Version, error: u32) -> Resu
     requires { IsRaster raster.now }
     ensures { MakesBlob version error raster.now result }
 {
+    // The law by which the blob of an encoding without an error is one of the given raster.
+    nearest_is_same();
     match lerc_encode::encode(alloc, raster, version, Step::of(error)) {
         Ok(blob) => Ok(blob),
         Err(EncodeFault::DepthNeedsV4) => Err(Stop::Refused(Fault {

@@ -9,7 +9,7 @@ pub fn one_command()
     ensures { SpellsOne }
 {}
 
-/// A told input has one answer of each command.
+/// Where all that a command reads is told, it has one answer.
 pub fn one_answer()
     ensures { (c : Command) → AnswersOnce c }
 {}

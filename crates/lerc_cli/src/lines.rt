@@ -1,9 +1,11 @@
 ghost use Rattle.std.specs.Prelude.{◌≡◌, ◌+◌, ◌≤◌, [], ◌++◌, length};
 ghost use Rattle.outside_io.specs.program.Line.{GivesLine};
 ghost use Rattle.lerc_cli.specs.Stop.{line_of, name_of, text_of};
-ghost use Rattle.lerc_cli.specs.Stop.{blob_name_of, blob_numbers_of, grid_name_of, two_numbers};
+ghost use Rattle.lerc_cli.specs.Stop.{blob_name_of, blob_numbers_of, grid_name_of, refusal_text, two_numbers};
+ghost use Rattle.bundle_lines.specs.Lines.{slot_text};
 
-use crate::stop::{Fault, Reason, Stop};
+use crate::stop::{Fault, Reason, Refusal, Stop};
+use bundle_index::{Entry, Slot};
 use lerc_header::BlobReason;
 use outside_io::{Line, Sink, give_line};
 use raster_values::GridReason;
@@ -80,16 +82,16 @@ fn name(reason: Reason) -> &'static [u8]
 }
 
 /// Adds two numbers, each behind its word.
-fn add_two(line: &mut Line, word: &[u8], n: u32, other: &[u8], m: u32)
+fn add_two(line: &mut Line, word: &[u8], n: u64, other: &[u8], m: u64)
     requires room { length line.old ≤ 100 }
     requires words { length word.now + length other.now ≤ 20 }
     ensures text { line.new ≡ line.old ++ two_numbers word.now n other.now m }
     ensures short { length line.new ≤ length line.old + 62 }
 {
     line.text(word);
-    line.number(n.into());
+    line.number(n);
     line.text(other);
-    line.number(m.into());
+    line.number(m);
 }
 
 /// Adds the numbers that did not agree.
@@ -100,10 +102,16 @@ fn add_numbers(line: &mut Line, reason: BlobReason)
 {
     match reason {
         BlobReason::BadChecksum { stored, computed } => {
-            add_two(line, b" stored", stored, b" computed", computed);
+            add_two(
+                line,
+                b" stored",
+                stored.into(),
+                b" computed",
+                computed.into(),
+            );
         }
         BlobReason::BadMaskCount { header, counted } => {
-            add_two(line, b" header", header, b" counted", counted);
+            add_two(line, b" header", header.into(), b" counted", counted.into());
         }
         _ => {}
     }
@@ -126,6 +134,52 @@ fn refusal(fault: Fault) -> Line
     line
 }
 
+/// Adds a slot's row and its column.
+fn add_slot(line: &mut Line, slot: Slot)
+    requires { length line.old ≤ 100 }
+    ensures text { line.new ≡ line.old ++ slot_text slot }
+    ensures short { length line.new ≤ length line.old + 42 }
+{
+    line.number(slot.row().into());
+    line.number(slot.col().into());
+}
+
+/// Adds the text of an entry that names more bytes than there are.
+fn add_beyond(line: &mut Line, slot: Slot, entry: Entry, got: u64)
+    requires { length line.old ≤ 10 }
+    ensures text { line.new ≡ line.old ++ refusal_text (Refusal.Beyond slot entry got) }
+    ensures short { length line.new ≤ length line.old + 140 }
+{
+    line.text(b"Beyond");
+    add_slot(line, slot);
+    add_two(line, b" offset", entry.offset, b" size", entry.size.into());
+    line.text(b" got");
+    line.number(got);
+}
+
+/// The text of a store's refusal.
+fn store_refusal(refusal: &Refusal) -> Line
+    ensures text { result ≡ text_of (Stop.Store refusal.now) }
+    ensures short { length result ≤ 190 }
+{
+    let mut line = Line::new();
+    line.text(b"store: ");
+    match refusal {
+        Refusal::NoTile { slot } => {
+            line.text(b"NoTile");
+            add_slot(&mut line, *slot);
+        }
+        Refusal::Beyond { slot, entry, got } => add_beyond(&mut line, *slot, *entry, *got),
+        Refusal::BadBundle { place, found } => {
+            add_two(&mut line, b"BadBundle at", *place, b" found", *found);
+        }
+        Refusal::BadJournal { place, found } => {
+            add_two(&mut line, b"BadJournal at", *place, b" found", *found);
+        }
+    }
+    line
+}
+
 /// A line of one text.
 fn plain(text: &[u8]) -> Line
     requires { length text.now ≤ 190 }
@@ -138,24 +192,25 @@ fn plain(text: &[u8]) -> Line
 }
 
 /// The text that says why a run stopped.
-fn text(stop: Stop) -> Line
-    ensures text { result ≡ text_of stop }
+fn text(stop: &Stop) -> Line
+    ensures text { result ≡ text_of stop.now }
     ensures short { length result ≤ 190 }
 {
     match stop {
         Stop::Usage => plain(USAGE),
-        Stop::Refused(fault) => refusal(fault),
+        Stop::Refused(fault) => refusal(*fault),
         Stop::Source => plain(b"source failed"),
         Stop::Output => plain(b"output failed"),
         Stop::Volume => plain(b"volume failed"),
         Stop::OutOfMemory => plain(b"out of memory"),
+        Stop::Store(refusal) => store_refusal(refusal),
     }
 }
 
 /// The line that says why a run stopped.
 #[tactic(auto, unfolding(crate::specs::Stop::line_of))]
-pub fn stop_line(stop: Stop) -> Line
-    ensures { result ≡ line_of stop }
+pub fn stop_line(stop: &Stop) -> Line
+    ensures { result ≡ line_of stop.now }
 {
     let mut line = text(stop);
     line.text(b"\n");
@@ -163,9 +218,9 @@ pub fn stop_line(stop: Stop) -> Line
 }
 
 /// Gives the line to the error output, whose faults change nothing. It takes no memory.
-pub fn tell<E: Sink>(stop: Stop, err: &mut E)
+pub fn tell<E: Sink>(stop: &Stop, err: &mut E)
     ensures { GivesLine (E.held err.old) (E.held err.new) (E.faults err.old) (E.faults err.new)
-        (line_of stop) }
+        (line_of stop.now) }
 {
     give_line(err, &stop_line(stop));
 }

@@ -9,6 +9,9 @@
 #![tactic(auto)]
 
 mod arguments;
+mod bundle;
+#[cfg(test)]
+mod bundle_tests;
 #[cfg(test)]
 mod coded_tests;
 mod command;
@@ -16,30 +19,50 @@ mod decode;
 mod encode;
 #[cfg(test)]
 mod encode_tests;
+mod get;
 mod info;
 #[cfg(test)]
 mod info_tests;
 mod keeping;
 mod laws;
 mod lines;
+mod opening;
 mod outline_lines;
+mod paths;
 mod program;
 mod reading;
 mod run;
 mod stop;
 #[cfg(test)]
 mod tests;
+mod tile;
 
 use arguments::ProcessArguments;
-use outside_io::{NoVolume, StdSink, StdSource};
-use program::serve;
+use lines::tell;
+use outside_io::{FileVolume, NoVolume, StdSink, StdSource};
+use paths::bundle_paths;
+use program::{exit_code, serve};
 use std::process::ExitCode;
+use stop::Stop;
 
 fn main(rt: HostRuntime) -> ExitCode {
+    let alloc = rt.alloc();
     let args = ProcessArguments::new(&rt);
     let mut src = StdSource::new(rt.stdin());
     let mut out = StdSink::new(rt.stdout());
     let mut err = StdSink::new(rt.stderr());
-    let mut vol = NoVolume::new();
-    serve(rt.alloc(), &args, &mut src, &mut out, &mut err, &mut vol)
+    match bundle_paths(alloc, &args) {
+        Ok(Some(paths)) => {
+            let mut vol = FileVolume::new(rt, paths.bundle, paths.journal);
+            serve(alloc, &args, &mut src, &mut out, &mut err, &mut vol)
+        }
+        Ok(None) => {
+            let mut vol = NoVolume::new();
+            serve(alloc, &args, &mut src, &mut out, &mut err, &mut vol)
+        }
+        Err(_) => {
+            tell(&Stop::OutOfMemory, &mut err);
+            exit_code(Stop::OutOfMemory.status())
+        }
+    }
 }

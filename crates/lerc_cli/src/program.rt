@@ -16,7 +16,7 @@ use std::alloc::Global;
 use std::process::ExitCode;
 
 /// What the process ends with.
-fn exit_code(status: u8) -> ExitCode
+pub(crate) fn exit_code(status: u8) -> ExitCode
     ensures { exit_status result ≡ status }
 {
     ExitCode::from(status)
@@ -54,7 +54,7 @@ pub fn serve<A: Arguments, S: Source, K: Sink, E: Sink, V: Volume>(
     match command_words(alloc, args) {
         Ok(words) => exit_code(run(alloc, &words, src, out, err, vol).status),
         Err(_) => {
-            tell(Stop::OutOfMemory, err);
+            tell(&Stop::OutOfMemory, err);
             exit_code(Stop::OutOfMemory.status())
         }
     }

@@ -4,7 +4,9 @@ ghost use Rattle.outside_io.specs.streams.Source.{IsAtEnd};
 ghost use Rattle.lerc_header.specs.declared.header.Version.{Version};
 ghost use Rattle.lerc_cli.specs.declared.command.Command.{Command};
 ghost use Rattle.lerc_cli.specs.declared.stop.Stop.{Stop};
-ghost use Rattle.lerc_cli.specs.Answer.{IsBlob, IsOutput};
+ghost use Rattle.lerc_cli.specs.Answer.{IsBlob, IsOutput, Tells};
+ghost use Rattle.bundle_store.specs.Tiles.{TileMap};
+ghost use Rattle.lerc_cli.specs.Tiles.{IsReady, KeepsTiles};
 ghost use Rattle.lerc_cli.specs.Command.{IsSpelled, IsNoCommand};
 ghost use Rattle.outside_io.specs.program.Line.{GivesLine};
 ghost use Rattle.outside_io.specs.streams.Faults.{IsCause};
@@ -12,9 +14,11 @@ ghost use Rattle.lerc_cli.specs.Run.{OfSource, OfOutput, OfVolume, OfRun, GivesL
 ghost use Rattle.lerc_cli.specs.Run.{GivesBlob, GivesGrid, GivesGridPrefix, GivesLines, IsGridFor, TellsFault, ToldHead};
 ghost use Rattle.lerc_cli.specs.Stop.{status_of, status_at, line_of};
 
+use crate::bundle::{check, list, recover};
 use crate::command::{Command, command_of};
 use crate::decode::decode;
 use crate::encode::encode;
+use crate::get::{get, get_raw};
 use crate::info::info;
 use crate::lines::tell;
 use crate::stop::Stop;
@@ -48,6 +52,11 @@ fn perform<S: Source, K: Sink, V: Volume>(
         Command::Encode { version, error } => encode(alloc, version, error, src, out),
         Command::Decode => decode(alloc, src, out),
         Command::Info => info(alloc, src, out),
+        Command::Get { slot } => get(alloc, slot, out, vol),
+        Command::GetRaw { slot } => get_raw(alloc, slot, out, vol),
+        Command::List => list(alloc, out, vol),
+        Command::Check => check(alloc, out, vol),
+        Command::Recover => recover(out, vol),
     }
 }
 
@@ -100,7 +109,7 @@ fn ended_status<E: Sink>(ended: Result<(), Stop>, err: &mut E) -> u8
     match ended {
         Ok(()) => 0,
         Err(stop) => {
-            tell(stop, err);
+            tell(&stop, err);
             stop.status()
         }
     }
@@ -154,13 +163,21 @@ pub fn run<S: Source, K: Sink, E: Sink, V: Volume>(
         (err.new ≡ err.old) (E.held err.old) (E.held err.new)
         (E.faults err.old) (E.faults err.new) }
 
-    // A told input that has an output gets it, unless an object fails or memory is refused.
+    // Where all that a command reads is told and has an output, it gets that, unless an object fails
+    // or memory is refused.
     ensures complete { (c : Command) → IsSpelled c words.now
-        → (input : List ℕ) → S.left src.old ≡ Some input → (n : ℕ) (output : List ℕ)
+        → Tells c (given (S.left src.old) (files_of (V.told vol.old) (V.history vol.old)))
+        → (n : ℕ) (output : List ℕ)
         → IsOutput c
         (given (S.left src.old) (files_of (V.told vol.old) (V.history vol.old))) n output
         → result.status ≢ 3 → result.status ≢ 4 → result.status ≢ 5 → result.status ≢ 6
         → (result.status ≡ 0) × Holds (K.held out.old) (K.held out.new) output }
+
+    // At each moment of the run each image that a crash may leave stands for the tiles that stood as
+    // it began.
+    ensures kept { (c : Command) → IsSpelled c words.now → (start : TileMap)
+        → IsReady (V.told vol.old) (V.history vol.old) start
+        → KeepsTiles start (V.history vol.old) (V.history vol.new) }
 
     // One line tells of each stop.
     ensures no_other_status { (result.status ≡ 0)

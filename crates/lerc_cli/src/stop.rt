@@ -1,6 +1,7 @@
 ghost use Rattle.std.specs.Prelude.{◌≡◌};
 ghost use Rattle.lerc_cli.specs.Stop.{status_of};
 
+use bundle_index::{Entry, Slot};
 use lerc_header::BlobReason;
 use raster_values::GridReason;
 
@@ -24,6 +25,19 @@ pub struct Fault {
     pub place: u64,
 }
 
+/// Why the store refuses.
+#[derive(Clone, Copy)]
+pub enum Refusal {
+    /// The slot has no tile.
+    NoTile { slot: Slot },
+    /// The slot's entry names bytes beyond the bundle's end, of which `got` are there.
+    Beyond { slot: Slot, entry: Entry, got: u64 },
+    /// The file is no bundle: the place of the first test that fails, and the number found there.
+    BadBundle { place: u64, found: u64 },
+    /// The journal counts, and a test of it fails.
+    BadJournal { place: u64, found: u64 },
+}
+
 /// Why a run did not give its output whole.
 #[derive(Clone, Copy)]
 pub enum Stop {
@@ -39,6 +53,8 @@ pub enum Stop {
     Volume,
     /// Memory was refused.
     OutOfMemory,
+    /// The store refuses.
+    Store(Refusal),
 }
 
 impl Stop {
@@ -53,6 +69,7 @@ impl Stop {
             Stop::Output => 4,
             Stop::Volume => 5,
             Stop::OutOfMemory => 6,
+            Stop::Store(_) => 7,
         }
     }
 }

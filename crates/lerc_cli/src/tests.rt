@@ -6,7 +6,7 @@ ghost use Rattle.std.specs.Prelude.{◌<◌, None};
 
 use crate::arguments::{Arguments, command_words};
 use crate::run::run;
-use outside_io::{Bytes, MemSink, MemSource, NoVolume, Word};
+use outside_io::{Bytes, MemSink, MemSource, NoVolume, Volume, Word};
 use std::alloc::{AllocError, Global};
 use std::env::FillError;
 use std::test::Fail;
@@ -189,6 +189,21 @@ pub(crate) fn left_by(
     requires source { 0 < pieces.0 }
     requires output { 0 < pieces.1 }
 {
+    left_over(alloc, words, input, pieces, failing, &mut NoVolume::new())
+}
+
+/// The same over a volume.
+pub(crate) fn left_over<V: Volume>(
+    alloc: Global,
+    words: &[&str],
+    input: &[u8],
+    pieces: (usize, usize),
+    failing: (&[u8], &[u8]),
+    vol: &mut V,
+) -> Result<Left, AllocError>
+    requires source { 0 < pieces.0 }
+    requires output { 0 < pieces.1 }
+{
     let mut list = Vec::new(alloc);
     for word in words {
         list.push(Word::of(alloc, word)?)?;
@@ -200,8 +215,7 @@ pub(crate) fn left_by(
     );
     let mut out = MemSink::new(alloc, pieces.1, Bytes::of(alloc, failing.1)?, 100000)?;
     let mut err = MemSink::new(alloc, 100, Bytes::of(alloc, &[])?, 1000)?;
-    let mut vol = NoVolume::new();
-    let report = run(alloc, &list, &mut src, &mut out, &mut err, &mut vol);
+    let report = run(alloc, &list, &mut src, &mut out, &mut err, vol);
     Ok(Left {
         status: report.status,
         marks: report.marks.len(),

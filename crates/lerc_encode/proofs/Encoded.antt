@@ -45,7 +45,7 @@ use Rattle.lerc_encode.proofs.Endings.{ImageStands, bare_stands, level_stands, c
 
 -- ---- the length of the image
 
-chosen_few : (r : Pixels) (version : Version) (step : ℕ) → length (form_bytes r version step (chosen_form r version step)) ≤ length (form_bytes r version step sweep)
+pub chosen_few : (r : Pixels) (version : Version) (step : ℕ) → length (form_bytes r version step (chosen_form r version step)) ≤ length (form_bytes r version step sweep)
 unfolding chosen_form
 chosen_few r version step = few _ (is_first_least (λ form. length (form_bytes r version step form)) (forms r version step))
   where
@@ -168,7 +168,7 @@ some_mask pixels valid bytes marks (mixed mask e long at runs size m count) = lo
 
 -- ---- the blob
 
-head_few : (version : Version) → head_length version ≤ 66
+pub head_few : (version : Version) → head_length version ≤ 66
 head_few V3 = omega arith
 head_few V4 = omega arith
 

@@ -15,3 +15,4 @@ mod Candidates
 mod Endings
 mod Encoded
 mod Laying
+mod Small

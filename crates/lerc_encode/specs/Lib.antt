@@ -5,4 +5,5 @@ pub mod Codings
 pub mod Images
 pub mod Choice
 pub mod Encoded
+pub mod Sizes
 pub mod inside

@@ -8,10 +8,12 @@ mod codings;
 mod first;
 mod forms;
 mod images;
+mod laws;
 mod masks;
 mod ranging;
 
 pub use blob::{EncodeFault, encode};
+pub use laws::blobs_are_small;
 
 #[cfg(test)]
 mod symbol_tests;

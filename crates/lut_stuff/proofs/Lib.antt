@@ -2,4 +2,4 @@ pub mod Lists
 mod ReadSteps
 pub mod Rising
 pub mod Tabled
-pub mod Below
+mod Below

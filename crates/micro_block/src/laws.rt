@@ -25,8 +25,8 @@ pub fn block_values_are_in_range()
         InRange f.kind f.top → IsBlock f bytes values → All (InRange f.kind) values }
 {}
 
-/// The written block stands for what is kept of its values, each within half a step of the value, not
-/// below the least of them and not above the top. At step 1 it stands for the values themselves.
+/// The written block stands for what is kept of its values, each within half a step of the value,
+/// not below the least of them and not above the top. At step 1 it stands for the values themselves.
 pub fn written_blocks_stand()
     ensures stands { (f : Frame) (values : List ℤ) → AreWritable f values →
         IsBlock f (block_bytes f.kind f.col f.step values)

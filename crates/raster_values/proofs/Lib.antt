@@ -33,4 +33,4 @@ mod GivenBlocks
 pub mod GridLaws
 pub mod GridDecided
 mod Repeats
-pub mod AllCells
+mod AllCells

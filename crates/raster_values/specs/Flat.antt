@@ -76,7 +76,8 @@ unfoldable pub revalued : Pixels → (ℕ → ℕ → ℤ → ℤ) → Pixels
 revalued r g =
     record r {
       pixels = map
-          (λ k. new_pixel r.depth (g k) (get_or r.pixels k None)) (range_with_len 0 (length r.pixels));
+          (λ k. new_pixel r.depth (g k) (get_or r.pixels k None))
+          (range_with_len 0 (length r.pixels));
     }
 
 -- ---- blocks

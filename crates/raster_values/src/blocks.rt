@@ -147,7 +147,8 @@ pub(super) fn gather_rows(
     requires depth { d < depth }
     requires room { high * wide ≤ length out.old }
     ensures gathered { Gathers
-        (rows_values depth d marks.now values.now.values cols row col high wide) out.old out.new 0 result }
+        (rows_values depth d marks.now values.now.values cols row col high wide)
+        out.old out.new 0 result }
     ensures within { result ≤ high * wide }
 {
     let mut n = 0;
@@ -184,7 +185,8 @@ pub(super) fn pour_rows(
     ensures in_range { All (InRange values.old.kind) values.old.values
         → All (InRange values.old.kind) values.new.values }
     ensures size { length values.new.values ≡ length values.old.values }
-    ensures rest { LeavesRows depth d marks.now cols row col high wide values.old.values values.new.values }
+    ensures rest { LeavesRows depth d marks.now cols row col high wide
+        values.old.values values.new.values }
 {
     let all = input.len() == high * wide;
     let mut n = 0;

@@ -107,7 +107,8 @@ fn repeat_bytes(bytes: &mut Vec<u8>, from: usize, end: usize, to: usize)
     requires order { from ≤ end }
     requires behind { end ≤ to }
     requires within { to + (end - from) ≤ length bytes.old.items }
-    ensures { bytes.new.items ≡ take to bytes.old.items ++ (take (end - from) (drop from bytes.old.items)
+    ensures { bytes.new.items ≡ take to bytes.old.items
+        ++ (take (end - from) (drop from bytes.old.items)
         ++ drop (to + (end - from)) bytes.old.items) }
 {
     let all = &mut bytes[..];

@@ -399,8 +399,8 @@ impl Raster {
         out.copy_from_slice(self.marks.bytes());
     }
 
-    /// The bytes of the values of all pixels, row by row and depth innermost, as they lie in memory:
-    /// those of an invalid pixel are 0.
+    /// The bytes of the values of all pixels, row by row and depth innermost, as they lie in
+    /// memory: those of an invalid pixel are 0.
     pub fn cells(&self) -> &[u8]
         ensures bytes { result.now ≡ values_bytes self.now.kind (all_values self.now) }
         ensures size { length result.now

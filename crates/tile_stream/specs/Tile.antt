@@ -37,13 +37,18 @@ cut bytes = wrong (Grid Truncated) (length bytes)
 
 -- what is wrong in the first three bytes, of which there may be fewer
 abbrev pub col_faults : List ℕ → Faults TileReason
-col_faults head = unless (3 ≤ length head) (cut head) (unless (get_or head 2 0 ≤ 127) (wrong BadSlot 2) none)
+col_faults head =
+    unless (3 ≤ length head) (cut head) (unless (get_or head 2 0 ≤ 127) (wrong BadSlot 2) none)
 
 abbrev pub row_faults : List ℕ → Faults TileReason
-row_faults head = unless (2 ≤ length head) (cut head) (unless (get_or head 1 0 ≤ 127) (wrong BadSlot 1) (col_faults head))
+row_faults head =
+    unless (2 ≤ length head) (cut head)
+    (unless (get_or head 1 0 ≤ 127) (wrong BadSlot 1) (col_faults head))
 
 abbrev pub mark_faults : List ℕ → Faults TileReason
-mark_faults head = unless (1 ≤ length head) (cut head) (unless (get_or head 0 0 ≡ 84) (wrong BadTileMark 0) (row_faults head))
+mark_faults head =
+    unless (1 ≤ length head) (cut head)
+    (unless (get_or head 0 0 ≡ 84) (wrong BadTileMark 0) (row_faults head))
 
 abbrev pub head_faults : List ℕ → Faults TileReason
 head_faults bytes = mark_faults (take 3 bytes)
@@ -56,7 +61,8 @@ of_grid faults place (Grid reason) = faults place reason
 
 -- What is wrong first in bytes that do not begin with a tile.
 abbrev pub tile_faults : List ℕ → Faults TileReason
-tile_faults bytes = in_order IsTileHead head_faults (λ slot behind. of_grid (grid_faults behind)) bytes
+tile_faults bytes =
+    in_order IsTileHead head_faults (λ slot behind. of_grid (grid_faults behind)) bytes
 
 -- a stop of a grid, as one of its tile
 abbrev pub stop_of : GridStop → TileStop
@@ -77,7 +83,8 @@ TookTile (Some left) new None = (left ≡ []) × (new ≡ Some [])
 -- There is one at least: where none is left, the stream ends and nothing is wrong.
 abbrev pub IsToldStop : Option (List ℕ) → ℕ → TileStop → Type 0
 IsToldStop None at stop = Unit {0}
-IsToldStop (Some left) at (Fault f) = (0 < length left) × moved at (tile_faults left) f.place f.reason
+IsToldStop (Some left) at (Fault f) =
+    (0 < length left) × moved at (tile_faults left) f.place f.reason
 IsToldStop (Some left) at Source = Unit {0}
 IsToldStop (Some left) at OutOfMemory = Unit {0}
 

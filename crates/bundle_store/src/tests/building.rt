@@ -1,7 +1,7 @@
 use super::{
     LARGE, SMALL, build, empty_volume, entry, first_slot, has_tile, length, put, report, stands,
 };
-use crate::{CheckReport, StoreFault, TileRec};
+use crate::{CheckReport, Session, StoreFault, TileRec};
 use bundle_index::Entry;
 use outside_io::{Bytes, VolFile, Volume};
 use std::alloc::Global;
@@ -38,6 +38,13 @@ fn index_is_zero<V: Volume>(vol: &mut V) -> bool {
     true
 }
 
+/// The entries of the first row.
+fn first_row<V: Volume>(alloc: Global, vol: &mut V) -> Result<[Entry; 128], StoreFault> {
+    let mut row = [Entry { offset: 0, size: 0 }; 128];
+    Session::open(alloc, vol)?.row_entries(vol, 0, &mut row)?;
+    Ok(row)
+}
+
 #[test]
 fn a_build_of_no_tiles(rt: HostRuntime) -> Result<(), Fail> {
     let alloc = rt.alloc();
@@ -61,6 +68,9 @@ fn a_build_keeps_the_last_tile_of_a_slot(rt: HostRuntime) -> Result<(), Fail> {
         size: 66,
     };
     assert_eq!(rt; entry(alloc, &mut vol, first_slot()?), Ok(last));
+    assert!(rt;
+        matches!(first_row(alloc, &mut vol), Ok(row) if row[0] == last && row[1].size == 0)
+    );
     assert!(rt;
         stands(
             &mut vol,

@@ -3,7 +3,7 @@ ghost use Rattle.std.specs.Prelude.{◌≡◌, true};
 use super::building::two_tiles;
 use super::{LARGE, SMALL, build, first_slot, get, has_tile, put, report, volume};
 use crate::{Session, StoreFault, recover};
-use bundle_index::Slot;
+use bundle_index::{Entry, Slot};
 use outside_io::Volume;
 use std::alloc::Global;
 use std::process::Abort;
@@ -16,6 +16,8 @@ fn says_stopped<V: Volume>(session: &mut Session, vol: &mut V, slot: Slot) -> bo
     session.length(vol) == Err(StoreFault::Stopped)
         && session.check(vol) == Err(StoreFault::Stopped)
         && session.entry(vol, slot) == Err(StoreFault::Stopped)
+        && session.row_entries(vol, 0, &mut [Entry { offset: 0, size: 0 }; 128])
+            == Err(StoreFault::Stopped)
         && session.get(vol, slot).err() == Some(StoreFault::Stopped)
         && session.put_blob(vol, slot, &[]) == Err(StoreFault::Stopped)
         && session.build(vol, &[]) == Err(StoreFault::Stopped)

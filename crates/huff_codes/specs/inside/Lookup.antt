@@ -26,7 +26,8 @@ pub record IsEntry (codes : List (List Bool)) (number : ℕ) (e : Entry) : Type 
   pub takes : e.length ≡ length (joined_codes codes (symbols_of e))
 
 abbrev pub AreEntries : List (List Bool) → List Entry → Type 0
-AreEntries codes entries = (k : ℕ) → k < length entries → IsEntry codes k (get_or entries k no_entry)
+AreEntries codes entries =
+    (k : ℕ) → k < length entries → IsEntry codes k (get_or entries k no_entry)
 
 -- the first n of these bits stand highest in 64
 pub record IsSeen (n word : ℕ) (left : List Bool) : Type 0 where

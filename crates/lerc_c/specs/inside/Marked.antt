@@ -6,8 +6,8 @@ use Rattle.lerc_c.specs.Arrays.{mark_at}
 
 pub record IsMarked (kind : PixelType) (rows cols depth : ℕ) (mask : List ℕ) (r : Pixels) : Type 0 where
   pub raster : IsRaster r
-  pub kind : r.kind ≡ kind
-  pub rows : r.rows ≡ rows
-  pub cols : r.cols ≡ cols
-  pub depth : r.depth ≡ depth
+  pub kind_is : r.kind ≡ kind
+  pub rows_are : r.rows ≡ rows
+  pub cols_are : r.cols ≡ cols
+  pub depth_is : r.depth ≡ depth
   pub marks : (k : ℕ) → k < rows * cols → is_some (get_or r.pixels k None) ≡ mark_at mask k

@@ -11,9 +11,8 @@ use Rattle.lerc_c.specs.declared.decoding.DecodeStop.{DecodeStop}
 use Rattle.lerc_c.specs.declared.decoding.DecodeStop.TheVariants.{Refused, OutOfMemory, Sizes}
 use Rattle.lerc_c.specs.declared.encoding.EncodeStop.{EncodeStop}
 use Rattle.lerc_c.specs.declared.encoding.EncodeStop.TheVariants.{BadSizes, BadShape, TooLarge, DepthNeedsV4, NoRoom, OutOfMemory as OutOfRoom}
-use Rattle.lerc_encode.specs.Encoded.{IsEncodedOnce}
 use Rattle.lerc_c.specs.Told.{IsRefused}
-use Rattle.lerc_c.specs.Arrays.{IsMisfit, GivesSizes, IsTooLong}
+use Rattle.lerc_c.specs.Arrays.{IsMisfit, GivesSizes, IsBlobOf, IsTooLong}
 
 abbrev pub IsRasterStop : List ℕ → DecodeFault → Type 0
 IsRasterStop bytes (Blob f) = IsRefused bytes f.place f.reason
@@ -41,7 +40,7 @@ IsGivenStop kind rows cols depth values mask TooLarge =
     (¬ HasZero rows cols depth) × IsTooLarge rows cols depth
 IsGivenStop kind rows cols depth values mask BadSizes =
     IsAllowed rows cols depth × (¬ GivesSizes kind rows cols depth values mask)
-IsGivenStop kind rows cols depth values mask OutOfRoom = IsAllowed rows cols depth
+IsGivenStop kind rows cols depth values mask OutOfRoom = Unit {0}
 IsGivenStop kind rows cols depth values mask _ = ⊥
 
 abbrev pub IsBlobStop : ℕ → Version → EncodeStop → Type 0
@@ -49,36 +48,36 @@ IsBlobStop depth version DepthNeedsV4 = (version ≡ V3) × (1 < depth)
 IsBlobStop depth version OutOfRoom = Unit {0}
 IsBlobStop depth version _ = ⊥
 
--- a blob of the raster stands in front, and nothing behind it was changed
-pub record IsWritten (r : Pixels) (step size : ℕ) (old new : List ℕ) : Type 0 where
+-- the raster's blob stands in front, and nothing behind it was changed
+pub record IsWritten (r : Pixels) (version : Version) (step size : ℕ) (old new : List ℕ) :
+    Type 0 where
   pub blob : List ℕ
-  pub encoded : IsEncodedOnce blob r step
-  pub size : size ≡ length blob
+  pub blob_of : IsBlobOf blob r version step
+  pub size_is : size ≡ length blob
   pub room : size ≤ length old
   pub laid : new ≡ blob ++ drop size old
 
 -- the raster's blob has so many bytes
-pub record IsLong (r : Pixels) (step size : ℕ) : Type 0 where
+pub record IsLong (r : Pixels) (version : Version) (step size : ℕ) : Type 0 where
   pub blob : List ℕ
-  pub encoded : IsEncodedOnce blob r step
-  pub size : size ≡ length blob
+  pub blob_of : IsBlobOf blob r version step
+  pub size_is : size ≡ length blob
 
 abbrev pub IsWriteStop : Pixels → Version → ℕ → ℕ → EncodeStop → Type 0
 IsWriteStop r version step room DepthNeedsV4 = (version ≡ V3) × (1 < r.depth)
 IsWriteStop r version step room OutOfRoom = Unit {0}
-IsWriteStop r version step room (NoRoom size) = IsLong r step size × (room < size)
+IsWriteStop r version step room (NoRoom size) = IsLong r version step size × (room < size)
 IsWriteStop r version step room _ = ⊥
 
-abbrev pub IsEncodeStop : PixelType → Version → ℕ → ℕ → ℕ → ℕ → List ℕ → List ℕ → ℕ → EncodeStop
+abbrev pub IsEncodeStop : PixelType → ℕ → ℕ → ℕ → List ℕ → List ℕ → Version → ℕ → ℕ → EncodeStop
     → Type 0
-IsEncodeStop kind version rows cols depth step values mask room BadShape = HasZero rows cols depth
-IsEncodeStop kind version rows cols depth step values mask room TooLarge =
+IsEncodeStop kind rows cols depth values mask version step room BadShape = HasZero rows cols depth
+IsEncodeStop kind rows cols depth values mask version step room TooLarge =
     (¬ HasZero rows cols depth) × IsTooLarge rows cols depth
-IsEncodeStop kind version rows cols depth step values mask room BadSizes =
+IsEncodeStop kind rows cols depth values mask version step room BadSizes =
     IsAllowed rows cols depth × (¬ GivesSizes kind rows cols depth (length values) (length mask))
-IsEncodeStop kind version rows cols depth step values mask room DepthNeedsV4 =
+IsEncodeStop kind rows cols depth values mask version step room DepthNeedsV4 =
     (version ≡ V3) × (1 < depth)
-IsEncodeStop kind version rows cols depth step values mask room OutOfRoom =
-    IsAllowed rows cols depth
-IsEncodeStop kind version rows cols depth step values mask room (NoRoom size) =
-    IsTooLong kind rows cols depth step values mask size room
+IsEncodeStop kind rows cols depth values mask version step room OutOfRoom = Unit {0}
+IsEncodeStop kind rows cols depth values mask version step room (NoRoom size) =
+    IsTooLong kind rows cols depth values mask version step size room

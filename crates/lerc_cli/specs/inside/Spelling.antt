@@ -2,10 +2,18 @@
 use Rattle.std.specs.Prelude.{◌≡◌, ℕ, List}
 use Rattle.lerc_header.specs.declared.header.Version.{Version}
 use Rattle.lerc_cli.specs.declared.command.Command.{Command}
-use Rattle.lerc_cli.specs.declared.command.Command.TheVariants.{Encode}
-use Rattle.lerc_cli.specs.Command.{IsVersionWord, IsWithin}
+use Rattle.lerc_cli.specs.declared.command.Command.TheVariants.{Encode, Get, GetRaw}
+use Rattle.lerc_cli.specs.Command.{AreSlotWords, IsVersionWord, IsWithin}
 
 -- the command is `encode` of these two words
 abbrev pub IsEncode : List ℕ → List ℕ → Command → Type 0
 IsEncode v e c = (version : Version) × ((error : ℕ) × ((c ≡ Encode version error)
     × IsVersionWord v version × IsWithin e error 0 4294967295))
+
+-- the command is `get` of these two words
+abbrev pub IsGet : List ℕ → List ℕ → Command → Type 0
+IsGet row col c = (slot : ℕ) × ((c ≡ Get slot) × AreSlotWords row col slot)
+
+-- the same of the tile's bytes
+abbrev pub IsGetRaw : List ℕ → List ℕ → Command → Type 0
+IsGetRaw row col c = (slot : ℕ) × ((c ≡ GetRaw slot) × AreSlotWords row col slot)

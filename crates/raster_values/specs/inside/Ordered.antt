@@ -45,6 +45,7 @@ pub record FillsPixels (first n : ℕ) (pixel old new : List ℤ) : Type 0 where
 pub record PutsMarkedBytes (kind : PixelType) (depth n : ℕ) (marks : List Bool) (bytes : List ℕ)
     (old new : List ℤ) : Type 0 where
   pub each : (k d : ℕ) → k < n → d < depth → get_or marks k false ≡ true
-      → Spells kind (drop ((k * depth + d) * bytes_of kind) bytes) (get_or new (k * depth + d) (pos 0))
+      → Spells kind (drop ((k * depth + d) * bytes_of kind) bytes)
+      (get_or new (k * depth + d) (pos 0))
   pub rest : (k d : ℕ) → d < depth → (k < n → get_or marks k false ≡ false)
       → get_or new (k * depth + d) (pos 0) ≡ get_or old (k * depth + d) (pos 0)

@@ -71,6 +71,12 @@ returns-in-Err-clause-marks g c =
     let ended = ended_by _ _ c.update-item.result _ _ _ _ _ _ _ _ _ _ _ _ _ c.loop-update.invariant.so_far c.loop-update-test.true (sym c.update-item.is) fits.0 fits.1 c.put_one.ensures.images c.put_one.ensures.told c.in-Err.stop c.in-Err.ensures.turn in
     λ told. (ended.told_end told).marks_are
 
+pub returns-in-Err-clause-later : goal.returns-in-Err-clause-later
+returns-in-Err-clause-later g c =
+    let fits = fits_here c.args.updates.now c.loop-update.update-index c.update-item.result c.loop-update-test.true (sym c.update-item.is) c.requires.fit in
+    let ended = ended_by _ _ c.update-item.result _ _ _ _ _ _ _ _ _ _ _ _ _ c.loop-update.invariant.so_far c.loop-update-test.true (sym c.update-item.is) fits.0 fits.1 c.put_one.ensures.images c.put_one.ensures.told c.in-Err.stop c.in-Err.ensures.turn in
+    λ told. (ended.told_end told).later
+
 pub returns-in-Err-clause-ready : goal.returns-in-Err-clause-ready
 returns-in-Err-clause-ready g c =
     let fits = fits_here c.args.updates.now c.loop-update.update-index c.update-item.result c.loop-update-test.true (sym c.update-item.is) c.requires.fit in

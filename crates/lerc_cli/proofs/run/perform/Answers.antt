@@ -2,7 +2,7 @@ use Rattle.std.proofs.Common.{◌≡◌, ℕ, refl, rules, None, subst, sym, ◌
 use Rattle.std.specs.Prelude.{OnOk}
 use Rattle.lerc_header.specs.declared.header.Version.{Version}
 use Rattle.lerc_cli.specs.Run.{GivesBlob}
-use Rattle.lerc_cli.proofs.Idle.{volume_idle}
+use Rattle.lerc_cli.proofs.Idle.{reading_volume, source_idle, volume_idle}
 use Rattle.lerc_cli.proofs.run.perform.Goals as goal
 
 pub returns-in-Encode-clause-output : goal.returns-in-Encode-clause-output
@@ -22,6 +22,51 @@ returns-in-Info-clause-output g c = rw (c.in-Info.is, c.requires) (c.info.ensure
 
 pub returns-in-Info-clause-volume : goal.returns-in-Info-clause-volume
 returns-in-Info-clause-volume g c = rw (c.in-Info.is, c.requires) (volume_idle _ _ _ _ _ _ _ _ _ _ _ _ _ refl (search rules) (c.info.ensures.output None))
+
+pub returns-in-Get-clause-source : goal.returns-in-Get-clause-source
+returns-in-Get-clause-source g c = rw c.in-Get.is (source_idle _ _ _ _ _ _ _ _ _ _ _ _ refl (search rules) (c.get.ensures.output None))
+
+pub returns-in-Get-clause-output : goal.returns-in-Get-clause-output
+returns-in-Get-clause-output g c = rw (c.in-Get.is, c.requires) (c.get.ensures.output _)
+
+pub returns-in-Get-clause-volume : goal.returns-in-Get-clause-volume
+returns-in-Get-clause-volume g c = rw (c.in-Get.is, c.requires) (reading_volume _ _ _ _ _ _ _ _ _ (search rules) c.get.ensures.volume)
+
+pub returns-in-GetRaw-clause-source : goal.returns-in-GetRaw-clause-source
+returns-in-GetRaw-clause-source g c = rw c.in-GetRaw.is (source_idle _ _ _ _ _ _ _ _ _ _ _ _ refl (search rules) (c.get_raw.ensures.output None))
+
+pub returns-in-GetRaw-clause-output : goal.returns-in-GetRaw-clause-output
+returns-in-GetRaw-clause-output g c = rw (c.in-GetRaw.is, c.requires) (c.get_raw.ensures.output _)
+
+pub returns-in-GetRaw-clause-volume : goal.returns-in-GetRaw-clause-volume
+returns-in-GetRaw-clause-volume g c = rw (c.in-GetRaw.is, c.requires) (reading_volume _ _ _ _ _ _ _ _ _ (search rules) c.get_raw.ensures.volume)
+
+pub returns-in-List-clause-source : goal.returns-in-List-clause-source
+returns-in-List-clause-source g c = rw c.in-List.is (source_idle _ _ _ _ _ _ _ _ _ _ _ _ refl (search rules) (c.list.ensures.output None))
+
+pub returns-in-List-clause-output : goal.returns-in-List-clause-output
+returns-in-List-clause-output g c = rw (c.in-List.is, c.requires) (c.list.ensures.output _)
+
+pub returns-in-List-clause-volume : goal.returns-in-List-clause-volume
+returns-in-List-clause-volume g c = rw (c.in-List.is, c.requires) (reading_volume _ _ _ _ _ _ _ _ _ (search rules) c.list.ensures.volume)
+
+pub returns-in-Check-clause-source : goal.returns-in-Check-clause-source
+returns-in-Check-clause-source g c = rw c.in-Check.is (source_idle _ _ _ _ _ _ _ _ _ _ _ _ refl (search rules) (c.check.ensures.output None))
+
+pub returns-in-Check-clause-output : goal.returns-in-Check-clause-output
+returns-in-Check-clause-output g c = rw (c.in-Check.is, c.requires) (c.check.ensures.output _)
+
+pub returns-in-Check-clause-volume : goal.returns-in-Check-clause-volume
+returns-in-Check-clause-volume g c = rw (c.in-Check.is, c.requires) (reading_volume _ _ _ _ _ _ _ _ _ (search rules) c.check.ensures.volume)
+
+pub returns-in-Recover-clause-source : goal.returns-in-Recover-clause-source
+returns-in-Recover-clause-source g c = rw c.in-Recover.is (source_idle _ _ _ _ _ _ _ _ _ _ _ _ refl (search rules) (c.recover.ensures.output None))
+
+pub returns-in-Recover-clause-output : goal.returns-in-Recover-clause-output
+returns-in-Recover-clause-output g c = rw (c.in-Recover.is, c.requires) (c.recover.ensures.output _)
+
+pub returns-in-Recover-clause-volume : goal.returns-in-Recover-clause-volume
+returns-in-Recover-clause-volume g c = rw (c.in-Recover.is, c.requires) (reading_volume _ _ _ _ _ _ _ _ _ (search rules) c.recover.ensures.volume)
 
 pub returns-in-Encode-clause-blob : goal.returns-in-Encode-clause-blob
 returns-in-Encode-clause-blob g c = λ version error is.

@@ -42,8 +42,11 @@ returns-clause-ran g c = λ command spelled. record {
 }
 
 pub returns-clause-complete : goal.returns-clause-complete
-returns-clause-complete g c = λ command spelled input told n output has.
-    complete command _ input _ n _ _ _ output _ _ _ _ _ told c.ended_status-status.ensures.status has (c.act-ended.ensures.output command spelled)
+returns-clause-complete g c = λ command spelled told n output has.
+    complete command _ n _ _ _ output _ _ _ _ _ told c.ended_status-status.ensures.status has (c.act-ended.ensures.output command spelled)
+
+pub returns-clause-kept : goal.returns-clause-kept
+returns-clause-kept g c = λ command spelled. (c.act-ended.ensures.volume command spelled).tiles
 
 pub returns-clause-no_other_status : goal.returns-clause-no_other_status
 returns-clause-no_other_status g c = some_status _ _ c.ended_status-status.ensures.status

@@ -1,0 +1,41 @@
+-- What a decoder tells that was fed a whole input in one piece.
+use Rattle.std.proofs.Common.{◌≡◌, ℕ, ◌≤◌, List, [], ◌++◌, length, take, refl, sym, ap, ◌∙◌, subst, arith, inl, inr}
+use Rattle.std.specs.Prelude.{Result, IfOk, IfErr}
+use Rattle.std.proofs.lemmas.List.{take_all}
+use Rattle.raster_values.specs.Raster.{Pixels}
+use Rattle.lerc_header.specs.Head.{HeadAt}
+use Rattle.lerc_header.proofs.Prefixes.{head_of_take}
+use Rattle.lerc_grammar.specs.Verdict.{IsDone, IsMore, FirstFault}
+use Rattle.lerc_grammar.specs.Blob.{Blob}
+use Rattle.lerc_decode.specs.declared.decoder.DecodeFault.{DecodeFault}
+use Rattle.lerc_decode.specs.declared.decoder.FedState.TheVariants.{More}
+use Rattle.lerc_decode.specs.Decoding.{Decoding, Stage, Key, Fields, Body, Whole, Wrong, NoMemory, HasTaken}
+use Rattle.lerc_decode.specs.States.{state_at, finished_at, IsTold}
+use Rattle.lerc_c.specs.inside.Stops.{IsRasterStop}
+
+abbrev Told : List ℕ → Result Pixels DecodeFault → Type 0
+Told blob result = IfOk result (λ r. (size : ℕ) × IsDone blob r size) × IfErr result (λ stop. IsRasterStop blob stop)
+
+cut : (blob taken : List ℕ) (used : ℕ) → taken ≡ take used blob → used ≡ length blob → taken ≡ blob
+cut blob taken used is all = is ∙ take_all used blob (omega (arith, all))
+
+of_more : (blob taken : List ℕ) (used : ℕ) → taken ≡ take used blob → used ≡ length blob → IsMore taken → Told blob (finished_at Key taken)
+of_more blob taken used is all more =
+    let same : taken ≡ blob = cut blob taken used is all in
+    (tt, inr (subst IsMore same more, (ap length same, refl)))
+
+-- by the stage that the decoder stands at
+told_at : (stage : Stage) (blob taken : List ℕ) (used : ℕ) → used ≤ length blob → taken ≡ take used blob → (state_at stage ≡ More → used ≡ length blob) → IsTold taken stage → Told blob (finished_at stage taken)
+told_at Key blob taken used within is whole told = of_more blob taken used is (whole refl) told
+told_at (Fields v) blob taken used within is whole told = of_more blob taken used is (whole refl) told
+told_at (Body h) blob taken used within is whole told = of_more blob taken used is (whole refl) told
+told_at (Whole r) blob taken used within is whole told =
+    ((used, (within, subst (λ bytes. Blob bytes r) (take_all (length taken) taken (omega arith) ∙ is) told.0.1)), tt)
+told_at (Wrong place reason) blob taken used within is whole told =
+    (tt, inl (used, (within, subst (λ bytes. FirstFault bytes place reason) is told.0)))
+told_at NoMemory blob taken used within is whole told = (tt, record { header = told.header; stands = head_of_take used blob told.header (subst (λ bytes. HeadAt bytes told.header) is told.stands) })
+
+pub told : (old new : Decoding) (blob : List ℕ) (used : ℕ) (result : Result Pixels DecodeFault) → old.taken ≡ [] → HasTaken old new blob used → (state_at new.stage ≡ More → used ≡ length blob)
+    → IsTold new.taken new.stage → result ≡ finished_at new.stage new.taken → Told blob result
+told old new blob used result none took whole is_told is =
+    subst (Told blob) (sym is) (told_at new.stage blob new.taken used took.within (took.taken ∙ ap (λ xs. xs ++ take used blob) none) whole is_told)

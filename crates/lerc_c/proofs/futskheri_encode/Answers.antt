@@ -1,0 +1,15 @@
+use Rattle.std.proofs.Common.{◌≡◌, ◌<◌, refl, ap, ◌∙◌}
+use Rattle.lerc_header.specs.declared.header.Version.TheVariants.{V3}
+use Rattle.lerc_header.specs.Head.{number_of}
+use Rattle.lerc_c.proofs.futskheri_encode.Goals as goal
+
+pub returns-in-Ok-clause-named : goal.returns-in-Ok-clause-named
+returns-in-Ok-clause-named c = λ _ _. (
+  (c.in-Some.kind, ((c.in-Some.ensures c.in-Some.kind).0 refl, tt)),
+  (c.in-Some-version_of.version, ((c.in-Some-version_of.ensures c.in-Some-version_of.version).0 refl, tt)),
+)
+
+pub returns-in-Err-DepthNeedsV4-clause-deep : goal.returns-in-Err-DepthNeedsV4-clause-deep
+returns-in-Err-DepthNeedsV4-clause-deep c = λ _.
+    let told : (c.in-Some-version_of.version ≡ V3) × (1 < c.args.depth) = rw c.in-Err-DepthNeedsV4.field-0-is at c.in-Err-DepthNeedsV4.ensures.stop in
+    ((c.in-Some-version_of.ensures c.in-Some-version_of.version).0 refl ∙ ap number_of told.0, told.1)

@@ -1,0 +1,12 @@
+use Rattle.outside_io.specs.volume.History.{current}
+use Rattle.lerc_cli.proofs.BundleOpening.{reads_on}
+use Rattle.lerc_cli.proofs.Listed.{line_volume, listed}
+use Rattle.lerc_cli.proofs.bundle.list.Goals as goal
+
+pub returns-clause-output : goal.returns-clause-output
+returns-clause-output g c = λ input.
+    rw c.end.ensures (listed input _ _ (g.V.Volume.history c.args.vol.now) c.in-Ok.session (current (g.V.Volume.history c.open_bundle.new.vol)) c.list_all.result _ _ _ _ _ _ _ c.in-Ok.ensures.volume.told c.in-Ok.ensures.opened c.list_all.ensures.gave c.list_all.ensures.output_failed)
+
+pub returns-clause-volume : goal.returns-clause-volume
+returns-clause-volume g c =
+    rw c.end.ensures (reads_on _ _ _ _ _ _ _ _ _ _ _ (λ is. absurd cc) c.in-Ok.ensures.volume (line_volume c.list_all.result _ _ c.list_all.ensures.volume_failed) c.list_all.ensures.told c.list_all.ensures.during)

@@ -1,0 +1,17 @@
+use Rattle.std.proofs.Common.{◌≡◌, Err, inl, ap, sym, ◌∙◌}
+use Rattle.lerc_cli.specs.declared.stop.Stop.TheVariants.{Volume}
+use Rattle.lerc_cli.proofs.BundleOpening.{left_alone, opening_cause, recovering, still}
+use Rattle.lerc_cli.proofs.Ends.{caused}
+use Rattle.lerc_cli.proofs.opening.recovered.Goals as goal
+
+pub returns-in-Ok-clause-volume : goal.returns-in-Ok-clause-volume
+returns-in-Ok-clause-volume g c =
+    recovering _ _ _ _ _ _ _ (still _ _ _ c.in-Ok.ensures.counted (λ is. absurd cc)) c.in-Ok.ensures.told c.in-Ok.ensures.images (λ told other. inl (c.in-Ok.found, c.in-Ok.ensures.leaves told))
+
+pub returns-in-Err-clause-volume : goal.returns-in-Err-clause-volume
+returns-in-Err-clause-volume g c =
+    recovering _ _ _ _ _ _ _
+    (caused _ _ _ _ (λ is. ap (λ s. Err s) (c.opening_stop.ensures ∙ is)) (λ is. sym c.opening_stop.ensures ∙ (let same : c.opening_stop.result ≡ Volume = cc in same))
+    (opening_cause c.in-Err.fault _ _ (inl c.in-Err.ensures.answers) c.in-Err.ensures.counted))
+    c.in-Err.ensures.told c.in-Err.ensures.images
+    (λ told other. left_alone c.in-Err.fault (g.V.Volume.history c.args.vol.now) (g.V.Volume.history c.recover.new.vol) c.in-Err.ensures.answers (λ is. other (ap (λ s. Err s) (c.opening_stop.ensures ∙ is))) (c.in-Err.ensures.says told) (c.in-Err.ensures.refused told))

@@ -1,0 +1,75 @@
+//! The commands that tell of the whole bundle.
+
+ghost use Rattle.std.specs.Prelude.{◌≡◌, ℕ, List, Option, Err};
+ghost use Rattle.lerc_cli.specs.declared.command.Command.{Command};
+ghost use Rattle.lerc_cli.specs.Run.{OfOutput, files_of, given};
+ghost use Rattle.lerc_cli.specs.Tiles.{OfReading};
+ghost use Rattle.lerc_cli.specs.inside.Opening.{end_of};
+
+use crate::opening::{open_bundle, recovered};
+use crate::stop::Stop;
+use bundle_lines::{LineStop, check_all, give_recovery, list_all};
+use outside_io::{Sink, Volume};
+use std::alloc::Global;
+
+/// How lines ended, as a command's end.
+fn end(ended: Result<(), LineStop>) -> Result<(), Stop>
+    ensures { result ≡ end_of ended }
+{
+    match ended {
+        Ok(()) => Ok(()),
+        Err(LineStop::Output) => Err(Stop::Output),
+        Err(LineStop::Volume) => Err(Stop::Volume),
+    }
+}
+
+/// Makes whole what a crash left, and gives the line of what that was.
+pub fn recover<K: Sink, V: Volume>(out: &mut K, vol: &mut V) -> Result<(), Stop>
+    ensures output { (input : Option (List ℕ)) → OfOutput Command.Recover
+        (given input (files_of (V.told vol.old) (V.history vol.old))) 0 result
+        (out.new ≡ out.old) (K.held out.old) (K.held out.new) (K.faults out.old)
+        (K.faults out.new) }
+    ensures volume { OfReading (result ≡ Err Stop.Volume) (V.told vol.old) (V.told vol.new)
+        (V.history vol.old) (V.history vol.new) (V.faults vol.old) (V.faults vol.new) }
+{
+    let found = match recovered(vol) {
+        Ok(found) => found,
+        Err(stop) => return Err(stop),
+    };
+    match give_recovery(found, out) {
+        Ok(()) => Ok(()),
+        Err(_) => Err(Stop::Output),
+    }
+}
+
+/// Gives a line for each tile of the bundle, by slot number.
+pub fn list<K: Sink, V: Volume>(alloc: Global, out: &mut K, vol: &mut V) -> Result<(), Stop>
+    ensures output { (input : Option (List ℕ)) → OfOutput Command.List
+        (given input (files_of (V.told vol.old) (V.history vol.old))) 0 result
+        (out.new ≡ out.old) (K.held out.old) (K.held out.new) (K.faults out.old)
+        (K.faults out.new) }
+    ensures volume { OfReading (result ≡ Err Stop.Volume) (V.told vol.old) (V.told vol.new)
+        (V.history vol.old) (V.history vol.new) (V.faults vol.old) (V.faults vol.new) }
+{
+    let session = match open_bundle(alloc, vol) {
+        Ok(session) => session,
+        Err(stop) => return Err(stop),
+    };
+    end(list_all(&session, vol, out))
+}
+
+/// Checks the bundle, and gives the lines of what was found.
+pub fn check<K: Sink, V: Volume>(alloc: Global, out: &mut K, vol: &mut V) -> Result<(), Stop>
+    ensures output { (input : Option (List ℕ)) → OfOutput Command.Check
+        (given input (files_of (V.told vol.old) (V.history vol.old))) 0 result
+        (out.new ≡ out.old) (K.held out.old) (K.held out.new) (K.faults out.old)
+        (K.faults out.new) }
+    ensures volume { OfReading (result ≡ Err Stop.Volume) (V.told vol.old) (V.told vol.new)
+        (V.history vol.old) (V.history vol.new) (V.faults vol.old) (V.faults vol.new) }
+{
+    let session = match open_bundle(alloc, vol) {
+        Ok(session) => session,
+        Err(stop) => return Err(stop),
+    };
+    end(check_all(&session, vol, out))
+}

@@ -1,0 +1,36 @@
+//! Where the bundle stands.
+
+ghost use Rattle.std.specs.Prelude.{◌≡◌, ◌++◌, Some, IfOk, IfSome, codes, slice_get, string_bytes};
+
+use crate::arguments::{Arguments, word_at};
+use std::alloc::{AllocError, Global};
+use std::str::from_utf8;
+
+/// The paths of a bundle and of the journal beside it.
+#[derive(Drop)]
+pub struct Paths {
+    pub bundle: String,
+    pub journal: String,
+}
+
+/// The paths that the first word behind the program's name says. None where there is no such word,
+/// where it is `-`, or where it is no text. Want of memory is its only error.
+pub fn bundle_paths<A: Arguments>(alloc: Global, args: &A) -> Result<Option<Paths>, AllocError>
+    ensures { IfOk result (λ paths. IfSome paths (λ p. (string_bytes p.journal
+        ≡ string_bytes p.bundle ++ codes ".jnl") × IfSome (A.texts args.now) (λ texts.
+        slice_get texts 1 ≡ Some (string_bytes p.bundle)))) }
+{
+    let Some(word) = word_at(alloc, args, 1)? else {
+        return Ok(None);
+    };
+    if word.as_slice() == b"-".as_slice() {
+        return Ok(None);
+    }
+    let Ok(path) = from_utf8(word.as_slice()) else {
+        return Ok(None);
+    };
+    let bundle = String::from_str(alloc, path)?;
+    let mut journal = String::from_str(alloc, path)?;
+    journal.push_str(".jnl")?;
+    Ok(Some(Paths { bundle, journal }))
+}

@@ -1,0 +1,18 @@
+-- How long a blob may be.
+use Rattle.std.specs.Prelude.{ℕ, ◌+◌, ◌*◌, ◌/◌, ◌≤◌, length}
+use Rattle.raster_values.specs.declared.kind.PixelType.{PixelType}
+use Rattle.raster_values.specs.PixelType.{bytes_of}
+use Rattle.raster_values.specs.Raster.{Pixels, IsRaster}
+use Rattle.lerc_header.specs.declared.header.Version.{Version}
+use Rattle.lerc_encode.specs.Choice.{choice}
+
+-- The header and the length of the mask; the mask in runs of the worst kind, which take three bytes
+-- for each of its own, and two behind them; a least and a greatest value for each depth; and the
+-- values as they are behind one byte.
+abbrev pub greatest_size : PixelType → ℕ → ℕ → ℕ → ℕ
+greatest_size kind rows cols depth = 70 + (3 * ((rows * cols + 7) / 8) + 2)
+    + 2 * (depth * bytes_of kind) + (1 + rows * cols * depth * bytes_of kind)
+
+abbrev pub BlobsAreSmall : Type 0
+BlobsAreSmall = (r : Pixels) (version : Version) (step : ℕ) → IsRaster r
+    → length (choice r version step) ≤ greatest_size r.kind r.rows r.cols r.depth

@@ -1,0 +1,120 @@
+/* Futskheri from C: LERC2 blobs of versions 3 and 4 with whole numbers, looked at, decoded and encoded.
+ *
+ * The functions are those of the crate lerc_c, each proved to meet its contract; this header says the
+ * contracts to C. bin/build_c builds out/libfutskheri.a.
+ *
+ * Rasters. A raster has rows, columns and depths (values of a pixel), all at least 1, at most 65,536 depths
+ * and at most 2^24 values. An array of values has a value of the raster's type for each pixel and depth, row by
+ * row, the depths innermost: rows * cols * depth values of 1, 2 or 4 bytes, in the byte order of x86-64. A
+ * mask has a bit for each pixel, row by row, the highest bit of each byte first, 1 where the pixel is valid:
+ * (rows * cols + 7) / 8 bytes.
+ *
+ * Memory. All sizes are in bytes. The caller owns every array. A call reads what it takes by const, writes
+ * what its words say and nothing else, keeps no pointer, and gives back what it takes of malloc. It never
+ * aborts: where malloc gives nothing it answers FUTSKHERI_NO_MEMORY.
+ *
+ * The caller's duty, which nothing checks: a pointer is not null, also where the size beside it is 0; it leads
+ * to as many bytes as that size says, all of them written before where they are read; arrays and structs that a
+ * call writes overlap nothing else that is passed; a struct lies at an address of its alignment; sizes are below
+ * 2^63. malloc, realloc and free come from one allocator. No call comes from a signal handler, or from the
+ * forked child of a process with threads.
+ *
+ * Threads. The functions have no state: they may be called from several threads at once, as long as no call
+ * writes what another one uses.
+ */
+#ifndef FUTSKHERI_H
+#define FUTSKHERI_H
+
+#include <stddef.h>
+#include <stdint.h>
+
+#ifdef __cplusplus
+extern "C" {
+#endif
+
+/* What a call answers. */
+enum {
+    FUTSKHERI_OK = 0,
+    FUTSKHERI_REFUSED = 1,        /* the bytes are no blob; the fault says why */
+    FUTSKHERI_NO_MEMORY = 2,
+    FUTSKHERI_BAD_SIZES = 3,      /* an array is not as long as the raster asks for */
+    FUTSKHERI_BAD_KIND = 4,       /* no pixel type has the number */
+    FUTSKHERI_BAD_VERSION = 5,    /* the version is neither 3 nor 4 */
+    FUTSKHERI_BAD_SHAPE = 6,      /* there are no rows, no columns or no depths */
+    FUTSKHERI_TOO_LARGE = 7,      /* there are more than 65,536 depths or 2^24 values */
+    FUTSKHERI_DEPTH_NEEDS_V4 = 8, /* version 3 has no place for a second depth */
+    FUTSKHERI_NO_ROOM = 9         /* the blob is longer than the buffer */
+};
+
+/* The pixel types. */
+enum {
+    FUTSKHERI_I8 = 0,
+    FUTSKHERI_U8 = 1,
+    FUTSKHERI_I16 = 2,
+    FUTSKHERI_U16 = 3,
+    FUTSKHERI_I32 = 4,
+    FUTSKHERI_U32 = 5
+};
+
+/* The first fault of bytes that are no blob. */
+struct futskheri_fault {
+    uint64_t place;  /* where the field begins that fails, in bytes from the first */
+    uint32_t reason; /* the number of the reason, 0 to 30; futskheri_reason_name has its name */
+    uint32_t stated; /* BadChecksum and BadMaskCount: what the blob says, else 0 */
+    uint32_t found;  /* and what was found, else 0 */
+};
+
+/* What the header of a blob says. */
+struct futskheri_head {
+    uint64_t step;     /* twice the greatest error of a value; 1 where no value was changed */
+    int64_t least;     /* the least and the greatest valid value, both 0 where no pixel is valid */
+    int64_t greatest;
+    uint32_t version;  /* 3 or 4 */
+    uint32_t kind;     /* the pixel type */
+    uint32_t rows;
+    uint32_t cols;
+    uint32_t depth;
+    uint32_t valid;    /* how many pixels are valid */
+    uint32_t side;     /* the side of the square blocks, in pixels */
+    uint32_t size;     /* how many bytes the blob has, at most 2^27 */
+    uint32_t checksum; /* as the header has it; it is not tested here */
+};
+
+/* Reads the header with which the bytes begin. OK: *head has its numbers, and *fault stays.
+ * REFUSED: *fault is the header's first fault, and *head stays. It takes no memory, and looks at no byte
+ * behind the header, so a blob that it reads may still be refused by futskheri_decode. */
+uint32_t futskheri_header(const uint8_t *blob, size_t blob_size, struct futskheri_head *head,
+                          struct futskheri_fault *fault);
+
+/* Decodes the blob with which the bytes begin; what follows it is not looked at.
+ * OK: values has the raster's values, 0 at the places of invalid pixels, and mask its mask, the bits behind the
+ * last pixel 0. REFUSED: *fault is the blob's first fault, `Truncated` where the bytes end before the blob does.
+ * NO_MEMORY comes only behind a whole header. BAD_SIZES: the bytes begin with a blob, and values_size or
+ * mask_size is not what its raster asks for (see the head of this file; the header has type and shape).
+ * Where it is not OK the arrays stay as they were; where it is not REFUSED *fault does. */
+uint32_t futskheri_decode(const uint8_t *blob, size_t blob_size, void *values, size_t values_size,
+                          uint8_t *mask, size_t mask_size, struct futskheri_fault *fault);
+
+/* A size that no blob of a raster of this type and shape passes, whatever its values, its mask, the version and
+ * the error are; 0 where there is no such raster. */
+uint64_t futskheri_greatest_size(uint32_t kind, uint32_t rows, uint32_t cols, uint32_t depth);
+
+/* Encodes a raster of this type and shape into the front of out, in version 3 or 4, so that no value changes by
+ * more than error (0: none changes). What stands in values at the places of invalid pixels is not looked at.
+ * mask_size 0: every pixel is valid.
+ * OK: *size is the size of the blob. NO_ROOM: *size is the size that the blob would have. Else *size stays;
+ * where it is not OK, out stays. The first of these that holds is answered: BAD_KIND, BAD_VERSION, BAD_SHAPE,
+ * TOO_LARGE, BAD_SIZES, DEPTH_NEEDS_V4, NO_ROOM; NO_MEMORY may come instead of the last three. */
+uint32_t futskheri_encode(uint32_t kind, uint32_t rows, uint32_t cols, uint32_t depth, uint32_t version,
+                          uint32_t error, const void *values, size_t values_size, const uint8_t *mask,
+                          size_t mask_size, uint8_t *out, size_t out_size, uint64_t *size);
+
+/* Writes the name of a reason, as `BadChecksum`, into out, as much of it as there is room for and with no 0
+ * behind it, and answers how long the name is: at most 30, and 0 where no reason has the number. */
+size_t futskheri_reason_name(uint32_t reason, uint8_t *out, size_t out_size);
+
+#ifdef __cplusplus
+}
+#endif
+
+#endif

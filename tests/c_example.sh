@@ -1,0 +1,25 @@
+#!/bin/sh
+# Builds the example in C over libfutskheri.a and runs it. Where there is no C compiler it says so and passes.
+set -u
+here=$(cd "$(dirname "$0")/.." && pwd) || exit 1
+if ! command -v cc >/dev/null 2>&1; then
+    echo "c_example: skipped, no C compiler is there"
+    exit 0
+fi
+room=$(mktemp -d) || exit 1
+trap 'rm -rf "$room"' EXIT
+library=$("$here/bin/build_c") || exit 1
+cc -std=c99 -Wall -Wextra -Werror -I "$here/include" -o "$room/tile" "$here/examples/c/tile.c" "$library" || exit 1
+"$room/tile" >"$room/given" || exit 1
+cat >"$room/wanted" <<'WANTED'
+4 rows, 4 columns, values from 1 to 200
+the same values: yes, mask ff ff
+refused: BadChecksum at 10
+WANTED
+if cmp -s "$room/given" "$room/wanted"; then
+    echo "c_example: passed"
+else
+    echo "c_example: FAILED; it gave" >&2
+    cat "$room/given" >&2
+    exit 1
+fi
