@@ -1,4 +1,4 @@
-# The commands that write a store, `build` and `put`, and the program killed within them.
+# The command `put`, and the program killed within it.
 
 # ---- What is given
 
@@ -21,8 +21,7 @@ tile 127 127 tens_deep >deep_tile
 { bytes 54 00 80; } >bad_column_stream
 head -c 21 one_tile >short_stream
 
-# What these make: of the two tiles, by `build` and by `put`; of the one tile, where the other is there.
-{ header 66 0 131206; index 64 131140 66; record none_valid; } >built
+# What these make: of the two tiles, and of the first of them; of the one tile, behind another one in its slot.
 { header 66 70 131276; index 64 131210 66; record blob; record none_valid; } >put_twice
 { journal 131210 66 put_twice | head -c 10; bytes 00 00; journal 131210 66 put_twice | tail -c +13; } >put_twice_journal
 { header 66 0 131206; index 64 131140 66; record blob; } >put_once
@@ -33,26 +32,17 @@ journal 131286 66 bundle_3 >journal_3
 journal 131140 89 bundle_deep >journal_deep
 
 # Lines.
-echo 'built 0 131136' >built_0
-echo 'built 1 131206' >built_1
 echo 'put 127 127 66' >put_1
 echo 'put 127 127 72' >put_2
 echo 'put 127 127 89' >put_deep
 { echo 'put 0 0 66'; echo 'put 0 0 66'; } >put_both
 
-# ---- What they write
+# ---- What it writes
 
 for workers in 1 2 64; do
     begins_as none none
-    expect "build: no tiles, $workers workers" 0 built_0 '' plainly disk build 3 0 "$workers" <nothing
-    leaves 'build: no tiles' bundle_0 journal_of_build
-    begins_as none none
-    expect "build: two tiles of one slot, $workers workers" 0 built_1 '' plainly disk build 3 0 "$workers" <two_tiles
-    leaves 'build: the last tile of a slot stands' built journal_of_build
-    begins_as none none
     expect "put: no tiles, $workers workers" 0 nothing '' plainly disk put 3 0 "$workers" <nothing
     leaves 'put: no tiles leave no file' none none
-    begins_as none none
     expect "put: a first tile, $workers workers" 0 put_1 '' plainly disk put 3 0 "$workers" <one_tile
     leaves 'put: a first tile' bundle_1 journal_1
     expect "put: another tile in its slot, $workers workers" 0 put_2 '' plainly disk put 3 1 "$workers" <tile_of_tens
@@ -61,9 +51,6 @@ for workers in 1 2 64; do
     expect "put: two tiles of one slot, $workers workers" 0 put_both '' plainly disk put 3 0 "$workers" <two_tiles
     leaves 'put: two tiles of one slot' put_twice put_twice_journal
 done
-begins_as nothing none
-expect 'build: an empty file' 0 built_1 '' plainly disk build 3 0 1 <two_tiles
-leaves 'build: an empty file' built journal_of_build
 begins_as bundle_0 journal_of_build
 expect 'put: into a bundle without tiles' 0 put_1 '' plainly disk put 3 0 1 <one_tile
 leaves 'put: into a bundle without tiles' bundle_1 journal_1
@@ -74,38 +61,33 @@ leaves 'put: two depths' bundle_deep journal_deep
 begins_as torn open_2
 expect 'put: beside an open journal' 0 put_1 '' plainly disk put 3 0 1 <one_tile
 leaves 'put: beside an open journal' bundle_3 journal_3
-begins_as part_of_build open_build
-expect 'build: beside an open journal of a build' 0 built_1 '' plainly disk build 3 0 1 <two_tiles
-leaves 'build: beside an open journal of a build' built journal_of_build
 begins_as bundle_1 byte_journal
 expect 'put: beside a journal of one byte' 0 put_2 '' plainly disk put 3 1 1 <tile_of_tens
 leaves 'put: beside a journal of one byte' bundle_2 journal_2
 
-# ---- What they refuse
+# ---- What it refuses
 
 # Refuses a stream, with this status and line, and leaves this bundle and this journal.
 stream_refused() {
-    for command in build put; do
-        begins_as "$4" "$5"
-        expect "$command: $1" "$2" nothing "$3" plainly disk "$command" 3 0 1 <"$1"
-        leaves "$command: $1, and the store is as it was" "$4" "$5"
-    done
+    begins_as "$5" "$6"
+    expect "$1: $2" "$3" nothing "$4" plainly disk "$1" 3 0 1 <"$2"
+    leaves "$1: $2, and the store is as it was" "$5" "$6"
 }
 
-stream_refused bad_mark_stream 2 'refused: BadMark at 42' none none
-stream_refused bad_stream 2 'refused: BadTileMark at 22' none none
-stream_refused bad_row_stream 2 'refused: BadSlot at 1' none none
-stream_refused bad_column_stream 2 'refused: BadSlot at 2' none none
-stream_refused short_stream 2 'refused: Truncated at 21' none none
-stream_refused deep_tile 2 'refused: DepthNeedsV4 at 16' none none
-stream_refused one_tile 7 'store: BadBundle at 100 found 100' hundred none
-stream_refused one_tile 7 'store: BadJournal at 8 found 3' appended bad_kind_journal
-stream_refused bad_stream 2 'refused: BadTileMark at 22' hundred bad_kind_journal
+# What both of the commands that write refuse.
+refusals_of() {
+    stream_refused "$1" bad_mark_stream 2 'refused: BadMark at 42' none none
+    stream_refused "$1" bad_stream 2 'refused: BadTileMark at 22' none none
+    stream_refused "$1" bad_row_stream 2 'refused: BadSlot at 1' none none
+    stream_refused "$1" bad_column_stream 2 'refused: BadSlot at 2' none none
+    stream_refused "$1" short_stream 2 'refused: Truncated at 21' none none
+    stream_refused "$1" deep_tile 2 'refused: DepthNeedsV4 at 16' none none
+    stream_refused "$1" one_tile 7 'store: BadBundle at 100 found 100' hundred none
+    stream_refused "$1" one_tile 7 'store: BadJournal at 8 found 3' appended bad_kind_journal
+    stream_refused "$1" bad_stream 2 'refused: BadTileMark at 22' hundred bad_kind_journal
+}
 
-begins_as bundle_1 journal_1
-expect 'build: a bundle that is not empty' 7 nothing 'store: NotEmpty 131206' plainly disk build 3 0 1 <one_tile
-expect 'build: the stream comes first' 2 nothing 'refused: BadSlot at 1' plainly disk build 3 0 1 <bad_row_stream
-leaves 'build: a bundle that is not empty is left' bundle_1 journal_1
+refusals_of put
 
 # Files of nearly 2^40 bytes, almost all of them a hole.
 begins_as bundle_0 none
@@ -122,92 +104,41 @@ fi
 
 # ---- Failures
 
-for command in build put; do
-    expect "$command: no bundle's path" 5 nothing "$no_volume" plainly - "$command" 3 0 1 <one_tile
-    expect "$command: no bundle's path, and a bad stream" 2 nothing 'refused: BadSlot at 1' \
-        plainly - "$command" 3 0 1 <bad_row_stream
-    expect "$command: a folder that is not there" 5 nothing "$no_volume" plainly nowhere/disk "$command" 3 0 1 <one_tile
+# How both of them fail where an object fails.
+failures_of() {
+    expect "$1: no bundle's path" 5 nothing "$no_volume" plainly - "$1" 3 0 1 <one_tile
+    expect "$1: no bundle's path, and a bad stream" 2 nothing 'refused: BadSlot at 1' \
+        plainly - "$1" 3 0 1 <bad_row_stream
+    expect "$1: a folder that is not there" 5 nothing "$no_volume" plainly nowhere/disk "$1" 3 0 1 <one_tile
     rm -rf disk disk.jnl
     mkdir disk
-    expect "$command: a folder in the bundle's place" 5 nothing "$no_volume" plainly disk "$command" 3 0 1 <one_tile
+    expect "$1: a folder in the bundle's place" 5 nothing "$no_volume" plainly disk "$1" 3 0 1 <one_tile
     rm -rf disk
     mkdir disk.jnl
-    expect "$command: a folder in the journal's place" 5 nothing "$no_volume" plainly disk "$command" 3 0 1 <one_tile
+    expect "$1: a folder in the journal's place" 5 nothing "$no_volume" plainly disk "$1" 3 0 1 <one_tile
     begins_as none none
     ln -s /proc/version disk
-    expect "$command: a bundle that cannot be written" 5 nothing "$no_volume" plainly disk "$command" 3 0 1 <one_tile
+    expect "$1: a bundle that cannot be written" 5 nothing "$no_volume" plainly disk "$1" 3 0 1 <one_tile
     begins_as none none
     ln -s /proc/version disk.jnl
-    expect "$command: a journal that cannot be written" 5 nothing "$no_volume" plainly disk "$command" 3 0 1 <one_tile
+    expect "$1: a journal that cannot be written" 5 nothing "$no_volume" plainly disk "$1" 3 0 1 <one_tile
     begins_as none none
-    expect "$command: a closed input" 3 nothing "$no_source" input_closed disk "$command" 3 0 1
-    expect "$command: a folder as the input" 3 nothing "$no_source" plainly disk "$command" 3 0 1 </
-    leaves "$command: after a failed input there is no file" none none
-done
+    expect "$1: a closed input" 3 nothing "$no_source" input_closed disk "$1" 3 0 1
+    expect "$1: a folder as the input" 3 nothing "$no_source" plainly disk "$1" 3 0 1 </
+    leaves "$1: after a failed input there is no file" none none
+}
 
-# An output that fails after an update leaves the update done.
-for way in output_closed output_full; do
+failures_of put
+
+# An output that fails after an update leaves the update done, and takes no more.
+for way in output_closed output_full all_but_input; do
     begins_as none none
-    expect "put: $way" 4 nothing "$no_output" "$way" disk put 3 0 1 <two_tiles
+    case $way in
+        all_but_input) line='' ;;
+        *) line=$no_output ;;
+    esac
+    expect "put: $way" 4 nothing "$line" "$way" disk put 3 0 1 <two_tiles
     leaves "put: $way, and the first tile is put" put_once put_once_journal
-    begins_as none none
-    expect "build: $way" 4 nothing "$no_output" "$way" disk build 3 0 1 <two_tiles
-    leaves "build: $way, and the bundle is built" built journal_of_build
-done
-
-# ---- Tiles of a real size
-
-# Sixteen tiles of 257 by 257 heights, tile t in the slot (t div 4, t mod 4). The pixel in row r and column c is
-# (r * r + 3 * c + 17 * t) mod 1000 - 100, and it is not valid where r + c is below 64.
-pixels() {
-    awk -v t="$1" -v show="$2" 'BEGIN {
-        for (r = 0; r < 257; r++) {
-            for (c = 0; c < 257; c++) {
-                value = (r * r + 3 * c + 17 * t) % 1000 - 100 + 65536
-                if (show == "marks") printf("\\0%d", r + c < 64 ? 0 : 1)
-                else if (r + c >= 64) printf("\\0%o\\0%o", value % 256, int(value / 256) % 256)
-            }
-            print ""
-        }
-    }' | while read -r row; do printf '%b' "$row"; done
-}
-
-# Its three parts: head, marks, values.
-{ printf 'LGR1'; numbers 1 2; numbers 4 257 257 1; } >big_head
-pixels 0 marks >big_marks
-for t in 0 1 2 3 4 5 6 7 8 9 10 11 12 13 14 15; do
-    pixels "$t" values >"big_values_$t"
-    cat big_head big_marks "big_values_$t" >"big_grid_$t"
-    tile $((t / 4)) $((t % 4)) "big_grid_$t"
-done >big_stream
-
-# Whether two files of numbers of two bytes differ by at most 1 at each place.
-is_near() {
-    od -An -v -td2 -w2 "$1" >numbers_1
-    od -An -v -td2 -w2 "$2" >numbers_2
-    paste numbers_1 numbers_2 | awk '{ d = $1 - $2; if (NF != 2 || d > 1 || d < -1) exit 1 }'
-}
-
-for workers in 1 2 7 64; do
-    begins_as none none
-    "$program" disk build 4 1 "$workers" <big_stream >out 2>err
-    [ "$workers" -ne 1 ] || cp disk big_bundle
-    if cmp -s disk big_bundle && [ "$(wc -c <big_stream)" -eq 3104112 ]; then holds=yes; else holds=no; fi
-    count "build: sixteen tiles, $workers workers" "$holds"
-done
-"$program" disk list >rows 2>err
-if [ "$(wc -l <rows)" -eq 16 ]; then holds=yes; else holds=no; fi
-count 'list: sixteen tiles' "$holds"
-for t in 0 1 2 3 4 5 6 7 8 9 10 11 12 13 14 15; do
-    "$program" disk get $((t / 4)) $((t % 4)) >out 2>err
-    head -c 66066 out >marks_given
-    tail -c +66067 out >values_given
-    if cat big_head big_marks | cmp -s - marks_given && is_near values_given "big_values_$t"; then
-        holds=yes
-    else
-        holds=no
-    fi
-    count "get: one of sixteen tiles, $((t / 4)) $((t % 4))" "$holds"
 done
 
 # ---- Many tiles
@@ -288,22 +219,4 @@ for lines in 1 2 3 10 100 1000; do
         show 'standard error' err
     fi
     expect 'put: after that' 0 put_1 '' plainly disk put 3 0 1 <one_tile
-done
-
-# A `build` of all these tiles that is killed leaves all of them, or none.
-for pause in 0.05 0.1 0.15 0.2 0.3 0.5; do
-    begins_as none none
-    "$program" disk build 3 0 4 <many >out 2>err &
-    child=$!
-    sleep "$pause"
-    kill -9 "$child" 2>/dev/null
-    wait "$child" 2>/dev/null
-    "$program" disk recover >word 2>err
-    "$program" disk list >rows 2>err
-    if { cmp -s word closed || cmp -s word emptied; } && { cmp -s rows nothing || cmp -s rows many_rows; }; then
-        holds=yes
-    else
-        holds=no
-    fi
-    count "build: killed after $pause seconds, and recovered" "$holds"
 done
