@@ -16,7 +16,6 @@ failed=0
 . "$here/tests/codec.sh"
 . "$here/tests/bundles.sh"
 . "$here/tests/puts.sh"
-. "$here/tests/builds.sh"
 . "$here/tests/gdal.sh"
 
 echo "$passed passed, $failed failed"
