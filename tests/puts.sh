@@ -141,6 +141,63 @@ for way in output_closed output_full all_but_input; do
     leaves "put: $way, and the first tile is put" put_once put_once_journal
 done
 
+# ---- Tiles of a real size
+
+# Sixteen tiles of 257 by 257 heights, tile t in the slot (t div 4, t mod 4). The pixel in row r and column c is
+# (r * r + 3 * c + 17 * t) mod 1000 - 100, and it is not valid where r + c is below 64.
+pixels() {
+    awk -v t="$1" -v show="$2" 'BEGIN {
+        for (r = 0; r < 257; r++) {
+            for (c = 0; c < 257; c++) {
+                value = (r * r + 3 * c + 17 * t) % 1000 - 100 + 65536
+                if (show == "marks") printf("\\0%d", r + c < 64 ? 0 : 1)
+                else if (r + c >= 64) printf("\\0%o\\0%o", value % 256, int(value / 256) % 256)
+            }
+            print ""
+        }
+    }' | while read -r row; do printf '%b' "$row"; done
+}
+
+# Its three parts: head, marks, values.
+{ printf 'LGR1'; numbers 1 2; numbers 4 257 257 1; } >big_head
+pixels 0 marks >big_marks
+for t in 0 1 2 3 4 5 6 7 8 9 10 11 12 13 14 15; do
+    pixels "$t" values >"big_values_$t"
+    cat big_head big_marks "big_values_$t" >"big_grid_$t"
+    tile $((t / 4)) $((t % 4)) "big_grid_$t"
+done >big_stream
+
+# Whether two files of numbers of two bytes differ by at most 1 at each place.
+is_near() {
+    od -An -v -td2 -w2 "$1" >numbers_1
+    od -An -v -td2 -w2 "$2" >numbers_2
+    paste numbers_1 numbers_2 | awk '{ d = $1 - $2; if (NF != 2 || d > 1 || d < -1) exit 1 }'
+}
+
+# That the store has these tiles, each pixel with its mark, and each valid one within 1 of its height.
+has_sixteen_tiles() {
+    "$program" disk list >rows 2>err
+    if [ "$(wc -l <rows)" -eq 16 ]; then holds=yes; else holds=no; fi
+    count "$1: sixteen tiles are listed" "$holds"
+    for t in 0 1 2 3 4 5 6 7 8 9 10 11 12 13 14 15; do
+        "$program" disk get $((t / 4)) $((t % 4)) >out 2>err
+        head -c 66066 out >marks_given
+        tail -c +66067 out >values_given
+        if cat big_head big_marks | cmp -s - marks_given && is_near values_given "big_values_$t"; then
+            holds=yes
+        else
+            holds=no
+        fi
+        count "$1: one of sixteen tiles, $((t / 4)) $((t % 4))" "$holds"
+    done
+}
+
+begins_as none none
+"$program" disk put 4 1 2 <big_stream >out 2>err
+if [ "$(wc -c <big_stream)" -eq 3104112 ] && [ "$(wc -l <out)" -eq 16 ]; then holds=yes; else holds=no; fi
+count 'put: sixteen tiles' "$holds"
+has_sixteen_tiles put
+
 # ---- Many tiles
 
 # A stream of this many tiles of one pixel, in the order of the slots, and the lines of its updates and of its
