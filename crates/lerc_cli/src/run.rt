@@ -124,23 +124,25 @@ fn ended_status<E: Sink>(ended: Result<(), Stop>, err: &mut E) -> u8
 /// Does all that the program does: finds the command of the words, does it, and answers the status
 /// that the program ends with.
 ///
-/// The commands so far are `encode`, `decode` and `info`. `encode` reads one grid, and gives the
-/// blob that is chosen for its raster; it refuses a raster of more than one depth in version 3. The
-/// others read one whole blob; then `decode` gives its grid, and `info` the fourteen lines of what
-/// it says of itself.
+/// `encode` reads one grid, and gives the blob that is chosen for its raster; it refuses a raster of
+/// more than one depth in version 3. `decode` and `info` read one whole blob; then `decode` gives
+/// its grid, and `info` the fourteen lines of what it says of itself. `put` reads tiles, and puts
+/// the blob of each into its slot of the bundle. `get`, `list` and `check` tell of the bundle, and
+/// `recover` of what a crash had left; these and `put` first make that whole.
 ///
 /// | status | it comes |
 /// |---|---|
-/// | 0 | where the input is what the command reads; the output has gained what it gives |
+/// | 0 | where the input and the bundle are what it reads; the output has gained what it gives |
 /// | 1 | exactly where the words are no command; nothing is taken and nothing is given |
-/// | 2 | where the input is not that, or has bytes behind it; the line tells its first fault |
+/// | 2 | where the input, or the tile asked for, is not that; the line tells its first fault |
 /// | 3 | exactly where the source failed |
 /// | 4 | exactly where the output failed, which has then gained a prefix of what it was to gain |
-/// | 5 | exactly where the volume failed, which none calls |
+/// | 5 | exactly where the volume failed |
 /// | 6 | where memory was refused; `decode` and `info` want it only behind a lawful header |
+/// | 7 | where the store refuses; the line tells its first refusal |
 ///
-/// On a status other than 0 one line is given to `err`. The faults of `err` change nothing. There
-/// are no marks.
+/// On a status other than 0 one line is given to `err`. The faults of `err` change nothing. Each
+/// tile that a `put` was told is there has a mark, the moment of that; nothing else has one.
 pub fn run<S: Source, K: Sink, E: Sink, V: Volume>(
     alloc: Global,
     words: &[Word],
