@@ -1,14 +1,14 @@
 // Encoding and decoding by Futskheri and by Esri's library, in turn, of rasters that a generator makes. Prints a
-// table: for each raster and each library megabytes of raster a second (10^6 bytes, the best round), how much
-// faster Futskheri is, and the blob's size. Each library decodes the other's blob too, to the same values and
+// table: for each raster and each library megabytes of raster a second of processor time (10^6 bytes, the best
+// round), how much faster Futskheri is, and the blob's size. Each library decodes the other's blob too, to the same values and
 // mask; where it does not, or a value is further off than the error, the program ends with 1.
 #include "futskheri.h"
 #include <Lerc_c_api.h>
-#include <chrono>
 #include <cstdio>
 #include <cstdlib>
-#include <cstring>
+#include <ctime>
 #include <string>
+#include <algorithm>
 #include <vector>
 
 namespace {
@@ -178,8 +178,11 @@ void compare(const Raster &given, const Raster &bits, const Raster &bytes, uint3
     }
 }
 
-double seconds_of(std::chrono::steady_clock::time_point from) {
-    return std::chrono::duration<double>(std::chrono::steady_clock::now() - from).count();
+// The processor time of this program so far. Both libraries work in the calling thread.
+double seconds() {
+    timespec now;
+    clock_gettime(CLOCK_PROCESS_CPUTIME_ID, &now);
+    return double(now.tv_sec) + double(now.tv_nsec) / 1e9;
 }
 
 // Both libraries decode a blob, to the same values.
@@ -194,14 +197,14 @@ template <class Encode, class Decode>
 void one_round(const Case &c, Encode encode, Decode decode, Bytes &room, std::vector<Raster> &back, Times &best,
                std::vector<Bytes> &blobs) {
     blobs.clear();
-    auto start = std::chrono::steady_clock::now();
+    double start = seconds();
     for (const Raster &r : c.rasters)
         blobs.push_back(encode(r, c.error, room));
-    best.encode = std::min(best.encode, seconds_of(start));
-    start = std::chrono::steady_clock::now();
+    best.encode = std::min(best.encode, seconds() - start);
+    start = seconds();
     for (size_t k = 0; k < back.size(); k++)
         decode(blobs[k], back[k]);
-    best.decode = std::min(best.decode, seconds_of(start));
+    best.decode = std::min(best.decode, seconds() - start);
 }
 
 size_t total(const std::vector<Bytes> &blobs) {

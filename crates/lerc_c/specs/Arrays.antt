@@ -2,14 +2,14 @@
 use Rattle.std.specs.Prelude.{◌≡◌, ℕ, ◌+◌, ◌*◌, ◌/◌, ◌<◌, ◌≤◌, Bool, true, List, length, get_or, drop, ◌++◌, is_some, None, nat_eq, if◌then◌else◌}
 use Rattle.raster_values.specs.declared.kind.PixelType.{PixelType}
 use Rattle.raster_values.specs.PixelType.{bytes_of, code_of, Spells}
-use Rattle.raster_values.specs.Raster.{Pixels, IsRaster}
+use Rattle.raster_values.specs.Raster.{Pixels, IsRaster, HasZero, IsTooLarge}
 use Rattle.raster_values.specs.Grid.{values_bytes}
 use Rattle.raster_values.specs.Flat.{all_values, value_in}
 use Rattle.raster_values.specs.Order.{mask_bit, IsMaskOf}
 use Rattle.lerc_header.specs.declared.header.Version.{Version}
 use Rattle.lerc_header.specs.Head.{number_of}
 use Rattle.lerc_grammar.specs.Verdict.{IsDone}
-use Rattle.lerc_encode.specs.Encoded.{IsEncodedOnce}
+use Rattle.lerc_encode.specs.Encoded.{IsEncodedOnce, NeedsV4}
 use Rattle.lerc_encode.specs.Choice.{choice}
 
 -- ---- how long the arrays are
@@ -67,8 +67,14 @@ pub record GivesSizes (kind : PixelType) (rows cols depth values mask : ℕ) : T
   pub values_is : values ≡ values_size kind rows cols depth
   pub mask_is : (mask ≡ 0 → ⊥) → mask ≡ mask_size rows cols
 
--- the blob that is chosen for a raster, which is one of exactly one raster near it
+-- there are rasters of the shape
+abbrev pub IsAllowed : ℕ → ℕ → ℕ → Type 0
+IsAllowed rows cols depth = (¬ HasZero rows cols depth) × (¬ IsTooLarge rows cols depth)
+
+-- the blob that is chosen for a raster, which has a place in the version: a blob of exactly one
+-- raster near it
 pub record IsBlobOf (blob : List ℕ) (r : Pixels) (version : Version) (step : ℕ) : Type 0 where
+  pub fits : ¬ NeedsV4 version r
   pub chosen : blob ≡ choice r version step
   pub once : IsEncodedOnce blob r step
 
@@ -76,6 +82,7 @@ pub record IsBlobOf (blob : List ℕ) (r : Pixels) (version : Version) (step : �
 pub record HasBlob (kind : PixelType) (rows cols depth : ℕ) (values mask : List ℕ)
     (version : Version) (step size : ℕ) (blob : List ℕ) : Type 0 where
   pub raster : Pixels
+  pub sizes : GivesSizes kind rows cols depth (length values) (length mask)
   pub given : IsGiven kind rows cols depth values mask raster
   pub blob_of : IsBlobOf blob raster version step
   pub size_is : size ≡ length blob

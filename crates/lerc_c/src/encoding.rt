@@ -1,13 +1,13 @@
 //! Arrays encoded into a blob.
 
-ghost use Rattle.std.specs.Prelude.{◌≡◌, ◌↔◌, [], IfOk, IfErr, IsErrOf, OnErr, IsTrue, length};
-ghost use Rattle.raster_values.specs.Raster.{IsRaster, blank, HasZero, IsTooLarge};
+ghost use Rattle.std.specs.Prelude.{◌≡◌, ◌↔◌, [], IfOk, IfErr, OnOk, OnErr, IsTrue, length};
+ghost use Rattle.raster_values.specs.Raster.{IsRaster, blank};
 ghost use Rattle.raster_values.specs.Flat.{PutsAll};
 ghost use Rattle.lerc_header.specs.declared.header.Version.TheVariants.{V3};
 ghost use Rattle.lerc_header.specs.Head.{number_of};
 ghost use Rattle.lerc_header.specs.Written.{step_of};
 ghost use Rattle.raster_values.specs.PixelType.{code_of};
-ghost use Rattle.lerc_c.specs.Arrays.{GivesSizes, IsBlobOf, IsGiven, IsEncoded, values_size, mask_size};
+ghost use Rattle.lerc_c.specs.Arrays.{GivesSizes, IsAllowed, IsBlobOf, IsGiven, IsEncoded, values_size, mask_size};
 ghost use Rattle.lerc_c.specs.inside.Stops.{IsBlankStop, IsGivenStop, IsBlobStop, IsWriteStop, IsWritten, IsEncodeStop};
 ghost use Rattle.lerc_c.specs.inside.Marked.{IsMarked};
 
@@ -60,10 +60,8 @@ fn blank_raster(
     depth: u32,
 ) -> Result<Raster, EncodeStop>
     ensures ok { IfOk result (λ r. r ≡ blank kind rows cols depth) }
-    ensures bad_shape { IsErrOf result EncodeStop.BadShape ↔ HasZero rows cols depth }
-    ensures too_large { IsErrOf result EncodeStop.TooLarge
-        ↔ (¬ HasZero rows cols depth × IsTooLarge rows cols depth) }
-    ensures stop { IfErr result (λ stop. IsBlankStop stop) }
+    ensures allowed { OnOk result (IsAllowed rows cols depth) }
+    ensures stop { IfErr result (λ stop. IsBlankStop rows cols depth stop) }
 {
     match Raster::new(alloc, kind, rows, cols, depth) {
         Ok(raster) => Ok(raster),
@@ -163,6 +161,9 @@ fn given(
     mask: &[u8],
 ) -> Result<Raster, EncodeStop>
     ensures ok { IfOk result (λ r. IsGiven kind rows cols depth values.now mask.now r) }
+    ensures allowed { OnOk result (IsAllowed rows cols depth) }
+    ensures sizes { OnOk result
+        (GivesSizes kind rows cols depth (length values.now) (length mask.now)) }
     ensures stop { IfErr result (λ stop.
         IsGivenStop kind rows cols depth (length values.now) (length mask.now) stop) }
 {

@@ -26,7 +26,7 @@ ghost use Rattle.lerc_header.specs.HeadFaults.{header_faults};
 ghost use Rattle.lerc_header.specs.Written.{step_of};
 ghost use Rattle.lerc_decode.specs.Decoding.{HasHeader};
 ghost use Rattle.lerc_c.specs.Told.{reason_number, TellsFault, TellsHead, TellsRefusal};
-ghost use Rattle.lerc_c.specs.Arrays.{AreNamed, GivesSizes, IsDecoded, IsEncoded, IsMisfit, IsTooLong, WithKind, WithVersion};
+ghost use Rattle.lerc_c.specs.Arrays.{AreNamed, IsAllowed, GivesSizes, IsDecoded, IsEncoded, IsMisfit, IsTooLong, WithKind, WithVersion};
 ghost use Rattle.lerc_c.specs.Names.{name_at, reason_name};
 
 use decoding::{DecodeStop, decode_into};
@@ -160,12 +160,15 @@ pub extern "C" fn futskheri_encode(
     ensures no_room { result ≡ 9 → WithKind kind (λ k. WithVersion version (λ v. IsTooLong
         k rows cols depth values.now mask.now v (step_of error) size.new (length out.old))) }
     ensures bad_kind { result ≡ 4 → (k : PixelType) → kind ≢ code_of k }
-    ensures bad_version { result ≡ 5 → (v : Version) → version ≢ number_of v }
+    ensures bad_version { result ≡ 5 → WithKind kind (λ _. (v : Version) → version ≢ number_of v) }
     ensures bad_shape { result ≡ 6 → HasZero rows cols depth }
     ensures too_large { result ≡ 7 → ¬ HasZero rows cols depth × IsTooLarge rows cols depth }
-    ensures sizes { result ≡ 3 → WithKind kind (λ k.
+    ensures sizes { result ≡ 3 → IsAllowed rows cols depth × WithKind kind (λ k.
         ¬ GivesSizes k rows cols depth (length values.now) (length mask.now)) }
-    ensures deep { result ≡ 8 → (version ≡ 3) × (1 < depth) }
+    ensures deep { result ≡ 8 → IsAllowed rows cols depth × (WithKind kind (λ k.
+        GivesSizes k rows cols depth (length values.now) (length mask.now))
+        × ((version ≡ 3) × (1 < depth))) }
+    ensures memory { result ≡ 2 → IsAllowed rows cols depth }
     ensures named { result ≢ 4 → result ≢ 5 → AreNamed kind version }
     ensures kept { result ≢ 0 → out.new ≡ out.old }
     ensures size_kept { result ≢ 0 → result ≢ 9 → size.new ≡ size.old }

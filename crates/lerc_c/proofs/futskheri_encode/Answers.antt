@@ -1,6 +1,7 @@
-use Rattle.std.proofs.Common.{◌≡◌, ◌<◌, refl, ap, ◌∙◌}
+use Rattle.std.proofs.Common.{◌≡◌, ◌<◌, length, refl, ap, ◌∙◌}
 use Rattle.lerc_header.specs.declared.header.Version.TheVariants.{V3}
 use Rattle.lerc_header.specs.Head.{number_of}
+use Rattle.lerc_c.specs.Arrays.{IsAllowed, GivesSizes}
 use Rattle.lerc_c.proofs.futskheri_encode.Goals as goal
 
 pub returns-in-Ok-clause-named : goal.returns-in-Ok-clause-named
@@ -11,5 +12,7 @@ returns-in-Ok-clause-named c = λ _ _. (
 
 pub returns-in-Err-DepthNeedsV4-clause-deep : goal.returns-in-Err-DepthNeedsV4-clause-deep
 returns-in-Err-DepthNeedsV4-clause-deep c = λ _.
-    let told : (c.in-Some-version_of.version ≡ V3) × (1 < c.args.depth) = rw c.in-Err-DepthNeedsV4.field-0-is at c.in-Err-DepthNeedsV4.ensures.stop in
-    ((c.in-Some-version_of.ensures c.in-Some-version_of.version).0 refl ∙ ap number_of told.0, told.1)
+    let told : IsAllowed c.args.rows c.args.cols c.args.depth
+    × (GivesSizes c.in-Some.kind c.args.rows c.args.cols c.args.depth (length c.args.values.now) (length c.args.mask.now) × ((c.in-Some-version_of.version ≡ V3) × (1 < c.args.depth)))
+    = rw c.in-Err-DepthNeedsV4.field-0-is at c.in-Err-DepthNeedsV4.ensures.stop in
+    (told.0, ((c.in-Some.kind, ((c.in-Some.ensures c.in-Some.kind).0 refl, told.1.0)), ((c.in-Some-version_of.ensures c.in-Some-version_of.version).0 refl ∙ ap number_of told.1.1.0, told.1.1.1)))

@@ -12,7 +12,7 @@ use Rattle.lerc_c.specs.declared.decoding.DecodeStop.TheVariants.{Refused, OutOf
 use Rattle.lerc_c.specs.declared.encoding.EncodeStop.{EncodeStop}
 use Rattle.lerc_c.specs.declared.encoding.EncodeStop.TheVariants.{BadSizes, BadShape, TooLarge, DepthNeedsV4, NoRoom, OutOfMemory as OutOfRoom}
 use Rattle.lerc_c.specs.Told.{IsRefused}
-use Rattle.lerc_c.specs.Arrays.{IsMisfit, GivesSizes, IsBlobOf, IsTooLong}
+use Rattle.lerc_c.specs.Arrays.{IsAllowed, IsMisfit, GivesSizes, IsBlobOf, IsTooLong}
 
 abbrev pub IsRasterStop : List ℕ → DecodeFault → Type 0
 IsRasterStop bytes (Blob f) = IsRefused bytes f.place f.reason
@@ -23,16 +23,12 @@ IsArrayStop bytes values mask (Refused f) = IsRefused bytes f.place f.reason
 IsArrayStop bytes values mask OutOfMemory = HasHeader bytes
 IsArrayStop bytes values mask Sizes = IsMisfit bytes values mask
 
--- the shape is one of a raster
-abbrev pub IsAllowed : ℕ → ℕ → ℕ → Type 0
-IsAllowed rows cols depth = (¬ HasZero rows cols depth) × (¬ IsTooLarge rows cols depth)
-
--- the only stops of a raster with no valid pixel
-abbrev pub IsBlankStop : EncodeStop → Type 0
-IsBlankStop BadShape = Unit {0}
-IsBlankStop TooLarge = Unit {0}
-IsBlankStop OutOfRoom = Unit {0}
-IsBlankStop _ = ⊥
+-- why there is no raster of a shape
+abbrev pub IsBlankStop : ℕ → ℕ → ℕ → EncodeStop → Type 0
+IsBlankStop rows cols depth BadShape = HasZero rows cols depth
+IsBlankStop rows cols depth TooLarge = (¬ HasZero rows cols depth) × IsTooLarge rows cols depth
+IsBlankStop rows cols depth OutOfRoom = IsAllowed rows cols depth
+IsBlankStop rows cols depth _ = ⊥
 
 abbrev pub IsGivenStop : PixelType → ℕ → ℕ → ℕ → ℕ → ℕ → EncodeStop → Type 0
 IsGivenStop kind rows cols depth values mask BadShape = HasZero rows cols depth
@@ -40,7 +36,7 @@ IsGivenStop kind rows cols depth values mask TooLarge =
     (¬ HasZero rows cols depth) × IsTooLarge rows cols depth
 IsGivenStop kind rows cols depth values mask BadSizes =
     IsAllowed rows cols depth × (¬ GivesSizes kind rows cols depth values mask)
-IsGivenStop kind rows cols depth values mask OutOfRoom = Unit {0}
+IsGivenStop kind rows cols depth values mask OutOfRoom = IsAllowed rows cols depth
 IsGivenStop kind rows cols depth values mask _ = ⊥
 
 abbrev pub IsBlobStop : ℕ → Version → EncodeStop → Type 0
@@ -77,7 +73,9 @@ IsEncodeStop kind rows cols depth values mask version step room TooLarge =
 IsEncodeStop kind rows cols depth values mask version step room BadSizes =
     IsAllowed rows cols depth × (¬ GivesSizes kind rows cols depth (length values) (length mask))
 IsEncodeStop kind rows cols depth values mask version step room DepthNeedsV4 =
-    (version ≡ V3) × (1 < depth)
-IsEncodeStop kind rows cols depth values mask version step room OutOfRoom = Unit {0}
+    IsAllowed rows cols depth
+    × (GivesSizes kind rows cols depth (length values) (length mask) × ((version ≡ V3) × (1 < depth)))
+IsEncodeStop kind rows cols depth values mask version step room OutOfRoom =
+    IsAllowed rows cols depth
 IsEncodeStop kind rows cols depth values mask version step room (NoRoom size) =
     IsTooLong kind rows cols depth values mask version step size room
