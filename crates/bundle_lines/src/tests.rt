@@ -3,9 +3,7 @@
 ghost use Rattle.std.specs.Prelude.{IsTrue};
 ghost use Rattle.bundle_store.specs.Build.{EachFits};
 
-use crate::{
-    LineStop, PutStop, check_all, give_built, give_recovery, give_report, list_all, put_all,
-};
+use crate::{LineStop, PutStop, give_built, give_recovery, give_report, list_all, put_all};
 use bundle_index::Slot;
 use bundle_store::{CheckReport, Recovery, Session, TileRec, recover};
 use outside_io::{Bytes, Marks, MemSink, MemVolume, Pick, Piece, Sink, Start, VolFile, Volume};
@@ -99,16 +97,6 @@ fn list<V: Volume, K: Sink>(
     Ok(list_all(&session, vol, out))
 }
 
-/// How a check ends.
-fn check<V: Volume, K: Sink>(
-    alloc: Global,
-    vol: &mut V,
-    out: &mut K,
-) -> Result<Result<(), LineStop>, Fail> {
-    let session = Session::open(alloc, vol).ok().ok_or("open")?;
-    Ok(check_all(&session, vol, out))
-}
-
 /// The small tile for the first slot, and the large one for the last.
 fn two_tiles(alloc: Global) -> Result<Vec<TileRec>, Fail> {
     let mut tiles = Vec::new(alloc);
@@ -132,21 +120,12 @@ fn two_puts_have_their_marks_and_lines(rt: HostRuntime) -> Result<(), Fail> {
         return Err("marks".into());
     }
     assert!(rt; marks.at(0) < marks.at(1) && marks.at(1) == vol.moment());
-
-    let mut out = sink(alloc, 100)?;
-    assert_eq!(rt; list(alloc, &mut vol, &mut out)?, Ok(()));
-    assert_eq!(rt;
-        out.held(),
-        b"0 0 131140 66\n127 127 131210 72\n".as_slice()
-    );
-    let report = b"tiles 2\nbytes 138\nbad 0\n".as_slice();
-    for (room, end) in [(24, Ok(())), (23, Err(LineStop::Output))] {
-        let mut out = sink(alloc, room)?;
-        assert_eq!(rt; check(alloc, &mut vol, &mut out)?, end);
-        assert_eq!(rt; out.held(), &report[..room]);
-    }
     Ok(())
 }
+
+const LISTED_ONE: &[u8] = b"0 0 131140 66\n";
+
+const LISTED_TWO: &[u8] = b"0 0 131140 66\n127 127 131210 72\n";
 
 /// The length of the tile of a row and a column once the image is recovered, 0 for none.
 fn recovered_len(
@@ -233,21 +212,33 @@ fn a_volume_that_fails_leaves_the_lines_of_the_marks(rt: HostRuntime) -> Result<
     Ok(())
 }
 
+/// Whether puts of two tiles fail at an output of so many bytes, which then has these lines, and
+/// leave a bundle with this listing.
+fn output_fails(alloc: Global, room: usize, lines: &[u8], listing: &[u8]) -> Result<bool, Fail> {
+    let tiles = two_tiles(alloc)?;
+    let mut vol = empty_volume(alloc)?;
+    let mut out = sink(alloc, room)?;
+    let end = put(alloc, &mut vol, &mut out, &tiles)?.0;
+    let mut listed = sink(alloc, 100)?;
+    let listed_end = list(alloc, &mut vol, &mut listed)?;
+    Ok(
+        end == Err(PutStop::Output)
+            && out.held() == lines
+            && listed_end == Ok(())
+            && listed.held() == listing,
+    )
+}
+
 #[test]
 fn an_output_that_fails_leaves_its_update(rt: HostRuntime) -> Result<(), Fail> {
     let alloc = rt.alloc();
-    let tiles = two_tiles(alloc)?;
-    for (room, done) in [(0, 1), (10, 1), (11, 2), (25, 2)] {
-        let mut vol = empty_volume(alloc)?;
-        let mut out = sink(alloc, room)?;
-        let (end, marks) = put(alloc, &mut vol, &mut out, &tiles)?;
-        assert_eq!(rt; end, Err(PutStop::Output), "of {room}");
-        assert_eq!(rt; marks.len(), done, "of {room}");
-        assert_eq!(rt; out.held(), &TWO_PUTS[..room], "of {room}");
-        let mut listing = sink(alloc, 100)?;
-        assert_eq!(rt; list(alloc, &mut vol, &mut listing)?, Ok(()));
-        let lines = b"0 0 131140 66\n127 127 131210 72\n".as_slice();
-        assert_eq!(rt; listing.held(), &lines[..if done == 1 { 14 } else { 32 }]);
+    for (room, lines, listing) in [
+        (0, b"".as_slice(), LISTED_ONE),
+        (10, b"put 0 0 66", LISTED_ONE),
+        (11, b"put 0 0 66\n", LISTED_TWO),
+        (25, b"put 0 0 66\nput 127 127 72", LISTED_TWO),
+    ] {
+        assert!(rt; output_fails(alloc, room, lines, listing)?, "of {room}");
     }
     Ok(())
 }
