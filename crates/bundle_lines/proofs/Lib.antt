@@ -1,4 +1,4 @@
 pub mod Marked
-pub mod Ended
-pub mod Stepping
-pub mod Listed
+mod Ended
+mod Stepping
+mod Listed

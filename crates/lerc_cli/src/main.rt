@@ -3,9 +3,10 @@
 //!
 //! It stands on `lerc_decode`, `lerc_encode` and the layers below them. What it does is `run`,
 //! whose contract is the program's: over any words, any input, however it is cut into pieces, and
-//! objects that fail at any call, a grid is encoded exactly where the input is one, a blob is decoded, or
-//! told of, exactly where the input is one, and nothing else is given. `serve` reads the words and
-//! calls it, and `main` makes the objects over the machine.
+//! objects that fail at any call, a grid is encoded exactly where the input is one, a blob is
+//! decoded, or told of, exactly where the input is one, tiles are put into a bundle and got from it,
+//! so that at each moment a crash leaves a whole one, and nothing else is given. `serve` reads the
+//! words and calls it, and `main` makes the objects over the machine.
 #![tactic(auto)]
 
 mod arguments;
@@ -26,10 +27,14 @@ mod info_tests;
 mod keeping;
 mod laws;
 mod lines;
+mod numbers;
 mod opening;
 mod outline_lines;
 mod paths;
 mod program;
+mod put;
+#[cfg(test)]
+mod put_tests;
 mod reading;
 mod run;
 mod stop;
@@ -39,6 +44,7 @@ mod tile;
 
 use arguments::ProcessArguments;
 use lines::tell;
+use numbers::hold_numbers;
 use outside_io::{FileVolume, NoVolume, StdSink, StdSource};
 use paths::bundle_paths;
 use program::{exit_code, serve};
@@ -47,6 +53,7 @@ use stop::Stop;
 
 fn main(rt: HostRuntime) -> ExitCode {
     let alloc = rt.alloc();
+    let _held = hold_numbers(&rt);
     let args = ProcessArguments::new(&rt);
     let mut src = StdSource::new(rt.stdin());
     let mut out = StdSink::new(rt.stdout());

@@ -6,13 +6,14 @@ ghost use Rattle.lerc_cli.specs.declared.command.Command.{Command};
 ghost use Rattle.lerc_cli.specs.declared.stop.Stop.{Stop};
 ghost use Rattle.lerc_cli.specs.Answer.{IsBlob, IsOutput, Tells};
 ghost use Rattle.bundle_store.specs.Tiles.{TileMap};
-ghost use Rattle.lerc_cli.specs.Tiles.{IsReady, KeepsTiles};
+ghost use Rattle.lerc_cli.specs.Tiles.{IsReady, KeepsTiles, UpdatesAt};
+ghost use Rattle.bundle_store.specs.declared.tile_rec.TileRec.{TileRec};
 ghost use Rattle.lerc_cli.specs.Command.{IsSpelled, IsNoCommand};
 ghost use Rattle.outside_io.specs.program.Line.{GivesLine};
 ghost use Rattle.outside_io.specs.streams.Faults.{IsCause};
 ghost use Rattle.lerc_cli.specs.Run.{OfSource, OfOutput, OfVolume, OfRun, GivesLineOf, files_of, given};
 ghost use Rattle.lerc_cli.specs.Run.{GivesBlob, GivesGrid, GivesGridPrefix, GivesLines, IsGridFor, TellsFault, ToldHead};
-ghost use Rattle.lerc_cli.specs.Stop.{status_of, status_at, line_of};
+ghost use Rattle.lerc_cli.specs.Stop.{End, status_of, status_at, line_of};
 
 use crate::bundle::{check, list, recover};
 use crate::command::{Command, command_of};
@@ -21,6 +22,7 @@ use crate::encode::encode;
 use crate::get::{get, get_raw};
 use crate::info::info;
 use crate::lines::tell;
+use crate::put::put;
 use crate::stop::Stop;
 use outside_io::{Marks, Report, Sink, Source, Volume, Word};
 use std::alloc::Global;
@@ -41,7 +43,9 @@ fn perform<S: Source, K: Sink, V: Volume>(
         (given (S.left src.old) (files_of (V.told vol.old) (V.history vol.old)))
         (length marks.new.marks) result (out.new ≡ out.old)
         (K.held out.old) (K.held out.new) (K.faults out.old) (K.faults out.new) }
-    ensures volume { OfVolume command result (vol.new ≡ vol.old) marks.new.marks
+    ensures volume { OfVolume command
+        (given (S.left src.old) (files_of (V.told vol.old) (V.history vol.old)))
+        result (vol.new ≡ vol.old) marks.new.marks
         (V.told vol.old) (V.told vol.new) (V.history vol.old) (V.history vol.new)
         (V.faults vol.old) (V.faults vol.new) }
     ensures blob { (version : Version) (error : ℕ) → command ≡ Command.Encode version error
@@ -52,6 +56,7 @@ fn perform<S: Source, K: Sink, V: Volume>(
         Command::Encode { version, error } => encode(alloc, version, error, src, out),
         Command::Decode => decode(alloc, src, out),
         Command::Info => info(alloc, src, out),
+        Command::Put { version, error, .. } => put(alloc, version, error, src, out, vol, marks),
         Command::Get { slot } => get(alloc, slot, out, vol),
         Command::GetRaw { slot } => get_raw(alloc, slot, out, vol),
         Command::List => list(alloc, out, vol),
@@ -87,7 +92,8 @@ fn act<S: Source, K: Sink, V: Volume>(
         (length marks.new.marks) result (out.new ≡ out.old)
         (K.held out.old) (K.held out.new) (K.faults out.old) (K.faults out.new) }
     ensures volume { (c : Command) → IsSpelled c words.now
-        → OfVolume c result (vol.new ≡ vol.old) marks.new.marks
+        → OfVolume c (given (S.left src.old) (files_of (V.told vol.old) (V.history vol.old)))
+        result (vol.new ≡ vol.old) marks.new.marks
         (V.told vol.old) (V.told vol.new) (V.history vol.old) (V.history vol.new)
         (V.faults vol.old) (V.faults vol.new) }
     ensures blob { (version : Version) (error : ℕ)
@@ -118,23 +124,25 @@ fn ended_status<E: Sink>(ended: Result<(), Stop>, err: &mut E) -> u8
 /// Does all that the program does: finds the command of the words, does it, and answers the status
 /// that the program ends with.
 ///
-/// The commands so far are `encode`, `decode` and `info`. `encode` reads one grid, and gives the
-/// blob that is chosen for its raster; it refuses a raster of more than one depth in version 3. The
-/// others read one whole blob; then `decode` gives its grid, and `info` the fourteen lines of what
-/// it says of itself.
+/// `encode` reads one grid, and gives the blob that is chosen for its raster; it refuses a raster of
+/// more than one depth in version 3. `decode` and `info` read one whole blob; then `decode` gives
+/// its grid, and `info` the fourteen lines of what it says of itself. `put` reads tiles, and puts
+/// the blob of each into its slot of the bundle. `get`, `list` and `check` tell of the bundle, and
+/// `recover` of what a crash had left; these and `put` first make that whole.
 ///
 /// | status | it comes |
 /// |---|---|
-/// | 0 | where the input is what the command reads; the output has gained what it gives |
+/// | 0 | where the input and the bundle are what it reads; the output has gained what it gives |
 /// | 1 | exactly where the words are no command; nothing is taken and nothing is given |
-/// | 2 | where the input is not that, or has bytes behind it; the line tells its first fault |
+/// | 2 | where the input, or the tile asked for, is not that; the line tells its first fault |
 /// | 3 | exactly where the source failed |
 /// | 4 | exactly where the output failed, which has then gained a prefix of what it was to gain |
-/// | 5 | exactly where the volume failed, which none calls |
+/// | 5 | exactly where the volume failed |
 /// | 6 | where memory was refused; `decode` and `info` want it only behind a lawful header |
+/// | 7 | where the store refuses; the line tells its first refusal |
 ///
-/// On a status other than 0 one line is given to `err`. The faults of `err` change nothing. There
-/// are no marks.
+/// On a status other than 0 one line is given to `err`. The faults of `err` change nothing. Each
+/// tile that a `put` was told is there has a mark, the moment of that; nothing else has one.
 pub fn run<S: Source, K: Sink, E: Sink, V: Volume>(
     alloc: Global,
     words: &[Word],
@@ -173,11 +181,15 @@ pub fn run<S: Source, K: Sink, E: Sink, V: Volume>(
         → result.status ≢ 3 → result.status ≢ 4 → result.status ≢ 5 → result.status ≢ 6
         → (result.status ≡ 0) × Holds (K.held out.old) (K.held out.new) output }
 
-    // At each moment of the run each image that a crash may leave stands for the tiles that stood as
-    // it began.
+    // At each moment of the run each image that a crash may leave is sound. It stands for the tiles
+    // that stood as the run began; for `put`, with the first few of its updates done, at least those
+    // that have a mark by then, and at most one more.
     ensures kept { (c : Command) → IsSpelled c words.now → (start : TileMap)
         → IsReady (V.told vol.old) (V.history vol.old) start
-        → KeepsTiles start (V.history vol.old) (V.history vol.new) }
+        → (updates : List TileRec) × ((end : End) × ((result.status ≡ status_at end)
+        × UpdatesAt c
+        (given (S.left src.old) (files_of (V.told vol.old) (V.history vol.old))) end updates
+        × KeepsTiles c updates result.marks.marks start (V.history vol.old) (V.history vol.new))) }
 
     // One line tells of each stop.
     ensures no_other_status { (result.status ≡ 0)
