@@ -266,5 +266,19 @@ for way in output_closed output_full; do
     expect "recover: $way" 4 nothing "$no_output" "$way" disk recover
     leaves "recover: $way, and it is recovered" bundle_2 journal_2
 done
-begins_as hundred none
-expect 'list: no bundle, error_full' 7 nothing '' error_full disk list
+
+# What a closed stream was to have does not go into a file of the store.
+for way in error_full error_closed all_closed; do
+    begins_as bundle_2 journal_2
+    expect "get: no tile, $way" 7 nothing '' "$way" disk get 0 0
+    leaves "get: no tile, $way, and the store is as it was" bundle_2 journal_2
+    begins_as hundred none
+    expect "list: no bundle, $way" 7 nothing '' "$way" disk list
+    leaves "list: no bundle, $way, and the file is as it was" hundred none
+    begins_as bundle_2 bad_kind_journal
+    expect "recover: no journal, $way" 7 nothing '' "$way" disk recover
+    leaves "recover: no journal, $way, and the store is as it was" bundle_2 bad_kind_journal
+done
+begins_as torn open_2
+expect 'list: all_closed' 4 nothing '' all_closed disk list
+leaves 'list: all_closed, and it is recovered' bundle_2 journal_2

@@ -45,9 +45,7 @@ else
 </CacheInfo>
 CONF
     tiles=cache/_alllayers/L00/R0000C0000.bundle
-    "$program" - encode 3 0 <columns_grid >columns_blob 2>err
-    size=$(wc -c <columns_blob)
-    { header "$size" 0 $((131140 + size)); index 72 131140 "$size"; record columns_blob; } >"$tiles"
+    tile 0 1 columns_grid | "$program" "$tiles" put 3 0 1 >out 2>err
     if [ "$(gdal_size cache/conf.xml)" = '512, 512' ]; then holds=yes; else holds=no; fi
     count 'GDAL: the size of a cache' "$holds"
 

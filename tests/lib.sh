@@ -94,6 +94,12 @@ output_unread() {
 error_closed() { "$program" "$@" >out 2>&-; }
 error_full() { "$program" "$@" >out 2>/dev/full; }
 
+# Its output and its error output are closed.
+all_but_input() { "$program" "$@" >&- 2>&-; }
+
+# Its three streams are closed.
+all_closed() { "$program" "$@" <&- >&- 2>&-; }
+
 # Its input is closed.
 input_closed() { "$program" "$@" >out 2>err <&-; }
 

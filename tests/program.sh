@@ -15,6 +15,7 @@ failed=0
 . "$here/tests/lib.sh"
 . "$here/tests/codec.sh"
 . "$here/tests/bundles.sh"
+. "$here/tests/puts.sh"
 . "$here/tests/gdal.sh"
 
 echo "$passed passed, $failed failed"

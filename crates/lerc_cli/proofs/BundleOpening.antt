@@ -17,12 +17,12 @@ use Rattle.bundle_store.specs.Images.{EachImage, StandsFor}
 use Rattle.bundle_store.specs.Recover.{EachStandsForOneOf, IsRecovered, Leaves, OnBadJournal, RecoverFails, RecoverySays, synced_disk}
 use Rattle.bundle_store.specs.Session.{GetFails, GetGives, GetRefuses, IsBeyond, OpenFails, OpenRefuses, Serves, SessionState}
 use Rattle.bundle_store.specs.Tiles.{TileMap}
-use Rattle.lerc_cli.specs.declared.stop.Refusal.TheVariants.{NoTile as MissingTile, Beyond as MissingBytes, BadBundle as NoBundle, BadJournal as NoJournal}
+use Rattle.lerc_cli.specs.declared.stop.Refusal.TheVariants.{NoTile as MissingTile, Beyond as MissingBytes, BadBundle as NoBundle, BadJournal as NoJournal, TileTooLarge as LargeTile, Full as FullBundle, TooManyTiles as ManyTiles, KeptTooMuch as MuchKept}
 use Rattle.lerc_cli.specs.declared.stop.Stop.{Stop}
 use Rattle.lerc_cli.specs.declared.stop.Stop.TheVariants.{Usage, Refused, Source, Output, Volume, OutOfMemory as NoMemory, Store}
 use Rattle.lerc_cli.specs.Answer.{Files, OfBundle, OfRecovered}
 use Rattle.lerc_cli.specs.Run.{files_of}
-use Rattle.lerc_cli.specs.Tiles.{IsLeft, IsReady, KeepsTiles, OfReading}
+use Rattle.lerc_cli.specs.Tiles.{IsLeft, IsReady, OfReading}
 use Rattle.lerc_cli.specs.inside.Opening.{IsOpened, OpeningStops, ReadsTile, Recovers, opening_stop_of, tile_stop_of}
 
 -- ---- causes
@@ -96,6 +96,10 @@ stops_opening files (Store (MissingTile at)) is = absurd is
 stops_opening files (Store (MissingBytes at entry got)) is = absurd is
 stops_opening files (Store (NoBundle place found)) is = absurd is
 stops_opening files (Store (NoJournal place found)) is = is
+stops_opening files (Store (LargeTile at len)) is = absurd is
+stops_opening files (Store (FullBundle len)) is = absurd is
+stops_opening files (Store ManyTiles) is = absurd is
+stops_opening files (Store (MuchKept at)) is = absurd is
 
 pub open_stops : (told : Bool) (h : History) (done : Recovery) (bundle : List ℕ) (fault : StoreFault) → OpenFails fault
     → (IsTrue told → Leaves (contents Bundle h) (contents Journal h) done bundle) → (IsTrue told → OpenRefuses bundle fault) → OpeningStops (files_of told h) (opening_stop_of fault)
@@ -136,6 +140,10 @@ tile_not_opened files slot (Store (MissingTile at)) stops = absurd stops
 tile_not_opened files slot (Store (MissingBytes at entry got)) stops = absurd stops
 tile_not_opened files slot (Store (NoBundle place found)) stops = stops
 tile_not_opened files slot (Store (NoJournal place found)) stops = stops
+tile_not_opened files slot (Store (LargeTile at len)) stops = absurd stops
+tile_not_opened files slot (Store (FullBundle len)) stops = absurd stops
+tile_not_opened files slot (Store ManyTiles) stops = absurd stops
+tile_not_opened files slot (Store (MuchKept at)) stops = absurd stops
 
 pub tile_refused : (told : Bool) (h : History) (s : SessionState) (d : Disk) (slot : ℕ) (fault : StoreFault) → (IsTrue told → IsOpened s (contents Bundle h) (contents Journal h) d)
     → GetFails fault → (fault ≡ Stopped → ⊥) → (IsTrue told → GetRefuses d.bundle.now slot fault) → ReadsTile (files_of told h) slot (Err (tile_stop_of slot fault))
@@ -188,7 +196,7 @@ left_alone (NotEmpty len) old new fails other says kept = absurd fails
 left_alone OutOfMemory old new fails other says kept = absurd fails
 left_alone Stopped old new fails other says kept = absurd fails
 
-failed_later : (f m n : ℕ) → f ≤ m → FailedBetween m n → FailedBetween f n
+pub failed_later : (f m n : ℕ) → f ≤ m → FailedBetween m n → FailedBetween f n
 failed_later f m n first (inl rose) = inl (omega (arith, first, rose))
 failed_later f m n first (inr full) = inr full
 

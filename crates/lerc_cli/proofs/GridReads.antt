@@ -15,7 +15,7 @@ use Rattle.lerc_header.specs.declared.header.Version.{Version}
 use Rattle.lerc_header.specs.Written.{step_of}
 use Rattle.lerc_cli.specs.declared.command.Command.TheVariants.{Encode}
 use Rattle.lerc_cli.specs.declared.stop.Reason.{Reason}
-use Rattle.lerc_cli.specs.declared.stop.Reason.TheVariants.{Blob, Grid, Leftover, DepthNeedsV4}
+use Rattle.lerc_cli.specs.declared.stop.Reason.TheVariants.{Blob, Grid, Leftover, DepthNeedsV4, BadTileMark, BadSlot}
 use Rattle.lerc_cli.specs.declared.stop.Stop.{Stop}
 use Rattle.lerc_cli.specs.declared.stop.Stop.TheVariants.{Usage, Refused, Source, Output, Volume, OutOfMemory, Store}
 use Rattle.lerc_grammar.specs.Near.{Near, NearestIsSame}
@@ -98,6 +98,8 @@ no_grid version input files place (Blob reason) h = absurd h
 no_grid version input files place (Grid reason) h = h
 no_grid version input files place Leftover h = h
 no_grid version input files place DepthNeedsV4 h = absurd h
+no_grid version input files place BadTileMark h = absurd h
+no_grid version input files place BadSlot h = absurd h
 
 tt_true : IsTrue true
 tt_true = search rules

@@ -1,28 +1,32 @@
 -- An object that a command does not touch is left as its contract says.
-use Rattle.std.proofs.Common.{◌≡◌, ℕ, List, [], Option, Some, None, Bool, Err, refl, sym, subst, arith}
+use Rattle.std.proofs.Common.{◌≡◌, ℕ, List, [], Option, Some, None, Bool, Ok, Err, refl, rules, sym, subst, arith}
 use Rattle.std.specs.Prelude.{IsTrue, IsFalse}
 use Rattle.outside_io.specs.declared.volume.VolFile.TheVariants.{Bundle, Journal}
 use Rattle.outside_io.specs.streams.Source.{TakesUpTo}
 use Rattle.outside_io.specs.volume.History.{History, contents, current}
 use Rattle.outside_io.proofs.VolumeLemmas.Images.{only_image}
-use Rattle.outside_io.proofs.VolumeLemmas.Moments.{started}
+use Rattle.outside_io.proofs.VolumeLemmas.Moments.{during_map_at, started}
 use Rattle.bundle_store.specs.Images.{EachImage, StandsFor}
 use Rattle.bundle_store.specs.Tiles.{TileMap}
 use Rattle.lerc_cli.specs.declared.command.Command.{Command}
-use Rattle.lerc_cli.specs.declared.command.Command.TheVariants.{Encode, Decode, Info, Get, GetRaw, List as ListAll, Check, Recover}
-use Rattle.lerc_cli.specs.declared.stop.Stop.TheVariants.{Source, Volume}
+use Rattle.lerc_cli.specs.declared.command.Command.TheVariants.{Encode, Decode, Info, Put, Get, GetRaw, List as ListAll, Check, Recover}
+use Rattle.lerc_cli.specs.declared.stop.Stop.TheVariants.{Usage, Refused, Source, Output, Volume, OutOfMemory, Store}
 use Rattle.lerc_cli.specs.Command.{reads_source, calls_volume, makes_updates}
 use Rattle.lerc_cli.specs.Stop.{End}
-use Rattle.lerc_cli.specs.Answer.{Given, Ends}
+use Rattle.lerc_cli.specs.Answer.{Given, Ends, UpdatesOf}
 use Rattle.lerc_cli.specs.Run.{OfOutput, OfSource, OfVolume, TakesFor}
-use Rattle.lerc_cli.specs.Tiles.{IsReady, KeepsTiles, OfReading}
+use Rattle.lerc_cli.specs.Tiles.{IsReady, KeepsStart, KeepsTiles, OfReading, OnAnswer, UpdatesAt, bundle_after, is_early}
+use Rattle.outside_io.specs.volume.Disk.{Disk}
+use Rattle.bundle_store.specs.declared.tile_rec.TileRec.{TileRec}
+use Rattle.bundle_lines.specs.Puts.{IsAfterSome, PutsKeep}
+use Rattle.bundle_lines.proofs.Marked.{no_marks}
 
 -- no test is both
-clash : (b : Bool) → IsTrue b → IsFalse b → ⊥
+pub clash : (b : Bool) → IsTrue b → IsFalse b → ⊥
 clash b yes_ no_ = cc
 
 -- before the first call the one image stands for what stood at the start
-stays : (start : TileMap) (told : Bool) (h : History) → IsReady told h start → KeepsTiles start h h
+pub stays : (start : TileMap) (told : Bool) (h : History) → IsReady told h start → KeepsStart start h h
 stays start told h ready = started (EachImage (λ map. map ≡ start)) h (λ b j ib ij.
     let bundle : b ≡ contents Bundle h = only_image (current h).bundle b ready.quiet.bundle ib in
     let journal : j ≡ contents Journal h = only_image (current h).journal j ready.quiet.journal ij in
@@ -32,35 +36,128 @@ stays start told h ready = started (EachImage (λ map. map ≡ start)) h (λ b j
       passes = refl;
     })
 
--- the volume of a command that does not call it
-pub volume_idle : (c : Command) (g : Given) (n : ℕ) (end : End) (same same_out : Type 0) (held held_new : Option (List ℕ)) (f f_new : ℕ) (told : Bool) (h : History) (faults : ℕ)
-    → same → IsFalse (calls_volume c) → OfOutput c g n end same_out held held_new f f_new → OfVolume c end same [] told told h h faults faults
-volume_idle c g n end same same_out held held_new f f_new told h faults is idle out = record {
-  cause = record {
-    counts = omega arith;
-    failed = λ is. absurd (
-        let there : Ends c g n (Err Volume) out.gave.0 = subst (λ (x : End). Ends c g n x out.gave.0) is out.gave.1.0 in clash (calls_volume c) there.0 idle);
-    rose = λ rose. absurd (omega arith);
-  };
+-- a map that is the one at the start is one after no updates
+none_put : (us : List TileRec) (start : TileMap) (t : ℕ) (d : Disk) → EachImage (λ map. map ≡ start) d → EachImage (IsAfterSome start us [] t) d
+none_put us start t d each = λ b j ib ij. let is = each b j ib ij in record { map = is.map; stands = is.stands; passes = record { count = 0; least = omega arith; most = omega arith; map_is = is.passes } }
+
+pub keeps_unmarked : (us : List TileRec) (start : TileMap) (old new : History) → KeepsStart start old new → PutsKeep start us [] old new
+keeps_unmarked us start old new kept = during_map_at (λ _ d. EachImage (λ map. map ≡ start) d) (λ t d. EachImage (IsAfterSome start us [] t) d) old new (λ t d _ _ each. none_put us start t d each) kept
+
+-- no update is made, and none has a mark
+pub keeps_none : (c : Command) (start : TileMap) (old new : History) → KeepsStart start old new → KeepsTiles c [] [] start old new
+keeps_none (Encode version error) start old new kept = kept
+keeps_none Decode start old new kept = kept
+keeps_none Info start old new kept = kept
+keeps_none (Put version error workers) start old new kept = keeps_unmarked [] start old new kept
+keeps_none (Get slot) start old new kept = kept
+keeps_none (GetRaw slot) start old new kept = kept
+keeps_none ListAll start old new kept = kept
+keeps_none Check start old new kept = kept
+keeps_none Recover start old new kept = kept
+
+-- a command that makes no updates has none
+no_updates : (c : Command) (g : Given) → IsFalse (makes_updates c) → UpdatesOf c g []
+no_updates (Encode version error) g none = refl
+no_updates Decode g none = refl
+no_updates Info g none = refl
+no_updates (Put version error workers) g none = absurd (let bad : ⊥ = cc in bad)
+no_updates (Get slot) g none = refl
+no_updates (GetRaw slot) g none = refl
+no_updates ListAll g none = refl
+no_updates Check g none = refl
+no_updates Recover g none = refl
+
+-- and leaves the bundle as it is recovered
+same_bundle : (c : Command) (b : List ℕ) (us : List TileRec) → IsFalse (makes_updates c) → bundle_after c b us ≡ b
+same_bundle (Encode version error) b us none = refl
+same_bundle Decode b us none = refl
+same_bundle Info b us none = refl
+same_bundle (Put version error workers) b us none = absurd (let bad : ⊥ = cc in bad)
+same_bundle (Get slot) b us none = refl
+same_bundle (GetRaw slot) b us none = refl
+same_bundle ListAll b us none = refl
+same_bundle Check b us none = refl
+same_bundle Recover b us none = refl
+
+-- a command that does not call the volume is early, and one that makes updates calls it
+early_all : (c : Command) (end : End) → IsFalse (calls_volume c) → IsTrue (is_early c end)
+early_all (Encode version error) end idle = search rules
+early_all Decode end idle = search rules
+early_all Info end idle = search rules
+early_all (Put version error workers) end idle = absurd (let bad : ⊥ = cc in bad)
+early_all (Get slot) end idle = absurd (let bad : ⊥ = cc in bad)
+early_all (GetRaw slot) end idle = absurd (let bad : ⊥ = cc in bad)
+early_all ListAll end idle = absurd (let bad : ⊥ = cc in bad)
+early_all Check end idle = absurd (let bad : ⊥ = cc in bad)
+early_all Recover end idle = absurd (let bad : ⊥ = cc in bad)
+
+never_early : (c : Command) (end : End) → IsTrue (calls_volume c) → IsFalse (makes_updates c) → IsTrue (is_early c end) → ⊥
+never_early (Encode version error) end calls none early = cc
+never_early Decode end calls none early = cc
+never_early Info end calls none early = cc
+never_early (Put version error workers) end calls none early = cc
+never_early (Get slot) end calls none early = cc
+never_early (GetRaw slot) end calls none early = cc
+never_early ListAll end calls none early = cc
+never_early Check end calls none early = cc
+never_early Recover end calls none early = cc
+
+idle_makes : (c : Command) → IsFalse (calls_volume c) → IsFalse (makes_updates c)
+idle_makes (Encode version error) idle = refl
+idle_makes Decode idle = refl
+idle_makes Info idle = refl
+idle_makes (Put version error workers) idle = absurd (let bad : ⊥ = cc in bad)
+idle_makes (Get slot) idle = refl
+idle_makes (GetRaw slot) idle = refl
+idle_makes ListAll idle = refl
+idle_makes Check idle = refl
+idle_makes Recover idle = refl
+
+-- the volume was not touched, and the end makes no updates
+pub untouched : (c : Command) (g : Given) (end : End) (same : Type 0) (told : Bool) (h : History) (faults : ℕ)
+    → same → IsTrue (is_early c end) → (end ≡ Err Volume → ⊥) → UpdatesAt c g end [] → OfVolume c g end same [] told told h h faults faults
+untouched c g end same told h faults is early well at = record {
+  cause = record { counts = omega arith; failed = λ is_volume. absurd (well is_volume); rose = λ rose. absurd (omega arith) };
   told = refl;
-  later = λ tells. omega arith;
+  later = λ tells none. omega arith;
   idle = λ _. is;
   unmarked = λ _. refl;
-  reads = λ calls. absurd (clash (calls_volume c) calls idle);
-  tiles = λ start ready. stays start told h ready;
+  marks_are = λ tells. no_marks h.moment h.moment;
+  reads = λ tells late. absurd (clash (is_early c end) early late);
+  tiles = λ start ready. ([], (at, keeps_none c start h h (stays start told h ready)));
 }
 
+-- the volume of a command that does not call it
+pub volume_idle : (c : Command) (g : Given) (n : ℕ) (end : End) (same same_out : Type 0) (held held_new : Option (List ℕ)) (f f_new : ℕ) (told : Bool) (h : History) (faults : ℕ)
+    → same → IsFalse (calls_volume c) → OfOutput c g n end same_out held held_new f f_new → OfVolume c g end same [] told told h h faults faults
+volume_idle c g n end same same_out held held_new f f_new told h faults is idle out =
+    untouched c g end same told h faults is (early_all c end idle)
+    (λ failed. let there : Ends c g n (Err Volume) out.gave.0 = subst (λ (x : End). Ends c g n x out.gave.0) failed out.gave.1.0 in clash (calls_volume c) there.0 idle)
+    (record { some = λ _. no_updates c g (idle_makes c idle); none = λ _. refl })
+
+answers : (end : End) (P : Type 0) → ((end ≡ Err Volume → ⊥) → P) → OnAnswer end P
+answers (Ok x) P p = p (λ is. cc)
+answers (Err Usage) P p = p (λ is. cc)
+answers (Err (Refused fault)) P p = p (λ is. cc)
+answers (Err Source) P p = p (λ is. cc)
+answers (Err Output) P p = p (λ is. cc)
+answers (Err Volume) P p = tt
+answers (Err OutOfMemory) P p = tt
+answers (Err (Store refusal)) P p = p (λ is. cc)
+
 -- the volume of a command that reads the bundle
-pub reading_volume : (c : Command) (end : End) (same : Type 0) (told told_new : Bool) (h h_new : History) (faults faults_new : ℕ)
-    → IsTrue (calls_volume c) → OfReading (end ≡ Err Volume) told told_new h h_new faults faults_new → OfVolume c end same [] told told_new h h_new faults faults_new
-reading_volume c end same told told_new h h_new faults faults_new calls so = record {
+pub reading_volume : (c : Command) (g : Given) (end : End) (same : Type 0) (told told_new : Bool) (h h_new : History) (faults faults_new : ℕ)
+    → IsTrue (calls_volume c) → IsFalse (makes_updates c) → OfReading (end ≡ Err Volume) told told_new h h_new faults faults_new → OfVolume c g end same [] told told_new h h_new faults faults_new
+reading_volume c g end same told told_new h h_new faults faults_new calls none so = record {
   cause = so.cause;
   told = so.told;
-  later = so.later;
-  idle = λ idle. absurd (clash (calls_volume c) calls idle);
+  later = λ tells _. so.later tells;
+  idle = λ early. absurd (never_early c end calls none early);
   unmarked = λ _. refl;
-  reads = λ _. so.reads;
-  tiles = so.tiles;
+  marks_are = λ tells. no_marks h.moment h_new.moment;
+  reads = λ tells late. answers end _ (λ well.
+      ([], (record { some = λ _. no_updates c g none; none = λ _. refl }, (contents Bundle h_new, (so.reads tells well, sym (same_bundle c (contents Bundle h_new) [] none))))));
+  tiles = λ start ready. ([], (record { some = λ _. no_updates c g none; none = λ _. refl }, keeps_none c start h h_new (so.tiles start ready)));
 }
 
 -- nothing was taken
@@ -68,6 +165,7 @@ untaken : (c : Command) (left : Option (List ℕ)) → IsFalse (reads_source c) 
 untaken (Encode version error) left idle = absurd (let no : ⊥ = cc in no)
 untaken Decode left idle = absurd (let no : ⊥ = cc in no)
 untaken Info left idle = absurd (let no : ⊥ = cc in no)
+untaken (Put version error workers) left idle = absurd (let bad : ⊥ = cc in bad)
 untaken (Get slot) left idle = refl
 untaken (GetRaw slot) left idle = refl
 untaken ListAll left idle = refl

@@ -12,6 +12,8 @@ mod Once
 mod OneBundle
 mod Outlined
 mod Outputs
+mod PutOnce
+mod PutRuns
 mod SixLines
 mod Spelled
 mod TileBlobs

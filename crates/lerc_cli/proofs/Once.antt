@@ -1,13 +1,13 @@
 -- One command of words, and one answer of a command.
 use Rattle.std.proofs.Common.{◌≡◌, Ok, Err, List, ℕ, ◌/◌, ◌%◌, Option, Some, refl, rules, sym, ap, subst, ◌∙◌, codes, arith}
-use Rattle.std.specs.Prelude.{IsTrue}
+use Rattle.std.specs.Prelude.{IsFalse, IsTrue}
 use Rattle.raster_values.specs.Grid.{grid_of}
 use Rattle.raster_values.specs.Raster.{Pixels}
 use Rattle.lerc_header.specs.declared.header.Version.{Version}
 use Rattle.lerc_header.specs.Written.{step_of}
 use Rattle.lerc_encode.specs.Choice.{choice}
 use Rattle.lerc_cli.specs.declared.command.Command.{Command}
-use Rattle.lerc_cli.specs.declared.command.Command.TheVariants.{Encode, Decode, Info, Get, GetRaw, List as ListAll, Check, Recover}
+use Rattle.lerc_cli.specs.declared.command.Command.TheVariants.{Encode, Decode, Info, Put, Get, GetRaw, List as ListAll, Check, Recover}
 use Rattle.lerc_cli.specs.declared.stop.Fault.{Fault}
 use Rattle.lerc_cli.specs.declared.stop.Reason.TheVariants.{Blob as BlobReasonOf}
 use Rattle.lerc_cli.specs.declared.stop.Stop.TheVariants.{Usage, Refused, Source, Output, Volume, OutOfMemory, Store}
@@ -25,6 +25,7 @@ use Rattle.lerc_cli.proofs.OneBundle.{done_or_refused, fault_or_missing, held_or
 use Rattle.lerc_cli.specs.Command.{calls_volume, reads_source}
 use Rattle.lerc_grammar.proofs.Blobs.{one_raster}
 use Rattle.lerc_cli.proofs.Whole.{blob_or_fault, one_whole_fault}
+use Rattle.lerc_cli.proofs.PutOnce.{put_once}
 use Rattle.lerc_cli.proofs.WholeGrids.{grid_or_refusal, one_grid, one_refusal}
 
 same_fault : (f g : Fault) → f.reason ≡ g.reason → f.place ≡ g.place → f ≡ g
@@ -32,99 +33,100 @@ same_fault f g reason place = λ i. record { reason = reason i; place = place i 
 
 -- what a command answers that reads the source, where that is told
 abbrev SourceOnce : Command → Type 0
-SourceOnce c = IsTrue (reads_source c) → (input : List ℕ) (files : Option Files) (n m : ℕ) (end other : End) (output another : List ℕ) → IsAnswer end → IsAnswer other
+SourceOnce c = IsTrue (reads_source c) → IsFalse (calls_volume c) → (input : List ℕ) (files : Option Files) (n m : ℕ) (end other : End) (output another : List ℕ) → IsAnswer end → IsAnswer other
     → Ends c (given (Some input) files) n end output → Ends c (given (Some input) files) m other another → (end ≡ other) × (output ≡ another)
 
 source_once : (c : Command) → SourceOnce c
-source_once (Encode v e) reads input files n m (Ok x) (Ok y) output another _ _ a b =
+source_once (Encode v e) reads idle input files n m (Ok x) (Ok y) output another _ _ a b =
     (refl, a.1.3 ∙ ap (λ (r : Pixels). choice r v (step_of e)) (one_grid input a.0 b.0 a.1.1 b.1.1) ∙ sym b.1.3)
-source_once (Encode v e) reads input files n m (Ok x) (Err (Refused f)) output another _ _ a b = absurd (grid_or_refusal v input files a.0 a.1.1 a.1.2 f.place f.reason b.0)
-source_once (Encode v e) reads input files n m (Err (Refused f)) (Ok y) output another _ _ a b = absurd (grid_or_refusal v input files b.0 b.1.1 b.1.2 f.place f.reason a.0)
-source_once (Encode v e) reads input files n m (Err (Refused f)) (Err (Refused g)) output another _ _ a b =
+source_once (Encode v e) reads idle input files n m (Ok x) (Err (Refused f)) output another _ _ a b = absurd (grid_or_refusal v input files a.0 a.1.1 a.1.2 f.place f.reason b.0)
+source_once (Encode v e) reads idle input files n m (Err (Refused f)) (Ok y) output another _ _ a b = absurd (grid_or_refusal v input files b.0 b.1.1 b.1.2 f.place f.reason a.0)
+source_once (Encode v e) reads idle input files n m (Err (Refused f)) (Err (Refused g)) output another _ _ a b =
     let same = one_refusal v input files f.place g.place f.reason g.reason a.0 b.0 in
     (ap (λ h. Err (Refused h)) (same_fault f g same.1 same.0), a.1 ∙ sym b.1)
-source_once (Encode v e) reads input files n m (Err Usage) other output another answer _ a b = absurd answer
-source_once (Encode v e) reads input files n m (Err Source) other output another answer _ a b = absurd answer
-source_once (Encode v e) reads input files n m (Err Output) other output another answer _ a b = absurd answer
-source_once (Encode v e) reads input files n m (Err Volume) other output another answer _ a b = absurd answer
-source_once (Encode v e) reads input files n m (Err OutOfMemory) other output another answer _ a b = absurd answer
-source_once (Encode v e) reads input files n m (Err (Store r)) other output another _ _ a b = absurd a.0
-source_once (Encode v e) reads input files n m (Ok x) (Err Usage) output another _ answer a b = absurd answer
-source_once (Encode v e) reads input files n m (Ok x) (Err Source) output another _ answer a b = absurd answer
-source_once (Encode v e) reads input files n m (Ok x) (Err Output) output another _ answer a b = absurd answer
-source_once (Encode v e) reads input files n m (Ok x) (Err Volume) output another _ answer a b = absurd answer
-source_once (Encode v e) reads input files n m (Ok x) (Err OutOfMemory) output another _ answer a b = absurd answer
-source_once (Encode v e) reads input files n m (Ok x) (Err (Store r)) output another _ _ a b = absurd b.0
-source_once (Encode v e) reads input files n m (Err (Refused f)) (Err Usage) output another _ answer a b = absurd answer
-source_once (Encode v e) reads input files n m (Err (Refused f)) (Err Source) output another _ answer a b = absurd answer
-source_once (Encode v e) reads input files n m (Err (Refused f)) (Err Output) output another _ answer a b = absurd answer
-source_once (Encode v e) reads input files n m (Err (Refused f)) (Err Volume) output another _ answer a b = absurd answer
-source_once (Encode v e) reads input files n m (Err (Refused f)) (Err OutOfMemory) output another _ answer a b = absurd answer
-source_once (Encode v e) reads input files n m (Err (Refused f)) (Err (Store r)) output another _ _ a b = absurd b.0
-source_once Decode reads input files n m (Ok x) (Ok y) output another _ _ a b =
+source_once (Encode v e) reads idle input files n m (Err Usage) other output another answer _ a b = absurd answer
+source_once (Encode v e) reads idle input files n m (Err Source) other output another answer _ a b = absurd answer
+source_once (Encode v e) reads idle input files n m (Err Output) other output another answer _ a b = absurd answer
+source_once (Encode v e) reads idle input files n m (Err Volume) other output another answer _ a b = absurd answer
+source_once (Encode v e) reads idle input files n m (Err OutOfMemory) other output another answer _ a b = absurd answer
+source_once (Encode v e) reads idle input files n m (Err (Store r)) other output another _ _ a b = absurd a.0
+source_once (Encode v e) reads idle input files n m (Ok x) (Err Usage) output another _ answer a b = absurd answer
+source_once (Encode v e) reads idle input files n m (Ok x) (Err Source) output another _ answer a b = absurd answer
+source_once (Encode v e) reads idle input files n m (Ok x) (Err Output) output another _ answer a b = absurd answer
+source_once (Encode v e) reads idle input files n m (Ok x) (Err Volume) output another _ answer a b = absurd answer
+source_once (Encode v e) reads idle input files n m (Ok x) (Err OutOfMemory) output another _ answer a b = absurd answer
+source_once (Encode v e) reads idle input files n m (Ok x) (Err (Store r)) output another _ _ a b = absurd b.0
+source_once (Encode v e) reads idle input files n m (Err (Refused f)) (Err Usage) output another _ answer a b = absurd answer
+source_once (Encode v e) reads idle input files n m (Err (Refused f)) (Err Source) output another _ answer a b = absurd answer
+source_once (Encode v e) reads idle input files n m (Err (Refused f)) (Err Output) output another _ answer a b = absurd answer
+source_once (Encode v e) reads idle input files n m (Err (Refused f)) (Err Volume) output another _ answer a b = absurd answer
+source_once (Encode v e) reads idle input files n m (Err (Refused f)) (Err OutOfMemory) output another _ answer a b = absurd answer
+source_once (Encode v e) reads idle input files n m (Err (Refused f)) (Err (Store r)) output another _ _ a b = absurd b.0
+source_once Decode reads idle input files n m (Ok x) (Ok y) output another _ _ a b =
     (refl, a.1.2 ∙ ap grid_of (one_raster input a.0 b.0 a.1.1 b.1.1) ∙ sym b.1.2)
-source_once Decode reads input files n m (Ok x) (Err (Refused f)) output another _ _ a b = absurd (blob_or_fault input a.0 f.place b.0.0 a.1.1 b.0.1.1)
-source_once Decode reads input files n m (Err (Refused f)) (Ok y) output another _ _ a b = absurd (blob_or_fault input b.0 f.place a.0.0 b.1.1 a.0.1.1)
-source_once Decode reads input files n m (Err (Refused f)) (Err (Refused g)) output another _ _ a b =
+source_once Decode reads idle input files n m (Ok x) (Err (Refused f)) output another _ _ a b = absurd (blob_or_fault input a.0 f.place b.0.0 a.1.1 b.0.1.1)
+source_once Decode reads idle input files n m (Err (Refused f)) (Ok y) output another _ _ a b = absurd (blob_or_fault input b.0 f.place a.0.0 b.1.1 a.0.1.1)
+source_once Decode reads idle input files n m (Err (Refused f)) (Err (Refused g)) output another _ _ a b =
     let same = one_whole_fault input f.place g.place a.0.0 b.0.0 a.0.1.1 b.0.1.1 in
     (ap (λ h. Err (Refused h)) (same_fault f g (a.0.1.0 ∙ ap BlobReasonOf same.1 ∙ sym b.0.1.0) same.0), a.1 ∙ sym b.1)
-source_once Decode reads input files n m (Err Usage) other output another answer _ a b = absurd answer
-source_once Decode reads input files n m (Err Source) other output another answer _ a b = absurd answer
-source_once Decode reads input files n m (Err Output) other output another answer _ a b = absurd answer
-source_once Decode reads input files n m (Err Volume) other output another answer _ a b = absurd answer
-source_once Decode reads input files n m (Err OutOfMemory) other output another answer _ a b = absurd answer
-source_once Decode reads input files n m (Err (Store r)) other output another _ _ a b = absurd a.0
-source_once Decode reads input files n m (Ok x) (Err Usage) output another _ answer a b = absurd answer
-source_once Decode reads input files n m (Ok x) (Err Source) output another _ answer a b = absurd answer
-source_once Decode reads input files n m (Ok x) (Err Output) output another _ answer a b = absurd answer
-source_once Decode reads input files n m (Ok x) (Err Volume) output another _ answer a b = absurd answer
-source_once Decode reads input files n m (Ok x) (Err OutOfMemory) output another _ answer a b = absurd answer
-source_once Decode reads input files n m (Ok x) (Err (Store r)) output another _ _ a b = absurd b.0
-source_once Decode reads input files n m (Err (Refused f)) (Err Usage) output another _ answer a b = absurd answer
-source_once Decode reads input files n m (Err (Refused f)) (Err Source) output another _ answer a b = absurd answer
-source_once Decode reads input files n m (Err (Refused f)) (Err Output) output another _ answer a b = absurd answer
-source_once Decode reads input files n m (Err (Refused f)) (Err Volume) output another _ answer a b = absurd answer
-source_once Decode reads input files n m (Err (Refused f)) (Err OutOfMemory) output another _ answer a b = absurd answer
-source_once Decode reads input files n m (Err (Refused f)) (Err (Store r)) output another _ _ a b = absurd b.0
-source_once Info reads input files n m (Ok x) (Ok y) output another _ _ a b =
+source_once Decode reads idle input files n m (Err Usage) other output another answer _ a b = absurd answer
+source_once Decode reads idle input files n m (Err Source) other output another answer _ a b = absurd answer
+source_once Decode reads idle input files n m (Err Output) other output another answer _ a b = absurd answer
+source_once Decode reads idle input files n m (Err Volume) other output another answer _ a b = absurd answer
+source_once Decode reads idle input files n m (Err OutOfMemory) other output another answer _ a b = absurd answer
+source_once Decode reads idle input files n m (Err (Store r)) other output another _ _ a b = absurd a.0
+source_once Decode reads idle input files n m (Ok x) (Err Usage) output another _ answer a b = absurd answer
+source_once Decode reads idle input files n m (Ok x) (Err Source) output another _ answer a b = absurd answer
+source_once Decode reads idle input files n m (Ok x) (Err Output) output another _ answer a b = absurd answer
+source_once Decode reads idle input files n m (Ok x) (Err Volume) output another _ answer a b = absurd answer
+source_once Decode reads idle input files n m (Ok x) (Err OutOfMemory) output another _ answer a b = absurd answer
+source_once Decode reads idle input files n m (Ok x) (Err (Store r)) output another _ _ a b = absurd b.0
+source_once Decode reads idle input files n m (Err (Refused f)) (Err Usage) output another _ answer a b = absurd answer
+source_once Decode reads idle input files n m (Err (Refused f)) (Err Source) output another _ answer a b = absurd answer
+source_once Decode reads idle input files n m (Err (Refused f)) (Err Output) output another _ answer a b = absurd answer
+source_once Decode reads idle input files n m (Err (Refused f)) (Err Volume) output another _ answer a b = absurd answer
+source_once Decode reads idle input files n m (Err (Refused f)) (Err OutOfMemory) output another _ answer a b = absurd answer
+source_once Decode reads idle input files n m (Err (Refused f)) (Err (Store r)) output another _ _ a b = absurd b.0
+source_once Info reads idle input files n m (Ok x) (Ok y) output another _ _ a b =
     let there : IsOutline input a.1.2.0 = subst (λ (u : List ℕ). IsOutline u a.1.2.0) (sym a.1.1) a.1.2.1.0 in
     let here : IsOutline input b.1.2.0 = subst (λ (u : List ℕ). IsOutline u b.1.2.0) (sym b.1.1) b.1.2.1.0 in
     (refl, a.1.2.1.1 ∙ ap outline_lines ((one_outline input).once a.1.2.0 b.1.2.0 there here) ∙ sym b.1.2.1.1)
-source_once Info reads input files n m (Ok x) (Err (Refused f)) output another _ _ a b =
+source_once Info reads idle input files n m (Ok x) (Err (Refused f)) output another _ _ a b =
     absurd (blob_or_fault input a.1.0.0 f.place b.0.0 (subst (λ (u : List ℕ). Blob u a.1.0.0) (sym a.1.1) a.1.0.1) b.0.1.1)
-source_once Info reads input files n m (Err (Refused f)) (Ok y) output another _ _ a b =
+source_once Info reads idle input files n m (Err (Refused f)) (Ok y) output another _ _ a b =
     absurd (blob_or_fault input b.1.0.0 f.place a.0.0 (subst (λ (u : List ℕ). Blob u b.1.0.0) (sym b.1.1) b.1.0.1) a.0.1.1)
-source_once Info reads input files n m (Err (Refused f)) (Err (Refused g)) output another _ _ a b =
+source_once Info reads idle input files n m (Err (Refused f)) (Err (Refused g)) output another _ _ a b =
     let same = one_whole_fault input f.place g.place a.0.0 b.0.0 a.0.1.1 b.0.1.1 in
     (ap (λ h. Err (Refused h)) (same_fault f g (a.0.1.0 ∙ ap BlobReasonOf same.1 ∙ sym b.0.1.0) same.0), a.1 ∙ sym b.1)
-source_once Info reads input files n m (Err Usage) other output another answer _ a b = absurd answer
-source_once Info reads input files n m (Err Source) other output another answer _ a b = absurd answer
-source_once Info reads input files n m (Err Output) other output another answer _ a b = absurd answer
-source_once Info reads input files n m (Err Volume) other output another answer _ a b = absurd answer
-source_once Info reads input files n m (Err OutOfMemory) other output another answer _ a b = absurd answer
-source_once Info reads input files n m (Err (Store r)) other output another _ _ a b = absurd a.0
-source_once Info reads input files n m (Ok x) (Err Usage) output another _ answer a b = absurd answer
-source_once Info reads input files n m (Ok x) (Err Source) output another _ answer a b = absurd answer
-source_once Info reads input files n m (Ok x) (Err Output) output another _ answer a b = absurd answer
-source_once Info reads input files n m (Ok x) (Err Volume) output another _ answer a b = absurd answer
-source_once Info reads input files n m (Ok x) (Err OutOfMemory) output another _ answer a b = absurd answer
-source_once Info reads input files n m (Ok x) (Err (Store r)) output another _ _ a b = absurd b.0
-source_once Info reads input files n m (Err (Refused f)) (Err Usage) output another _ answer a b = absurd answer
-source_once Info reads input files n m (Err (Refused f)) (Err Source) output another _ answer a b = absurd answer
-source_once Info reads input files n m (Err (Refused f)) (Err Output) output another _ answer a b = absurd answer
-source_once Info reads input files n m (Err (Refused f)) (Err Volume) output another _ answer a b = absurd answer
-source_once Info reads input files n m (Err (Refused f)) (Err OutOfMemory) output another _ answer a b = absurd answer
-source_once Info reads input files n m (Err (Refused f)) (Err (Store r)) output another _ _ a b = absurd b.0
-source_once (Get slot) reads input files n m end other output another one two a b = absurd (let bad : ⊥ = cc in bad)
-source_once (GetRaw slot) reads input files n m end other output another one two a b = absurd (let bad : ⊥ = cc in bad)
-source_once ListAll reads input files n m end other output another one two a b = absurd (let bad : ⊥ = cc in bad)
-source_once Check reads input files n m end other output another one two a b = absurd (let bad : ⊥ = cc in bad)
-source_once Recover reads input files n m end other output another one two a b = absurd (let bad : ⊥ = cc in bad)
+source_once Info reads idle input files n m (Err Usage) other output another answer _ a b = absurd answer
+source_once Info reads idle input files n m (Err Source) other output another answer _ a b = absurd answer
+source_once Info reads idle input files n m (Err Output) other output another answer _ a b = absurd answer
+source_once Info reads idle input files n m (Err Volume) other output another answer _ a b = absurd answer
+source_once Info reads idle input files n m (Err OutOfMemory) other output another answer _ a b = absurd answer
+source_once Info reads idle input files n m (Err (Store r)) other output another _ _ a b = absurd a.0
+source_once Info reads idle input files n m (Ok x) (Err Usage) output another _ answer a b = absurd answer
+source_once Info reads idle input files n m (Ok x) (Err Source) output another _ answer a b = absurd answer
+source_once Info reads idle input files n m (Ok x) (Err Output) output another _ answer a b = absurd answer
+source_once Info reads idle input files n m (Ok x) (Err Volume) output another _ answer a b = absurd answer
+source_once Info reads idle input files n m (Ok x) (Err OutOfMemory) output another _ answer a b = absurd answer
+source_once Info reads idle input files n m (Ok x) (Err (Store r)) output another _ _ a b = absurd b.0
+source_once Info reads idle input files n m (Err (Refused f)) (Err Usage) output another _ answer a b = absurd answer
+source_once Info reads idle input files n m (Err (Refused f)) (Err Source) output another _ answer a b = absurd answer
+source_once Info reads idle input files n m (Err (Refused f)) (Err Output) output another _ answer a b = absurd answer
+source_once Info reads idle input files n m (Err (Refused f)) (Err Volume) output another _ answer a b = absurd answer
+source_once Info reads idle input files n m (Err (Refused f)) (Err OutOfMemory) output another _ answer a b = absurd answer
+source_once Info reads idle input files n m (Err (Refused f)) (Err (Store r)) output another _ _ a b = absurd b.0
+source_once (Put v e w) reads idle input files n m end other output another one two a b = absurd (let bad : ⊥ = cc in bad)
+source_once (Get slot) reads idle input files n m end other output another one two a b = absurd (let bad : ⊥ = cc in bad)
+source_once (GetRaw slot) reads idle input files n m end other output another one two a b = absurd (let bad : ⊥ = cc in bad)
+source_once ListAll reads idle input files n m end other output another one two a b = absurd (let bad : ⊥ = cc in bad)
+source_once Check reads idle input files n m end other output another one two a b = absurd (let bad : ⊥ = cc in bad)
+source_once Recover reads idle input files n m end other output another one two a b = absurd (let bad : ⊥ = cc in bad)
 
-from_source : (c : Command) → IsTrue (reads_source c) → AnswersOnce c
-from_source c reads g n m end other output another tells one two a b =
+from_source : (c : Command) → IsTrue (reads_source c) → IsFalse (calls_volume c) → AnswersOnce c
+from_source c reads idle g n m end other output another tells one two a b =
     let told = tells.input reads in
-    source_once c reads told.0 g.files n m end other output another one two
+    source_once c reads idle told.0 g.files n m end other output another one two
     (subst (λ (x : Option (List ℕ)). Ends c (given x g.files) n end output) told.1 a)
     (subst (λ (x : Option (List ℕ)). Ends c (given x g.files) m other another) told.1 b)
 
@@ -269,10 +271,19 @@ recover_once input f n m (Err (Store r)) (Err Output) output another _ answer a 
 recover_once input f n m (Err (Store r)) (Err Volume) output another _ answer a b = absurd answer
 recover_once input f n m (Err (Store r)) (Err OutOfMemory) output another _ answer a b = absurd answer
 
+from_both : (v : Version) (e w : ℕ) → AnswersOnce (Put v e w)
+from_both v e w g n m end other output another tells one two a b =
+    let input = tells.input (search rules) in
+    let files = tells.files (search rules) in
+    put_once v e w input.0 files.0 n m end other output another one two
+    (subst (λ (x : Option (List ℕ)). Ends (Put v e w) (given x (Some files.0)) n end output) input.1 (subst (λ (x : Option Files). Ends (Put v e w) (given g.input x) n end output) files.1 a))
+    (subst (λ (x : Option (List ℕ)). Ends (Put v e w) (given x (Some files.0)) m other another) input.1 (subst (λ (x : Option Files). Ends (Put v e w) (given g.input x) m other another) files.1 b))
+
 pub answers_once : (c : Command) → AnswersOnce c
-answers_once (Encode v e) = from_source (Encode v e) (search rules)
-answers_once Decode = from_source Decode (search rules)
-answers_once Info = from_source Info (search rules)
+answers_once (Encode v e) = from_source (Encode v e) (search rules) refl
+answers_once Decode = from_source Decode (search rules) refl
+answers_once Info = from_source Info (search rules) refl
+answers_once (Put v e w) = from_both v e w
 answers_once (Get slot) = from_bundle (Get slot) (search rules) (grid_once slot)
 answers_once (GetRaw slot) = from_bundle (GetRaw slot) (search rules) (raw_once slot)
 answers_once ListAll = from_bundle ListAll (search rules) list_once

@@ -25,7 +25,7 @@ use Rattle.bundle_store.specs.Tiles.{HasIndex, Opens}
 use Rattle.bundle_store.proofs.OneRecovery.{one_answer, one_left}
 use Rattle.bundle_store.proofs.Opening.{open_by}
 use Rattle.lerc_cli.specs.declared.stop.Refusal.{Refusal}
-use Rattle.lerc_cli.specs.declared.stop.Refusal.TheVariants.{NoTile, Beyond, BadBundle, BadJournal}
+use Rattle.lerc_cli.specs.declared.stop.Refusal.TheVariants.{NoTile, Beyond, BadBundle, BadJournal, TileTooLarge, Full, TooManyTiles, KeptTooMuch}
 use Rattle.lerc_cli.specs.Answer.{Files, HasRecovered, HoldsBlob, IsMissing, IsOpening, IsUnrecovered, OfBundle, OfRecovered}
 use Rattle.lerc_cli.proofs.Whole.{blob_or_fault, one_whole_fault}
 
@@ -76,6 +76,10 @@ recovered_or_opening f P (BadBundle place number) of is =
     let same = one_bundle f (λ b. Opens b × P b) (λ b. open_fault b ≡ Some fault) of is.1 in
     opens_or_fault same.0 fault same.1.0.0 same.1.1
 recovered_or_opening f P (BadJournal place number) (done, (bundle, (leaves, so))) is = left_or_refused f.bundle f.journal done bundle place number leaves is.1
+recovered_or_opening f P (TileTooLarge at len) of is = absurd is
+recovered_or_opening f P (Full len) of is = absurd is
+recovered_or_opening f P TooManyTiles of is = absurd is
+recovered_or_opening f P (KeptTooMuch at) of is = absurd is
 
 place_in : Option HeaderFault → ℕ
 place_in None = 0
@@ -116,6 +120,18 @@ one_opening f (BadJournal place number) (BadJournal at other) is so =
     let p : place ≡ at = ap journal_place e in
     let q : number ≡ other = ap journal_number e in
     λ i. BadJournal (p i) (q i)
+one_opening f (TileTooLarge at len) s is so = absurd is
+one_opening f (Full len) s is so = absurd is
+one_opening f TooManyTiles s is so = absurd is
+one_opening f (KeptTooMuch at) s is so = absurd is
+one_opening f (BadBundle place number) (TileTooLarge at len) is so = absurd so
+one_opening f (BadBundle place number) (Full len) is so = absurd so
+one_opening f (BadBundle place number) TooManyTiles is so = absurd so
+one_opening f (BadBundle place number) (KeptTooMuch at) is so = absurd so
+one_opening f (BadJournal place number) (TileTooLarge at len) is so = absurd so
+one_opening f (BadJournal place number) (Full len) is so = absurd so
+one_opening f (BadJournal place number) TooManyTiles is so = absurd so
+one_opening f (BadJournal place number) (KeptTooMuch at) is so = absurd so
 
 -- the refusal of a recovery is one of opening
 unrecovered : (f : Files) (r : Refusal) → IsUnrecovered (Some f) r → IsOpening (Some f) r
@@ -123,6 +139,10 @@ unrecovered f (NoTile at) is = is
 unrecovered f (Beyond at entry got) is = is
 unrecovered f (BadBundle place number) is = absurd is
 unrecovered f (BadJournal place number) is = is
+unrecovered f (TileTooLarge at len) is = absurd is
+unrecovered f (Full len) is = absurd is
+unrecovered f TooManyTiles is = absurd is
+unrecovered f (KeptTooMuch at) is = absurd is
 
 pub one_unrecovered : (f : Files) (r s : Refusal) → IsUnrecovered (Some f) r → IsUnrecovered (Some f) s → r ≡ s
 one_unrecovered f r s is so = one_opening f r s (unrecovered f r is) (unrecovered f s so)
@@ -135,6 +155,10 @@ done_or_refused f done (NoTile at) so is = absurd is
 done_or_refused f done (Beyond at entry got) so is = absurd is
 done_or_refused f done (BadBundle place number) so is = absurd is
 done_or_refused f done (BadJournal place number) (left, leaves) is = left_or_refused f.bundle f.journal done left place number leaves is.1
+done_or_refused f done (TileTooLarge at len) so is = absurd is
+done_or_refused f done (Full len) so is = absurd is
+done_or_refused f done TooManyTiles so is = absurd is
+done_or_refused f done (KeptTooMuch at) so is = absurd is
 
 -- ---- one report
 
@@ -190,6 +214,10 @@ tile_or_missing f slot t (Beyond at entry got) gives is =
     let same = both f (λ b. GetGives b slot t) (λ b. IsBeyond b slot entry got) gives is.2 in gives_or_beyond same.0 slot t entry got same.1.0 is.1 same.1.1
 tile_or_missing f slot t (BadBundle place number) gives is = recovered_or_opening f (λ b. GetGives b slot t) (BadBundle place number) gives is
 tile_or_missing f slot t (BadJournal place number) gives is = recovered_or_opening f (λ b. GetGives b slot t) (BadJournal place number) gives is
+tile_or_missing f slot t (TileTooLarge at len) gives is = absurd is
+tile_or_missing f slot t (Full len) gives is = absurd is
+tile_or_missing f slot t TooManyTiles gives is = absurd is
+tile_or_missing f slot t (KeptTooMuch at) gives is = absurd is
 
 none_or_beyond : (b : List ℕ) (slot : ℕ) (entry : Entry) (got : ℕ) → (entry_at b slot).size ≡ 0 → got < entry.size → IsBeyond b slot entry got → ⊥
 none_or_beyond b slot entry got none fewer beyond =
@@ -223,6 +251,26 @@ one_missing f slot (BadJournal place number) (NoTile b) is so = absurd (recovere
 one_missing f slot (BadJournal place number) (Beyond b d m) is so = absurd (recovered_or_opening f (λ b. IsBeyond b slot d m) (BadJournal place number) so.2 is)
 one_missing f slot (BadJournal place number) (BadBundle at other) is so = one_opening f (BadJournal place number) (BadBundle at other) is so
 one_missing f slot (BadJournal place number) (BadJournal at other) is so = one_opening f (BadJournal place number) (BadJournal at other) is so
+one_missing f slot (TileTooLarge at len) s is so = absurd is
+one_missing f slot (Full len) s is so = absurd is
+one_missing f slot TooManyTiles s is so = absurd is
+one_missing f slot (KeptTooMuch at) s is so = absurd is
+one_missing f slot (NoTile a) (TileTooLarge at len) is so = absurd so
+one_missing f slot (NoTile a) (Full len) is so = absurd so
+one_missing f slot (NoTile a) TooManyTiles is so = absurd so
+one_missing f slot (NoTile a) (KeptTooMuch at) is so = absurd so
+one_missing f slot (Beyond a e n) (TileTooLarge at len) is so = absurd so
+one_missing f slot (Beyond a e n) (Full len) is so = absurd so
+one_missing f slot (Beyond a e n) TooManyTiles is so = absurd so
+one_missing f slot (Beyond a e n) (KeptTooMuch at) is so = absurd so
+one_missing f slot (BadBundle place number) (TileTooLarge at len) is so = absurd so
+one_missing f slot (BadBundle place number) (Full len) is so = absurd so
+one_missing f slot (BadBundle place number) TooManyTiles is so = absurd so
+one_missing f slot (BadBundle place number) (KeptTooMuch at) is so = absurd so
+one_missing f slot (BadJournal place number) (TileTooLarge at len) is so = absurd so
+one_missing f slot (BadJournal place number) (Full len) is so = absurd so
+one_missing f slot (BadJournal place number) TooManyTiles is so = absurd so
+one_missing f slot (BadJournal place number) (KeptTooMuch at) is so = absurd so
 
 -- ---- its blob
 

@@ -7,7 +7,7 @@ use Rattle.raster_values.specs.ReadGrid.{IsGrid, grid_faults}
 use Rattle.raster_values.proofs.GridLaws.{grids_are_parts}
 use Rattle.lerc_header.specs.declared.header.Version.{Version}
 use Rattle.lerc_cli.specs.declared.stop.Reason.{Reason}
-use Rattle.lerc_cli.specs.declared.stop.Reason.TheVariants.{Blob, Grid, Leftover, DepthNeedsV4}
+use Rattle.lerc_cli.specs.declared.stop.Reason.TheVariants.{Blob, Grid, Leftover, DepthNeedsV4, BadTileMark, BadSlot}
 use Rattle.lerc_encode.specs.Encoded.{NeedsV4}
 use Rattle.lerc_cli.specs.Answer.{EndsBefore, Files, IsNotEncoded}
 use Rattle.lerc_cli.specs.Run.{given}
@@ -38,6 +38,8 @@ pub grid_or_refusal : (version : Version) (input : List ℕ) (files : Option Fil
     → IsNotEncoded version (given (Some input) files) place reason → ⊥
 grid_or_refusal version input files r g fits place (Blob reason) h = h
 grid_or_refusal version input files r g fits place (Grid reason) h = no_fault input r place reason g h
+grid_or_refusal version input files r g fits place BadTileMark h = h
+grid_or_refusal version input files r g fits place BadSlot h = h
 grid_or_refusal version input files r g fits place Leftover h = not_behind input r place g h
 grid_or_refusal version input files r g fits place DepthNeedsV4 h =
     fits (h.1, subst (λ (s : Pixels). 1 < s.depth) (one_grid input h.2.0 r h.2.1.0 g) h.2.1.1)
@@ -45,6 +47,14 @@ grid_or_refusal version input files r g fits place DepthNeedsV4 h =
 pub one_refusal : (version : Version) (input : List ℕ) (files : Option Files) (p q : ℕ) (a b : Reason)
     → IsNotEncoded version (given (Some input) files) p a → IsNotEncoded version (given (Some input) files) q b → (p ≡ q) × (a ≡ b)
 one_refusal version input files p q (Blob a) b f g = absurd f
+one_refusal version input files p q BadTileMark b f g = absurd f
+one_refusal version input files p q BadSlot b f g = absurd f
+one_refusal version input files p q (Grid a) BadTileMark f g = absurd g
+one_refusal version input files p q (Grid a) BadSlot f g = absurd g
+one_refusal version input files p q Leftover BadTileMark f g = absurd g
+one_refusal version input files p q Leftover BadSlot f g = absurd g
+one_refusal version input files p q DepthNeedsV4 BadTileMark f g = absurd g
+one_refusal version input files p q DepthNeedsV4 BadSlot f g = absurd g
 one_refusal version input files p q (Grid a) (Blob b) f g = absurd g
 one_refusal version input files p q Leftover (Blob b) f g = absurd g
 one_refusal version input files p q DepthNeedsV4 (Blob b) f g = absurd g

@@ -1,5 +1,5 @@
 -- What a command answers: the rows of one table. Each relation below has one case for each command.
-use Rattle.std.specs.Prelude.{◌≡◌, ◌⊎◌, ℕ, ◌<◌, List, [], ◌++◌, length, Option, Some, IfSome, Ok, Err, IsTrue}
+use Rattle.std.specs.Prelude.{◌≡◌, ◌⊎◌, ℕ, ◌+◌, ◌^◌, ◌<◌, ◌≤◌, take, List, [], ◌++◌, length, Option, Some, IfSome, Ok, Err, IsTrue}
 use Rattle.bundle_index.specs.Entry.{entry_at}
 use Rattle.bundle_store.specs.declared.fault.StoreFault.TheVariants.{BadBundle as FoundBadBundle, BadJournal as FoundBadJournal}
 use Rattle.bundle_store.specs.declared.recovery.Recovery.{Recovery}
@@ -8,7 +8,16 @@ use Rattle.bundle_store.specs.Session.{GetGives, IsBeyond, OpenFails, open_fault
 use Rattle.bundle_store.specs.declared.check.CheckReport.{CheckReport}
 use Rattle.bundle_store.specs.Check.{Reports}
 use Rattle.bundle_store.specs.Tiles.{Opens}
-use Rattle.bundle_lines.specs.Lines.{check_lines, listing, recovery_line}
+use Rattle.bundle_store.specs.declared.tile_rec.TileRec.{TileRec}
+use Rattle.bundle_lines.specs.Lines.{check_lines, listing, put_lines, recovery_line}
+use Rattle.bundle_lines.specs.Puts.{HaveRoom, IsFirstFull}
+use Rattle.bundle_store.specs.Build.{bytes_at}
+use Rattle.tile_stream.specs.declared.tile.TileReason.{TileReason}
+use Rattle.tile_stream.specs.declared.tile.TileReason.TheVariants.{BadTileMark as NoTileMark, BadSlot as NoSlot, Grid as NoTileGrid}
+use Rattle.tile_updates.specs.declared.stop.StreamStop.{StreamStop}
+use Rattle.tile_updates.specs.declared.stop.StreamStop.TheVariants.{TooManyTiles as ManyTiles, Fault as TileFaultOf, DepthNeedsV4 as DeepTile, TileTooLarge as LargeTile, KeptTooMuch as MuchKept, Source as StreamSource, OutOfMemory as StreamMemory}
+use Rattle.tile_updates.specs.Updates.{IsUpdates, OfBytes}
+use Rattle.tile_updates.specs.Stops.{TellsStop}
 use Rattle.raster_values.specs.Raster.{Pixels, IsRaster}
 use Rattle.raster_values.specs.Grid.{grid_of}
 use Rattle.raster_values.specs.ReadGrid.{IsGrid, grid_faults}
@@ -20,15 +29,15 @@ use Rattle.lerc_header.specs.Written.{step_of}
 use Rattle.lerc_encode.specs.Choice.{choice}
 use Rattle.lerc_encode.specs.Encoded.{NeedsV4}
 use Rattle.lerc_cli.specs.declared.command.Command.{Command}
-use Rattle.lerc_cli.specs.declared.command.Command.TheVariants.{Encode, Decode, Info, Get, GetRaw, List as ListAll, Check, Recover}
+use Rattle.lerc_cli.specs.declared.command.Command.TheVariants.{Encode, Decode, Info, Put, Get, GetRaw, List as ListAll, Check, Recover}
 use Rattle.lerc_header.specs.declared.fault.BlobReason.{BlobReason}
 use Rattle.lerc_grammar.specs.Blob.{Blob}
 use Rattle.lerc_grammar.specs.Verdict.{WholeFault}
 use Rattle.lerc_cli.specs.declared.stop.Reason.{Reason}
-use Rattle.lerc_cli.specs.declared.stop.Reason.TheVariants.{Blob as BlobReasonOf, Grid, Leftover, DepthNeedsV4}
+use Rattle.lerc_cli.specs.declared.stop.Reason.TheVariants.{Blob as BlobReasonOf, Grid, Leftover, DepthNeedsV4, BadTileMark, BadSlot}
 use Rattle.lerc_cli.specs.declared.stop.Fault.{Fault}
 use Rattle.lerc_cli.specs.declared.stop.Refusal.{Refusal}
-use Rattle.lerc_cli.specs.declared.stop.Refusal.TheVariants.{NoTile, Beyond, BadBundle, BadJournal}
+use Rattle.lerc_cli.specs.declared.stop.Refusal.TheVariants.{NoTile, Beyond, BadBundle, BadJournal, TileTooLarge, Full, TooManyTiles, KeptTooMuch}
 use Rattle.lerc_cli.specs.declared.stop.Stop.{Stop}
 use Rattle.lerc_cli.specs.declared.stop.Stop.TheVariants.{Usage, Refused, Source, Output, Volume, OutOfMemory, Store}
 use Rattle.lerc_cli.specs.Command.{reads_source, calls_volume}
@@ -67,6 +76,12 @@ OfBundle files P = OfRecovered files (λ bundle. Opens bundle × P bundle)
 abbrev pub IsBlob : List ℕ → Type 0
 IsBlob bytes = (r : Pixels) × Blob bytes r
 
+-- the updates of a command's input, where it is told; only `put` has any
+abbrev pub UpdatesOf : Command → Given → List TileRec → Type 0
+UpdatesOf (Put version error workers) g updates =
+    OfBytes g.input (λ bytes. IsUpdates version (step_of error) bytes updates)
+UpdatesOf c g updates = updates ≡ []
+
 -- the bytes that the slot's entry names are a blob of this raster
 abbrev pub HoldsBlob : List ℕ → ℕ → Pixels → Type 0
 HoldsBlob bundle slot r = (tile : List ℕ) × (GetGives bundle slot tile × Blob tile r)
@@ -81,6 +96,9 @@ IsOutput Decode g n output =
     (r : Pixels) × (IsRaster r × OfInput g (λ bytes. Blob bytes r) × (output ≡ grid_of r))
 IsOutput Info g n output =
     (blob : List ℕ) × (IsBlob blob × OfInput g (λ bytes. bytes ≡ blob) × AreLinesOf blob output)
+IsOutput (Put version error workers) g n output = (updates : List TileRec)
+    × (UpdatesOf (Put version error workers) g updates × (n ≡ length updates)
+    × OfBundle g.files (λ bundle. HaveRoom bundle updates n) × (output ≡ put_lines updates))
 IsOutput (Get slot) g n output =
     (r : Pixels) × (IsRaster r × OfBundle g.files (λ bundle. HoldsBlob bundle slot r)
     × (output ≡ grid_of r))
@@ -126,6 +144,7 @@ IsUnrecovered files (Beyond at entry got) = ⊥
 IsUnrecovered files (BadBundle place found) = ⊥
 IsUnrecovered files (BadJournal place found) = RecoverFails (FoundBadJournal place found)
     × IfSome files (λ f. Refuses f.bundle f.journal place found)
+IsUnrecovered files refusal = ⊥
 
 -- The first refusals of each command that reads the bundle: of recovery, and then of opening.
 abbrev pub IsOpening : Option Files → Refusal → Type 0
@@ -135,6 +154,7 @@ IsOpening files (BadBundle place found) = OpenFails (FoundBadBundle place found)
     × OfRecovered files (λ bundle. open_fault bundle
     ≡ Some (record { place = place; found = found }))
 IsOpening files (BadJournal place found) = IsUnrecovered files (BadJournal place found)
+IsOpening files refusal = ⊥
 
 -- the refusals of a tile that is asked for
 abbrev pub IsMissing : Option Files → ℕ → Refusal → Type 0
@@ -144,6 +164,41 @@ IsMissing files slot (Beyond at entry got) = (at ≡ slot) × (got < entry.size)
     × OfBundle files (λ bundle. IsBeyond bundle slot entry got)
 IsMissing files slot (BadBundle place found) = IsOpening files (BadBundle place found)
 IsMissing files slot (BadJournal place found) = IsOpening files (BadJournal place found)
+IsMissing files slot refusal = ⊥
+
+-- what is wrong in a tile, as a reason
+abbrev pub tile_reason_of : TileReason → Reason
+tile_reason_of NoTileMark = BadTileMark
+tile_reason_of NoSlot = BadSlot
+tile_reason_of (NoTileGrid reason) = Grid reason
+
+-- why an input of tiles has no updates, as a stop
+abbrev pub stream_stop_of : StreamStop → Stop
+stream_stop_of ManyTiles = Store TooManyTiles
+stream_stop_of (TileFaultOf fault) =
+    Refused (record { reason = tile_reason_of fault.reason; place = fault.place })
+stream_stop_of (DeepTile place) = Refused (record { reason = DepthNeedsV4; place = place })
+stream_stop_of (LargeTile at len) = Store (TileTooLarge at len)
+stream_stop_of (MuchKept at) = Store (KeptTooMuch at)
+stream_stop_of StreamSource = Source
+stream_stop_of StreamMemory = OutOfMemory
+
+-- this is the first refusal of the input's tiles
+abbrev pub IsNoUpdates : Version → ℕ → Option (List ℕ) → Stop → Type 0
+IsNoUpdates version step input stop = (refused : StreamStop)
+    × ((stop ≡ stream_stop_of refused) × TellsStop version step input refused)
+
+-- the input has updates, and the bundle is not opened
+abbrev pub IsUnopened : Command → Given → Stop → Type 0
+IsUnopened c g stop = (updates : List TileRec) × (UpdatesOf c g updates
+    × ((refusal : Refusal) × ((stop ≡ Store refusal) × IsOpening g.files refusal)))
+
+-- there is no room for update number n, as it is put, and there is for those before it
+abbrev pub IsFull : Command → Given → ℕ → Stop → Type 0
+IsFull c g n stop = (len : ℕ) × ((stop ≡ Store (Full len)) × ((updates : List TileRec)
+    × (UpdatesOf c g updates × (n < length updates)
+    × (2 ^ 40 < len + 4 + length (bytes_at updates n))
+    × OfBundle g.files (λ bundle. IsFirstFull bundle updates n len))))
 
 -- This is the first fault of the bytes that the slot's entry names, which are to be one blob.
 abbrev pub IsNoTileBlob : Option Files → ℕ → Fault → Type 0
@@ -161,6 +216,10 @@ IsRefusal Decode g n (Refused fault) = IsNoBlob g fault
 IsRefusal Decode g n stop = ⊥
 IsRefusal Info g n (Refused fault) = IsNoBlob g fault
 IsRefusal Info g n stop = ⊥
+IsRefusal (Put version error workers) g n stop =
+    ((n ≡ 0) × IsNoUpdates version (step_of error) g.input stop)
+    ⊎ (((n ≡ 0) × IsUnopened (Put version error workers) g stop)
+    ⊎ IsFull (Put version error workers) g n stop)
 IsRefusal (Get slot) g n (Refused fault) = IsNoTileBlob g.files slot fault
 IsRefusal (Get slot) g n (Store refusal) = IsMissing g.files slot refusal
 IsRefusal (Get slot) g n stop = ⊥
@@ -179,6 +238,9 @@ IsListed files output = (slots : ℕ) × OfBundle files (λ bundle. output ≡ l
 
 -- what the command has meant to give by the time that an object fails
 abbrev pub IsCutOff : Command → Given → ℕ → Stop → List ℕ → Type 0
+IsCutOff (Put version error workers) g n stop output = ((n ≡ 0) × (output ≡ []))
+    ⊎ ((updates : List TileRec) × (UpdatesOf (Put version error workers) g updates
+    × (n ≤ length updates) × (output ≡ put_lines (take n updates))))
 IsCutOff ListAll g n Output output = IsListed g.files output
 IsCutOff ListAll g n Volume output = (output ≡ []) ⊎ IsListed g.files output
 IsCutOff c g n Output output = IsOutput c g n output
@@ -193,6 +255,7 @@ abbrev pub MayWant : Command → Given → Type 0
 MayWant (Encode version error) g = Unit {0}
 MayWant Decode g = OfInput g HasHead
 MayWant Info g = OfInput g HasHead
+MayWant (Put version error workers) g = Unit {0}
 MayWant (Get slot) g = OfBundle g.files (λ bundle. 0 < (entry_at bundle slot).size)
 MayWant (GetRaw slot) g = OfBundle g.files (λ bundle. 0 < (entry_at bundle slot).size)
 MayWant ListAll g = ⊥

@@ -1,6 +1,6 @@
 -- What a run leaves of the objects that it is lent, whatever it answers. What an object tells is
 -- None, or false, where it tells nothing.
-use Rattle.std.specs.Prelude.{◌≡◌, ℕ, ◌≤◌, List, [], length, Option, Some, None, IfSome, Bool, IsTrue, IsFalse, if◌then◌else◌, Ok, Err}
+use Rattle.std.specs.Prelude.{◌≡◌, ℕ, ◌≤◌, List, [], length, take, Option, Some, None, IfSome, Bool, IsTrue, IsFalse, if◌then◌else◌, Ok, Err}
 use Rattle.outside_io.specs.volume.History.{History, contents}
 use Rattle.outside_io.specs.declared.volume.VolFile.TheVariants.{Bundle, Journal}
 use Rattle.outside_io.specs.streams.Sink.{Holds, HoldsPrefix}
@@ -16,14 +16,16 @@ use Rattle.lerc_encode.specs.Encoded.{Declares, IsEncodedOnce, NeedsV4}
 use Rattle.lerc_grammar.specs.Blob.{Blob}
 use Rattle.lerc_grammar.specs.Verdict.{WholeFault}
 use Rattle.lerc_cli.specs.declared.command.Command.{Command}
-use Rattle.lerc_cli.specs.declared.command.Command.TheVariants.{Encode, Decode, Info, Get, GetRaw, List as ListAll, Check, Recover}
+use Rattle.lerc_cli.specs.declared.command.Command.TheVariants.{Encode, Decode, Info, Put, Get, GetRaw, List as ListAll, Check, Recover}
 use Rattle.lerc_cli.specs.declared.stop.Reason.TheVariants.{Blob as BlobReasonOf}
 use Rattle.lerc_cli.specs.declared.stop.Stop.TheVariants.{Usage, Refused, Source, Output, Volume, OutOfMemory, Store}
 use Rattle.lerc_cli.specs.Command.{reads_source, calls_volume, makes_updates}
 use Rattle.lerc_cli.specs.Stop.{End, line_of, status_at, status_of}
 use Rattle.lerc_cli.specs.Answer.{Files, Given, Ends, HasHead, IsBlob}
 use Rattle.lerc_cli.specs.Info.{AreLinesOf}
-use Rattle.lerc_cli.specs.Tiles.{IsLeft, IsReady, KeepsTiles}
+use Rattle.lerc_cli.specs.Tiles.{IsLeft, IsReady, KeepsTiles, OnAnswer, UpdatesAt, bundle_after, is_early}
+use Rattle.bundle_store.specs.declared.tile_rec.TileRec.{TileRec}
+use Rattle.bundle_lines.specs.Puts.{AreMarks}
 use Rattle.bundle_store.specs.Tiles.{TileMap}
 use Rattle.outside_io.specs.program.Line.{GivesLine}
 use Rattle.outside_io.specs.streams.Faults.{IsCause}
@@ -45,6 +47,7 @@ abbrev pub TakesFor : Command → Option (List ℕ) → Option (List ℕ) → Ty
 TakesFor (Encode version error) left_old left_new = TookSome left_old left_new
 TakesFor Decode left_old left_new = TakesUpTo 134217729 left_old left_new
 TakesFor Info left_old left_new = TakesUpTo 134217729 left_old left_new
+TakesFor (Put version error workers) left_old left_new = TookSome left_old left_new
 TakesFor (Get slot) left_old left_new = left_new ≡ left_old
 TakesFor (GetRaw slot) left_old left_new = left_new ≡ left_old
 TakesFor ListAll left_old left_new = left_new ≡ left_old
@@ -84,18 +87,23 @@ pub record OfOutput (c : Command) (g : Given) (n : ℕ) (end : End) (same : Type
 -- ---- the volume
 
 -- The first type says that the volume is as it was.
-pub record OfVolume (c : Command) (end : End) (same : Type 0) (marks : List ℕ)
+pub record OfVolume (c : Command) (g : Given) (end : End) (same : Type 0) (marks : List ℕ)
     (told_old told_new : Bool) (old new : History) (faults_old faults_new : ℕ) : Type 0 where
   pub cause : IsCause (end ≡ Err Volume) faults_old faults_new
   pub told : told_new ≡ told_old
-  pub later : IsTrue told_old → old.moment ≤ new.moment
-  pub idle : IsFalse (calls_volume c) → same
+  pub later : IsTrue told_old → IsFalse (makes_updates c) → old.moment ≤ new.moment
+  pub idle : IsTrue (is_early c end) → same
   pub unmarked : IsFalse (makes_updates c) → marks ≡ []
-  -- what the bundle reads as
-  pub reads : IsTrue (calls_volume c) → IsTrue told_old → (end ≡ Err Volume → ⊥)
-      → IsLeft (contents Bundle old) (contents Journal old) (contents Bundle new)
+  -- they never fall, and none is earlier than the start or later than the end
+  pub marks_are : IsTrue told_old → AreMarks marks old.moment new.moment
+  -- what the bundle reads as: what a recovery leaves, with the updates done that have a mark
+  pub reads : IsTrue told_old → IsFalse (is_early c end) → OnAnswer end ((updates : List TileRec)
+      × (UpdatesAt c g end updates × ((bundle : List ℕ)
+      × (IsLeft (contents Bundle old) (contents Journal old) bundle
+      × (contents Bundle new ≡ bundle_after c bundle (take (length marks) updates))))))
   -- what a crash may leave at each moment
-  pub tiles : (start : TileMap) → IsReady told_old old start → KeepsTiles start old new
+  pub tiles : (start : TileMap) → IsReady told_old old start → (updates : List TileRec)
+      × (UpdatesAt c g end updates × KeepsTiles c updates marks start old new)
 
 -- ---- the error output
 
@@ -121,7 +129,7 @@ pub record OfRun (c : Command) (status : ℕ) (marks : List ℕ)
   pub source : OfSource c end same_source left_old left_new taking_old taking_new
   pub output : OfOutput c (given left_old (files_of told_old old)) (length marks) end same_output
       held_old held_new giving_old giving_new
-  pub volume : OfVolume c end same_volume marks told_old told_new old new calling_old calling_new
+  pub volume : OfVolume c (given left_old (files_of told_old old)) end same_volume marks told_old told_new old new calling_old calling_new
   pub line : GivesLineOf end same_error said_old said_new saying_old saying_new
 
 -- Memory for the words was refused: the line of that is all that was given.

@@ -7,9 +7,9 @@ use Rattle.lerc_header.specs.declared.fault.BlobReason.{BlobReason}
 use Rattle.lerc_header.specs.declared.fault.BlobReason.TheVariants.{Truncated, BadKey, BadVersion, BadRows, BadCols, BadDepth, TooLarge, BadCount, BadBlockSize, BadBlobSize, FloatPixels, BadType, BadError, BadRange, BadChecksum, BadMaskLength, BadRun, BadMaskCount, MaskMissing, BadSweep, BadMode, BadBlockTag, BadOffsetCode, BadListHead, BadListCount, BadTable, BadIndex, BadCodeTable, NoCode, PastEnd, Leftover}
 use Rattle.bundle_lines.specs.Lines.{slot_text}
 use Rattle.lerc_cli.specs.declared.stop.Reason.{Reason}
-use Rattle.lerc_cli.specs.declared.stop.Reason.TheVariants.{Blob, Grid, Leftover as LeftoverOf, DepthNeedsV4}
+use Rattle.lerc_cli.specs.declared.stop.Reason.TheVariants.{Blob, Grid, Leftover as LeftoverOf, DepthNeedsV4, BadTileMark, BadSlot}
 use Rattle.lerc_cli.specs.declared.stop.Refusal.{Refusal}
-use Rattle.lerc_cli.specs.declared.stop.Refusal.TheVariants.{NoTile, Beyond, BadBundle, BadJournal}
+use Rattle.lerc_cli.specs.declared.stop.Refusal.TheVariants.{NoTile, Beyond, BadBundle, BadJournal, TileTooLarge, Full, TooManyTiles, KeptTooMuch}
 use Rattle.lerc_cli.specs.declared.stop.Stop.{Stop}
 use Rattle.lerc_cli.specs.declared.stop.Stop.TheVariants.{Usage, Refused, Source, Output, Volume, OutOfMemory, Store}
 
@@ -77,6 +77,8 @@ name_of (Blob reason) = blob_name_of reason
 name_of (Grid reason) = grid_name_of reason
 name_of LeftoverOf = codes "Leftover"
 name_of DepthNeedsV4 = codes "DepthNeedsV4"
+name_of BadTileMark = codes "BadTileMark"
+name_of BadSlot = codes "BadSlot"
 
 -- two numbers, each behind its word
 abbrev pub two_numbers : List ℕ → ℕ → List ℕ → ℕ → List ℕ
@@ -104,6 +106,10 @@ refusal_text (BadBundle place found) =
     two_numbers (codes "BadBundle at") place (codes " found") found
 refusal_text (BadJournal place found) =
     two_numbers (codes "BadJournal at") place (codes " found") found
+refusal_text (TileTooLarge at len) = two_numbers (codes "TileTooLarge") at (codes " size") len
+refusal_text (Full len) = codes "Full" ++ and_number len
+refusal_text TooManyTiles = codes "TooManyTiles"
+refusal_text (KeptTooMuch at) = codes "KeptTooMuch" ++ and_number at
 
 abbrev pub usage_text : List ℕ
 usage_text = codes "usage: PATH encode V E, decode, info, build V E N, put V E N, get R C, get R C raw, list, check, recover, sample START COUNT"

@@ -1,5 +1,5 @@
 -- What a crash may leave at each moment of a run, and what the bundle reads as behind it.
-use Rattle.std.specs.Prelude.{◌≡◌, ◌⊎◌, ℕ, ◌≤◌, List, Bool, IsTrue}
+use Rattle.std.specs.Prelude.{◌≡◌, ◌⊎◌, ℕ, ◌≤◌, List, [], Bool, true, false, not, IsFalse, IsTrue, Ok, Err}
 use Rattle.outside_io.specs.declared.volume.VolFile.TheVariants.{Bundle, Journal}
 use Rattle.outside_io.specs.streams.Faults.{IsCause}
 use Rattle.outside_io.specs.volume.Disk.{IsQuiet}
@@ -8,6 +8,15 @@ use Rattle.bundle_store.specs.declared.recovery.Recovery.{Recovery}
 use Rattle.bundle_store.specs.Images.{EachImage, StandsFor}
 use Rattle.bundle_store.specs.Recover.{Leaves, Refuses}
 use Rattle.bundle_store.specs.Tiles.{TileMap}
+use Rattle.bundle_store.specs.declared.tile_rec.TileRec.{TileRec}
+use Rattle.bundle_lines.specs.Puts.{PutsKeep, bundle_after_puts}
+use Rattle.lerc_cli.specs.declared.command.Command.{Command}
+use Rattle.lerc_cli.specs.declared.command.Command.TheVariants.{Put}
+use Rattle.lerc_cli.specs.declared.stop.Refusal.TheVariants.{TileTooLarge, Full, TooManyTiles, KeptTooMuch}
+use Rattle.lerc_cli.specs.declared.stop.Stop.TheVariants.{Refused, Source, Output, Volume, OutOfMemory, Store}
+use Rattle.lerc_cli.specs.Answer.{Given, UpdatesOf}
+use Rattle.lerc_cli.specs.Command.{calls_volume}
+use Rattle.lerc_cli.specs.Stop.{End}
 
 -- The volume tells its files, nothing is pending as the run starts, and what is read then is sound
 -- and stands for this map.
@@ -17,8 +26,51 @@ pub record IsReady (told : Bool) (h : History) (start : TileMap) : Type 0 where
   pub stands : StandsFor (contents Bundle h) (contents Journal h) start
 
 -- at each moment each image is sound, and stands for this map
-abbrev pub KeepsTiles : TileMap → History → History → Type 0
-KeepsTiles start old new = During (EachImage (λ map. map ≡ start)) old new
+abbrev pub KeepsStart : TileMap → History → History → Type 0
+KeepsStart start old new = During (EachImage (λ map. map ≡ start)) old new
+
+-- At each moment each image is sound. For `put` it stands for the tiles that stood at the start with
+-- the first few updates done: at least those with a mark by then, and at most one more. For any
+-- other command it stands for the tiles at the start.
+abbrev pub KeepsTiles : Command → List TileRec → List ℕ → TileMap → History → History → Type 0
+KeepsTiles (Put version error workers) updates marks start old new =
+    PutsKeep start updates marks old new
+KeepsTiles c updates marks start old new = KeepsStart start old new
+
+-- the command came as far as its updates: the input was read, and no refusal stood before the first
+abbrev pub has_updates : End → Bool
+has_updates (Ok x) = true
+has_updates (Err Output) = true
+has_updates (Err Volume) = true
+has_updates (Err (Store (Full len))) = true
+has_updates end = false
+
+-- the updates that may be done where the command ends so: those of its input, or none
+pub record UpdatesAt (c : Command) (g : Given) (end : End) (updates : List TileRec) : Type 0 where
+  pub some : IsTrue (has_updates end) → UpdatesOf c g updates
+  pub none : IsFalse (has_updates end) → updates ≡ []
+
+-- The volume is not called: the command calls none, or its input was refused, the source failed, or
+-- memory was refused before.
+abbrev pub is_early : Command → End → Bool
+is_early (Put version error workers) (Err (Refused fault)) = true
+is_early (Put version error workers) (Err Source) = true
+is_early (Put version error workers) (Err OutOfMemory) = true
+is_early (Put version error workers) (Err (Store (TileTooLarge at len))) = true
+is_early (Put version error workers) (Err (Store TooManyTiles)) = true
+is_early (Put version error workers) (Err (Store (KeptTooMuch at))) = true
+is_early c end = not (calls_volume c)
+
+-- unless the volume failed or memory was refused
+abbrev pub OnAnswer : End → Type 0 → Type 0
+OnAnswer (Err Volume) P = Unit {0}
+OnAnswer (Err OutOfMemory) P = Unit {0}
+OnAnswer end P = P
+
+-- the bundle with these updates done
+abbrev pub bundle_after : Command → List ℕ → List TileRec → List ℕ
+bundle_after (Put version error workers) bundle updates = bundle_after_puts bundle updates
+bundle_after c bundle updates = bundle
 
 -- What a recovery leaves of the bundle: what the journal says, or the bundle as it is where a test
 -- of the journal fails.
@@ -36,4 +88,4 @@ pub record OfReading (failed : Type 0) (told_old told_new : Bool) (old new : His
   pub later : IsTrue told_old → old.moment ≤ new.moment
   pub reads : IsTrue told_old → (failed → ⊥)
       → IsLeft (contents Bundle old) (contents Journal old) (contents Bundle new)
-  pub tiles : (start : TileMap) → IsReady told_old old start → KeepsTiles start old new
+  pub tiles : (start : TileMap) → IsReady told_old old start → KeepsStart start old new

@@ -4,3 +4,4 @@ pub mod Keeps
 pub mod Opening
 pub mod Reads
 pub mod Spelling
+pub mod Updates

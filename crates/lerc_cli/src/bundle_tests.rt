@@ -10,10 +10,10 @@ const HEADER: [u8; 64] =
     *b"\x03\x00\x00\x00\x00\x40\x00\x00\x42\x00\x00\x00\x05\x00\x00\x00\x00\x00\x00\x00\x00\x00\x00\x00\x86\x00\x02\x00\x00\x00\x00\x00\x28\x00\x00\x00\x00\x00\x00\x00\x14\x00\x02\x00\x03\x00\x00\x00\x10\x00\x00\x00\x00\x40\x00\x00\x05\x00\x00\x00\x00\x00\x02\x00";
 
 /// The entry of the record.
-const ENTRY: [u8; 8] = [0x44, 0x00, 0x02, 0x00, 0x00, 0x42, 0x00, 0x00];
+pub(crate) const ENTRY: [u8; 8] = [0x44, 0x00, 0x02, 0x00, 0x00, 0x42, 0x00, 0x00];
 
 /// A bundle with one record, of a blob, and this entry of the last slot.
-fn bundle_of(alloc: Global, entry: &[u8; 8]) -> Result<Vec<u8>, Fail> {
+pub(crate) fn bundle_of(alloc: Global, entry: &[u8; 8]) -> Result<Vec<u8>, Fail> {
     let mut index = Vec::new(alloc);
     index.resize(131064, 0)?;
     let size = [66, 0, 0, 0];
@@ -31,7 +31,7 @@ fn file_of(alloc: Global, bytes: &[u8]) -> Result<Start, Fail> {
 }
 
 /// This bundle beside this journal. The calls of these numbers fail.
-fn volume(
+pub(crate) fn volume(
     alloc: Global,
     bundle: &[u8],
     journal: &[u8],
@@ -40,11 +40,11 @@ fn volume(
     let bundle = file_of(alloc, bundle)?;
     let journal = file_of(alloc, journal)?;
     let failing = Vec::from_slice(alloc, failing)?;
-    Ok(MemVolume::new(alloc, bundle, journal, failing, None, 200, 300_000)?)
+    Ok(MemVolume::new(alloc, bundle, journal, failing, None, 1000, 300_000)?)
 }
 
 /// What a command leaves over a volume, whose input is empty.
-fn over(alloc: Global, words: &[&str], vol: &mut MemVolume) -> Result<Left, Fail> {
+pub(crate) fn over(alloc: Global, words: &[&str], vol: &mut MemVolume) -> Result<Left, Fail> {
     Ok(left_over(alloc, words, &[], (1, 7), (&[], &[]), vol)?)
 }
 

@@ -2,7 +2,7 @@ ghost use Rattle.std.specs.Prelude.{◌≡◌, ◌↔◌, ◌∷◌, [], ℕ, So
 ghost use Rattle.lerc_header.specs.declared.header.Version.{Version};
 ghost use Rattle.lerc_cli.specs.Command.{AreSlotWords, IsSpelled, IsVersionWord, IsWithin};
 ghost use Rattle.lerc_cli.specs.declared.command.Command.{Command};
-ghost use Rattle.lerc_cli.specs.inside.Spelling.{IsEncode, IsGet, IsGetRaw};
+ghost use Rattle.lerc_cli.specs.inside.Spelling.{IsEncode, IsGet, IsGetRaw, IsPut};
 
 use bundle_index::Slot;
 use lerc_header::Version;
@@ -13,15 +13,29 @@ use outside_io::Word;
 pub enum Command {
     /// Reads one grid, and gives the blob of its raster in this version. Its values may be this far
     /// from the given ones, and are the given ones where the error is 0.
-    Encode { version: Version, error: u32 },
+    Encode {
+        version: Version,
+        error: u32,
+    },
     /// Reads one blob, and gives its grid.
     Decode,
     /// Reads one blob, and gives the lines of what it says of itself.
     Info,
+    /// Reads tiles, and puts the blob of each into its slot. The number of workers changes nothing
+    /// of what is given and put.
+    Put {
+        version: Version,
+        error: u32,
+        workers: u32,
+    },
     /// Gives the grid of the slot's tile.
-    Get { slot: Slot },
+    Get {
+        slot: Slot,
+    },
     /// Gives the bytes of the slot's tile.
-    GetRaw { slot: Slot },
+    GetRaw {
+        slot: Slot,
+    },
     /// Gives a line for each tile of the bundle.
     List,
     /// Checks the bundle, and gives the lines of what was found.
@@ -66,6 +80,31 @@ fn encode_of(version: &Word, error: &Word) -> Option<Command>
     let version = version_of(version)?;
     let error = error_of(error)?;
     Some(Command::Encode { version, error })
+}
+
+/// The number of workers that a word stands for.
+fn workers_of(word: &Word) -> Option<u32>
+    ensures { (workers : ℕ) → (result ≡ Some workers) ↔ IsWithin word.now workers 1 64 }
+{
+    match word.number() {
+        Some(workers) if workers >= 1 && workers <= 64 => Some(workers as u32),
+        _ => None,
+    }
+}
+
+/// The command `put` of a version's word, an error's and that of a number of workers.
+fn put_of(version: &Word, error: &Word, workers: &Word) -> Option<Command>
+    ensures { (c : Command) → (result ≡ Some c)
+        ↔ IsPut version.now error.now workers.now c }
+{
+    let version = version_of(version)?;
+    let error = error_of(error)?;
+    let workers = workers_of(workers)?;
+    Some(Command::Put {
+        version,
+        error,
+        workers,
+    })
 }
 
 /// The row or the column that a word stands for.
@@ -144,6 +183,9 @@ fn with_three(name: &Word, first: &Word, second: &Word, third: &Word) -> Option<
     ensures { (c : Command) → (result ≡ Some c)
         ↔ IsSpelled c (name.now ∷ first.now ∷ second.now ∷ third.now ∷ []) }
 {
+    if has_text(name, b"put") {
+        return put_of(first, second, third);
+    }
     if has_text(name, b"get") && has_text(third, b"raw") {
         return get_raw_of(first, second);
     }

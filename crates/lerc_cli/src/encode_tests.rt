@@ -7,7 +7,7 @@ use crate::tests::{
 use std::test::Fail;
 
 /// One row of four numbers of two bytes: 10 11 12 13.
-const TENS: [u8; 29] = *b"LGR1\x02\x01\0\0\0\x04\0\0\0\x01\0\0\0\
+pub(crate) const TENS: [u8; 29] = *b"LGR1\x02\x01\0\0\0\x04\0\0\0\x01\0\0\0\
 \x01\x01\x01\x01\x0a\0\x0b\0\x0c\0\x0d\0";
 
 /// The same with a second depth: 100 100 100 103.

@@ -1,5 +1,5 @@
 ghost use Rattle.std.specs.Prelude.{◌≡◌, ◌+◌, ◌≤◌, [], ◌++◌, length};
-ghost use Rattle.outside_io.specs.program.Line.{GivesLine};
+ghost use Rattle.outside_io.specs.program.Line.{GivesLine, and_number};
 ghost use Rattle.lerc_cli.specs.Stop.{line_of, name_of, text_of};
 ghost use Rattle.lerc_cli.specs.Stop.{blob_name_of, blob_numbers_of, grid_name_of, refusal_text, two_numbers};
 ghost use Rattle.bundle_lines.specs.Lines.{slot_text};
@@ -78,7 +78,19 @@ fn name(reason: Reason) -> &'static [u8]
         Reason::Grid(reason) => grid_name(reason),
         Reason::Leftover => b"Leftover",
         Reason::DepthNeedsV4 => b"DepthNeedsV4",
+        Reason::BadTileMark => b"BadTileMark",
+        Reason::BadSlot => b"BadSlot",
     }
+}
+
+/// Adds a number behind its word.
+fn add_one(line: &mut Line, word: &[u8], n: u64)
+    requires { length line.old + length word.now ≤ 120 }
+    ensures text { line.new ≡ line.old ++ (word.now ++ and_number n) }
+    ensures short { length line.new ≤ length line.old + length word.now + 21 }
+{
+    line.text(word);
+    line.number(n);
 }
 
 /// Adds two numbers, each behind its word.
@@ -176,6 +188,12 @@ fn store_refusal(refusal: &Refusal) -> Line
         Refusal::BadJournal { place, found } => {
             add_two(&mut line, b"BadJournal at", *place, b" found", *found);
         }
+        Refusal::TileTooLarge { at, len } => {
+            add_two(&mut line, b"TileTooLarge", *at, b" size", *len);
+        }
+        Refusal::Full { len } => add_one(&mut line, b"Full", *len),
+        Refusal::TooManyTiles => line.text(b"TooManyTiles"),
+        Refusal::KeptTooMuch { at } => add_one(&mut line, b"KeptTooMuch", *at),
     }
     line
 }

@@ -31,6 +31,9 @@ mod opening;
 mod outline_lines;
 mod paths;
 mod program;
+mod put;
+#[cfg(test)]
+mod put_tests;
 mod reading;
 mod run;
 mod stop;

@@ -6,13 +6,14 @@ ghost use Rattle.lerc_cli.specs.declared.command.Command.{Command};
 ghost use Rattle.lerc_cli.specs.declared.stop.Stop.{Stop};
 ghost use Rattle.lerc_cli.specs.Answer.{IsBlob, IsOutput, Tells};
 ghost use Rattle.bundle_store.specs.Tiles.{TileMap};
-ghost use Rattle.lerc_cli.specs.Tiles.{IsReady, KeepsTiles};
+ghost use Rattle.lerc_cli.specs.Tiles.{IsReady, KeepsTiles, UpdatesAt};
+ghost use Rattle.bundle_store.specs.declared.tile_rec.TileRec.{TileRec};
 ghost use Rattle.lerc_cli.specs.Command.{IsSpelled, IsNoCommand};
 ghost use Rattle.outside_io.specs.program.Line.{GivesLine};
 ghost use Rattle.outside_io.specs.streams.Faults.{IsCause};
 ghost use Rattle.lerc_cli.specs.Run.{OfSource, OfOutput, OfVolume, OfRun, GivesLineOf, files_of, given};
 ghost use Rattle.lerc_cli.specs.Run.{GivesBlob, GivesGrid, GivesGridPrefix, GivesLines, IsGridFor, TellsFault, ToldHead};
-ghost use Rattle.lerc_cli.specs.Stop.{status_of, status_at, line_of};
+ghost use Rattle.lerc_cli.specs.Stop.{End, status_of, status_at, line_of};
 
 use crate::bundle::{check, list, recover};
 use crate::command::{Command, command_of};
@@ -21,6 +22,7 @@ use crate::encode::encode;
 use crate::get::{get, get_raw};
 use crate::info::info;
 use crate::lines::tell;
+use crate::put::put;
 use crate::stop::Stop;
 use outside_io::{Marks, Report, Sink, Source, Volume, Word};
 use std::alloc::Global;
@@ -41,7 +43,9 @@ fn perform<S: Source, K: Sink, V: Volume>(
         (given (S.left src.old) (files_of (V.told vol.old) (V.history vol.old)))
         (length marks.new.marks) result (out.new ≡ out.old)
         (K.held out.old) (K.held out.new) (K.faults out.old) (K.faults out.new) }
-    ensures volume { OfVolume command result (vol.new ≡ vol.old) marks.new.marks
+    ensures volume { OfVolume command
+        (given (S.left src.old) (files_of (V.told vol.old) (V.history vol.old)))
+        result (vol.new ≡ vol.old) marks.new.marks
         (V.told vol.old) (V.told vol.new) (V.history vol.old) (V.history vol.new)
         (V.faults vol.old) (V.faults vol.new) }
     ensures blob { (version : Version) (error : ℕ) → command ≡ Command.Encode version error
@@ -52,6 +56,7 @@ fn perform<S: Source, K: Sink, V: Volume>(
         Command::Encode { version, error } => encode(alloc, version, error, src, out),
         Command::Decode => decode(alloc, src, out),
         Command::Info => info(alloc, src, out),
+        Command::Put { version, error, .. } => put(alloc, version, error, src, out, vol, marks),
         Command::Get { slot } => get(alloc, slot, out, vol),
         Command::GetRaw { slot } => get_raw(alloc, slot, out, vol),
         Command::List => list(alloc, out, vol),
@@ -87,7 +92,8 @@ fn act<S: Source, K: Sink, V: Volume>(
         (length marks.new.marks) result (out.new ≡ out.old)
         (K.held out.old) (K.held out.new) (K.faults out.old) (K.faults out.new) }
     ensures volume { (c : Command) → IsSpelled c words.now
-        → OfVolume c result (vol.new ≡ vol.old) marks.new.marks
+        → OfVolume c (given (S.left src.old) (files_of (V.told vol.old) (V.history vol.old)))
+        result (vol.new ≡ vol.old) marks.new.marks
         (V.told vol.old) (V.told vol.new) (V.history vol.old) (V.history vol.new)
         (V.faults vol.old) (V.faults vol.new) }
     ensures blob { (version : Version) (error : ℕ)
@@ -173,11 +179,15 @@ pub fn run<S: Source, K: Sink, E: Sink, V: Volume>(
         → result.status ≢ 3 → result.status ≢ 4 → result.status ≢ 5 → result.status ≢ 6
         → (result.status ≡ 0) × Holds (K.held out.old) (K.held out.new) output }
 
-    // At each moment of the run each image that a crash may leave stands for the tiles that stood as
-    // it began.
+    // At each moment of the run each image that a crash may leave is sound. It stands for the tiles
+    // that stood as the run began; for `put`, with the first few of its updates done, at least those
+    // that have a mark by then, and at most one more.
     ensures kept { (c : Command) → IsSpelled c words.now → (start : TileMap)
         → IsReady (V.told vol.old) (V.history vol.old) start
-        → KeepsTiles start (V.history vol.old) (V.history vol.new) }
+        → (updates : List TileRec) × ((end : End) × ((result.status ≡ status_at end)
+        × UpdatesAt c
+        (given (S.left src.old) (files_of (V.told vol.old) (V.history vol.old))) end updates
+        × KeepsTiles c updates result.marks.marks start (V.history vol.old) (V.history vol.new))) }
 
     // One line tells of each stop.
     ensures no_other_status { (result.status ≡ 0)

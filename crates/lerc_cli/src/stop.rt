@@ -16,6 +16,10 @@ pub enum Reason {
     Leftover,
     /// The grid's raster has more than one depth, which version 3 has no place for.
     DepthNeedsV4,
+    /// A tile of the input does not begin with its mark.
+    BadTileMark,
+    /// A tile of the input names a row or a column above 127.
+    BadSlot,
 }
 
 /// A reason, and the place in the input where it stands.
@@ -36,6 +40,14 @@ pub enum Refusal {
     BadBundle { place: u64, found: u64 },
     /// The journal counts, and a test of it fails.
     BadJournal { place: u64, found: u64 },
+    /// The blob of this tile of the input, counted from 0, has more bytes than a tile may have.
+    TileTooLarge { at: u64, len: u64 },
+    /// The bundle of `len` bytes has no room for the next tile.
+    Full { len: u64 },
+    /// The input has more than 1,048,576 tiles.
+    TooManyTiles,
+    /// The blobs up to this tile of the input have more than 2^30 bytes together.
+    KeptTooMuch { at: u64 },
 }
 
 /// Why a run did not give its output whole.

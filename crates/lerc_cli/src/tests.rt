@@ -364,7 +364,7 @@ fn a_failing_output_has_a_prefix(rt: HostRuntime) -> Result<(), Fail> {
 
 #[test]
 fn other_words_are_refused(rt: HostRuntime) -> Result<(), Fail> {
-    for words in [[].as_slice(), &["decodes"], &["decode", "x"], &["list"]] {
+    for words in [[].as_slice(), &["decodes"], &["decode", "x"], &["sample"]] {
         let left = left_by(rt.alloc(), words, &BLOB, (66, 100), (&[], &[]))?;
         assert_eq!(rt; left.status, 1);
         assert_eq!(rt; left.out.held().len(), 0);

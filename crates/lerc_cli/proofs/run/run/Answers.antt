@@ -46,7 +46,9 @@ returns-clause-complete g c = λ command spelled told n output has.
     complete command _ n _ _ _ output _ _ _ _ _ told c.ended_status-status.ensures.status has (c.act-ended.ensures.output command spelled)
 
 pub returns-clause-kept : goal.returns-clause-kept
-returns-clause-kept g c = λ command spelled. (c.act-ended.ensures.volume command spelled).tiles
+returns-clause-kept g c = λ command spelled start ready.
+    let made = (c.act-ended.ensures.volume command spelled).tiles start ready in
+    (made.0, (_, (c.ended_status-status.ensures.status, made.1.0, made.1.1)))
 
 pub returns-clause-no_other_status : goal.returns-clause-no_other_status
 returns-clause-no_other_status g c = some_status _ _ c.ended_status-status.ensures.status

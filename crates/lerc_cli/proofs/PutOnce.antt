@@ -1,0 +1,156 @@
+-- One answer of `put`.
+use Rattle.std.proofs.Common.{◌≡◌, ◌⊎◌, inl, inr, ℕ, ◌+◌, ◌<◌, ◌≤◌, List, [], length, take, Option, Some, None, Ok, Err, refl, sym, ◌∙◌, ap, subst, rules, arith}
+use Rattle.std.specs.Prelude.{IsTrue}
+use Rattle.std.proofs.lemmas.Bool.{cases_lt}
+use Rattle.lerc_header.specs.declared.header.Version.{Version}
+use Rattle.lerc_header.specs.Written.{step_of}
+use Rattle.bundle_store.specs.declared.tile_rec.TileRec.{TileRec}
+use Rattle.bundle_store.specs.Build.{bytes_at}
+use Rattle.bundle_lines.specs.Lines.{put_lines}
+use Rattle.bundle_lines.specs.Puts.{HaveRoom, IsFirstFull, length_before}
+use Rattle.tile_updates.specs.declared.stop.StreamStop.{StreamStop}
+use Rattle.tile_updates.specs.declared.stop.StreamStop.TheVariants.{TooManyTiles as ManyTiles, Fault as TileFaultOf, DepthNeedsV4 as DeepTile, TileTooLarge as LargeTile, KeptTooMuch as MuchKept, Source as StreamSource, OutOfMemory as StreamMemory}
+use Rattle.tile_updates.specs.Updates.{IsUpdates}
+use Rattle.tile_updates.specs.Stops.{IsStreamStop, TellsStop}
+use Rattle.tile_updates.proofs.Refusals.{stops_once, updates_once, updates_or_stop}
+use Rattle.lerc_cli.specs.declared.command.Command.TheVariants.{Put}
+use Rattle.lerc_cli.specs.declared.stop.Fault.{Fault}
+use Rattle.lerc_cli.specs.declared.stop.Refusal.{Refusal}
+use Rattle.lerc_cli.specs.declared.stop.Refusal.TheVariants.{Full}
+use Rattle.lerc_cli.specs.declared.stop.Stop.{Stop}
+use Rattle.lerc_cli.specs.declared.stop.Stop.TheVariants.{Usage, Refused, Source, Output, Volume, OutOfMemory, Store}
+use Rattle.lerc_cli.specs.Answer.{Ends, Files, Given, IsAnswer, IsCutOff, IsFull, IsOutput, IsRefusal, OfBundle, stream_stop_of}
+use Rattle.lerc_cli.specs.Run.{given}
+use Rattle.lerc_cli.specs.Stop.{End}
+use Rattle.lerc_cli.proofs.OneBundle.{both, one_opening, recovered_or_opening}
+
+-- all is told
+abbrev pub all_told : List ℕ → Files → Given
+all_told bytes f = given (Some bytes) (Some f)
+
+-- a stop of the bytes alone
+of_bytes : (v : Version) (step : ℕ) (bytes : List ℕ) (s : StreamStop) → (stream_stop_of s ≡ Source → ⊥) → (stream_stop_of s ≡ OutOfMemory → ⊥) → TellsStop v step (Some bytes) s → IsStreamStop v step bytes s
+of_bytes v step bytes ManyTiles source memory tells = tells
+of_bytes v step bytes (TileFaultOf f) source memory tells = tells
+of_bytes v step bytes (DeepTile at) source memory tells = tells
+of_bytes v step bytes (LargeTile at len) source memory tells = tells
+of_bytes v step bytes (MuchKept at) source memory tells = tells
+of_bytes v step bytes StreamSource source memory tells = absurd (source refl)
+of_bytes v step bytes StreamMemory source memory tells = absurd (memory refl)
+
+-- the stop is one of the command, and not of a source that failed or of want of memory
+pub record IsOwn (stop : Stop) : Type 0 where
+  pub source : stop ≡ Source → ⊥
+  pub memory : stop ≡ OutOfMemory → ⊥
+
+own_bytes : (v : Version) (step : ℕ) (bytes : List ℕ) (stop : Stop) (s : StreamStop) → IsOwn stop → stop ≡ stream_stop_of s → TellsStop v step (Some bytes) s → IsStreamStop v step bytes s
+own_bytes v step bytes stop s own is tells = of_bytes v step bytes s (λ same. own.source (is ∙ same)) (λ same. own.memory (is ∙ same)) tells
+
+-- ---- room
+
+first_once : (b : List ℕ) (us : List TileRec) (n m l k : ℕ) → IsFirstFull b us n l → IsFirstFull b us m k → n < m → ⊥
+first_once b us n m l k one two less = let room = two.before n less in omega (arith, one.len_is, one.full, room)
+
+one_full : (b : List ℕ) (us : List TileRec) (n m l k : ℕ) → IsFirstFull b us n l → IsFirstFull b us m k → (n ≡ m) × (l ≡ k)
+one_full b us n m l k one two = elim (cases_lt n m) [
+  | inl less ↦ absurd (first_once b us n m l k one two less)
+  | inr after ↦ elim (cases_lt m n) [
+    | inl more ↦ absurd (first_once b us m n k l two one more)
+    | inr same ↦ (let e : n ≡ m = omega (arith, after, same) in (e, one.len_is ∙ ap (length_before b us) e ∙ sym two.len_is))
+  ]
+]
+
+-- ---- one refusal
+
+pub one_put_refusal : (v : Version) (e w : ℕ) (bytes : List ℕ) (f : Files) (n m : ℕ) (stop other : Stop) → IsOwn stop → IsOwn other
+    → IsRefusal (Put v e w) (all_told bytes f) n stop → IsRefusal (Put v e w) (all_told bytes f) m other → (stop ≡ other) × (n ≡ m)
+one_put_refusal v e w bytes f n m stop other own its (inl (zero, (s, (is, tells)))) (inl (none, (t, (so, told)))) =
+    let same = stops_once v (step_of e) bytes s t (own_bytes v (step_of e) bytes stop s own is tells) (own_bytes v (step_of e) bytes other t its so told) in
+    (is ∙ ap stream_stop_of same ∙ sym so, zero ∙ sym none)
+one_put_refusal v e w bytes f n m stop other own its (inl (zero, (s, (is, tells)))) (inr (inl (none, (us, (of, rest))))) =
+    absurd (updates_or_stop v (step_of e) bytes us s of (own_bytes v (step_of e) bytes stop s own is tells))
+one_put_refusal v e w bytes f n m stop other own its (inl (zero, (s, (is, tells)))) (inr (inr (len, (so, (us, rest))))) =
+    absurd (updates_or_stop v (step_of e) bytes us s rest.0 (own_bytes v (step_of e) bytes stop s own is tells))
+one_put_refusal v e w bytes f n m stop other own its (inr (inl (zero, (us, (of, rest))))) (inl (none, (t, (so, told)))) =
+    absurd (updates_or_stop v (step_of e) bytes us t of (own_bytes v (step_of e) bytes other t its so told))
+one_put_refusal v e w bytes f n m stop other own its (inr (inl (zero, (us, (of, (r, (is, opening))))))) (inr (inl (none, (vs, (from, (s, (so, closing))))))) =
+    (is ∙ ap (λ (x : Refusal). Store x) (one_opening f r s opening closing) ∙ sym so, zero ∙ sym none)
+one_put_refusal v e w bytes f n m stop other own its (inr (inl (zero, (us, (of, (r, (is, opening))))))) (inr (inr (len, (so, (vs, (from, less, full, first)))))) =
+    absurd (recovered_or_opening f (λ b. IsFirstFull b vs m len) r first opening)
+one_put_refusal v e w bytes f n m stop other own its (inr (inr (len, (is, (us, rest))))) (inl (none, (t, (so, told)))) =
+    absurd (updates_or_stop v (step_of e) bytes us t rest.0 (own_bytes v (step_of e) bytes other t its so told))
+one_put_refusal v e w bytes f n m stop other own its (inr (inr (len, (is, (us, (of, less, full, first)))))) (inr (inl (none, (vs, (from, (s, (so, closing))))))) =
+    absurd (recovered_or_opening f (λ b. IsFirstFull b us n len) s first closing)
+one_put_refusal v e w bytes f n m stop other own its (inr (inr (len, (is, (us, (of, less, full, first)))))) (inr (inr (size, (so, (vs, (from, fewer, packed, second)))))) =
+    let same = updates_once v (step_of e) bytes us vs of from in
+    let there = both f (λ b. IsFirstFull b us n len) (λ b. IsFirstFull b vs m size) first second in
+    let at = one_full there.0 us n m len size there.1.0 (subst (λ (x : List TileRec). IsFirstFull there.0 x m size) (sym same) there.1.1) in
+    (is ∙ ap (λ (x : ℕ). Store (Full x)) at.1 ∙ sym so, at.0)
+
+pub put_or_refusal : (v : Version) (e w : ℕ) (bytes : List ℕ) (f : Files) (n m : ℕ) (output : List ℕ) (stop : Stop) → IsOwn stop
+    → IsOutput (Put v e w) (all_told bytes f) n output → IsRefusal (Put v e w) (all_told bytes f) m stop → ⊥
+put_or_refusal v e w bytes f n m output stop own (us, rest) (inl (none, (t, (so, told)))) = updates_or_stop v (step_of e) bytes us t rest.0 (own_bytes v (step_of e) bytes stop t own so told)
+put_or_refusal v e w bytes f n m output stop own (us, (of, all, room, is)) (inr (inl (none, (vs, (from, (s, (so, closing))))))) = recovered_or_opening f (λ b. HaveRoom b us n) s room closing
+put_or_refusal v e w bytes f n m output stop own (us, (of, all, room, is)) (inr (inr (size, (so, (vs, (from, fewer, packed, second)))))) =
+    let same = updates_once v (step_of e) bytes us vs of from in
+    let there = both f (λ b. HaveRoom b us n) (λ b. IsFirstFull b vs m size) room second in
+    let first : IsFirstFull there.0 us m size = subst (λ (x : List TileRec). IsFirstFull there.0 x m size) (sym same) there.1.1 in
+    let less : m < n = omega (arith, all, ap length same, fewer) in
+    let fits = there.1.0 m less in
+    omega (arith, first.len_is, first.full, fits)
+
+-- ---- one output
+
+cut_once : (v : Version) (e w : ℕ) (bytes : List ℕ) (f : Files) (n : ℕ) (stop other : Stop) (output another : List ℕ)
+    → IsCutOff (Put v e w) (all_told bytes f) n stop output → IsCutOff (Put v e w) (all_told bytes f) n other another → output ≡ another
+cut_once v e w bytes f n stop other output another (inl (zero, is)) (inl (none, so)) = is ∙ sym so
+cut_once v e w bytes f n stop other output another (inl (zero, is)) (inr (us, (of, within, so))) = is ∙ sym (so ∙ ap (λ (k : ℕ). put_lines (take k us)) zero)
+cut_once v e w bytes f n stop other output another (inr (us, (of, within, is))) (inl (none, so)) = is ∙ ap (λ (k : ℕ). put_lines (take k us)) none ∙ sym so
+cut_once v e w bytes f n stop other output another (inr (us, (of, within, is))) (inr (vs, (from, inside, so))) =
+    is ∙ ap (λ (x : List TileRec). put_lines (take n x)) (updates_once v (step_of e) bytes us vs of from) ∙ sym so
+
+own_refused : (fault : Fault) → IsOwn (Refused fault)
+own_refused fault = record { source = λ is. cc; memory = λ is. cc }
+
+own_store : (r : Refusal) → IsOwn (Store r)
+own_store r = record { source = λ is. cc; memory = λ is. cc }
+
+pub put_once : (v : Version) (e w : ℕ) (bytes : List ℕ) (f : Files) (n m : ℕ) (end other : End) (output another : List ℕ) → IsAnswer end → IsAnswer other
+    → Ends (Put v e w) (all_told bytes f) n end output → Ends (Put v e w) (all_told bytes f) m other another → (end ≡ other) × (output ≡ another)
+put_once v e w bytes f n m (Ok x) (Ok y) output another _ _ a b =
+    (refl, a.1.3 ∙ ap put_lines (updates_once v (step_of e) bytes a.0 b.0 a.1.0 b.1.0) ∙ sym b.1.3)
+put_once v e w bytes f n m (Ok x) (Err (Refused s)) output another _ _ a b = absurd (put_or_refusal v e w bytes f n m output (Refused s) (own_refused s) a b.0)
+put_once v e w bytes f n m (Ok x) (Err (Store s)) output another _ _ a b = absurd (put_or_refusal v e w bytes f n m output (Store s) (own_store s) a b.0)
+put_once v e w bytes f n m (Err (Refused r)) (Ok y) output another _ _ a b = absurd (put_or_refusal v e w bytes f m n another (Refused r) (own_refused r) b a.0)
+put_once v e w bytes f n m (Err (Store r)) (Ok y) output another _ _ a b = absurd (put_or_refusal v e w bytes f m n another (Store r) (own_store r) b a.0)
+put_once v e w bytes f n m (Err (Refused r)) (Err (Refused s)) output another _ _ a b =
+    let same = one_put_refusal v e w bytes f n m (Refused r) (Refused s) (own_refused r) (own_refused s) a.0 b.0 in (ap (λ (x : Stop). Err x) same.0, a.1 ∙ sym b.1)
+put_once v e w bytes f n m (Err (Refused r)) (Err (Store s)) output another _ _ a b =
+    absurd (let same = one_put_refusal v e w bytes f n m (Refused r) (Store s) (own_refused r) (own_store s) a.0 b.0 in let no = same.0 in cc)
+put_once v e w bytes f n m (Err (Store r)) (Err (Refused s)) output another _ _ a b =
+    absurd (let same = one_put_refusal v e w bytes f n m (Store r) (Refused s) (own_store r) (own_refused s) a.0 b.0 in let no = same.0 in cc)
+put_once v e w bytes f n m (Err (Store r)) (Err (Store s)) output another _ _ a b =
+    let same = one_put_refusal v e w bytes f n m (Store r) (Store s) (own_store r) (own_store s) a.0 b.0 in (
+      ap (λ (x : Stop). Err x) same.0,
+      cut_once v e w bytes f n (Store r) (Store s) output another a.1 (subst (λ (k : ℕ). IsCutOff (Put v e w) (all_told bytes f) k (Store s) another) (sym same.1) b.1),
+    )
+put_once v e w bytes f n m (Err Usage) other output another answer _ a b = absurd answer
+put_once v e w bytes f n m (Err Source) other output another answer _ a b = absurd answer
+put_once v e w bytes f n m (Err Output) other output another answer _ a b = absurd answer
+put_once v e w bytes f n m (Err Volume) other output another answer _ a b = absurd answer
+put_once v e w bytes f n m (Err OutOfMemory) other output another answer _ a b = absurd answer
+put_once v e w bytes f n m (Ok x) (Err Usage) output another _ answer a b = absurd answer
+put_once v e w bytes f n m (Ok x) (Err Source) output another _ answer a b = absurd answer
+put_once v e w bytes f n m (Ok x) (Err Output) output another _ answer a b = absurd answer
+put_once v e w bytes f n m (Ok x) (Err Volume) output another _ answer a b = absurd answer
+put_once v e w bytes f n m (Ok x) (Err OutOfMemory) output another _ answer a b = absurd answer
+put_once v e w bytes f n m (Err (Refused r)) (Err Usage) output another _ answer a b = absurd answer
+put_once v e w bytes f n m (Err (Refused r)) (Err Source) output another _ answer a b = absurd answer
+put_once v e w bytes f n m (Err (Refused r)) (Err Output) output another _ answer a b = absurd answer
+put_once v e w bytes f n m (Err (Refused r)) (Err Volume) output another _ answer a b = absurd answer
+put_once v e w bytes f n m (Err (Refused r)) (Err OutOfMemory) output another _ answer a b = absurd answer
+put_once v e w bytes f n m (Err (Store r)) (Err Usage) output another _ answer a b = absurd answer
+put_once v e w bytes f n m (Err (Store r)) (Err Source) output another _ answer a b = absurd answer
+put_once v e w bytes f n m (Err (Store r)) (Err Output) output another _ answer a b = absurd answer
+put_once v e w bytes f n m (Err (Store r)) (Err Volume) output another _ answer a b = absurd answer
+put_once v e w bytes f n m (Err (Store r)) (Err OutOfMemory) output another _ answer a b = absurd answer

@@ -1,0 +1,311 @@
+-- What a run of `put` leaves, by how it ends.
+use Rattle.std.proofs.Common.{◌≡◌, ◌⊎◌, inl, inr, ℕ, ◌<◌, ◌≤◌, List, [], length, take, Bool, true, false, Option, Result, Ok, Err, refl, sym, ◌∙◌, ap, subst, rules, arith}
+use Rattle.std.specs.Prelude.{IsFalse, IsTrue, Vec}
+use Rattle.std.specs.declared.alloc.Global.{Global}
+use Rattle.std.proofs.lemmas.Bool.{cases_lt}
+use Rattle.outside_io.specs.declared.volume.VolFile.TheVariants.{Bundle, Journal}
+use Rattle.outside_io.specs.streams.Faults.{IsCause}
+use Rattle.outside_io.specs.streams.Sink.{Holds, HoldsPrefix}
+use Rattle.outside_io.specs.volume.Disk.{Disk, File}
+use Rattle.outside_io.specs.volume.History.{During, History, contents, current}
+use Rattle.lerc_header.specs.declared.header.Version.{Version}
+use Rattle.lerc_header.specs.Written.{step_of}
+use Rattle.side_journal.specs.declared.body.JournalState.{JournalState}
+use Rattle.side_journal.specs.declared.body.JournalState.TheVariants.{Closed, Open, Bad}
+use Rattle.side_journal.specs.Says.{IsOpen, Says}
+use Rattle.bundle_store.specs.declared.tile_rec.TileRec.{TileRec}
+use Rattle.bundle_store.specs.Build.{bytes_at}
+use Rattle.bundle_store.specs.Images.{EachImage, HoldsClosed, Shows, StandsFor}
+use Rattle.bundle_store.specs.Session.{SessionState}
+use Rattle.bundle_store.specs.Tiles.{IsReadable, TileMap, tiles}
+use Rattle.bundle_lines.specs.declared.stop.PutStop.TheVariants.{Output as PutOutput, Volume as PutVolume, Full as PutFull}
+use Rattle.bundle_lines.specs.Ends.{PutEnd, PutGave, UnlessVolume}
+use Rattle.bundle_lines.specs.Lines.{put_lines}
+use Rattle.bundle_lines.specs.Puts.{AreMarks, EndsByRoom, HaveRoom, IsFirstFull, KeepsFullLength, PutsKeep, bundle_after_puts}
+use Rattle.bundle_lines.proofs.Marked.{no_marks, puts_join}
+use Rattle.tile_updates.specs.declared.stop.StreamStop.{StreamStop}
+use Rattle.tile_updates.specs.declared.stop.StreamStop.TheVariants.{TooManyTiles as ManyTiles, Fault as TileFaultOf, DepthNeedsV4 as DeepTile, TileTooLarge as LargeTile, KeptTooMuch as MuchKept, Source as StreamSource, OutOfMemory as StreamMemory}
+use Rattle.lerc_cli.specs.declared.command.Command.TheVariants.{Put}
+use Rattle.lerc_cli.specs.declared.stop.Refusal.{Refusal}
+use Rattle.lerc_cli.specs.declared.stop.Refusal.TheVariants.{NoTile, Beyond, BadBundle, BadJournal, TileTooLarge, Full, TooManyTiles, KeptTooMuch}
+use Rattle.lerc_cli.specs.declared.stop.Stop.{Stop}
+use Rattle.lerc_cli.specs.declared.stop.Stop.TheVariants.{Usage, Refused, Source, Output, Volume, OutOfMemory, Store}
+use Rattle.lerc_cli.specs.Answer.{Ends, Files, Given, IsCutOff, IsNoUpdates, OfBundle, UpdatesOf, stream_stop_of}
+use Rattle.lerc_cli.specs.Run.{Gained, OfOutput, OfVolume, StopsBeforeOutput, files_of, given}
+use Rattle.lerc_cli.specs.Stop.{End}
+use Rattle.lerc_cli.specs.Tiles.{IsReady, OfReading, OnAnswer, UpdatesAt, has_updates, is_early}
+use Rattle.lerc_cli.specs.inside.Opening.{IsOpened, OpeningStops}
+use Rattle.lerc_cli.specs.inside.Updates.{put_end_of}
+use Rattle.lerc_cli.proofs.BundleOpening.{failed_later, of_bundle}
+use Rattle.lerc_cli.proofs.Idle.{clash, keeps_unmarked, untouched}
+use Rattle.lerc_cli.proofs.Outputs.{stopped}
+
+-- ---- reading the updates
+
+pub stream_cause : (s : StreamStop) (old new : ℕ) → IsCause (◌≡◌ {A = Result (Vec TileRec Global) StreamStop} (Err s) (Err StreamSource)) old new → IsCause (stream_stop_of s ≡ Source) old new
+stream_cause ManyTiles old new c = record { counts = c.counts; failed = λ is. absurd cc; rose = λ rose. absurd (let bad = c.rose rose in cc) }
+stream_cause (TileFaultOf f) old new c = record { counts = c.counts; failed = λ is. absurd cc; rose = λ rose. absurd (let bad = c.rose rose in cc) }
+stream_cause (DeepTile at) old new c = record { counts = c.counts; failed = λ is. absurd cc; rose = λ rose. absurd (let bad = c.rose rose in cc) }
+stream_cause (LargeTile at len) old new c = record { counts = c.counts; failed = λ is. absurd cc; rose = λ rose. absurd (let bad = c.rose rose in cc) }
+stream_cause (MuchKept at) old new c = record { counts = c.counts; failed = λ is. absurd cc; rose = λ rose. absurd (let bad = c.rose rose in cc) }
+stream_cause StreamSource old new c = record { counts = c.counts; failed = λ is. c.failed refl; rose = λ rose. refl }
+stream_cause StreamMemory old new c = record { counts = c.counts; failed = λ is. absurd cc; rose = λ rose. absurd (let bad = c.rose rose in cc) }
+
+-- neither is so
+pub no_cause : (P Q : Type 0) (old new : ℕ) → (P → ⊥) → (Q → ⊥) → IsCause P old new → IsCause Q old new
+no_cause P Q old new none never c = record { counts = c.counts; failed = λ is. absurd (never is); rose = λ rose. absurd (none (c.rose rose)) }
+
+-- ---- the input has no updates, or memory was refused before the volume was called
+
+early_ends : (v : Version) (e w : ℕ) (g : Given) (s : StreamStop) → IsNoUpdates v (step_of e) g.input (stream_stop_of s) → Ends (Put v e w) g 0 (Err (stream_stop_of s)) []
+early_ends v e w g ManyTiles is = (inl (refl, is), inl (refl, refl))
+early_ends v e w g (TileFaultOf f) is = (inl (refl, is), refl)
+early_ends v e w g (DeepTile at) is = (inl (refl, is), refl)
+early_ends v e w g (LargeTile at len) is = (inl (refl, is), inl (refl, refl))
+early_ends v e w g (MuchKept at) is = (inl (refl, is), inl (refl, refl))
+early_ends v e w g StreamSource is = (search rules, refl, refl)
+early_ends v e w g StreamMemory is = (tt, refl, refl)
+
+memory_ends : (v : Version) (e w : ℕ) (g : Given) → Ends (Put v e w) g 0 (Err OutOfMemory) []
+memory_ends v e w g = (tt, refl, refl)
+
+-- the stop is one of these
+abbrev Early : Version → ℕ → Given → Stop → Type 0
+Early v e g stop = (stop ≡ OutOfMemory) ⊎ IsNoUpdates v (step_of e) g.input stop
+
+any_early_ends : (v : Version) (e w : ℕ) (g : Given) (stop : Stop) → Early v e g stop → Ends (Put v e w) g 0 (Err stop) []
+any_early_ends v e w g stop (inl is) = subst (λ (s : Stop). Ends (Put v e w) g 0 (Err s) []) (sym is) (memory_ends v e w g)
+any_early_ends v e w g stop (inr (s, (is, tells))) =
+    subst (λ (x : Stop). Ends (Put v e w) g 0 (Err x) []) (sym is) (early_ends v e w g s (s, (refl, tells)))
+
+-- neither the output nor the volume failed, and no update was made
+record IsQuietStop (v : Version) (e w : ℕ) (stop : Stop) : Type 0 where
+  output : stop ≡ Output → ⊥
+  volume : stop ≡ Volume → ⊥
+  early : IsTrue (is_early (Put v e w) (Err stop))
+  none : IsFalse (has_updates (Err stop))
+
+quiet_stop : (v : Version) (e w : ℕ) (s : StreamStop) → IsQuietStop v e w (stream_stop_of s)
+quiet_stop v e w ManyTiles = record { output = λ is. cc; volume = λ is. cc; early = search rules; none = refl }
+quiet_stop v e w (TileFaultOf f) = record { output = λ is. cc; volume = λ is. cc; early = search rules; none = refl }
+quiet_stop v e w (DeepTile at) = record { output = λ is. cc; volume = λ is. cc; early = search rules; none = refl }
+quiet_stop v e w (LargeTile at len) = record { output = λ is. cc; volume = λ is. cc; early = search rules; none = refl }
+quiet_stop v e w (MuchKept at) = record { output = λ is. cc; volume = λ is. cc; early = search rules; none = refl }
+quiet_stop v e w StreamSource = record { output = λ is. cc; volume = λ is. cc; early = search rules; none = refl }
+quiet_stop v e w StreamMemory = record { output = λ is. cc; volume = λ is. cc; early = search rules; none = refl }
+
+any_quiet : (v : Version) (e w : ℕ) (g : Given) (stop : Stop) → Early v e g stop → IsQuietStop v e w stop
+any_quiet v e w g stop (inl is) = subst (λ (s : Stop). IsQuietStop v e w s) (sym is) (record { output = λ is. cc; volume = λ is. cc; early = search rules; none = refl })
+any_quiet v e w g stop (inr (s, (is, tells))) = subst (λ (x : Stop). IsQuietStop v e w x) (sym is) (quiet_stop v e w s)
+
+pub early_output : (v : Version) (e w : ℕ) (g : Given) (K : Type 0) (held : K → Option (List ℕ)) (faults : K → ℕ) (out out_new : K) (stop : Stop) → out_new ≡ out → Early v e g stop
+    → OfOutput (Put v e w) g 0 (Err stop) (out_new ≡ out) (held out) (held out_new) (faults out) (faults out_new)
+early_output v e w g K held faults out out_new stop same early =
+    stopped (Put v e w) g K held faults out out_new stop (any_early_ends v e w g stop early) same (any_quiet v e w g stop early).output
+
+pub early_volume : (v : Version) (e w : ℕ) (g : Given) (stop : Stop) (same : Type 0) (told : Bool) (h : History) (f : ℕ) → same → Early v e g stop
+    → OfVolume (Put v e w) g (Err stop) same [] told told h h f f
+early_volume v e w g stop same told h f is early =
+    let q = any_quiet v e w g stop early in
+    untouched (Put v e w) g (Err stop) same told h f is q.early (λ is_volume. q.volume (let same_stop : stop ≡ Volume = cc in same_stop))
+    (record { some = λ yes_. absurd (clash (has_updates (Err stop)) yes_ q.none); none = λ _. refl })
+
+-- ---- the bundle was not opened
+
+unopened_ends : (v : Version) (e w : ℕ) (g : Given) (us : List TileRec) (stop : Stop) → UpdatesOf (Put v e w) g us → OpeningStops g.files stop → Ends (Put v e w) g 0 (Err stop) []
+unopened_ends v e w g us Usage of stops = absurd stops
+unopened_ends v e w g us (Refused f) of stops = absurd stops
+unopened_ends v e w g us Source of stops = absurd stops
+unopened_ends v e w g us Output of stops = absurd stops
+unopened_ends v e w g us Volume of stops = (search rules, inl (refl, refl))
+unopened_ends v e w g us OutOfMemory of stops = absurd stops
+unopened_ends v e w g us (Store r) of stops = (inr (inl (refl, (us, (of, (r, (refl, stops)))))), inl (refl, refl))
+
+not_output : (files : Option Files) (stop : Stop) → OpeningStops files stop → stop ≡ Output → ⊥
+not_output files stop stops is = let none : OpeningStops files Output = subst (λ (s : Stop). OpeningStops files s) is stops in none
+
+pub unopened_output : (v : Version) (e w : ℕ) (g : Given) (us : List TileRec) (K : Type 0) (held : K → Option (List ℕ)) (faults : K → ℕ) (out out_new : K) (stop : Stop) → out_new ≡ out
+    → UpdatesOf (Put v e w) g us → OpeningStops g.files stop → OfOutput (Put v e w) g 0 (Err stop) (out_new ≡ out) (held out) (held out_new) (faults out) (faults out_new)
+unopened_output v e w g us K held faults out out_new stop same of stops =
+    stopped (Put v e w) g K held faults out out_new stop (unopened_ends v e w g us stop of stops) same (not_output g.files stop stops)
+
+none_at : (v : Version) (e w : ℕ) (g : Given) (r : Refusal) → IsFalse (has_updates (Err (Store r))) → UpdatesAt (Put v e w) g (Err (Store r)) []
+none_at v e w g r none = record { some = λ yes_. absurd (clash (has_updates (Err (Store r))) yes_ none); none = λ _. refl }
+
+-- recovery or opening was refused
+refused_volume : (v : Version) (e w : ℕ) (g : Given) (r : Refusal) (same : Type 0) (told told_new : Bool) (h h_new : History) (f f_new : ℕ) → IsFalse (has_updates (Err (Store r))) → (IsTrue (is_early (Put v e w) (Err (Store r))) → ⊥)
+    → OfReading (Store r ≡ Volume) told told_new h h_new f f_new → OfVolume (Put v e w) g (Err (Store r)) same [] told told_new h h_new f f_new
+refused_volume v e w g r same told told_new h h_new f f_new none late so = record {
+  cause = record { counts = so.cause.counts; failed = λ is. absurd (let bad : ⊥ = cc in bad); rose = λ rose. absurd (let is : Store r ≡ Volume = so.cause.rose rose in let bad : ⊥ = cc in bad) };
+  told = so.told;
+  later = λ t none. so.later t;
+  idle = λ early. absurd (late early);
+  unmarked = λ is. absurd (let bad : ⊥ = cc in bad);
+  marks_are = λ t. no_marks h.moment h_new.moment;
+  reads = λ t _. ([], (none_at v e w g r none, (contents Bundle h_new, (so.reads t (λ is. let bad : ⊥ = cc in bad), refl))));
+  tiles = λ start ready. ([], (none_at v e w g r none, keeps_unmarked [] start h h_new (so.tiles start ready)));
+}
+
+-- an update may be done where the volume failed
+opened_not : (v : Version) (e w : ℕ) (g : Given) (us : List TileRec) → UpdatesOf (Put v e w) g us → UpdatesAt (Put v e w) g (Err Volume) us
+opened_not v e w g us of = record { some = λ _. of; none = λ is. absurd (let bad : ⊥ = cc in bad) }
+
+pub unopened_volume : (v : Version) (e w : ℕ) (g : Given) (us : List TileRec) (stop : Stop) (same : Type 0) (told told_new : Bool) (h h_new : History) (f f_new : ℕ)
+    → UpdatesOf (Put v e w) g us → OpeningStops g.files stop → OfReading (stop ≡ Volume) told told_new h h_new f f_new → OfVolume (Put v e w) g (Err stop) same [] told told_new h h_new f f_new
+unopened_volume v e w g us Usage same told told_new h h_new f f_new of stops so = absurd stops
+unopened_volume v e w g us (Refused r) same told told_new h h_new f f_new of stops so = absurd stops
+unopened_volume v e w g us Source same told told_new h h_new f f_new of stops so = absurd stops
+unopened_volume v e w g us Output same told told_new h h_new f f_new of stops so = absurd stops
+unopened_volume v e w g us OutOfMemory same told told_new h h_new f f_new of stops so = absurd stops
+unopened_volume v e w g us Volume same told told_new h h_new f f_new of stops so = record {
+  cause = record { counts = so.cause.counts; failed = λ _. so.cause.failed refl; rose = λ rose. refl };
+  told = so.told;
+  later = λ t none. so.later t;
+  idle = λ early. absurd (let bad : ⊥ = cc in bad);
+  unmarked = λ is. absurd (let bad : ⊥ = cc in bad);
+  marks_are = λ t. no_marks h.moment h_new.moment;
+  reads = λ t late. tt;
+  tiles = λ start ready. (us, (opened_not v e w g us of, keeps_unmarked us start h h_new (so.tiles start ready)));
+}
+unopened_volume v e w g us (Store (BadBundle p x)) same told told_new h h_new f f_new of stops so = refused_volume v e w g (BadBundle p x) same told told_new h h_new f f_new refl (λ early. let bad : ⊥ = cc in bad) so
+unopened_volume v e w g us (Store (BadJournal p x)) same told told_new h h_new f f_new of stops so = refused_volume v e w g (BadJournal p x) same told told_new h h_new f f_new refl (λ early. let bad : ⊥ = cc in bad) so
+unopened_volume v e w g us (Store (NoTile at)) same told told_new h h_new f f_new of stops so = absurd stops
+unopened_volume v e w g us (Store (Beyond at entry got)) same told told_new h h_new f f_new of stops so = absurd stops
+unopened_volume v e w g us (Store (TileTooLarge at len)) same told told_new h h_new f f_new of stops so = absurd stops
+unopened_volume v e w g us (Store (Full len)) same told told_new h h_new f f_new of stops so = absurd stops
+unopened_volume v e w g us (Store TooManyTiles) same told told_new h h_new f f_new of stops so = absurd stops
+unopened_volume v e w g us (Store (KeptTooMuch at)) same told told_new h h_new f f_new of stops so = absurd stops
+
+pub not_source : (files : Option Files) (stop : Stop) → OpeningStops files stop → ◌≡◌ {A = End} (Err stop) (Err Source) → ⊥
+not_source files stop stops is = let same : stop ≡ Source = cc in let none : OpeningStops files Source = subst (λ (s : Stop). OpeningStops files s) same stops in none
+
+-- ---- the updates were put
+
+pub puts_not_source : (r : PutEnd) → put_end_of r ≡ Err Source → ⊥
+puts_not_source (Ok x) is = absurd cc
+puts_not_source (Err PutOutput) is = absurd cc
+puts_not_source (Err PutVolume) is = absurd cc
+puts_not_source (Err (PutFull len)) is = absurd cc
+
+cut_off : (v : Version) (e w : ℕ) (g : Given) (us : List TileRec) (n : ℕ) → UpdatesOf (Put v e w) g us → n ≤ length us → IsCutOff (Put v e w) g n Output (put_lines (take n us))
+cut_off v e w g us n of within = inr (us, (of, within, refl))
+
+put_output : (r : PutEnd) (old new : ℕ) → IsCause (r ≡ Err PutOutput) old new → IsCause (put_end_of r ≡ Err Output) old new
+put_output (Ok x) old new c = record { counts = c.counts; failed = λ is. absurd cc; rose = λ rose. absurd (let no = c.rose rose in cc) }
+put_output (Err PutOutput) old new c = record { counts = c.counts; failed = λ is. c.failed refl; rose = λ rose. refl }
+put_output (Err PutVolume) old new c = record { counts = c.counts; failed = λ is. absurd cc; rose = λ rose. absurd (let no = c.rose rose in cc) }
+put_output (Err (PutFull len)) old new c = record { counts = c.counts; failed = λ is. absurd cc; rose = λ rose. absurd (let no = c.rose rose in cc) }
+
+put_volume : (r : PutEnd) (old new : ℕ) → IsCause (r ≡ Err PutVolume) old new → IsCause (put_end_of r ≡ Err Volume) old new
+put_volume (Ok x) old new c = record { counts = c.counts; failed = λ is. absurd cc; rose = λ rose. absurd (let no = c.rose rose in cc) }
+put_volume (Err PutOutput) old new c = record { counts = c.counts; failed = λ is. absurd cc; rose = λ rose. absurd (let no = c.rose rose in cc) }
+put_volume (Err PutVolume) old new c = record { counts = c.counts; failed = λ is. c.failed refl; rose = λ rose. refl }
+put_volume (Err (PutFull len)) old new c = record { counts = c.counts; failed = λ is. absurd cc; rose = λ rose. absurd (let no = c.rose rose in cc) }
+
+-- what was given, over the bundle that was opened
+put_gave : (v : Version) (e w : ℕ) (input : Option (List ℕ)) (told : Bool) (h : History) (s : SessionState) (d : Disk) (us : List TileRec) (n : ℕ) (r : PutEnd) (held held_new : Option (List ℕ))
+    → UpdatesOf (Put v e w) (given input (files_of told h)) us → (IsTrue told → IsOpened s (contents Bundle h) (contents Journal h) d) → (IsTrue told → EndsByRoom r d.bundle.now us n) → KeepsFullLength r us n
+    → PutGave r us n held held_new → (output : List ℕ) × (Ends (Put v e w) (given input (files_of told h)) n (put_end_of r) output × Gained (put_end_of r) held held_new output)
+put_gave v e w input told h s d us n (Ok x) held held_new of opened room full (all, holds) =
+    (put_lines us, ((us, (of, all, of_bundle told h (λ b. HaveRoom b us n) s d opened room, refl)), holds))
+put_gave v e w input told h s d us n (Err PutOutput) held held_new of opened room full (some, within, holds) =
+    (put_lines (take n us), (cut_off v e w (given input (files_of told h)) us n of within, holds))
+put_gave v e w input told h s d us n (Err PutVolume) held held_new of opened room full (within, holds) =
+    (put_lines (take n us), ((search rules, cut_off v e w (given input (files_of told h)) us n of (omega (arith, within))), holds))
+put_gave v e w input told h s d us n (Err (PutFull len)) held held_new of opened room full (within, holds) = (
+  put_lines (take n us),
+  (
+    (inr (inr (len, (refl, (us, (of, within, full, of_bundle told h (λ b. IsFirstFull b us n len) s d opened room))))), cut_off v e w (given input (files_of told h)) us n of (omega (arith, within))),
+    holds,
+  ),
+)
+
+never_idle : (r : PutEnd) → (StopsBeforeOutput (put_end_of r) → ⊥)
+never_idle (Ok x) is = is
+never_idle (Err PutOutput) is = is
+never_idle (Err PutVolume) is = is
+never_idle (Err (PutFull len)) is = is
+
+pub put_all_output : (v : Version) (e w : ℕ) (input : Option (List ℕ)) (told : Bool) (h : History) (s : SessionState) (d : Disk) (us : List TileRec) (n : ℕ) (r : PutEnd) (same : Type 0) (held held_new : Option (List ℕ)) (f f_new : ℕ)
+    → UpdatesOf (Put v e w) (given input (files_of told h)) us → (IsTrue told → IsOpened s (contents Bundle h) (contents Journal h) d) → (IsTrue told → EndsByRoom r d.bundle.now us n) → KeepsFullLength r us n
+    → PutGave r us n held held_new → IsCause (r ≡ Err PutOutput) f f_new → OfOutput (Put v e w) (given input (files_of told h)) n (put_end_of r) same held held_new f f_new
+put_all_output v e w input told h s d us n r same held held_new f f_new of opened room full gave cause = record {
+  cause = put_output r f f_new cause;
+  gave = put_gave v e w input told h s d us n r held held_new of opened room full gave;
+  idle = λ before. absurd (never_idle r before);
+}
+
+-- ---- the volume
+
+-- the journal does not count: the bundle is readable, and these are its tiles
+closed_map : (b j : List ℕ) (state : JournalState) (map : TileMap) → ¬ IsOpen j → Says j state → Shows state b map → IsReadable b × (map ≡ tiles b)
+closed_map b j Closed map shut says shows = shows
+closed_map b j (Open body) map shut says shows = absurd (shut says.0)
+closed_map b j (Bad place found) map shut says shows = absurd shows
+
+earlier_marks : (marks : List ℕ) (from mid to : ℕ) → from ≤ mid → AreMarks marks mid to → AreMarks marks from to
+earlier_marks marks from mid to first are = record { rising = are.rising; within = λ i lt. (let is = are.within i lt in (omega (arith, first, is.0), is.1)) }
+
+joined_cause : (P Q : Type 0) (f f_mid f_new : ℕ) → (P → ⊥) → IsCause P f f_mid → IsCause Q f_mid f_new → IsCause Q f f_new
+joined_cause P Q f f_mid f_new well one two = record {
+  counts = omega (arith, one.counts, two.counts);
+  failed = λ q. failed_later f f_mid f_new one.counts (two.failed q);
+  rose = λ rose. elim (cases_lt f f_mid) [ inl before ↦ absurd (well (one.rose before)) | inr after ↦ two.rose (omega (arith, after, rose)) ];
+}
+
+-- the end of puts has updates, and is not early
+late : (v : Version) (e w : ℕ) (r : PutEnd) → IsTrue (has_updates (put_end_of r))
+late v e w (Ok x) = search rules
+late v e w (Err PutOutput) = search rules
+late v e w (Err PutVolume) = search rules
+late v e w (Err (PutFull len)) = search rules
+
+not_early : (v : Version) (e w : ℕ) (r : PutEnd) → IsTrue (is_early (Put v e w) (put_end_of r)) → ⊥
+not_early v e w (Ok x) is = cc
+not_early v e w (Err PutOutput) is = cc
+not_early v e w (Err PutVolume) is = cc
+not_early v e w (Err (PutFull len)) is = cc
+
+updates_at : (v : Version) (e w : ℕ) (g : Given) (r : PutEnd) (us : List TileRec) → UpdatesOf (Put v e w) g us → UpdatesAt (Put v e w) g (put_end_of r) us
+updates_at v e w g r us of = record { some = λ _. of; none = λ bad. absurd (clash (has_updates (put_end_of r)) (late v e w r) bad) }
+
+on_answer : (r : PutEnd) (P : Type 0) → UnlessVolume r P → OnAnswer (put_end_of r) P
+on_answer (Ok x) P p = p
+on_answer (Err PutOutput) P p = p
+on_answer (Err PutVolume) P p = tt
+on_answer (Err (PutFull len)) P p = p
+
+unless_map : (r : PutEnd) (P Q : Type 0) → (P → Q) → UnlessVolume r P → UnlessVolume r Q
+unless_map (Ok x) P Q so p = so p
+unless_map (Err PutOutput) P Q so p = so p
+unless_map (Err PutVolume) P Q so p = tt
+unless_map (Err (PutFull len)) P Q so p = so p
+
+pub put_all_volume : (v : Version) (e w : ℕ) (g : Given) (failed : Type 0) (told told_mid told_new : Bool) (h h_mid h_new : History) (f f_mid f_new : ℕ) (s : SessionState) (us : List TileRec) (marks : List ℕ) (r : PutEnd) (same : Type 0)
+    → UpdatesOf (Put v e w) g us → (failed → ⊥) → OfReading failed told told_mid h h_mid f f_mid → (IsTrue told → IsOpened s (contents Bundle h) (contents Journal h) (current h_mid))
+    → IsCause (r ≡ Err PutVolume) f_mid f_new → told_new ≡ told_mid
+    → (IsTrue told_mid → UnlessVolume r (HoldsClosed (bundle_after_puts (contents Bundle h_mid) (take (length marks) us)) (current h_new)))
+    → (IsTrue told_mid → IsReadable (contents Bundle h_mid) → PutsKeep (tiles (contents Bundle h_mid)) us marks h_mid h_new)
+    → (IsTrue told_mid → AreMarks marks h_mid.moment h_new.moment)
+    → OfVolume (Put v e w) g (put_end_of r) same marks told told_new h h_new f f_new
+put_all_volume v e w g failed told told_mid told_new h h_mid h_new f f_mid f_new s us marks r same of well so opened cause tells reads images are = record {
+  cause = joined_cause failed (put_end_of r ≡ Err Volume) f f_mid f_new well so.cause (put_volume r f_mid f_new cause);
+  told = tells ∙ so.told;
+  later = λ t none. absurd (let bad : ⊥ = cc in bad);
+  idle = λ early. absurd (not_early v e w r early);
+  unmarked = λ is. absurd (let bad : ⊥ = cc in bad);
+  marks_are = λ t. earlier_marks marks h.moment h_mid.moment h_new.moment (so.later t) (are (so.told ∙ t));
+  reads = λ t _. on_answer r _ (unless_map r _ _ (λ (held : HoldsClosed (bundle_after_puts (contents Bundle h_mid) (take (length marks) us)) (current h_new)).
+      let o = opened t in (us, (updates_at v e w g r us of, (contents Bundle h_mid, (inl (o.done, o.leaves), ap (λ (x : File). x.now) held.bundle_is))))) (reads (so.told ∙ t)));
+  tiles = λ start ready.
+      let o = opened ready.tells in
+      let stands = o.recovered.same start ready.stands in
+      let map = closed_map (contents Bundle h_mid) (contents Journal h_mid) stands.state start o.recovered.closed stands.says stands.shows in
+      let t = so.told ∙ ready.tells in (
+        us,
+        (
+          updates_at v e w g r us of,
+          puts_join start us marks h h_mid h_new (are t) (so.tiles start ready) (subst (λ (m : TileMap). PutsKeep m us marks h_mid h_new) (sym map.1) (images t map.0)),
+        ),
+      );
+}

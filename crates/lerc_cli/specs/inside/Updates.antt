@@ -1,0 +1,28 @@
+-- What reading the updates of an input answers, and how puts end.
+use Rattle.std.specs.Prelude.{◌≡◌, ◌⊎◌, ℕ, List, Option, Result, Ok, Err, Vec}
+use Rattle.std.specs.declared.alloc.Global.{Global}
+use Rattle.lerc_header.specs.declared.header.Version.{Version}
+use Rattle.lerc_header.specs.Written.{step_of}
+use Rattle.bundle_store.specs.declared.tile_rec.TileRec.{TileRec}
+use Rattle.bundle_lines.specs.declared.stop.PutStop.TheVariants.{Output as PutOutput, Volume as PutVolume, Full as PutFull}
+use Rattle.bundle_lines.specs.Ends.{PutEnd}
+use Rattle.tile_updates.specs.Updates.{IsUpdates, OfBytes}
+use Rattle.lerc_cli.specs.declared.stop.Refusal.TheVariants.{Full}
+use Rattle.lerc_cli.specs.declared.stop.Stop.{Stop}
+use Rattle.lerc_cli.specs.declared.stop.Stop.TheVariants.{Output, Volume, OutOfMemory, Store}
+use Rattle.lerc_cli.specs.Answer.{IsNoUpdates}
+use Rattle.lerc_cli.specs.Stop.{End}
+
+-- the updates of the input, or why there are none
+abbrev pub TakesUpdates : Version → ℕ → Option (List ℕ) → Result (Vec TileRec Global) Stop → Type 0
+TakesUpdates version error input (Ok us) =
+    OfBytes input (λ bytes. IsUpdates version (step_of error) bytes us.items)
+TakesUpdates version error input (Err stop) =
+    (stop ≡ OutOfMemory) ⊎ IsNoUpdates version (step_of error) input stop
+
+-- how puts ended, as an end
+abbrev pub put_end_of : PutEnd → End
+put_end_of (Ok x) = Ok tt
+put_end_of (Err PutOutput) = Err Output
+put_end_of (Err PutVolume) = Err Volume
+put_end_of (Err (PutFull len)) = Err (Store (Full len))
