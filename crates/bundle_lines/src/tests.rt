@@ -168,6 +168,21 @@ fn recovered_len(
     }
 }
 
+/// The lengths of the tiles of the first slot and of the last, 0 for none, once the image is
+/// recovered.
+fn two_lens(
+    alloc: Global,
+    vol: &MemVolume,
+    moment: u64,
+    pick: Pick,
+) -> Result<(usize, usize), Fail> {
+    let first = Slot::of(0, 0).ok_or("slot")?;
+    let last = Slot::of(127, 127).ok_or("slot")?;
+    let small = recovered_len(alloc, vol, moment, pick, first)?;
+    let large = recovered_len(alloc, vol, moment, pick, last)?;
+    Ok((small, large))
+}
+
 #[test]
 fn a_crash_leaves_what_has_a_mark(rt: HostRuntime) -> Result<(), Fail> {
     let alloc = rt.alloc();
@@ -182,8 +197,7 @@ fn a_crash_leaves_what_has_a_mark(rt: HostRuntime) -> Result<(), Fail> {
     let (first, second) = (marks.at(0), marks.at(1));
     for moment in 0..vol.moment() {
         for pick in PICKS {
-            let small = recovered_len(alloc, &vol, moment, pick, tiles[0].slot)?;
-            let large = recovered_len(alloc, &vol, moment, pick, tiles[1].slot)?;
+            let (small, large) = two_lens(alloc, &vol, moment, pick)?;
             assert!(rt;
                 small == 66 || (moment < first && small == 0),
                 "at {moment}"
