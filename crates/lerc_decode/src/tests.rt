@@ -179,7 +179,11 @@ fn no_byte_behind_the_blob_is_taken(rt: HostRuntime) -> Result<(), Fail> {
             taken = taken.saturating_add(fed.used);
             state = fed.state;
         }
-        assert_eq!(rt; (taken, state), (66, FedState::Done), "in pieces of {piece}");
+        assert_eq!(rt;
+            (taken, state),
+            (66, FedState::Done),
+            "in pieces of {piece}"
+        );
     }
     Ok(())
 }
