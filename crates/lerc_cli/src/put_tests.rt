@@ -118,14 +118,12 @@ fn an_input_that_is_no_stream_of_tiles_is_refused(rt: HostRuntime) -> Result<(),
     marked.truncate(20);
     marked.push(2)?;
     let second = [tile.as_slice(), &marked].concat(alloc)?;
-    let mut short = tile.clone()?;
-    short.truncate(21);
     let rows = [
         ([0x55].as_slice(), b"refused: BadTileMark at 0\n".as_slice()),
         (&[0x54, 0x80], b"refused: BadSlot at 1\n"),
         (&[0x54, 0, 0x80], b"refused: BadSlot at 2\n"),
         (&second, b"refused: BadMark at 42\n"),
-        (&short, b"refused: Truncated at 21\n"),
+        (&tile[..21], b"refused: Truncated at 21\n"),
     ];
     for (input, line) in rows {
         let mut vol = with_one(alloc, &[])?;
