@@ -2,6 +2,7 @@
 pub use Rattle.outside_io.specs.streams.Faults.{CountsFaults}
 pub use Rattle.outside_io.specs.streams.Sink.{Holds, HoldsPrefix}
 pub mod PixelType
+pub mod Distance
 pub mod Raster
 pub mod Places
 pub mod Grid
