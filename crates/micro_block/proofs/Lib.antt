@@ -3,6 +3,7 @@ pub mod Written
 pub mod BlockSteps
 pub mod Fewest
 mod Near
+mod Above
 mod Fast
 pub mod Steps
 mod Closed

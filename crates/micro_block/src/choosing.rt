@@ -1,14 +1,17 @@
 // The form that is chosen for a block.
 
-ghost use Rattle.std.specs.Prelude.{◌≡◌, ◌+◌, ◌*◌, ℕ, ℤ, ◌≤◌, ◌<◌, ◌≤ℤ◌, length, All};
+ghost use Rattle.std.specs.Prelude.{◌≡◌, ◌+◌, ◌*◌, ℕ, ℤ, ◌≤◌, ◌<◌, ◌≤ℤ◌, ◌↔◌, length, map, All};
+ghost use Rattle.std.specs.Prelude.{IsTrue};
+ghost use Rattle.raster_values.specs.Distance.{IsDistance, value_above};
 ghost use Rattle.raster_values.specs.PixelType.{InRange, bytes_of};
 ghost use Rattle.micro_block.specs.Choice as choice;
 ghost use Rattle.micro_block.specs.Frame.{IsBlockCtx};
 ghost use Rattle.micro_block.specs.inside.Sizes.{AreEnds, IsFound};
 ghost use Rattle.micro_block.specs.inside.Forms as inside;
-ghost use Rattle.micro_block.specs.inside.Forms.{IsChosen};
+ghost use Rattle.micro_block.specs.inside.Forms.{IsChosen, named};
 
 use crate::context::BlockCtx;
+use crate::distances::values_above;
 use crate::first::first_least;
 use crate::quantising::quantised_value;
 use crate::sizes::{ends, form_sizes, tabled_len};
@@ -27,6 +30,18 @@ pub(crate) enum BlockForm {
     Simple,
     /// An offset, and a list in the table form.
     Table,
+}
+
+impl BlockForm {
+    /// Whether it is the form with a table.
+    pub(crate) fn is_table(self) -> bool
+        ensures { IsTrue result ↔ (named self ≡ choice.table) }
+    {
+        match self {
+            BlockForm::Table => true,
+            BlockForm::Zero | BlockForm::Constant | BlockForm::Raw | BlockForm::Simple => false,
+        }
+    }
 }
 
 /// What is chosen for a block.
@@ -97,4 +112,37 @@ pub fn block_len(values: &[i64], ctx: &BlockCtx) -> usize
     ensures short { result ≤ 1 + length values.now * bytes_of ctx.now.kind }
 {
     choose(values, ctx.kind, ctx.step).size
+}
+
+/// How long the chosen block of values is, and whether it has a table.
+#[derive(Clone, Copy, Debug, PartialEq, Eq)]
+pub struct BlockSize {
+    /// How many bytes the block takes.
+    pub len: usize,
+    /// Whether its list is in the table form.
+    pub has_table: bool,
+}
+
+/// How long the chosen block is of the values that are so far above the least value of the type,
+/// and whether it has a table, which `write_distances` wants to know.
+pub fn block_size(distances: &[u32], ctx: &BlockCtx) -> BlockSize
+    requires few { length distances.now ≤ 256 }
+    requires ctx { IsBlockCtx ctx.now }
+    requires in_range { All (IsDistance ctx.now.kind) distances.now }
+    requires capped { All (λ v. v ≤ℤ ctx.now.top) (map (value_above ctx.now.kind) distances.now) }
+    ensures length { let values = map (value_above ctx.now.kind) distances.now in
+        result.len ≡ length (choice.block_bytes ctx.now.kind ctx.now.col ctx.now.step values) }
+    ensures table { let values = map (value_above ctx.now.kind) distances.now in
+        IsTrue result.has_table
+        ↔ (choice.chosen_form ctx.now.kind ctx.now.col ctx.now.step values ≡ choice.table) }
+    ensures short { result.len ≤ 1 + length distances.now * bytes_of ctx.now.kind }
+{
+    let mut room = [0; 256];
+    let values = &mut room[..distances.len()];
+    values_above(ctx.kind, distances, values);
+    let chosen = choose(values, ctx.kind, ctx.step);
+    BlockSize {
+        len: chosen.size,
+        has_table: chosen.form.is_table(),
+    }
 }

@@ -7,6 +7,7 @@
 
 mod choosing;
 mod context;
+mod distances;
 mod first;
 mod laws;
 mod quantising;
@@ -15,7 +16,7 @@ mod shorter;
 mod sizes;
 mod writing;
 
-pub use choosing::block_len;
+pub use choosing::{BlockSize, block_len, block_size};
 pub use context::{BlockCtx, BlockFault, BlockReason};
 pub use laws::{
     block_values_are_in_range, blocks_stand_or_have_one_fault, first_least_is_first,
@@ -23,7 +24,7 @@ pub use laws::{
 };
 pub use quantising::quantise;
 pub use reading::read_block;
-pub use writing::write_block;
+pub use writing::{write_block, write_distances};
 
 #[cfg(test)]
 mod tests;

@@ -1,10 +1,11 @@
 // Writing blocks.
 
 ghost use Rattle.std.specs.Prelude.{◌≡◌, ◌+◌, ◌*◌, ◌^◌, ◌<◌, ◌≤◌, ◌≤ℤ◌, ◌∷◌, [], ◌++◌, ℕ, ℤ, pos};
-ghost use Rattle.std.specs.Prelude.{All, Some, length, map, get_or, take, drop};
+ghost use Rattle.std.specs.Prelude.{All, Some, length, map, get_or, take, drop, IsTrue, ◌↔◌};
 ghost use Rattle.bit_stuff.specs.Simple.{simple_bytes};
 ghost use Rattle.lane_kernels.specs.Kernels.{IsSmall};
 ghost use Rattle.lut_stuff.specs.Tables.{table_bytes, table_size};
+ghost use Rattle.raster_values.specs.Distance.{IsDistance, value_above};
 ghost use Rattle.raster_values.specs.PixelType.{InRange, bytes_of};
 ghost use Rattle.raster_values.specs.Grid.{values_bytes};
 ghost use Rattle.micro_block.specs.Block.{IsBlock};
@@ -17,6 +18,7 @@ ghost use Rattle.micro_block.specs.inside.Forms.{AreListable, IsChosen};
 
 use crate::choosing::{BlockForm, Chosen, choose};
 use crate::context::BlockCtx;
+use crate::distances::values_above;
 use crate::sizes::{narrow_type, steps_of};
 use bit_stuff::write_simple;
 use lut_stuff::write_table;
@@ -234,6 +236,32 @@ pub fn write_block(values: &[i64], ctx: &BlockCtx, out: &mut [u8]) -> usize
     ensures exact { ctx.now.step ≡ 1 →
         IsBlock (frame_of ctx.now (length values.now)) (take result out.new) values.now }
 {
+    let chosen = choose(values, ctx.kind, ctx.step);
+    write_form(values, ctx, chosen, &mut out[..chosen.size]);
+    chosen.size
+}
+
+/// Writes the chosen block of the values that are so far above the least value of the type over the
+/// front of `out`, whose rest stays; how many bytes it takes, which is the length of `block_size`.
+/// It is told whether that block has a table.
+pub fn write_distances(distances: &[u32], ctx: &BlockCtx, has_table: bool, out: &mut [u8]) -> usize
+    requires few { length distances.now ≤ 256 }
+    requires ctx { IsBlockCtx ctx.now }
+    requires in_range { All (IsDistance ctx.now.kind) distances.now }
+    requires capped { All (λ v. v ≤ℤ ctx.now.top) (map (value_above ctx.now.kind) distances.now) }
+    requires table { let values = map (value_above ctx.now.kind) distances.now in
+        IsTrue has_table
+        ↔ (choice.chosen_form ctx.now.kind ctx.now.col ctx.now.step values ≡ choice.table) }
+    requires room { let values = map (value_above ctx.now.kind) distances.now in
+        length (block_bytes ctx.now.kind ctx.now.col ctx.now.step values) ≤ length out.old }
+    ensures count { let values = map (value_above ctx.now.kind) distances.now in
+        result ≡ length (block_bytes ctx.now.kind ctx.now.col ctx.now.step values) }
+    ensures bytes { let values = map (value_above ctx.now.kind) distances.now in
+        out.new ≡ block_bytes ctx.now.kind ctx.now.col ctx.now.step values ++ drop result out.old }
+{
+    let mut room = [0; 256];
+    let values = &mut room[..distances.len()];
+    values_above(ctx.kind, distances, values);
     let chosen = choose(values, ctx.kind, ctx.step);
     write_form(values, ctx, chosen, &mut out[..chosen.size]);
     chosen.size
