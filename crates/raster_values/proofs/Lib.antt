@@ -34,5 +34,5 @@ pub mod GridLaws
 pub mod GridDecided
 mod Repeats
 mod AllCells
-mod Distances
-mod Ranges
+pub mod Distances
+pub mod Ranges
