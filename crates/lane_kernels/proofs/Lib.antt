@@ -1,4 +1,4 @@
-mod Bounds
+pub mod Bounds
 mod Caps
 mod MinMax
 mod Within

@@ -1,29 +1,22 @@
 -- The least and the greatest values of a raster, and the lists in front of an image.
-use Rattle.std.specs.Prelude.{ℕ, ℤ, pos, Bool, ◌||◌, nat_eq, List, [], ◌∷◌, ◌++◌, get_or, map, fold, Option, Some, None}
+use Rattle.std.specs.Prelude.{ℕ, ℤ, pos, Bool, ◌||◌, nat_eq, List, [], ◌∷◌, ◌++◌, map, fold, Option, Some, None}
 use Rattle.std.specs.Int.{int_max}
 use Rattle.std.specs.Ordering.{int_eq}
 use Rattle.std.specs.Cmp.Lexicographic.{pointwise}
-use Rattle.std.specs.List.{flat_map, range_with_len}
+use Rattle.std.specs.List.{range_with_len}
 use Rattle.raster_values.specs.Raster.{Pixels, valid_count, values_of}
 use Rattle.raster_values.specs.Grid.{values_bytes}
 use Rattle.lerc_header.specs.declared.header.Version.{Version}
 use Rattle.lerc_header.specs.declared.header.Version.TheVariants.{V3, V4}
 use Rattle.micro_block.specs.Choice.{least_value}
 use Rattle.lerc_grammar.specs.Image.{Ends}
+pub use Rattle.raster_values.specs.Flat.{at_depth}
+unfoldable pub use Rattle.raster_values.specs.Flat.{depth_values}
 
 -- the greatest value, and 0 of none
 abbrev pub greatest_value : List ℤ → ℤ
 greatest_value [] = pos 0
 greatest_value (v ∷ values) = fold int_max v values
-
--- the value of a pixel at a depth, where it is valid
-abbrev pub at_depth : ℕ → Option (List ℤ) → List ℤ
-at_depth d None = []
-at_depth d (Some values) = get_or values d (pos 0) ∷ []
-
--- the values of the valid pixels at one depth, row by row
-unfoldable pub depth_values : Pixels → ℕ → List ℤ
-depth_values r d = flat_map (at_depth d) r.pixels
 
 -- the least and the greatest value of each depth
 abbrev pub leasts : Pixels → List ℤ

@@ -1,8 +1,8 @@
 -- The values of all pixels, and those put at the places of marked ones.
-use Rattle.std.proofs.Common.{◌≡◌, ℕ, ◌+◌, ◌-◌, ◌*◌, ◌/◌, ◌%◌, ◌<◌, ◌≤◌, zero, suc, Bool, true, false, cond, List, [], ◌∷◌, ◌++◌, length, get_or, take, drop, replicate, Option, Some, None, refl, sym, ap, ◌∙◌, subst, arith, ⊎_elim, length-append}
-use Rattle.std.specs.Prelude.{ℤ, pos, All, unwrap_or, is_some}
+use Rattle.std.proofs.Common.{◌≡◌, ℕ, ◌+◌, ◌-◌, ◌*◌, ◌<◌, ◌≤◌, zero, suc, Bool, true, false, cond, List, [], ◌∷◌, ◌++◌, length, get_or, take, drop, replicate, Option, Some, None, refl, sym, ap, ◌∙◌, subst, arith, ⊎_elim, length-append}
+use Rattle.std.specs.Prelude.{ℤ, pos, All, unwrap_or}
 use Rattle.std.specs.List.{flat_map}
-use Rattle.std.proofs.lemmas.List.{length-take-le, length-drop, get_or-take, get_or-drop, get_or_append_left, get_or-append_right, length-replicate, get_or-replicate, take-append-drop, drop-drop, ext_get_or}
+use Rattle.std.proofs.lemmas.List.{length-take-le, length-drop, get_or-take, get_or-drop, get_or_append_left, get_or-append_right, length-replicate, get_or-replicate, take-append-drop, ext_get_or}
 use Rattle.std.proofs.lemmas.List.Concat.{flat_map-cons}
 use Rattle.std.proofs.lemmas.List.Elements.{All-append, All-nil, All-replicate, All-take, All-drop}
 use Rattle.std.proofs.lemmas.Bool.{cases_lt, false≢true}
@@ -11,21 +11,18 @@ use Rattle.std.proofs.Math.Nat.{mul-le-mul_right}
 use Rattle.byteorder.specs.Endian.{little_number}
 use Rattle.raster_values.specs.declared.kind.PixelType.{PixelType}
 use Rattle.raster_values.specs.declared.raster.Raster.TheInside.{Inside}
-use Rattle.raster_values.specs.PixelType.{bytes_of, value_of, InRange, Spells}
+use Rattle.raster_values.specs.PixelType.{bytes_of, value_of, InRange}
 use Rattle.raster_values.specs.Raster.{Pixels, IsRaster, IsPixel, InShape, IsValidAt}
-use Rattle.raster_values.specs.Places.{SameShape}
-use Rattle.raster_values.specs.Block.{SameMask}
 use Rattle.raster_values.specs.Grid.{values_bytes}
 use Rattle.raster_values.specs.Flat.{all_values, value_in, PutsAll, AllStand, AllValuesStand, PuttingAllIsOne, AllPutGive}
 use Rattle.raster_values.specs.inside.View.{seen, IsInside, pixels_of}
 use Rattle.raster_values.specs.inside.CellList.{values_in}
 use Rattle.raster_values.specs.inside.Runs.{AreRuns}
-use Rattle.raster_values.specs.inside.Ordered.{KeepsUnmarked, PutsMarkedBytes}
+use Rattle.raster_values.specs.inside.Ordered.{PutsMarkedBytes}
 use Rattle.raster_values.proofs.Views.{KeepsValues, zero_in_range}
 use Rattle.raster_values.proofs.FlatViews.{with_values, value_flat, mark_flat, same_mask, pours_keep}
 use Rattle.raster_values.proofs.CellBytes.{with_run, values_is, bytes_front, bytes_behind, length-values_in, value_there}
 use Rattle.raster_values.proofs.Spelled.{AreBytes, bytes_of_values, values_fit, value_in-at, bytes_put, put_as_run}
-use Rattle.raster_values.proofs.Poured.{piece_are}
 use Rattle.raster_values.proofs.WholeRuns.{with_run_at, with_run_before, with_run_after}
 use Rattle.raster_values.proofs.Same.{same_raster}
 

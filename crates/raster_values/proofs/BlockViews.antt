@@ -2,7 +2,7 @@
 use Rattle.std.proofs.Common.{◌≡◌, ℕ, ◌+◌, ◌-◌, ◌*◌, ◌<◌, ◌≤◌, zero, suc, min, Bool, true, false, cond, List, [], ◌∷◌, ◌++◌, length, get_or, drop, map, refl, sym, ap, ◌∙◌, arith, length-append}
 use Rattle.std.specs.Prelude.{ℤ, pos, All, unwrap_or}
 use Rattle.std.specs.List.{filter, flat_map, range_with_len}
-use Rattle.std.proofs.lemmas.List.{map-append, take-append-drop}
+use Rattle.std.proofs.lemmas.List.{length-map, map-append, take-append-drop}
 use Rattle.std.proofs.lemmas.List.Elements.{filter-append}
 use Rattle.std.proofs.lemmas.List.Concat.{flat_map-cons}
 use Rattle.std.proofs.lemmas.Nat.{same_from_place, mul-add-lt}
@@ -111,6 +111,18 @@ gathered_is a row col side d n old new h below g =
     let bare : n ≡ length (rows_values a.depth d a.marks a.values.values a.cols row col (min side (a.rows - row)) (min side (a.cols - col))) = omega (arith, g.ends) in
     let count : n ≡ block_count r row col side = bare ∙ ap length (sym same) ∙ has_count r row col side d in
     (count, sym (take-append-drop n new) ∙ ap (λ t. t ++ drop n new) (g.front ∙ sym same) ∙ ap (λ t. block_values r row col side d ++ t) (g.rest ∙ ap (λ m. drop m old) count))
+
+-- the same of something that each value gives
+pub gathered_as : {X : Type 0} (g : ℤ → X) (a : Inside) (row col side d n : ℕ) (old new : List X) → IsInside a → d < a.depth
+    → Gathers (map g (rows_values a.depth d a.marks a.values.values a.cols row col (min side (a.rows - row)) (min side (a.cols - col)))) old new 0 n
+    → (n ≡ block_count (seen a) row col side) × (new ≡ map g (block_values (seen a) row col side d) ++ drop (block_count (seen a) row col side) old)
+gathered_as g a row col side d n old new h below gathers =
+    let r = seen a in
+    let rows = rows_values a.depth d a.marks a.values.values a.cols row col (min side (a.rows - row)) (min side (a.cols - col)) in
+    let same : block_values r row col side d ≡ rows = block_of_rows a.values.kind a.rows a.cols a.depth a.marks a.values.values row col side d h.zeros h.marks below in
+    let bare : n ≡ length rows = omega (arith, gathers.ends, length-map rows g) in
+    let count : n ≡ block_count r row col side = bare ∙ ap length (sym same) ∙ has_count r row col side d in
+    (count, sym (take-append-drop n new) ∙ ap (λ t. t ++ drop n new) (gathers.front ∙ ap (map g) (sym same)) ∙ ap (λ t. map g (block_values r row col side d) ++ t) (gathers.rest ∙ ap (λ m. drop m old) count))
 
 -- ---- what pouring leaves
 

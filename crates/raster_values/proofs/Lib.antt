@@ -34,3 +34,5 @@ pub mod GridLaws
 pub mod GridDecided
 mod Repeats
 mod AllCells
+pub mod Distances
+pub mod Ranges

@@ -5,6 +5,7 @@ use Rattle.std.specs.List.{filter, range_with_len}
 use Rattle.std.proofs.lemmas.List.{get_or-set_same, get_or-set_other, get_or-take, get_or-drop, length-take-le, length-drop, map-append, take_at, drop_at, drop-drop, ext_get_or}
 use Rattle.std.proofs.lemmas.List.FromFn.{length-range_with_len, get_or-map-range_with_len, length-map-range_with_len}
 use Rattle.std.proofs.lemmas.List.Elements.{filter-append}
+use Rattle.std.proofs.lemmas.Simd.{map-map}
 use Rattle.std.proofs.lemmas.Bool.{cases_eq, cases_lt, false≢true}
 use Rattle.std.proofs.lemmas.Nat.{same_from_place}
 use Rattle.std.proofs.Math.Seq.{take-add}
@@ -119,7 +120,7 @@ values_run depth d marks vs from k start stop low runs =
     ap (map f) (places_run marks from k start stop low runs) ∙ map-append f (run_places marks from (k - from)) (range_with_len start (stop - start))
 
 -- a piece laid over others
-pub gathers_piece : (piece old : List ℤ) (n next : ℕ) → next ≡ n + length piece → next ≤ length old → Gathers piece old (put_mid n (next - n) old piece) n next
+pub gathers_piece : {X : Type 0} (piece old : List X) (n next : ℕ) → next ≡ n + length piece → next ≤ length old → Gathers piece old (put_mid n (next - n) old piece) n next
 gathers_piece piece old n next is within =
     let front : length (take n old) ≡ n = length-take-le n old (omega arith) in
     let both : length (take n old ++ piece) ≡ next = length-append (take n old) piece ∙ omega arith in
@@ -142,6 +143,21 @@ gather_piece depth d marks values first out piece from k start stop at n next lo
     let one : Gathers piece out (put_mid n (next - n) out piece) n next = gathers_piece piece out n next (omega (arith, is, long)) within in
     subst (λ vs. Gathers vs first (put_mid n (next - n) out piece) at next) (ap (λ vs. run_values depth d marks values from (k - from) ++ vs) cut ∙ sym (values_run depth d marks values from k start stop low runs))
     (gathers_join (run_values depth d marks values from (k - from)) piece first out (put_mid n (next - n) out piece) at n next before one)
+
+-- the same of something that each value gives
+pub gather_piece_as : {X : Type 0} (g : ℤ → X) (depth d : ℕ) (marks : List Bool) (values : List ℤ) (first out piece : List X) (from k start stop at n next : ℕ) → from ≤ k → AreRuns marks k start stop
+    → next ≡ n + (stop - start) → next ≤ length out → piece ≡ map (λ j. g (get_or values (j * depth + d) (pos 0))) (range_with_len start (stop - start))
+    → Gathers (map g (run_values depth d marks values from (k - from))) first out at n
+    → Gathers (map g (run_values depth d marks values from (stop - from))) first (put_mid n (next - n) out piece) at next
+gather_piece_as g depth d marks values first out piece from k start stop at n next low runs is within cut before =
+    let f : ℕ → ℤ = λ j. get_or values (j * depth + d) (pos 0) in
+    let long : length piece ≡ stop - start = ap length cut ∙ length-map-range_with_len (λ j. g (f j)) start (stop - start) in
+    let one : Gathers piece out (put_mid n (next - n) out piece) n next = gathers_piece piece out n next (omega (arith, is, long)) within in
+    let run : piece ≡ map g (map f (range_with_len start (stop - start))) = cut ∙ sym (map-map g f (range_with_len start (stop - start))) in
+    subst (λ vs. Gathers vs first (put_mid n (next - n) out piece) at next)
+    (ap (λ vs. map g (run_values depth d marks values from (k - from)) ++ vs) run
+    ∙ sym (ap (map g) (values_run depth d marks values from k start stop low runs) ∙ map-append g (run_values depth d marks values from (k - from)) (map f (range_with_len start (stop - start)))))
+    (gathers_join (map g (run_values depth d marks values from (k - from))) piece first out (put_mid n (next - n) out piece) at n next before one)
 
 -- values poured over a run
 pub pour_piece : (depth d : ℕ) (marks : List Bool) (input piece old new : List ℤ) (from k start stop at n next : ℕ) → d < depth → from ≤ k → AreRuns marks k start stop

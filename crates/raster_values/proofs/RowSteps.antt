@@ -1,9 +1,9 @@
 -- The loops over the rows of a block.
-use Rattle.std.proofs.Common.{◌≡◌, ℕ, ◌+◌, ◌-◌, ◌*◌, ◌<◌, ◌≤◌, zero, suc, Bool, true, false, cond, List, [], ◌∷◌, ◌++◌, length, get_or, take, refl, sym, ap, ◌∙◌, subst, arith, length-append, ⊎_elim}
+use Rattle.std.proofs.Common.{◌≡◌, ℕ, ◌+◌, ◌-◌, ◌*◌, ◌<◌, ◌≤◌, zero, suc, Bool, true, false, cond, List, [], ◌∷◌, ◌++◌, length, get_or, take, map, refl, sym, ap, ◌∙◌, subst, arith, length-append, ⊎_elim}
 use Rattle.std.proofs.lemmas.Bool.{cases_lt}
 use Rattle.std.specs.Prelude.{ℤ}
 use Rattle.std.specs.List.{flat_map, range_with_len}
-use Rattle.std.proofs.lemmas.List.{flat_map_more}
+use Rattle.std.proofs.lemmas.List.{flat_map_more, map-append}
 use Rattle.std.proofs.Math.Nat.{mul-le-mul_left, mul-le-mul_right}
 use Rattle.raster_values.specs.inside.Runs.{run_places, run_values, rows_places, rows_values, Gathers, LeavesRun, LeavesRows}
 use Rattle.raster_values.proofs.Every.{every_range, same_flat_map}
@@ -47,6 +47,16 @@ pub gather_more : (depth d : ℕ) (marks : List Bool) (values old mid new : List
 gather_more depth d marks values old mid new cols row col h wide n end before here =
     let f : ℕ → List ℤ = λ i. run_values depth d marks values (i * cols + col) wide in
     subst (λ vs. Gathers vs old new 0 end) (sym (pieces_more f row h)) (gathers_join (rows_values depth d marks values cols row col h wide) (f (row + h)) old mid new 0 n end before here)
+
+-- the same of something that each value gives
+pub gather_more_as : {X : Type 0} (g : ℤ → X) (depth d : ℕ) (marks : List Bool) (values : List ℤ) (old mid new : List X) (cols row col h wide n end : ℕ)
+    → Gathers (map g (rows_values depth d marks values cols row col h wide)) old mid 0 n → Gathers (map g (run_values depth d marks values ((row + h) * cols + col) wide)) mid new n end
+    → Gathers (map g (rows_values depth d marks values cols row col (h + 1) wide)) old new 0 end
+gather_more_as g depth d marks values old mid new cols row col h wide n end before here =
+    let f : ℕ → List ℤ = λ i. run_values depth d marks values (i * cols + col) wide in
+    let rows = rows_values depth d marks values cols row col h wide in
+    subst (λ vs. Gathers vs old new 0 end) (sym (ap (map g) (pieces_more f row h) ∙ map-append g rows (f (row + h))))
+    (gathers_join (map g rows) (map g (f (row + h))) old mid new 0 n end before here)
 
 -- the rows above a run are as they were
 above_same : (depth d : ℕ) (marks : List Bool) (values new : List ℤ) (cols row col h wide : ℕ) → d < depth → col + wide ≤ cols

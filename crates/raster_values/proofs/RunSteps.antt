@@ -39,7 +39,7 @@ places_rise marks from n (suc more) =
 
 -- ---- gathered values
 
-pub gathers_join : (values more old mid new : List ℤ) (at n end : ℕ) → Gathers values old mid at n → Gathers more mid new n end → Gathers (values ++ more) old new at end
+pub gathers_join : {X : Type 0} (values more old mid new : List X) (at n end : ℕ) → Gathers values old mid at n → Gathers more mid new n end → Gathers (values ++ more) old new at end
 gathers_join values more old mid new at n end g h = record {
   ends = omega (arith, g.ends, h.ends, length-append values more);
   front = h.front ∙ ap (λ t. t ++ more) g.front ∙ append_assoc (take at old) values more;

@@ -30,6 +30,17 @@ pub record PutsFrom (old new : Pixels) (place d : ℕ) (values : List ℤ) : Typ
   pub rest : (k e : ℕ) → k < old.rows * old.cols → e < old.depth
       → (place ≤ k → k < place + length values → e ≡ d → ⊥) → value_in new e k ≡ value_in old e k
 
+-- ---- the values at one depth
+
+-- the value of a pixel at a depth, where it is valid
+abbrev pub at_depth : ℕ → Option (List ℤ) → List ℤ
+at_depth d None = []
+at_depth d (Some values) = get_or values d (pos 0) ∷ []
+
+-- the values of the valid pixels at one depth, row by row
+unfoldable pub depth_values : Pixels → ℕ → List ℤ
+depth_values r d = flat_map (at_depth d) r.pixels
+
 -- ---- the values of all pixels
 
 -- one list for each pixel, row by row: the values of a valid one, and 0 at each depth of an invalid

@@ -1,8 +1,10 @@
 // Blocks of the mask and the values of a raster: `high` rows of `wide` pixels from (row, col) on.
 
-ghost use Rattle.std.specs.Prelude.{◌≡◌, ℕ, ◌+◌, ◌*◌, ◌<◌, ◌≤◌, Bool, true, false, length, get_or, take, drop, All, ◌++◌};
+ghost use Rattle.std.specs.Prelude.{◌≡◌, ℕ, ℤ, ◌+◌, ◌*◌, ◌<◌, ◌≤◌, Bool, true, false, List, length, map, get_or, take, drop, All, ◌++◌};
 ghost use Rattle.raster_values.specs.PixelType.{InRange};
-ghost use Rattle.raster_values.specs.inside.Runs.{AreRuns, run_places, run_values, rows_places, rows_values, Gathers, LeavesRun, LeavesRows};
+ghost use Rattle.raster_values.specs.inside.Runs.{AreRuns, run_places, run_values, rows_places, rows_values, Gathers, IsRange, LeavesRun, LeavesRows};
+ghost use Rattle.raster_values.specs.Distance.{distance_of};
+ghost use Rattle.lane_kernels.specs.Kernels.{IsLeast, IsGreatest};
 
 use super::cells::Cells;
 use super::mask::{Mask, Run};
@@ -34,6 +36,39 @@ fn gather_run(
         let run = marks.next_run(k, end);
         let next = n + (run.end - run.start);
         values.get_pixels(run.start, depth, d, &mut out[n..next]);
+        n = next;
+        k = run.end;
+    }
+    n
+}
+
+/// Puts the distances of the marked pixels among `count` from `from` on behind the first `at` of
+/// `out`, and answers where they end.
+fn gather_distance_run(
+    marks: &Mask,
+    values: &Cells,
+    depth: usize,
+    d: usize,
+    from: usize,
+    count: usize,
+    out: &mut [u32],
+    at: usize,
+) -> usize
+    requires size { length values.now.values ≡ length marks.now * depth }
+    requires few { length values.now.values ≤ 16777216 }
+    requires within { from + count ≤ length marks.now }
+    requires depth { d < depth }
+    requires room { at + count ≤ length out.old }
+    ensures { Gathers (map (distance_of values.now.kind)
+        (run_values depth d marks.now values.now.values from count)) out.old out.new at result }
+{
+    let end = from + count;
+    let mut n = at;
+    let mut k = from;
+    while k < end {
+        let run = marks.next_run(k, end);
+        let next = n + (run.end - run.start);
+        values.get_distances(run.start, depth, d, &mut out[n..next]);
         n = next;
         k = run.end;
     }
@@ -156,6 +191,70 @@ pub(super) fn gather_rows(
         n = gather_run(marks, values, depth, d, i * cols + col, wide, out, n);
     }
     n
+}
+
+/// Puts the distances of a block's marked pixels in front of `out`, and answers how many these are.
+pub(super) fn gather_distance_rows(
+    marks: &Mask,
+    values: &Cells,
+    depth: usize,
+    d: usize,
+    cols: usize,
+    row: usize,
+    col: usize,
+    high: usize,
+    wide: usize,
+    out: &mut [u32],
+) -> usize
+    requires size { length values.now.values ≡ length marks.now * depth }
+    requires few { length values.now.values ≤ 16777216 }
+    requires across { col + wide ≤ cols }
+    requires rows { row + high ≤ length marks.now }
+    requires within { (row + high) * cols ≤ length marks.now }
+    requires depth { d < depth }
+    requires room { high * wide ≤ length out.old }
+    ensures gathered { Gathers (map (distance_of values.now.kind)
+        (rows_values depth d marks.now values.now.values cols row col high wide))
+        out.old out.new 0 result }
+    ensures within { result ≤ high * wide }
+{
+    let mut n = 0;
+    for i in row..row + high {
+        n = gather_distance_run(marks, values, depth, d, i * cols + col, wide, out, n);
+    }
+    n
+}
+
+/// What is found with a least and a greatest value more.
+fn wider(found: Option<(i64, i64)>, more: (i64, i64)) -> (i64, i64)
+    ensures { (xs ys : List ℤ) → IsRange found xs → IsLeast ys more.0 → IsGreatest ys more.1
+        → IsRange (Some result) (xs ++ ys) }
+{
+    match found {
+        Some((least, greatest)) => (least.min(more.0), greatest.max(more.1)),
+        None => more,
+    }
+}
+
+/// The least and the greatest of the marked pixels' values at a depth.
+pub(super) fn range_of(marks: &Mask, values: &Cells, depth: usize, d: usize) -> Option<(i64, i64)>
+    requires size { length values.now.values ≡ length marks.now * depth }
+    requires few { length values.now.values ≤ 16777216 }
+    requires depth { d < depth }
+    ensures { IsRange result
+        (run_values depth d marks.now values.now.values 0 (length marks.now)) }
+{
+    let mut found = None;
+    let mut k = 0;
+    while k < marks.len() {
+        let run = marks.next_run(k, marks.len());
+        if run.start < run.end {
+            let more = values.extremes(run.start, run.end - run.start, depth, d);
+            found = Some(wider(found, more));
+        }
+        k = run.end;
+    }
+    found
 }
 
 /// Gives a block's marked pixels these values.

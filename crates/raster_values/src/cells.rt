@@ -7,6 +7,8 @@ ghost use Rattle.raster_values.specs.inside.TakenRun.{Laid, PutsRun, TakesRun};
 ghost use Rattle.raster_values.specs.inside.Cleared.{cleared};
 ghost use Rattle.raster_values.specs.inside.Ordered.{FillsPixels, PutsPixels};
 ghost use Rattle.std.specs.List.{range_with_len};
+ghost use Rattle.raster_values.specs.Distance.{distance_of};
+ghost use Rattle.lane_kernels.specs.Kernels.{IsLeast, IsGreatest};
 
 use super::kind::PixelType;
 use outside_io::{Failed, Source, take_all};
@@ -222,6 +224,73 @@ impl Cells {
         for i in 0..out.len() {
             out[i] = self.get_as(kind, (first + i) * depth + d);
         }
+    }
+
+    /// How far the values at a depth of the pixels from `first` on are above the type's least: of
+    /// the pixels each has `depth` values.
+    pub fn get_distances(&self, first: usize, depth: usize, d: usize, out: &mut [u32])
+        requires few { length self.now.values ≤ 16777216 }
+        requires depth { d < depth }
+        requires within { (first + length out.old) * depth ≤ length self.now.values }
+        ensures { out.new ≡ map (λ k. distance_of self.now.kind
+            (get_or self.now.values (k * depth + d) (pos 0)))
+            (range_with_len first (length out.old)) }
+    {
+        by_kind!(self.kind, kind => self.get_distances_as(kind, first, depth, d, out))
+    }
+
+    /// Does what `get_distances` does, for a type that is known before.
+    #[inline(always)]
+    fn get_distances_as(
+        &self,
+        kind: PixelType,
+        first: usize,
+        depth: usize,
+        d: usize,
+        out: &mut [u32],
+    )
+        requires kind { kind ≡ self.now.kind }
+        requires few { length self.now.values ≤ 16777216 }
+        requires depth { d < depth }
+        requires within { (first + length out.old) * depth ≤ length self.now.values }
+        ensures { out.new ≡ map (λ k. distance_of self.now.kind
+            (get_or self.now.values (k * depth + d) (pos 0)))
+            (range_with_len first (length out.old)) }
+    {
+        for i in 0..out.len() {
+            out[i] = self.distance_as(kind, (first + i) * depth + d);
+        }
+    }
+
+    /// How far the value at a place is above the type's least.
+    #[inline(always)]
+    fn distance_as(&self, kind: PixelType, at: usize) -> u32
+        requires kind { kind ≡ self.now.kind }
+        requires within { at < length self.now.values }
+        ensures { result ≡ distance_of self.now.kind (get_or self.now.values at (pos 0)) }
+    {
+        (self.get_as(kind, at) - kind.least()) as u32
+    }
+
+    /// The least and the greatest of the values at a depth of `count` pixels from `first` on, of
+    /// which each has `depth`.
+    pub fn extremes(&self, first: usize, count: usize, depth: usize, d: usize) -> (i64, i64)
+        requires few { length self.now.values ≤ 16777216 }
+        requires some { 0 < count }
+        requires depth { d < depth }
+        requires within { (first + count) * depth ≤ length self.now.values }
+        ensures least { IsLeast (map (λ k. get_or self.now.values (k * depth + d) (pos 0))
+            (range_with_len first count)) result.0 }
+        ensures greatest { IsGreatest (map (λ k. get_or self.now.values (k * depth + d) (pos 0))
+            (range_with_len first count)) result.1 }
+    {
+        let (mut least, mut greatest) = (self.get(first * depth + d), self.get(first * depth + d));
+        for i in 1..count {
+            let value = self.get((first + i) * depth + d);
+            least = least.min(value);
+            greatest = greatest.max(value);
+        }
+        (least, greatest)
     }
 
     /// Puts a run of values of the type in the place of as many from `at` on.

@@ -1,4 +1,4 @@
-ghost use Rattle.std.specs.Prelude.{◌≡◌, ◌+◌, ◌-◌, ◌*◌, ◌<◌, ◌≤◌, ◌↔◌, IfOk, OnOk, OnErr, IsErrOf, true, length, min, replicate, ◌++◌, drop, All, pos, false, get_or, ◌/◌, ◌^◌, ℕ, List, None, is_some, IfErr};
+ghost use Rattle.std.specs.Prelude.{◌≡◌, ◌+◌, ◌-◌, ◌*◌, ◌<◌, ◌≤◌, ◌↔◌, IfOk, OnOk, OnErr, IsErrOf, true, length, min, replicate, ◌++◌, drop, All, pos, false, get_or, ◌/◌, ◌^◌, ℕ, ℤ, [], List, None, IsNone, map, is_some, IfErr};
 ghost use Rattle.std.specs.List.{count_by};
 ghost use Rattle.outside_io.specs.streams.Faults.{CountsFaults};
 ghost use Rattle.outside_io.specs.streams.Sink.{Holds, HoldsPrefix};
@@ -7,7 +7,9 @@ ghost use Rattle.raster_values.specs.Raster.{IsRaster, HasZero, IsTooLarge, blan
 ghost use Rattle.raster_values.specs.Places.{SameShape, ChangesMark, ChangesValue};
 ghost use Rattle.raster_values.specs.Grid.{grid_marks, values_bytes};
 ghost use Rattle.raster_values.specs.Order.{FillsValid, IsMaskOf, MarksBits, PoursBytes, mask_bit};
-ghost use Rattle.raster_values.specs.Flat.{PutsFrom, PutsAll, all_values, marks_of, value_in};
+ghost use Rattle.raster_values.specs.Flat.{PutsFrom, PutsAll, all_values, depth_values, marks_of, value_in};
+ghost use Rattle.raster_values.specs.Distance.{distance_of};
+ghost use Rattle.lane_kernels.specs.Kernels.{IsLeast, IsGreatest};
 ghost use Rattle.raster_values.specs.ReadGrid.{AreMarks, TookBytes, TookSome, IsToldFault, CountsGridStop, mark_faults, value_faults};
 ghost use Rattle.raster_values.specs.Values.{AreValues};
 ghost use Rattle.raster_values.specs.Block.{SameMask, block_count, block_values, PoursBlock};
@@ -292,6 +294,48 @@ impl Raster {
             wide as usize,
             out,
         )
+    }
+
+    /// Puts the values at a depth of a block's valid pixels in front of `out`, row by row and each
+    /// by how far it is above the type's least, and answers how many these are. The rest of `out`
+    /// stays.
+    pub fn gather_distances(&self, row: u32, col: u32, side: u32, d: u32, out: &mut [u32]) -> usize
+        requires place { InShape self.now row col }
+        requires depth { d < self.now.depth }
+        requires room { side * side ≤ length out.old }
+        ensures count { result ≡ block_count self.now row col side }
+        ensures within { result ≤ side * side }
+        ensures distances { out.new
+            ≡ map (distance_of self.now.kind) (block_values self.now row col side d)
+            ++ drop (block_count self.now row col side) out.old }
+    {
+        let high = edge(side, row, self.rows);
+        let wide = edge(side, col, self.cols);
+        blocks::gather_distance_rows(
+            &self.marks,
+            &self.values,
+            self.depth as usize,
+            d as usize,
+            self.cols as usize,
+            row as usize,
+            col as usize,
+            high as usize,
+            wide as usize,
+            out,
+        )
+    }
+
+    /// The least and the greatest value of the valid pixels at a depth, in this order; None exactly
+    /// where no pixel is valid.
+    pub fn range(&self, d: u32) -> Option<(i64, i64)>
+        requires { d < self.now.depth }
+        ensures found { (least greatest : ℤ) → (result ≡ Some (least, greatest))
+            ↔ (IsLeast (depth_values self.now d) least
+            × IsGreatest (depth_values self.now d) greatest) }
+        ensures empty { IsNone result ↔ (depth_values self.now d ≡ []) }
+        ensures none { IsNone result ↔ (valid_count self.now ≡ 0) }
+    {
+        blocks::range_of(&self.marks, &self.values, self.depth as usize, d as usize)
     }
 
     /// Gives the valid pixels of a block these values at a depth, row by row. All else stays.

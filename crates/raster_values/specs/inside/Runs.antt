@@ -1,10 +1,11 @@
 -- Runs of pixels in the two vectors of a raster.
-use Rattle.std.specs.Prelude.{◌≡◌, ℕ, ℤ, pos, ◌+◌, ◌*◌, ◌<◌, ◌≤◌, Bool, true, false, List, ◌++◌, map, length, get_or, take, drop, All}
+use Rattle.std.specs.Prelude.{◌≡◌, ℕ, ℤ, pos, ◌+◌, ◌*◌, ◌<◌, ◌≤◌, Bool, true, false, List, [], ◌++◌, map, length, get_or, take, drop, All, Option, Some, None}
 use mir.Syntax.{w64}
 use mir.Val.{SFits}
 use Rattle.raster_values.specs.declared.kind.PixelType.{PixelType}
 use Rattle.raster_values.specs.PixelType.{InRange}
 use Rattle.std.specs.List.{filter, flat_map, range_with_len}
+use Rattle.lane_kernels.specs.Kernels.{IsLeast, IsGreatest}
 
 -- each value is one of a signed number of 64 bits
 abbrev pub AreWords : List ℤ → Type 0
@@ -29,10 +30,15 @@ rows_values depth d marks values cols row col high wide = flat_map
     (λ i. run_values depth d marks values (i * cols + col) wide) (range_with_len row high)
 
 -- the values were put behind the first `at` of `old`, up to `end`, and nothing else was changed
-pub record Gathers (values old new : List ℤ) (at end : ℕ) : Type 0 where
+pub record Gathers {X : Type 0} (values old new : List X) (at end : ℕ) : Type 0 where
   pub ends : end ≡ at + length values
   pub front : take end new ≡ take at old ++ values
   pub rest : drop end new ≡ drop end old
+
+-- a pair is the least and the greatest of the values, and there is none of no values
+abbrev pub IsRange : Option (ℤ × ℤ) → List ℤ → Type 0
+IsRange None values = values ≡ []
+IsRange (Some pair) values = IsLeast values pair.0 × IsGreatest values pair.1
 
 -- values of a type stay values of it
 abbrev pub StayInRange : List ℤ → List ℤ → List ℤ → Type 0

@@ -1,5 +1,5 @@
 use Rattle.std.proofs.Common.{◌≡◌, ◌+◌, ◌≤◌, ◌++◌, length, take, replicate, arith, ap, sym, ◌∙◌}
-use Rattle.std.proofs.lemmas.List.{length-append, length-replicate, take-replicate, replicate-append-replicate}
+use Rattle.std.proofs.lemmas.List.{length-replicate, take-replicate, replicate-append-replicate}
 use Rattle.raster_values.proofs.cells.zeros.Goals as goal
 
 pub loop-block-preserved : goal.loop-block-preserved

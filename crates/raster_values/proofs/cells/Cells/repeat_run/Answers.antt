@@ -1,5 +1,4 @@
-use Rattle.std.proofs.Common.{◌≡◌, ◌+◌, ◌-◌, ◌*◌, ◌≤◌, arith, ap, ◌∙◌, sym, subst, length}
-use Rattle.raster_values.specs.PixelType.{bytes_of}
+use Rattle.std.proofs.Common.{◌≡◌, ◌+◌, ◌-◌, ◌≤◌, arith, ap, ◌∙◌, sym, subst, length}
 use Rattle.raster_values.specs.Grid.{values_bytes}
 use Rattle.raster_values.specs.inside.CellList.{CellList, values_in}
 use Rattle.raster_values.specs.inside.CellView.{listed}

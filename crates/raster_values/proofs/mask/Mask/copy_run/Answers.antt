@@ -1,4 +1,4 @@
-use Rattle.std.proofs.Common.{◌≡◌, ◌+◌, ◌<◌, ◌≤◌, Bool, List, ap, ◌∙◌, sym, subst, length, get_or, replicate, true, false, arith, rules}
+use Rattle.std.proofs.Common.{◌≡◌, ◌+◌, Bool, List, ap, ◌∙◌, sym, length, get_or, replicate, true, false, arith}
 use Rattle.std.specs.Prelude.{count_by}
 use Rattle.std.proofs.lemmas.List.{get_or-replicate}
 use Rattle.raster_values.specs.inside.MaskView.{seen_mask}

@@ -1,4 +1,4 @@
-use Rattle.std.proofs.Common.{◌≡◌, ◌*◌, ap, ◌∙◌, sym, subst, length}
+use Rattle.std.proofs.Common.{◌*◌, ap, ◌∙◌, sym, length}
 use Rattle.raster_values.specs.PixelType.{bytes_of}
 use Rattle.raster_values.specs.Raster.{Pixels}
 use Rattle.raster_values.specs.Grid.{values_bytes}

@@ -1,0 +1,11 @@
+use Rattle.std.proofs.Common.{◌+◌, ◌*◌, map, get_or}
+use Rattle.std.specs.Prelude.{pos}
+use Rattle.std.specs.List.{range_with_len}
+use Rattle.lane_kernels.specs.Kernels.{IsLeast, IsGreatest}
+use Rattle.raster_values.proofs.cells.Cells.extremes.Given as goal
+
+abbrev pub invariant-loop-i : goal.invariant-loop-i
+invariant-loop-i l = record {
+  least : IsLeast (map (λ k. get_or l.self.values (k * l.depth + l.d) (pos 0)) (range_with_len l.first l.i)) l.least;
+  greatest : IsGreatest (map (λ k. get_or l.self.values (k * l.depth + l.d) (pos 0)) (range_with_len l.first l.i)) l.greatest;
+}
