@@ -3,3 +3,4 @@ mod ReadSteps
 pub mod Rising
 pub mod Tabled
 mod Below
+mod Marked

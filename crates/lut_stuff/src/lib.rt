@@ -6,6 +6,7 @@
 #![tactic(auto)]
 
 mod laws;
+mod marking;
 mod reading;
 mod writing;
 

@@ -92,6 +92,29 @@ fn chosen_tables(rt: HostRuntime) {
     expect_table(&rt, &[5], &[0xa3, 0x01, 0x02, 0x05, 0x01]);
     expect_table(&rt, &[9, 2], &[0xa4, 0x02, 0x03, 0x92, 0x06]);
     expect_table(&rt, &[2, 3, 1], &[0xa2, 0x03, 0x04, 0x39, 0x1e]);
+    expect_table(&rt, &[255, 254, 255], &[0xa8, 3, 3, 0xfe, 0xff, 0x26]);
+    expect_table(
+        &rt,
+        &[256, 0, 255, 256],
+        &[0xa9, 4, 3, 0xff, 0x00, 0x02, 0x92],
+    );
+    expect_table(
+        &rt,
+        &[1023, 1, 1023, 512],
+        &[0xaa, 4, 4, 0x01, 0x00, 0xf8, 0x3f, 0xb7],
+    );
+    expect_table(
+        &rt,
+        &[1024, 0, 1024, 1023],
+        &[0xab, 4, 3, 0xff, 0x03, 0x20, 0x62],
+    );
+    expect_table(
+        &rt,
+        &[2147483647, 5, 5],
+        &[
+            0xbf, 3, 3, 0x05, 0x00, 0x00, 0x80, 0xff, 0xff, 0xff, 0x3f, 0x16,
+        ],
+    );
     assert!(rt; table_len(&[0, 0]) == None);
     assert!(rt; table_len(&[]) == None);
 }
@@ -119,4 +142,53 @@ fn tables_of_254_different_values_and_not_of_255(rt: HostRuntime) {
     unstuff(&many, 8, &mut more);
     assert!(rt; more.iter().all(|v| *v < 2147483648));
     assert!(rt; table_len(&more) == None);
+}
+
+// How many values, of which value `i` is `7 * i * i + 3 * i` modulo the second number, and the
+// length of their table, worked out apart from this program; 0 where there is none.
+const LENGTHS: [(usize, u32, usize); 25] = [
+    (64, 61, 66),
+    (64, 251, 114),
+    (64, 509, 122),
+    (64, 1021, 130),
+    (64, 5003, 154),
+    (65, 61, 67),
+    (65, 251, 124),
+    (65, 509, 132),
+    (65, 1021, 140),
+    (65, 5003, 164),
+    (256, 61, 187),
+    (256, 251, 353),
+    (256, 509, 465),
+    (256, 1021, 0),
+    (256, 5003, 0),
+    (257, 61, 188),
+    (257, 251, 354),
+    (257, 509, 467),
+    (257, 1021, 0),
+    (257, 5003, 0),
+    (1024, 61, 667),
+    (1024, 251, 1025),
+    (1024, 509, 1314),
+    (1024, 1021, 0),
+    (1024, 5003, 0),
+];
+
+#[test]
+fn lengths_of_long_lists(rt: HostRuntime) {
+    for (count, modulus, want) in LENGTHS {
+        let mut values = [0u32; 1024];
+        assert!(rt; count <= 1024 && modulus > 0, "the row");
+        let values = &mut values[..count];
+        for (i, value) in values.iter_mut().enumerate() {
+            let i = i as u32;
+            *value = (7 * i * i + 3 * i) % modulus;
+        }
+        assert!(rt; values.iter().all(|v| *v < 2147483648));
+        assert_eq!(rt;
+            table_len(values).unwrap_or(0),
+            want,
+            "{count} modulo {modulus}"
+        );
+    }
 }
