@@ -28,5 +28,6 @@ pub mod Filling
 pub mod ChosenRuns
 pub mod ChosenTables
 pub mod Counted
+pub mod Tallies
 pub mod Once
 mod Lookups

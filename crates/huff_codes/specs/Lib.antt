@@ -4,6 +4,7 @@ pub mod Bits
 pub mod Tree
 pub mod Codes
 pub mod Words
+pub mod Counts
 pub mod Turns
 pub mod Table
 pub mod Written

@@ -7,6 +7,7 @@
 
 mod chosen_table;
 mod codes;
+mod counts;
 mod faults;
 mod joining;
 mod laws;
@@ -18,6 +19,7 @@ mod writing;
 
 pub use chosen_table::{table_size, write_code_table};
 pub use codes::Codes;
+pub use counts::{count_symbols, counted_len};
 pub use faults::{CodeFault, CodeReason};
 pub use laws::{
     canonical_codes_are_codes, canonical_codes_count_up, chosen_lengths_are_lengths,

@@ -72,6 +72,24 @@ fn the_worked_table_and_its_words_are_written(rt: HostRuntime) -> Result<(), Fai
 }
 
 #[test]
+fn counts_are_enough_for_the_length_of_words(rt: HostRuntime) -> Result<(), Fail> {
+    let counts = count_symbols(&[1, 255, 0, 1]);
+    assert_eq!(rt;
+        [counts[0], counts[1], counts[2], counts[255]],
+        [1, 2, 0, 1]
+    );
+    let mut sizes = [0; 3];
+    if let Some(lengths) = lengths_of(&rt, &counts) {
+        // 6 bits, 32 and 34, and a further word behind each
+        sizes[0] = counted_len(&counts, &lengths);
+        sizes[1] = counted_len(&count_symbols(&[0; 16]), &lengths);
+        sizes[2] = counted_len(&count_symbols(&[0; 17]), &lengths);
+    }
+    assert_eq!(rt; sizes, [8, 8, 12]);
+    Ok(())
+}
+
+#[test]
 fn codes_of_32_bits_are_written(rt: HostRuntime) -> Result<(), Fail> {
     let mut bytes = [0u8; 135];
     if let Some(lengths) = lengths_of(&rt, &rising(33)) {

@@ -1,13 +1,14 @@
 -- Symbols as code words, in bytes: their counts and the lengths of their codes, the code table, and
 -- the words.
 use Rattle.std.specs.Prelude.{ℕ, zero, suc, ◌+◌, ◌-◌, ◌*◌, ◌%◌, ◌^◌, Bool, false, ◌&&◌, nat_eq, nat_le, if◌then◌else◌, List, [], ◌∷◌, ◌++◌, length, slice_index, take, drop, replicate, map, unwrap_or, Some}
-use Rattle.std.specs.List.{count_by, list_all, range_with_len}
+use Rattle.std.specs.List.{list_all, range_with_len}
 use Rattle.byteorder.specs.Endian.{little_bytes}
 use Rattle.bit_stuff.specs.Simple.{greatest_number, simple_bytes}
 use Rattle.micro_block.specs.Fewest.{first_least}
 use Rattle.huff_codes.specs.Tree.{lengths_of, used_count}
 use Rattle.huff_codes.specs.Codes.{canonical_codes}
 use Rattle.huff_codes.specs.Words.{joined_codes, word_count}
+unfoldable pub use Rattle.huff_codes.specs.Counts.{counts_of}
 use Rattle.huff_codes.specs.Table.{symbols_in}
 use Rattle.huff_codes.specs.Written.{run_lengths, table_head}
 use Rattle.huff_codes.specs.declared.table.SymbolRange.{SymbolRange}
@@ -59,10 +60,6 @@ table_bytes lengths =
     ++ words_of (word_count (length (table_codes lengths))) (table_codes lengths))
 
 -- ---- symbols
-
--- how often each symbol stands among them
-unfoldable pub counts_of : List ℕ → List ℕ
-counts_of symbols = map (λ s. count_by (nat_eq s) symbols) (range_with_len 0 256)
 
 -- the lengths of their codes
 abbrev pub code_lengths : List ℕ → List ℕ
