@@ -8,10 +8,9 @@ use Rattle.lane_kernels.specs.Kernels.{IsLeast, IsGreatest}
 use Rattle.std.proofs.lemmas.List.{get_or-map}
 use Rattle.std.proofs.lemmas.List.FromFn.{length-map-range_with_len}
 use Rattle.raster_values.specs.Raster.{Pixels, IsRaster, IsPixel, values_of, valid_count}
-use Rattle.raster_values.specs.PixelType.{InRange, type_least, type_greatest}
+use Rattle.raster_values.specs.PixelType.{InRange}
 use Rattle.raster_values.specs.Flat.{marks_of, value_in}
 use Rattle.raster_values.specs.declared.kind.PixelType.{PixelType}
-use Rattle.raster_values.specs.declared.kind.PixelType.TheVariants.{I8, U8, I16, U16, I32, U32}
 use mir.Syntax.{w64}
 use mir.Val.{to_z, of_z}
 use Rattle.micro_block.proofs.Written.{zero_of, least_in_range}
@@ -136,22 +135,6 @@ value_of_all r is k d h m low = has_flat_map (λ p. unwrap_or p []) (get_or r.pi
     among None s e = absurd (cc)
     among (Some values) s e = let long = e.0 in at_index (pos 0) values d (omega (arith, long, low))
 
--- ---- from the ends of the type
-
-top_fold : (a : ℤ) (v : ℤ) (vs : List ℤ) → v ≤ℤ a → fold int_min a (v ∷ vs) ≡ fold int_min v vs
-top_fold a v vs h = ap (λ (b : ℤ). fold int_min b vs) (let e : int_min a v ≡ v = omega (arith, ints, clamps, h) in e)
-
-low_fold : (a : ℤ) (v : ℤ) (vs : List ℤ) → a ≤ℤ v → fold int_max a (v ∷ vs) ≡ fold int_max v vs
-low_fold a v vs h = ap (λ (b : ℤ). fold int_max b vs) (let e : int_max a v ≡ v = omega (arith, ints, clamps, h) in e)
-
-pub least_from_top : (kind : PixelType) (vs : List ℤ) → ((v : ℤ) → Has v vs → InRange kind v) → 0 < length vs → fold int_min (type_greatest kind) vs ≡ least_value vs
-least_from_top kind [] fits some = absurd (omega (arith, some))
-least_from_top kind (v ∷ vs) fits some = top_fold (type_greatest kind) v vs (fits v (inl refl)).1
-
-pub greatest_from_low : (kind : PixelType) (vs : List ℤ) → ((v : ℤ) → Has v vs → InRange kind v) → 0 < length vs → fold int_max (type_least kind) vs ≡ greatest_value vs
-greatest_from_low kind [] fits some = absurd (omega (arith, some))
-greatest_from_low kind (v ∷ vs) fits some = low_fold (type_least kind) v vs (fits v (inl refl)).0
-
 -- a depth has as many values as pixels are valid
 one_each : (d a : ℕ) (ps : List (Option (List ℤ))) → length (flat_map (at_depth d) ps) + a ≡ fold (λ b p. b + cond (is_some p) 1 0) a ps
 one_each d a [] = omega arith
@@ -161,21 +144,6 @@ one_each d a (Some vs ∷ ps) = (let e : length (flat_map (at_depth d) (Some vs 
 pub depth_count : (r : Pixels) (d : ℕ) → length (depth_values r d) ≡ valid_count r
 unfolding depth_values
 depth_count r d = (let e : length (flat_map (at_depth d) r.pixels) ≡ length (flat_map (at_depth d) r.pixels) + 0 = omega arith in e) ∙ one_each d 0 r.pixels
-
-ends_in_range : (kind : PixelType) → InRange kind (type_least kind) × InRange kind (type_greatest kind)
-ends_in_range I8 = ((omega (arith, ints), omega (arith, ints)), (omega (arith, ints), omega (arith, ints)))
-ends_in_range U8 = ((omega (arith, ints), omega (arith, ints)), (omega (arith, ints), omega (arith, ints)))
-ends_in_range I16 = ((omega (arith, ints), omega (arith, ints)), (omega (arith, ints), omega (arith, ints)))
-ends_in_range U16 = ((omega (arith, ints), omega (arith, ints)), (omega (arith, ints), omega (arith, ints)))
-ends_in_range I32 = ((omega (arith, ints), omega (arith, ints)), (omega (arith, ints), omega (arith, ints)))
-ends_in_range U32 = ((omega (arith, ints), omega (arith, ints)), (omega (arith, ints), omega (arith, ints)))
-
--- the ends of a type as numbers of 64 bits
-pub least_again : (kind : PixelType) → to_z w64 (of_z w64 (type_least kind)) ≡ type_least kind
-least_again kind = same_bits kind (type_least kind) (ends_in_range kind).0
-
-pub greatest_again : (kind : PixelType) → to_z w64 (of_z w64 (type_greatest kind)) ≡ type_greatest kind
-greatest_again kind = same_bits kind (type_greatest kind) (ends_in_range kind).1
 
 -- the least and the greatest value are the type's
 pub depth_least_fits : (r : Pixels) → IsRaster r → (d : ℕ) → d < r.depth → InRange r.kind (least_value (depth_values r d))
@@ -249,6 +217,12 @@ least_one vs m h low = let a = least_below vs m h in let b = low (least_value vs
 
 greatest_one : (vs : List ℤ) (m : ℤ) → Has m vs → ((v : ℤ) → Has v vs → v ≤ℤ m) → m ≡ greatest_value vs
 greatest_one vs m h high = let a = greatest_above vs m h in let b = high (greatest_value vs) (greatest_member vs (some_member vs m h)) in omega (arith, ints, a, b)
+
+pub least_is : (vs : List ℤ) (m : ℤ) → IsLeast vs m → m ≡ least_value vs
+least_is vs m is = least_one vs m (contained vs m is.0) (λ v h. let i = index_of (pos 0) v vs h in subst (λ (u : ℤ). m ≤ℤ u) i.1.1 (is.1 i.0 (pos 0) i.1.0))
+
+pub greatest_is : (vs : List ℤ) (m : ℤ) → IsGreatest vs m → m ≡ greatest_value vs
+greatest_is vs m is = greatest_one vs m (contained vs m is.0) (λ v h. let i = index_of (pos 0) v vs h in subst (λ (u : ℤ). u ≤ℤ m) i.1.1 (is.1 i.0 (pos 0) i.1.0))
 
 -- the list of a number for each depth
 at_depths : (f : ℕ → ℤ) (n : ℕ) (m : ℤ) → Has m (map f (range_with_len 0 n)) → (d : ℕ) × ((d < n) × (m ≡ f d))

@@ -70,7 +70,7 @@ pub small_is : (h : Header) (r : Pixels) → IsBase h r → 0 ∷ (mode_bytes r 
 unfolding form_bytes
 small_is h r b = ap (λ (x : Header). 0 ∷ (mode_bytes r h.step ++ blocks_bytes x r)) b.is
 
-large_header : (h : Header) (r : Pixels) → IsBase h r → record h { side = 16 } ≡ header_of r h.version h.step 16 0 0
+pub large_header : (h : Header) (r : Pixels) → IsBase h r → record h { side = 16 } ≡ header_of r h.version h.step 16 0 0
 unfolding header_of
 large_header h r b = ap (λ (x : Header). record x { side = 16 }) b.is
 

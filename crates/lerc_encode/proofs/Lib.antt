@@ -2,11 +2,11 @@ mod Runs
 mod Members
 mod Extremes
 mod Blocking
+mod Spots
 mod Packing
 mod Forming
 mod WordBytes
 mod TableBytes
-mod FullRuns
 mod Kept
 mod SymbolForms
 mod SymbolSteps

@@ -1,20 +1,19 @@
 -- No blob is longer than type and shape allow.
-use Rattle.std.proofs.Common.{◌≡◌, ℕ, ◌+◌, ◌*◌, ◌/◌, ◌≤◌, Bool, true, false, List, [], ◌∷◌, ◌++◌, length, Option, Some, None, refl, sym, ap, ◌∙◌, arith, length-append}
-use Rattle.std.specs.Prelude.{is_some, unwrap_or, ◌&&◌, if◌then◌else◌}
+use Rattle.std.proofs.Common.{◌≡◌, ℕ, ◌+◌, ◌*◌, ◌/◌, ◌≤◌, Bool, true, false, [], ◌++◌, length, refl, ap, ◌∙◌, arith, length-append}
+use Rattle.std.specs.Prelude.{◌&&◌, if◌then◌else◌}
 use Rattle.std.proofs.Math.Nat.{mul-le-mul_right}
 use Rattle.byteorder.specs.Endian.{little_bytes}
-use Rattle.raster_values.specs.Raster.{Pixels, IsRaster, valid_count, values_of}
+use Rattle.raster_values.specs.Raster.{Pixels, IsRaster, valid_count}
 use Rattle.raster_values.specs.PixelType.{bytes_of}
 use Rattle.raster_values.specs.Flat.{marks_of}
 use Rattle.lerc_header.specs.declared.header.Version.{Version}
 use Rattle.lerc_header.specs.declared.header.Version.TheVariants.{V3, V4}
-use Rattle.lerc_header.specs.Head.{head_length}
 use Rattle.lerc_encode.specs.Ranges.{front_bytes, is_bare, is_level}
 use Rattle.lerc_encode.specs.Masks.{packed, are_alike, mask_runs_of, mask_part}
 use Rattle.mask_runs.specs.Chosen.{chosen_runs}
 use Rattle.lerc_encode.specs.Images.{sweep, is_v4, bare, level, coded, image_bytes, form_bytes, chosen_form, ending}
-use Rattle.lerc_encode.specs.Choice.{behind_head, choice}
-use Rattle.lerc_encode.specs.Sizes.{greatest_size, BlobsAreSmall}
+use Rattle.lerc_encode.specs.Choice.{behind_head}
+use Rattle.lerc_encode.specs.Sizes.{BlobsAreSmall}
 use Rattle.lerc_encode.proofs.Packing.{long_marks, length_packed, runs_small}
 use Rattle.lerc_encode.proofs.Forming.{length_front, length_sweep}
 use Rattle.lerc_encode.proofs.Encoded.{chosen_few, valid_few, length_choice, head_few}

@@ -1,69 +1,22 @@
--- Symbols as they are counted, measured and written.
-use Rattle.std.proofs.Common.{◌≡◌, ℕ, ◌+◌, ◌-◌, ◌*◌, ◌^◌, ◌<◌, ◌≤◌, Bool, true, false, List, [], ◌∷◌, ◌++◌, length, get_or, take, drop, replicate, refl, sym, ap, ◌∙◌, subst, arith, append_assoc, length-drop, Option, Some, None, ◌⊎◌, inl, inr}
-use Rattle.std.specs.Prelude.{nat_eq, sum, set, slice_set, ◌&&◌, MatchOption}
-use Rattle.std.specs.List.{count_by, flat_map, range_with_len}
-use Rattle.std.proofs.lemmas.Bool.{cases_eq, eq-eqb, ne_eqb}
-use Rattle.std.proofs.lemmas.List.{get_or-set_same, get_or-set_other, get_or-replicate, take-append-drop, length-take-le, take_all, drop-drop}
-use Rattle.std.proofs.lemmas.List.Sums.{count_by_more_yes, count_by_more_no, sum_by-set}
-use Rattle.std.proofs.lemmas.List.Folds.{sum_by-replicate}
-use Rattle.std.proofs.Math.ListN.{length-set}
+-- Symbols as they are measured and written.
+use Rattle.std.proofs.Common.{◌≡◌, ℕ, ◌+◌, ◌-◌, ◌*◌, ◌^◌, ◌<◌, ◌≤◌, Bool, true, false, List, [], ◌∷◌, ◌++◌, length, take, drop, refl, sym, ap, ◌∙◌, subst, arith, append_assoc, length-drop, Option, Some, None}
+use Rattle.std.specs.Prelude.{set, ◌&&◌, MatchOption}
+use Rattle.std.specs.List.{flat_map, range_with_len}
+use Rattle.std.proofs.lemmas.List.{take-append-drop, length-take-le, drop-drop}
 use Rattle.std.proofs.Math.Nat.{mul-le-mul_right}
 use Rattle.std.proofs.lemmas.List.FromFn.{length-range_with_len}
 use borrow.Rule.Slice.PartMut.{put_mid}
 use Rattle.bit_stuff.proofs.Buffers.{end_written}
 use Rattle.raster_values.specs.Raster.{Pixels, IsRaster, valid_count}
 use Rattle.delta_mode.specs.Deltas.{deltas}
-use Rattle.huff_codes.proofs.ChosenTables.{laid_over, listed}
-use Rattle.lerc_encode.specs.Codings.{counts_of, have_codes}
+use Rattle.huff_codes.proofs.ChosenTables.{laid_over}
+use Rattle.lerc_encode.specs.Codings.{have_codes}
 use Rattle.lerc_encode.specs.inside.Coded.{AreSymbols, HasSymbols, IsCodingOf}
 use Rattle.lerc_encode.specs.declared.codings.Coding.{Coding}
 use Rattle.lerc_encode.specs.declared.codings.Symbols.{Symbols}
 use Rattle.lerc_encode.proofs.Kept.{length_flat}
 use Rattle.lerc_encode.proofs.Runs.{one_more}
 use Rattle.lerc_encode.proofs.SymbolForms.{deltas_long}
-
--- ---- counting
-
--- the counts of the symbols so far
-pub record AreCounts (counts symbols : List ℕ) (k : ℕ) : Type 0 where
-  pub room : length counts ≡ 256
-  pub each : (s : ℕ) → s < 256 → get_or counts s 0 ≡ count_by (nat_eq s) (take k symbols)
-  pub total : sum counts ≡ k
-
-pub counts_begin : (symbols : List ℕ) → AreCounts (replicate 256 0) symbols 0
-counts_begin symbols = record {
-  room = refl;
-  each = λ s lt. get_or-replicate 256 s 0 0 lt;
-  total = sum_by-replicate (λ x. x) 256 0;
-}
-
-pub counts_more : (counts symbols : List ℕ) (k s : ℕ) → k < length symbols → s ≡ get_or symbols k 0 → s < 256 → AreCounts counts symbols k → AreCounts (slice_set counts s (get_or counts s 0 + 1)) symbols (k + 1)
-counts_more counts symbols k s lt is low h = record {
-  room = length_same ∙ h.room;
-  each = λ t t_lt. by t t_lt (cases_eq t s);
-  total = let more = sum_by-set (λ x. x) counts s (get_or counts s 0 + 1) 0 within in let before = h.total in omega (arith, more, before);
-}
-  where
-    within : s < length counts
-    within = let long = h.room in omega (arith, long, low)
-
-    length_same : length (slice_set counts s (get_or counts s 0 + 1)) ≡ length counts
-    length_same = length-set counts s (get_or counts s 0 + 1)
-
-    by : (t : ℕ) → t < 256 → (t ≡ s) ⊎ ((t ≡ s) → ⊥) → get_or (slice_set counts s (get_or counts s 0 + 1)) t 0 ≡ count_by (nat_eq t) (take (k + 1) symbols)
-    by t t_lt (inl same) =
-        let one = count_by_more_yes (nat_eq t) symbols k 0 lt (eq-eqb t (get_or symbols k 0) (same ∙ is)) in
-        let before = h.each t t_lt in
-        let new : get_or (slice_set counts s (get_or counts s 0 + 1)) t 0 ≡ get_or counts s 0 + 1 = ap (λ n. get_or (slice_set counts s (get_or counts s 0 + 1)) n 0) same ∙ get_or-set_same counts s (get_or counts s 0 + 1) 0 within in
-        new ∙ ap (λ n. get_or counts n 0 + 1) (sym same) ∙ ap (λ n. n + 1) before ∙ sym one
-    by t t_lt (inr other) =
-        get_or-set_other counts s t (get_or counts s 0 + 1) 0 other ∙ h.each t t_lt
-        ∙ sym (count_by_more_no (nat_eq t) symbols k 0 lt (ne_eqb t (get_or symbols k 0) (λ e. other (e ∙ sym is))))
-
-pub counts_all : (counts symbols : List ℕ) (k : ℕ) → length symbols ≤ k → AreCounts counts symbols k → counts ≡ counts_of symbols
-unfolding counts_of
-counts_all counts symbols k all h =
-    listed (λ (s : ℕ). count_by (nat_eq s) symbols) counts 256 h.room (λ s lt. h.each s lt ∙ ap (λ (xs : List ℕ). count_by (nat_eq s) xs) (take_all k symbols all))
 
 -- ---- the symbols of all depths
 

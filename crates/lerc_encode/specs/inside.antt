@@ -1,5 +1,4 @@
 -- The words of private functions alone: no public clause cites them.
-pub mod Ranged
 pub mod Blocked
 pub mod Coded
 pub mod Choosing

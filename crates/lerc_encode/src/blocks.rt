@@ -1,18 +1,20 @@
-// The chosen blocks of a raster: how many bytes they take, and these bytes.
+// The chosen blocks of a raster: how many bytes they take, which have a table, and their bytes.
 
-ghost use Rattle.std.specs.Prelude.{◌≡◌, ◌+◌, ◌*◌, ◌<◌, ◌≤◌, ◌++◌, drop, length};
+ghost use Rattle.std.specs.Prelude.{◌≡◌, ℕ, ◌+◌, ◌*◌, ◌<◌, ◌≤◌, ◌↔◌, ◌++◌, All, drop, length, map, take, IfOk, IsTrue, MatchOption};
 ghost use Rattle.micro_block.specs.Frame.{IsBlockCtx};
+ghost use Rattle.raster_values.specs.Distance.{IsDistance, value_above};
 ghost use Rattle.raster_values.specs.PixelType.{type_greatest};
 ghost use Rattle.lerc_grammar.specs.Blocks.{blocks_across, coded_blocks};
-ghost use Rattle.lerc_encode.specs.Images.{blocks_bytes, coded_bytes};
-ghost use Rattle.lerc_encode.specs.inside.Blocked.{IsBlocked, IsSpot};
+ghost use Rattle.lerc_encode.specs.Images.{blocks_bytes};
+ghost use Rattle.lerc_encode.specs.inside.Blocked.{AreFlags, HasTableAt, IsBlocked, IsMeasured, IsSpot, IsWithin, bytes_at, values_at};
 
 use lerc_header::Header;
-use micro_block::{BlockCtx, block_len, write_block};
+use micro_block::{BlockCtx, BlockSize, block_size, write_distances};
 use raster_values::Raster;
+use std::alloc::{AllocError, Global};
 
 /// The most values that a block may have.
-pub(crate) const MOST: usize = 256;
+const MOST: usize = 256;
 
 /// Where a coded block stands: its first row and column, and its depth.
 #[derive(Clone, Copy)]
@@ -20,6 +22,22 @@ struct Spot {
     row: u32,
     col: u32,
     d: u32,
+}
+
+/// Where the first block stands.
+const FIRST: Spot = Spot {
+    row: 0,
+    col: 0,
+    d: 0,
+};
+
+/// What is known of all chosen blocks before they are written.
+#[derive(Drop)]
+pub(crate) struct Measured {
+    /// How many bytes they take together.
+    pub(crate) size: usize,
+    /// Which of them have a table: it would take long to find that again.
+    pub(crate) tables: Vec<bool>,
 }
 
 /// How many blocks stand side by side.
@@ -43,20 +61,29 @@ fn count(h: &Header, raster: &Raster) -> usize
     (rows + side - 1) / side * across(h, raster) * h.depth as usize
 }
 
-/// Where coded block number k stands.
-fn spot_at(h: &Header, raster: &Raster, k: usize) -> Spot
+/// Where the block behind this one stands: at the next depth, else to the right, else at the left
+/// end of the next row of blocks.
+fn next_spot(h: &Header, raster: &Raster, spot: Spot) -> Spot
     requires blocked { IsBlocked h.now raster.now }
-    requires below { k < coded_blocks h.now }
-    ensures { IsSpot h.now k result }
+    requires within { IsWithin h.now spot }
+    ensures { (k : ℕ) → IsSpot h.now k spot → IsSpot h.now (k + 1) result }
 {
-    let depth = h.depth as usize;
-    let side = h.side as usize;
-    let wide = across(h, raster);
-    let block = k / depth;
+    let d = spot.d + 1;
+    if d < h.depth {
+        return Spot { d, ..spot };
+    }
+    let col = spot.col + h.side;
+    if col < h.cols {
+        return Spot {
+            row: spot.row,
+            col,
+            d: 0,
+        };
+    }
     Spot {
-        row: (block / wide * side) as u32,
-        col: (block % wide * side) as u32,
-        d: (k % depth) as u32,
+        row: spot.row + h.side,
+        col: 0,
+        d: 0,
     }
 }
 
@@ -79,57 +106,97 @@ fn context(h: &Header, raster: &Raster, col: u32) -> BlockCtx
     }
 }
 
-/// How many bytes coded block number k takes. `values` is room for its values.
-fn coded_len(h: &Header, raster: &Raster, k: usize, values: &mut [i64]) -> usize
+/// Puts the values of the block at a spot in front of `distances`, as how far each is above the
+/// least of its type, and answers how many these are.
+fn gather(h: &Header, raster: &Raster, spot: Spot, distances: &mut [u32]) -> usize
     requires blocked { IsBlocked h.now raster.now }
-    requires below { k < coded_blocks h.now }
-    requires room { length values.old ≡ 256 }
-    ensures value { result ≡ length (coded_bytes h.now raster.now k) }
-    ensures few { result ≤ 1025 }
+    requires within { IsWithin h.now spot }
+    requires room { length distances.old ≡ 256 }
+    ensures few { result ≤ 256 }
+    ensures fit { All (IsDistance h.now.kind) (take result distances.new) }
+    ensures are { map (value_above h.now.kind) (take result distances.new)
+        ≡ values_at h.now raster.now spot }
 {
-    let spot = spot_at(h, raster, k);
-    let n = raster.gather_block(spot.row, spot.col, h.side, spot.d, values);
-    block_len(&values[..n], &context(h, raster, spot.col))
+    raster.gather_distances(spot.row, spot.col, h.side, spot.d, distances)
 }
 
-/// Writes coded block number k over the front of `out`, and answers how many bytes it takes.
-fn write_coded(h: &Header, raster: &Raster, k: usize, values: &mut [i64], out: &mut [u8]) -> usize
+/// How long the block at a spot is, and whether it has a table. `distances` is room for its values.
+fn size_at(h: &Header, raster: &Raster, spot: Spot, distances: &mut [u32]) -> BlockSize
     requires blocked { IsBlocked h.now raster.now }
-    requires below { k < coded_blocks h.now }
-    requires room { length values.old ≡ 256 }
-    requires fits { length (coded_bytes h.now raster.now k) ≤ length out.old }
-    ensures count { result ≡ length (coded_bytes h.now raster.now k) }
-    ensures bytes { out.new ≡ coded_bytes h.now raster.now k
-        ++ drop (length (coded_bytes h.now raster.now k)) out.old }
+    requires within { IsWithin h.now spot }
+    requires room { length distances.old ≡ 256 }
+    ensures length { result.len ≡ length (bytes_at h.now raster.now spot) }
+    ensures few { result.len ≤ 1025 }
+    ensures table { IsTrue result.has_table ↔ HasTableAt h.now raster.now spot }
 {
-    let spot = spot_at(h, raster, k);
-    let n = raster.gather_block(spot.row, spot.col, h.side, spot.d, values);
-    write_block(&values[..n], &context(h, raster, spot.col), out)
+    let n = gather(h, raster, spot, distances);
+    block_size(&distances[..n], &context(h, raster, spot.col))
 }
 
-/// How many bytes all blocks take.
-pub(crate) fn blocks_len(h: &Header, raster: &Raster) -> usize
+/// Writes the block at a spot over the front of `out`, and answers how many bytes it takes.
+fn write_at(
+    h: &Header,
+    raster: &Raster,
+    spot: Spot,
+    has_table: bool,
+    distances: &mut [u32],
+    out: &mut [u8],
+) -> usize
+    requires blocked { IsBlocked h.now raster.now }
+    requires within { IsWithin h.now spot }
+    requires room { length distances.old ≡ 256 }
+    requires table { IsTrue has_table ↔ HasTableAt h.now raster.now spot }
+    requires fits { length (bytes_at h.now raster.now spot) ≤ length out.old }
+    ensures count { result ≡ length (bytes_at h.now raster.now spot) }
+    ensures bytes { out.new ≡ bytes_at h.now raster.now spot
+        ++ drop (length (bytes_at h.now raster.now spot)) out.old }
+{
+    let n = gather(h, raster, spot, distances);
+    let ctx = context(h, raster, spot.col);
+    write_distances(&distances[..n], &ctx, has_table, out)
+}
+
+/// What is known of all blocks. None where they take more than `most` bytes, for then they are not
+/// looked at to the end.
+pub(crate) fn measure(
+    alloc: Global,
+    h: &Header,
+    raster: &Raster,
+    most: usize,
+) -> Result<Option<Measured>, AllocError>
     requires { IsBlocked h.now raster.now }
-    ensures value { result ≡ length (blocks_bytes h.now raster.now) }
-    ensures few { result ≤ 1025 * 16777216 }
+    ensures { IfOk result (λ found. MatchOption found
+        (most < length (blocks_bytes h.now raster.now)) (IsMeasured h.now raster.now)) }
 {
-    let mut values = [0; MOST];
+    let count = count(h, raster);
+    let mut tables = vec![in alloc; false; count]?;
+    let mut distances = [0; MOST];
+    let mut spot = FIRST;
     let mut size = 0;
-    for k in 0..count(h, raster) {
-        size += coded_len(h, raster, k, &mut values);
+    for k in 0..count {
+        let found = size_at(h, raster, spot, &mut distances);
+        size += found.len;
+        if size > most {
+            return Ok(None);
+        }
+        tables[k] = found.has_table;
+        spot = next_spot(h, raster, spot);
     }
-    size
+    Ok(Some(Measured { size, tables }))
 }
 
 /// Writes all blocks into `out`, which has as many bytes as they take.
-pub(crate) fn write_blocks(h: &Header, raster: &Raster, out: &mut [u8])
+pub(crate) fn write_blocks(h: &Header, raster: &Raster, tables: &[bool], out: &mut [u8])
     requires blocked { IsBlocked h.now raster.now }
+    requires tables { AreFlags h.now raster.now (coded_blocks h.now) tables.now }
     requires room { length out.old ≡ length (blocks_bytes h.now raster.now) }
     ensures { out.new ≡ blocks_bytes h.now raster.now }
 {
-    let mut values = [0; MOST];
+    let mut distances = [0; MOST];
+    let mut spot = FIRST;
     let mut at = 0;
     for k in 0..count(h, raster) {
-        at += write_coded(h, raster, k, &mut values, &mut out[at..]);
+        at += write_at(h, raster, spot, tables[k], &mut distances, &mut out[at..]);
+        spot = next_spot(h, raster, spot);
     }
 }

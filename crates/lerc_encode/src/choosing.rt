@@ -1,11 +1,12 @@
 // What is chosen for the image of a raster.
 
-ghost use Rattle.std.specs.Prelude.{◌≡◌, ◌&&◌, IfOk};
+ghost use Rattle.std.specs.Prelude.{◌≡◌, ◌&&◌, ◌⊎◌, IfOk, MatchOption, Some};
 ghost use Rattle.lerc_encode.specs.Images.{is_v4};
 ghost use Rattle.lerc_encode.specs.Ranges as ranges;
 ghost use Rattle.lerc_encode.specs.inside.Choosing as inside;
 ghost use Rattle.lerc_encode.specs.inside.Choosing.{AreRanges, IsBase, IsChosen, IsEnding};
 
+use crate::blocks::{Measured, measure};
 use crate::codings::{Codings, coded_form_len, codings_of};
 use crate::first::first_least;
 use crate::forms::{ValueForm, block_form_len, sweep_len, with_large};
@@ -14,13 +15,15 @@ use lerc_header::{Header, Version};
 use raster_values::Raster;
 use std::alloc::{AllocError, Global};
 
-/// The form that is chosen for an image's values, and the number of its bytes; and the symbols of
-/// the values.
+/// The form that is chosen for an image's values, and the number of its bytes; and what is known of
+/// the values: their symbols, and their blocks of both sides, where these may be the shortest.
 #[derive(Drop)]
 pub(crate) struct Chosen {
     pub(crate) form: ValueForm,
     pub(crate) size: usize,
     pub(crate) codings: Codings,
+    pub(crate) small: Option<Measured>,
+    pub(crate) large: Option<Measured>,
 }
 
 /// How an image ends.
@@ -47,24 +50,53 @@ fn form_at(place: usize) -> ValueForm
     }
 }
 
-/// The form with the fewest bytes, of several the first.
+/// The least of the sizes that are known before blocks are looked at.
+fn least_known(sweep: usize, deltas: Option<usize>, plains: Option<usize>) -> usize
+    ensures { (result ≡ sweep) ⊎ ((deltas ≡ Some result) ⊎ (plains ≡ Some result)) }
+{
+    let least = sweep.min(deltas.unwrap_or(sweep));
+    least.min(plains.unwrap_or(sweep))
+}
+
+/// The most bytes that blocks of 16 may take and be the shortest.
+fn most_of_large(most: usize, small: &Option<Measured>) -> usize
+    ensures { MatchOption small.now (result ≡ most)
+        (λ m. (result ≡ most) ⊎ (result ≡ m.size)) }
+{
+    match small {
+        Some(found) => most.min(found.size),
+        None => most,
+    }
+}
+
+/// The form with the fewest bytes, of several the first. Blocks are measured no further than up to
+/// the size of another form.
 fn choose(alloc: Global, base: &Header, raster: &Raster) -> Result<Chosen, AllocError>
     requires { IsBase base.now raster.now }
     ensures { IfOk result (IsChosen raster.now base.now.version base.now.step) }
 {
     let codings = codings_of(alloc, raster, base.version, base.step)?;
+    let sweep = sweep_len(raster);
+    let deltas = coded_form_len(&codings.deltas);
+    let plains = coded_form_len(&codings.plains);
+    let most = least_known(sweep, deltas, plains);
+    let large_base = with_large(base);
+    let small = measure(alloc, base, raster, most)?;
+    let large = measure(alloc, &large_base, raster, most_of_large(most, &small))?;
     let sizes = [
-        Some(sweep_len(raster)),
-        Some(block_form_len(base, raster)),
-        Some(block_form_len(&with_large(base), raster)),
-        coded_form_len(&codings.deltas),
-        coded_form_len(&codings.plains),
+        Some(sweep),
+        block_form_len(base, raster, &small),
+        block_form_len(&large_base, raster, &large),
+        deltas,
+        plains,
     ];
     let (place, size) = first_least(&sizes).unwrap_or((0, 0));
     Ok(Chosen {
         form: form_at(place),
         size,
         codings,
+        small,
+        large,
     })
 }
 

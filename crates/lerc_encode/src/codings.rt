@@ -5,13 +5,15 @@ ghost use Rattle.std.specs.Option.{option_map};
 ghost use Rattle.raster_values.specs.Raster.{valid_count};
 ghost use Rattle.delta_mode.specs.Symbols.{IsByteType};
 ghost use Rattle.delta_mode.specs.Deltas.{plain};
-ghost use Rattle.lerc_encode.specs.Codings.{coding_bytes, counts_of, have_codes};
+ghost use Rattle.lerc_encode.specs.Codings.{coding_bytes, have_codes};
 ghost use Rattle.lerc_encode.specs.Images as images;
 ghost use Rattle.lerc_encode.specs.Images.{all_deltas, is_v4};
 ghost use Rattle.lerc_encode.specs.inside.Coded.{AreCodings, AreSymbols, IsCodingOf};
 
 use delta_mode::{deltas_of, plain_of};
-use huff_codes::{Lengths, symbols_len, table_size, write_code_table, write_symbols};
+use huff_codes::{
+    Lengths, count_symbols, counted_len, table_size, write_code_table, write_symbols,
+};
 use lerc_header::Version;
 use raster_values::Raster;
 use std::alloc::{AllocError, Global};
@@ -37,27 +39,15 @@ pub(crate) struct Codings {
     pub(crate) plains: Symbols,
 }
 
-/// How often each symbol stands among these.
-fn count_symbols(symbols: &[u8]) -> [u32; 256]
-    requires { length symbols.now ≤ 2 ^ 24 }
-    ensures counts { result ≡ counts_of symbols.now }
-    ensures sum { sum result ≡ length symbols.now }
-{
-    let mut counts = [0; 256];
-    for symbol in symbols {
-        counts[usize::from(*symbol)] += 1;
-    }
-    counts
-}
-
 /// How symbols are coded. None where they have no codes.
 fn coding_of(symbols: &[u8]) -> Option<Coding>
     requires { length symbols.now ≤ 2 ^ 24 }
     ensures { MatchOption result (have_codes symbols.now ≡ false) (IsCodingOf symbols.now) }
 {
-    match Lengths::of(&count_symbols(symbols)) {
+    let counts = count_symbols(symbols);
+    match Lengths::of(&counts) {
         Some(lengths) => {
-            let size = table_size(&lengths) + symbols_len(symbols, &lengths);
+            let size = table_size(&lengths) + counted_len(&counts, &lengths);
             Some(Coding { lengths, size })
         }
         None => None,

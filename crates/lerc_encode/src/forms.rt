@@ -1,16 +1,18 @@
 // The forms of an image's values: how many bytes each takes, and these bytes.
 
-ghost use Rattle.std.specs.Prelude.{◌≡◌, ◌*◌, ◌≤◌, ◌∷◌, ◌++◌, All, length};
+ghost use Rattle.std.specs.Prelude.{◌≡◌, ◌+◌, ◌*◌, ◌≤◌, ◌∷◌, ◌++◌, All, length, MatchOption};
+ghost use Rattle.std.specs.Option.{option_map};
 ghost use Rattle.raster_values.specs.PixelType.{InRange, bytes_of};
 ghost use Rattle.raster_values.specs.Grid.{values_bytes};
 ghost use Rattle.lerc_header.specs.declared.header.Version.TheVariants.{V4};
 ghost use Rattle.raster_values.specs.Raster.{values_of};
+ghost use Rattle.lerc_grammar.specs.Blocks.{coded_blocks};
 ghost use Rattle.lerc_encode.specs.Images.{blocks_bytes, form_bytes, mode_bytes};
 ghost use Rattle.lerc_encode.specs.Ranges.{front_bytes};
-ghost use Rattle.lerc_encode.specs.inside.Blocked.{IsBlocked};
+ghost use Rattle.lerc_encode.specs.inside.Blocked.{AreFlags, IsBlocked, IsMeasured};
 ghost use Rattle.lerc_encode.specs.inside.Choosing.{AreRanges, IsBase, IsChosen, named};
 
-use crate::blocks::{blocks_len, write_blocks};
+use crate::blocks::{Measured, write_blocks};
 use crate::choosing::Chosen;
 use crate::codings::{has_mode, write_coded_form};
 use crate::ranging::Ranges;
@@ -48,13 +50,16 @@ pub(crate) fn sweep_len(raster: &Raster) -> usize
     1 + raster.valid_count() as usize * raster.depth() as usize * raster.kind().bytes()
 }
 
-/// How many bytes the form of blocks takes.
-pub(crate) fn block_form_len(h: &Header, raster: &Raster) -> usize
-    requires { IsBlocked h.now raster.now }
+/// How many bytes the form of blocks takes, where all of these were measured.
+pub(crate) fn block_form_len(h: &Header, raster: &Raster, found: &Option<Measured>) -> Option<usize>
+    requires { MatchOption found.now Unit (λ m. m.size ≤ 1025 * 16777216) }
     ensures { result
-        ≡ length (0 ∷ (mode_bytes raster.now h.now.step ++ blocks_bytes h.now raster.now)) }
+        ≡ option_map (λ m. 1 + length (mode_bytes raster.now h.now.step) + m.size) found.now }
 {
-    1 + usize::from(has_mode(raster, h.step)) + blocks_len(h, raster)
+    match found {
+        Some(measured) => Some(1 + usize::from(has_mode(raster, h.step)) + measured.size),
+        None => None,
+    }
 }
 
 /// Writes the sweep.
@@ -68,9 +73,10 @@ fn write_sweep(raster: &Raster, out: &mut [u8])
     raster.value_bytes(&mut out[1..]);
 }
 
-/// Writes the form of blocks.
-fn write_block_form(h: &Header, raster: &Raster, out: &mut [u8])
+/// Writes the form of blocks, of which those that are told have tables.
+fn write_measured(h: &Header, raster: &Raster, tables: &[bool], out: &mut [u8])
     requires blocked { IsBlocked h.now raster.now }
+    requires tables { AreFlags h.now raster.now (coded_blocks h.now) tables.now }
     requires room { length out.old
         ≡ length (0 ∷ (mode_bytes raster.now h.now.step ++ blocks_bytes h.now raster.now)) }
     ensures { out.new ≡ 0 ∷ (mode_bytes raster.now h.now.step ++ blocks_bytes h.now raster.now) }
@@ -78,9 +84,22 @@ fn write_block_form(h: &Header, raster: &Raster, out: &mut [u8])
     out[0] = 0;
     if has_mode(raster, h.step) {
         out[1] = 0;
-        write_blocks(h, raster, &mut out[2..]);
+        write_blocks(h, raster, tables, &mut out[2..]);
     } else {
-        write_blocks(h, raster, &mut out[1..]);
+        write_blocks(h, raster, tables, &mut out[1..]);
+    }
+}
+
+/// Writes the form of blocks, which were measured.
+fn write_block_form(h: &Header, raster: &Raster, found: &Option<Measured>, out: &mut [u8])
+    requires blocked { IsBlocked h.now raster.now }
+    requires measured { MatchOption found.now ⊥ (IsMeasured h.now raster.now) }
+    requires room { length out.old
+        ≡ length (0 ∷ (mode_bytes raster.now h.now.step ++ blocks_bytes h.now raster.now)) }
+    ensures { out.new ≡ 0 ∷ (mode_bytes raster.now h.now.step ++ blocks_bytes h.now raster.now) }
+{
+    if let Some(measured) = found {
+        write_measured(h, raster, &measured.tables, out);
     }
 }
 
@@ -95,8 +114,10 @@ pub(crate) fn write_form(chosen: &Chosen, base: &Header, raster: &Raster, out: &
 {
     match chosen.form {
         ValueForm::Sweep => write_sweep(raster, out),
-        ValueForm::SmallBlocks => write_block_form(base, raster, out),
-        ValueForm::LargeBlocks => write_block_form(&with_large(base), raster, out),
+        ValueForm::SmallBlocks => write_block_form(base, raster, &chosen.small, out),
+        ValueForm::LargeBlocks => {
+            write_block_form(&with_large(base), raster, &chosen.large, out)
+        }
         ValueForm::Delta => write_coded_form(1, &chosen.codings.deltas, out),
         ValueForm::Plain => write_coded_form(2, &chosen.codings.plains, out),
     }

@@ -1,10 +1,15 @@
--- What is asked of a header whose blocks are written.
-use Rattle.std.specs.Prelude.{◌≡◌, ℕ, ◌<◌, ◌≤◌}
+-- What is asked of a header whose blocks are written, and what is known of these before they are.
+use Rattle.std.specs.Prelude.{◌≡◌, ℕ, ◌*◌, ◌<◌, ◌≤◌, ◌↔◌, IsTrue, Bool, false, List, ℤ, length, get_or}
 use Rattle.raster_values.specs.Raster.{Pixels, IsRaster}
+use Rattle.raster_values.specs.Block.{block_values}
 use Rattle.lerc_header.specs.declared.header.Header.{Header}
 use Rattle.micro_block.specs.Frame.{IsBlockStep}
-use Rattle.lerc_grammar.specs.Blocks.{block_col, block_depth, block_row}
+use Rattle.micro_block.specs.Choice as choice
+use Rattle.micro_block.specs.Choice.{block_bytes, chosen_form}
+use Rattle.lerc_grammar.specs.Blocks.{block_col, block_depth, block_row, coded_blocks, coded_values}
+use Rattle.lerc_encode.specs.Images.{blocks_bytes}
 use Rattle.lerc_encode.specs.declared.blocks.Spot.{Spot}
+use Rattle.lerc_encode.specs.declared.blocks.Measured.{Measured}
 
 -- it is the raster's, with a side from 1 to 16 and a step
 pub record IsBlocked (h : Header) (r : Pixels) : Type 0 where
@@ -17,11 +22,39 @@ pub record IsBlocked (h : Header) (r : Pixels) : Type 0 where
   pub side_below : h.side ≤ 16
   pub step : IsBlockStep h.step
 
--- where coded block number k stands
+-- coded block number k stands here
 pub record IsSpot (h : Header) (k : ℕ) (spot : Spot) : Type 0 where
   pub row : spot.row ≡ block_row h k
   pub col : spot.col ≡ block_col h k
   pub depth : spot.d ≡ block_depth h k
-  pub row_below : spot.row < h.rows
-  pub col_below : spot.col < h.cols
-  pub depth_below : spot.d < h.depth
+
+-- a block stands here
+pub record IsWithin (h : Header) (spot : Spot) : Type 0 where
+  pub row : spot.row < h.rows
+  pub col : spot.col < h.cols
+  pub depth : spot.d < h.depth
+
+-- the values and the bytes of the block that stands here
+abbrev pub values_at : Header → Pixels → Spot → List ℤ
+values_at h r spot = block_values r spot.row spot.col h.side spot.d
+
+abbrev pub bytes_at : Header → Pixels → Spot → List ℕ
+bytes_at h r spot = block_bytes h.kind spot.col h.step (values_at h r spot)
+
+-- a block has a table
+abbrev pub HasTableAt : Header → Pixels → Spot → Type 0
+HasTableAt h r spot = chosen_form h.kind spot.col h.step (values_at h r spot) ≡ choice.table
+
+abbrev pub HasTable : Header → Pixels → ℕ → Type 0
+HasTable h r k = chosen_form h.kind (block_col h k) h.step (coded_values h r k) ≡ choice.table
+
+-- of the first n coded blocks, which have a table
+pub record AreFlags (h : Header) (r : Pixels) (n : ℕ) (tables : List Bool) : Type 0 where
+  pub room : n ≤ length tables
+  pub each : (k : ℕ) → k < n → IsTrue (get_or tables k false) ↔ HasTable h r k
+
+-- how many bytes all blocks take, and which have a table
+pub record IsMeasured (h : Header) (r : Pixels) (m : Measured) : Type 0 where
+  pub size : m.size ≡ length (blocks_bytes h r)
+  pub few : m.size ≤ 1025 * 16777216
+  pub tables : AreFlags h r (coded_blocks h) m.tables.items

@@ -1,5 +1,5 @@
 -- The form that is chosen for the values of an image, and how the image ends.
-use Rattle.std.specs.Prelude.{◌≡◌, ℕ, ◌≤◌, length, nat_eq, if◌then◌else◌}
+use Rattle.std.specs.Prelude.{◌≡◌, ℕ, ◌≤◌, length, nat_eq, if◌then◌else◌, MatchOption, Option}
 use Rattle.raster_values.specs.Raster.{Pixels, IsRaster}
 use Rattle.lerc_header.specs.declared.header.Header.{Header}
 use Rattle.lerc_header.specs.declared.header.Version.{Version}
@@ -8,10 +8,12 @@ use Rattle.lerc_header.specs.Head.{IsTwiceError}
 use Rattle.lerc_encode.specs.Heads.{header_of}
 use Rattle.lerc_encode.specs.Ranges.{leasts, greatests}
 use Rattle.lerc_encode.specs.inside.Coded.{AreCodings}
+use Rattle.lerc_encode.specs.inside.Blocked.{IsMeasured}
 use Rattle.lerc_encode.specs.Images as images
 use Rattle.lerc_encode.specs.Images.{Form, chosen_form, form_bytes, ending}
 use Rattle.lerc_encode.specs.declared.forms.ValueForm.{ValueForm}
 use Rattle.lerc_encode.specs.declared.forms.ValueForm.TheVariants.{Sweep, SmallBlocks, LargeBlocks, Delta, Plain}
+use Rattle.lerc_encode.specs.declared.blocks.Measured.{Measured}
 use Rattle.lerc_encode.specs.declared.choosing.Chosen.{Chosen}
 use Rattle.lerc_encode.specs.declared.choosing.Ending.{Ending}
 use Rattle.lerc_encode.specs.declared.choosing.Ending.TheVariants.{Bare, Level, Coded}
@@ -38,12 +40,20 @@ pub record IsBase (h : Header) (r : Pixels) : Type 0 where
   pub flat : h.version ≡ V3 → r.depth ≡ 1
   pub is : h ≡ header_of r h.version h.step 8 0 0
 
--- the form that is chosen, the number of its bytes, and the symbols
+-- what is known of the blocks of a side where they are not left out
+abbrev pub AreMeasured : Pixels → Version → ℕ → ℕ → Type 0 → Option Measured → Type 0
+AreMeasured r version step side LeftOut found =
+    MatchOption found LeftOut (IsMeasured (header_of r version step side 0 0) r)
+
+-- the form that is chosen, the number of its bytes, the symbols, and the blocks, of which those of
+-- a side that is not chosen may be left out
 pub record IsChosen (r : Pixels) (version : Version) (step : ℕ) (c : Chosen) : Type 0 where
   pub form : named c.form ≡ chosen_form r version step
   pub size : c.size ≡ length (form_bytes r version step (chosen_form r version step))
   pub few : c.size ≤ 67108865
   pub codings_are : AreCodings r version step c.codings
+  pub small_are : AreMeasured r version step 8 (named c.form ≡ images.blocks_8 → ⊥) c.small
+  pub large_are : AreMeasured r version step 16 (named c.form ≡ images.blocks_16 → ⊥) c.large
 
 -- the lists of the least and the greatest values
 pub record AreRanges (r : Pixels) (ranges : Ranges) : Type 0 where

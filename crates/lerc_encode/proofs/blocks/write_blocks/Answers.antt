@@ -1,40 +1,81 @@
-use Rattle.std.proofs.Common.{◌≡◌, ◌<◌, ◌+◌, ◌∙◌, ◌++◌, ap, length, length-append, length-drop, [], drop, subst, arith}
+use Rattle.std.proofs.Common.{◌≡◌, ◌<◌, ◌+◌, ◌∙◌, ◌++◌, ℕ, ap, refl, sym, false, get_or, length, length-append, length-drop, [], drop, subst, arith}
 use Rattle.std.proofs.lemmas.List.{append-nil, drop_all, take_rest}
+use Rattle.raster_values.specs.Raster.{Pixels}
+use Rattle.lerc_header.specs.declared.header.Header.{Header}
 use Rattle.lerc_grammar.specs.Blocks.{coded_blocks}
 use Rattle.std.specs.List.{flat_map, range_with_len}
 use Rattle.lerc_encode.specs.Images.{blocks_bytes, coded_bytes}
+use Rattle.lerc_encode.specs.inside.Blocked.{bytes_at}
 use Rattle.lerc_encode.proofs.Runs.{one_more, part_fits}
 use Rattle.lerc_encode.proofs.Blocking.{part_written}
+use Rattle.lerc_encode.proofs.Spots.{bytes_there, first_spot, spot_within, table_here}
 use Rattle.lerc_encode.proofs.blocks.write_blocks.Goals as goal
 
-all_room : (c : goal.After-write_coded-arg-1) → length c.args.out.now ≡ length (flat_map (coded_bytes c.args.h.now c.args.raster.now) (range_with_len 0 (coded_blocks c.args.h.now)))
-unfolding blocks_bytes
-all_room c = c.requires.room
+pub loop-k-init : goal.loop-k-init
+loop-k-init c = (refl, (refl, first_spot c.args.h.now c.args.raster.now c.requires.blocked _ refl refl refl))
 
-pub write_coded-at-requires-clause-fits : goal.write_coded-at-requires-clause-fits
-write_coded-at-requires-clause-fits c =
-    let f = coded_bytes c.args.h.now c.args.raster.now in
+all_room : (h : Header) (r : Pixels) (n : ℕ) → n ≡ length (blocks_bytes h r) → n ≡ length (flat_map (coded_bytes h r) (range_with_len 0 (coded_blocks h)))
+unfolding blocks_bytes
+all_room h r n e = e
+
+pub bounds-tables-k : goal.bounds-tables-k
+bounds-tables-k c =
+    let low = c.loop-k-test.true in
+    let value = c.count-k-end.ensures.value in
+    let room = c.requires.tables.room in
+    omega (arith, low, value, room)
+
+pub write_at-at-requires-clause-within : goal.write_at-at-requires-clause-within
+write_at-at-requires-clause-within c =
+    let h = c.args.h.now in
+    spot_within h c.args.raster.now c.requires.blocked c.loop-k.k (subst (λ n. c.loop-k.k < n) c.count-k-end.ensures.value c.loop-k-test.true) c.loop-k.spot c.loop-k.invariant.1.1
+
+pub write_at-at-requires-clause-table : goal.write_at-at-requires-clause-table
+write_at-at-requires-clause-table c =
+    let h = c.args.h.now in
     let k = c.loop-k.k in
-    let low : k < c.count-k-end.result = c.loop-k-test.true in
-    let part = part_fits f k (coded_blocks c.args.h.now) (subst (λ n. k < n) c.count-k-end.ensures.value low) in
-    let room = all_room c in
+    let low : k < coded_blocks h = subst (λ n. k < n) c.count-k-end.ensures.value c.loop-k-test.true in
+    table_here h c.args.raster.now k c.loop-k.spot (get_or c.args.tables.now k false) c.loop-k.invariant.1.1 (c.requires.tables.each k low)
+
+pub write_at-at-requires-clause-fits : goal.write_at-at-requires-clause-fits
+write_at-at-requires-clause-fits c =
+    let h = c.args.h.now in
+    let r = c.args.raster.now in
+    let f = coded_bytes h r in
+    let k = c.loop-k.k in
+    let low : k < coded_blocks h = subst (λ n. k < n) c.count-k-end.ensures.value c.loop-k-test.true in
+    let there = ap length (bytes_there h r k c.loop-k.spot c.loop-k.invariant.1.1) in
+    let part = part_fits f k (coded_blocks h) low in
+    let room = all_room h r (length c.args.out.now) c.requires.room in
     let kept : length c.loop-k.out ≡ length c.args.out.now = c.loop-k.auto.out in
     let so_far = c.loop-k.invariant.0 in
     let rest = ap length (take_rest c.loop-k.out c.loop-k.at) ∙ length-drop c.loop-k.at c.loop-k.out in
-    omega (arith, part, room, kept, so_far, rest)
+    omega (arith, part, room, kept, so_far, rest, there)
+
+pub next_spot-spot-requires-clause-within : goal.next_spot-spot-requires-clause-within
+next_spot-spot-requires-clause-within c =
+    let h = c.args.h.now in
+    spot_within h c.args.raster.now c.requires.blocked c.loop-k.k (subst (λ n. c.loop-k.k < n) c.count-k-end.ensures.value c.loop-k-test.true) c.loop-k.spot c.loop-k.invariant.1.1
 
 pub loop-k-preserved : goal.loop-k-preserved
 loop-k-preserved c =
-    let f = coded_bytes c.args.h.now c.args.raster.now in
+    let h = c.args.h.now in
+    let r = c.args.raster.now in
+    let f = coded_bytes h r in
     let k = c.loop-k.k in
+    let at = c.loop-k.invariant.1.1 in
     let joined = flat_map f (range_with_len 0 k) in
-    let whole : flat_map f (range_with_len 0 (k + 1)) ≡ joined ++ f k = one_more f 0 k k (omega arith) in
-    let sizes : length (joined ++ f k) ≡ length joined + length (f k) = length-append joined (f k) in
-    let long : length (flat_map f (range_with_len 0 (k + 1))) ≡ length (joined ++ f k) = ap length whole in
-    let count = c.write_coded-at.ensures.count in
+    let there = bytes_there h r k c.loop-k.spot at in
+    let whole : flat_map f (range_with_len 0 (k + 1)) ≡ joined ++ bytes_at h r c.loop-k.spot = one_more f 0 k k (omega arith) ∙ ap (λ xs. joined ++ xs) (sym there) in
+    let sizes = length-append joined (bytes_at h r c.loop-k.spot) in
+    let long : length (flat_map f (range_with_len 0 (k + 1))) ≡ length (joined ++ bytes_at h r c.loop-k.spot) = ap length whole in
+    let count = c.write_at-at.ensures.count in
     let so_far = c.loop-k.invariant.0 in (
       omega (arith, sizes, long, count, so_far),
-      part_written joined c.loop-k.out c.args.out.now c.write_coded-at.new.out (f k) (flat_map f (range_with_len 0 (k + 1))) c.loop-k.at c.write_coded-at.result so_far c.loop-k.invariant.1 count c.write_coded-at.ensures.bytes whole,
+      (
+        part_written joined c.loop-k.out c.args.out.now c.write_at-at.new.out (bytes_at h r c.loop-k.spot) (flat_map f (range_with_len 0 (k + 1))) c.loop-k.at c.write_at-at.result so_far c.loop-k.invariant.1.0 count c.write_at-at.ensures.bytes whole,
+        c.next_spot-spot.ensures k at,
+      ),
     )
 
 pub returns : goal.returns
@@ -47,4 +88,4 @@ returns c =
     let so_far = c.loop-k.invariant.0 in
     let room : length c.args.out.now ≡ length (flat_map f (range_with_len 0 (coded_blocks h))) = c.requires.room in
     let end : drop c.loop-k.at c.args.out.now ≡ [] = drop_all c.loop-k.at c.args.out.now (let e = ap length all in omega (arith, so_far, room, e)) in
-    c.loop-k.invariant.1 ∙ (λ t. all t ++ end t) ∙ append-nil (flat_map f (range_with_len 0 (coded_blocks h)))
+    c.loop-k.invariant.1.0 ∙ (λ t. all t ++ end t) ∙ append-nil (flat_map f (range_with_len 0 (coded_blocks h)))

@@ -1,24 +1,50 @@
-use Rattle.std.proofs.Common.{refl, ap, ◌∙◌, ◌∷◌, [], length, Some}
-use Rattle.lerc_encode.proofs.Candidates.{chosen_is, delta_size, plain_size}
-use Rattle.lerc_encode.proofs.Forming.{base_blocked, large_blocked, sweep_is, small_is, large_is}
+use Rattle.std.proofs.Common.{ap, subst, ◌∙◌, ◌∷◌, [], length, Some}
+use Rattle.lerc_header.specs.declared.header.Header.{Header}
+use Rattle.std.specs.Prelude.{MatchOption}
+use Rattle.lerc_encode.specs.Images.{blocks_bytes, mode_bytes}
+use Rattle.lerc_encode.specs.inside.Blocked.{IsMeasured}
+use Rattle.lerc_encode.proofs.Candidates.{chosen_is, delta_size, plain_size, few_of, sizes_of, measured_of, measured_len, small_long, large_long}
+use Rattle.lerc_encode.proofs.Forming.{base_blocked, large_blocked, large_header, sweep_is}
 use Rattle.lerc_encode.proofs.choosing.choose.Goals as goal
 
+pub measure-requires : goal.measure-requires
+measure-requires c = base_blocked c.args.base.now c.args.raster.now c.requires
+
+pub measure-requires-2 : goal.measure-requires-2
+measure-requires-2 c = large_blocked c.args.base.now c.with_large-large_base.result c.args.raster.now c.requires c.with_large-large_base.ensures
+
 pub block_form_len-requires : goal.block_form_len-requires
-block_form_len-requires c = base_blocked c.args.base.now c.args.raster.now c.requires
+block_form_len-requires c = few_of _ c.args.base.now c.args.raster.now c.in_ok-small.small c.in_ok-small.ensures
 
 pub block_form_len-requires-2 : goal.block_form_len-requires-2
-block_form_len-requires-2 c = large_blocked c.args.base.now c.with_large.result c.args.raster.now c.requires c.with_large.ensures
+block_form_len-requires-2 c = few_of _ c.with_large-large_base.result c.args.raster.now c.in_ok-large.large c.in_ok-large.ensures
 
 pub returns : goal.returns
 returns c =
     let h = c.args.base.now in
+    let g = c.with_large-large_base.result in
+    let large_is = c.with_large-large_base.ensures in
     let r = c.args.raster.now in
     let codings = c.in_ok-codings.codings in
-    let a = c.sweep_len.ensures.value ∙ ap length (sweep_is r h.version h.step) in
-    let b = c.block_form_len.ensures ∙ ap length (small_is h r c.requires) in
-    let l = c.block_form_len-2.ensures ∙ ap length (large_is h c.with_large.result r c.requires c.with_large.ensures) in
-    let d = c.coded_form_len.ensures ∙ delta_size r h.version h.step codings c.in_ok-codings.ensures in
-    let e = c.coded_form_len-2.ensures ∙ plain_size r h.version h.step codings c.in_ok-codings.ensures in
-    chosen_is r h.version h.step (Some c.sweep_len.result ∷ Some c.block_form_len.result ∷ Some c.block_form_len-2.result ∷ c.coded_form_len.result ∷ c.coded_form_len-2.result ∷ []) c.sweep_len.result
-    c.first_least.result c.unwrap_or-place.result c.form_at.result codings (λ t. Some (a t) ∷ Some (b t) ∷ Some (l t) ∷ d t ∷ e t ∷ []) refl
-    c.sweep_len.ensures.few c.first_least.ensures c.unwrap_or-place.ensures c.form_at.ensures c.in_ok-codings.ensures
+    let small = c.in_ok-small.small in
+    let large = c.in_ok-large.large in
+    let front = length (mode_bytes r h.step) in
+    let a = c.sweep_len-sweep.ensures.value ∙ ap length (sweep_is r h.version h.step) in
+    let b = small_long h r c.requires in
+    let l = large_long h g r c.requires large_is in
+    let d = c.coded_form_len-deltas.ensures ∙ delta_size r h.version h.step codings c.in_ok-codings.ensures in
+    let e = c.coded_form_len-plains.ensures ∙ plain_size r h.version h.step codings c.in_ok-codings.ensures in
+    let same_front = ap (λ (x : Header). measured_len (length (mode_bytes r x.step)) large) large_is in
+    chosen_is r h.version h.step front c.sweep_len-sweep.result (length (blocks_bytes h r)) (length (blocks_bytes g r)) c.least_known-most.result c.most_of_large.result small large c.coded_form_len-deltas.result c.coded_form_len-plains.result
+    (Some c.sweep_len-sweep.result ∷ c.block_form_len.result ∷ c.block_form_len-2.result ∷ c.coded_form_len-deltas.result ∷ c.coded_form_len-plains.result ∷ [])
+    c.first_least.result c.unwrap_or-place.result c.form_at.result codings
+    (record {
+      small_is = sizes_of c.least_known-most.result h r small c.in_ok-small.ensures;
+      large_is = sizes_of c.most_of_large.result g r large c.in_ok-large.ensures;
+      most_is = c.least_known-most.ensures;
+      most16_is = c.most_of_large.ensures;
+    })
+    (λ t. Some c.sweep_len-sweep.result ∷ c.block_form_len.ensures t ∷ (c.block_form_len-2.ensures ∙ same_front) t ∷ c.coded_form_len-deltas.result ∷ c.coded_form_len-plains.result ∷ [])
+    (λ t. Some (a t) ∷ Some (b t) ∷ Some (l t) ∷ d t ∷ e t ∷ []) c.sweep_len-sweep.ensures.few c.first_least.ensures c.unwrap_or-place.ensures c.form_at.ensures c.in_ok-codings.ensures
+    (subst (λ (x : Header). MatchOption small Unit (IsMeasured x r)) c.requires.is (measured_of _ h r small c.in_ok-small.ensures))
+    (subst (λ (x : Header). MatchOption large Unit (IsMeasured x r)) (large_is ∙ large_header h r c.requires) (measured_of _ g r large c.in_ok-large.ensures))

@@ -12,18 +12,18 @@ NoneFor counts = (used_count counts < 2) ⊎ SomeIndex (lengths_of counts) (λ s
 pub returns-in-Some : goal.returns-in-Some
 returns-in-Some c =
     let symbols = c.args.symbols.now in
-    let counts = c.count_symbols.ensures.counts in
+    let counts = c.count_symbols-counts.ensures.counts in
     let has = have_of symbols (λ none. let e : true ≡ false = c.in-Some.ensures.none.1 (subst NoneFor (sym counts) none) in cc) in
     let is = c.in-Some.ensures.some ∙ ap lengths_of counts in
     let table = c.table_size.ensures.few in
-    let words = c.symbols_len.ensures.few in
+    let words = c.counted_len.ensures.few in
     record {
       has = has;
       lengths_are = is;
-      size_is = length_coding symbols c.table_size.result c.symbols_len.result has (subst (λ (l : List ℕ). IsTableSize l c.table_size.result) is c.table_size.ensures.size)
-          (c.symbols_len.ensures.size ∙ ap (λ (l : List ℕ). written_size (canonical_codes l) symbols) is);
+      size_is = length_coding symbols c.table_size.result c.counted_len.result has (subst (λ (l : List ℕ). IsTableSize l c.table_size.result) is c.table_size.ensures.size)
+          (c.counted_len.ensures.size symbols (sym counts) ∙ ap (λ (l : List ℕ). written_size (canonical_codes l) symbols) is);
       few = omega (arith, table, words);
     }
 
 pub returns-in-None : goal.returns-in-None
-returns-in-None c = none_of c.args.symbols.now (subst NoneFor c.count_symbols.ensures.counts (c.in-None.ensures.none.0 refl))
+returns-in-None c = none_of c.args.symbols.now (subst NoneFor c.count_symbols-counts.ensures.counts (c.in-None.ensures.none.0 refl))

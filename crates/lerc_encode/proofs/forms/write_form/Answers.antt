@@ -3,16 +3,17 @@ use Rattle.std.specs.Prelude.{◌&&◌}
 use Rattle.raster_values.specs.Raster.{Pixels}
 use Rattle.lerc_header.specs.declared.header.Version.{Version}
 use Rattle.delta_mode.specs.Deltas.{plain as plain_symbols}
+use Rattle.lerc_encode.specs.Heads.{header_of}
 use Rattle.lerc_encode.specs.Images as images
 use Rattle.lerc_encode.specs.Images.{all_deltas}
 use Rattle.lerc_encode.specs.declared.forms.ValueForm.TheVariants.{Delta, Plain}
 use Rattle.lerc_encode.specs.Images.{form_bytes}
 use Rattle.lerc_encode.specs.inside.Choosing.{named}
 use Rattle.lerc_encode.specs.declared.forms.ValueForm.{ValueForm}
-use Rattle.lerc_encode.proofs.Forming.{base_blocked, large_blocked, sweep_is, small_is, large_is}
+use Rattle.lerc_encode.proofs.Forming.{base_blocked, large_blocked, large_header, sweep_is, small_is, large_is}
 use Rattle.lerc_encode.specs.inside.Choosing.{IsChosen}
 use Rattle.lerc_encode.specs.declared.choosing.Chosen.{Chosen}
-use Rattle.lerc_encode.proofs.Candidates.{chosen_may, delta_is, plain_is}
+use Rattle.lerc_encode.proofs.Candidates.{chosen_may, delta_is, measured_here, plain_is}
 use Rattle.lerc_encode.proofs.Standing.{MayBe}
 use Rattle.lerc_encode.proofs.SymbolSteps.{AreThere, symbols_there}
 use Rattle.lerc_encode.proofs.forms.write_form.Goals as goal
@@ -34,6 +35,13 @@ write_sweep-requires c =
 pub write_block_form-requires-clause-blocked : goal.write_block_form-requires-clause-blocked
 write_block_form-requires-clause-blocked c = base_blocked c.args.base.now c.args.raster.now c.requires.base
 
+pub write_block_form-requires-clause-measured : goal.write_block_form-requires-clause-measured
+write_block_form-requires-clause-measured c =
+    let h = c.args.base.now in
+    let r = c.args.raster.now in
+    let chosen = c.args.chosen.now in
+    measured_here h (header_of r h.version h.step 8 0 0) r images.blocks_8 (named chosen.form) chosen.small c.requires.chosen.small_are (ap named c.in-SmallBlocks.is) c.requires.base.is
+
 pub write_block_form-requires-clause-room : goal.write_block_form-requires-clause-room
 write_block_form-requires-clause-room c =
     let h = c.args.base.now in
@@ -42,6 +50,13 @@ write_block_form-requires-clause-room c =
 
 pub write_block_form-requires-in-LargeBlocks-clause-blocked : goal.write_block_form-requires-in-LargeBlocks-clause-blocked
 write_block_form-requires-in-LargeBlocks-clause-blocked c = large_blocked c.args.base.now c.with_large.result c.args.raster.now c.requires.base c.with_large.ensures
+
+pub write_block_form-requires-in-LargeBlocks-clause-measured : goal.write_block_form-requires-in-LargeBlocks-clause-measured
+write_block_form-requires-in-LargeBlocks-clause-measured c =
+    let h = c.args.base.now in
+    let r = c.args.raster.now in
+    let chosen = c.args.chosen.now in
+    measured_here c.with_large.result (header_of r h.version h.step 16 0 0) r images.blocks_16 (named chosen.form) chosen.large c.requires.chosen.large_are (ap named c.in-LargeBlocks.is) (c.with_large.ensures ∙ large_header h r c.requires.base)
 
 pub write_block_form-requires-in-LargeBlocks-clause-room : goal.write_block_form-requires-in-LargeBlocks-clause-room
 write_block_form-requires-in-LargeBlocks-clause-room c =

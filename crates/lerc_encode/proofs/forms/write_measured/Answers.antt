@@ -2,7 +2,7 @@ use Rattle.std.proofs.Common.{ap, sym, ◌∙◌, ◌++◌, ◌∷◌, arith, Bo
 use Rattle.lerc_encode.specs.Images as images
 use Rattle.lerc_encode.specs.Images.{blocks_bytes}
 use Rattle.lerc_encode.proofs.Forming.{behind_one, behind_two, mode_if}
-use Rattle.lerc_encode.proofs.forms.write_block_form.Goals as goal
+use Rattle.lerc_encode.proofs.forms.write_measured.Goals as goal
 
 pub returns-then-has_mode : goal.returns-then-has_mode
 returns-then-has_mode c =

@@ -1,8 +1,0 @@
-use Rattle.std.proofs.Common.{◌≡◌, ◌≤◌, ◌*◌, length}
-use Rattle.std.specs.List.{flat_map, range_with_len}
-use Rattle.lerc_encode.specs.Images.{coded_bytes}
-use Rattle.lerc_encode.proofs.blocks.blocks_len.Given as goal
-
-abbrev pub invariant-loop-k : goal.invariant-loop-k
-invariant-loop-k l =
-    (l.size ≡ length (flat_map (coded_bytes l.h l.raster) (range_with_len 0 l.k))) × (l.size ≤ 1025 * l.k)

@@ -1,0 +1,9 @@
+use Rattle.std.proofs.Common.{ap}
+use Rattle.micro_block.specs.declared.context.BlockCtx.{BlockCtx}
+use Rattle.lerc_encode.proofs.Spots.{capped_there}
+use Rattle.lerc_encode.proofs.blocks.write_at.Goals as goal
+
+pub write_distances-requires-clause-capped : goal.write_distances-requires-clause-capped
+write_distances-requires-clause-capped c =
+    let is = c.context-ctx.ensures.value in
+    capped_there c.args.h.now c.args.raster.now c.requires.blocked c.args.spot _ c.context-ctx.result (ap (λ (x : BlockCtx). x.kind) is) (ap (λ (x : BlockCtx). x.top) is) c.gather-n.ensures.are
