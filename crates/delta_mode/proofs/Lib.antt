@@ -7,5 +7,6 @@ mod Pieces
 mod Kernels
 mod InPieces
 mod WholeDepth
+mod Bytewise
 mod Turning
 pub mod Existence

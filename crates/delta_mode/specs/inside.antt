@@ -1,3 +1,4 @@
 -- Words of the private functions: nothing here has to be believed.
 pub mod Pieces
 pub mod Turned
+pub mod Bytewise

@@ -8,8 +8,9 @@ ghost use Rattle.delta_mode.specs.Symbols.{IsByteType};
 ghost use Rattle.delta_mode.specs.Deltas.{AreDeltas, TakesDeltas, is_valid};
 ghost use Rattle.delta_mode.specs.inside.Pieces.{rank, IsAt, AreCoded};
 
+use super::full::{added, byte_deltas};
 use super::walk::{Walk, enter, find_values, read_above, start, write_symbols};
-use raster_values::Raster;
+use raster_values::{Raster, cells_are_values};
 
 /// How many pixels of a row are looked at together, at most.
 const PIECE: usize = 256;
@@ -92,9 +93,8 @@ fn take_piece(
     walk
 }
 
-/// The symbols of a depth of a raster of bytes: of each valid pixel's value less its predictor, row
-/// by row.
-pub fn deltas_of(raster: &Raster, d: u32, out: &mut [u8])
+/// The symbols of a depth, found pixel by pixel.
+fn walked_deltas(raster: &Raster, d: u32, out: &mut [u8])
     requires kind { IsByteType raster.now.kind }
     requires depth { d < raster.now.depth }
     requires count { length out.old ≡ valid_count raster.now }
@@ -122,6 +122,24 @@ pub fn deltas_of(raster: &Raster, d: u32, out: &mut [u8])
             out,
         );
         place += count;
+    }
+}
+
+/// The symbols of a depth of a raster of bytes: of each valid pixel's value less its predictor, row
+/// by row.
+pub fn deltas_of(raster: &Raster, d: u32, out: &mut [u8])
+    requires kind { IsByteType raster.now.kind }
+    requires depth { d < raster.now.depth }
+    requires count { length out.old ≡ valid_count raster.now }
+    ensures { AreDeltas raster.now d out.new }
+{
+    cells_are_values();
+    let cells = raster.cells();
+    // as many valid pixels as there are values: all are valid, and have one value
+    if out.len() == cells.len() {
+        byte_deltas(added(raster.kind()), raster.cols() as usize, cells, out);
+    } else {
+        walked_deltas(raster, d, out);
     }
 }
 

@@ -6,6 +6,7 @@
 #![tactic(auto)]
 
 mod depth;
+mod full;
 mod laws;
 mod plain;
 mod walk;

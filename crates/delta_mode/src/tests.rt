@@ -142,6 +142,30 @@ fn a_row_has_its_differences_modulo_256(rt: HostRuntime) -> Result<(), Fail> {
     Ok(())
 }
 
+#[test]
+fn a_row_of_a_full_raster_begins_with_the_difference_from_above(
+    rt: HostRuntime,
+) -> Result<(), Fail> {
+    let mut raster = Raster::new(rt.alloc(), PixelType::I8, 3, 2, 1)?;
+    put_all(
+        &rt,
+        &mut raster,
+        0,
+        &[
+            (0, 0, -128),
+            (0, 1, 127),
+            (1, 0, 5),
+            (1, 1, 6),
+            (2, 0, 5),
+            (2, 1, -1),
+        ],
+    );
+    let mut symbols = [0u8; 6];
+    deltas(&rt, &raster, 0, &mut symbols);
+    assert_eq!(rt; symbols, [0, 127, 5, 129, 128, 122]);
+    Ok(())
+}
+
 /// Three rows and columns of which six pixels are valid. Their predictors are none, the pixel
 /// before in order, the one above, the one to the left, the one above and the one to the left.
 fn masked() -> [(u32, u32, i64); 6] {

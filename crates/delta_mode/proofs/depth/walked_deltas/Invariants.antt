@@ -2,7 +2,7 @@ use Rattle.std.proofs.Common.{◌≡◌, ◌≤◌, ◌-◌, ◌*◌, length}
 use Rattle.raster_values.specs.Flat.{value_in}
 use Rattle.delta_mode.specs.Deltas.{is_valid}
 use Rattle.delta_mode.specs.inside.Pieces.{IsAt, AreCoded}
-use Rattle.delta_mode.proofs.depth.deltas_of.Given as goal
+use Rattle.delta_mode.proofs.depth.walked_deltas.Given as goal
 
 abbrev pub invariant-loop-place : goal.invariant-loop-place
 invariant-loop-place l = record {

@@ -1,0 +1,66 @@
+use Rattle.std.proofs.Common.{◌≡◌, ◌≢◌, ℕ, ◌+◌, ◌-◌, ◌%◌, ◌<◌, ◌≤◌, get_or, set, refl, sym, ap, ◌∙◌, subst, arith, inl, inr}
+use Rattle.std.proofs.lemmas.Bool.{cases_lt}
+use Rattle.std.proofs.lemmas.List.{get_or-set_same, get_or-set_other}
+use Rattle.std.proofs.Math.ListN.{length-set}
+use Rattle.delta_mode.specs.inside.Bytewise.{wrapped, byte_above}
+use Rattle.delta_mode.proofs.Bytewise.{above_none, above_some, column_first, column_next, column_one, not_first}
+use Rattle.delta_mode.proofs.full.first_column.Goals as goal
+
+no_zero : (cols k : ℕ) → 0 < k % cols → k ≢ 0
+no_zero cols k some e = let same : k % cols ≡ 0 % cols = ap (λ n. n % cols) e in let zero_ : 0 % cols ≡ 0 = none cols in omega (arith, some, same, zero_)
+  where
+    none : (c : ℕ) → 0 % c ≡ 0
+    none c = omega arith
+
+pub loop-at-init : goal.loop-at-init
+loop-at-init c =
+    let cols = c.args.cols in
+    let out = c.args.out.now in
+    let cells = c.args.cells.now in
+    let v = (get_or cells 0 0 + c.args.bias) % 256 in
+    let column = column_first cols in
+    record {
+      room = length-set out 0 v;
+      behind = omega arith;
+      at_column = column;
+      done = λ k lt first.
+          let is : k ≡ 0 = column_one cols 0 k (none cols) (omega arith) (omega (arith, lt)) first in
+          ap (λ n. get_or (set out 0 v) n 0) is
+          ∙ get_or-set_same out 0 v 0 (omega (arith, c.requires.cols, c.requires.some, c.requires.room))
+          ∙ plain (get_or cells 0 0) c.args.bias
+          ∙ ap (wrapped c.args.bias (get_or cells 0 0)) (sym (above_none cols cells c.requires.cols))
+          ∙ ap (λ n. wrapped c.args.bias (get_or cells n 0) (byte_above cols cells n)) (sym is);
+      others = λ k some. get_or-set_other out 0 k v 0 (no_zero cols k some);
+    }
+  where
+    none : (c : ℕ) → 0 % c ≡ 0
+    none c = omega arith
+
+    plain : (x b : ℕ) → (x + b) % 256 ≡ wrapped b x 0
+    plain x b = omega arith
+
+pub loop-at-preserved : goal.loop-at-preserved
+loop-at-preserved c =
+    let cols = c.args.cols in
+    let at = c.loop-at.at in
+    let out = c.loop-at.out in
+    let cells = c.args.cells.now in
+    let v = ((get_or cells at 0 + (256 - get_or cells (at - cols) 0)) % 256 + c.args.bias) % 256 in
+    let inv = c.loop-at.invariant in
+    let column = inv.at_column in
+    let behind = inv.behind in
+    record {
+      room = length-set out at v ∙ inv.room;
+      behind = omega (arith, behind);
+      at_column = column_next cols at column;
+      done = λ k lt first. elim (cases_lt k at) [
+        | inl below ↦ get_or-set_other out at k v 0 (let ne : k ≢ at = omega (arith, below) in ne) ∙ inv.done k below first
+        | inr from ↦
+            let is : k ≡ at = column_one cols at k column from lt first in
+            ap (λ n. get_or (set out at v) n 0) is
+            ∙ get_or-set_same out at v 0 (omega (arith, inv.room, c.requires.room, c.loop-at-test.true))
+            ∙ ap (wrapped c.args.bias (get_or cells at 0)) (sym (above_some cols cells at behind))
+            ∙ ap (λ n. wrapped c.args.bias (get_or cells n 0) (byte_above cols cells n)) (sym is)
+      ];
+      others = λ k some. get_or-set_other out at k v 0 (not_first cols at k column some) ∙ inv.others k some;
+    }
