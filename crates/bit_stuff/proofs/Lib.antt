@@ -6,3 +6,4 @@ pub mod Digits
 pub mod StuffedLaws
 pub mod HeadLaws
 pub mod HeadParts
+mod Eights

@@ -4,6 +4,7 @@
 //! uses one contract: stuffed bytes are one large number, cut into fields of one width.
 #![tactic(auto)]
 
+mod groups;
 mod heads;
 mod laws;
 mod packing;

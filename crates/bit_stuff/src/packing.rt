@@ -4,6 +4,7 @@ ghost use Rattle.std.specs.Prelude.{◌≡◌, ◌+◌, ◌*◌, ◌/◌, ◌%�
 ghost use Rattle.bit_stuff.specs.Stuffed.{IsStuffed, HasClearSpareBits, number_of_bytes, stuffed_bytes, stuffed_size};
 ghost use Rattle.bit_stuff.specs.inside.Buffer.{IsBuffer, bits_of_buffer, number_of_buffer};
 
+use crate::groups::stuff_front;
 use byteorder::{ByteOrder, LittleEndian};
 
 /// Bits on their way into bytes: the lowest `used` bits of `held`, of which the first goes to byte
@@ -76,13 +77,14 @@ pub fn stuff(values: &[u32], width: u32, out: &mut [u8])
     ensures stuffed { IsStuffed out.new width values.now }
     ensures spare { HasClearSpareBits out.new width (length values.now) }
 {
+    let eights = stuff_front(values, width, out);
     let mut buffer = Buffer {
         held: 0,
         used: 0,
-        at: 0,
+        at: width as usize * eights,
     };
-    for v in values {
-        buffer = spilled(taken(buffer, *v, width), out);
+    for i in 8 * eights..values.len() {
+        buffer = spilled(taken(buffer, values[i], width), out);
     }
     write_last(buffer, out);
 }

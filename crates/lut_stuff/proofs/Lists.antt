@@ -1,18 +1,18 @@
 -- A list is a part: it is read in one way, and it stands or has one first fault.
-use Rattle.std.proofs.Common.{◌≡◌, ℕ, zero, suc, ◌+◌, ◌-◌, ◌*◌, ◌/◌, ◌<◌, ◌≤◌, ◌⊎◌, Bool, true, false, IsTrue, List, [], ◌∷◌, ◌++◌, length, get_or, slice_index, take, drop, map, refl, sym, ap, ◌∙◌, subst, inl, inr, arith}
+use Rattle.std.proofs.Common.{◌≡◌, ℕ, zero, suc, ◌+◌, ◌-◌, ◌<◌, ◌≤◌, ◌⊎◌, Bool, true, false, IsTrue, List, [], ◌∷◌, ◌++◌, length, slice_index, take, drop, map, refl, sym, ap, ◌∙◌, subst, inl, inr, arith}
 use Rattle.std.proofs.lemmas.Bool.{cases_lt, false≢true}
-use Rattle.std.proofs.lemmas.List.{append_cancel_left, append_assoc, length-append, length-map, length-take-le, length-drop, take-append-drop, take_at, drop_at}
+use Rattle.std.proofs.lemmas.List.{append_assoc, length-append, length-map, length-take-le, take-append-drop, take_at, drop_at}
 use Rattle.std.proofs.lemmas.List.Elements.{All-from_get_or}
 use Rattle.std.specs.Prelude.{All}
-use Rattle.first_fault.specs.Faults.{Faults, none, wrong, choice, unless, moved, in_order}
-use Rattle.first_fault.specs.Parts.{IsSingle, IsPart, IsDecided, AreBytes, InFront, HasFault}
-use Rattle.first_fault.proofs.Parts.{single-none, single-wrong, single-unless, single-choice, single-moved, single-in_order, passed, failed, same_rest, behind_it}
+use Rattle.first_fault.specs.Faults.{Faults, none, wrong, unless, moved, in_order}
+use Rattle.first_fault.specs.Parts.{IsSingle, IsPart, IsDecided, HasFault}
+use Rattle.first_fault.proofs.Parts.{single-none, single-unless, single-choice, single-moved, single-in_order, passed, failed, same_rest, behind_it}
 use Rattle.first_fault.proofs.Decided.{decided_unless}
 use Rattle.bit_stuff.specs.declared.heads.ListHead.{ListHead}
 use Rattle.bit_stuff.specs.declared.heads.ListReason.{ListReason}
 use Rattle.bit_stuff.specs.declared.heads.ListReason.TheVariants.{Cut, BadTable, BadIndex}
 use Rattle.bit_stuff.specs.Head.{IsHead, IsHeadOf, head_faults}
-use Rattle.bit_stuff.specs.Simple.{IsSimpleList, IsSimpleUnder, binary_digits}
+use Rattle.bit_stuff.specs.Simple.{IsSimpleList, binary_digits}
 use Rattle.bit_stuff.specs.Stuffed.{IsStuffed, field_at, number_of_bytes, stuffed_size}
 use Rattle.bit_stuff.proofs.HeadLaws.{head-append, head-take}
 use Rattle.bit_stuff.proofs.HeadParts.{head_decided, head_part, same_front}

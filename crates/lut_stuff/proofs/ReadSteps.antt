@@ -1,8 +1,8 @@
 -- Steps of reading a table.
-use Rattle.std.proofs.Common.{◌≡◌, ℕ, zero, suc, ◌+◌, ◌-◌, ◌<◌, ◌≤◌, ◌⊎◌, IsTrue, IsFalse, List, [], ◌∷◌, ◌++◌, length, get_or, slice_index, take, drop, map, refl, sym, ap, ◌∙◌, subst, inl, inr, arith}
+use Rattle.std.proofs.Common.{◌≡◌, ℕ, suc, ◌+◌, ◌-◌, ◌<◌, ◌≤◌, List, [], ◌∷◌, ◌++◌, length, get_or, slice_index, take, drop, map, refl, sym, ap, ◌∙◌, subst, inl, inr, arith}
 use Rattle.std.specs.Prelude.{All, Result, Ok, Err, MatchResult, IfOk, ◌↔◌}
 use Rattle.bit_stuff.specs.declared.heads.ListFault.{ListFault}
-use Rattle.std.proofs.lemmas.List.{length-take-le, length-drop, length-map, take-append-drop}
+use Rattle.std.proofs.lemmas.List.{length-take-le, length-drop, take-append-drop}
 use Rattle.std.proofs.lemmas.List.Elements.{All-from_get_or}
 use Rattle.bit_stuff.specs.declared.heads.ListReason.{ListReason}
 use Rattle.bit_stuff.specs.declared.heads.ListReason.TheVariants.{BadIndex}

@@ -1,5 +1,5 @@
 -- The list in the table form that is written for given values.
-use Rattle.std.specs.Prelude.{ℕ, ◌+◌, ◌≤◌, Bool, ◌&&◌, nat_eq, nat_le, nat_lt, List, ◌∷◌, ◌++◌, length, map, true}
+use Rattle.std.specs.Prelude.{ℕ, ◌+◌, Bool, ◌&&◌, nat_eq, nat_le, nat_lt, List, ◌∷◌, ◌++◌, length, map, true}
 use Rattle.std.specs.Prelude.{Option, None, Some, if◌then◌else◌}
 use Rattle.std.specs.List.{filter, list_any, range_with_len}
 use Rattle.bit_stuff.specs.Head.{head_bytes}

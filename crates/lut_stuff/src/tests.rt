@@ -144,51 +144,64 @@ fn tables_of_254_different_values_and_not_of_255(rt: HostRuntime) {
     assert!(rt; table_len(&more) == None);
 }
 
-// How many values, of which value `i` is `7 * i * i + 3 * i` modulo the second number, and the
-// length of their table, worked out apart from this program; 0 where there is none.
-const LENGTHS: [(usize, u32, usize); 25] = [
-    (64, 61, 66),
-    (64, 251, 114),
-    (64, 509, 122),
-    (64, 1021, 130),
-    (64, 5003, 154),
-    (65, 61, 67),
-    (65, 251, 124),
-    (65, 509, 132),
-    (65, 1021, 140),
-    (65, 5003, 164),
-    (256, 61, 187),
-    (256, 251, 353),
-    (256, 509, 465),
-    (256, 1021, 0),
-    (256, 5003, 0),
-    (257, 61, 188),
-    (257, 251, 354),
-    (257, 509, 467),
-    (257, 1021, 0),
-    (257, 5003, 0),
-    (1024, 61, 667),
-    (1024, 251, 1025),
-    (1024, 509, 1314),
-    (1024, 1021, 0),
-    (1024, 5003, 0),
+// How many values, of which value `i` is `7 * i * i + 3 * i` modulo the second number, times the
+// third; the length of their table and a digest of its bytes, worked out apart from this program; 0
+// where there is none.
+const LONG: [(usize, u32, u32, usize, u32); 19] = [
+    (64, 61, 1, 66, 723565034),
+    (65, 251, 1, 124, 2713471827),
+    (256, 251, 1, 353, 845726444),
+    (64, 509, 1, 122, 4197093958),
+    (257, 61, 1, 188, 141105890),
+    (257, 251, 1, 354, 3831803636),
+    (1024, 251, 1, 1025, 2832024978),
+    (64, 1021, 1, 130, 2087555540),
+    (256, 509, 1, 465, 2832354930),
+    (1024, 509, 1, 1314, 4103588935),
+    (1024, 1021, 1, 0, 0),
+    (64, 61, 2003, 107, 1479760995),
+    (65, 5003, 1, 164, 4053328527),
+    (256, 61, 50021, 247, 1511404620),
+    (256, 5003, 1, 0, 0),
+    (257, 5003, 1, 0, 0),
+    (300, 251, 30011, 627, 3354451392),
+    (1024, 61, 2003, 708, 2777320107),
+    (1024, 5003, 1, 0, 0),
 ];
 
+/// One number for bytes, to compare long ones by.
+fn digest(bytes: &[u8]) -> u32 {
+    let mut all = 0u32;
+    for b in bytes {
+        all = all
+            .wrapping_mul(31)
+            .wrapping_add(u32::from(*b))
+            .wrapping_add(1);
+    }
+    all
+}
+
 #[test]
-fn lengths_of_long_lists(rt: HostRuntime) {
-    for (count, modulus, want) in LENGTHS {
+fn long_lists(rt: HostRuntime) {
+    let mut bytes = [0u8; 2048];
+    for (count, modulus, factor, want, sum) in LONG {
         let mut values = [0u32; 1024];
-        assert!(rt; count <= 1024 && modulus > 0, "the row");
+        assert!(rt;
+            count <= 1024 && modulus > 0 && modulus < 65536 && factor < 65536,
+            "the row"
+        );
         let values = &mut values[..count];
         for (i, value) in values.iter_mut().enumerate() {
             let i = i as u32;
-            *value = (7 * i * i + 3 * i) % modulus;
+            *value = (7 * i * i + 3 * i) % modulus * factor;
         }
         assert!(rt; values.iter().all(|v| *v < 2147483648));
-        assert_eq!(rt;
-            table_len(values).unwrap_or(0),
-            want,
-            "{count} modulo {modulus}"
-        );
+        let len = table_len(values);
+        assert!(rt; len.unwrap_or(0) == want, "{count} modulo {modulus}");
+        if let Some(len) = len {
+            assert!(rt; len <= 2048, "the length");
+            write_table(values, &mut bytes[..len]);
+            assert!(rt; digest(&bytes[..len]) == sum, "the bytes");
+        }
     }
 }

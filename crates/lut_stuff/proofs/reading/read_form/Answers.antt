@@ -1,4 +1,4 @@
-use Rattle.std.proofs.Common.{rules, ◌≡◌, ◌-◌, ◌+◌, ◌<◌, ◌≤◌, ℕ, List, length, take, drop, refl, sym, arith}
+use Rattle.std.proofs.Common.{rules, ◌-◌, length, take, drop, refl, arith}
 use Rattle.std.proofs.lemmas.List.{take_rest}
 use Rattle.lut_stuff.proofs.ReadSteps.{head_wrong, list_told}
 use Rattle.lut_stuff.proofs.reading.read_form.Goals as goal

@@ -1,7 +1,6 @@
-use Rattle.std.proofs.Common.{◌≡◌, ◌+◌, ◌-◌, ◌<◌, ℕ, List, length, sym, ap, ◌∙◌, subst, refl, arith}
+use Rattle.std.proofs.Common.{◌≡◌, ◌+◌, ◌-◌, ◌<◌, ℕ, length, subst, refl, arith}
 use Rattle.std.specs.Prelude.{All}
 use Rattle.bit_stuff.specs.declared.heads.ListReason.TheVariants.{BadIndex}
-use Rattle.bit_stuff.specs.Simple.{binary_digits}
 use Rattle.lut_stuff.specs.Faults.{index_faults}
 use Rattle.lut_stuff.specs.inside.Indexes.{HasIndexes}
 use Rattle.lut_stuff.proofs.ReadSteps.{missing_index, told}

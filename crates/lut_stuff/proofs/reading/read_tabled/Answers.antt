@@ -1,4 +1,4 @@
-use Rattle.std.proofs.Common.{◌≡◌, ◌-◌, ℕ, List, length, take, drop, sym, ◌∙◌, arith}
+use Rattle.std.proofs.Common.{◌≡◌, ◌-◌, length, take, drop, sym, ◌∙◌}
 use Rattle.std.proofs.lemmas.List.{length-take-le, take_rest}
 use Rattle.lut_stuff.proofs.ReadSteps.{tabled_told}
 use Rattle.lut_stuff.proofs.reading.read_tabled.Goals as goal
