@@ -1,10 +1,10 @@
 -- The fields of new headers and of headers after a put.
-use Rattle.std.proofs.Common.{◌≡◌, refl, ℕ, ◌+◌, ◌-◌, ◌^◌, ◌<◌, ◌≤◌, max, min, List, ◌++◌, length, get_or, take, drop, sym, ◌∙◌, ap, arith, append_assoc}
+use Rattle.std.proofs.Common.{◌≡◌, refl, ℕ, ◌+◌, ◌-◌, ◌^◌, ◌<◌, max, List, ◌++◌, length, get_or, take, drop, ◌∙◌, ap, arith, append_assoc}
 use Rattle.std.proofs.lemmas.List.{places}
 use Rattle.byteorder.specs.Endian.{little_bytes}
 use Rattle.bundle_index.specs.Header.{HasFreshFields, IsHeaderAfter, fresh_header, header_after, slack_after}
 use Rattle.bundle_index.specs.Numbers.{u32_at, u64_at}
-use Rattle.bundle_index.proofs.Headers.{kept_front, kept_mid, length-fresh_header, length-header_after}
+use Rattle.bundle_index.proofs.Headers.{kept_front, kept_mid, length-header_after}
 use Rattle.bundle_index.proofs.Numbers.{u32_back, u64_back}
 
 pub fresh_fields : (greatest size : ℕ) → greatest < 2 ^ 32 → size < 2 ^ 64 → HasFreshFields (fresh_header greatest size) greatest size

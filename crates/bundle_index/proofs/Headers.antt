@@ -3,8 +3,8 @@ use Rattle.std.proofs.Common.{◌≡◌, ◌⊎◌, inl, inr, refl, ℕ, ◌+◌
 use Rattle.std.proofs.lemmas.List.{places}
 use Rattle.byteorder.specs.Endian.{little_bytes}
 use Rattle.bundle_index.specs.Header.{HasHeader, fresh_header, header_after, slack_after}
-use Rattle.bundle_index.specs.Numbers.{u32_at, u64_at}
-use Rattle.bundle_index.proofs.Numbers.{SameAt, same_u32, u32_back}
+use Rattle.bundle_index.specs.Numbers.{u32_at}
+use Rattle.bundle_index.proofs.Numbers.{same_u32}
 
 pub length-fresh_header : (greatest size : ℕ) → length (fresh_header greatest size) ≡ 64
 unfolding fresh_header

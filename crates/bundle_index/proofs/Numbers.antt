@@ -1,10 +1,10 @@
 -- Numbers at a place, in lists that are made of others.
-use Rattle.std.proofs.Common.{◌≡◌, refl, ℕ, zero, suc, ◌+◌, ◌*◌, ◌^◌, ◌/◌, ◌%◌, ◌<◌, ◌≤◌, List, ◌++◌, length, get_or, take, drop, sym, ◌∙◌, ap, arith}
+use Rattle.std.proofs.Common.{◌≡◌, refl, ℕ, zero, suc, ◌+◌, ◌*◌, ◌^◌, ◌/◌, ◌%◌, ◌<◌, List, ◌++◌, length, get_or, drop, sym, ◌∙◌, ap, arith}
 use Rattle.std.proofs.lemmas.List.{get_or-drop, drop_at}
 use Rattle.byteorder.specs.Endian.{little_from, little_number, little_bytes}
-use Rattle.byteorder.specs.Numbers.{little_number-reads_back, length-bytes_low_first}
+use Rattle.byteorder.specs.Numbers.{little_number-reads_back}
 use Rattle.bundle_index.specs.Numbers.{u16_at, u32_at, u64_at}
-use Rattle.bundle_index.specs.Entry.{IsEntry, entry_at, entry_bytes, entry_of, place_of, word_of}
+use Rattle.bundle_index.specs.Entry.{IsEntry, entry_bytes, entry_of, word_of}
 use Rattle.bundle_index.specs.declared.entry.Entry.{Entry}
 
 -- the same bytes at both places

@@ -1,15 +1,14 @@
 -- The bits that are written for a number: they are those of a double of half its value, and the only ones.
 use Rattle.std.proofs.Common.{◌≡◌, ℕ, ◌+◌, ◌-◌, ◌*◌, ◌/◌, ◌%◌, ◌^◌, ◌<◌, ◌≤◌, zero, suc, refl, sym, ap, ◌∙◌, subst, arith, ⊎_elim, ◌⊎◌, inl, inr}
-use Rattle.std.specs.Prelude.{ℤ, pos, negsuc, unsigned_abs, Bool, true, false}
+use Rattle.std.specs.Prelude.{ℤ, pos, negsuc, unsigned_abs, true, false}
 use Rattle.std.specs.Int.Signed.{lt_z}
-use Rattle.std.specs.Int.{w64, leading_zeros}
 use Rattle.std.proofs.lemmas.Nat.{pow-add, pow_pos, leading_top}
 use Rattle.std.proofs.lemmas.Int.{ints}
 use Rattle.std.proofs.lemmas.Bool.{cases_eq, cases_lt, cases_order}
 use Rattle.std.proofs.Math.Nat.{pow-le-pow_right, mul-le-mul_right, mul-mod_left, eq_of_mul-eq-mul_right}
 use Rattle.double_bits.specs.Bits.{top_bit, magnitude_bits, half_bits}
-use Rattle.double_bits.specs.Halves.{HalfDouble, IsTwiceZero, IsTwiceNormal, signed, sign, exponent, fraction}
-use Rattle.double_bits.specs.inside.Magnitude.{IsMagnitude, IsZeroMagnitude, IsNormalMagnitude}
+use Rattle.double_bits.specs.Halves.{HalfDouble, signed, sign, exponent, fraction}
+use Rattle.double_bits.specs.inside.Magnitude.{IsMagnitude}
 use Rattle.double_bits.proofs.Powers.{widened, no_magnitude, magnitude_gives, gives_magnitude, quotient_only, quotient_small}
 use Rattle.double_bits.proofs.Signs.{abs-signed, half_from, half_to}
 

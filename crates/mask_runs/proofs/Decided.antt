@@ -4,7 +4,6 @@ use Rattle.std.proofs.lemmas.Int.{ints}
 use Rattle.std.proofs.lemmas.Bool.{cases_lt, cases_order}
 use Rattle.std.proofs.lemmas.List.{append_assoc, append-nil, length-append, length-drop, take_at, drop_at}
 use Rattle.std.proofs.lemmas.List.Elements.{All-head, All-tail, All-drop}
-use Rattle.byteorder.specs.Endian.{twos_complement}
 use Rattle.mask_runs.specs.Runs.{number_in, spelling, run_content, end_mark, AreJoinedRuns, Runs}
 use Rattle.mask_runs.specs.Fault.{HasRunCount, IsWrongRun, count_cut, count_zero, run_cut, past_end, early_end, end_count, FirstRunFault, in_run, after_end}
 use Rattle.mask_runs.specs.inside.Steps.{TakesRun}

@@ -1,6 +1,5 @@
-use Rattle.std.proofs.Common.{◌≡◌, ℕ, ◌-◌, arith, ap}
-use Rattle.double_bits.specs.Bits.{top_bit}
-use Rattle.double_bits.proofs.HalfBits.{IsShifted, is_shifted}
+use Rattle.std.proofs.Common.{◌-◌, arith, ap}
+use Rattle.double_bits.proofs.HalfBits.{is_shifted}
 use Rattle.double_bits.proofs.halves.bits_of_magnitude.Goals as goal
 
 pub overflow_sub-fraction : goal.overflow_sub-fraction
