@@ -216,6 +216,27 @@ impl Cells {
         Ok(Cells { kind, count, bytes })
     }
 
+    /// The values that bytes stand for, of which there are so many.
+    pub fn of_bytes(
+        alloc: Global,
+        kind: PixelType,
+        count: usize,
+        bytes: &[u8],
+    ) -> Result<Cells, AllocError>
+        requires few { count ≤ 16777216 }
+        requires size { length bytes.now ≡ count * bytes_of kind }
+        ensures { IfOk result (λ c. c
+            ≡ record { kind = kind; values = values_in kind count bytes.now }) }
+    {
+        let mut kept = Vec::with_capacity(alloc, bytes.len())?;
+        kept.extend_from_slice(bytes)?;
+        Ok(Cells {
+            kind,
+            count,
+            bytes: kept,
+        })
+    }
+
     /// The type of the values.
     pub fn kind(&self) -> PixelType
         ensures { result ≡ self.now.kind }
