@@ -1,6 +1,6 @@
 -- The values of all pixels, and those put at the places of marked ones.
 use Rattle.std.proofs.Common.{◌≡◌, ℕ, ◌+◌, ◌-◌, ◌*◌, ◌<◌, ◌≤◌, zero, suc, Bool, true, false, cond, List, [], ◌∷◌, ◌++◌, length, get_or, take, drop, replicate, Option, Some, None, refl, sym, ap, ◌∙◌, subst, arith, ⊎_elim, length-append}
-use Rattle.std.specs.Prelude.{ℤ, pos, All, unwrap_or}
+use Rattle.std.specs.Prelude.{ℤ, pos, All, unwrap_or, is_some}
 use Rattle.std.specs.List.{flat_map}
 use Rattle.std.proofs.lemmas.List.{length-take-le, length-drop, get_or-take, get_or-drop, get_or_append_left, get_or-append_right, length-replicate, get_or-replicate, take-append-drop, ext_get_or}
 use Rattle.std.proofs.lemmas.List.Concat.{flat_map-cons}
@@ -12,15 +12,15 @@ use Rattle.byteorder.specs.Endian.{little_number}
 use Rattle.raster_values.specs.declared.kind.PixelType.{PixelType}
 use Rattle.raster_values.specs.declared.raster.Raster.TheInside.{Inside}
 use Rattle.raster_values.specs.PixelType.{bytes_of, value_of, InRange}
-use Rattle.raster_values.specs.Raster.{Pixels, IsRaster, IsPixel, InShape, IsValidAt}
+use Rattle.raster_values.specs.Raster.{Pixels, IsRaster, IsPixel, IsShape, InShape, IsValidAt, blank, filled}
 use Rattle.raster_values.specs.Grid.{values_bytes}
 use Rattle.raster_values.specs.Flat.{all_values, value_in, PutsAll, AllStand, AllValuesStand, PuttingAllIsOne, AllPutGive}
 use Rattle.raster_values.specs.inside.View.{seen, IsInside, pixels_of}
-use Rattle.raster_values.specs.inside.CellList.{values_in}
+use Rattle.raster_values.specs.inside.CellList.{values_in, CellList}
 use Rattle.raster_values.specs.inside.Runs.{AreRuns}
 use Rattle.raster_values.specs.inside.Ordered.{PutsMarkedBytes}
 use Rattle.raster_values.proofs.Views.{KeepsValues, zero_in_range}
-use Rattle.raster_values.proofs.FlatViews.{with_values, value_flat, mark_flat, same_mask, pours_keep}
+use Rattle.raster_values.proofs.FlatViews.{with_values, value_flat, mark_flat, same_mask, pours_keep, keeps_itself}
 use Rattle.raster_values.proofs.CellBytes.{with_run, values_is, bytes_front, bytes_behind, length-values_in, value_there}
 use Rattle.raster_values.proofs.Spelled.{AreBytes, bytes_of_values, values_fit, value_in-at, bytes_put, put_as_run}
 use Rattle.raster_values.proofs.WholeRuns.{with_run_at, with_run_before, with_run_after}
@@ -252,3 +252,36 @@ all_put_give r old new hr hn same puts =
           ∙ ap (λ m. value_of r.kind (little_number (bytes_of r.kind) (drop ((n' * m + d) * bytes_of r.kind) (values_bytes r.kind vs)))) (sym same.shape.depth)
           ∙ value_there r.kind vs (n' * r.depth + d) fits few ∙ stand.each n' d small' less';
     })
+
+-- ---- a raster made of the bytes of all values
+
+whole_mark : (a : Inside) (n : ℕ) → a.marks ≡ replicate n true → (k : ℕ) → k < n → get_or a.marks k false ≡ true
+whole_mark a n marks k below = ap (λ ms. get_or ms k false) marks ∙ get_or-replicate n k true false below
+
+pub whole_inside : (a : Inside) (kind : PixelType) (bytes : List ℕ) → IsShape a.rows a.cols a.depth → a.marks ≡ replicate (a.rows * a.cols) true
+    → a.values ≡ record { kind = kind; values = values_in kind (a.rows * a.cols * a.depth) bytes } → AreBytes bytes → IsInside a
+whole_inside a kind bytes shape marks values are = record {
+  shape = shape;
+  marks = ap length marks ∙ length-replicate (a.rows * a.cols) true;
+  values = ap (λ (l : CellList). length l.values) values ∙ length-values_in kind (a.rows * a.cols * a.depth) bytes;
+  in_range = subst (λ (l : CellList). All (InRange l.kind) l.values) (sym values) (values_fit kind (a.rows * a.cols * a.depth) bytes are);
+  zeros = λ k d within less off.
+      absurd (false≢true (sym off ∙ whole_mark a (a.rows * a.cols) marks k (omega (arith, within, ap length marks, length-replicate (a.rows * a.cols) true))));
+}
+
+pub whole_puts : (a : Inside) (kind : PixelType) (bytes : List ℕ) → IsInside a → a.marks ≡ replicate (a.rows * a.cols) true
+    → a.values ≡ record { kind = kind; values = values_in kind (a.rows * a.cols * a.depth) bytes } → PutsAll (filled (blank kind a.rows a.cols a.depth) (pos 0)) (seen a) bytes
+whole_puts a kind bytes h marks values = record {
+  same = record {
+    shape = record { kind = sym (ap (λ (l : CellList). l.kind) values); rows = refl; cols = refl; depth = refl };
+    places = λ i j within.
+        let below : i * a.cols + j < a.rows * a.cols = omega (arith, mul-add-lt i a.cols j a.rows within.0 within.1) in
+        mark_flat a (i * a.cols + j) ∙ whole_mark a (a.rows * a.cols) marks (i * a.cols + j) below
+        ∙ sym (ap is_some (get_or-replicate (a.rows * a.cols) (i * a.cols + j) (Some (replicate a.depth (pos 0))) None below));
+  };
+  put = λ k d below valid less.
+      let at : k * a.depth + d < a.rows * a.cols * a.depth = omega (arith, mul-add-lt k a.depth d (a.rows * a.cols) below less) in
+      value_flat a a.values.values k d (keeps_itself a h) (omega (arith, below, h.marks)) less
+      ∙ ap (λ (l : CellList). get_or l.values (k * a.depth + d) (pos 0)) values
+      ∙ value_in-at kind (a.rows * a.cols * a.depth) bytes (k * a.depth + d) at;
+}

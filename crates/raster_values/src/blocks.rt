@@ -6,7 +6,8 @@ ghost use Rattle.raster_values.specs.inside.Runs.{AreRuns, run_places, run_value
 ghost use Rattle.raster_values.specs.Distance.{distance_of};
 ghost use Rattle.lane_kernels.specs.Kernels.{IsLeast, IsGreatest};
 
-use super::cells::Cells;
+use super::cells::{Cells, by_kind};
+use super::kind::PixelType;
 use super::mask::{Mask, Run};
 
 /// Puts the values of the marked pixels among `count` from `from` on behind the first `at` values
@@ -43,8 +44,10 @@ fn gather_run(
 }
 
 /// Puts the distances of the marked pixels among `count` from `from` on behind the first `at` of
-/// `out`, and answers where they end.
+/// `out`, and answers where they end. The type is known before.
+#[inline(always)]
 fn gather_distance_run(
+    kind: PixelType,
     marks: &Mask,
     values: &Cells,
     depth: usize,
@@ -59,6 +62,7 @@ fn gather_distance_run(
     requires within { from + count ≤ length marks.now }
     requires depth { d < depth }
     requires room { at + count ≤ length out.old }
+    requires kind { kind ≡ values.now.kind }
     ensures { Gathers (map (distance_of values.now.kind)
         (run_values depth d marks.now values.now.values from count)) out.old out.new at result }
 {
@@ -68,7 +72,7 @@ fn gather_distance_run(
     while k < end {
         let run = marks.next_run(k, end);
         let next = n + (run.end - run.start);
-        values.get_distances(run.start, depth, d, &mut out[n..next]);
+        values.get_distances_as(kind, run.start, depth, d, &mut out[n..next]);
         n = next;
         k = run.end;
     }
@@ -221,9 +225,43 @@ pub(super) fn gather_distance_rows(
     if marks.is_whole() {
         return values.get_rows(depth, d, cols, row, col, high, wide, out);
     }
+    by_kind!(values.kind(), kind => gather_marked_rows(
+        kind, marks, values, depth, d, cols, row, col, high, wide, out
+    ))
+}
+
+/// Does what `gather_distance_rows` does, for a type that is known before.
+#[inline(always)]
+fn gather_marked_rows(
+    kind: PixelType,
+    marks: &Mask,
+    values: &Cells,
+    depth: usize,
+    d: usize,
+    cols: usize,
+    row: usize,
+    col: usize,
+    high: usize,
+    wide: usize,
+    out: &mut [u32],
+) -> usize
+    requires kind { kind ≡ values.now.kind }
+    requires size { length values.now.values ≡ length marks.now * depth }
+    requires few { length values.now.values ≤ 16777216 }
+    requires across { col + wide ≤ cols }
+    requires rows { row + high ≤ length marks.now }
+    requires within { (row + high) * cols ≤ length marks.now }
+    requires depth { d < depth }
+    requires room { high * wide ≤ length out.old }
+    ensures gathered { Gathers (map (distance_of values.now.kind)
+        (rows_values depth d marks.now values.now.values cols row col high wide))
+        out.old out.new 0 result }
+    ensures within { result ≤ high * wide }
+{
     let mut n = 0;
     for i in row..row + high {
-        n = gather_distance_run(marks, values, depth, d, i * cols + col, wide, out, n);
+        let from = i * cols + col;
+        n = gather_distance_run(kind, marks, values, depth, d, from, wide, out, n);
     }
     n
 }

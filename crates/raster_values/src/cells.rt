@@ -75,6 +75,8 @@ macro_rules! by_kind {
     };
 }
 
+pub(super) use by_kind;
+
 /// Where the bytes of the value at a place begin.
 fn place(kind: PixelType, count: usize, at: usize) -> usize
     requires few { count ≤ 16777216 }
@@ -159,6 +161,34 @@ fn distance_at(kind: PixelType, bytes: &[u8], at: usize) -> u32
     (kind.read_value(here) - kind.least()) as u32
 }
 
+/// The same of the eight values from a place on.
+#[inline(always)]
+fn eight_at(kind: PixelType, bytes: &[u8], at: usize) -> [u32; 8]
+    requires few { at + 8 ≤ 16777216 }
+    requires within { (at + 8) * bytes_of kind ≤ length bytes.now }
+    ensures { result ≡ map (λ k. distance_of kind
+        (value_of kind (little_number (bytes_of kind) (drop (k * bytes_of kind) bytes.now))))
+        (range_with_len at 8) }
+{
+    let mut read = [0; 8];
+    for i in 0..8 {
+        read[i] = distance_at(kind, bytes, at + i);
+    }
+    read
+}
+
+/// Lays eight numbers over as many. It goes one by one, since the numbers are then kept where they
+/// were made.
+#[inline(always)]
+fn lay_eight(numbers: &[u32; 8], out: &mut [u32])
+    requires { length out.old ≡ 8 }
+    ensures { out.new ≡ numbers.now }
+{
+    for i in 0..8 {
+        out[i] = numbers[i];
+    }
+}
+
 /// Takes bytes over those from `from` to `end`, and answers how many.
 fn take_into<S: Source>(
     src: &mut S,
@@ -184,6 +214,27 @@ impl Cells {
     {
         let bytes = zeros(alloc, place(kind, count, count))?;
         Ok(Cells { kind, count, bytes })
+    }
+
+    /// The values that bytes stand for, of which there are so many.
+    pub fn of_bytes(
+        alloc: Global,
+        kind: PixelType,
+        count: usize,
+        bytes: &[u8],
+    ) -> Result<Cells, AllocError>
+        requires few { count ≤ 16777216 }
+        requires size { length bytes.now ≡ count * bytes_of kind }
+        ensures { IfOk result (λ c. c
+            ≡ record { kind = kind; values = values_in kind count bytes.now }) }
+    {
+        let mut kept = Vec::with_capacity(alloc, bytes.len())?;
+        kept.extend_from_slice(bytes)?;
+        Ok(Cells {
+            kind,
+            count,
+            bytes: kept,
+        })
     }
 
     /// The type of the values.
@@ -241,22 +292,10 @@ impl Cells {
     }
 
     /// How far the values at a depth of the pixels from `first` on are above the type's least: of
-    /// the pixels each has `depth` values.
-    pub fn get_distances(&self, first: usize, depth: usize, d: usize, out: &mut [u32])
-        requires few { length self.now.values ≤ 16777216 }
-        requires depth { d < depth }
-        requires within { (first + length out.old) * depth ≤ length self.now.values }
-        ensures { out.new ≡ map (λ k. distance_of self.now.kind
-            (get_or self.now.values (k * depth + d) (pos 0)))
-            (range_with_len first (length out.old)) }
-    {
-        by_kind!(self.kind, kind => self.get_distances_as(kind, first, depth, d, out))
-    }
-
-    /// Does what `get_distances` does, for a type that is known before. Without a second depth
-    /// values stand side by side, which the compiler is to know.
+    /// the pixels each has `depth` values. Without a second depth values stand side by side, which
+    /// the compiler is to know, as it is the type.
     #[inline(always)]
-    fn get_distances_as(
+    pub fn get_distances_as(
         &self,
         kind: PixelType,
         first: usize,
@@ -272,14 +311,31 @@ impl Cells {
             (get_or self.now.values (k * depth + d) (pos 0)))
             (range_with_len first (length out.old)) }
     {
-        if depth == 1 {
+        if depth == 1 && out.len() == 8 {
+            self.get_eight_as(kind, first, out);
+        } else if depth == 1 {
             self.get_steps_as(kind, first, 1, d, out);
         } else {
             self.get_steps_as(kind, first, depth, d, out);
         }
     }
 
-    /// Does what `get_distances` does, for a type that is known before.
+    /// Does what `get_distances_as` does, for eight pixels of one value: all are read before any is
+    /// written, so that the compiler may take them together.
+    #[inline(always)]
+    fn get_eight_as(&self, kind: PixelType, first: usize, out: &mut [u32])
+        requires kind { kind ≡ self.now.kind }
+        requires few { length self.now.values ≤ 16777216 }
+        requires eight { length out.old ≡ 8 }
+        requires within { first + 8 ≤ length self.now.values }
+        ensures { out.new ≡ map (λ k. distance_of self.now.kind (get_or self.now.values k (pos 0)))
+            (range_with_len first 8) }
+    {
+        let read = eight_at(kind, self.bytes.as_slice(), first);
+        lay_eight(&read, out);
+    }
+
+    /// Does what `get_distances_as` does, one pixel after the other.
     #[inline(always)]
     fn get_steps_as(&self, kind: PixelType, first: usize, depth: usize, d: usize, out: &mut [u32])
         requires kind { kind ≡ self.now.kind }
@@ -298,6 +354,7 @@ impl Cells {
 
     /// The same of `high` rows of `wide` pixels from (row, col) on, one row behind the other in
     /// front of `out`, where each row of all pixels has `cols`. Answers how many these are.
+    #[inline(never)]
     pub fn get_rows(
         &self,
         depth: usize,
@@ -322,9 +379,42 @@ impl Cells {
         by_kind!(self.kind, kind => self.get_rows_as(kind, depth, d, cols, row, col, high, wide, out))
     }
 
-    /// Does what `get_rows` does, for a type that is known before.
+    /// Does what `get_rows` does, for a type that is known before, and for rows of eight pixels as
+    /// such.
     #[inline(always)]
     fn get_rows_as(
+        &self,
+        kind: PixelType,
+        depth: usize,
+        d: usize,
+        cols: usize,
+        row: usize,
+        col: usize,
+        high: usize,
+        wide: usize,
+        out: &mut [u32],
+    ) -> usize
+        requires kind { kind ≡ self.now.kind }
+        requires few { length self.now.values ≤ 16777216 }
+        requires across { col + wide ≤ cols }
+        requires rows { row + high ≤ 16777216 }
+        requires within { (row + high) * cols * depth ≤ length self.now.values }
+        requires depth { d < depth }
+        requires room { high * wide ≤ length out.old }
+        ensures gathered { Gathers (map (distance_of self.now.kind)
+            (whole_rows depth d self.now.values cols row col high wide)) out.old out.new 0 result }
+        ensures all { result ≡ high * wide }
+    {
+        if wide == 8 {
+            self.get_lines_as(kind, depth, d, cols, row, col, high, 8, out)
+        } else {
+            self.get_lines_as(kind, depth, d, cols, row, col, high, wide, out)
+        }
+    }
+
+    /// Does what `get_rows` does, for a type that is known before.
+    #[inline(always)]
+    fn get_lines_as(
         &self,
         kind: PixelType,
         depth: usize,
@@ -374,6 +464,7 @@ impl Cells {
     }
 
     /// How far the least and the greatest of these values are above the type's least.
+    #[inline(never)]
     fn ends(&self, first: usize, count: usize, depth: usize, d: usize) -> (u32, u32)
         requires few { length self.now.values ≤ 16777216 }
         requires some { 0 < count }

@@ -3,7 +3,7 @@ ghost use Rattle.std.specs.List.{count_by};
 ghost use Rattle.outside_io.specs.streams.Faults.{CountsFaults};
 ghost use Rattle.outside_io.specs.streams.Sink.{Holds, HoldsPrefix};
 ghost use Rattle.raster_values.specs.PixelType.{InRange, bytes_of};
-ghost use Rattle.raster_values.specs.Raster.{IsRaster, HasZero, IsTooLarge, blank, filled, values_of, valid_count, valid_at, value_at, marked, written, InShape, IsValidAt};
+ghost use Rattle.raster_values.specs.Raster.{IsRaster, HasZero, IsTooLarge, blank, filled, values_of, valid_count, valid_at, value_at, marked, written, InShape, IsShape, IsValidAt};
 ghost use Rattle.raster_values.specs.Places.{SameShape, ChangesMark, ChangesValue};
 ghost use Rattle.raster_values.specs.Grid.{grid_marks, values_bytes};
 ghost use Rattle.raster_values.specs.Order.{FillsValid, IsMaskOf, MarksBits, PoursBytes, mask_bit};
@@ -95,6 +95,26 @@ fn edge(side: u32, from: u32, size: u32) -> u32
     side.min(size - from)
 }
 
+/// How many pixels a raster of a shape has.
+fn places_of(rows: u32, cols: u32, depth: u32) -> Result<usize, ShapeFault>
+    ensures ok { IfOk result (λ places. (places ≡ rows * cols) × IsShape rows cols depth) }
+    ensures bad_size { IsErrOf result ShapeFault.BadSize ↔ HasZero rows cols depth }
+    ensures too_large { IsErrOf result ShapeFault.TooLarge
+        ↔ (¬ HasZero rows cols depth × IsTooLarge rows cols depth) }
+{
+    if rows == 0 || cols == 0 || depth == 0 {
+        return Err(ShapeFault::BadSize);
+    }
+    if depth > 65536 {
+        return Err(ShapeFault::TooLarge);
+    }
+    let places = rows as u64 * cols as u64;
+    if places > 16777216 || places * depth as u64 > 16777216 {
+        return Err(ShapeFault::TooLarge);
+    }
+    Ok(places as usize)
+}
+
 impl Raster {
     /// A raster of which no pixel is valid.
     ///
@@ -112,18 +132,41 @@ impl Raster {
         ensures too_large { IsErrOf result ShapeFault.TooLarge
             ↔ (¬ HasZero rows cols depth × IsTooLarge rows cols depth) }
     {
-        if rows == 0 || cols == 0 || depth == 0 {
-            return Err(ShapeFault::BadSize);
-        }
-        if depth > 65536 {
-            return Err(ShapeFault::TooLarge);
-        }
-        let places = rows as u64 * cols as u64;
-        if places > 16777216 || places * depth as u64 > 16777216 {
-            return Err(ShapeFault::TooLarge);
-        }
-        let marks = Mask::new(alloc, places as usize)?;
-        let values = Cells::new(alloc, kind, places as usize * depth as usize)?;
+        let places = places_of(rows, cols, depth)?;
+        let marks = Mask::new(alloc, places)?;
+        let values = Cells::new(alloc, kind, places * depth as usize)?;
+        Ok(Raster {
+            rows,
+            cols,
+            depth,
+            marks,
+            values,
+        })
+    }
+
+    /// A raster of which every pixel is valid, with the values that the bytes stand for: they are
+    /// laid out as those of `cells`, and copied once.
+    ///
+    /// It takes the memory that `new` takes. After a fault no memory is kept.
+    pub fn from_cells(
+        alloc: Global,
+        kind: PixelType,
+        rows: u32,
+        cols: u32,
+        depth: u32,
+        bytes: &[u8],
+    ) -> Result<Raster, ShapeFault>
+        requires { length bytes.now ≡ rows * cols * depth * bytes_of kind }
+        ensures ok { IfOk result (λ r. IsRaster r
+            × PutsAll (filled (blank kind rows cols depth) (pos 0)) r bytes.now) }
+        ensures bad_size { IsErrOf result ShapeFault.BadSize ↔ HasZero rows cols depth }
+        ensures too_large { IsErrOf result ShapeFault.TooLarge
+            ↔ (¬ HasZero rows cols depth × IsTooLarge rows cols depth) }
+    {
+        let places = places_of(rows, cols, depth)?;
+        let mut marks = Mask::new(alloc, places)?;
+        marks.fill();
+        let values = Cells::of_bytes(alloc, kind, places * depth as usize, bytes)?;
         Ok(Raster {
             rows,
             cols,

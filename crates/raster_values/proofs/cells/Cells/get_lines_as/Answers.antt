@@ -5,8 +5,8 @@ use Rattle.std.proofs.lemmas.List.{length-take-le, length-drop}
 use Rattle.std.proofs.Math.Nat.{mul-le-mul_right}
 use Rattle.raster_values.specs.Distance.{distance_of}
 use Rattle.raster_values.proofs.CellDistances.{next_row, row_fits, row_within, rows_pushed}
-use Rattle.raster_values.proofs.cells.Cells.get_rows_as.Goals as goal
-use Rattle.raster_values.proofs.cells.Cells.get_rows_as.Goals.{In-loop-i}
+use Rattle.raster_values.proofs.cells.Cells.get_lines_as.Goals as goal
+use Rattle.raster_values.proofs.cells.Cells.get_lines_as.Goals.{In-loop-i}
 
 pub overflow_add-row : goal.overflow_add-row
 overflow_add-row c = let some : c.args.row + c.loop-i.i ≤ 16777216 = omega arith in search rules

@@ -1,7 +1,7 @@
 use Rattle.std.proofs.Common.{◌≤◌, ◌-◌, ◌*◌, map}
 use Rattle.raster_values.specs.Distance.{distance_of}
 use Rattle.raster_values.specs.inside.Runs.{rows_values, Gathers}
-use Rattle.raster_values.proofs.blocks.gather_distance_rows.Given as goal
+use Rattle.raster_values.proofs.blocks.gather_marked_rows.Given as goal
 
 abbrev pub invariant-loop-i : goal.invariant-loop-i
 invariant-loop-i l = record {

@@ -1,7 +1,7 @@
 use Rattle.std.proofs.Common.{◌≡◌, ◌*◌, map}
 use Rattle.raster_values.specs.Distance.{distance_of}
 use Rattle.raster_values.specs.inside.Runs.{whole_rows, Gathers}
-use Rattle.raster_values.proofs.cells.Cells.get_rows_as.Given as goal
+use Rattle.raster_values.proofs.cells.Cells.get_lines_as.Given as goal
 
 abbrev pub invariant-loop-i : goal.invariant-loop-i
 invariant-loop-i l = record {
