@@ -1,3 +1,4 @@
+mod distances;
 mod reading;
 mod writing;
 
