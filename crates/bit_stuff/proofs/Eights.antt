@@ -1,8 +1,8 @@
 -- Groups of values, and their bytes.
 use Rattle.std.proofs.Common.{◌≡◌, ℕ, ◌+◌, ◌-◌, ◌*◌, ◌/◌, ◌%◌, ◌^◌, ◌<◌, ◌≤◌, List, [], ◌++◌, length, get_or, take, refl, sym, ap, ◌∙◌, arith}
-use Rattle.std.proofs.lemmas.Nat.{pow-add, shl_whole, shr_below, shr_split}
+use Rattle.std.proofs.lemmas.Nat.{mod_low, one_shl, pow-add, pow_pos, shl_whole, shr_below, shr_high, shr_split}
 use Rattle.std.proofs.lemmas.List.{length-take-le}
-use Rattle.std.proofs.Math.Nat.{mul-le-mul_left}
+use Rattle.std.proofs.Math.Nat.{mod-lt, mul-le-mul_left}
 use borrow.Rule.Slice.PartMut.{put_mid}
 use Rattle.byteorder.specs.Endian.{little_bytes}
 use Rattle.bit_stuff.specs.Stuffed.{number_of_bytes, number_of_values}
@@ -50,12 +50,37 @@ pub group_put : (w : ℕ) (vs : List ℕ) (i at g before after : ℕ) → 8 * at
 group_put w vs i at g before after place e group done =
     done ∙ ap (λ (m : ℕ). before + 2 ^ m * g) place ∙ ap (λ (m : ℕ). m + 2 ^ (w * i) * g) e ∙ sym group.joined
 
--- a number in two words
-pub words_put : (at g first after before : ℕ) → first ≡ before + 2 ^ (8 * at) * (g % 2 ^ 64) → after ≡ first + 2 ^ (8 * (at + 8)) * (g / 2 ^ 64) → after ≡ before + 2 ^ (8 * at) * g
-words_put at g first after before p q =
-    let longer : 8 * (at + 8) ≡ 8 * at + 64 = omega arith in
-    let power : 2 ^ (8 * (at + 8)) ≡ 2 ^ (8 * at) * 2 ^ 64 = ap (λ (k : ℕ). 2 ^ k) longer ∙ pow-add 2 (8 * at) 64 in
-    q ∙ ap (λ (m : ℕ). first + m * (g / 2 ^ 64)) power ∙ omega (arith, p, ap (λ (n : ℕ). 2 ^ (8 * at) * n) (shr_split g 64))
+-- a number in two parts
+pub parts_put : (at k g first after before : ℕ) → first ≡ before + 2 ^ (8 * at) * (g % 2 ^ (8 * k)) → after ≡ first + 2 ^ (8 * (at + k)) * (g / 2 ^ (8 * k)) → after ≡ before + 2 ^ (8 * at) * g
+parts_put at k g first after before p q =
+    let longer : 8 * (at + k) ≡ 8 * at + 8 * k = omega arith in
+    let power : 2 ^ (8 * (at + k)) ≡ 2 ^ (8 * at) * 2 ^ (8 * k) = ap (λ (n : ℕ). 2 ^ n) longer ∙ pow-add 2 (8 * at) (8 * k) in
+    q ∙ ap (λ (m : ℕ). first + m * (g / 2 ^ (8 * k))) power ∙ omega (arith, p, ap (λ (n : ℕ). 2 ^ (8 * at) * n) (shr_split g (8 * k)))
+
+-- what is above the first k bytes has the bits above them
+pub above_part : (g n k : ℕ) → k ≤ n → g < 2 ^ (8 * n) → g / 2 ^ (8 * k) < 2 ^ (8 * (n - k))
+above_part g n k wide fits =
+    let parts : 8 * n ≡ 8 * (n - k) + 8 * k = omega (arith, wide) in
+    shr_below g (8 * (n - k)) (8 * k) (rw (← parts) fits)
+
+pub part-lt : (g k : ℕ) → g % 2 ^ (8 * k) < 2 ^ (8 * k)
+part-lt g k = mod-lt g (pow_pos (8 * k))
+
+-- two numbers joined by a shift, cut below the joint
+pub joint : (low high s t w : ℕ) → s + t ≡ w → low + high * 2 ^ w ≡ (low / 2 ^ s + high * 2 ^ t) * 2 ^ s + low % 2 ^ s
+joint low high s t w e =
+    let power : 2 ^ w ≡ 2 ^ s * 2 ^ t = ap (λ (k : ℕ). 2 ^ k) (sym e) ∙ pow-add 2 s t in
+    ap (λ (n : ℕ). low + high * n) power ∙ omega (arith, shr_split low s)
+
+pub joint_above : (low high s t w m : ℕ) → s + t ≡ w → high < 2 ^ w → w + t ≤ m → low / 2 ^ s + high * 2 ^ t % 2 ^ m ≡ (low + high * 2 ^ w) / 2 ^ s
+joint_above low high s t w m e below fits =
+    ap (λ (n : ℕ). low / 2 ^ s + n) (shl_whole high w t m below fits)
+    ∙ sym (ap (λ (n : ℕ). n / 2 ^ s) (joint low high s t w e) ∙ shr_high (low / 2 ^ s + high * 2 ^ t) s (low % 2 ^ s) (mod-lt low (pow_pos s)))
+
+pub joint_below : (low high s t w m : ℕ) → s + t ≡ w → s < m → low % (1 * 2 ^ s % 2 ^ m) ≡ (low + high * 2 ^ w) % 2 ^ s
+joint_below low high s t w m e fits =
+    ap (λ (n : ℕ). low % n) (one_shl s m fits)
+    ∙ sym (ap (λ (n : ℕ). n % 2 ^ s) (joint low high s t w e) ∙ mod_low (low / 2 ^ s + high * 2 ^ t) s (low % 2 ^ s) (mod-lt low (pow_pos s)))
 
 -- whole eights lie within the bytes
 pub eights_within : (n w k : ℕ) → 8 * k + 8 ≤ n → w * k + w ≤ (n * w + 7) / 8
@@ -73,8 +98,29 @@ group_shifted w vs i k g h s m e fits a b =
 pub nothing_put : (w n : ℕ) (vs out : List ℕ) → n ≡ 0 → number_of_bytes (take n out) ≡ number_of_values w []
 nothing_put w n vs out e = ap (λ (k : ℕ). number_of_bytes (take k out)) e ∙ number-nil ∙ sym (values-nil w)
 
--- what is above the first word has the bits above it
-pub above_word : (g w : ℕ) → 8 ≤ w → g < 2 ^ (w * 8) → g / 2 ^ 64 < 2 ^ (8 * (w - 8))
-above_word g w wide fits =
-    let parts : w * 8 ≡ 8 * (w - 8) + 64 = omega (arith, wide) in
-    shr_below g (8 * (w - 8)) 64 (rw (← parts) fits)
+-- ---- eight values by fours
+
+fours : (w : ℕ) (vs : List ℕ) (i low high : ℕ) → IsGroup w vs i 4 low → IsGroup w vs (i + 4) 4 high → IsGroup w vs i 8 (low + high * 2 ^ (w * 4))
+fours w vs i low high a b = group_joined w vs i (i + 4) 4 8 low high refl refl a b
+
+fours_above : (w : ℕ) (vs : List ℕ) (i low high : ℕ) → w ≤ 31 → IsGroup w vs (i + 4) 4 high
+    → low / 2 ^ (8 * (w / 2)) + high * 2 ^ (4 * w - 8 * (w / 2)) % 2 ^ 128 ≡ (low + high * 2 ^ (w * 4)) / 2 ^ (8 * (w / 2))
+fours_above w vs i low high narrow b = joint_above low high (8 * (w / 2)) (4 * w - 8 * (w / 2)) (w * 4) 128 (omega arith) b.fits (omega arith)
+
+pub fours_rest : (w : ℕ) (vs : List ℕ) (i low high : ℕ) → w ≤ 31 → IsGroup w vs i 4 low → IsGroup w vs (i + 4) 4 high
+    → low / 2 ^ (8 * (w / 2)) + high * 2 ^ (4 * w - 8 * (w / 2)) % 2 ^ 128 < 2 ^ (8 * (w - w / 2))
+fours_rest w vs i low high narrow a b =
+    let turned : w * 8 ≡ 8 * w = omega arith in
+    let whole : low + high * 2 ^ (w * 4) < 2 ^ (8 * w) = rw (← turned) (fours w vs i low high a b).fits in
+    rw (fours_above w vs i low high narrow b) (above_part (low + high * 2 ^ (w * 4)) w (w / 2) (omega arith) whole)
+
+pub fours_put : (w : ℕ) (vs : List ℕ) (i at low high first after before : ℕ) → w ≤ 31 → IsGroup w vs i 4 low → IsGroup w vs (i + 4) 4 high
+    → 8 * at ≡ w * i → before ≡ number_of_values w (take i vs)
+    → first ≡ before + 2 ^ (8 * at) * (low % (1 * 2 ^ (8 * (w / 2)) % 2 ^ 128))
+    → after ≡ first + 2 ^ (8 * (at + w / 2)) * (low / 2 ^ (8 * (w / 2)) + high * 2 ^ (4 * w - 8 * (w / 2)) % 2 ^ 128)
+    → after ≡ number_of_values w (take (i + 8) vs)
+fours_put w vs i at low high first after before narrow a b place e p q =
+    let g : ℕ = low + high * 2 ^ (w * 4) in
+    let under : low % (1 * 2 ^ (8 * (w / 2)) % 2 ^ 128) ≡ g % 2 ^ (8 * (w / 2)) = joint_below low high (8 * (w / 2)) (4 * w - 8 * (w / 2)) (w * 4) 128 (omega arith) (omega arith) in
+    group_put w vs i at g before after place e (fours w vs i low high a b)
+    (parts_put at (w / 2) g first after before (p ∙ ap (λ (n : ℕ). before + 2 ^ (8 * at) * n) under) (q ∙ ap (λ (n : ℕ). first + 2 ^ (8 * (at + w / 2)) * n) (fours_above w vs i low high narrow b)))

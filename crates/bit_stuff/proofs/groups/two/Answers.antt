@@ -4,7 +4,7 @@ use Rattle.bit_stuff.proofs.Eights.{group_one, group_shifted}
 use Rattle.bit_stuff.proofs.groups.two.Goals as goal
 
 -- widened values are the values
-joined : (w : ℕ) (vs : List ℕ) (i a b : ℕ) → w ≤ 16 → i + 2 ≤ length vs → ((k : ℕ) → k < length vs → get_or vs k 0 < 2 ^ w) → a ≡ get_or vs i 0 → b ≡ get_or vs (i + 1) 0
+joined : (w : ℕ) (vs : List ℕ) (i a b : ℕ) → w ≤ 31 → i + 2 ≤ length vs → ((k : ℕ) → k < length vs → get_or vs k 0 < 2 ^ w) → a ≡ get_or vs i 0 → b ≡ get_or vs (i + 1) 0
     → IsGroup w vs i 2 (a + b * 2 ^ w % 2 ^ 64)
 joined w vs i a b narrow there below p q =
     rw (p, q) (group_shifted w vs i 1 (get_or vs i 0) (get_or vs (i + 1) 0) w 64 (omega arith) (omega arith)
