@@ -1,7 +1,6 @@
-use Rattle.std.proofs.Common.{◌≡◌, ℕ, ◌+◌, ◌-◌, ◌*◌, ◌/◌, ◌%◌, ◌<◌, ◌≤◌, ◌^◌, Bool, List, ◌++◌, length, get_or, take, drop, refl, ap, ◌∙◌, sym, subst, arith}
-use Rattle.huff_codes.specs.Codes.{code_at}
+use Rattle.std.proofs.Common.{◌≡◌, ℕ, ◌+◌, ◌-◌, ◌*◌, ◌/◌, ◌<◌, ◌≤◌, Bool, List, ◌++◌, length, get_or, take, drop, refl, ap, ◌∙◌, sym, subst, arith}
 use Rattle.huff_codes.specs.Words.{joined_codes}
-use Rattle.huff_codes.specs.inside.Filling.{IsLoose, IsPending, IsNumbered, no_number}
+use Rattle.huff_codes.specs.inside.Filling.{IsLoose, IsPending, no_number}
 use Rattle.huff_codes.specs.inside.Stored.{codes_held}
 use Rattle.huff_codes.proofs.Filling.{cleared, filled}
 use Rattle.huff_codes.proofs.Pushing.{joined_two, loose_bits, loose_none, numbered_at, one_within}

@@ -1,4 +1,4 @@
-use Rattle.std.proofs.Common.{rules, ◌≡◌, ℕ, ◌+◌, ◌*◌, ◌%◌, ◌^◌, ◌<◌, ◌≤◌, ap, ◌∙◌, sym, subst, arith}
+use Rattle.std.proofs.Common.{rules, ◌≡◌, ℕ, ◌+◌, ◌*◌, ◌%◌, ◌^◌, ◌<◌, ◌≤◌, ap, ◌∙◌, sym, subst}
 use Rattle.huff_codes.specs.Bits.{bits_of}
 use Rattle.huff_codes.proofs.Windows.{bits-append}
 use Rattle.huff_codes.proofs.Pushing.{pair_fits, pair_small, pair_value}

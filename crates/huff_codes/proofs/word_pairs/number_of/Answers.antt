@@ -1,4 +1,4 @@
-use Rattle.std.proofs.Common.{◌≡◌, ◌-◌, ◌/◌, ◌<◌, ◌^◌, sym, ap, ◌∙◌, subst, arith}
+use Rattle.std.proofs.Common.{◌≡◌, ◌-◌, ◌/◌, ◌<◌, ◌^◌, sym, ap, ◌∙◌, subst}
 use Rattle.huff_codes.specs.Bits.{bits_of}
 use Rattle.huff_codes.proofs.Filling.{code_low, code_number_bits}
 use Rattle.huff_codes.proofs.word_pairs.number_of.Goals as goal

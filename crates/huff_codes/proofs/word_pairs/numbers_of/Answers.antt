@@ -1,8 +1,7 @@
-use Rattle.std.proofs.Common.{◌≡◌, ◌≢◌, ℕ, ◌+◌, ◌<◌, Bool, List, length, get_or, slice_set, sym, subst, ◌∙◌, arith, below_more}
+use Rattle.std.proofs.Common.{◌≢◌, ◌<◌, Bool, List, get_or, slice_set, sym, subst, ◌∙◌, arith, below_more}
 use Rattle.std.proofs.lemmas.List.{get_or-set_same, get_or-set_other}
 use Rattle.std.proofs.Math.ListN.{length-set}
 use Rattle.huff_codes.specs.Codes.{code_at}
-use Rattle.huff_codes.specs.declared.word_pairs.CodeNumber.{CodeNumber}
 use Rattle.huff_codes.specs.inside.Filling.{IsNumbered, no_number}
 use Rattle.huff_codes.specs.inside.Spans.{no_code}
 use Rattle.huff_codes.specs.inside.Stored.{codes_held}

@@ -1,4 +1,3 @@
-use Rattle.std.proofs.Common.{◌≡◌, ◌+◌, ◌%◌, ◌/◌, ◌^◌, sym, ap, ◌∙◌, arith}
 use Rattle.huff_codes.proofs.Pushing.{loose_push}
 use Rattle.huff_codes.proofs.word_pairs.push.Goals as goal
 
