@@ -1,21 +1,21 @@
 -- Full rasters of one depth, byte by byte.
-use Rattle.std.proofs.Common.{◌≡◌, ◌≢◌, ℕ, zero, suc, ℤ, pos, negsuc, ◌+ℤ◌, ◌-ℤ◌, ◌≤ℤ◌, ◌+◌, ◌-◌, ◌*◌, ◌%◌, ◌<◌, ◌≤◌, Bool, true, false, cond, nat_lt, nat_le, List, [], ◌∷◌, ◌++◌, length, get_or, map, refl, sym, ap, ◌∙◌, subst, arith, ◌⊎◌, inl, inr, add-one}
+use Rattle.std.proofs.Common.{◌≡◌, ◌≢◌, ℕ, zero, suc, ℤ, pos, negsuc, ◌+ℤ◌, ◌-ℤ◌, ◌≤ℤ◌, ◌+◌, ◌-◌, ◌*◌, ◌%◌, ◌<◌, ◌≤◌, Bool, true, false, cond, nat_lt, nat_le, List, [], ◌∷◌, ◌++◌, length, get_or, map, refl, sym, ap, ◌∙◌, arith, ◌⊎◌, inl, inr, add-one}
 use Rattle.std.specs.Prelude.{unsigned_abs, ◌&&◌, is_some}
 use Rattle.std.proofs.lemmas.Bool.{cases_lt, leb-true, le-leb}
 use Rattle.std.proofs.lemmas.Bool.Decides.{nat_tests}
 use Rattle.std.proofs.lemmas.Int.{ints}
-use Rattle.std.proofs.lemmas.List.{get_or-map, length-map}
+use Rattle.std.proofs.lemmas.List.{get_or-map}
 use Rattle.std.proofs.lemmas.List.Concat.{flat_map-cons}
 use Rattle.std.proofs.lemmas.List.Sums.{count_by-le-length}
 use Rattle.std.proofs.Math.Nat.{mod-add-mod, mod-eq_of_lt, mul-le-mul, mul-le-mul_left, mul-mod_left, add-mod_right}
 use Rattle.raster_values.specs.declared.kind.PixelType.{PixelType}
 use Rattle.raster_values.specs.declared.kind.PixelType.TheVariants.{I8, U8, I16, U16, I32, U32}
-use Rattle.raster_values.specs.PixelType.{InRange, bytes_of, value_bytes, complement_of}
+use Rattle.raster_values.specs.PixelType.{InRange, bytes_of, value_bytes}
 use Rattle.raster_values.specs.Raster.{Pixels, IsRaster, valid_count}
 use Rattle.raster_values.specs.Flat.{AllStand, all_values, value_in}
 use Rattle.raster_values.specs.Grid.{values_bytes}
 use Rattle.delta_mode.specs.Symbols.{IsByteType, bias, symbol_of}
-use Rattle.delta_mode.specs.Deltas.{delta, deltas, has_left, has_upper, is_valid, last_value, predictor}
+use Rattle.delta_mode.specs.Deltas.{deltas, is_valid, last_value, predictor}
 use Rattle.delta_mode.specs.inside.Pieces.{rank, AreCoded}
 use Rattle.delta_mode.specs.inside.Bytewise.{byte_of, wrapped, byte_above, byte_before}
 use Rattle.delta_mode.proofs.Marks.{value_in_range, zero_in_range}

@@ -1,31 +1,31 @@
 -- Rasters with given symbols.
-use Rattle.std.proofs.Common.{◌≡◌, ◌≢◌, ℕ, zero, suc, ℤ, pos, negsuc, ◌+ℤ◌, ◌-ℤ◌, ◌≤ℤ◌, ◌+◌, ◌-◌, ◌*◌, ◌%◌, ◌<◌, ◌≤◌, Bool, true, false, cond, List, [], ◌∷◌, ◌++◌, length, get_or, map, nat_eq, refl, sym, ap, ◌∙◌, subst, arith, inl, inr, add-one}
-use Rattle.std.specs.Prelude.{is_some, None, Some, Option, unwrap_or, All, unsigned_abs}
+use Rattle.std.proofs.Common.{◌≡◌, ℕ, zero, suc, ℤ, pos, negsuc, ◌+ℤ◌, ◌-ℤ◌, ◌+◌, ◌*◌, ◌%◌, ◌<◌, Bool, true, false, cond, List, [], ◌∷◌, ◌++◌, length, get_or, map, nat_eq, refl, sym, ap, ◌∙◌, subst, arith, inl, inr, add-one}
+use Rattle.std.specs.Prelude.{is_some, None, Option, All, unsigned_abs}
 use Rattle.std.specs.List.{filter, range_with_len, count_by}
 use Rattle.std.specs.Int.{int_rem_euclid}
-use Rattle.std.proofs.lemmas.Bool.{cases_Bool, cases_lt, cases_eq}
+use Rattle.std.proofs.lemmas.Bool.{cases_Bool, cases_lt}
 use Rattle.std.proofs.lemmas.Bool.Decides.{nat_tests}
 use Rattle.std.proofs.lemmas.Int.{ints, int_rem_euclid_is}
-use Rattle.std.proofs.lemmas.List.{map-append, length-map, get_or-map, get_or_past, get_or_append_left, get_or-append-add, length-append, ext_get_or}
+use Rattle.std.proofs.lemmas.List.{length-map, get_or-map, get_or_past, get_or_append_left, get_or-append-add, length-append, ext_get_or}
 use Rattle.std.proofs.lemmas.List.Elements.{filter-append, All-from_get_or, All-get_or}
 use Rattle.std.proofs.lemmas.List.Sums.{sum_by-cons}
 use Rattle.raster_values.specs.declared.kind.PixelType.{PixelType}
 use Rattle.raster_values.specs.declared.kind.PixelType.TheVariants.{I8, U8, I16, U16, I32, U32}
-use Rattle.raster_values.specs.PixelType.{InRange, bytes_of}
-use Rattle.raster_values.specs.Raster.{Pixels, IsRaster, IsPixel, values_of, valid_count}
+use Rattle.raster_values.specs.PixelType.{InRange}
+use Rattle.raster_values.specs.Raster.{Pixels, IsRaster, values_of, valid_count}
 use Rattle.raster_values.specs.Places.{SameShape}
 use Rattle.raster_values.specs.Block.{SameMask}
-use Rattle.raster_values.specs.Flat.{value_in, marks_of, revalued, ChangesValues, pixels_with, HasInOrder}
+use Rattle.raster_values.specs.Flat.{value_in, marks_of, revalued, pixels_with}
 use Rattle.raster_values.proofs.Revalued.{may_change, in_order_there}
 use Rattle.raster_values.proofs.Deep.{raster_deep, length-values_of}
 use Rattle.delta_mode.specs.Symbols.{IsByteType, bias, symbol_of, number_of}
-use Rattle.delta_mode.specs.Deltas.{predictor, delta, deltas_from, is_valid, AreDeltas, ArePlain, TakesDeltas, TakesPlain}
+use Rattle.delta_mode.specs.Deltas.{predictor, delta, is_valid, AreDeltas}
 use Rattle.delta_mode.specs.Laws.{AreSymbols, DepthIsThere, RasterIsThere, PlainIsThere, DeltasAreSymbols, PlainAreSymbols}
-use Rattle.delta_mode.specs.inside.Pieces.{rank, biased, IsSmall, value_of_place, AreCoded}
+use Rattle.delta_mode.specs.inside.Pieces.{rank, value_of_place, AreCoded}
 use Rattle.delta_mode.proofs.Predictors.{predictor_has, predictor_same, range_more, from-is}
 use Rattle.delta_mode.proofs.Marks.{zero_in_range, value_in_range}
 use Rattle.delta_mode.proofs.Kernels.{small, small_bias, symbol-by, value_symbol}
-use Rattle.delta_mode.proofs.Pieces.{rank_below, rank_on, rank_off}
+use Rattle.delta_mode.proofs.Pieces.{rank_below}
 use Rattle.delta_mode.proofs.WholeDepth.{rank_all, coded_all}
 use Rattle.delta_mode.proofs.Numbers.{symbol-is}
 use Rattle.delta_mode.proofs.Turning.{same_mark}

@@ -29,5 +29,6 @@ pub mod ChosenRuns
 pub mod ChosenTables
 pub mod Counted
 pub mod Tallies
+mod Pushing
 pub mod Once
 mod Lookups

@@ -1,12 +1,11 @@
 -- Symbols found by the first eleven bits, and the window of 64 bits that these are taken from.
-use Rattle.std.proofs.Common.{◌≡◌, ℕ, zero, suc, ◌+◌, ◌-◌, ◌*◌, ◌/◌, ◌%◌, ◌^◌, ◌<◌, ◌≤◌, Bool, List, [], ◌∷◌, ◌++◌, length, get_or, take, drop, slice_set, refl, sym, ap, ◌∙◌, subst, inl, inr, arith}
+use Rattle.std.proofs.Common.{◌≡◌, ℕ, ◌+◌, ◌-◌, ◌*◌, ◌/◌, ◌%◌, ◌^◌, ◌<◌, ◌≤◌, Bool, List, [], ◌∷◌, ◌++◌, length, get_or, take, drop, slice_set, sym, ap, ◌∙◌, subst, inl, inr, arith}
 use Rattle.std.specs.Prelude.{All}
-use Rattle.std.proofs.lemmas.Bool.{cases_lt, cases_eq}
-use Rattle.std.proofs.lemmas.List.{length-append, length-set, length-take-le, length-drop, take_at, take-take, take-append-drop, take-append-le, drop-append-le, drop-take, drop-drop, drop_at, append_assoc, append-nil, take_more_set, get_or-set_same, get_or-set_other}
+use Rattle.std.proofs.lemmas.Bool.{cases_eq}
+use Rattle.std.proofs.lemmas.List.{length-append, length-set, length-take-le, length-drop, take-take, take-append-drop, take-append-le, drop-append-le, drop-take, drop-drop, drop_at, append_assoc, append-nil, take_more_set, get_or-set_same, get_or-set_other}
 use Rattle.std.proofs.lemmas.List.Elements.{All-nil, All-push, All-append}
 use Rattle.std.proofs.Math.Seq.{take-append-add}
-use Rattle.std.proofs.lemmas.Nat.{pow-add, pow_pos, shr-shr, shr_high, shr_below, shr_split, mod_low, field_of}
-use Rattle.std.proofs.Math.Nat.{lt_of_mul-lt-mul_right}
+use Rattle.std.proofs.lemmas.Nat.{pow-add, pow_pos, shr_high, shr_below, shr_split, mod_low, field_of}
 use Rattle.byteorder.specs.Endian.{little_number}
 use Rattle.huff_codes.specs.Bits.{bits_of, word_bits, BeginsWith}
 use Rattle.huff_codes.specs.Codes.{code_at, HasCode}
@@ -20,7 +19,7 @@ use Rattle.huff_codes.specs.inside.Reading.{HaveReached}
 use Rattle.huff_codes.specs.inside.Spans.{IsLaid}
 use Rattle.huff_codes.specs.inside.Stored.{code_bits}
 use Rattle.huff_codes.proofs.BitLists.{length-bits, take-bits}
-use Rattle.huff_codes.proofs.Windows.{bits-append, bits-low, drop-bits, length-word_bits, word_first, words_from}
+use Rattle.huff_codes.proofs.Windows.{bits-append, bits-low, drop-bits, word_first, words_from}
 use Rattle.huff_codes.proofs.Held.{code_bits-is, length-code_bits}
 use Rattle.huff_codes.proofs.Spans.{in_span}
 use Rattle.huff_codes.proofs.Reading.{joined_codes-nil, joined_codes-cons, joined_codes-append}

@@ -1,5 +1,5 @@
 -- Bytes that are written are the only ones.
-use Rattle.std.proofs.Common.{◌≡◌, ℕ, zero, suc, ◌+◌, ◌*◌, ◌%◌, ◌^◌, ◌<◌, ◌≤◌, Bool, List, [], ◌∷◌, ◌++◌, length, get_or, take, drop, refl, sym, ap, ◌∙◌, subst, arith}
+use Rattle.std.proofs.Common.{◌≡◌, ℕ, zero, suc, ◌+◌, ◌*◌, ◌^◌, ◌<◌, Bool, List, [], ◌∷◌, ◌++◌, length, get_or, take, drop, refl, sym, ap, ◌∙◌, subst, arith}
 use Rattle.std.proofs.lemmas.List.{take_at, drop_at, get_or-append-add}
 use Rattle.std.proofs.Math.Nat.{mod-eq_of_lt}
 use Rattle.byteorder.specs.Endian.{little_number}
@@ -9,7 +9,7 @@ use Rattle.huff_codes.specs.Bits.{bits_of, word_bits}
 use Rattle.huff_codes.specs.Codes.{canonical_codes}
 use Rattle.huff_codes.specs.Table.{symbols_in}
 use Rattle.huff_codes.specs.declared.table.SymbolRange.{SymbolRange}
-use Rattle.huff_codes.specs.Written.{AreTableWords, IsFilled, IsWrittenTable, run_lengths, table_head}
+use Rattle.huff_codes.specs.Written.{AreTableWords, IsFilled, run_lengths, table_head}
 use Rattle.huff_codes.specs.Laws.{WrittenWordsAreOnce, WrittenTablesAreOnce}
 use Rattle.huff_codes.proofs.BitLists.{length-bits, same_from_bits}
 use Rattle.huff_codes.proofs.ChosenRuns.{one_run}

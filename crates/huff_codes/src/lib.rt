@@ -14,6 +14,7 @@ mod laws;
 mod lengths;
 mod lookup;
 mod table;
+mod word_pairs;
 mod words;
 mod writing;
 

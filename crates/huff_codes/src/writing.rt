@@ -13,18 +13,19 @@ ghost use Rattle.huff_codes.specs.inside.Stored.{code_bits, codes_held};
 
 use crate::codes::Code;
 use crate::lengths::{Lengths, codes_of};
+use crate::word_pairs::fill_pairs;
 use byteorder::{ByteOrder, LittleEndian};
 
 /// Bits that are not written yet, fewer than a word has, and where the next word is written.
 #[derive(Clone, Copy)]
-struct Pending {
-    held: u64,
-    count: u32,
-    at: usize,
+pub(crate) struct Pending {
+    pub(crate) held: u64,
+    pub(crate) count: u32,
+    pub(crate) at: usize,
 }
 
 /// Writes a word at a place.
-fn put_word(out: &mut [u8], at: usize, word: u32)
+pub(crate) fn put_word(out: &mut [u8], at: usize, word: u32)
     requires { at + 4 ≤ length out.old }
     ensures room { length out.new ≡ length out.old }
     ensures front { take (at + 4) out.new ≡ take at out.old ++ little_bytes 4 word }
@@ -44,7 +45,7 @@ fn joined(held: u64, count: u32, code: Code) -> u64
 }
 
 /// The lowest bits of a number.
-fn lowest(held: u64, count: u32) -> u64
+pub(crate) fn lowest(held: u64, count: u32) -> u64
     requires { count < 32 }
     ensures value { result ≡ held % 2 ^ count }
     ensures low { result < 2 ^ count }
@@ -103,7 +104,7 @@ fn topmost(held: u64, count: u32) -> u32
 }
 
 /// Writes the bits that are left, filled up with zeros; the place behind them.
-fn flush(pending: Pending, out: &mut [u8]) -> usize
+pub(crate) fn flush(pending: Pending, out: &mut [u8]) -> usize
     requires few { pending.count < 32 }
     requires low { pending.held < 2 ^ pending.count }
     requires whole { pending.at % 4 ≡ 0 }
@@ -123,7 +124,7 @@ fn flush(pending: Pending, out: &mut [u8]) -> usize
 }
 
 /// Makes each byte 0.
-fn clear(bytes: &mut [u8])
+pub(crate) fn clear(bytes: &mut [u8])
     ensures { bytes.new ≡ replicate (length bytes.old) 0 }
 {
     bytes.fill(0);
@@ -198,5 +199,5 @@ pub fn write_symbols(symbols: &[u8], lengths: &Lengths, out: &mut [u8])
     ensures words { AreWords (canonical_codes lengths.now) (length symbols.now)
         out.new symbols.now }
 {
-    fill(&codes_of(lengths), symbols, out);
+    fill_pairs(&codes_of(lengths), symbols, out);
 }

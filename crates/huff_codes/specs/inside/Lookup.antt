@@ -1,10 +1,9 @@
 -- A table of symbols by the first eleven bits: an entry has the symbols whose codes stand in front.
 use Rattle.std.specs.Prelude.{ℕ, ◌≡◌, ◌*◌, ◌<◌, ◌≤◌, Bool, List, [], ◌∷◌, length, take, get_or, All}
-use Rattle.huff_codes.specs.Bits.{bits_of, word_bits, BeginsWith}
+use Rattle.huff_codes.specs.Bits.{bits_of, BeginsWith}
 use Rattle.huff_codes.specs.Codes.{HasCode}
 use Rattle.huff_codes.specs.Words.{joined_codes}
 use Rattle.huff_codes.specs.declared.lookup.Entry.{Entry}
-use Rattle.huff_codes.specs.inside.Reading.{HaveReached}
 
 -- the entry of bits that no code of at most eleven bits stands in front of
 abbrev pub no_entry : Entry

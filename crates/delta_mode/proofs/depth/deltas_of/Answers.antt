@@ -1,6 +1,4 @@
-use Rattle.std.proofs.Common.{◌≡◌, ℕ, ◌*◌, ◌<◌, List, length, get_or, sym, ap, ◌∙◌, subst, arith}
-use Rattle.raster_values.specs.Raster.{valid_count}
-use Rattle.raster_values.specs.PixelType.{bytes_of}
+use Rattle.std.proofs.Common.{◌≡◌, ◌*◌, length, get_or, sym, ap, ◌∙◌, arith}
 use Rattle.delta_mode.specs.Symbols.{bias}
 use Rattle.delta_mode.specs.inside.Bytewise.{wrapped, byte_before}
 use Rattle.delta_mode.proofs.Bytewise.{full_deltas, is_full}

@@ -1,4 +1,4 @@
-use Rattle.std.proofs.Common.{◌≡◌, ℕ, ◌-◌, ◌*◌, ◌%◌, ◌<◌, ◌≤◌, length, get_or}
+use Rattle.std.proofs.Common.{◌≡◌, ℕ, ◌-◌, ◌%◌, ◌<◌, ◌≤◌, length, get_or}
 use Rattle.delta_mode.specs.inside.Bytewise.{wrapped, byte_above}
 use Rattle.delta_mode.proofs.full.first_column.Given as goal
 

@@ -1,4 +1,4 @@
-use Rattle.std.proofs.Common.{◌≡◌, ℕ, ◌+◌, ◌*◌, ◌^◌, ◌<◌, ◌≤◌, slice_index, ap, sym, ◌∙◌, arith}
+use Rattle.std.proofs.Common.{◌≡◌, ℕ, ◌*◌, ◌^◌, ◌<◌, ◌≤◌, slice_index, ap, sym, ◌∙◌, arith}
 use Rattle.huff_codes.specs.Sums.{sum_below}
 use Rattle.huff_codes.proofs.Kraft.{sum-zero, sum-more}
 use Rattle.huff_codes.proofs.Tallies.{bits_at, bits-is, bits_sum}

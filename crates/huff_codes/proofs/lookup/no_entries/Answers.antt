@@ -1,6 +1,5 @@
-use Rattle.std.proofs.Common.{◌≡◌, sym, subst, arith}
+use Rattle.std.proofs.Common.{sym, subst, arith}
 use Rattle.std.proofs.lemmas.List.{get_or-replicate}
-use Rattle.huff_codes.specs.declared.lookup.Entry.{Entry}
 use Rattle.huff_codes.specs.inside.Lookup.{IsEntry, IsShort, no_entry}
 use Rattle.huff_codes.proofs.Lookups.{entry_none}
 use Rattle.huff_codes.proofs.lookup.no_entries.Goals as goal

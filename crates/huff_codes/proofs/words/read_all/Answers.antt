@@ -1,7 +1,7 @@
-use Rattle.std.proofs.Common.{◌≡◌, ◌+◌, ◌/◌, ◌*◌, length, take, refl, subst, List, ℕ, arith}
+use Rattle.std.proofs.Common.{◌≡◌, ◌+◌, ◌/◌, ◌*◌, take, refl, subst, List, ℕ, arith}
 use Rattle.std.proofs.lemmas.List.{take_all}
 use Rattle.huff_codes.specs.inside.Reading.{HaveReached}
-use Rattle.huff_codes.proofs.Reading.{reach_none, reach_within, are_words, end_fault}
+use Rattle.huff_codes.proofs.Reading.{reach_none, reach_within, are_words}
 use Rattle.huff_codes.proofs.words.read_all.Goals as goal
 
 pub loop-place-init : goal.loop-place-init

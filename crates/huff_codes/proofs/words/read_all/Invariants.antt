@@ -1,4 +1,4 @@
-use Rattle.std.proofs.Common.{ℕ, ◌-◌, ◌*◌, ◌≡◌, ◌≤◌, length, take}
+use Rattle.std.proofs.Common.{◌-◌, ◌*◌, ◌≡◌, ◌≤◌, length, take}
 use Rattle.huff_codes.specs.inside.Reading.{HaveReached}
 use Rattle.huff_codes.proofs.words.read_all.Given as goal
 

@@ -1,5 +1,3 @@
-use Rattle.std.proofs.Common.{arith}
-use Rattle.huff_codes.specs.declared.words.Cursor.{Cursor}
 use Rattle.huff_codes.specs.inside.Looking.{IsReading}
 use Rattle.huff_codes.proofs.words.read_few.Goals as goal
 

@@ -1,4 +1,4 @@
-use Rattle.std.proofs.Common.{◌≡◌, ℕ, ◌+◌, ◌<◌, List, length, take, drop, refl, sym, subst, arith}
+use Rattle.std.proofs.Common.{ℕ, ◌+◌, ◌<◌, List, length, take, drop, refl, sym, subst, arith}
 use Rattle.std.proofs.lemmas.List.{length-take-le, take_more_set}
 use Rattle.huff_codes.specs.Bits.{word_bits}
 use Rattle.huff_codes.specs.inside.Reading.{HaveReached}

@@ -1,4 +1,4 @@
-use Rattle.std.proofs.Common.{ℕ, ◌/◌, ◌^◌, ◌<◌, slice_index_or, arith}
+use Rattle.std.proofs.Common.{◌/◌, ◌^◌, ◌<◌, slice_index_or, arith}
 use Rattle.std.proofs.lemmas.Nat.{shr_below}
 use Rattle.huff_codes.specs.inside.Lookup.{no_entry}
 use Rattle.huff_codes.proofs.Lookups.{step_reads}
