@@ -36,3 +36,4 @@ mod Repeats
 mod AllCells
 pub mod Distances
 pub mod Ranges
+mod CellDistances

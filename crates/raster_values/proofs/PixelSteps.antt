@@ -80,7 +80,7 @@ filter_none p a zero h = refl
 filter_none p a (suc n) h =
     ap (λ t. cond t (a ∷ filter p (range_with_len (a + 1) n)) (filter p (range_with_len (a + 1) n))) (h a (omega arith) (omega arith)) ∙ filter_none p (a + 1) n (λ k low high. h k (omega arith) (omega arith))
 
-filter_all : (p : ℕ → Bool) (a n : ℕ) → ((k : ℕ) → a ≤ k → k < a + n → p k ≡ true) → filter p (range_with_len a n) ≡ range_with_len a n
+pub filter_all : (p : ℕ → Bool) (a n : ℕ) → ((k : ℕ) → a ≤ k → k < a + n → p k ≡ true) → filter p (range_with_len a n) ≡ range_with_len a n
 filter_all p a zero h = refl
 filter_all p a (suc n) h =
     ap (λ t. cond t (a ∷ filter p (range_with_len (a + 1) n)) (filter p (range_with_len (a + 1) n))) (h a (omega arith) (omega arith)) ∙ ap (λ ks. a ∷ ks) (filter_all p (a + 1) n (λ k low high. h k (omega arith) (omega arith)))

@@ -218,6 +218,9 @@ pub(super) fn gather_distance_rows(
         out.old out.new 0 result }
     ensures within { result ≤ high * wide }
 {
+    if marks.is_whole() {
+        return values.get_rows(depth, d, cols, row, col, high, wide, out);
+    }
     let mut n = 0;
     for i in row..row + high {
         n = gather_distance_run(marks, values, depth, d, i * cols + col, wide, out, n);

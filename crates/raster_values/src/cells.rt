@@ -1,11 +1,13 @@
 ghost use Rattle.std.specs.Prelude.{◌≡◌, ◌+◌, ◌-◌, ◌*◌, ◌<◌, ◌≤◌, ◌++◌, pos, IfOk, All, length, get_or, take, drop, map, replicate, slice_set};
-ghost use Rattle.raster_values.specs.PixelType.{InRange, bytes_of};
+ghost use Rattle.raster_values.specs.PixelType.{InRange, bytes_of, value_of};
+ghost use Rattle.byteorder.specs.Endian.{little_number};
 ghost use Rattle.raster_values.specs.Grid.{values_bytes};
 ghost use Rattle.raster_values.specs.inside.CellList.{CellList, values_in};
 ghost use Rattle.outside_io.specs.streams.Faults.{CountsFaults};
 ghost use Rattle.raster_values.specs.inside.TakenRun.{Laid, PutsRun, TakesRun};
 ghost use Rattle.raster_values.specs.inside.Cleared.{cleared};
 ghost use Rattle.raster_values.specs.inside.Ordered.{FillsPixels, PutsPixels};
+ghost use Rattle.raster_values.specs.inside.Runs.{AreEnds, Gathers, whole_rows};
 ghost use Rattle.std.specs.List.{range_with_len};
 ghost use Rattle.raster_values.specs.Distance.{distance_of};
 ghost use Rattle.lane_kernels.specs.Kernels.{IsLeast, IsGreatest};
@@ -145,6 +147,18 @@ fn write_values(kind: PixelType, values: &[i64], out: &mut [u8])
     }
 }
 
+/// How far the value whose bytes stand at a place is above the type's least.
+#[inline(always)]
+fn distance_at(kind: PixelType, bytes: &[u8], at: usize) -> u32
+    requires few { at < 16777216 }
+    requires within { at * bytes_of kind + bytes_of kind ≤ length bytes.now }
+    ensures { result ≡ distance_of kind
+        (value_of kind (little_number (bytes_of kind) (drop (at * bytes_of kind) bytes.now))) }
+{
+    let here = &bytes[at * kind.bytes()..];
+    (kind.read_value(here) - kind.least()) as u32
+}
+
 /// Takes bytes over those from `from` to `end`, and answers how many.
 fn take_into<S: Source>(
     src: &mut S,
@@ -239,7 +253,8 @@ impl Cells {
         by_kind!(self.kind, kind => self.get_distances_as(kind, first, depth, d, out))
     }
 
-    /// Does what `get_distances` does, for a type that is known before.
+    /// Does what `get_distances` does, for a type that is known before. Without a second depth
+    /// values stand side by side, which the compiler is to know.
     #[inline(always)]
     fn get_distances_as(
         &self,
@@ -257,19 +272,88 @@ impl Cells {
             (get_or self.now.values (k * depth + d) (pos 0)))
             (range_with_len first (length out.old)) }
     {
-        for i in 0..out.len() {
-            out[i] = self.distance_as(kind, (first + i) * depth + d);
+        if depth == 1 {
+            self.get_steps_as(kind, first, 1, d, out);
+        } else {
+            self.get_steps_as(kind, first, depth, d, out);
         }
     }
 
-    /// How far the value at a place is above the type's least.
+    /// Does what `get_distances` does, for a type that is known before.
     #[inline(always)]
-    fn distance_as(&self, kind: PixelType, at: usize) -> u32
+    fn get_steps_as(&self, kind: PixelType, first: usize, depth: usize, d: usize, out: &mut [u32])
         requires kind { kind ≡ self.now.kind }
-        requires within { at < length self.now.values }
-        ensures { result ≡ distance_of self.now.kind (get_or self.now.values at (pos 0)) }
+        requires few { length self.now.values ≤ 16777216 }
+        requires depth { d < depth }
+        requires within { (first + length out.old) * depth ≤ length self.now.values }
+        ensures { out.new ≡ map (λ k. distance_of self.now.kind
+            (get_or self.now.values (k * depth + d) (pos 0)))
+            (range_with_len first (length out.old)) }
     {
-        (self.get_as(kind, at) - kind.least()) as u32
+        let bytes = self.bytes.as_slice();
+        for i in 0..out.len() {
+            out[i] = distance_at(kind, bytes, (first + i) * depth + d);
+        }
+    }
+
+    /// The same of `high` rows of `wide` pixels from (row, col) on, one row behind the other in
+    /// front of `out`, where each row of all pixels has `cols`. Answers how many these are.
+    pub fn get_rows(
+        &self,
+        depth: usize,
+        d: usize,
+        cols: usize,
+        row: usize,
+        col: usize,
+        high: usize,
+        wide: usize,
+        out: &mut [u32],
+    ) -> usize
+        requires few { length self.now.values ≤ 16777216 }
+        requires across { col + wide ≤ cols }
+        requires rows { row + high ≤ 16777216 }
+        requires within { (row + high) * cols * depth ≤ length self.now.values }
+        requires depth { d < depth }
+        requires room { high * wide ≤ length out.old }
+        ensures gathered { Gathers (map (distance_of self.now.kind)
+            (whole_rows depth d self.now.values cols row col high wide)) out.old out.new 0 result }
+        ensures all { result ≡ high * wide }
+    {
+        by_kind!(self.kind, kind => self.get_rows_as(kind, depth, d, cols, row, col, high, wide, out))
+    }
+
+    /// Does what `get_rows` does, for a type that is known before.
+    #[inline(always)]
+    fn get_rows_as(
+        &self,
+        kind: PixelType,
+        depth: usize,
+        d: usize,
+        cols: usize,
+        row: usize,
+        col: usize,
+        high: usize,
+        wide: usize,
+        out: &mut [u32],
+    ) -> usize
+        requires kind { kind ≡ self.now.kind }
+        requires few { length self.now.values ≤ 16777216 }
+        requires across { col + wide ≤ cols }
+        requires rows { row + high ≤ 16777216 }
+        requires within { (row + high) * cols * depth ≤ length self.now.values }
+        requires depth { d < depth }
+        requires room { high * wide ≤ length out.old }
+        ensures gathered { Gathers (map (distance_of self.now.kind)
+            (whole_rows depth d self.now.values cols row col high wide)) out.old out.new 0 result }
+        ensures all { result ≡ high * wide }
+    {
+        let mut n = 0;
+        for i in 0..high {
+            let next = n + wide;
+            self.get_distances_as(kind, (row + i) * cols + col, depth, d, &mut out[n..next]);
+            n = next;
+        }
+        n
     }
 
     /// The least and the greatest of the values at a depth of `count` pixels from `first` on, of
@@ -284,13 +368,77 @@ impl Cells {
         ensures greatest { IsGreatest (map (λ k. get_or self.now.values (k * depth + d) (pos 0))
             (range_with_len first count)) result.1 }
     {
-        let (mut least, mut greatest) = (self.get(first * depth + d), self.get(first * depth + d));
-        for i in 1..count {
-            let value = self.get((first + i) * depth + d);
-            least = least.min(value);
-            greatest = greatest.max(value);
+        let bottom = self.kind.least();
+        let (near, far) = self.ends(first, count, depth, d);
+        (bottom + i64::from(near), bottom + i64::from(far))
+    }
+
+    /// How far the least and the greatest of these values are above the type's least.
+    fn ends(&self, first: usize, count: usize, depth: usize, d: usize) -> (u32, u32)
+        requires few { length self.now.values ≤ 16777216 }
+        requires some { 0 < count }
+        requires depth { d < depth }
+        requires within { (first + count) * depth ≤ length self.now.values }
+        ensures { AreEnds self.now.kind (map (λ k. get_or self.now.values (k * depth + d) (pos 0))
+            (range_with_len first count)) result.0 result.1 }
+    {
+        by_kind!(self.kind, kind => self.ends_as(kind, first, count, depth, d))
+    }
+
+    /// Does what `ends` does, for a type that is known before. Without a second depth values stand
+    /// side by side, which the compiler is to know.
+    #[inline(always)]
+    fn ends_as(
+        &self,
+        kind: PixelType,
+        first: usize,
+        count: usize,
+        depth: usize,
+        d: usize,
+    ) -> (u32, u32)
+        requires kind { kind ≡ self.now.kind }
+        requires few { length self.now.values ≤ 16777216 }
+        requires some { 0 < count }
+        requires depth { d < depth }
+        requires within { (first + count) * depth ≤ length self.now.values }
+        ensures { AreEnds self.now.kind (map (λ k. get_or self.now.values (k * depth + d) (pos 0))
+            (range_with_len first count)) result.0 result.1 }
+    {
+        if depth == 1 {
+            self.step_ends_as(kind, first, count, 1, d)
+        } else {
+            self.step_ends_as(kind, first, count, depth, d)
         }
-        (least, greatest)
+    }
+
+    /// Does what `ends` does, for a type that is known before.
+    #[inline(always)]
+    fn step_ends_as(
+        &self,
+        kind: PixelType,
+        first: usize,
+        count: usize,
+        depth: usize,
+        d: usize,
+    ) -> (u32, u32)
+        requires kind { kind ≡ self.now.kind }
+        requires few { length self.now.values ≤ 16777216 }
+        requires some { 0 < count }
+        requires depth { d < depth }
+        requires within { (first + count) * depth ≤ length self.now.values }
+        ensures { AreEnds self.now.kind (map (λ k. get_or self.now.values (k * depth + d) (pos 0))
+            (range_with_len first count)) result.0 result.1 }
+    {
+        let bytes = self.bytes.as_slice();
+        let begin = distance_at(kind, bytes, first * depth + d);
+        let mut near = begin;
+        let mut far = begin;
+        for i in 1..count {
+            let here = distance_at(kind, bytes, (first + i) * depth + d);
+            near = near.min(here);
+            far = far.max(here);
+        }
+        (near, far)
     }
 
     /// Puts a run of values of the type in the place of as many from `at` on.

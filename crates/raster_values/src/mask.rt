@@ -211,6 +211,13 @@ impl Mask {
         self.valid
     }
 
+    /// Whether every pixel is valid.
+    pub fn is_whole(&self) -> bool
+        ensures { IsTrue result → (k : ℕ) → k < length self.now → get_or self.now k false ≡ true }
+    {
+        self.valid == self.count
+    }
+
     /// Whether a pixel is valid.
     pub fn get(&self, k: usize) -> bool
         requires { k < length self.now }

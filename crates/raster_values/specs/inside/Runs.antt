@@ -6,6 +6,7 @@ use Rattle.raster_values.specs.declared.kind.PixelType.{PixelType}
 use Rattle.raster_values.specs.PixelType.{InRange}
 use Rattle.std.specs.List.{filter, flat_map, range_with_len}
 use Rattle.lane_kernels.specs.Kernels.{IsLeast, IsGreatest}
+use Rattle.raster_values.specs.Distance.{value_above}
 
 -- each value is one of a signed number of 64 bits
 abbrev pub AreWords : List ℤ → Type 0
@@ -34,6 +35,17 @@ pub record Gathers {X : Type 0} (values old new : List X) (at end : ℕ) : Type 
   pub ends : end ≡ at + length values
   pub front : take end new ≡ take at old ++ values
   pub rest : drop end new ≡ drop end old
+
+-- the values at a depth of all pixels of these rows
+abbrev pub whole_rows : ℕ → ℕ → List ℤ → ℕ → ℕ → ℕ → ℕ → ℕ → List ℤ
+whole_rows depth d values cols row col high wide = flat_map
+    (λ i. map (λ k. get_or values (k * depth + d) (pos 0)) (range_with_len (i * cols + col) wide))
+    (range_with_len row high)
+
+-- the least and the greatest of the values are so far above the least of the type
+pub record AreEnds (kind : PixelType) (values : List ℤ) (near far : ℕ) : Type 0 where
+  pub least : IsLeast values (value_above kind near)
+  pub greatest : IsGreatest values (value_above kind far)
 
 -- a pair is the least and the greatest of the values, and there is none of no values
 abbrev pub IsRange : Option (ℤ × ℤ) → List ℤ → Type 0
