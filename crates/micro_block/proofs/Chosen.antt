@@ -1,20 +1,24 @@
 -- What is chosen for a block, from its place and size.
-use Rattle.std.proofs.Common.{◌≡◌, ℕ, zero, suc, ◌^◌, ◌<◌, ◌≤◌, ℤ, Bool, true, false, List, get_or, length, map, sym, ap, subst, ◌∙◌}
-use Rattle.std.specs.Prelude.{All, Some, None, not, ◌&&◌, nat_le}
+use Rattle.std.proofs.Common.{◌≡◌, ℕ, zero, suc, ◌^◌, ◌<◌, ◌≤◌, ℤ, Bool, true, false, List, get_or, length, map, sym, ap, subst, ◌∙◌, arith}
+use Rattle.std.specs.Prelude.{All, Option, Some, None, not, ◌&&◌, nat_le}
 use Rattle.std.proofs.lemmas.Bool.{leb-true, ltb-true}
+use Rattle.std.proofs.lemmas.List.{length-map}
 use Rattle.raster_values.specs.declared.kind.PixelType.{PixelType}
+use Rattle.raster_values.specs.Distance.{IsDistance, value_above}
 use Rattle.raster_values.specs.PixelType.{InRange}
 use Rattle.bit_stuff.specs.Simple.{greatest_number}
 use Rattle.lut_stuff.specs.Tables.{distinct_above_0, table_bytes, table_size}
 use Rattle.lut_stuff.proofs.Tabled.{distinct_some, table_size_some}
-use Rattle.micro_block.specs.declared.choosing.BlockForm.{BlockForm}
 use Rattle.micro_block.specs.declared.choosing.Chosen.{Chosen}
+use Rattle.micro_block.specs.declared.spreading.Spread.{Spread}
 use Rattle.micro_block.specs.Choice as choice
 use Rattle.micro_block.specs.Choice.{Form, least_value, quantised_values, is_flat, is_stuffable, forms, chosen_form, form_bytes, block_bytes}
-use Rattle.micro_block.specs.Near.{quantised}
-use Rattle.micro_block.specs.inside.Forms.{form_at, named, May, IsChosen, AreListable}
-use Rattle.micro_block.specs.inside.Sizes.{IsFound}
-use Rattle.micro_block.proofs.SizeSteps.{listable_below}
+use Rattle.micro_block.specs.Fewest.{IsFirstLeast}
+use Rattle.micro_block.specs.inside.Forms.{form_at, named, May, IsChosen}
+use Rattle.micro_block.specs.inside.Sizes.{closed_sizes, IsFirst, IsTabledLength}
+use Rattle.micro_block.specs.inside.Stepping.{AreListable, IsSpread, steps_above, values_above}
+use Rattle.micro_block.proofs.Above.{above_in_range, listable}
+use Rattle.micro_block.proofs.Closed.{IsMade, taken_found, taken_plain}
 use Rattle.micro_block.proofs.Written.{allowed_some, some_same, chosen_may, left, right, some_above_0}
 
 -- what stands at a place of the candidates is the form of that place
@@ -26,11 +30,29 @@ placed step values form (suc (suc (suc zero))) e = (allowed_some _ choice.simple
 placed step values form (suc (suc (suc (suc zero)))) e = (allowed_some _ choice.table form e).1
 placed step values form (suc (suc (suc (suc (suc k))))) e = absurd (cc)
 
-pub chosen_is : (kind : PixelType) (col step : ℕ) (values : List ℤ) (p : ℕ × ℕ) (f : BlockForm) (least : ℤ) → IsFound kind col step values p → f ≡ form_at p.0 → least ≡ least_value values → InRange kind least
-    → IsChosen kind col step values (record { form = f; size = p.1; least = least })
-chosen_is kind col step values p f least found at is fits =
-    let e : named f ≡ chosen_form kind col step values = ap named at ∙ placed step values (chosen_form kind col step values) p.0 found.form in
-    record { form = e; size = found.size; may = subst (May step values) (sym e) (chosen_may kind col step values); least = is; fits = fits }
+pub chosen_is : (kind : PixelType) (col step : ℕ) (values : List ℤ) (c : Chosen) (place : ℕ) → IsMade kind col step values place c.size → c.form ≡ form_at place → c.least ≡ least_value values → InRange kind c.least
+    → IsChosen kind col step values c
+chosen_is kind col step values c place made at is fits =
+    let e : named c.form ≡ chosen_form kind col step values = ap named at ∙ placed step values (chosen_form kind col step values) place made.0 in
+    record { form = e; size = made.1; may = subst (May step values) (sym e) (chosen_may kind col step values); least = is; fits = fits }
+
+-- what is chosen of distances, by what was found of the table form
+pub chosen_found : (kind : PixelType) (col step : ℕ) (ds : List ℕ) (s : Spread) (tabled : Option ℕ) (c : Chosen) → All (IsDistance kind) ds → IsSpread kind step ds s → IsTabledLength step (values_above kind ds) tabled
+    → IsFirst kind (length ds) (value_above kind s.least) s.most tabled c → c.least ≡ value_above kind s.least → IsChosen kind col step (values_above kind ds) c
+chosen_found kind col step ds s tabled c fits is found (place, (at, first)) least =
+    let vs = values_above kind ds in
+    let count : length ds ≡ length vs = sym (length-map ds (value_above kind)) in
+    let made = taken_found kind col step vs (value_above kind s.least) s.most tabled place c.size is.least_is (is.most ∙ ap greatest_number is.same) found (subst (λ (n : ℕ). IsFirstLeast (λ m. m) (closed_sizes kind n (value_above kind s.least) s.most tabled) place c.size) count first) in
+    chosen_is kind col step vs c place made at (least ∙ is.least_is) (subst (λ (z : ℤ). InRange kind z) (sym least) (above_in_range kind s.least is.least_fits))
+
+-- and where it has no table
+pub chosen_plain : (kind : PixelType) (col step : ℕ) (ds : List ℕ) (s : Spread) (c : Chosen) → IsSpread kind step ds s → (chosen_form kind col step (values_above kind ds) ≡ choice.table → ⊥)
+    → IsFirst kind (length ds) (value_above kind s.least) s.most None c → c.least ≡ value_above kind s.least → IsChosen kind col step (values_above kind ds) c
+chosen_plain kind col step ds s c is plain (place, (at, first)) least =
+    let vs = values_above kind ds in
+    let count : length ds ≡ length vs = sym (length-map ds (value_above kind)) in
+    let made = taken_plain kind col step vs (value_above kind s.least) s.most place c.size is.least_is (is.most ∙ ap greatest_number is.same) plain (subst (λ (n : ℕ). IsFirstLeast (λ m. m) (closed_sizes kind n (value_above kind s.least) s.most None) place c.size) count first) in
+    chosen_is kind col step vs c place made at (least ∙ is.least_is) (subst (λ (z : ℤ). InRange kind z) (sym least) (above_in_range kind s.least is.least_fits))
 
 -- the chosen form is what is written
 pub form_is : (kind : PixelType) (col step : ℕ) (values : List ℤ) (c : Chosen) (form : Form) → IsChosen kind col step values c → named c.form ≡ form → form_bytes kind col step values form ≡ block_bytes kind col step values
@@ -55,18 +77,31 @@ table_may step values h =
     both true b e f = f
     both false b e f = absurd (cc)
 
--- what is asked of values for a list, where their form has one
-pub listable : (kind : PixelType) (step : ℕ) (values : List ℤ) (m : ℤ) → length values ≤ 256 → All (InRange kind) values → 0 < step → step ≤ 8589934592 → m ≡ least_value values → May step values choice.simple → AreListable step m values
-listable kind step values m few fits some most is may = listable_below kind step values m few fits some most is (simple_few step values may)
+-- the numbers of steps go into a list, where the form has one
+pub simple_listable : (kind : PixelType) (step : ℕ) (ds : List ℕ) (s : Spread) → length ds ≤ 256 → IsSpread kind step ds s → May step (values_above kind ds) choice.simple → AreListable step s.least s.rule ds
+simple_listable kind step ds s few is may =
+    let most = is.most ∙ ap greatest_number is.same in
+    let low = simple_few step (values_above kind ds) may in
+    listable kind step ds s few is (omega (arith, most, low))
 
-pub tabled_listable : (kind : PixelType) (step : ℕ) (values : List ℤ) (m : ℤ) → length values ≤ 256 → All (InRange kind) values → 0 < step → step ≤ 8589934592 → m ≡ least_value values → May step values choice.table → AreListable step m values
-tabled_listable kind step values m few fits some most is may = listable kind step values m few fits some most is (table_may step values may)
+pub tabled_listable : (kind : PixelType) (step : ℕ) (ds : List ℕ) (s : Spread) → length ds ≤ 256 → IsSpread kind step ds s → May step (values_above kind ds) choice.table → AreListable step s.least s.rule ds
+tabled_listable kind step ds s few is may = simple_listable kind step ds s few is (table_may step (values_above kind ds) may)
 
 -- the table form has a size
-pub has_table : (step : ℕ) (values : List ℤ) (m : ℤ) → m ≡ least_value values → May step values choice.table → table_size (map (quantised step m) values) ≡ Some (length (table_bytes (map (quantised step m) values)))
-has_table step values m is may =
+pub has_table : (kind : PixelType) (step : ℕ) (ds : List ℕ) (s : Spread) → IsSpread kind step ds s → May step (values_above kind ds) choice.table
+    → table_size (map (steps_above step s.least) ds) ≡ Some (length (table_bytes (map (steps_above step s.least) ds)))
+has_table kind step ds s is may =
+    let values = values_above kind ds in
     let qs = quantised_values step values in
     let d = nat_le (distinct_above_0 qs) 254 in
     let some : 0 < distinct_above_0 qs = distinct_some qs (some_above_0 (greatest_number qs) (left (not (is_flat step values)) (is_stuffable step values && d) may)) in
     let few : distinct_above_0 qs ≤ 254 = leb-true (distinct_above_0 qs) 254 (right (is_stuffable step values) d (right (not (is_flat step values)) (is_stuffable step values && d) may)) in
-    subst (λ (z : ℤ). table_size (map (quantised step z) values) ≡ Some (length (table_bytes (map (quantised step z) values)))) (sym is) (table_size_some qs some few)
+    subst (λ (us : List ℕ). table_size us ≡ Some (length (table_bytes us))) (sym is.same) (table_size_some qs some few)
+
+-- a table is chosen where it may be
+pub may_table : (kind : PixelType) (col step : ℕ) (values : List ℤ) → chosen_form kind col step values ≡ choice.table → May step values choice.table
+may_table kind col step values e = subst (May step values) e (chosen_may kind col step values)
+
+pub table_block : (kind : PixelType) (col step : ℕ) (values : List ℤ) → chosen_form kind col step values ≡ choice.table → form_bytes kind col step values choice.table ≡ block_bytes kind col step values
+unfolding block_bytes
+table_block kind col step values e = ap (form_bytes kind col step values) (sym e)

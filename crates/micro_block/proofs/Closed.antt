@@ -12,7 +12,7 @@ use Rattle.bit_stuff.specs.Simple.{greatest_number, simple_bytes, binary_digits,
 use Rattle.bit_stuff.proofs.HeadLaws.{length-simple_bytes}
 use Rattle.micro_block.specs.Fewest.{allowed, first_least, IsFirstLeast}
 use Rattle.micro_block.specs.Near.{quantised}
-use Rattle.micro_block.specs.inside.Sizes.{closed_sizes, table_form, tabled_size, AreEnds, IsFound, IsTabledLength}
+use Rattle.micro_block.specs.inside.Sizes.{closed_sizes, table_form, tabled_size, IsTabledLength}
 use Rattle.lut_stuff.specs.Tables.{distinct_above_0, table_bytes, table_size}
 use Rattle.lut_stuff.proofs.Tabled.{distinct_some}
 use Rattle.std.proofs.lemmas.Bool.{cases_lt, lt-ltb}
@@ -20,6 +20,7 @@ use Rattle.micro_block.specs.Choice as choice
 use Rattle.micro_block.specs.Choice.{Form, least_value, quantised_values, narrow_type, offset_bytes, form_bytes, forms, is_flat, is_stuffable, chosen_form, block_bytes}
 use Rattle.micro_block.proofs.Fewest.{IsTaken, is_first_least}
 use Rattle.micro_block.proofs.Steps.{by_sizes, sized}
+use Rattle.micro_block.proofs.Written.{allowed_some}
 
 sized_allowed : {A : Type 0} (size : A → ℕ) (b : Bool) (x : A) (n : ℕ) → size x ≡ n → allowed b n ≡ option_map size (allowed b x)
 sized_allowed size true x n e = ap Some (sym e)
@@ -113,12 +114,10 @@ chosen_size kind col step values k n is =
     same_some : (a b : ℕ) → Some a ≡ Some b → a ≡ b
     same_some a b e = cc
 
--- a table form that is no shorter than the simple form may be left out
-left_out : (kind : PixelType) (n most : ℕ) (least : ℤ) (tabled : Option ℕ) (k p : ℕ)
-    → ((m : ℕ) → tabled ≡ Some m → ((not (nat_eq most 0) && nat_lt most (2 ^ 30)) ≡ true) × (head_size n + stuffed_size n (binary_digits most) ≤ m))
-    → IsFirstLeast (λ m. m) (closed_sizes kind n least most None) k p → IsFirstLeast (λ m. m) (closed_sizes kind n least most tabled) k p
-left_out kind n most least None k p longer is = is
-left_out kind n most least (Some m) k p longer is = record { there = there_at k is.there; least = least_at; first = first_at }
+-- a table form that is no shorter than what is chosen of the others may be left out
+longer_left_out : (kind : PixelType) (n most : ℕ) (least : ℤ) (m k p : ℕ) → p ≤ table_form kind least m
+    → IsFirstLeast (λ m. m) (closed_sizes kind n least most None) k p → IsFirstLeast (λ m. m) (closed_sizes kind n least most (Some m)) k p
+longer_left_out kind n most least m k p longer is = record { there = there_at k is.there; least = least_at; first = first_at }
   where
     there_at : (k : ℕ) → get_or (closed_sizes kind n least most None) k None ≡ Some p → get_or (closed_sizes kind n least most (Some m)) k None ≡ Some p
     there_at zero e = e
@@ -136,15 +135,12 @@ left_out kind n most least (Some m) k p longer is = record { there = there_at k 
     below (suc (suc (suc (suc zero)))) e = absurd (cc)
     below (suc (suc (suc (suc (suc k))))) e = absurd (cc)
 
-    simple : p ≤ 1 + (bytes_of (narrow_type kind least) + (head_size n + stuffed_size n (binary_digits most)))
-    simple = is.least 3 (1 + (bytes_of (narrow_type kind least) + (head_size n + stuffed_size n (binary_digits most)))) (ap (λ b. allowed b (1 + (bytes_of (narrow_type kind least) + (head_size n + stuffed_size n (binary_digits most))))) (longer m refl).0)
-
     least_at : (i y : ℕ) → get_or (closed_sizes kind n least most (Some m)) i None ≡ Some y → p ≤ y
     least_at zero y e = is.least 0 y e
     least_at (suc zero) y e = is.least 1 y e
     least_at (suc (suc zero)) y e = is.least 2 y e
     least_at (suc (suc (suc zero))) y e = is.least 3 y e
-    least_at (suc (suc (suc (suc zero)))) y e = let same : table_form kind least m ≡ y = cc in let le = (longer m refl).1 in omega (arith, same, le, simple)
+    least_at (suc (suc (suc (suc zero)))) y e = let same : table_form kind least m ≡ y = cc in omega (arith, same, longer)
     least_at (suc (suc (suc (suc (suc i))))) y e = absurd (cc)
 
     first_at : (i y : ℕ) → i < k → get_or (closed_sizes kind n least most (Some m)) i None ≡ Some y → p < y
@@ -153,6 +149,36 @@ left_out kind n most least (Some m) k p longer is = record { there = there_at k 
     first_at (suc (suc zero)) y less e = is.first 2 y (omega (arith, less)) e
     first_at (suc (suc (suc zero))) y less e = is.first 3 y (omega (arith, less)) e
     first_at (suc (suc (suc (suc i)))) y less e = absurd (let low = below k is.there in omega (arith, low, less))
+
+-- and one that is shorter is chosen
+shorter_taken : (kind : PixelType) (n most : ℕ) (least : ℤ) (m k p : ℕ) → table_form kind least m < p
+    → IsFirstLeast (λ m. m) (closed_sizes kind n least most None) k p → IsFirstLeast (λ m. m) (closed_sizes kind n least most (Some m)) 4 (table_form kind least m)
+shorter_taken kind n most least m k p shorter is = record { there = refl; least = least_at; first = first_at }
+  where
+    first_at : (i y : ℕ) → i < 4 → get_or (closed_sizes kind n least most (Some m)) i None ≡ Some y → table_form kind least m < y
+    first_at zero y less e = let le = is.least 0 y e in omega (arith, le, shorter)
+    first_at (suc zero) y less e = let le = is.least 1 y e in omega (arith, le, shorter)
+    first_at (suc (suc zero)) y less e = let le = is.least 2 y e in omega (arith, le, shorter)
+    first_at (suc (suc (suc zero))) y less e = let le = is.least 3 y e in omega (arith, le, shorter)
+    first_at (suc (suc (suc (suc i)))) y less e = absurd (omega (arith, less))
+
+    least_at : (i y : ℕ) → get_or (closed_sizes kind n least most (Some m)) i None ≡ Some y → table_form kind least m ≤ y
+    least_at zero y e = let lt = first_at 0 y (omega arith) e in omega (arith, lt)
+    least_at (suc zero) y e = let lt = first_at 1 y (omega arith) e in omega (arith, lt)
+    least_at (suc (suc zero)) y e = let lt = first_at 2 y (omega arith) e in omega (arith, lt)
+    least_at (suc (suc (suc zero))) y e = let lt = first_at 3 y (omega arith) e in omega (arith, lt)
+    least_at (suc (suc (suc (suc zero)))) y e = let same : table_form kind least m ≡ y = cc in omega (arith, same)
+    least_at (suc (suc (suc (suc (suc i))))) y e = absurd (cc)
+
+-- so is one that is no shorter than the simple form
+left_out : (kind : PixelType) (n most : ℕ) (least : ℤ) (tabled : Option ℕ) (k p : ℕ)
+    → ((m : ℕ) → tabled ≡ Some m → ((not (nat_eq most 0) && nat_lt most (2 ^ 30)) ≡ true) × (head_size n + stuffed_size n (binary_digits most) ≤ m))
+    → IsFirstLeast (λ m. m) (closed_sizes kind n least most None) k p → IsFirstLeast (λ m. m) (closed_sizes kind n least most tabled) k p
+left_out kind n most least None k p longer is = is
+left_out kind n most least (Some m) k p longer is = longer_left_out kind n most least m k p (let le = (longer m refl).1 in omega (arith, le, simple)) is
+  where
+    simple : p ≤ 1 + (bytes_of (narrow_type kind least) + (head_size n + stuffed_size n (binary_digits most)))
+    simple = is.least 3 (1 + (bytes_of (narrow_type kind least) + (head_size n + stuffed_size n (binary_digits most)))) (ap (λ b. allowed b (1 + (bytes_of (narrow_type kind least) + (head_size n + stuffed_size n (binary_digits most))))) (longer m refl).0)
 
 test_holds : (b : Bool) (t : Option ℕ) (m : ℕ) → (if b then t else None) ≡ Some m → b ≡ true
 test_holds true t m e = refl
@@ -169,15 +195,51 @@ firsts kind step values sizes tabled k p (inr h) all is =
     (λ m e. (test_holds (not (is_flat step values) && is_stuffable step values) (table_size (quantised_values step values)) m e, h.1 m e))
     (subst (λ xs. IsFirstLeast (λ m. m) xs k p) (all ∙ ap (closed_sizes kind (length values) (least_value values) (greatest_number (quantised_values step values))) h.0) is)
 
-pub found : (kind : PixelType) (col step : ℕ) (values : List ℤ) (sizes : List (Option ℕ)) (least greatest : ℤ) (most : ℕ) (tabled : Option ℕ) (first : Option (ℕ × ℕ)) (p : ℕ × ℕ)
-    → 0 < step → AreEnds kind values least greatest → most ≡ quantised step least greatest → IsTabledLength step values tabled → sizes ≡ closed_sizes kind (length values) least most tabled
+-- the first least of the sizes, as it is found
+pub fewest_is : (kind : PixelType) (n most : ℕ) (least : ℤ) (tabled : Option ℕ) (sizes : List (Option ℕ)) (first : Option (ℕ × ℕ)) (p : ℕ × ℕ) → sizes ≡ closed_sizes kind n least most tabled
     → MatchOption first ((i n : ℕ) → get_or sizes i None ≡ Some n → ⊥) (λ q. IsFirstLeast (λ m. m) sizes q.0 q.1) → p ≡ unwrap_or first (2, 0)
-    → IsFound kind col step values p
-found kind col step values sizes least greatest most tabled None p some ends most_is tabled_is sizes_is none e = absurd (none 2 (1 + length values * bytes_of kind) (ap (λ xs. get_or xs 2 None) sizes_is))
-found kind col step values sizes least greatest most tabled (Some q) p some ends most_is tabled_is sizes_is is_first e =
-    let all : sizes ≡ closed_sizes kind (length values) (least_value values) (greatest_number (quantised_values step values)) tabled = sizes_is ∙ (λ i. closed_sizes kind (length values) (ends.least_is i) ((most_is ∙ ends.most step some) i) tabled) in
-    let is = firsts kind step values sizes tabled q.0 q.1 tabled_is all is_first in
-    subst (IsFound kind col step values) (sym e) (record { form = chosen_at kind col step values q.0 q.1 is; size = chosen_size kind col step values q.0 q.1 is })
+    → IsFirstLeast (λ m. m) (closed_sizes kind n least most tabled) p.0 p.1
+fewest_is kind n most least tabled sizes None p all none e = absurd (none 2 (1 + n * bytes_of kind) (ap (λ xs. get_or xs 2 None) all))
+fewest_is kind n most least tabled sizes (Some q) p all is e =
+    subst (λ (r : ℕ × ℕ). IsFirstLeast (λ m. m) (closed_sizes kind n least most tabled) r.0 r.1) (sym e) (subst (λ xs. IsFirstLeast (λ m. m) xs q.0 q.1) all is)
+
+-- the form at its place is the chosen one, and its size the length of the block
+abbrev pub IsMade : PixelType → ℕ → ℕ → List ℤ → ℕ → ℕ → Type 0
+IsMade kind col step values k p = (get_or (forms step values) k None ≡ Some (chosen_form kind col step values)) × (length (block_bytes kind col step values) ≡ p)
+
+taken_by : (kind : PixelType) (col step : ℕ) (values : List ℤ) (k p : ℕ) → IsFirstLeast (λ m. m) (closed_sizes kind (length values) (least_value values) (greatest_number (quantised_values step values)) (tabled_size step values)) k p
+    → IsMade kind col step values k p
+taken_by kind col step values k p is = (chosen_at kind col step values k p is, chosen_size kind col step values k p is)
+
+-- by what was found of the table form
+pub taken_found : (kind : PixelType) (col step : ℕ) (values : List ℤ) (least : ℤ) (most : ℕ) (tabled : Option ℕ) (k p : ℕ)
+    → least ≡ least_value values → most ≡ greatest_number (quantised_values step values) → IsTabledLength step values tabled
+    → IsFirstLeast (λ m. m) (closed_sizes kind (length values) least most tabled) k p → IsMade kind col step values k p
+taken_found kind col step values least most tabled k p least_is most_is tabled_is is =
+    taken_by kind col step values k p (firsts kind step values (closed_sizes kind (length values) least most tabled) tabled k p tabled_is (λ i. closed_sizes kind (length values) (least_is i) (most_is i) tabled) is)
+
+-- without a table, where none is chosen
+pub taken_plain : (kind : PixelType) (col step : ℕ) (values : List ℤ) (least : ℤ) (most k p : ℕ)
+    → least ≡ least_value values → most ≡ greatest_number (quantised_values step values) → (chosen_form kind col step values ≡ choice.table → ⊥)
+    → IsFirstLeast (λ m. m) (closed_sizes kind (length values) least most None) k p → IsMade kind col step values k p
+taken_plain kind col step values least most k p least_is most_is plain is = by (tabled_size step values) refl
+  where
+    known : IsFirstLeast (λ m. m) (closed_sizes kind (length values) (least_value values) (greatest_number (quantised_values step values)) None) k p
+    known = subst (λ (z : ℤ). IsFirstLeast (λ m. m) (closed_sizes kind (length values) z (greatest_number (quantised_values step values)) None) k p) least_is
+        (subst (λ (g : ℕ). IsFirstLeast (λ m. m) (closed_sizes kind (length values) least g None) k p) most_is is)
+
+    put : (t : Option ℕ) (j q : ℕ) → tabled_size step values ≡ t → IsFirstLeast (λ m. m) (closed_sizes kind (length values) (least_value values) (greatest_number (quantised_values step values)) t) j q
+        → IsMade kind col step values j q
+    put t j q e h = taken_by kind col step values j q (subst (λ (o : Option ℕ). IsFirstLeast (λ m. m) (closed_sizes kind (length values) (least_value values) (greatest_number (quantised_values step values)) o) j q) (sym e) h)
+
+    by : (t : Option ℕ) → tabled_size step values ≡ t → IsMade kind col step values k p
+    by None e = put None k p e known
+    by (Some m) e = elim (cases_lt (table_form kind (least_value values) m) p) [
+      | inl shorter ↦
+          let t = put (Some m) 4 (table_form kind (least_value values) m) e (shorter_taken kind (length values) (greatest_number (quantised_values step values)) (least_value values) m k p shorter known) in
+          absurd (plain (sym (allowed_some _ choice.table (chosen_form kind col step values) t.0).1))
+      | inr longer ↦ put (Some m) k p e (longer_left_out kind (length values) (greatest_number (quantised_values step values)) (least_value values) m k p longer known)
+    ]
 
 -- no chosen block is longer than the raw one
 pub block_short : (kind : PixelType) (col step : ℕ) (values : List ℤ) → length (block_bytes kind col step values) ≤ 1 + length values * bytes_of kind

@@ -10,7 +10,7 @@ use Rattle.micro_block.specs.Near.{quantised}
 
 -- ---- one division
 
-half : (x y : ℕ) → 2 * x / (2 * y) ≡ x / y
+pub half : (x y : ℕ) → 2 * x / (2 * y) ≡ x / y
 half x y = mul-div-mul_left x y (omega arith)
 
 -- the quotient is the one number between the bounds

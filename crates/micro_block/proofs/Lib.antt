@@ -4,6 +4,7 @@ pub mod BlockSteps
 pub mod Fewest
 mod Near
 mod Above
+mod Stepped
 mod Fast
 pub mod Steps
 mod Closed

@@ -7,7 +7,7 @@ use mir.Syntax.{w64}
 use mir.Val.{of_z, to_z}
 use Rattle.lane_kernels.specs.Kernels.{IsSmall}
 use Rattle.micro_block.specs.Near.{quantised}
-use Rattle.micro_block.specs.declared.quantising.Product.{Product}
+use Rattle.micro_block.specs.declared.stepping.Product.{Product}
 use Rattle.micro_block.specs.inside.Products.{IsProduct}
 use Rattle.micro_block.proofs.Fast.{by_product_at, step_even}
 
@@ -23,7 +23,7 @@ distance_read v m h k =
 
 -- the product for a step
 pub is_product : (s d : ℕ) → 0 < s → d ≤ 31 → s ≤ 1 * 2 ^ d % 18446744073709551616 → (1 * 2 ^ (31 + d) % 18446744073709551616 + s - 1) / s ≤ 4294967296
-    → IsProduct s (record { factor = (1 * 2 ^ (31 + d) % 18446744073709551616 + s - 1) / s; shift = 31 + d })
+    → IsProduct s (record { factor = (1 * 2 ^ (31 + d) % 18446744073709551616 + s - 1) / s; shift = 31 + d; limit = 2147483648 })
 is_product s d some few fits small =
     let low : 2 ^ d ≤ 2 ^ 31 = pow-le-pow_right (omega arith) few in
     let most : 31 + d ≤ 62 = omega (arith, few) in
@@ -33,11 +33,12 @@ is_product s d some few fits small =
     record {
       factor_fits = small;
       shift_fits = omega (arith, few);
+      limit_fits = omega arith;
       same = λ x h. subst (λ (p : ℕ). x * ((p + s - 1) / s) / 2 ^ (31 + d) ≡ x / s) e (by_product_at x s d some f h);
     }
 
 -- what each value function gives
-pub product_gives : (v m : ℤ) (half : ℕ) (p : Product) → IsProduct (2 * half) p → unsigned_abs (v -ℤ m) + half < 2 ^ 31
+pub product_gives : (v m : ℤ) (half : ℕ) (p : Product) → IsProduct (2 * half) p → unsigned_abs (v -ℤ m) + half < p.limit
     → (unsigned_abs (v -ℤ m) + half) * p.factor / 2 ^ p.shift ≡ quantised (2 * half) m v
 product_gives v m half p is near = is.same (unsigned_abs (v -ℤ m) + half) near ∙ sym (step_even half m v)
 
@@ -45,5 +46,5 @@ pub shift_gives : (v m : ℤ) (half shift : ℕ) → 2 ^ shift ≡ 2 * half → 
 shift_gives v m half shift e = ap (λ (n : ℕ). (unsigned_abs (v -ℤ m) + half) / n) e ∙ sym (step_even half m v)
 
 -- no value is farther than the greatest
-pub nearer : (v m g : ℤ) (half : ℕ) → m ≤ℤ v → v ≤ℤ g → unsigned_abs (g -ℤ m) + half < 2 ^ 31 → unsigned_abs (v -ℤ m) + half < 2 ^ 31
-nearer v m g half low high h = omega (arith, ints, low, high, h)
+pub nearer : (v m g : ℤ) (half limit : ℕ) → m ≤ℤ v → v ≤ℤ g → unsigned_abs (g -ℤ m) + half < limit → unsigned_abs (v -ℤ m) + half < limit
+nearer v m g half limit low high h = omega (arith, ints, low, high, h)

@@ -1,5 +1,5 @@
 -- The least and the greatest of a list, by the kernels' words.
-use Rattle.std.proofs.Common.{◌≡◌, ℕ, zero, suc, ◌+◌, ◌*◌, ◌<◌, ℤ, pos, ◌≤ℤ◌, List, [], ◌∷◌, length, get_or, refl, sym, ap, subst, ◌∙◌, arith}
+use Rattle.std.proofs.Common.{◌≡◌, ℕ, zero, suc, ◌<◌, ℤ, pos, ◌≤ℤ◌, List, [], ◌∷◌, length, get_or, refl, sym, ap, subst, ◌∙◌, arith}
 use Rattle.std.specs.Prelude.{All, Contains, fold}
 use Rattle.std.specs.Int.{int_min, int_max}
 use Rattle.std.proofs.lemmas.Int.{ints, clamps, to_z-of_z}
@@ -8,9 +8,7 @@ use Rattle.lane_kernels.specs.Kernels.{IsLeast, IsGreatest, IsSmall}
 use Rattle.bit_stuff.specs.Simple.{greatest_number}
 use Rattle.micro_block.specs.Choice.{least_value, quantised_values}
 use Rattle.micro_block.specs.Near.{quantised}
-use Rattle.micro_block.proofs.Written.{least_below, zero_of}
-use Rattle.micro_block.specs.inside.Sizes.{AreEnds}
-use Rattle.std.proofs.lemmas.Nat.{div_below}
+use Rattle.micro_block.proofs.Written.{least_below}
 use mir.Syntax.{w64}
 use mir.Val.{to_z, of_z}
 use Rattle.raster_values.specs.PixelType.{InRange}
@@ -57,26 +55,8 @@ most_is step (v ∷ vs) m g some least (at, all) =
     ap (λ u. quantised step u g) (sym is) ∙ ap (quantised step (least_value (v ∷ vs))) (sym greatest)
     ∙ sym (greatest_quantised step (least_value (v ∷ vs)) v vs some (λ i low. least_below (v ∷ vs) i low))
 
-none_most : (step : ℕ) → 0 < step → quantised step (pos 0) (pos 0) ≡ 0
-none_most step some = let low = div_below (0 + step) (2 * step) 1 (omega (arith, some)) (omega (arith, some)) in let z : quantised step (pos 0) (pos 0) < 1 = low in omega (arith, z)
-
 pub in_list : (P : ℤ → Type 0) (vs : List ℤ) (m : ℤ) → Contains vs m → All P vs → P m
 in_list P vs m at all = subst P at.2 (all at.0 m at.1)
-
-pub ends_some : (kind : PixelType) (vs : List ℤ) (l g : ℤ) → IsLeast vs l × IsGreatest vs g → All (InRange kind) vs → AreEnds kind vs l g
-ends_some kind vs l g (least, greatest) fits =
-    record {
-      least_is = sym (least_is vs l least);
-      least_fits = in_list (InRange kind) vs l least.0 fits;
-      greatest_fits = in_list (InRange kind) vs g greatest.0 fits;
-      order = in_list (λ v. l ≤ℤ v) vs g greatest.0 least.1;
-      most = λ step some. most_is step vs l g some least greatest;
-    }
-
-pub ends_none : (kind : PixelType) (vs : List ℤ) → vs ≡ [] → AreEnds kind vs (pos 0) (pos 0)
-ends_none kind vs e =
-    subst (λ (us : List ℤ). AreEnds kind us (pos 0) (pos 0)) (sym e)
-    (record { least_is = refl; least_fits = zero_of kind; greatest_fits = zero_of kind; order = omega (arith, ints); most = none_most })
 
 -- as the code reads them again
 pub reread : (kind : PixelType) (z : ℤ) → InRange kind z → to_z w64 (of_z w64 z) ≡ z
@@ -94,6 +74,3 @@ small I16 z h = omega (arith, ints, h)
 small U16 z h = omega (arith, ints, h)
 small I32 z h = omega (arith, ints, h)
 small U32 z h = omega (arith, ints, h)
-
-pub ends_again : (kind : PixelType) (vs : List ℤ) (l g : ℤ) → AreEnds kind vs l g → AreEnds kind vs (to_z w64 (of_z w64 l)) (to_z w64 (of_z w64 g))
-ends_again kind vs l g e = subst (λ (z : ℤ). AreEnds kind vs z (to_z w64 (of_z w64 g))) (sym (reread kind l e.least_fits)) (subst (λ (z : ℤ). AreEnds kind vs l z) (sym (reread kind g e.greatest_fits)) e)

@@ -1,5 +1,5 @@
 -- Where a table can be shorter, and how many different numbers there are at least.
-use Rattle.std.proofs.Common.{◌≡◌, ℕ, ℤ, map, zero, suc, ◌+◌, ◌-◌, ◌*◌, ◌/◌, ◌%◌, ◌^◌, ◌<◌, ◌≤◌, Bool, cond, true, false, List, [], ◌∷◌, ◌++◌, length, get_or, take, refl, sym, ap, subst, ◌∙◌, arith, inl, inr}
+use Rattle.std.proofs.Common.{◌≡◌, ℕ, map, zero, suc, ◌+◌, ◌-◌, ◌*◌, ◌/◌, ◌%◌, ◌^◌, ◌<◌, ◌≤◌, Bool, cond, true, false, List, [], ◌∷◌, ◌++◌, length, get_or, take, refl, sym, ap, subst, ◌∙◌, arith, inl, inr}
 use Rattle.std.specs.Prelude.{set, min}
 use Rattle.std.proofs.lemmas.Bool.{cases_eq, cases_lt}
 use Rattle.std.proofs.lemmas.List.{get_or-set_other, get_or-set_same}
@@ -132,16 +132,16 @@ different_fit (x ∷ xs) ys d h =
     let le = different_fit xs w.rest d.1 (λ z has. w.keeps z (h z (inr has)) (λ e. d.0 (subst (λ (u : ℕ). Has u xs) e has))) in
     omega (arith, size, le)
 
--- so many different numbers have been seen, and their remainders are marked
-pub record AreSeen (seen : List Bool) (count : ℕ) (front : List ℕ) : Type 0 where
+-- so many different numbers have been seen, and their remainders modulo m are marked
+pub record AreSeen (m : ℕ) (seen : List Bool) (count : ℕ) (front : List ℕ) : Type 0 where
   pub members : List ℕ
   pub size : length members ≡ count
   pub different : Different members
   pub from : (z : ℕ) → Has z members → Has z front
-  pub marked : (z : ℕ) → Has z members → get_or seen (z % 1024) false ≡ true
+  pub marked : (z : ℕ) → Has z members → get_or seen (z % m) false ≡ true
 
-pub none_seen : (seen : List Bool) → AreSeen seen 0 []
-none_seen seen = record { members = []; size = refl; different = tt; from = λ z h. h; marked = λ z h. absurd h }
+pub none_seen : (m : ℕ) (seen : List Bool) → AreSeen m seen 0 []
+none_seen m seen = record { members = []; size = refl; different = tt; from = λ z h. h; marked = λ z h. absurd h }
 
 has_push : (z x : ℕ) (front : List ℕ) → Has z front → Has z (front ++ x ∷ [])
 has_push z x [] h = absurd h
@@ -152,11 +152,11 @@ has_last : (x : ℕ) (front : List ℕ) → Has x (front ++ x ∷ [])
 has_last x [] = inl refl
 has_last x (y ∷ front) = inr (has_last x front)
 
-pub seen_again : (seen : List Bool) (count : ℕ) (front : List ℕ) (x : ℕ) → AreSeen seen count front → AreSeen seen count (front ++ x ∷ [])
-seen_again seen count front x s = record { members = s.members; size = s.size; different = s.different; from = λ z h. has_push z x front (s.from z h); marked = s.marked }
+pub seen_again : (m : ℕ) (seen : List Bool) (count : ℕ) (front : List ℕ) (x : ℕ) → AreSeen m seen count front → AreSeen m seen count (front ++ x ∷ [])
+seen_again m seen count front x s = record { members = s.members; size = s.size; different = s.different; from = λ z h. has_push z x front (s.from z h); marked = s.marked }
 
-pub seen_first : (seen : List Bool) (count : ℕ) (front : List ℕ) (x : ℕ) → x % 1024 < length seen → get_or seen (x % 1024) false ≡ false → AreSeen seen count front → AreSeen (set seen (x % 1024) true) (count + 1) (front ++ x ∷ [])
-seen_first seen count front x within new s =
+pub seen_first : (m : ℕ) (seen : List Bool) (count : ℕ) (front : List ℕ) (x : ℕ) → x % m < length seen → get_or seen (x % m) false ≡ false → AreSeen m seen count front → AreSeen m (set seen (x % m) true) (count + 1) (front ++ x ∷ [])
+seen_first m seen count front x within new s =
     record {
       members = x ∷ s.members;
       size = (let n = s.size in let e : suc (length s.members) ≡ count + 1 = omega (arith, n) in e);
@@ -169,19 +169,19 @@ seen_first seen count front x within new s =
     from_all z (inl e) = subst (λ (u : ℕ). Has u (front ++ x ∷ [])) (sym e) (has_last x front)
     from_all z (inr h) = has_push z x front (s.from z h)
 
-    kept : (r : ℕ) → get_or seen r false ≡ true → get_or (set seen (x % 1024) true) r false ≡ true
-    kept r h = elim (cases_eq r (x % 1024)) [
-      | inl e ↦ subst (λ (u : ℕ). get_or (set seen (x % 1024) true) u false ≡ true) (sym e) (get_or-set_same seen (x % 1024) true false within)
-      | inr other ↦ get_or-set_other seen (x % 1024) r true false other ∙ h
+    kept : (r : ℕ) → get_or seen r false ≡ true → get_or (set seen (x % m) true) r false ≡ true
+    kept r h = elim (cases_eq r (x % m)) [
+      | inl e ↦ subst (λ (u : ℕ). get_or (set seen (x % m) true) u false ≡ true) (sym e) (get_or-set_same seen (x % m) true false within)
+      | inr other ↦ get_or-set_other seen (x % m) r true false other ∙ h
     ]
 
-    marked_all : (z : ℕ) → Has z (x ∷ s.members) → get_or (set seen (x % 1024) true) (z % 1024) false ≡ true
-    marked_all z (inl e) = subst (λ (u : ℕ). get_or (set seen (x % 1024) true) (u % 1024) false ≡ true) (sym e) (get_or-set_same seen (x % 1024) true false within)
-    marked_all z (inr h) = kept (z % 1024) (s.marked z h)
+    marked_all : (z : ℕ) → Has z (x ∷ s.members) → get_or (set seen (x % m) true) (z % m) false ≡ true
+    marked_all z (inl e) = subst (λ (u : ℕ). get_or (set seen (x % m) true) (u % m) false ≡ true) (sym e) (get_or-set_same seen (x % m) true false within)
+    marked_all z (inr h) = kept (z % m) (s.marked z h)
 
 -- as many different numbers there are, but for 0
-pub seen_distinct : (seen : List Bool) (count : ℕ) (qs : List ℕ) → AreSeen seen count qs → count ≤ 1 + distinct_above_0 qs
-seen_distinct seen count qs s =
+pub seen_distinct : (m : ℕ) (seen : List Bool) (count : ℕ) (qs : List ℕ) → AreSeen m seen count qs → count ≤ 1 + distinct_above_0 qs
+seen_distinct m seen count qs s =
     let le = different_fit s.members (0 ∷ entries_of qs) s.different (λ z h. placed z (s.from z h)) in
     let n = s.size in
     let d = distinct_is qs in
@@ -202,8 +202,8 @@ has_taken z (suc i) (x ∷ xs) (inl e) = inl e
 has_taken z (suc i) (x ∷ xs) (inr h) = inr (has_taken z i xs h)
 
 -- what is seen of a front is seen of the whole
-pub seen_of_all : (seen : List Bool) (count i : ℕ) (qs : List ℕ) → AreSeen seen count (take i qs) → AreSeen seen count qs
-seen_of_all seen count i qs s = record { members = s.members; size = s.size; different = s.different; from = λ z h. has_taken z i qs (s.from z h); marked = s.marked }
+pub seen_of_all : (m : ℕ) (seen : List Bool) (count i : ℕ) (qs : List ℕ) → AreSeen m seen count (take i qs) → AreSeen m seen count qs
+seen_of_all m seen count i qs s = record { members = s.members; size = s.size; different = s.different; from = λ z h. has_taken z i qs (s.from z h); marked = s.marked }
 
 pub few_entries : (k most n : ℕ) → k < 8 → most ≡ min n (2 * 2 ^ k - 1) → most ≤ 255
 few_entries k most n low is = let small : k ≤ 7 = omega (arith, low) in let high : 2 ^ k ≤ 2 ^ 7 = pow-le-pow_right (omega arith) small in omega (arith, is, high)
@@ -221,30 +221,30 @@ distinct_fit xs ys h =
     let b = distinct_is ys in
     omega (arith, le, a, b)
 
-front_has : (g : ℤ → ℕ) (values : List ℤ) (k z : ℕ) → Has z (map g (take k values)) → Has z (map g values)
-front_has g values zero z h = absurd h
+front_has : (g : ℕ → ℕ) (ds : List ℕ) (k z : ℕ) → Has z (map g (take k ds)) → Has z (map g ds)
+front_has g ds zero z h = absurd h
 front_has g [] (suc k) z h = absurd h
-front_has g (v ∷ values) (suc k) z (inl e) = inl e
-front_has g (v ∷ values) (suc k) z (inr h) = inr (front_has g values k z h)
+front_has g (d ∷ ds) (suc k) z (inl e) = inl e
+front_has g (d ∷ ds) (suc k) z (inr h) = inr (front_has g ds k z h)
 
-pub front_distinct : (g : ℤ → ℕ) (values : List ℤ) (k bound : ℕ) → bound < distinct_above_0 (map g (take k values)) → bound < distinct_above_0 (map g values)
-front_distinct g values k bound h = let le = distinct_fit (map g (take k values)) (map g values) (λ z has. front_has g values k z has) in omega (arith, le, h)
+pub front_distinct : (g : ℕ → ℕ) (ds : List ℕ) (k bound : ℕ) → bound < distinct_above_0 (map g (take k ds)) → bound < distinct_above_0 (map g ds)
+front_distinct g ds k bound h = let le = distinct_fit (map g (take k ds)) (map g ds) (λ z has. front_has g ds k z has) in omega (arith, le, h)
 
 -- a number that is marked, whether its remainder was before or not
-pub seen_next : (seen : List Bool) (count : ℕ) (front : List ℕ) (x n : ℕ) → x % 1024 < length seen → n ≡ cond (get_or seen (x % 1024) false) 0 1 → AreSeen seen count front → AreSeen (set seen (x % 1024) true) (count + n) (front ++ x ∷ [])
+pub seen_next : (m : ℕ) (seen : List Bool) (count : ℕ) (front : List ℕ) (x n : ℕ) → x % m < length seen → n ≡ cond (get_or seen (x % m) false) 0 1 → AreSeen m seen count front → AreSeen m (set seen (x % m) true) (count + n) (front ++ x ∷ [])
 unfolding seen_again
-seen_next seen count front x n within e s = by (get_or seen (x % 1024) false) refl
+seen_next m seen count front x n within e s = by (get_or seen (x % m) false) refl
   where
-    kept : (r : ℕ) → get_or seen r false ≡ true → get_or (set seen (x % 1024) true) r false ≡ true
-    kept r h = elim (cases_eq r (x % 1024)) [
-      | inl same ↦ subst (λ (u : ℕ). get_or (set seen (x % 1024) true) u false ≡ true) (sym same) (get_or-set_same seen (x % 1024) true false within)
-      | inr other ↦ get_or-set_other seen (x % 1024) r true false other ∙ h
+    kept : (r : ℕ) → get_or seen r false ≡ true → get_or (set seen (x % m) true) r false ≡ true
+    kept r h = elim (cases_eq r (x % m)) [
+      | inl same ↦ subst (λ (u : ℕ). get_or (set seen (x % m) true) u false ≡ true) (sym same) (get_or-set_same seen (x % m) true false within)
+      | inr other ↦ get_or-set_other seen (x % m) r true false other ∙ h
     ]
 
-    by : (b : Bool) → get_or seen (x % 1024) false ≡ b → AreSeen (set seen (x % 1024) true) (count + n) (front ++ x ∷ [])
-    by false new = subst (λ m. AreSeen (set seen (x % 1024) true) (count + m) (front ++ x ∷ [])) (sym (e ∙ ap (λ (b : Bool). cond b 0 1) new)) (seen_first seen count front x within new s)
+    by : (b : Bool) → get_or seen (x % m) false ≡ b → AreSeen m (set seen (x % m) true) (count + n) (front ++ x ∷ [])
+    by false new = subst (λ (k : ℕ). AreSeen m (set seen (x % m) true) (count + k) (front ++ x ∷ [])) (sym (e ∙ ap (λ (b : Bool). cond b 0 1) new)) (seen_first m seen count front x within new s)
     by true again =
         let none : n ≡ 0 = e ∙ ap (λ (b : Bool). cond b 0 1) again in
-        let a = seen_again seen count front x s in
+        let a = seen_again m seen count front x s in
         let size = s.size in
-        record { members = s.members; size = omega (arith, size, none); different = s.different; from = a.from; marked = λ z h. kept (z % 1024) (s.marked z h) }
+        record { members = s.members; size = omega (arith, size, none); different = s.different; from = a.from; marked = λ z h. kept (z % m) (s.marked z h) }

@@ -13,18 +13,13 @@ use Rattle.bit_stuff.specs.Simple.{binary_digits, greatest_number, width_of}
 use Rattle.bit_stuff.specs.Stuffed.{stuffed_size}
 use Rattle.bit_stuff.proofs.Digits.{digits-le, width_of-le}
 use Rattle.bit_stuff.proofs.StuffedLaws.{stuffed_size-le}
-use Rattle.lane_kernels.specs.Kernels.{differences, IsSmall}
+use Rattle.lane_kernels.specs.Kernels.{differences}
 use Rattle.lut_stuff.specs.Tables.{distinct_above_0, table_size}
 use Rattle.lut_stuff.proofs.Tabled.{has_size, length-table_bytes}
 use Rattle.micro_block.specs.Choice.{least_value, quantised_values, is_flat, is_stuffable}
 use Rattle.micro_block.specs.Near.{quantised}
 use Rattle.micro_block.proofs.Fast.{step_one}
-use Rattle.micro_block.proofs.Written.{each_quantised, least_below, least_in_range}
-use Rattle.micro_block.proofs.BlockSteps.{is_small}
-use Rattle.micro_block.specs.inside.Forms.{AreListable}
-use Rattle.raster_values.specs.declared.kind.PixelType.{PixelType}
-use Rattle.raster_values.specs.PixelType.{InRange}
-use Rattle.std.proofs.lemmas.Simd.{map-map}
+use Rattle.micro_block.proofs.Written.{each_quantised, least_below}
 
 -- a head takes at most five bytes
 pub head_few : (n : ℕ) → head_size n ≤ 5
@@ -77,30 +72,6 @@ differences_are values out x least step one same above e =
   where
     distance : (v m : ℤ) (q : ℕ) → m ≤ℤ v → q ≡ unsigned_abs (v -ℤ m) → v -ℤ m ≡ pos q
     distance v m q le e = omega (arith, ints)
-
--- what is asked of values for a list, where none has too many steps
-pub listable_below : (kind : PixelType) (step : ℕ) (values : List ℤ) (m : ℤ) → length values ≤ 256 → All (InRange kind) values → 0 < step → step ≤ 8589934592 → m ≡ least_value values
-    → greatest_number (quantised_values step values) < 2 ^ 30 → AreListable step m values
-listable_below kind step values m few fits some most is below =
-    record {
-      count = few;
-      small = All-weaker (InRange kind) IsSmall (λ v h. is_small kind v h) values fits;
-      small_least = subst (λ (z : ℤ). IsSmall z) (sym is) (is_small kind (least_value values) (least_in_range kind values fits));
-      order = all_above values m is;
-      some = some;
-      step_fits = most;
-      few = all_few values step (2 ^ 30) m is below;
-    }
-
--- the numbers of steps with a sign, and without it
-pub unsigned_steps : (values : List ℤ) (step : ℕ) (m : ℤ) → map unsigned_abs (map (λ v. pos (quantised step m v)) values) ≡ map (quantised step m) values
-unsigned_steps values step m = map-map unsigned_abs (λ v. pos (quantised step m v)) values
-
-pub steps_fit : (values wide : List ℤ) (step : ℕ) (m : ℤ) → wide ≡ map (λ v. pos (quantised step m v)) values → All (λ v. quantised step m v < 2 ^ 30) values → All (λ z. (pos 0 ≤ℤ z) × (z ≤ℤ pos 4294967295)) wide
-steps_fit values wide step m e few =
-    subst (λ (u : List ℤ). All (λ z. (pos 0 ≤ℤ z) × (z ≤ℤ pos 4294967295)) u) (sym e)
-    (All-map (λ z. (pos 0 ≤ℤ z) × (z ≤ℤ pos 4294967295)) (λ v. pos (quantised step m v)) values
-    (All-weaker (λ v. quantised step m v < 2 ^ 30) (λ v. (pos 0 ≤ℤ pos (quantised step m v)) × (pos (quantised step m v) ≤ℤ pos 4294967295)) (λ v below. (omega (arith, ints), omega (arith, ints, below))) values few))
 
 -- ---- where the table form is no shorter
 

@@ -4,3 +4,4 @@ pub mod Sizes
 pub mod Forms
 pub mod Products
 pub mod Shorter
+pub mod Stepping

@@ -1,20 +1,21 @@
 // The form that is chosen for a block.
 
-ghost use Rattle.std.specs.Prelude.{◌≡◌, ◌+◌, ◌*◌, ℕ, ℤ, ◌≤◌, ◌<◌, ◌≤ℤ◌, ◌↔◌, length, map, All};
-ghost use Rattle.std.specs.Prelude.{IsTrue};
+ghost use Rattle.std.specs.Prelude.{◌≡◌, ◌+◌, ◌*◌, ℕ, ℤ, ◌≤◌, ◌≤ℤ◌, ◌↔◌, ◌≢◌, length, map, All};
+ghost use Rattle.std.specs.Prelude.{IsTrue, IfSome};
 ghost use Rattle.raster_values.specs.Distance.{IsDistance, value_above};
 ghost use Rattle.raster_values.specs.PixelType.{InRange, bytes_of};
 ghost use Rattle.micro_block.specs.Choice as choice;
-ghost use Rattle.micro_block.specs.Frame.{IsBlockCtx};
-ghost use Rattle.micro_block.specs.inside.Sizes.{AreEnds, IsFound};
+ghost use Rattle.micro_block.specs.Frame.{IsBlockCtx, IsBlockStep};
+ghost use Rattle.micro_block.specs.inside.Sizes.{IsFirst, IsTabledLength};
 ghost use Rattle.micro_block.specs.inside.Forms as inside;
 ghost use Rattle.micro_block.specs.inside.Forms.{IsChosen, named};
+ghost use Rattle.micro_block.specs.inside.Stepping.{IsSpread, values_above};
 
 use crate::context::BlockCtx;
-use crate::distances::values_above;
+use crate::distances::{distances_of, value_of};
 use crate::first::first_least;
-use crate::quantising::quantised_value;
-use crate::sizes::{ends, form_sizes, tabled_len};
+use crate::sizes::{form_sizes, tabled_len};
+use crate::spreading::{Spread, spread_of};
 use raster_values::PixelType;
 
 /// The forms of a block, in the order in which they are tried.
@@ -34,7 +35,7 @@ pub(crate) enum BlockForm {
 
 impl BlockForm {
     /// Whether it is the form with a table.
-    pub(crate) fn is_table(self) -> bool
+    fn is_table(self) -> bool
         ensures { IsTrue result ↔ (named self ≡ choice.table) }
     {
         match self {
@@ -68,30 +69,18 @@ fn form_at(place: usize) -> BlockForm
     }
 }
 
-/// The place, in the order of the forms, of the form that is chosen for the values, and the length
-/// of the block.
-fn found(values: &[i64], kind: PixelType, least: i64, greatest: i64, step: u64) -> (usize, usize)
-    requires few { length values.now ≤ 256 }
-    requires in_range { All (InRange kind) values.now }
-    requires step { (0 < step) × (step ≤ 8589934592) }
-    requires ends { AreEnds kind values.now least greatest }
-    ensures { (col : ℕ) → IsFound kind col step values.now result }
+/// The form of the fewest bytes among those that may be, the first of such, for so many values of
+/// which so much is known.
+fn fewest(count: usize, kind: PixelType, spread: Spread, tabled: Option<usize>) -> Chosen
+    requires few { count ≤ 256 }
+    requires least { IsDistance kind spread.least }
+    requires tabled { IfSome tabled (λ n. n ≤ 2000) }
+    ensures first { IsFirst kind count (value_above kind spread.least) spread.most tabled result }
+    ensures least { result.least ≡ value_above kind spread.least }
 {
-    let most = quantised_value(greatest, least, step);
-    let tabled = tabled_len(values, kind, least, most, step);
-    let sizes = form_sizes(values.len(), kind, least, most, tabled);
-    first_least(&sizes).unwrap_or((2, 0))
-}
-
-/// The form that is chosen for the values, and what is known of it.
-pub(crate) fn choose(values: &[i64], kind: PixelType, step: u64) -> Chosen
-    requires few { length values.now ≤ 256 }
-    requires in_range { All (InRange kind) values.now }
-    requires step { (0 < step) × (step ≤ 8589934592) }
-    ensures { (col : ℕ) → IsChosen kind col step values.now result }
-{
-    let (least, greatest) = ends(values, kind);
-    let (place, size) = found(values, kind, least, greatest, step);
+    let least = value_of(kind, spread.least);
+    let sizes = form_sizes(count, kind, least, spread.most, tabled);
+    let (place, size) = first_least(&sizes).unwrap_or((2, 0));
     Chosen {
         form: form_at(place),
         size,
@@ -99,19 +88,28 @@ pub(crate) fn choose(values: &[i64], kind: PixelType, step: u64) -> Chosen
     }
 }
 
-/// How many bytes the chosen block of the values takes: that of the fewest bytes among the forms
-/// zero, constant, raw, stuffed with a simple list and stuffed with a table, of which the first
-/// where two take as many.
-pub fn block_len(values: &[i64], ctx: &BlockCtx) -> usize
-    requires few { length values.now ≤ 256 }
-    requires ctx { IsBlockCtx ctx.now }
-    requires in_range { All (InRange ctx.now.kind) values.now }
-    requires capped { All (λ v. v ≤ℤ ctx.now.top) values.now }
-    ensures length { result
-        ≡ length (choice.block_bytes ctx.now.kind ctx.now.col ctx.now.step values.now) }
-    ensures short { result ≤ 1 + length values.now * bytes_of ctx.now.kind }
+/// The form that is chosen for the values, and what is known of it.
+fn choose(distances: &[u32], kind: PixelType, step: u64) -> Chosen
+    requires few { length distances.now ≤ 256 }
+    requires in_range { All (IsDistance kind) distances.now }
+    requires step { IsBlockStep step }
+    ensures { (col : ℕ) → IsChosen kind col step (values_above kind distances.now) result }
 {
-    choose(values, ctx.kind, ctx.step).size
+    let spread = spread_of(distances, kind, step);
+    let tabled = tabled_len(distances, kind, spread, step);
+    fewest(distances.len(), kind, spread, tabled)
+}
+
+/// The form that is chosen for the values where it has no table, and what is known of it.
+pub(crate) fn choose_plain(distances: &[u32], ctx: &BlockCtx, spread: Spread) -> Chosen
+    requires few { length distances.now ≤ 256 }
+    requires spread { IsSpread ctx.now.kind ctx.now.step distances.now spread }
+    requires plain { let values = values_above ctx.now.kind distances.now in
+        choice.chosen_form ctx.now.kind ctx.now.col ctx.now.step values ≢ choice.table }
+    ensures { let values = values_above ctx.now.kind distances.now in
+        IsChosen ctx.now.kind ctx.now.col ctx.now.step values result }
+{
+    fewest(distances.len(), ctx.kind, spread, None)
 }
 
 /// How long the chosen block of values is, and whether it has a table.
@@ -137,12 +135,27 @@ pub fn block_size(distances: &[u32], ctx: &BlockCtx) -> BlockSize
         ↔ (choice.chosen_form ctx.now.kind ctx.now.col ctx.now.step values ≡ choice.table) }
     ensures short { result.len ≤ 1 + length distances.now * bytes_of ctx.now.kind }
 {
-    let mut room = [0; 256];
-    let values = &mut room[..distances.len()];
-    values_above(ctx.kind, distances, values);
-    let chosen = choose(values, ctx.kind, ctx.step);
+    let chosen = choose(distances, ctx.kind, ctx.step);
     BlockSize {
         len: chosen.size,
         has_table: chosen.form.is_table(),
     }
+}
+
+/// How many bytes the chosen block of the values takes: that of the fewest bytes among the forms
+/// zero, constant, raw, stuffed with a simple list and stuffed with a table, of which the first
+/// where two take as many.
+pub fn block_len(values: &[i64], ctx: &BlockCtx) -> usize
+    requires few { length values.now ≤ 256 }
+    requires ctx { IsBlockCtx ctx.now }
+    requires in_range { All (InRange ctx.now.kind) values.now }
+    requires capped { All (λ v. v ≤ℤ ctx.now.top) values.now }
+    ensures length { result
+        ≡ length (choice.block_bytes ctx.now.kind ctx.now.col ctx.now.step values.now) }
+    ensures short { result ≤ 1 + length values.now * bytes_of ctx.now.kind }
+{
+    let mut room = [0; 256];
+    let distances = &mut room[..values.len()];
+    distances_of(ctx.kind, values, distances);
+    block_size(distances, ctx).len
 }

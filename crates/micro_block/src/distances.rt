@@ -1,18 +1,39 @@
-// Values as their distances from the least value of their type, and back.
+// Distances from the least value of a type.
 
-ghost use Rattle.std.specs.Prelude.{◌≡◌, ◌≤◌, length, map, All};
-ghost use Rattle.raster_values.specs.Distance.{IsDistance, value_above};
+ghost use Rattle.std.specs.Prelude.{◌≡◌, length, map, All};
+ghost use Rattle.raster_values.specs.Distance.{distance_of, value_above};
+ghost use Rattle.raster_values.specs.PixelType.{InRange};
+ghost use Rattle.micro_block.specs.inside.Stepping.{AreEndsOf};
 
 use raster_values::PixelType;
 
-/// Writes the values that are so far above the least value of their type.
-pub(crate) fn values_above(kind: PixelType, distances: &[u32], out: &mut [i64])
-    requires lengths { length out.old ≡ length distances.now }
-    requires in_range { All (IsDistance kind) distances.now }
-    ensures { out.new ≡ map (value_above kind) distances.now }
+/// The value that is so far above the least of its type.
+pub(crate) fn value_of(kind: PixelType, distance: u32) -> i64
+    ensures { result ≡ value_above kind distance }
+{
+    kind.least() + i64::from(distance)
+}
+
+/// Writes how far each value is above the least of its type.
+pub(crate) fn distances_of(kind: PixelType, values: &[i64], out: &mut [u32])
+    requires lengths { length out.old ≡ length values.now }
+    requires in_range { All (InRange kind) values.now }
+    ensures { out.new ≡ map (distance_of kind) values.now }
 {
     let least = kind.least();
-    for (i, distance) in distances.iter().enumerate() {
-        out[i] = least + i64::from(*distance);
+    for (i, value) in values.iter().enumerate() {
+        out[i] = (*value - least) as u32;
     }
+}
+
+/// The least and the greatest distance; of none the greatest number and 0.
+pub(crate) fn ends(distances: &[u32]) -> (u32, u32)
+    ensures { AreEndsOf distances.now result.0 result.1 }
+{
+    let (mut least, mut greatest) = (u32::MAX, 0u32);
+    for distance in distances {
+        least = least.min(*distance);
+        greatest = greatest.max(*distance);
+    }
+    (least, greatest)
 }

@@ -14,6 +14,8 @@ mod quantising;
 mod reading;
 mod shorter;
 mod sizes;
+mod spreading;
+mod stepping;
 mod writing;
 
 pub use choosing::{BlockSize, block_len, block_size};

@@ -1,16 +1,17 @@
 // Quantised values.
 
 ghost use Rattle.std.specs.Prelude.{◌≡◌, ℕ, ℤ, pos, ◌+◌, ◌*◌, ◌/◌, ◌^◌, ◌-ℤ◌, ◌≤ℤ◌, ◌≤◌, ◌<◌};
-ghost use Rattle.std.specs.Prelude.{length, map, All, IfSome, true, unsigned_abs};
+ghost use Rattle.std.specs.Prelude.{length, map, All, true, unsigned_abs};
 ghost use Rattle.lane_kernels.specs.Kernels.{IsSmall};
 ghost use Rattle.micro_block.specs.Frame.{IsBlockStep};
 ghost use Rattle.micro_block.specs.Near.{quantised};
 ghost use Rattle.micro_block.specs.inside.Products.{IsProduct};
 
+use crate::stepping::{Product, far_product};
 use lane_kernels::{minus, range};
 
 /// The number of steps from `least` to the value, rounded to the nearest, halves upwards.
-pub(crate) fn quantised_value(value: i64, least: i64, step: u64) -> u64
+fn quantised_value(value: i64, least: i64, step: u64) -> u64
     requires order { least ≤ℤ value }
     requires small { IsSmall value }
     requires small_least { IsSmall least }
@@ -22,32 +23,6 @@ pub(crate) fn quantised_value(value: i64, least: i64, step: u64) -> u64
         return distance;
     }
     (2 * distance + step) / (2 * step)
-}
-
-/// A product and a shift in place of a division.
-#[derive(Clone, Copy)]
-pub(crate) struct Product {
-    factor: u64,
-    shift: u32,
-}
-
-/// The product for a step, where there is one: for steps up to 2^31 there is.
-fn product_for(step: u64) -> Option<Product>
-    requires { (0 < step) × (step ≤ 8589934592) }
-    ensures { IfSome result (λ p. IsProduct step p) }
-{
-    let digits = 64 - (step - 1).leading_zeros();
-    if digits > 31 || step > 1 << digits {
-        return None;
-    }
-    let factor = ((1 << (31 + digits)) + step - 1) / step;
-    if factor > 1 << 32 {
-        return None;
-    }
-    Some(Product {
-        factor,
-        shift: 31 + digits,
-    })
 }
 
 /// The number of steps of twice `half`, which is 2^shift.
@@ -67,7 +42,7 @@ fn product_value(value: i64, least: i64, half: u64, product: Product) -> u64
     requires order { least ≤ℤ value }
     requires small { IsSmall value }
     requires small_least { IsSmall least }
-    requires near { unsigned_abs (value -ℤ least) + half < 2 ^ 31 }
+    requires near { unsigned_abs (value -ℤ least) + half < product.limit }
     requires step { IsProduct (2 * half) product }
     ensures { result ≡ quantised (2 * half) least value }
 {
@@ -97,7 +72,7 @@ fn product_each(values: &[i64], least: i64, half: u64, product: Product, out: &m
     requires small { All IsSmall values.now }
     requires small_least { IsSmall least }
     requires order { All (λ v. least ≤ℤ v) values.now }
-    requires near { All (λ v. unsigned_abs (v -ℤ least) + half < 2 ^ 31) values.now }
+    requires near { All (λ v. unsigned_abs (v -ℤ least) + half < product.limit) values.now }
     requires step { IsProduct (2 * half) product }
     ensures { out.new ≡ map (λ v. pos (quantised (2 * half) least v)) values.now }
 {
@@ -121,15 +96,15 @@ fn divide_each(values: &[i64], least: i64, step: u64, out: &mut [i64])
 }
 
 /// Whether no value is so far from `least` that a product would not do.
-fn are_near(values: &[i64], least: i64, half: u64) -> bool
+fn are_near(values: &[i64], least: i64, half: u64, limit: u64) -> bool
     requires small { All IsSmall values.now }
     requires small_least { IsSmall least }
     requires order { All (λ v. least ≤ℤ v) values.now }
     requires half { half ≤ 4294967296 }
-    ensures { result ≡ true → All (λ v. unsigned_abs (v -ℤ least) + half < 2 ^ 31) values.now }
+    ensures { result ≡ true → All (λ v. unsigned_abs (v -ℤ least) + half < limit) values.now }
 {
     match range(values) {
-        Some((_, greatest)) => (greatest - least) as u64 + half < 1 << 31,
+        Some((_, greatest)) => (greatest - least) as u64 + half < limit,
         None => true,
     }
 }
@@ -143,8 +118,8 @@ fn step_each(values: &[i64], least: i64, half: u64, out: &mut [i64])
     requires step { (0 < half) × (half ≤ 4294967296) }
     ensures { out.new ≡ map (λ v. pos (quantised (2 * half) least v)) values.now }
 {
-    match product_for(2 * half) {
-        Some(product) if are_near(values, least, half) => {
+    match far_product(2 * half) {
+        Some(product) if are_near(values, least, half, product.limit) => {
             product_each(values, least, half, product, out)
         }
         _ => divide_each(values, least, 2 * half, out),
@@ -171,7 +146,7 @@ fn even_steps(values: &[i64], least: i64, half: u64, out: &mut [i64])
 /// Writes the number of steps from `least` to each value, rounded to the nearest, halves upwards,
 /// over `out`: by a subtraction at step 1, by a shift where the step is a power of 2, and else by a
 /// product where the values are near.
-pub(crate) fn steps(values: &[i64], least: i64, step: u64, out: &mut [i64])
+fn steps(values: &[i64], least: i64, step: u64, out: &mut [i64])
     requires lengths { length out.old ≡ length values.now }
     requires small { All IsSmall values.now }
     requires small_least { IsSmall least }

@@ -42,15 +42,16 @@ pub(crate) fn most_entries(count: usize, width: u32) -> usize
 
 /// Whether more different numbers above 0 than the bound are found. It may answer no where there
 /// are more, since it tells numbers apart by their remainders alone, and ends as soon as it knows.
-pub(crate) fn has_more(qs: &[u32], bound: usize) -> bool
+pub(crate) fn has_more<const N: usize>(qs: &[u32], bound: usize) -> bool
+    requires places { 0 < N }
     requires few { length qs.now ≤ 256 }
     requires bound { bound ≤ 256 }
     ensures { result ≡ true → bound < distinct_above_0 qs.now }
 {
-    let mut seen = [false; 1024];
+    let mut seen = [false; N];
     let mut count = 0;
     for q in qs {
-        let place = (*q % 1024) as usize;
+        let place = *q as usize % N;
         count += usize::from(!seen[place]);
         seen[place] = true;
         if count > bound + 1 {

@@ -1,24 +1,20 @@
 // How long a block is in each form.
 
-ghost use Rattle.std.specs.Prelude.{◌≡◌, ℕ, ℤ, pos, ◌+◌, ◌≤◌, ◌<◌, ◌^◌, ◌≤ℤ◌, ◌-ℤ◌, length, map};
-ghost use Rattle.std.specs.Prelude.{unsigned_abs, true, Some, None, All, IfSome, ◌⊎◌};
-ghost use Rattle.micro_block.specs.inside.Forms.{AreListable};
+ghost use Rattle.std.specs.Prelude.{◌≡◌, ℕ, ◌+◌, ◌≤◌, ◌<◌, ◌^◌, length, map, true, IfSome};
 ghost use Rattle.bit_stuff.specs.Head.{head_size};
-ghost use Rattle.bit_stuff.specs.Stuffed.{stuffed_size};
 ghost use Rattle.bit_stuff.specs.Simple.{binary_digits};
-ghost use Rattle.raster_values.specs.PixelType.{InRange};
+ghost use Rattle.bit_stuff.specs.Stuffed.{stuffed_size};
+ghost use Rattle.lut_stuff.specs.Tables.{distinct_above_0, table_size};
 ghost use Rattle.micro_block.specs.Choice as choice;
 ghost use Rattle.micro_block.specs.Fewest.{allowed};
-ghost use Rattle.lut_stuff.specs.Tables.{distinct_above_0, table_size};
-ghost use Rattle.micro_block.specs.Near.{quantised};
-ghost use Rattle.micro_block.specs.inside.Sizes.{closed_sizes, AreEnds, IsTabledLength};
-ghost use Rattle.lane_kernels.specs.Kernels.{IsSmall};
-ghost use Rattle.bit_stuff.specs.Simple.{greatest_number};
+ghost use Rattle.micro_block.specs.inside.Sizes.{closed_sizes, IsTabledLength};
+ghost use Rattle.micro_block.specs.inside.Stepping.{AreListable, IsSpread, steps_above};
+ghost use Rattle.micro_block.specs.inside.Stepping.{values_above};
 
-use crate::quantising::steps;
 use crate::shorter::{has_more, most_entries};
+use crate::spreading::Spread;
+use crate::stepping::{Rule, steps_each};
 use bit_stuff::{digit_count, head_len, stuffed_len};
-use lane_kernels::range;
 use lut_stuff::table_len;
 use raster_values::PixelType;
 
@@ -80,13 +76,13 @@ fn some_where(test: bool, size: usize) -> Option<usize>
 }
 
 /// How many bytes the simple list of `count` numbers takes, the greatest of which is `most`.
-fn list_size(count: usize, most: u64) -> usize
+fn list_size(count: usize, most: u32) -> usize
     requires count { count ≤ 256 }
     requires most { most < 2 ^ 30 }
     ensures value { result ≡ head_size count + stuffed_size count (binary_digits most) }
     ensures few { result ≤ 2000 }
 {
-    head_len(count as u32) + stuffed_len(count, digit_count(most as u32))
+    head_len(count as u32) + stuffed_len(count, digit_count(most))
 }
 
 /// How many bytes the block of `count` values takes in each form, the least of which is `least` and
@@ -95,7 +91,7 @@ pub(crate) fn form_sizes(
     count: usize,
     kind: PixelType,
     least: i64,
-    most: u64,
+    most: u32,
     tabled: Option<usize>,
 ) -> [Option<usize>; 5]
     requires few { count ≤ 256 }
@@ -119,166 +115,127 @@ pub(crate) fn form_sizes(
     ]
 }
 
-/// The least and the greatest of the values, and 0 and 0 of none.
-pub(crate) fn ends(values: &[i64], kind: PixelType) -> (i64, i64)
-    requires in_range { All (InRange kind) values.now }
-    ensures { AreEnds kind values.now result.0 result.1 }
-{
-    match range(values) {
-        Some((least, greatest)) => (least, greatest),
-        None => (0, 0),
-    }
-}
-
-/// Writes the same numbers without a sign.
-fn narrow(wide: &[i64], out: &mut [u32])
-    requires lengths { length out.old ≡ length wide.now }
-    requires fits { All (λ z. (pos 0 ≤ℤ z) × (z ≤ℤ pos 4294967295)) wide.now }
-    ensures { out.new ≡ map unsigned_abs wide.now }
-{
-    for (i, number) in wide.iter().enumerate() {
-        out[i] = *number as u32;
-    }
-}
-
-/// Writes how far each value is above `least`.
-fn distances(values: &[i64], least: i64, out: &mut [u32])
-    requires lengths { length out.old ≡ length values.now }
-    requires small { All IsSmall values.now }
-    requires small_least { IsSmall least }
-    requires fits { All (λ v. (least ≤ℤ v) × (unsigned_abs (v -ℤ least) < 2 ^ 32)) values.now }
-    ensures { out.new ≡ map (λ v. unsigned_abs (v -ℤ least)) values.now }
-{
-    for (i, value) in values.iter().enumerate() {
-        out[i] = (*value - least) as u32;
-    }
-}
-
-/// Writes the number of steps of each value from `least`, with room for as many with a sign.
-fn steps_through(values: &[i64], least: i64, step: u64, wide: &mut [i64], out: &mut [u32])
-    requires lengths { length out.old ≡ length values.now }
-    requires room { length wide.old ≡ length values.now }
-    requires listable { AreListable step least values.now }
-    ensures { out.new ≡ map (quantised step least) values.now }
-{
-    steps(values, least, step, wide);
-    narrow(wide, out);
-}
-
-/// Writes the number of steps of each value from `least`.
-pub(crate) fn steps_of(values: &[i64], least: i64, step: u64, out: &mut [u32])
-    requires lengths { length out.old ≡ length values.now }
-    requires listable { AreListable step least values.now }
-    ensures { out.new ≡ map (quantised step least) values.now }
-{
-    let count = values.len();
-    if step == 1 {
-        distances(values, least, out);
-    } else if count <= 32 {
-        let mut wide = [0; 32];
-        steps_through(values, least, step, &mut wide[..count], out);
-    } else if count <= 64 {
-        let mut wide = [0; 64];
-        steps_through(values, least, step, &mut wide[..count], out);
-    } else {
-        let mut wide = [0; 256];
-        steps_through(values, least, step, &mut wide[..count], out);
-    }
-}
-
-/// How many bytes the list takes in the table form, with room for the numbers of steps: None also
-/// where more different ones than the bound are found.
+/// How many bytes the numbers of steps take in the table form, with room for them.
 fn table_within(
-    values: &[i64],
-    least: i64,
+    distances: &[u32],
+    least: u32,
+    rule: Rule,
     step: u64,
-    bound: usize,
     qs: &mut [u32],
 ) -> Option<usize>
-    requires lengths { length qs.old ≡ length values.now }
-    requires listable { AreListable step least values.now }
-    requires bound { bound ≤ 256 }
-    ensures value { (result ≡ table_size (map (quantised step least) values.now))
-        ⊎ ((result ≡ None) × (bound < distinct_above_0 (map (quantised step least) values.now))) }
+    requires lengths { length qs.old ≡ length distances.now }
+    requires listable { AreListable step least rule distances.now }
+    ensures value { result ≡ table_size (map (steps_above step least) distances.now) }
     ensures short { IfSome result (λ n. n ≤ 2000) }
 {
-    steps_of(values, least, step, qs);
-    if has_more(qs, bound) {
-        return None;
-    }
+    steps_each(distances, least, rule, step, qs);
     table_len(qs)
 }
 
 /// The same, with room that it makes.
-fn table_of(values: &[i64], least: i64, step: u64, bound: usize) -> Option<usize>
-    requires listable { AreListable step least values.now }
-    requires bound { bound ≤ 256 }
-    ensures value { (result ≡ table_size (map (quantised step least) values.now))
-        ⊎ ((result ≡ None) × (bound < distinct_above_0 (map (quantised step least) values.now))) }
+fn table_of(distances: &[u32], least: u32, rule: Rule, step: u64) -> Option<usize>
+    requires listable { AreListable step least rule distances.now }
+    ensures value { result ≡ table_size (map (steps_above step least) distances.now) }
     ensures short { IfSome result (λ n. n ≤ 2000) }
 {
-    let count = values.len();
+    let count = distances.len();
     if count <= 64 {
         let mut qs = [0; 64];
-        table_within(values, least, step, bound, &mut qs[..count])
+        table_within(distances, least, rule, step, &mut qs[..count])
     } else {
         let mut qs = [0; 256];
-        table_within(values, least, step, bound, &mut qs[..count])
+        table_within(distances, least, rule, step, &mut qs[..count])
     }
 }
 
-/// Whether more different numbers of steps above 0 than the bound are found, with room for them.
-fn has_more_steps(values: &[i64], least: i64, step: u64, bound: usize, qs: &mut [u32]) -> bool
-    requires lengths { length qs.old ≡ length values.now }
-    requires listable { AreListable step least values.now }
+/// Whether more different numbers of steps above 0 than the bound are found, told apart by their
+/// remainders modulo `N`, with room for the numbers.
+fn has_more_with<const N: usize>(
+    distances: &[u32],
+    least: u32,
+    rule: Rule,
+    step: u64,
+    bound: usize,
+    qs: &mut [u32],
+) -> bool
+    requires lengths { length qs.old ≡ length distances.now }
+    requires places { 0 < N }
+    requires listable { AreListable step least rule distances.now }
     requires bound { bound ≤ 256 }
-    ensures { result ≡ true → bound < distinct_above_0 (map (quantised step least) values.now) }
+    ensures { result ≡ true →
+        bound < distinct_above_0 (map (steps_above step least) distances.now) }
 {
-    steps_of(values, least, step, qs);
-    has_more(qs, bound)
+    steps_each(distances, least, rule, step, qs);
+    has_more::<N>(qs, bound)
 }
 
-/// The same of the first values alone, so that most lists are not quantised to their end. Where the
-/// bound is too high for so few to show more, the answer is no.
-fn front_has_more(values: &[i64], least: i64, step: u64, bound: usize) -> bool
-    requires listable { AreListable step least values.now }
+/// The same of the first `M` alone, with room that it makes.
+fn front_has_more<const M: usize, const N: usize>(
+    distances: &[u32],
+    least: u32,
+    rule: Rule,
+    step: u64,
+    bound: usize,
+) -> bool
+    requires front { M ≤ 256 }
+    requires places { 0 < N }
+    requires listable { AreListable step least rule distances.now }
     requires bound { bound ≤ 256 }
-    ensures { result ≡ true → bound < distinct_above_0 (map (quantised step least) values.now) }
+    ensures { result ≡ true →
+        bound < distinct_above_0 (map (steps_above step least) distances.now) }
 {
-    if bound > 28 {
-        return false;
+    let count = distances.len().min(M);
+    let mut qs = [0; M];
+    has_more_with::<N>(
+        &distances[..count],
+        least,
+        rule,
+        step,
+        bound,
+        &mut qs[..count],
+    )
+}
+
+/// Whether more different numbers of steps above 0 than the bound are found: among as few as may
+/// show it, so that most lists are not quantised to their end.
+fn has_more_steps(distances: &[u32], least: u32, rule: Rule, step: u64, bound: usize) -> bool
+    requires listable { AreListable step least rule distances.now }
+    requires bound { bound ≤ 256 }
+    ensures { result ≡ true →
+        bound < distinct_above_0 (map (steps_above step least) distances.now) }
+{
+    if bound <= 11 && front_has_more::<16, 64>(distances, least, rule, step, bound) {
+        return true;
     }
-    let count = values.len().min(32);
-    let mut qs = [0; 32];
-    has_more_steps(&values[..count], least, step, bound, &mut qs[..count])
+    if bound <= 50 && front_has_more::<64, 256>(distances, least, rule, step, bound) {
+        return true;
+    }
+    distances.len() > 64 && front_has_more::<256, 1024>(distances, least, rule, step, bound)
 }
 
 /// How many bytes the list takes in the table form, where it may stand and is shorter than in the
 /// simple form. Where it is not, it may be that None is answered.
 pub(crate) fn tabled_len(
-    values: &[i64],
+    distances: &[u32],
     kind: PixelType,
-    least: i64,
-    most: u64,
+    spread: Spread,
     step: u64,
 ) -> Option<usize>
-    requires count { length values.now ≤ 256 }
-    requires in_range { All (InRange kind) values.now }
-    requires step { (0 < step) × (step ≤ 8589934592) }
-    requires least { least ≡ choice.least_value values.now }
-    requires most { most ≡ greatest_number (choice.quantised_values step values.now) }
-    ensures value { IsTabledLength step values.now result }
+    requires count { length distances.now ≤ 256 }
+    requires spread { IsSpread kind step distances.now spread }
+    ensures value { IsTabledLength step (values_above kind distances.now) result }
     ensures short { IfSome result (λ n. n ≤ 2000) }
 {
+    let (least, most, rule) = (spread.least, spread.most, spread.rule);
     if most == 0 || most >= 1 << 30 {
         return None;
     }
-    let bound = most_entries(values.len(), digit_count(most as u32));
+    let bound = most_entries(distances.len(), digit_count(most));
     if bound == 0 {
         return None;
     }
-    if front_has_more(values, least, step, bound) {
+    if has_more_steps(distances, least, rule, step, bound) {
         return None;
     }
-    table_of(values, least, step, bound)
+    table_of(distances, least, rule, step)
 }

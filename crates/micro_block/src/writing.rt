@@ -1,9 +1,8 @@
 // Writing blocks.
 
-ghost use Rattle.std.specs.Prelude.{◌≡◌, ◌+◌, ◌*◌, ◌^◌, ◌<◌, ◌≤◌, ◌≤ℤ◌, ◌∷◌, [], ◌++◌, ℕ, ℤ, pos};
+ghost use Rattle.std.specs.Prelude.{◌≡◌, ◌≢◌, ◌+◌, ◌*◌, ◌<◌, ◌≤◌, ◌≤ℤ◌, ◌∷◌, [], ◌++◌, ℕ, ℤ, pos};
 ghost use Rattle.std.specs.Prelude.{All, Some, length, map, get_or, take, drop, IsTrue, ◌↔◌};
 ghost use Rattle.bit_stuff.specs.Simple.{simple_bytes};
-ghost use Rattle.lane_kernels.specs.Kernels.{IsSmall};
 ghost use Rattle.lut_stuff.specs.Tables.{table_bytes, table_size};
 ghost use Rattle.raster_values.specs.Distance.{IsDistance, value_above};
 ghost use Rattle.raster_values.specs.PixelType.{InRange, bytes_of};
@@ -13,15 +12,19 @@ ghost use Rattle.micro_block.specs.Choice as choice;
 ghost use Rattle.micro_block.specs.Choice.{block_bytes, form_bytes, kept, narrowest, offset_bytes};
 ghost use Rattle.micro_block.specs.Choice.{tag_byte};
 ghost use Rattle.micro_block.specs.Frame.{IsBlockCtx, frame_of};
-ghost use Rattle.micro_block.specs.Near.{IsNear, quantised};
-ghost use Rattle.micro_block.specs.inside.Forms.{AreListable, IsChosen};
+ghost use Rattle.micro_block.specs.Near.{IsNear};
+ghost use Rattle.micro_block.specs.inside.Forms.{IsChosen};
+ghost use Rattle.micro_block.specs.inside.Stepping.{AreListable, IsSpread, steps_above};
+ghost use Rattle.micro_block.specs.inside.Stepping.{values_above};
 
-use crate::choosing::{BlockForm, Chosen, choose};
+use crate::choosing::{BlockForm, Chosen, block_size, choose_plain};
 use crate::context::BlockCtx;
-use crate::distances::values_above;
-use crate::sizes::{narrow_type, steps_of};
+use crate::distances::{distances_of, value_of};
+use crate::sizes::narrow_type;
+use crate::spreading::{Spread, spread_of};
+use crate::stepping::{Rule, steps_each};
 use bit_stuff::write_simple;
-use lut_stuff::write_table;
+use lut_stuff::{table_len, write_table};
 use raster_values::PixelType;
 
 /// The tag of a block.
@@ -66,15 +69,15 @@ fn write_offset(form: u8, col: u32, kind: PixelType, least: i64, out: &mut [u8])
     1 + narrow.bytes()
 }
 
-/// Writes the bytes of the values.
-fn write_values(kind: PixelType, values: &[i64], out: &mut [u8])
-    requires room { length out.old ≡ length values.now * bytes_of kind }
-    requires in_range { All (InRange kind) values.now }
-    ensures { out.new ≡ values_bytes kind values.now }
+/// Writes the bytes of the values that are so far above the least of the type.
+fn write_values(kind: PixelType, distances: &[u32], out: &mut [u8])
+    requires room { length out.old ≡ length distances.now * bytes_of kind }
+    requires in_range { All (IsDistance kind) distances.now }
+    ensures { out.new ≡ values_bytes kind (values_above kind distances.now) }
 {
     let size = kind.bytes();
-    for (i, value) in values.iter().enumerate() {
-        kind.write_value(*value, &mut out[i * size..]);
+    for (i, distance) in distances.iter().enumerate() {
+        kind.write_value(value_of(kind, *distance), &mut out[i * size..]);
     }
 }
 
@@ -96,120 +99,182 @@ fn write_constant(col: u32, kind: PixelType, least: i64, out: &mut [u8])
 }
 
 /// Writes the raw form.
-fn write_raw(values: &[i64], col: u32, kind: PixelType, out: &mut [u8])
-    requires in_range { All (InRange kind) values.now }
-    requires room { length out.old ≡ 1 + length values.now * bytes_of kind }
-    ensures { out.new ≡ tag_byte col 0 0 ∷ values_bytes kind values.now }
+fn write_raw(distances: &[u32], col: u32, kind: PixelType, out: &mut [u8])
+    requires in_range { All (IsDistance kind) distances.now }
+    requires room { length out.old ≡ 1 + length distances.now * bytes_of kind }
+    ensures { out.new ≡ tag_byte col 0 0 ∷ values_bytes kind (values_above kind distances.now) }
 {
     out[0] = tag(col, 0, 0);
-    write_values(kind, values, &mut out[1..]);
+    write_values(kind, distances, &mut out[1..]);
 }
 
 /// Writes the list of the numbers of steps in the simple form, with room for the numbers.
-fn write_simple_steps(values: &[i64], least: i64, step: u64, qs: &mut [u32], out: &mut [u8])
-    requires lengths { length qs.old ≡ length values.now }
-    requires listable { AreListable step least values.now }
-    requires room { length out.old ≡ length (simple_bytes (map (quantised step least) values.now)) }
-    ensures { out.new ≡ simple_bytes (map (quantised step least) values.now) }
+fn write_simple_steps(
+    distances: &[u32],
+    least: u32,
+    rule: Rule,
+    step: u64,
+    qs: &mut [u32],
+    out: &mut [u8],
+)
+    requires lengths { length qs.old ≡ length distances.now }
+    requires listable { AreListable step least rule distances.now }
+    requires room { length out.old
+        ≡ length (simple_bytes (map (steps_above step least) distances.now)) }
+    ensures { out.new ≡ simple_bytes (map (steps_above step least) distances.now) }
 {
-    steps_of(values, least, step, qs);
+    steps_each(distances, least, rule, step, qs);
     write_simple(qs, out);
 }
 
-/// Writes the list of the numbers of steps in the table form, with room for the numbers.
-fn write_table_steps(values: &[i64], least: i64, step: u64, qs: &mut [u32], out: &mut [u8])
-    requires lengths { length qs.old ≡ length values.now }
-    requires listable { AreListable step least values.now }
-    requires room { table_size (map (quantised step least) values.now) ≡ Some (length out.old) }
-    ensures { out.new ≡ table_bytes (map (quantised step least) values.now) }
-{
-    steps_of(values, least, step, qs);
-    write_table(qs, out);
-}
-
 /// Writes the list of the numbers of steps in the simple form.
-fn write_simple_list(values: &[i64], least: i64, step: u64, out: &mut [u8])
-    requires listable { AreListable step least values.now }
-    requires room { length out.old ≡ length (simple_bytes (map (quantised step least) values.now)) }
-    ensures { out.new ≡ simple_bytes (map (quantised step least) values.now) }
+fn write_simple_list(distances: &[u32], least: u32, rule: Rule, step: u64, out: &mut [u8])
+    requires listable { AreListable step least rule distances.now }
+    requires room { length out.old
+        ≡ length (simple_bytes (map (steps_above step least) distances.now)) }
+    ensures { out.new ≡ simple_bytes (map (steps_above step least) distances.now) }
 {
-    let count = values.len();
+    let count = distances.len();
     if count <= 64 {
         let mut qs = [0; 64];
-        write_simple_steps(values, least, step, &mut qs[..count], out);
+        write_simple_steps(distances, least, rule, step, &mut qs[..count], out);
     } else {
         let mut qs = [0; 256];
-        write_simple_steps(values, least, step, &mut qs[..count], out);
+        write_simple_steps(distances, least, rule, step, &mut qs[..count], out);
     }
 }
 
-/// Writes the list of the numbers of steps in the table form.
-fn write_table_list(values: &[i64], least: i64, step: u64, out: &mut [u8])
-    requires listable { AreListable step least values.now }
-    requires room { table_size (map (quantised step least) values.now) ≡ Some (length out.old) }
-    ensures { out.new ≡ table_bytes (map (quantised step least) values.now) }
+/// Writes the list of the numbers of steps in the table form over the front of `out`, with room
+/// for the numbers; how many bytes it takes.
+fn write_table_steps(
+    distances: &[u32],
+    least: u32,
+    rule: Rule,
+    step: u64,
+    qs: &mut [u32],
+    out: &mut [u8],
+) -> usize
+    requires lengths { length qs.old ≡ length distances.now }
+    requires listable { AreListable step least rule distances.now }
+    requires table { let qs = map (steps_above step least) distances.now in
+        table_size qs ≡ Some (length (table_bytes qs)) }
+    requires room { length (table_bytes (map (steps_above step least) distances.now))
+        ≤ length out.old }
+    ensures count { result ≡ length (table_bytes (map (steps_above step least) distances.now)) }
+    ensures bytes { out.new ≡ table_bytes (map (steps_above step least) distances.now)
+        ++ drop result out.old }
 {
-    let mut qs = [0; 256];
-    write_table_steps(values, least, step, &mut qs[..values.len()], out);
+    steps_each(distances, least, rule, step, qs);
+    let size = table_len(qs).unwrap_or(0);
+    write_table(qs, &mut out[..size]);
+    size
+}
+
+/// Writes the list of the numbers of steps in the table form over the front of `out`; how many
+/// bytes it takes.
+fn write_table_list(distances: &[u32], least: u32, rule: Rule, step: u64, out: &mut [u8]) -> usize
+    requires listable { AreListable step least rule distances.now }
+    requires table { let qs = map (steps_above step least) distances.now in
+        table_size qs ≡ Some (length (table_bytes qs)) }
+    requires room { length (table_bytes (map (steps_above step least) distances.now))
+        ≤ length out.old }
+    ensures count { result ≡ length (table_bytes (map (steps_above step least) distances.now)) }
+    ensures bytes { out.new ≡ table_bytes (map (steps_above step least) distances.now)
+        ++ drop result out.old }
+{
+    let count = distances.len();
+    if count <= 64 {
+        let mut qs = [0; 64];
+        write_table_steps(distances, least, rule, step, &mut qs[..count], out)
+    } else {
+        let mut qs = [0; 256];
+        write_table_steps(distances, least, rule, step, &mut qs[..count], out)
+    }
 }
 
 /// Writes the form with a simple list.
-fn write_simple_form(
-    values: &[i64],
-    col: u32,
-    kind: PixelType,
-    least: i64,
-    step: u64,
-    out: &mut [u8],
-)
-    requires least { least ≡ choice.least_value values.now }
-    requires fits { InRange kind least }
-    requires listable { AreListable step least values.now }
-    requires room { length out.old ≡ length (form_bytes kind col step values.now choice.simple) }
-    ensures { out.new ≡ form_bytes kind col step values.now choice.simple }
+fn write_simple_form(distances: &[u32], ctx: &BlockCtx, spread: Spread, out: &mut [u8])
+    requires spread { IsSpread ctx.now.kind ctx.now.step distances.now spread }
+    requires listable { AreListable ctx.now.step spread.least spread.rule distances.now }
+    requires room { let values = values_above ctx.now.kind distances.now in length out.old
+        ≡ length (form_bytes ctx.now.kind ctx.now.col ctx.now.step values choice.simple) }
+    ensures { let values = values_above ctx.now.kind distances.now in
+        out.new ≡ form_bytes ctx.now.kind ctx.now.col ctx.now.step values choice.simple }
 {
-    let used = write_offset(1, col, kind, least, out);
-    write_simple_list(values, least, step, &mut out[used..]);
+    let (least, rule) = (spread.least, spread.rule);
+    let used = write_offset(1, ctx.col, ctx.kind, value_of(ctx.kind, least), out);
+    write_simple_list(distances, least, rule, ctx.step, &mut out[used..]);
 }
 
-/// Writes the form with a table.
-fn write_table_form(
-    values: &[i64],
-    col: u32,
-    kind: PixelType,
-    least: i64,
-    step: u64,
-    out: &mut [u8],
-)
-    requires least { least ≡ choice.least_value values.now }
-    requires fits { InRange kind least }
-    requires listable { AreListable step least values.now }
-    requires table { table_size (map (quantised step least) values.now)
-        ≡ Some (length (table_bytes (map (quantised step least) values.now))) }
-    requires room { length out.old ≡ length (form_bytes kind col step values.now choice.table) }
-    ensures { out.new ≡ form_bytes kind col step values.now choice.table }
+/// Writes the form with a table over the front of `out`; how many bytes it takes.
+fn write_table_form(distances: &[u32], ctx: &BlockCtx, spread: Spread, out: &mut [u8]) -> usize
+    requires spread { IsSpread ctx.now.kind ctx.now.step distances.now spread }
+    requires listable { AreListable ctx.now.step spread.least spread.rule distances.now }
+    requires table { let qs = map (steps_above ctx.now.step spread.least) distances.now in
+        table_size qs ≡ Some (length (table_bytes qs)) }
+    requires room { let values = values_above ctx.now.kind distances.now in
+        length (form_bytes ctx.now.kind ctx.now.col ctx.now.step values choice.table)
+        ≤ length out.old }
+    ensures count { let values = values_above ctx.now.kind distances.now in result
+        ≡ length (form_bytes ctx.now.kind ctx.now.col ctx.now.step values choice.table) }
+    ensures bytes { let values = values_above ctx.now.kind distances.now in
+        out.new ≡ form_bytes ctx.now.kind ctx.now.col ctx.now.step values choice.table
+        ++ drop result out.old }
 {
-    let used = write_offset(1, col, kind, least, out);
-    write_table_list(values, least, step, &mut out[used..]);
+    let (least, rule) = (spread.least, spread.rule);
+    let used = write_offset(1, ctx.col, ctx.kind, value_of(ctx.kind, least), out);
+    used + write_table_list(distances, least, rule, ctx.step, &mut out[used..])
 }
 
-/// Writes the chosen form over all of `out`.
-fn write_form(values: &[i64], ctx: &BlockCtx, chosen: Chosen, out: &mut [u8])
-    requires few { length values.now ≤ 256 }
+/// Writes the chosen form, which has no table, over all of `out`.
+fn write_plain(distances: &[u32], ctx: &BlockCtx, spread: Spread, chosen: Chosen, out: &mut [u8])
+    requires few { length distances.now ≤ 256 }
     requires ctx { IsBlockCtx ctx.now }
-    requires in_range { All (InRange ctx.now.kind) values.now }
-    requires chosen { IsChosen ctx.now.kind ctx.now.col ctx.now.step values.now chosen }
+    requires in_range { All (IsDistance ctx.now.kind) distances.now }
+    requires spread { IsSpread ctx.now.kind ctx.now.step distances.now spread }
+    requires chosen { let values = values_above ctx.now.kind distances.now in
+        IsChosen ctx.now.kind ctx.now.col ctx.now.step values chosen }
+    requires plain { let values = values_above ctx.now.kind distances.now in
+        choice.chosen_form ctx.now.kind ctx.now.col ctx.now.step values ≢ choice.table }
     requires room { length out.old ≡ chosen.size }
-    ensures { out.new ≡ block_bytes ctx.now.kind ctx.now.col ctx.now.step values.now }
+    ensures { let values = values_above ctx.now.kind distances.now in
+        out.new ≡ block_bytes ctx.now.kind ctx.now.col ctx.now.step values }
 {
-    let (kind, col, step, least) = (ctx.kind, ctx.col, ctx.step, chosen.least);
+    let (kind, col, least) = (ctx.kind, ctx.col, chosen.least);
     match chosen.form {
         BlockForm::Zero => write_zero(col, out),
         BlockForm::Constant => write_constant(col, kind, least, out),
-        BlockForm::Raw => write_raw(values, col, kind, out),
-        BlockForm::Simple => write_simple_form(values, col, kind, least, step, out),
-        BlockForm::Table => write_table_form(values, col, kind, least, step, out),
+        BlockForm::Raw => write_raw(distances, col, kind, out),
+        BlockForm::Simple => write_simple_form(distances, ctx, spread, out),
+        BlockForm::Table => unreachable!(),
     }
+}
+
+/// Writes the chosen block of the values that are so far above the least value of the type over the
+/// front of `out`, whose rest stays; how many bytes it takes, which is the length of `block_size`.
+/// It is told whether that block has a table.
+pub fn write_distances(distances: &[u32], ctx: &BlockCtx, has_table: bool, out: &mut [u8]) -> usize
+    requires few { length distances.now ≤ 256 }
+    requires ctx { IsBlockCtx ctx.now }
+    requires in_range { All (IsDistance ctx.now.kind) distances.now }
+    requires capped { All (λ v. v ≤ℤ ctx.now.top) (map (value_above ctx.now.kind) distances.now) }
+    requires table { let values = map (value_above ctx.now.kind) distances.now in
+        IsTrue has_table
+        ↔ (choice.chosen_form ctx.now.kind ctx.now.col ctx.now.step values ≡ choice.table) }
+    requires room { let values = map (value_above ctx.now.kind) distances.now in
+        length (block_bytes ctx.now.kind ctx.now.col ctx.now.step values) ≤ length out.old }
+    ensures count { let values = map (value_above ctx.now.kind) distances.now in
+        result ≡ length (block_bytes ctx.now.kind ctx.now.col ctx.now.step values) }
+    ensures bytes { let values = map (value_above ctx.now.kind) distances.now in
+        out.new ≡ block_bytes ctx.now.kind ctx.now.col ctx.now.step values ++ drop result out.old }
+{
+    let spread = spread_of(distances, ctx.kind, ctx.step);
+    if has_table {
+        return write_table_form(distances, ctx, spread, out);
+    }
+    let chosen = choose_plain(distances, ctx, spread);
+    write_plain(distances, ctx, spread, chosen, &mut out[..chosen.size]);
+    chosen.size
 }
 
 /// Writes the chosen block of the values over the front of `out`, whose rest stays; how many bytes
@@ -236,33 +301,9 @@ pub fn write_block(values: &[i64], ctx: &BlockCtx, out: &mut [u8]) -> usize
     ensures exact { ctx.now.step ≡ 1 →
         IsBlock (frame_of ctx.now (length values.now)) (take result out.new) values.now }
 {
-    let chosen = choose(values, ctx.kind, ctx.step);
-    write_form(values, ctx, chosen, &mut out[..chosen.size]);
-    chosen.size
-}
-
-/// Writes the chosen block of the values that are so far above the least value of the type over the
-/// front of `out`, whose rest stays; how many bytes it takes, which is the length of `block_size`.
-/// It is told whether that block has a table.
-pub fn write_distances(distances: &[u32], ctx: &BlockCtx, has_table: bool, out: &mut [u8]) -> usize
-    requires few { length distances.now ≤ 256 }
-    requires ctx { IsBlockCtx ctx.now }
-    requires in_range { All (IsDistance ctx.now.kind) distances.now }
-    requires capped { All (λ v. v ≤ℤ ctx.now.top) (map (value_above ctx.now.kind) distances.now) }
-    requires table { let values = map (value_above ctx.now.kind) distances.now in
-        IsTrue has_table
-        ↔ (choice.chosen_form ctx.now.kind ctx.now.col ctx.now.step values ≡ choice.table) }
-    requires room { let values = map (value_above ctx.now.kind) distances.now in
-        length (block_bytes ctx.now.kind ctx.now.col ctx.now.step values) ≤ length out.old }
-    ensures count { let values = map (value_above ctx.now.kind) distances.now in
-        result ≡ length (block_bytes ctx.now.kind ctx.now.col ctx.now.step values) }
-    ensures bytes { let values = map (value_above ctx.now.kind) distances.now in
-        out.new ≡ block_bytes ctx.now.kind ctx.now.col ctx.now.step values ++ drop result out.old }
-{
     let mut room = [0; 256];
-    let values = &mut room[..distances.len()];
-    values_above(ctx.kind, distances, values);
-    let chosen = choose(values, ctx.kind, ctx.step);
-    write_form(values, ctx, chosen, &mut out[..chosen.size]);
-    chosen.size
+    let distances = &mut room[..values.len()];
+    distances_of(ctx.kind, values, distances);
+    let size = block_size(distances, ctx);
+    write_distances(distances, ctx, size.has_table, out)
 }

@@ -1,9 +1,8 @@
 -- The form that is chosen, by its place and with what is known of it.
-use Rattle.std.specs.Prelude.{◌≡◌, ℕ, ℤ, ◌≤ℤ◌, ◌≤◌, ◌<◌, ◌^◌, nat_eq, not, ◌&&◌, nat_lt, nat_le}
-use Rattle.std.specs.Prelude.{true, unsigned_abs, if◌then◌else◌, List, All, length}
+use Rattle.std.specs.Prelude.{◌≡◌, ℕ, ℤ, nat_eq, not, ◌&&◌, nat_lt, nat_le}
+use Rattle.std.specs.Prelude.{true, unsigned_abs, if◌then◌else◌, List, length}
 use Rattle.raster_values.specs.declared.kind.PixelType.{PixelType}
 use Rattle.raster_values.specs.PixelType.{InRange}
-use Rattle.lane_kernels.specs.Kernels.{IsSmall}
 use Rattle.lut_stuff.specs.Tables.{distinct_above_0}
 use Rattle.micro_block.specs.declared.choosing.BlockForm.{BlockForm}
 use Rattle.micro_block.specs.declared.choosing.BlockForm.TheVariants.{Zero, Constant, Raw, Simple}
@@ -12,7 +11,6 @@ use Rattle.micro_block.specs.declared.choosing.Chosen.{Chosen}
 use Rattle.micro_block.specs.Choice as choice
 use Rattle.micro_block.specs.Choice.{Form, least_value, quantised_values, is_flat, is_stuffable}
 use Rattle.micro_block.specs.Choice.{chosen_form, block_bytes}
-use Rattle.micro_block.specs.Near.{quantised}
 
 -- the form at a place in their order
 abbrev pub form_at : ℕ → BlockForm
@@ -47,13 +45,3 @@ pub record IsChosen (kind : PixelType) (col step : ℕ) (values : List ℤ) (c :
   pub may : May step values (named c.form)
   pub least : c.least ≡ least_value values
   pub fits : InRange kind c.least
-
--- what is asked of values whose numbers of steps go into a list
-pub record AreListable (step : ℕ) (least : ℤ) (values : List ℤ) : Type 0 where
-  pub count : length values ≤ 256
-  pub small : All IsSmall values
-  pub small_least : IsSmall least
-  pub order : All (λ v. least ≤ℤ v) values
-  pub some : 0 < step
-  pub step_fits : step ≤ 8589934592
-  pub few : All (λ v. quantised step least v < 2 ^ 30) values

@@ -1,18 +1,19 @@
 -- How long each form of a block is, by numbers alone.
-use Rattle.std.specs.Prelude.{◌≡◌, ℕ, ℤ, ◌+◌, ◌*◌, ◌^◌, ◌<◌, ◌≤◌, ◌⊎◌, not, ◌&&◌, nat_eq, nat_lt}
+use Rattle.std.specs.Prelude.{◌≡◌, ℕ, ℤ, ◌+◌, ◌*◌, ◌^◌, ◌≤◌, ◌⊎◌, not, ◌&&◌, nat_eq, nat_lt}
 use Rattle.std.specs.Prelude.{unsigned_abs, List, [], ◌∷◌}
-use Rattle.std.specs.Prelude.{Option, Some, None, ◌≤ℤ◌, length, get_or, if◌then◌else◌}
+use Rattle.std.specs.Prelude.{Option, Some, None, length, if◌then◌else◌}
 use Rattle.std.specs.Option.{option_map}
 use Rattle.raster_values.specs.declared.kind.PixelType.{PixelType}
-use Rattle.raster_values.specs.PixelType.{bytes_of, InRange}
+use Rattle.raster_values.specs.PixelType.{bytes_of}
 use Rattle.bit_stuff.specs.Stuffed.{stuffed_size}
 use Rattle.bit_stuff.specs.Head.{head_size}
 use Rattle.bit_stuff.specs.Simple.{binary_digits, greatest_number}
 use Rattle.lut_stuff.specs.Tables.{table_size}
-use Rattle.micro_block.specs.Fewest.{allowed}
-use Rattle.micro_block.specs.Choice.{narrow_type, least_value, quantised_values, forms, chosen_form}
-use Rattle.micro_block.specs.Choice.{block_bytes, is_flat, is_stuffable}
-use Rattle.micro_block.specs.Near.{quantised}
+use Rattle.micro_block.specs.Fewest.{allowed, IsFirstLeast}
+use Rattle.micro_block.specs.declared.choosing.Chosen.{Chosen}
+use Rattle.micro_block.specs.inside.Forms.{form_at}
+use Rattle.micro_block.specs.Choice.{narrow_type, quantised_values}
+use Rattle.micro_block.specs.Choice.{is_flat, is_stuffable}
 
 -- the length of the list in the table form, where it may stand
 abbrev pub tabled_size : ℕ → List ℤ → Option ℕ
@@ -45,16 +46,8 @@ closed_sizes kind n least most tabled =
     (1 + (bytes_of (narrow_type kind least) + (head_size n + stuffed_size n (binary_digits most))))
     ∷ option_map (table_form kind least) tabled ∷ []
 
--- the least value, and one whose number of steps is the greatest
-pub record AreEnds (kind : PixelType) (values : List ℤ) (least greatest : ℤ) : Type 0 where
-  pub least_is : least ≡ least_value values
-  pub least_fits : InRange kind least
-  pub greatest_fits : InRange kind greatest
-  pub order : least ≤ℤ greatest
-  pub most : (step : ℕ) → 0 < step
-      → quantised step least greatest ≡ greatest_number (quantised_values step values)
-
--- what is found from sizes by numbers
-pub record IsFound (kind : PixelType) (col step : ℕ) (values : List ℤ) (p : ℕ × ℕ) : Type 0 where
-  pub form : get_or (forms step values) p.0 None ≡ Some (chosen_form kind col step values)
-  pub size : length (block_bytes kind col step values) ≡ p.1
+-- what is chosen of so many values by these sizes
+abbrev pub IsFirst : PixelType → ℕ → ℤ → ℕ → Option ℕ → Chosen → Type 0
+IsFirst kind n least most tabled c =
+    (place : ℕ) × ((c.form ≡ form_at place)
+    × IsFirstLeast (λ m. m) (closed_sizes kind n least most tabled) place c.size)

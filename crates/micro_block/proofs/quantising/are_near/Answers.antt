@@ -1,4 +1,4 @@
-use Rattle.std.proofs.Common.{◌+◌, ◌<◌, ◌^◌, ℤ, ◌≤ℤ◌, get_or, subst, arith}
+use Rattle.std.proofs.Common.{◌+◌, ◌<◌, ℤ, ◌≤ℤ◌, get_or, subst, arith}
 use Rattle.std.specs.Prelude.{unsigned_abs}
 use Rattle.std.proofs.lemmas.Int.{ints}
 use Rattle.std.proofs.lemmas.Bool.{ltb-true}
@@ -29,4 +29,4 @@ returns-in-Some c t k d lt =
     let g : IsSmall c.in-Some.greatest = in_list IsSmall c.args.values.now c.in-Some.greatest is.1.0 c.requires.small in
     let e = distance_read c.in-Some.greatest c.args.least g c.requires.small_least in
     let h = ltb-true _ _ t in
-    nearer (get_or c.args.values.now k d) c.args.least c.in-Some.greatest c.args.half (c.requires.order k d lt) (is.1.1 k d lt) (subst (λ (z : ℤ). unsigned_abs z + c.args.half < 2 ^ 31) e h)
+    nearer (get_or c.args.values.now k d) c.args.least c.in-Some.greatest c.args.half c.args.limit (c.requires.order k d lt) (is.1.1 k d lt) (subst (λ (z : ℤ). unsigned_abs z + c.args.half < c.args.limit) e h)

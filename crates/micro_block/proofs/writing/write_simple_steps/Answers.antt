@@ -1,12 +1,5 @@
-use Rattle.std.proofs.Common.{◌≡◌, ℤ, map, ap, ◌∙◌}
-use Rattle.std.proofs.lemmas.Int.{to_z-of_z}
-use mir.Syntax.{w64}
-use Rattle.micro_block.specs.Near.{quantised}
-use Rattle.micro_block.proofs.SizeSteps.{qs_below}
+use Rattle.micro_block.proofs.Above.{all_below}
 use Rattle.micro_block.proofs.writing.write_simple_steps.Goals as goal
 
 pub write_simple-requires-clause-values : goal.write_simple-requires-clause-values
-write_simple-requires-clause-values c =
-    let e : c.steps_of.new.out ≡ map (quantised c.args.step c.args.least) c.args.values.now =
-    c.steps_of.ensures ∙ ap (λ (m : ℤ). map (quantised c.args.step m) c.args.values.now) (to_z-of_z w64 c.args.least c.ranges.least) in
-    qs_below c.args.values.now c.args.step c.args.least c.steps_of.new.out e c.requires.listable.few
+write_simple-requires-clause-values c = all_below c.args.step c.args.least c.args.distances.now c.steps_each.new.out c.steps_each.ensures c.requires.listable.few

@@ -1,0 +1,6 @@
+use Rattle.std.proofs.Common.{◌≡◌, ◌*◌, map, take}
+use Rattle.micro_block.specs.inside.Stepping.{steps_above}
+use Rattle.micro_block.proofs.stepping.multiply_each.Given as goal
+
+abbrev pub invariant-loop-i : goal.invariant-loop-i
+invariant-loop-i l = take l.i l.out ≡ map (steps_above (2 * l.half) l.least) (take l.i l.distances)
