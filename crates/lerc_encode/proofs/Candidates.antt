@@ -12,7 +12,7 @@ use Rattle.micro_block.proofs.Steps.{by_sizes, sized}
 use Rattle.lerc_encode.specs.Codings.{coding_bytes, have_codes}
 use Rattle.lerc_encode.specs.Images as images
 use Rattle.lerc_encode.specs.Images.{Form, blocks_bytes, mode_bytes, form_bytes, forms, chosen_form, all_deltas, may_be_delta, may_be_plain}
-use Rattle.lerc_encode.specs.inside.Coded.{AreCodings, AreSymbols, HasSymbols}
+use Rattle.lerc_encode.specs.inside.Coded.{AreCodings, AreSymbols, HasSymbols, IsLying}
 use Rattle.lerc_encode.specs.inside.Choosing.{IsBase, IsChosen, named, form_at}
 use Rattle.lerc_encode.specs.inside.Blocked.{IsMeasured}
 use Rattle.lerc_encode.specs.Heads.{header_of}
@@ -59,11 +59,11 @@ chosen_may r version step = by (first_least (size_of r version step) (forms r ve
 
 -- ---- the lengths
 
-coded_size : (r : Pixels) (version : Version) (step : ℕ) (wanted : Bool) (symbols : List ℕ) (s : Symbols) (form : Form) → AreSymbols wanted symbols s → size_of r version step form ≡ 2 + length (coding_bytes symbols)
+coded_size : (r : Pixels) (version : Version) (step : ℕ) (Lie : Type 0) (wanted : Bool) (symbols : List ℕ) (s : Symbols) (form : Form) → AreSymbols Lie wanted symbols s → size_of r version step form ≡ 2 + length (coding_bytes symbols)
     → option_map (λ c. c.size + 2) s.coding ≡ option_map (size_of r version step) (allowed (wanted && have_codes symbols) form)
-coded_size r version step wanted symbols s form are long = by s.coding are
+coded_size r version step Lie wanted symbols s form are long = by s.coding are
   where
-    by : (coding : Option Coding) → MatchOption coding ((wanted && have_codes symbols) ≡ false) (HasSymbols wanted symbols s) → option_map (λ c. c.size + 2) coding ≡ option_map (size_of r version step) (allowed (wanted && have_codes symbols) form)
+    by : (coding : Option Coding) → MatchOption coding ((wanted && have_codes symbols) ≡ false) (HasSymbols Lie wanted symbols s) → option_map (λ c. c.size + 2) coding ≡ option_map (size_of r version step) (allowed (wanted && have_codes symbols) form)
     by None h = ap (λ (b : Bool). option_map (size_of r version step) (allowed b form)) (sym h)
     by (Some c) h =
         let is = h.coding_is.size_is in
@@ -73,22 +73,22 @@ coded_size r version step wanted symbols s form are long = by s.coding are
 pub delta_size : (r : Pixels) (version : Version) (step : ℕ) (c : Codings) → AreCodings r version step c
     → option_map (λ x. x.size + 2) c.deltas.coding ≡ option_map (size_of r version step) (allowed (may_be_delta r step) images.delta)
 unfolding form_bytes
-delta_size r version step c are = coded_size r version step (images.has_mode r step) (all_deltas r) c.deltas images.delta are.deltas (omega arith)
+delta_size r version step c are = coded_size r version step ⊥ (images.has_mode r step) (all_deltas r) c.deltas images.delta are.deltas (omega arith)
 
 pub plain_size : (r : Pixels) (version : Version) (step : ℕ) (c : Codings) → AreCodings r version step c
     → option_map (λ x. x.size + 2) c.plains.coding ≡ option_map (size_of r version step) (allowed (may_be_plain r version step) images.plain)
 unfolding form_bytes
-plain_size r version step c are = coded_size r version step (images.has_mode r step && images.is_v4 version) (plain_symbols r) c.plains images.plain are.plains (omega arith)
+plain_size r version step c are = coded_size r version step (IsLying r) (images.has_mode r step && images.is_v4 version) (plain_symbols r) c.plains images.plain are.plains (omega arith)
 
 -- ---- the bytes
 
-pub delta_is : (r : Pixels) (version : Version) (step : ℕ) (symbols : List ℕ) → symbols ≡ all_deltas r → 0 ∷ 1 ∷ coding_bytes symbols ≡ form_bytes r version step images.delta
+pub delta_is : (r : Pixels) (version : Version) (step : ℕ) → 0 ∷ 1 ∷ coding_bytes (all_deltas r) ≡ form_bytes r version step images.delta
 unfolding form_bytes
-delta_is r version step symbols e = ap (λ (xs : List ℕ). 0 ∷ 1 ∷ coding_bytes xs) e
+delta_is r version step = refl
 
-pub plain_is : (r : Pixels) (version : Version) (step : ℕ) (symbols : List ℕ) → symbols ≡ plain_symbols r → 0 ∷ 2 ∷ coding_bytes symbols ≡ form_bytes r version step images.plain
+pub plain_is : (r : Pixels) (version : Version) (step : ℕ) → 0 ∷ 2 ∷ coding_bytes (plain_symbols r) ≡ form_bytes r version step images.plain
 unfolding form_bytes
-plain_is r version step symbols e = ap (λ (xs : List ℕ). 0 ∷ 2 ∷ coding_bytes xs) e
+plain_is r version step = refl
 
 -- ---- the choice
 

@@ -1,21 +1,21 @@
 // The values of a raster of bytes as symbols, and these as code words.
 
-ghost use Rattle.std.specs.Prelude.{◌≡◌, ℕ, ◌+◌, ◌*◌, ◌^◌, ◌<◌, ◌≤◌, ◌&&◌, ◌∷◌, true, false, length, sum, IfOk, IsTrue, MatchOption, None};
+ghost use Rattle.std.specs.Prelude.{◌≡◌, ℕ, ◌+◌, ◌*◌, ◌^◌, ◌<◌, ◌≤◌, ◌↔◌, ◌&&◌, ◌∷◌, true, false, length, sum, IfOk, IsTrue, MatchOption, None};
 ghost use Rattle.std.specs.Option.{option_map};
-ghost use Rattle.raster_values.specs.Raster.{valid_count};
+ghost use Rattle.raster_values.specs.Raster.{IsRaster, valid_count};
 ghost use Rattle.delta_mode.specs.Symbols.{IsByteType};
 ghost use Rattle.delta_mode.specs.Deltas.{plain};
 ghost use Rattle.lerc_encode.specs.Codings.{coding_bytes, have_codes};
 ghost use Rattle.lerc_encode.specs.Images as images;
 ghost use Rattle.lerc_encode.specs.Images.{all_deltas, is_v4};
-ghost use Rattle.lerc_encode.specs.inside.Coded.{AreCodings, AreSymbols, IsCodingOf};
+ghost use Rattle.lerc_encode.specs.inside.Coded.{AreCodings, AreSymbols, IsCodingOf, IsLying};
 
 use delta_mode::{deltas_of, plain_of};
 use huff_codes::{
     Lengths, count_symbols, counted_len, table_size, write_code_table, write_symbols,
 };
 use lerc_header::Version;
-use raster_values::Raster;
+use raster_values::{PixelType, Raster};
 use std::alloc::{AllocError, Global};
 
 /// The lengths of the codes of some symbols, and how many bytes their table and words take.
@@ -25,7 +25,8 @@ pub(crate) struct Coding {
     pub(crate) size: usize,
 }
 
-/// The symbols of all values in one order, and how they are coded, where they may be.
+/// The symbols of all values in one order, unless they are the raster's bytes, and how they are
+/// coded, where they may be.
 #[derive(Drop)]
 pub(crate) struct Symbols {
     pub(crate) all: Vec<u8>,
@@ -67,16 +68,16 @@ fn write_coding(coding: &Coding, symbols: &[u8], out: &mut [u8])
 }
 
 /// Writes the form of coded symbols: a sweep byte, the mode byte, the table and the words.
-pub(crate) fn write_coded_form(mode: u8, symbols: &Symbols, out: &mut [u8])
-    requires few { length symbols.now.all.items ≤ 2 ^ 24 }
-    requires coding { MatchOption symbols.now.coding ⊥ (IsCodingOf symbols.now.all.items) }
-    requires room { length out.old ≡ length (0 ∷ mode ∷ coding_bytes symbols.now.all.items) }
-    ensures { out.new ≡ 0 ∷ mode ∷ coding_bytes symbols.now.all.items }
+pub(crate) fn write_coded_form(mode: u8, coding: &Option<Coding>, symbols: &[u8], out: &mut [u8])
+    requires few { length symbols.now ≤ 2 ^ 24 }
+    requires coding { MatchOption coding.now ⊥ (IsCodingOf symbols.now) }
+    requires room { length out.old ≡ length (0 ∷ mode ∷ coding_bytes symbols.now) }
+    ensures { out.new ≡ 0 ∷ mode ∷ coding_bytes symbols.now }
 {
     out[0] = 0;
     out[1] = mode;
-    if let Some(coding) = &symbols.coding {
-        write_coding(coding, &symbols.all, &mut out[2..]);
+    if let Some(coding) = coding {
+        write_coding(coding, symbols, &mut out[2..]);
     }
 }
 
@@ -132,7 +133,7 @@ fn no_symbols(alloc: Global) -> Symbols
 /// The symbols of the differences, where they are wanted.
 fn delta_symbols(alloc: Global, raster: &Raster, wanted: bool) -> Result<Symbols, AllocError>
     requires { IsTrue wanted → IsByteType raster.now.kind }
-    ensures { IfOk result (AreSymbols wanted (all_deltas raster.now)) }
+    ensures { IfOk result (AreSymbols ⊥ wanted (all_deltas raster.now)) }
 {
     if !wanted {
         return Ok(no_symbols(alloc));
@@ -143,18 +144,48 @@ fn delta_symbols(alloc: Global, raster: &Raster, wanted: bool) -> Result<Symbols
     Ok(Symbols { all, coding })
 }
 
+/// Whether the plain symbols are the raster's bytes: all pixels are valid, and of u8.
+fn is_lying(raster: &Raster) -> bool
+    ensures lies { IsTrue result ↔ IsLying raster.now }
+    ensures sound { IsRaster raster.now }
+{
+    match raster.kind() {
+        PixelType::U8 => raster.valid_count() == raster.rows() * raster.cols(),
+        _ => false,
+    }
+}
+
 /// The symbols of the values, where they are wanted.
 fn plain_symbols(alloc: Global, raster: &Raster, wanted: bool) -> Result<Symbols, AllocError>
     requires { IsTrue wanted → IsByteType raster.now.kind }
-    ensures { IfOk result (AreSymbols wanted (plain raster.now)) }
+    ensures { IfOk result (AreSymbols (IsLying raster.now) wanted (plain raster.now)) }
 {
     if !wanted {
         return Ok(no_symbols(alloc));
+    }
+    if is_lying(raster) {
+        let coding = coding_of(raster.cells());
+        return Ok(Symbols {
+            all: Vec::new(alloc),
+            coding,
+        });
     }
     let mut all = vec![in alloc; 0u8; symbol_count(raster)]?;
     plain_of(raster, &mut all);
     let coding = coding_of(&all);
     Ok(Symbols { all, coding })
+}
+
+/// The list of the plain symbols.
+pub(crate) fn plain_list<'a>(raster: &'a Raster, plains: &'a Symbols) -> &'a [u8]
+    requires { (IsLying raster.now → ⊥) → plains.now.all.items ≡ plain raster.now }
+    ensures { result.now ≡ plain raster.now }
+{
+    if is_lying(raster) {
+        raster.cells()
+    } else {
+        &plains.all
+    }
 }
 
 /// The symbols of a raster's values, as far as the version and the step allow them.

@@ -7,14 +7,17 @@ ghost use Rattle.raster_values.specs.Grid.{values_bytes};
 ghost use Rattle.lerc_header.specs.declared.header.Version.TheVariants.{V4};
 ghost use Rattle.raster_values.specs.Raster.{values_of};
 ghost use Rattle.lerc_grammar.specs.Blocks.{coded_blocks};
-ghost use Rattle.lerc_encode.specs.Images.{blocks_bytes, form_bytes, mode_bytes};
+ghost use Rattle.delta_mode.specs.Deltas.{plain};
+ghost use Rattle.lerc_encode.specs.Codings.{coding_bytes};
+ghost use Rattle.lerc_encode.specs.Images.{all_deltas, blocks_bytes, form_bytes, mode_bytes};
 ghost use Rattle.lerc_encode.specs.Ranges.{front_bytes};
 ghost use Rattle.lerc_encode.specs.inside.Blocked.{AreFlags, IsBlocked, IsMeasured};
+ghost use Rattle.lerc_encode.specs.inside.Coded.{AreThere, IsLying};
 ghost use Rattle.lerc_encode.specs.inside.Choosing.{AreRanges, IsBase, IsChosen, named};
 
 use crate::blocks::{Measured, write_blocks};
 use crate::choosing::Chosen;
-use crate::codings::{has_mode, write_coded_form};
+use crate::codings::{Symbols, has_mode, plain_list, write_coded_form};
 use crate::ranging::Ranges;
 use lerc_header::{Header, Version};
 use raster_values::{PixelType, Raster};
@@ -103,6 +106,24 @@ fn write_block_form(h: &Header, raster: &Raster, found: &Option<Measured>, out: 
     }
 }
 
+/// Writes the differences in code words.
+fn write_delta_form(deltas: &Symbols, raster: &Raster, out: &mut [u8])
+    requires there { AreThere ⊥ (all_deltas raster.now) deltas.now }
+    requires room { length out.old ≡ length (0 ∷ 1 ∷ coding_bytes (all_deltas raster.now)) }
+    ensures { out.new ≡ 0 ∷ 1 ∷ coding_bytes (all_deltas raster.now) }
+{
+    write_coded_form(1, &deltas.coding, &deltas.all, out);
+}
+
+/// Writes the plain symbols in code words.
+fn write_plain_form(plains: &Symbols, raster: &Raster, out: &mut [u8])
+    requires there { AreThere (IsLying raster.now) (plain raster.now) plains.now }
+    requires room { length out.old ≡ length (0 ∷ 2 ∷ coding_bytes (plain raster.now)) }
+    ensures { out.new ≡ 0 ∷ 2 ∷ coding_bytes (plain raster.now) }
+{
+    write_coded_form(2, &plains.coding, plain_list(raster, plains), out);
+}
+
 /// Writes the chosen form over all of `out`.
 pub(crate) fn write_form(chosen: &Chosen, base: &Header, raster: &Raster, out: &mut [u8])
     requires base { IsBase base.now raster.now }
@@ -118,8 +139,8 @@ pub(crate) fn write_form(chosen: &Chosen, base: &Header, raster: &Raster, out: &
         ValueForm::LargeBlocks => {
             write_block_form(&with_large(base), raster, &chosen.large, out)
         }
-        ValueForm::Delta => write_coded_form(1, &chosen.codings.deltas, out),
-        ValueForm::Plain => write_coded_form(2, &chosen.codings.plains, out),
+        ValueForm::Delta => write_delta_form(&chosen.codings.deltas, raster, out),
+        ValueForm::Plain => write_plain_form(&chosen.codings.plains, raster, out),
     }
 }
 

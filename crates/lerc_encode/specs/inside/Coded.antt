@@ -1,6 +1,7 @@
 -- What is known of the symbols of values and their codes before they are written.
-use Rattle.std.specs.Prelude.{◌≡◌, ℕ, ◌^◌, ◌≤◌, Bool, true, false, ◌&&◌, List, length, MatchOption}
-use Rattle.raster_values.specs.Raster.{Pixels}
+use Rattle.std.specs.Prelude.{◌≡◌, ℕ, ◌*◌, ◌^◌, ◌≤◌, Bool, true, false, ◌&&◌, List, length, MatchOption}
+use Rattle.raster_values.specs.declared.kind.PixelType.TheVariants.{U8}
+use Rattle.raster_values.specs.Raster.{Pixels, valid_count}
 use Rattle.lerc_header.specs.declared.header.Version.{Version}
 use Rattle.delta_mode.specs.Deltas.{plain}
 use Rattle.lerc_encode.specs.Codings.{code_lengths, coding_bytes, have_codes}
@@ -16,18 +17,32 @@ pub record IsCodingOf (symbols : List ℕ) (c : Coding) : Type 0 where
   pub size_is : c.size ≡ length (coding_bytes symbols)
   pub few : c.size ≤ 67110912
 
--- these symbols and their coding, where they are wanted and have codes
-pub record HasSymbols (wanted : Bool) (symbols : List ℕ) (s : Symbols) (c : Coding) : Type 0 where
+-- the plain symbols are the raster's bytes: all pixels are valid, and of u8
+pub record IsLying (r : Pixels) : Type 0 where
+  pub kind : r.kind ≡ U8
+  pub full : valid_count r ≡ r.rows * r.cols
+
+-- these symbols, unless they lie as they are in the raster, and their coding, where they are wanted
+-- and have codes
+pub record HasSymbols (Lie : Type 0) (wanted : Bool) (symbols : List ℕ) (s : Symbols) (c : Coding)
+    : Type 0 where
   pub holds : (wanted && have_codes symbols) ≡ true
-  pub all_are : s.all.items ≡ symbols
+  pub all_are : (Lie → ⊥) → s.all.items ≡ symbols
   pub all_few : length symbols ≤ 2 ^ 24
   pub coding_is : IsCodingOf symbols c
 
 -- where they are not, there is no coding
-abbrev pub AreSymbols : Bool → List ℕ → Symbols → Type 0
-AreSymbols wanted symbols s =
-    MatchOption s.coding ((wanted && have_codes symbols) ≡ false) (HasSymbols wanted symbols s)
+abbrev pub AreSymbols : Type 0 → Bool → List ℕ → Symbols → Type 0
+AreSymbols Lie wanted symbols s =
+    MatchOption s.coding ((wanted && have_codes symbols) ≡ false)
+    (HasSymbols Lie wanted symbols s)
+
+-- symbols with their coding, which is there
+pub record AreThere (Lie : Type 0) (symbols : List ℕ) (s : Symbols) : Type 0 where
+  pub few : length symbols ≤ 2 ^ 24
+  pub same : (Lie → ⊥) → s.all.items ≡ symbols
+  pub coded : MatchOption s.coding ⊥ (IsCodingOf symbols)
 
 pub record AreCodings (r : Pixels) (version : Version) (step : ℕ) (c : Codings) : Type 0 where
-  pub deltas : AreSymbols (has_mode r step) (all_deltas r) c.deltas
-  pub plains : AreSymbols (has_mode r step && is_v4 version) (plain r) c.plains
+  pub deltas : AreSymbols ⊥ (has_mode r step) (all_deltas r) c.deltas
+  pub plains : AreSymbols (IsLying r) (has_mode r step && is_v4 version) (plain r) c.plains

@@ -12,19 +12,20 @@ use Rattle.lerc_encode.specs.inside.Choosing.{named}
 use Rattle.lerc_encode.specs.declared.forms.ValueForm.{ValueForm}
 use Rattle.lerc_encode.proofs.Forming.{base_blocked, large_blocked, large_header, sweep_is, small_is, large_is}
 use Rattle.lerc_encode.specs.inside.Choosing.{IsChosen}
+use Rattle.lerc_encode.specs.inside.Coded.{AreThere, IsLying}
 use Rattle.lerc_encode.specs.declared.choosing.Chosen.{Chosen}
 use Rattle.lerc_encode.proofs.Candidates.{chosen_may, delta_is, measured_here, plain_is}
 use Rattle.lerc_encode.proofs.Standing.{MayBe}
-use Rattle.lerc_encode.proofs.SymbolSteps.{AreThere, symbols_there}
+use Rattle.lerc_encode.proofs.SymbolSteps.{symbols_there}
 use Rattle.lerc_encode.proofs.forms.write_form.Goals as goal
 
-deltas_there : (r : Pixels) (version : Version) (step : ℕ) (chosen : Chosen) → IsChosen r version step chosen → chosen.form ≡ Delta → AreThere (all_deltas r) chosen.codings.deltas chosen.codings.deltas.coding
+deltas_there : (r : Pixels) (version : Version) (step : ℕ) (chosen : Chosen) → IsChosen r version step chosen → chosen.form ≡ Delta → AreThere ⊥ (all_deltas r) chosen.codings.deltas
 deltas_there r version step chosen is e =
-    symbols_there (images.has_mode r step) (all_deltas r) chosen.codings.deltas is.codings_are.deltas (subst (MayBe r version step) (sym is.form ∙ ap named e) (chosen_may r version step))
+    symbols_there ⊥ (images.has_mode r step) (all_deltas r) chosen.codings.deltas is.codings_are.deltas (subst (MayBe r version step) (sym is.form ∙ ap named e) (chosen_may r version step))
 
-plains_there : (r : Pixels) (version : Version) (step : ℕ) (chosen : Chosen) → IsChosen r version step chosen → chosen.form ≡ Plain → AreThere (plain_symbols r) chosen.codings.plains chosen.codings.plains.coding
+plains_there : (r : Pixels) (version : Version) (step : ℕ) (chosen : Chosen) → IsChosen r version step chosen → chosen.form ≡ Plain → AreThere (IsLying r) (plain_symbols r) chosen.codings.plains
 plains_there r version step chosen is e =
-    symbols_there (images.has_mode r step && images.is_v4 version) (plain_symbols r) chosen.codings.plains is.codings_are.plains (subst (MayBe r version step) (sym is.form ∙ ap named e) (chosen_may r version step))
+    symbols_there (IsLying r) (images.has_mode r step && images.is_v4 version) (plain_symbols r) chosen.codings.plains is.codings_are.plains (subst (MayBe r version step) (sym is.form ∙ ap named e) (chosen_may r version step))
 
 pub write_sweep-requires : goal.write_sweep-requires
 write_sweep-requires c =
@@ -82,42 +83,32 @@ returns-in-LargeBlocks c =
     let r = c.args.raster.now in
     c.write_block_form-in-LargeBlocks.ensures ∙ large_is h c.with_large.result r c.requires.base c.with_large.ensures ∙ ap (λ (f : ValueForm). form_bytes r h.version h.step (named f)) (sym c.in-LargeBlocks.is)
 
-pub write_coded_form-requires-clause-few : goal.write_coded_form-requires-clause-few
-write_coded_form-requires-clause-few c = (deltas_there c.args.raster.now c.args.base.now.version c.args.base.now.step c.args.chosen.now c.requires.chosen c.in-Delta.is).few
+pub write_delta_form-requires-clause-there : goal.write_delta_form-requires-clause-there
+write_delta_form-requires-clause-there c = deltas_there c.args.raster.now c.args.base.now.version c.args.base.now.step c.args.chosen.now c.requires.chosen c.in-Delta.is
 
-pub write_coded_form-requires-clause-coding : goal.write_coded_form-requires-clause-coding
-write_coded_form-requires-clause-coding c = (deltas_there c.args.raster.now c.args.base.now.version c.args.base.now.step c.args.chosen.now c.requires.chosen c.in-Delta.is).coded
-
-pub write_coded_form-requires-clause-room : goal.write_coded_form-requires-clause-room
-write_coded_form-requires-clause-room c =
+pub write_delta_form-requires-clause-room : goal.write_delta_form-requires-clause-room
+write_delta_form-requires-clause-room c =
     let h = c.args.base.now in
     let r = c.args.raster.now in
-    let there = deltas_there r h.version h.step c.args.chosen.now c.requires.chosen c.in-Delta.is in
-    c.requires.room ∙ ap (λ (f : ValueForm). length (form_bytes r h.version h.step (named f))) c.in-Delta.is ∙ sym (ap length (delta_is r h.version h.step c.args.chosen.now.codings.deltas.all.items there.same))
+    c.requires.room ∙ ap (λ (f : ValueForm). length (form_bytes r h.version h.step (named f))) c.in-Delta.is ∙ sym (ap length (delta_is r h.version h.step))
 
 pub returns-in-Delta : goal.returns-in-Delta
 returns-in-Delta c =
     let h = c.args.base.now in
     let r = c.args.raster.now in
-    let there = deltas_there r h.version h.step c.args.chosen.now c.requires.chosen c.in-Delta.is in
-    c.write_coded_form.ensures ∙ delta_is r h.version h.step c.args.chosen.now.codings.deltas.all.items there.same ∙ ap (λ (f : ValueForm). form_bytes r h.version h.step (named f)) (sym c.in-Delta.is)
+    c.write_delta_form.ensures ∙ delta_is r h.version h.step ∙ ap (λ (f : ValueForm). form_bytes r h.version h.step (named f)) (sym c.in-Delta.is)
 
-pub write_coded_form-requires-in-Plain-clause-few : goal.write_coded_form-requires-in-Plain-clause-few
-write_coded_form-requires-in-Plain-clause-few c = (plains_there c.args.raster.now c.args.base.now.version c.args.base.now.step c.args.chosen.now c.requires.chosen c.in-Plain.is).few
+pub write_plain_form-requires-clause-there : goal.write_plain_form-requires-clause-there
+write_plain_form-requires-clause-there c = plains_there c.args.raster.now c.args.base.now.version c.args.base.now.step c.args.chosen.now c.requires.chosen c.in-Plain.is
 
-pub write_coded_form-requires-in-Plain-clause-coding : goal.write_coded_form-requires-in-Plain-clause-coding
-write_coded_form-requires-in-Plain-clause-coding c = (plains_there c.args.raster.now c.args.base.now.version c.args.base.now.step c.args.chosen.now c.requires.chosen c.in-Plain.is).coded
-
-pub write_coded_form-requires-in-Plain-clause-room : goal.write_coded_form-requires-in-Plain-clause-room
-write_coded_form-requires-in-Plain-clause-room c =
+pub write_plain_form-requires-clause-room : goal.write_plain_form-requires-clause-room
+write_plain_form-requires-clause-room c =
     let h = c.args.base.now in
     let r = c.args.raster.now in
-    let there = plains_there r h.version h.step c.args.chosen.now c.requires.chosen c.in-Plain.is in
-    c.requires.room ∙ ap (λ (f : ValueForm). length (form_bytes r h.version h.step (named f))) c.in-Plain.is ∙ sym (ap length (plain_is r h.version h.step c.args.chosen.now.codings.plains.all.items there.same))
+    c.requires.room ∙ ap (λ (f : ValueForm). length (form_bytes r h.version h.step (named f))) c.in-Plain.is ∙ sym (ap length (plain_is r h.version h.step))
 
 pub returns-in-Plain : goal.returns-in-Plain
 returns-in-Plain c =
     let h = c.args.base.now in
     let r = c.args.raster.now in
-    let there = plains_there r h.version h.step c.args.chosen.now c.requires.chosen c.in-Plain.is in
-    c.write_coded_form-in-Plain.ensures ∙ plain_is r h.version h.step c.args.chosen.now.codings.plains.all.items there.same ∙ ap (λ (f : ValueForm). form_bytes r h.version h.step (named f)) (sym c.in-Plain.is)
+    c.write_plain_form.ensures ∙ plain_is r h.version h.step ∙ ap (λ (f : ValueForm). form_bytes r h.version h.step (named f)) (sym c.in-Plain.is)
