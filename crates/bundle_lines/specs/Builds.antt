@@ -44,6 +44,12 @@ BuildReads (Err Volume) updates old new = Unit {0}
 BuildReads (Err (NotEmpty len)) updates old new = (len ≡ length old) × (new ≡ old)
 BuildReads (Err OutOfMemory) updates old new = new ≡ old
 
+-- where nothing was built, and the volume did not fail
+abbrev pub OnNoBuild : BuildEnd → Type 0 → Type 0
+OnNoBuild (Err (NotEmpty len)) P = P
+OnNoBuild (Err OutOfMemory) P = P
+OnNoBuild end P = Unit {0}
+
 -- the kept length is that of a bundle that is not empty, whatever the volume tells
 abbrev pub KeepsSomeLength : BuildEnd → Type 0
 KeepsSomeLength (Err (NotEmpty len)) = 0 < len

@@ -1,11 +1,11 @@
 ghost use Rattle.std.specs.Prelude.{◌≡◌, ◌+◌, ◌<◌, ◌≤◌, false, [], length, replicate, IsTrue, Err};
 ghost use Rattle.outside_io.specs.declared.volume.VolFile.TheVariants.{Bundle};
 ghost use Rattle.outside_io.specs.streams.Faults.{IsCause};
-ghost use Rattle.outside_io.specs.volume.History.{contents, current};
+ghost use Rattle.outside_io.specs.volume.History.{During, contents, current};
 ghost use Rattle.bundle_store.specs.Build.{EachFits};
 ghost use Rattle.bundle_store.specs.Session.{IsReadyToPut};
 ghost use Rattle.bundle_store.specs.Tiles.{IsReadable, tiles};
-ghost use Rattle.bundle_lines.specs.Builds.{BuildGave, BuildKeeps, BuildMarks, BuildReads, KeepsSomeLength};
+ghost use Rattle.bundle_lines.specs.Builds.{BuildGave, BuildKeeps, BuildMarks, BuildReads, KeepsSomeLength, OnNoBuild};
 ghost use Rattle.bundle_lines.specs.inside.Raising.{Raises, build_stop_of};
 
 use crate::lines::give_built;
@@ -40,6 +40,8 @@ fn raise<V: Volume>(
     ensures images { IsTrue (V.told vol.old) → IsReadable (contents Bundle (V.history vol.old)) →
         BuildKeeps (tiles (contents Bundle (V.history vol.old))) updates.now []
         (V.history vol.old) (V.history vol.new) }
+    ensures kept { IsTrue (V.told vol.old) → OnNoBuild result
+        (During (λ d. d ≡ current (V.history vol.old)) (V.history vol.old) (V.history vol.new)) }
     ensures later { IsTrue (V.told vol.old) →
         (V.history vol.old).moment ≤ (V.history vol.new).moment }
     ensures told { V.told vol.new ≡ V.told vol.old }
@@ -89,6 +91,8 @@ pub fn build_all<V: Volume, K: Sink>(
     ensures images { IsTrue (V.told vol.old) → IsReadable (contents Bundle (V.history vol.old)) →
         BuildKeeps (tiles (contents Bundle (V.history vol.old))) updates.now marks.new.marks
         (V.history vol.old) (V.history vol.new) }
+    ensures kept { IsTrue (V.told vol.old) → OnNoBuild result
+        (During (λ d. d ≡ current (V.history vol.old)) (V.history vol.old) (V.history vol.new)) }
     ensures later { IsTrue (V.told vol.old) →
         (V.history vol.old).moment ≤ (V.history vol.new).moment }
     ensures told { V.told vol.new ≡ V.told vol.old }

@@ -3,7 +3,9 @@
 ghost use Rattle.std.specs.Prelude.{IsTrue};
 ghost use Rattle.bundle_store.specs.Build.{EachFits};
 
-use crate::{LineStop, PutStop, give_built, give_recovery, give_report, list_all, put_all};
+use crate::{
+    BuildStop, LineStop, PutStop, build_all, give_built, give_recovery, give_report, list_all, put_all,
+};
 use bundle_index::Slot;
 use bundle_store::{CheckReport, Recovery, Session, TileRec, recover};
 use outside_io::{Bytes, Marks, MemSink, MemVolume, Pick, Piece, Sink, Start, VolFile, Volume};
