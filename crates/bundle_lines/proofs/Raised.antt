@@ -79,13 +79,13 @@ keeps_raised us s old new running ready readable during beside =
     let start = tiles (contents Bundle old) in
     elim (cases_lt 0 (length (contents Bundle old))) [
       | inl some ↦ during_map_at (λ _ d. d ≡ current old) (λ t d. EachImage (IsAllOrNone start us [] t) d) old new
-      (λ t d _ _ same. subst (EachImage (IsAllOrNone start us [] t)) (sym same)
+          (λ t d _ _ same. subst (EachImage (IsAllOrNone start us [] t)) (sym same)
           (still_good (IsAllOrNone start us [] t) (current old) ready.quiet ready.closed readable (record { count = 0; least = omega arith; either = inl refl; map_is = refl })))
-      (beside some)
+          (beside some)
       | inr none ↦ (let is : contents Bundle old ≡ [] = no_bytes (contents Bundle old) none in
           during_map_at (λ _ d. s.stopped ≡ false → contents Bundle old ≡ [] → EachImage (EmptyOr (last_tiles us)) d) (λ t d. EachImage (IsAllOrNone start us [] t) d) old new
           (λ t d _ _ each. weaker (EmptyOr (last_tiles us)) (IsAllOrNone start us [] t) d
-              (λ map either. subst (λ (b : List ℕ). IsAllOrNone (tiles b) us [] t map) (sym is) (all_or_none us t map either)) (each running is))
+          (λ map either. subst (λ (b : List ℕ). IsAllOrNone (tiles b) us [] t map) (sym is) (all_or_none us t map either)) (each running is))
           during)
     ]
 
