@@ -166,6 +166,8 @@ tile_refused short 'Truncated at 65'
 tile_refused longer 'Leftover at 66'
 tile_refused changed 'BadChecksum at 10 stored 1497720512 computed 1497786049'
 tile_refused miscounted 'BadMaskCount at 66 header 7 counted 8'
+bytes ff d8 ff >three_bytes
+tile_refused three_bytes 'Truncated at 3'
 
 # ---- Files that are no bundle
 

@@ -45,15 +45,18 @@ else
 </CacheInfo>
 CONF
     tiles=cache/_alllayers/L00/R0000C0000.bundle
-    tile 0 1 columns_grid | "$program" "$tiles" put 3 0 1 >out 2>err
-    if [ "$(gdal_size cache/conf.xml)" = '512, 512' ]; then holds=yes; else holds=no; fi
-    count 'GDAL: the size of a cache' "$holds"
+    for command in put build; do
+        rm -f "$tiles" "$tiles.jnl"
+        tile 0 1 columns_grid | "$program" "$tiles" "$command" 3 0 1 >out 2>err
+        if [ "$(gdal_size cache/conf.xml)" = '512, 512' ]; then holds=yes; else holds=no; fi
+        count "GDAL: the size of a cache, $command" "$holds"
 
-    for band in 1 2 3; do
-        gdal_translate -q -b "$band" -srcwin 256 0 256 256 -of ENVI cache/conf.xml pixels 2>err
-        if cmp -s pixels values; then holds=yes; else holds=no; fi
-        count "GDAL: a tile of a bundle, band $band" "$holds"
-        rm -f pixels*
+        for band in 1 2 3; do
+            gdal_translate -q -b "$band" -srcwin 256 0 256 256 -of ENVI cache/conf.xml pixels 2>err
+            if cmp -s pixels values; then holds=yes; else holds=no; fi
+            count "GDAL: a tile of a bundle, $command, band $band" "$holds"
+            rm -f pixels*
+        done
     done
 
     # Lone blobs: that tile, and one whose grid has marks and values of two bytes.

@@ -16,6 +16,7 @@ failed=0
 . "$here/tests/codec.sh"
 . "$here/tests/bundles.sh"
 . "$here/tests/puts.sh"
+. "$here/tests/builds.sh"
 . "$here/tests/gdal.sh"
 
 echo "$passed passed, $failed failed"

@@ -1,4 +1,5 @@
 pub mod Marked
+pub mod Raised
 mod Ended
 mod Stepping
 mod Listed

@@ -6,10 +6,13 @@ pub use Rattle.outside_io.specs.volume.Disk
 pub use Rattle.outside_io.specs.volume.History
 pub use Rattle.bundle_store.specs.Appended
 pub use Rattle.bundle_store.specs.Build
+pub use Rattle.bundle_store.specs.Built
 pub use Rattle.bundle_store.specs.Check
 pub use Rattle.bundle_store.specs.Images
+pub use Rattle.bundle_store.specs.Layout
 pub use Rattle.bundle_store.specs.Session
 pub use Rattle.bundle_store.specs.Tiles
+pub mod Builds
 pub mod Ends
 pub mod Lines
 pub mod Puts

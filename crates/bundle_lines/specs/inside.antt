@@ -1,2 +1,3 @@
+pub mod Raising
 pub mod Rows
 pub mod Turns

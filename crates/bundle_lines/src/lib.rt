@@ -6,6 +6,7 @@
 //! and the lines given are those of the updates with a mark.
 #![tactic(auto)]
 
+mod builds;
 mod checking;
 mod lines;
 mod listing;
@@ -14,8 +15,9 @@ mod stop;
 #[cfg(test)]
 mod tests;
 
+pub use builds::build_all;
 pub use checking::check_all;
 pub use lines::{give_built, give_recovery, give_report};
 pub use listing::list_all;
 pub use puts::put_all;
-pub use stop::{LineStop, PutStop};
+pub use stop::{BuildStop, LineStop, PutStop};

@@ -9,6 +9,19 @@ pub enum PutStop {
     Full { len: u64 },
 }
 
+/// Why a build has no line.
+#[derive(Clone, Copy, Debug, PartialEq, Eq)]
+pub enum BuildStop {
+    /// The output failed. The bundle is built.
+    Output,
+    /// The volume failed.
+    Volume,
+    /// The bundle has `len` bytes and is not empty.
+    NotEmpty { len: u64 },
+    /// Memory was refused.
+    OutOfMemory,
+}
+
 /// Why lines end before the last.
 #[derive(Clone, Copy, Debug, PartialEq, Eq)]
 pub enum LineStop {

@@ -3,7 +3,10 @@
 ghost use Rattle.std.specs.Prelude.{IsTrue};
 ghost use Rattle.bundle_store.specs.Build.{EachFits};
 
-use crate::{LineStop, PutStop, give_built, give_recovery, give_report, list_all, put_all};
+use crate::{
+    BuildStop, LineStop, PutStop, build_all, give_built, give_recovery, give_report, list_all,
+    put_all,
+};
 use bundle_index::Slot;
 use bundle_store::{CheckReport, Recovery, Session, TileRec, recover};
 use outside_io::{Bytes, Marks, MemSink, MemVolume, Pick, Piece, Sink, Start, VolFile, Volume};
@@ -87,6 +90,24 @@ fn put<V: Volume, K: Sink>(
     Ok((end, marks))
 }
 
+/// How a build ends, once the volume is recovered; and its marks.
+fn build<V: Volume, K: Sink>(
+    alloc: Global,
+    vol: &mut V,
+    out: &mut K,
+    updates: &[TileRec],
+) -> Result<(Result<(), BuildStop>, Marks), Fail> {
+    let mut marks = Marks::new(alloc);
+    marks.reserve(updates.len())?;
+    if !fit(updates) {
+        return Err("tiles".into());
+    }
+    recover(vol).ok().ok_or("recover")?;
+    let mut session = Session::open(alloc, vol).ok().ok_or("open")?;
+    let end = build_all(alloc, &mut session, vol, out, &mut marks, updates);
+    Ok((end, marks))
+}
+
 /// How a listing ends.
 fn list<V: Volume, K: Sink>(
     alloc: Global,
@@ -120,6 +141,39 @@ fn two_puts_have_their_marks_and_lines(rt: HostRuntime) -> Result<(), Fail> {
         return Err("marks".into());
     }
     assert!(rt; marks.at(0) < marks.at(1) && marks.at(1) == vol.moment());
+    Ok(())
+}
+
+#[test]
+fn a_build_has_one_line_and_its_marks_one_moment(rt: HostRuntime) -> Result<(), Fail> {
+    let alloc = rt.alloc();
+    let mut vol = empty_volume(alloc)?;
+    let mut out = sink(alloc, 100)?;
+    let tiles = two_tiles(alloc)?;
+    let (end, marks) = build(alloc, &mut vol, &mut out, &tiles)?;
+    assert_eq!(rt; end, Ok(()));
+    assert_eq!(rt; out.held(), b"built 2 131282\n".as_slice());
+    if marks.len() != 2 {
+        return Err("marks".into());
+    }
+    assert!(rt; marks.at(0) == marks.at(1) && marks.at(1) == vol.moment());
+    let (end, marks) = build(alloc, &mut vol, &mut out, &tiles)?;
+    assert_eq!(rt; end, Err(BuildStop::NotEmpty { len: 131282 }));
+    assert_eq!(rt; (marks.len(), out.held().len()), (0, 15));
+    Ok(())
+}
+
+#[test]
+fn a_build_whose_line_is_cut_stands(rt: HostRuntime) -> Result<(), Fail> {
+    let alloc = rt.alloc();
+    let mut vol = empty_volume(alloc)?;
+    let mut out = sink(alloc, 3)?;
+    let (end, marks) = build(alloc, &mut vol, &mut out, &two_tiles(alloc)?)?;
+    assert_eq!(rt; (end, marks.len()), (Err(BuildStop::Output), 2));
+    assert_eq!(rt; out.held(), b"bui".as_slice());
+    let mut listing = sink(alloc, 100)?;
+    assert_eq!(rt; list(alloc, &mut vol, &mut listing)?, Ok(()));
+    assert_eq!(rt; listing.held(), LISTED_TWO);
     Ok(())
 }
 

@@ -1,5 +1,6 @@
 mod Building
 mod Counting
+mod Filling
 mod Fresh
 mod Fronts
 pub mod PutLaws
@@ -9,7 +10,7 @@ pub mod OneRecovery
 pub mod Opening
 mod Padded
 mod Putting
-mod Recovering
+pub mod Recovering
 mod Refusals
 mod Region
 mod Rests

@@ -8,6 +8,7 @@ pub use Rattle.side_journal.specs.Says
 pub use Rattle.side_journal.specs.Bodies
 pub mod Appended
 pub mod Build
+pub mod Built
 pub mod Causes
 pub mod Check
 pub mod Images

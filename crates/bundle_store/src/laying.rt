@@ -6,6 +6,7 @@ ghost use Rattle.outside_io.specs.volume.History.{During, contents, current};
 ghost use Rattle.bundle_index.specs.Entry.{IsEntry};
 ghost use Rattle.bundle_index.specs.Header.{fresh_header, bytes_left_behind};
 ghost use Rattle.bundle_store.specs.inside.Parts.{Extends, KeepsJournal};
+ghost use Rattle.bundle_store.specs.Built.{filled};
 ghost use Rattle.bundle_store.specs.inside.Table.{HasRoom, IsTable, entry_of_size, table_map};
 ghost use Rattle.bundle_store.specs.Layout.{entries, greatest_size, layout, record_of, records, size_of, record_bytes};
 ghost use Rattle.bundle_store.specs.Tiles.{AreTiles};
@@ -16,7 +17,7 @@ use byteorder::{ByteOrder, LittleEndian};
 use outside_io::{Failed, VolFile, Volume};
 
 /// The place of the first record.
-const RECORDS: u64 = 131136;
+pub(crate) const RECORDS: u64 = 131136;
 
 /// How many bytes the slot's tile has; 0 for none.
 fn len_at(tiles: &[TileRec], table: &[Option<usize>], slot: usize) -> usize
@@ -57,7 +58,7 @@ fn entry_for(len: usize, before: u64) -> Entry
 }
 
 /// The greatest size of a tile, and how many bytes the records have.
-fn measure(tiles: &[TileRec], table: &[Option<usize>]) -> (u32, u64)
+pub(crate) fn measure(tiles: &[TileRec], table: &[Option<usize>]) -> (u32, u64)
     requires table { IsTable tiles.now table.now }
     requires tiles { AreTiles (table_map tiles.now table.now) }
     ensures greatest { result.0 ≡ greatest_size (table_map tiles.now table.now) 16384 }
@@ -72,6 +73,21 @@ fn measure(tiles: &[TileRec], table: &[Option<usize>]) -> (u32, u64)
         total += record_len(len);
     }
     (most as u32, total)
+}
+
+/// How many of the slots have a tile.
+pub(crate) fn count_tiles(tiles: &[TileRec], table: &[Option<usize>]) -> u32
+    requires table { IsTable tiles.now table.now }
+    requires tiles { AreTiles (table_map tiles.now table.now) }
+    ensures { result ≡ filled (table_map tiles.now table.now) 16384 }
+{
+    let mut count = 0;
+    for slot in 0..16384 {
+        if len_at(tiles, table, slot) > 0 {
+            count += 1;
+        }
+    }
+    count
 }
 
 /// Lays bytes over others from a place on.

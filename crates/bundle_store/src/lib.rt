@@ -19,6 +19,7 @@ mod recovery;
 mod redo;
 mod rows;
 mod session;
+mod size;
 mod syncs;
 #[cfg(test)]
 mod tests;
@@ -34,4 +35,5 @@ pub use laws::{
 };
 pub use recovery::{Recovery, recover};
 pub use session::Session;
+pub use size::{BuiltSize, built_size};
 pub use tile_rec::TileRec;

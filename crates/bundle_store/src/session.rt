@@ -6,6 +6,7 @@ ghost use Rattle.bundle_store.specs.Causes.{CountsDevice, OnRefusal, UnlessDevic
 ghost use Rattle.bundle_store.specs.Check.{Reports};
 ghost use Rattle.bundle_store.specs.Appended.{bundle_after_put};
 ghost use Rattle.bundle_store.specs.Build.{EachFits, last_tiles};
+ghost use Rattle.bundle_store.specs.Built.{HoldsTiles};
 ghost use Rattle.bundle_store.specs.Layout.{layout};
 ghost use Rattle.bundle_store.specs.Images.{EachImage, EmptyOr, HoldsClosed, WithOrWithout};
 ghost use Rattle.bundle_store.specs.Tiles.{IsReadable, tiles};
@@ -276,6 +277,8 @@ impl Session {
         ensures done { IsTrue (V.told vol.old) →
             OnOk result (HoldsClosed (layout (last_tiles tiles.now))
             (current (V.history vol.new))) }
+        ensures holds { IsTrue (V.told vol.old) → OnOk result
+            (HoldsTiles (contents Bundle (V.history vol.new)) (last_tiles tiles.now)) }
         ensures stopped { IsErrOf result StoreFault.Stopped ↔ (self.old.stopped ≡ true) }
         ensures stops { self.new.stopped ≡ true ↔ ((self.old.stopped ≡ true) ⊎
             IsErrOf result StoreFault.Device) }

@@ -17,7 +17,7 @@ use Rattle.bundle_store.specs.Images.{EachImage, StandsFor}
 use Rattle.bundle_store.specs.Recover.{EachStandsForOneOf, IsRecovered, Leaves, OnBadJournal, RecoverFails, RecoverySays, synced_disk}
 use Rattle.bundle_store.specs.Session.{GetFails, GetGives, GetRefuses, IsBeyond, OpenFails, OpenRefuses, Serves, SessionState}
 use Rattle.bundle_store.specs.Tiles.{TileMap}
-use Rattle.lerc_cli.specs.declared.stop.Refusal.TheVariants.{NoTile as MissingTile, Beyond as MissingBytes, BadBundle as NoBundle, BadJournal as NoJournal, TileTooLarge as LargeTile, Full as FullBundle, TooManyTiles as ManyTiles, KeptTooMuch as MuchKept}
+use Rattle.lerc_cli.specs.declared.stop.Refusal.TheVariants.{NoTile as MissingTile, Beyond as MissingBytes, BadBundle as NoBundle, BadJournal as NoJournal, NotEmpty as SomeBytes, TileTooLarge as LargeTile, Full as FullBundle, TooManyTiles as ManyTiles, KeptTooMuch as MuchKept}
 use Rattle.lerc_cli.specs.declared.stop.Stop.{Stop}
 use Rattle.lerc_cli.specs.declared.stop.Stop.TheVariants.{Usage, Refused, Source, Output, Volume, OutOfMemory as NoMemory, Store}
 use Rattle.lerc_cli.specs.Answer.{Files, OfBundle, OfRecovered}
@@ -99,6 +99,7 @@ stops_opening files (Store (NoJournal place found)) is = is
 stops_opening files (Store (LargeTile at len)) is = absurd is
 stops_opening files (Store (FullBundle len)) is = absurd is
 stops_opening files (Store ManyTiles) is = absurd is
+stops_opening files (Store (SomeBytes len)) is = absurd is
 stops_opening files (Store (MuchKept at)) is = absurd is
 
 pub open_stops : (told : Bool) (h : History) (done : Recovery) (bundle : List ℕ) (fault : StoreFault) → OpenFails fault
@@ -143,6 +144,7 @@ tile_not_opened files slot (Store (NoJournal place found)) stops = stops
 tile_not_opened files slot (Store (LargeTile at len)) stops = absurd stops
 tile_not_opened files slot (Store (FullBundle len)) stops = absurd stops
 tile_not_opened files slot (Store ManyTiles) stops = absurd stops
+tile_not_opened files slot (Store (SomeBytes len)) stops = absurd stops
 tile_not_opened files slot (Store (MuchKept at)) stops = absurd stops
 
 pub tile_refused : (told : Bool) (h : History) (s : SessionState) (d : Disk) (slot : ℕ) (fault : StoreFault) → (IsTrue told → IsOpened s (contents Bundle h) (contents Journal h) d)

@@ -1,5 +1,5 @@
 -- An object that a command does not touch is left as its contract says.
-use Rattle.std.proofs.Common.{◌≡◌, ℕ, List, [], Option, Some, None, Bool, Ok, Err, refl, rules, sym, subst, arith}
+use Rattle.std.proofs.Common.{◌≡◌, ℕ, List, [], Option, Some, None, Bool, Ok, Err, inl, refl, rules, sym, subst, arith}
 use Rattle.std.specs.Prelude.{IsTrue, IsFalse}
 use Rattle.outside_io.specs.declared.volume.VolFile.TheVariants.{Bundle, Journal}
 use Rattle.outside_io.specs.streams.Source.{TakesUpTo}
@@ -9,15 +9,16 @@ use Rattle.outside_io.proofs.VolumeLemmas.Moments.{during_map_at, started}
 use Rattle.bundle_store.specs.Images.{EachImage, StandsFor}
 use Rattle.bundle_store.specs.Tiles.{TileMap}
 use Rattle.lerc_cli.specs.declared.command.Command.{Command}
-use Rattle.lerc_cli.specs.declared.command.Command.TheVariants.{Encode, Decode, Info, Put, Get, GetRaw, List as ListAll, Check, Recover}
+use Rattle.lerc_cli.specs.declared.command.Command.TheVariants.{Encode, Decode, Info, Build, Put, Get, GetRaw, List as ListAll, Check, Recover}
 use Rattle.lerc_cli.specs.declared.stop.Stop.TheVariants.{Usage, Refused, Source, Output, Volume, OutOfMemory, Store}
 use Rattle.lerc_cli.specs.Command.{reads_source, calls_volume, makes_updates}
 use Rattle.lerc_cli.specs.Stop.{End}
 use Rattle.lerc_cli.specs.Answer.{Given, Ends, UpdatesOf}
-use Rattle.lerc_cli.specs.Run.{OfOutput, OfSource, OfVolume, TakesFor}
+use Rattle.lerc_cli.specs.Run.{MarksAt, OfOutput, OfSource, OfVolume, TakesFor}
 use Rattle.lerc_cli.specs.Tiles.{IsReady, KeepsStart, KeepsTiles, OfReading, OnAnswer, UpdatesAt, bundle_after, is_early}
 use Rattle.outside_io.specs.volume.Disk.{Disk}
 use Rattle.bundle_store.specs.declared.tile_rec.TileRec.{TileRec}
+use Rattle.bundle_lines.specs.Builds.{BuildKeeps, IsAllOrNone}
 use Rattle.bundle_lines.specs.Puts.{IsAfterSome, PutsKeep}
 use Rattle.bundle_lines.proofs.Marked.{no_marks}
 
@@ -43,11 +44,19 @@ none_put us start t d each = λ b j ib ij. let is = each b j ib ij in record { m
 pub keeps_unmarked : (us : List TileRec) (start : TileMap) (old new : History) → KeepsStart start old new → PutsKeep start us [] old new
 keeps_unmarked us start old new kept = during_map_at (λ _ d. EachImage (λ map. map ≡ start) d) (λ t d. EachImage (IsAfterSome start us [] t) d) old new (λ t d _ _ each. none_put us start t d each) kept
 
+-- the same of a build
+none_built : (us : List TileRec) (start : TileMap) (t : ℕ) (d : Disk) → EachImage (λ map. map ≡ start) d → EachImage (IsAllOrNone start us [] t) d
+none_built us start t d each = λ b j ib ij. let is = each b j ib ij in record { map = is.map; stands = is.stands; passes = record { count = 0; least = omega arith; either = inl refl; map_is = is.passes } }
+
+pub keeps_unbuilt : (us : List TileRec) (start : TileMap) (old new : History) → KeepsStart start old new → BuildKeeps start us [] old new
+keeps_unbuilt us start old new kept = during_map_at (λ _ d. EachImage (λ map. map ≡ start) d) (λ t d. EachImage (IsAllOrNone start us [] t) d) old new (λ t d _ _ each. none_built us start t d each) kept
+
 -- no update is made, and none has a mark
 pub keeps_none : (c : Command) (start : TileMap) (old new : History) → KeepsStart start old new → KeepsTiles c [] [] start old new
 keeps_none (Encode version error) start old new kept = kept
 keeps_none Decode start old new kept = kept
 keeps_none Info start old new kept = kept
+keeps_none (Build version error workers) start old new kept = keeps_unbuilt [] start old new kept
 keeps_none (Put version error workers) start old new kept = keeps_unmarked [] start old new kept
 keeps_none (Get slot) start old new kept = kept
 keeps_none (GetRaw slot) start old new kept = kept
@@ -60,6 +69,7 @@ no_updates : (c : Command) (g : Given) → IsFalse (makes_updates c) → Updates
 no_updates (Encode version error) g none = refl
 no_updates Decode g none = refl
 no_updates Info g none = refl
+no_updates (Build version error workers) g none = absurd (let bad : ⊥ = cc in bad)
 no_updates (Put version error workers) g none = absurd (let bad : ⊥ = cc in bad)
 no_updates (Get slot) g none = refl
 no_updates (GetRaw slot) g none = refl
@@ -68,22 +78,24 @@ no_updates Check g none = refl
 no_updates Recover g none = refl
 
 -- and leaves the bundle as it is recovered
-same_bundle : (c : Command) (b : List ℕ) (us : List TileRec) → IsFalse (makes_updates c) → bundle_after c b us ≡ b
-same_bundle (Encode version error) b us none = refl
-same_bundle Decode b us none = refl
-same_bundle Info b us none = refl
-same_bundle (Put version error workers) b us none = absurd (let bad : ⊥ = cc in bad)
-same_bundle (Get slot) b us none = refl
-same_bundle (GetRaw slot) b us none = refl
-same_bundle ListAll b us none = refl
-same_bundle Check b us none = refl
-same_bundle Recover b us none = refl
+same_bundle : (c : Command) (end : End) (b : List ℕ) (us : List TileRec) → IsFalse (makes_updates c) → bundle_after c end b us ≡ b
+same_bundle (Encode version error) end b us none = refl
+same_bundle Decode end b us none = refl
+same_bundle Info end b us none = refl
+same_bundle (Build version error workers) end b us none = absurd (let bad : ⊥ = cc in bad)
+same_bundle (Put version error workers) end b us none = absurd (let bad : ⊥ = cc in bad)
+same_bundle (Get slot) end b us none = refl
+same_bundle (GetRaw slot) end b us none = refl
+same_bundle ListAll end b us none = refl
+same_bundle Check end b us none = refl
+same_bundle Recover end b us none = refl
 
 -- a command that does not call the volume is early, and one that makes updates calls it
 early_all : (c : Command) (end : End) → IsFalse (calls_volume c) → IsTrue (is_early c end)
 early_all (Encode version error) end idle = search rules
 early_all Decode end idle = search rules
 early_all Info end idle = search rules
+early_all (Build version error workers) end idle = absurd (let bad : ⊥ = cc in bad)
 early_all (Put version error workers) end idle = absurd (let bad : ⊥ = cc in bad)
 early_all (Get slot) end idle = absurd (let bad : ⊥ = cc in bad)
 early_all (GetRaw slot) end idle = absurd (let bad : ⊥ = cc in bad)
@@ -95,6 +107,7 @@ never_early : (c : Command) (end : End) → IsTrue (calls_volume c) → IsFalse 
 never_early (Encode version error) end calls none early = cc
 never_early Decode end calls none early = cc
 never_early Info end calls none early = cc
+never_early (Build version error workers) end calls none early = cc
 never_early (Put version error workers) end calls none early = cc
 never_early (Get slot) end calls none early = cc
 never_early (GetRaw slot) end calls none early = cc
@@ -106,12 +119,26 @@ idle_makes : (c : Command) → IsFalse (calls_volume c) → IsFalse (makes_updat
 idle_makes (Encode version error) idle = refl
 idle_makes Decode idle = refl
 idle_makes Info idle = refl
+idle_makes (Build version error workers) idle = absurd (let bad : ⊥ = cc in bad)
 idle_makes (Put version error workers) idle = absurd (let bad : ⊥ = cc in bad)
 idle_makes (Get slot) idle = refl
 idle_makes (GetRaw slot) idle = refl
 idle_makes ListAll idle = refl
 idle_makes Check idle = refl
 idle_makes Recover idle = refl
+
+-- there are no marks
+none_at : (c : Command) (moment : ℕ) → MarksAt c [] moment
+none_at (Encode version error) moment = tt
+none_at Decode moment = tt
+none_at Info moment = tt
+none_at (Build version error workers) moment = refl
+none_at (Put version error workers) moment = tt
+none_at (Get slot) moment = tt
+none_at (GetRaw slot) moment = tt
+none_at ListAll moment = tt
+none_at Check moment = tt
+none_at Recover moment = tt
 
 -- the volume was not touched, and the end makes no updates
 pub untouched : (c : Command) (g : Given) (end : End) (same : Type 0) (told : Bool) (h : History) (faults : ℕ)
@@ -123,6 +150,7 @@ untouched c g end same told h faults is early well at = record {
   idle = λ _. is;
   unmarked = λ _. refl;
   marks_are = λ tells. no_marks h.moment h.moment;
+  marks_at = none_at c h.moment;
   reads = λ tells late. absurd (clash (is_early c end) early late);
   tiles = λ start ready. ([], (at, keeps_none c start h h (stays start told h ready)));
 }
@@ -155,8 +183,9 @@ reading_volume c g end same told told_new h h_new faults faults_new calls none s
   idle = λ early. absurd (never_early c end calls none early);
   unmarked = λ _. refl;
   marks_are = λ tells. no_marks h.moment h_new.moment;
+  marks_at = none_at c h_new.moment;
   reads = λ tells late. answers end _ (λ well.
-      ([], (record { some = λ _. no_updates c g none; none = λ _. refl }, (contents Bundle h_new, (so.reads tells well, sym (same_bundle c (contents Bundle h_new) [] none))))));
+      ([], (record { some = λ _. no_updates c g none; none = λ _. refl }, (contents Bundle h_new, (so.reads tells well, sym (same_bundle c end (contents Bundle h_new) [] none))))));
   tiles = λ start ready. ([], (record { some = λ _. no_updates c g none; none = λ _. refl }, keeps_none c start h h_new (so.tiles start ready)));
 }
 
@@ -165,6 +194,7 @@ untaken : (c : Command) (left : Option (List ℕ)) → IsFalse (reads_source c) 
 untaken (Encode version error) left idle = absurd (let no : ⊥ = cc in no)
 untaken Decode left idle = absurd (let no : ⊥ = cc in no)
 untaken Info left idle = absurd (let no : ⊥ = cc in no)
+untaken (Build version error workers) left idle = absurd (let bad : ⊥ = cc in bad)
 untaken (Put version error workers) left idle = absurd (let bad : ⊥ = cc in bad)
 untaken (Get slot) left idle = refl
 untaken (GetRaw slot) left idle = refl

@@ -1,3 +1,6 @@
+mod BuildOnce
+mod BuildRuns
+mod Built
 mod BundleOpening
 mod Encoding
 mod Ends

@@ -7,7 +7,7 @@ use Rattle.lerc_header.specs.declared.header.Version.{Version}
 use Rattle.lerc_header.specs.Written.{step_of}
 use Rattle.lerc_encode.specs.Choice.{choice}
 use Rattle.lerc_cli.specs.declared.command.Command.{Command}
-use Rattle.lerc_cli.specs.declared.command.Command.TheVariants.{Encode, Decode, Info, Put, Get, GetRaw, List as ListAll, Check, Recover}
+use Rattle.lerc_cli.specs.declared.command.Command.TheVariants.{Encode, Decode, Info, Build, Put, Get, GetRaw, List as ListAll, Check, Recover}
 use Rattle.lerc_cli.specs.declared.stop.Fault.{Fault}
 use Rattle.lerc_cli.specs.declared.stop.Reason.TheVariants.{Blob as BlobReasonOf}
 use Rattle.lerc_cli.specs.declared.stop.Stop.TheVariants.{Usage, Refused, Source, Output, Volume, OutOfMemory, Store}
@@ -25,6 +25,7 @@ use Rattle.lerc_cli.proofs.OneBundle.{done_or_refused, fault_or_missing, held_or
 use Rattle.lerc_cli.specs.Command.{calls_volume, reads_source}
 use Rattle.lerc_grammar.proofs.Blobs.{one_raster}
 use Rattle.lerc_cli.proofs.Whole.{blob_or_fault, one_whole_fault}
+use Rattle.lerc_cli.proofs.BuildOnce.{build_once}
 use Rattle.lerc_cli.proofs.PutOnce.{put_once}
 use Rattle.lerc_cli.proofs.WholeGrids.{grid_or_refusal, one_grid, one_refusal}
 
@@ -116,6 +117,7 @@ source_once Info reads idle input files n m (Err (Refused f)) (Err Output) outpu
 source_once Info reads idle input files n m (Err (Refused f)) (Err Volume) output another _ answer a b = absurd answer
 source_once Info reads idle input files n m (Err (Refused f)) (Err OutOfMemory) output another _ answer a b = absurd answer
 source_once Info reads idle input files n m (Err (Refused f)) (Err (Store r)) output another _ _ a b = absurd b.0
+source_once (Build v e w) reads idle input files n m end other output another one two a b = absurd (let bad : ⊥ = cc in bad)
 source_once (Put v e w) reads idle input files n m end other output another one two a b = absurd (let bad : ⊥ = cc in bad)
 source_once (Get slot) reads idle input files n m end other output another one two a b = absurd (let bad : ⊥ = cc in bad)
 source_once (GetRaw slot) reads idle input files n m end other output another one two a b = absurd (let bad : ⊥ = cc in bad)
@@ -271,19 +273,25 @@ recover_once input f n m (Err (Store r)) (Err Output) output another _ answer a 
 recover_once input f n m (Err (Store r)) (Err Volume) output another _ answer a b = absurd answer
 recover_once input f n m (Err (Store r)) (Err OutOfMemory) output another _ answer a b = absurd answer
 
-from_both : (v : Version) (e w : ℕ) → AnswersOnce (Put v e w)
-from_both v e w g n m end other output another tells one two a b =
-    let input = tells.input (search rules) in
-    let files = tells.files (search rules) in
-    put_once v e w input.0 files.0 n m end other output another one two
-    (subst (λ (x : Option (List ℕ)). Ends (Put v e w) (given x (Some files.0)) n end output) input.1 (subst (λ (x : Option Files). Ends (Put v e w) (given g.input x) n end output) files.1 a))
-    (subst (λ (x : Option (List ℕ)). Ends (Put v e w) (given x (Some files.0)) m other another) input.1 (subst (λ (x : Option Files). Ends (Put v e w) (given g.input x) m other another) files.1 b))
+-- what a command answers that reads both, where all is told
+abbrev BothOnce : Command → Type 0
+BothOnce c = (input : List ℕ) (f : Files) (n m : ℕ) (end other : End) (output another : List ℕ) → IsAnswer end → IsAnswer other
+    → Ends c (given (Some input) (Some f)) n end output → Ends c (given (Some input) (Some f)) m other another → (end ≡ other) × (output ≡ another)
+
+from_both : (c : Command) → IsTrue (reads_source c) → IsTrue (calls_volume c) → BothOnce c → AnswersOnce c
+from_both c reads calls once g n m end other output another tells one two a b =
+    let input = tells.input reads in
+    let files = tells.files calls in
+    once input.0 files.0 n m end other output another one two
+    (subst (λ (x : Option (List ℕ)). Ends c (given x (Some files.0)) n end output) input.1 (subst (λ (x : Option Files). Ends c (given g.input x) n end output) files.1 a))
+    (subst (λ (x : Option (List ℕ)). Ends c (given x (Some files.0)) m other another) input.1 (subst (λ (x : Option Files). Ends c (given g.input x) m other another) files.1 b))
 
 pub answers_once : (c : Command) → AnswersOnce c
 answers_once (Encode v e) = from_source (Encode v e) (search rules) refl
 answers_once Decode = from_source Decode (search rules) refl
 answers_once Info = from_source Info (search rules) refl
-answers_once (Put v e w) = from_both v e w
+answers_once (Build v e w) = from_both (Build v e w) (search rules) (search rules) (build_once v e w)
+answers_once (Put v e w) = from_both (Put v e w) (search rules) (search rules) (put_once v e w)
 answers_once (Get slot) = from_bundle (Get slot) (search rules) (grid_once slot)
 answers_once (GetRaw slot) = from_bundle (GetRaw slot) (search rules) (raw_once slot)
 answers_once ListAll = from_bundle ListAll (search rules) list_once

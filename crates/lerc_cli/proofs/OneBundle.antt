@@ -25,7 +25,7 @@ use Rattle.bundle_store.specs.Tiles.{HasIndex, Opens}
 use Rattle.bundle_store.proofs.OneRecovery.{one_answer, one_left}
 use Rattle.bundle_store.proofs.Opening.{open_by}
 use Rattle.lerc_cli.specs.declared.stop.Refusal.{Refusal}
-use Rattle.lerc_cli.specs.declared.stop.Refusal.TheVariants.{NoTile, Beyond, BadBundle, BadJournal, TileTooLarge, Full, TooManyTiles, KeptTooMuch}
+use Rattle.lerc_cli.specs.declared.stop.Refusal.TheVariants.{NoTile, Beyond, BadBundle, BadJournal, NotEmpty, TileTooLarge, Full, TooManyTiles, KeptTooMuch}
 use Rattle.lerc_cli.specs.Answer.{Files, HasRecovered, HoldsBlob, IsMissing, IsOpening, IsUnrecovered, OfBundle, OfRecovered}
 use Rattle.lerc_cli.proofs.Whole.{blob_or_fault, one_whole_fault}
 
@@ -79,6 +79,7 @@ recovered_or_opening f P (BadJournal place number) (done, (bundle, (leaves, so))
 recovered_or_opening f P (TileTooLarge at len) of is = absurd is
 recovered_or_opening f P (Full len) of is = absurd is
 recovered_or_opening f P TooManyTiles of is = absurd is
+recovered_or_opening f P (NotEmpty len) of is = absurd is
 recovered_or_opening f P (KeptTooMuch at) of is = absurd is
 
 place_in : Option HeaderFault → ℕ
@@ -123,14 +124,17 @@ one_opening f (BadJournal place number) (BadJournal at other) is so =
 one_opening f (TileTooLarge at len) s is so = absurd is
 one_opening f (Full len) s is so = absurd is
 one_opening f TooManyTiles s is so = absurd is
+one_opening f (NotEmpty len) s is so = absurd is
 one_opening f (KeptTooMuch at) s is so = absurd is
 one_opening f (BadBundle place number) (TileTooLarge at len) is so = absurd so
 one_opening f (BadBundle place number) (Full len) is so = absurd so
 one_opening f (BadBundle place number) TooManyTiles is so = absurd so
+one_opening f (BadBundle place number) (NotEmpty len) is so = absurd so
 one_opening f (BadBundle place number) (KeptTooMuch at) is so = absurd so
 one_opening f (BadJournal place number) (TileTooLarge at len) is so = absurd so
 one_opening f (BadJournal place number) (Full len) is so = absurd so
 one_opening f (BadJournal place number) TooManyTiles is so = absurd so
+one_opening f (BadJournal place number) (NotEmpty len) is so = absurd so
 one_opening f (BadJournal place number) (KeptTooMuch at) is so = absurd so
 
 -- the refusal of a recovery is one of opening
@@ -142,6 +146,7 @@ unrecovered f (BadJournal place number) is = is
 unrecovered f (TileTooLarge at len) is = absurd is
 unrecovered f (Full len) is = absurd is
 unrecovered f TooManyTiles is = absurd is
+unrecovered f (NotEmpty len) is = absurd is
 unrecovered f (KeptTooMuch at) is = absurd is
 
 pub one_unrecovered : (f : Files) (r s : Refusal) → IsUnrecovered (Some f) r → IsUnrecovered (Some f) s → r ≡ s
@@ -158,6 +163,7 @@ done_or_refused f done (BadJournal place number) (left, leaves) is = left_or_ref
 done_or_refused f done (TileTooLarge at len) so is = absurd is
 done_or_refused f done (Full len) so is = absurd is
 done_or_refused f done TooManyTiles so is = absurd is
+done_or_refused f done (NotEmpty len) so is = absurd is
 done_or_refused f done (KeptTooMuch at) so is = absurd is
 
 -- ---- one report
@@ -217,6 +223,7 @@ tile_or_missing f slot t (BadJournal place number) gives is = recovered_or_openi
 tile_or_missing f slot t (TileTooLarge at len) gives is = absurd is
 tile_or_missing f slot t (Full len) gives is = absurd is
 tile_or_missing f slot t TooManyTiles gives is = absurd is
+tile_or_missing f slot t (NotEmpty len) gives is = absurd is
 tile_or_missing f slot t (KeptTooMuch at) gives is = absurd is
 
 none_or_beyond : (b : List ℕ) (slot : ℕ) (entry : Entry) (got : ℕ) → (entry_at b slot).size ≡ 0 → got < entry.size → IsBeyond b slot entry got → ⊥
@@ -254,22 +261,27 @@ one_missing f slot (BadJournal place number) (BadJournal at other) is so = one_o
 one_missing f slot (TileTooLarge at len) s is so = absurd is
 one_missing f slot (Full len) s is so = absurd is
 one_missing f slot TooManyTiles s is so = absurd is
+one_missing f slot (NotEmpty len) s is so = absurd is
 one_missing f slot (KeptTooMuch at) s is so = absurd is
 one_missing f slot (NoTile a) (TileTooLarge at len) is so = absurd so
 one_missing f slot (NoTile a) (Full len) is so = absurd so
 one_missing f slot (NoTile a) TooManyTiles is so = absurd so
+one_missing f slot (NoTile a) (NotEmpty len) is so = absurd so
 one_missing f slot (NoTile a) (KeptTooMuch at) is so = absurd so
 one_missing f slot (Beyond a e n) (TileTooLarge at len) is so = absurd so
 one_missing f slot (Beyond a e n) (Full len) is so = absurd so
 one_missing f slot (Beyond a e n) TooManyTiles is so = absurd so
+one_missing f slot (Beyond a e n) (NotEmpty len) is so = absurd so
 one_missing f slot (Beyond a e n) (KeptTooMuch at) is so = absurd so
 one_missing f slot (BadBundle place number) (TileTooLarge at len) is so = absurd so
 one_missing f slot (BadBundle place number) (Full len) is so = absurd so
 one_missing f slot (BadBundle place number) TooManyTiles is so = absurd so
+one_missing f slot (BadBundle place number) (NotEmpty len) is so = absurd so
 one_missing f slot (BadBundle place number) (KeptTooMuch at) is so = absurd so
 one_missing f slot (BadJournal place number) (TileTooLarge at len) is so = absurd so
 one_missing f slot (BadJournal place number) (Full len) is so = absurd so
 one_missing f slot (BadJournal place number) TooManyTiles is so = absurd so
+one_missing f slot (BadJournal place number) (NotEmpty len) is so = absurd so
 one_missing f slot (BadJournal place number) (KeptTooMuch at) is so = absurd so
 
 -- ---- its blob

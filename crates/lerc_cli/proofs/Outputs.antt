@@ -6,7 +6,7 @@ use Rattle.outside_io.specs.streams.Sink.{Holds, HoldsPrefix}
 use Rattle.outside_io.specs.streams.Source.{IsAtEnd}
 use Rattle.outside_io.proofs.StreamLemmas.Gives.{Holds_none}
 use Rattle.lerc_cli.specs.declared.command.Command.{Command}
-use Rattle.lerc_cli.specs.declared.command.Command.TheVariants.{Encode, Decode, Info, Put, Get, GetRaw, List as ListAll, Check, Recover}
+use Rattle.lerc_cli.specs.declared.command.Command.TheVariants.{Encode, Decode, Info, Build, Put, Get, GetRaw, List as ListAll, Check, Recover}
 use Rattle.lerc_cli.specs.declared.stop.Refusal.{Refusal}
 use Rattle.lerc_cli.specs.declared.stop.Stop.{Stop}
 use Rattle.lerc_cli.specs.declared.stop.Stop.TheVariants.{Usage, Refused, Source, Output, Volume, OutOfMemory, Store}
@@ -89,6 +89,7 @@ no_store : (c : Command) (g : Given) (n : ℕ) (r : Refusal) → IsFalse (calls_
 no_store (Encode version error) g n r calls is = is
 no_store Decode g n r calls is = is
 no_store Info g n r calls is = is
+no_store (Build version error workers) g n r calls is = cc
 no_store (Put version error workers) g n r calls is = cc
 no_store (Get slot) g n r calls is = cc
 no_store (GetRaw slot) g n r calls is = cc

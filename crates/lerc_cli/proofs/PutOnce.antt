@@ -43,7 +43,7 @@ pub record IsOwn (stop : Stop) : Type 0 where
   pub source : stop ≡ Source → ⊥
   pub memory : stop ≡ OutOfMemory → ⊥
 
-own_bytes : (v : Version) (step : ℕ) (bytes : List ℕ) (stop : Stop) (s : StreamStop) → IsOwn stop → stop ≡ stream_stop_of s → TellsStop v step (Some bytes) s → IsStreamStop v step bytes s
+pub own_bytes : (v : Version) (step : ℕ) (bytes : List ℕ) (stop : Stop) (s : StreamStop) → IsOwn stop → stop ≡ stream_stop_of s → TellsStop v step (Some bytes) s → IsStreamStop v step bytes s
 own_bytes v step bytes stop s own is tells = of_bytes v step bytes s (λ same. own.source (is ∙ same)) (λ same. own.memory (is ∙ same)) tells
 
 -- ---- room
@@ -109,10 +109,10 @@ cut_once v e w bytes f n stop other output another (inr (us, (of, within, is))) 
 cut_once v e w bytes f n stop other output another (inr (us, (of, within, is))) (inr (vs, (from, inside, so))) =
     is ∙ ap (λ (x : List TileRec). put_lines (take n x)) (updates_once v (step_of e) bytes us vs of from) ∙ sym so
 
-own_refused : (fault : Fault) → IsOwn (Refused fault)
+pub own_refused : (fault : Fault) → IsOwn (Refused fault)
 own_refused fault = record { source = λ is. cc; memory = λ is. cc }
 
-own_store : (r : Refusal) → IsOwn (Store r)
+pub own_store : (r : Refusal) → IsOwn (Store r)
 own_store r = record { source = λ is. cc; memory = λ is. cc }
 
 pub put_once : (v : Version) (e w : ℕ) (bytes : List ℕ) (f : Files) (n m : ℕ) (end other : End) (output another : List ℕ) → IsAnswer end → IsAnswer other

@@ -27,7 +27,7 @@ use Rattle.tile_updates.specs.declared.stop.StreamStop.{StreamStop}
 use Rattle.tile_updates.specs.declared.stop.StreamStop.TheVariants.{TooManyTiles as ManyTiles, Fault as TileFaultOf, DepthNeedsV4 as DeepTile, TileTooLarge as LargeTile, KeptTooMuch as MuchKept, Source as StreamSource, OutOfMemory as StreamMemory}
 use Rattle.lerc_cli.specs.declared.command.Command.TheVariants.{Put}
 use Rattle.lerc_cli.specs.declared.stop.Refusal.{Refusal}
-use Rattle.lerc_cli.specs.declared.stop.Refusal.TheVariants.{NoTile, Beyond, BadBundle, BadJournal, TileTooLarge, Full, TooManyTiles, KeptTooMuch}
+use Rattle.lerc_cli.specs.declared.stop.Refusal.TheVariants.{NoTile, Beyond, BadBundle, BadJournal, NotEmpty, TileTooLarge, Full, TooManyTiles, KeptTooMuch}
 use Rattle.lerc_cli.specs.declared.stop.Stop.{Stop}
 use Rattle.lerc_cli.specs.declared.stop.Stop.TheVariants.{Usage, Refused, Source, Output, Volume, OutOfMemory, Store}
 use Rattle.lerc_cli.specs.Answer.{Ends, Files, Given, IsCutOff, IsNoUpdates, OfBundle, UpdatesOf, stream_stop_of}
@@ -121,7 +121,7 @@ unopened_ends v e w g us Volume of stops = (search rules, inl (refl, refl))
 unopened_ends v e w g us OutOfMemory of stops = absurd stops
 unopened_ends v e w g us (Store r) of stops = (inr (inl (refl, (us, (of, (r, (refl, stops)))))), inl (refl, refl))
 
-not_output : (files : Option Files) (stop : Stop) → OpeningStops files stop → stop ≡ Output → ⊥
+pub not_output : (files : Option Files) (stop : Stop) → OpeningStops files stop → stop ≡ Output → ⊥
 not_output files stop stops is = let none : OpeningStops files Output = subst (λ (s : Stop). OpeningStops files s) is stops in none
 
 pub unopened_output : (v : Version) (e w : ℕ) (g : Given) (us : List TileRec) (K : Type 0) (held : K → Option (List ℕ)) (faults : K → ℕ) (out out_new : K) (stop : Stop) → out_new ≡ out
@@ -142,6 +142,7 @@ refused_volume v e w g r same told told_new h h_new f f_new none late so = recor
   idle = λ early. absurd (late early);
   unmarked = λ is. absurd (let bad : ⊥ = cc in bad);
   marks_are = λ t. no_marks h.moment h_new.moment;
+  marks_at = tt;
   reads = λ t _. ([], (none_at v e w g r none, (contents Bundle h_new, (so.reads t (λ is. let bad : ⊥ = cc in bad), refl))));
   tiles = λ start ready. ([], (none_at v e w g r none, keeps_unmarked [] start h h_new (so.tiles start ready)));
 }
@@ -164,6 +165,7 @@ unopened_volume v e w g us Volume same told told_new h h_new f f_new of stops so
   idle = λ early. absurd (let bad : ⊥ = cc in bad);
   unmarked = λ is. absurd (let bad : ⊥ = cc in bad);
   marks_are = λ t. no_marks h.moment h_new.moment;
+  marks_at = tt;
   reads = λ t late. tt;
   tiles = λ start ready. (us, (opened_not v e w g us of, keeps_unmarked us start h h_new (so.tiles start ready)));
 }
@@ -174,6 +176,7 @@ unopened_volume v e w g us (Store (Beyond at entry got)) same told told_new h h_
 unopened_volume v e w g us (Store (TileTooLarge at len)) same told told_new h h_new f f_new of stops so = absurd stops
 unopened_volume v e w g us (Store (Full len)) same told told_new h h_new f f_new of stops so = absurd stops
 unopened_volume v e w g us (Store TooManyTiles) same told told_new h h_new f f_new of stops so = absurd stops
+unopened_volume v e w g us (Store (NotEmpty len)) same told told_new h h_new f f_new of stops so = absurd stops
 unopened_volume v e w g us (Store (KeptTooMuch at)) same told told_new h h_new f f_new of stops so = absurd stops
 
 pub not_source : (files : Option Files) (stop : Stop) → OpeningStops files stop → ◌≡◌ {A = End} (Err stop) (Err Source) → ⊥
@@ -238,15 +241,15 @@ put_all_output v e w input told h s d us n r same held held_new f f_new of opene
 -- ---- the volume
 
 -- the journal does not count: the bundle is readable, and these are its tiles
-closed_map : (b j : List ℕ) (state : JournalState) (map : TileMap) → ¬ IsOpen j → Says j state → Shows state b map → IsReadable b × (map ≡ tiles b)
+pub closed_map : (b j : List ℕ) (state : JournalState) (map : TileMap) → ¬ IsOpen j → Says j state → Shows state b map → IsReadable b × (map ≡ tiles b)
 closed_map b j Closed map shut says shows = shows
 closed_map b j (Open body) map shut says shows = absurd (shut says.0)
 closed_map b j (Bad place found) map shut says shows = absurd shows
 
-earlier_marks : (marks : List ℕ) (from mid to : ℕ) → from ≤ mid → AreMarks marks mid to → AreMarks marks from to
+pub earlier_marks : (marks : List ℕ) (from mid to : ℕ) → from ≤ mid → AreMarks marks mid to → AreMarks marks from to
 earlier_marks marks from mid to first are = record { rising = are.rising; within = λ i lt. (let is = are.within i lt in (omega (arith, first, is.0), is.1)) }
 
-joined_cause : (P Q : Type 0) (f f_mid f_new : ℕ) → (P → ⊥) → IsCause P f f_mid → IsCause Q f_mid f_new → IsCause Q f f_new
+pub joined_cause : (P Q : Type 0) (f f_mid f_new : ℕ) → (P → ⊥) → IsCause P f f_mid → IsCause Q f_mid f_new → IsCause Q f f_new
 joined_cause P Q f f_mid f_new well one two = record {
   counts = omega (arith, one.counts, two.counts);
   failed = λ q. failed_later f f_mid f_new one.counts (two.failed q);
@@ -295,6 +298,7 @@ put_all_volume v e w g failed told told_mid told_new h h_mid h_new f f_mid f_new
   idle = λ early. absurd (not_early v e w r early);
   unmarked = λ is. absurd (let bad : ⊥ = cc in bad);
   marks_are = λ t. earlier_marks marks h.moment h_mid.moment h_new.moment (so.later t) (are (so.told ∙ t));
+  marks_at = tt;
   reads = λ t _. on_answer r _ (unless_map r _ _ (λ (held : HoldsClosed (bundle_after_puts (contents Bundle h_mid) (take (length marks) us)) (current h_new)).
       let o = opened t in (us, (updates_at v e w g r us of, (contents Bundle h_mid, (inl (o.done, o.leaves), ap (λ (x : File). x.now) held.bundle_is))))) (reads (so.told ∙ t)));
   tiles = λ start ready.

@@ -5,9 +5,9 @@ use Rattle.outside_io.specs.program.Word.{IsNumber, decimal_value}
 use Rattle.lerc_header.specs.declared.header.Version.{Version}
 use Rattle.lerc_header.specs.declared.header.Version.TheVariants.{V3, V4}
 use Rattle.lerc_cli.specs.declared.command.Command.{Command}
-use Rattle.lerc_cli.specs.declared.command.Command.TheVariants.{Encode, Decode, Info, Put, Get, GetRaw, List as ListAll, Check, Recover}
+use Rattle.lerc_cli.specs.declared.command.Command.TheVariants.{Encode, Decode, Info, Build, Put, Get, GetRaw, List as ListAll, Check, Recover}
 use Rattle.lerc_cli.specs.Command.{AreSlotWords, IsSpelled, IsVersionWord, IsWithin, SpellsOne}
-use Rattle.lerc_cli.specs.inside.Spelling.{IsEncode, IsGet, IsGetRaw, IsPut}
+use Rattle.lerc_cli.specs.inside.Spelling.{IsBuild, IsEncode, IsGet, IsGetRaw, IsPut}
 
 -- ---- one version, one number
 
@@ -226,12 +226,27 @@ spells_one Recover (GetRaw t) words one other = absurd (let same : ◌≡◌ {A 
 spells_one Recover ListAll words one other = absurd (let same : ◌≡◌ {A = ℕ} 114 108 = other_letters _ _ (sym one ∙ other) in omega (arith, same))
 spells_one Recover Check words one other = absurd (let same : ◌≡◌ {A = ℕ} 114 99 = other_letters _ _ (sym one ∙ other) in omega (arith, same))
 spells_one Recover Recover words one other = refl
+spells_one (Build a e w) (Encode b f) words one other = absurd (let same : ◌≡◌ {A = ℕ} 4 3 = ap length (sym one.3.0 ∙ other.2.0) in omega (arith, same))
 spells_one (Put a e w) (Encode b f) words one other = absurd (let same : ◌≡◌ {A = ℕ} 4 3 = ap length (sym one.3.0 ∙ other.2.0) in omega (arith, same))
+spells_one (Encode a e) (Build b f x) words one other = absurd (let same : ◌≡◌ {A = ℕ} 3 4 = ap length (sym one.2.0 ∙ other.3.0) in omega (arith, same))
 spells_one (Encode a e) (Put b f x) words one other = absurd (let same : ◌≡◌ {A = ℕ} 3 4 = ap length (sym one.2.0 ∙ other.3.0) in omega (arith, same))
+spells_one (Build a e w) Decode words one other = absurd (let same : ◌≡◌ {A = ℕ} 4 1 = ap length (sym one.3.0 ∙ other) in omega (arith, same))
 spells_one (Put a e w) Decode words one other = absurd (let same : ◌≡◌ {A = ℕ} 4 1 = ap length (sym one.3.0 ∙ other) in omega (arith, same))
+spells_one Decode (Build b f x) words one other = absurd (let same : ◌≡◌ {A = ℕ} 1 4 = ap length (sym one ∙ other.3.0) in omega (arith, same))
 spells_one Decode (Put b f x) words one other = absurd (let same : ◌≡◌ {A = ℕ} 1 4 = ap length (sym one ∙ other.3.0) in omega (arith, same))
+spells_one (Build a e w) Info words one other = absurd (let same : ◌≡◌ {A = ℕ} 4 1 = ap length (sym one.3.0 ∙ other) in omega (arith, same))
 spells_one (Put a e w) Info words one other = absurd (let same : ◌≡◌ {A = ℕ} 4 1 = ap length (sym one.3.0 ∙ other) in omega (arith, same))
+spells_one Info (Build b f x) words one other = absurd (let same : ◌≡◌ {A = ℕ} 1 4 = ap length (sym one ∙ other.3.0) in omega (arith, same))
 spells_one Info (Put b f x) words one other = absurd (let same : ◌≡◌ {A = ℕ} 1 4 = ap length (sym one ∙ other.3.0) in omega (arith, same))
+spells_one (Build a e w) (Build b f x) words one other =
+    let same = sym one.3.0 ∙ other.3.0 in
+    let u : one.0 ≡ other.0 = cc in
+    let v : one.1 ≡ other.1 = cc in
+    let n : one.2 ≡ other.2 = cc in
+    let version = one_version one.0 other.0 a b u one.3.1 other.3.1 in
+    let error = one_number one.1 other.1 e f v one.3.2.0 other.3.2.0 in
+    let workers = one_number one.2 other.2 w x n one.3.3.0 other.3.3.0 in
+    λ i. Build (version i) (error i) (workers i)
 spells_one (Put a e w) (Put b f x) words one other =
     let same = sym one.3.0 ∙ other.3.0 in
     let u : one.0 ≡ other.0 = cc in
@@ -241,15 +256,27 @@ spells_one (Put a e w) (Put b f x) words one other =
     let error = one_number one.1 other.1 e f v one.3.2.0 other.3.2.0 in
     let workers = one_number one.2 other.2 w x n one.3.3.0 other.3.3.0 in
     λ i. Put (version i) (error i) (workers i)
+spells_one (Build a e w) (Get t) words one other = absurd (let same : ◌≡◌ {A = ℕ} 4 3 = ap length (sym one.3.0 ∙ other.2.0) in omega (arith, same))
 spells_one (Put a e w) (Get t) words one other = absurd (let same : ◌≡◌ {A = ℕ} 4 3 = ap length (sym one.3.0 ∙ other.2.0) in omega (arith, same))
+spells_one (Get s) (Build b f x) words one other = absurd (let same : ◌≡◌ {A = ℕ} 3 4 = ap length (sym one.2.0 ∙ other.3.0) in omega (arith, same))
 spells_one (Get s) (Put b f x) words one other = absurd (let same : ◌≡◌ {A = ℕ} 3 4 = ap length (sym one.2.0 ∙ other.3.0) in omega (arith, same))
+spells_one (Build a e w) (GetRaw t) words one other = absurd (let same : ◌≡◌ {A = ℕ} 98 103 = other_letters _ _ (sym one.3.0 ∙ other.2.0) in omega (arith, same))
 spells_one (Put a e w) (GetRaw t) words one other = absurd (let same : ◌≡◌ {A = ℕ} 112 103 = other_letters _ _ (sym one.3.0 ∙ other.2.0) in omega (arith, same))
+spells_one (GetRaw s) (Build b f x) words one other = absurd (let same : ◌≡◌ {A = ℕ} 103 98 = other_letters _ _ (sym one.2.0 ∙ other.3.0) in omega (arith, same))
 spells_one (GetRaw s) (Put b f x) words one other = absurd (let same : ◌≡◌ {A = ℕ} 103 112 = other_letters _ _ (sym one.2.0 ∙ other.3.0) in omega (arith, same))
+spells_one (Build a e w) ListAll words one other = absurd (let same : ◌≡◌ {A = ℕ} 4 1 = ap length (sym one.3.0 ∙ other) in omega (arith, same))
 spells_one (Put a e w) ListAll words one other = absurd (let same : ◌≡◌ {A = ℕ} 4 1 = ap length (sym one.3.0 ∙ other) in omega (arith, same))
+spells_one ListAll (Build b f x) words one other = absurd (let same : ◌≡◌ {A = ℕ} 1 4 = ap length (sym one ∙ other.3.0) in omega (arith, same))
 spells_one ListAll (Put b f x) words one other = absurd (let same : ◌≡◌ {A = ℕ} 1 4 = ap length (sym one ∙ other.3.0) in omega (arith, same))
+spells_one (Build a e w) Check words one other = absurd (let same : ◌≡◌ {A = ℕ} 4 1 = ap length (sym one.3.0 ∙ other) in omega (arith, same))
 spells_one (Put a e w) Check words one other = absurd (let same : ◌≡◌ {A = ℕ} 4 1 = ap length (sym one.3.0 ∙ other) in omega (arith, same))
+spells_one Check (Build b f x) words one other = absurd (let same : ◌≡◌ {A = ℕ} 1 4 = ap length (sym one ∙ other.3.0) in omega (arith, same))
 spells_one Check (Put b f x) words one other = absurd (let same : ◌≡◌ {A = ℕ} 1 4 = ap length (sym one ∙ other.3.0) in omega (arith, same))
+spells_one (Build a e w) (Put b f x) words one other = absurd (let same : ◌≡◌ {A = ℕ} 98 112 = other_letters _ _ (sym one.3.0 ∙ other.3.0) in omega (arith, same))
+spells_one (Put a e w) (Build b f x) words one other = absurd (let same : ◌≡◌ {A = ℕ} 112 98 = other_letters _ _ (sym one.3.0 ∙ other.3.0) in omega (arith, same))
+spells_one (Build a e w) Recover words one other = absurd (let same : ◌≡◌ {A = ℕ} 4 1 = ap length (sym one.3.0 ∙ other) in omega (arith, same))
 spells_one (Put a e w) Recover words one other = absurd (let same : ◌≡◌ {A = ℕ} 4 1 = ap length (sym one.3.0 ∙ other) in omega (arith, same))
+spells_one Recover (Build b f x) words one other = absurd (let same : ◌≡◌ {A = ℕ} 1 4 = ap length (sym one ∙ other.3.0) in omega (arith, same))
 spells_one Recover (Put b f x) words one other = absurd (let same : ◌≡◌ {A = ℕ} 1 4 = ap length (sym one ∙ other.3.0) in omega (arith, same))
 
 -- words that spell one command spell no other
@@ -289,6 +316,7 @@ no_name word none (GetRaw s) is = let same : ◌≡◌ {A = ℕ} 1 4 = ap length
 no_name word none ListAll is = none.list (head_of word (codes "list") is)
 no_name word none Check is = none.check (head_of word (codes "check") is)
 no_name word none Recover is = none.recover (head_of word (codes "recover") is)
+no_name word none (Build a e w) is = let same : ◌≡◌ {A = ℕ} 1 4 = ap length is.3.0 in omega (arith, same)
 no_name word none (Put a e w) is = let same : ◌≡◌ {A = ℕ} 1 4 = ap length is.3.0 in omega (arith, same)
 
 -- ---- a name and two words
@@ -309,6 +337,7 @@ encode_from name v e named (GetRaw t) s = absurd (let same : ◌≡◌ {A = ℕ}
 encode_from name v e named ListAll s = absurd (let same : ◌≡◌ {A = ℕ} 3 1 = ap length s in omega (arith, same))
 encode_from name v e named Check s = absurd (let same : ◌≡◌ {A = ℕ} 3 1 = ap length s in omega (arith, same))
 encode_from name v e named Recover s = absurd (let same : ◌≡◌ {A = ℕ} 3 1 = ap length s in omega (arith, same))
+encode_from name v e named (Build a n w) s = absurd (let same : ◌≡◌ {A = ℕ} 3 4 = ap length s.3.0 in omega (arith, same))
 encode_from name v e named (Put a n w) s = absurd (let same : ◌≡◌ {A = ℕ} 3 4 = ap length s.3.0 in omega (arith, same))
 
 pub get_to : (name row col : List ℕ) → name ≡ codes "get" → (c : Command) → IsGet row col c → IsSpelled c (name ∷ row ∷ col ∷ [])
@@ -327,6 +356,7 @@ get_from name row col named (GetRaw t) s = absurd (let same : ◌≡◌ {A = ℕ
 get_from name row col named ListAll s = absurd (let same : ◌≡◌ {A = ℕ} 3 1 = ap length s in omega (arith, same))
 get_from name row col named Check s = absurd (let same : ◌≡◌ {A = ℕ} 3 1 = ap length s in omega (arith, same))
 get_from name row col named Recover s = absurd (let same : ◌≡◌ {A = ℕ} 3 1 = ap length s in omega (arith, same))
+get_from name row col named (Build a n w) s = absurd (let same : ◌≡◌ {A = ℕ} 3 4 = ap length s.3.0 in omega (arith, same))
 get_from name row col named (Put a n w) s = absurd (let same : ◌≡◌ {A = ℕ} 3 4 = ap length s.3.0 in omega (arith, same))
 
 name_of : (name a b : List ℕ) (w x y : List ℕ) → ◌≡◌ {A = List (List ℕ)} (name ∷ a ∷ b ∷ []) (w ∷ x ∷ y ∷ []) → name ≡ w
@@ -341,6 +371,7 @@ no_two name a b encode get (GetRaw t) s = let same : ◌≡◌ {A = ℕ} 3 4 = a
 no_two name a b encode get ListAll s = let same : ◌≡◌ {A = ℕ} 3 1 = ap length s in omega (arith, same)
 no_two name a b encode get Check s = let same : ◌≡◌ {A = ℕ} 3 1 = ap length s in omega (arith, same)
 no_two name a b encode get Recover s = let same : ◌≡◌ {A = ℕ} 3 1 = ap length s in omega (arith, same)
+no_two name a b encode get (Build v e w) s = let same : ◌≡◌ {A = ℕ} 3 4 = ap length s.3.0 in omega (arith, same)
 no_two name a b encode get (Put v e w) s = let same : ◌≡◌ {A = ℕ} 3 4 = ap length s.3.0 in omega (arith, same)
 
 -- ---- a name and three words
@@ -361,19 +392,58 @@ raw_from name row col raw named (GetRaw slot) s =
 raw_from name row col raw named ListAll s = absurd (let same : ◌≡◌ {A = ℕ} 4 1 = ap length s in omega (arith, same))
 raw_from name row col raw named Check s = absurd (let same : ◌≡◌ {A = ℕ} 4 1 = ap length s in omega (arith, same))
 raw_from name row col raw named Recover s = absurd (let same : ◌≡◌ {A = ℕ} 4 1 = ap length s in omega (arith, same))
+raw_from name row col raw named (Build a n w) s = absurd (let same : ◌≡◌ {A = ℕ} 103 98 = sym (ap (λ (w : List ℕ). get_or w 0 0) named) ∙ other_letters _ _ s.3.0 in omega (arith, same))
 raw_from name row col raw named (Put a n w) s = absurd (let same : ◌≡◌ {A = ℕ} 103 112 = sym (ap (λ (w : List ℕ). get_or w 0 0) named) ∙ other_letters _ _ s.3.0 in omega (arith, same))
 
-pub no_three : (name row col raw : List ℕ) → (name ≡ codes "put" → ⊥) → ((name ≡ codes "get") × (raw ≡ codes "raw") → ⊥) → (c : Command) → IsSpelled c (name ∷ row ∷ col ∷ raw ∷ []) → ⊥
-no_three name row col raw put none (Encode a e) s = let same : ◌≡◌ {A = ℕ} 4 3 = ap length s.2.0 in omega (arith, same)
-no_three name row col raw put none Decode s = let same : ◌≡◌ {A = ℕ} 4 1 = ap length s in omega (arith, same)
-no_three name row col raw put none Info s = let same : ◌≡◌ {A = ℕ} 4 1 = ap length s in omega (arith, same)
-no_three name row col raw put none (Get t) s = let same : ◌≡◌ {A = ℕ} 4 3 = ap length s.2.0 in omega (arith, same)
-no_three name row col raw put none (GetRaw slot) s =
+pub no_three : (name row col raw : List ℕ) → (name ≡ codes "build" → ⊥) → (name ≡ codes "put" → ⊥) → ((name ≡ codes "get") × (raw ≡ codes "raw") → ⊥) → (c : Command) → IsSpelled c (name ∷ row ∷ col ∷ raw ∷ []) → ⊥
+no_three name row col raw build put none (Encode a e) s = let same : ◌≡◌ {A = ℕ} 4 3 = ap length s.2.0 in omega (arith, same)
+no_three name row col raw build put none Decode s = let same : ◌≡◌ {A = ℕ} 4 1 = ap length s in omega (arith, same)
+no_three name row col raw build put none Info s = let same : ◌≡◌ {A = ℕ} 4 1 = ap length s in omega (arith, same)
+no_three name row col raw build put none (Get t) s = let same : ◌≡◌ {A = ℕ} 4 3 = ap length s.2.0 in omega (arith, same)
+no_three name row col raw build put none (GetRaw slot) s =
     none (ap (λ (words : List (List ℕ)). get_or words 0 []) s.2.0, ap (λ (words : List (List ℕ)). get_or words 3 []) s.2.0)
-no_three name row col raw put none ListAll s = let same : ◌≡◌ {A = ℕ} 4 1 = ap length s in omega (arith, same)
-no_three name row col raw put none Check s = let same : ◌≡◌ {A = ℕ} 4 1 = ap length s in omega (arith, same)
-no_three name row col raw put none Recover s = let same : ◌≡◌ {A = ℕ} 4 1 = ap length s in omega (arith, same)
-no_three name row col raw put none (Put v e w) s = put (ap (λ (words : List (List ℕ)). get_or words 0 []) s.3.0)
+no_three name row col raw build put none ListAll s = let same : ◌≡◌ {A = ℕ} 4 1 = ap length s in omega (arith, same)
+no_three name row col raw build put none Check s = let same : ◌≡◌ {A = ℕ} 4 1 = ap length s in omega (arith, same)
+no_three name row col raw build put none Recover s = let same : ◌≡◌ {A = ℕ} 4 1 = ap length s in omega (arith, same)
+no_three name row col raw build put none (Build v e w) s = build (ap (λ (words : List (List ℕ)). get_or words 0 []) s.3.0)
+no_three name row col raw build put none (Put v e w) s = put (ap (λ (words : List (List ℕ)). get_or words 0 []) s.3.0)
+
+pub build_to : (name v e w : List ℕ) → name ≡ codes "build" → (c : Command) → IsBuild v e w c → IsSpelled c (name ∷ v ∷ e ∷ w ∷ [])
+build_to name v e w named c s = subst (λ (x : Command). IsSpelled x (name ∷ v ∷ e ∷ w ∷ [])) (sym s.1.2.0) (v, e, w, (ap (λ (u : List ℕ). u ∷ v ∷ e ∷ w ∷ []) named, s.1.2.1, s.1.2.2, s.1.2.3))
+
+pub build_from : (name v e w : List ℕ) → name ≡ codes "build" → (c : Command) → IsSpelled c (name ∷ v ∷ e ∷ w ∷ []) → IsBuild v e w c
+build_from name v e w named (Encode a n) s = absurd (let same : ◌≡◌ {A = ℕ} 4 3 = ap length s.2.0 in omega (arith, same))
+build_from name v e w named Decode s = absurd (let same : ◌≡◌ {A = ℕ} 4 1 = ap length s in omega (arith, same))
+build_from name v e w named Info s = absurd (let same : ◌≡◌ {A = ℕ} 4 1 = ap length s in omega (arith, same))
+build_from name v e w named (Get t) s = absurd (let same : ◌≡◌ {A = ℕ} 4 3 = ap length s.2.0 in omega (arith, same))
+build_from name v e w named ListAll s = absurd (let same : ◌≡◌ {A = ℕ} 4 1 = ap length s in omega (arith, same))
+build_from name v e w named Check s = absurd (let same : ◌≡◌ {A = ℕ} 4 1 = ap length s in omega (arith, same))
+build_from name v e w named Recover s = absurd (let same : ◌≡◌ {A = ℕ} 4 1 = ap length s in omega (arith, same))
+build_from name v e w named (GetRaw t) s = absurd (let same : ◌≡◌ {A = ℕ} 98 103 = sym (ap (λ (u : List ℕ). get_or u 0 0) named) ∙ other_letters _ _ s.2.0 in omega (arith, same))
+build_from name v e w named (Put a n m) s = absurd (let same : ◌≡◌ {A = ℕ} 98 112 = sym (ap (λ (u : List ℕ). get_or u 0 0) named) ∙ other_letters _ _ s.3.0 in omega (arith, same))
+build_from name v e w named (Build a n m) s =
+    let same = s.3.0 in
+    let one : v ≡ s.0 = cc in
+    let two : e ≡ s.1 = cc in
+    let three : w ≡ s.2 = cc in
+    (a, (n, m, (refl, subst (λ (u : List ℕ). IsVersionWord u a) (sym one) s.3.1, subst (λ (u : List ℕ). IsWithin u n 0 4294967295) (sym two) s.3.2, subst (λ (u : List ℕ). IsWithin u m 1 64) (sym three) s.3.3)))
+
+pub build_some : (v e w : List ℕ) (version : Version) (error workers : ℕ) → IsVersionWord v version → IsWithin e error 0 4294967295 → IsWithin w workers 1 64
+    → (c : Command) → (◌≡◌ {A = Option Command} (Some (Build version error workers)) (Some c)) ↔ IsBuild v e w c
+build_some v e w version error workers is within some c = (
+  λ same. (version, (error, workers, ((let here : c ≡ Build version error workers = cc in here), is, within, some))),
+  λ s. (let one = one_version v v version s.0 refl is s.1.2.1 in
+      let two = one_number e e error s.1.0 refl within.0 s.1.2.2.0 in
+      let three = one_number w w workers s.1.1 refl some.0 s.1.2.3.0 in
+      ap Some ((λ i. Build (one i) (two i) (three i)) ∙ sym s.1.2.0)),
+)
+
+pub build_none : (v e w : List ℕ) (found : Option Command) → found ≡ None → ((version : Version) (error workers : ℕ) → IsVersionWord v version → IsWithin e error 0 4294967295 → IsWithin w workers 1 64 → ⊥)
+    → (c : Command) → (found ≡ Some c) ↔ IsBuild v e w c
+build_none v e w found is never c = (
+  λ same. absurd (let other = sym is ∙ same in cc),
+  λ s. absurd (never s.0 s.1.0 s.1.1 s.1.2.1 s.1.2.2 s.1.2.3),
+)
 
 pub put_to : (name v e w : List ℕ) → name ≡ codes "put" → (c : Command) → IsPut v e w c → IsSpelled c (name ∷ v ∷ e ∷ w ∷ [])
 put_to name v e w named c s = subst (λ (x : Command). IsSpelled x (name ∷ v ∷ e ∷ w ∷ [])) (sym s.1.2.0) (v, e, w, (ap (λ (u : List ℕ). u ∷ v ∷ e ∷ w ∷ []) named, s.1.2.1, s.1.2.2, s.1.2.3))
@@ -387,6 +457,7 @@ put_from name v e w named ListAll s = absurd (let same : ◌≡◌ {A = ℕ} 4 1
 put_from name v e w named Check s = absurd (let same : ◌≡◌ {A = ℕ} 4 1 = ap length s in omega (arith, same))
 put_from name v e w named Recover s = absurd (let same : ◌≡◌ {A = ℕ} 4 1 = ap length s in omega (arith, same))
 put_from name v e w named (GetRaw t) s = absurd (let same : ◌≡◌ {A = ℕ} 112 103 = sym (ap (λ (u : List ℕ). get_or u 0 0) named) ∙ other_letters _ _ s.2.0 in omega (arith, same))
+put_from name v e w named (Build a n m) s = absurd (let same : ◌≡◌ {A = ℕ} 112 98 = sym (ap (λ (u : List ℕ). get_or u 0 0) named) ∙ other_letters _ _ s.3.0 in omega (arith, same))
 put_from name v e w named (Put a n m) s =
     let same = s.3.0 in
     let one : v ≡ s.0 = cc in
@@ -422,6 +493,7 @@ other_length words one three four (GetRaw t) s = four (ap length s.2.0)
 other_length words one three four ListAll s = one (ap length s)
 other_length words one three four Check s = one (ap length s)
 other_length words one three four Recover s = one (ap length s)
+other_length words one three four (Build a e w) s = four (ap length s.3.0)
 other_length words one three four (Put a e w) s = four (ap length s.3.0)
 
 -- words of so many items

@@ -9,6 +9,7 @@ use Rattle.bundle_store.specs.declared.check.CheckReport.{CheckReport}
 use Rattle.bundle_store.specs.Check.{Reports}
 use Rattle.bundle_store.specs.Tiles.{Opens}
 use Rattle.bundle_store.specs.declared.tile_rec.TileRec.{TileRec}
+use Rattle.bundle_lines.specs.Builds.{built_line_of}
 use Rattle.bundle_lines.specs.Lines.{check_lines, listing, put_lines, recovery_line}
 use Rattle.bundle_lines.specs.Puts.{HaveRoom, IsFirstFull}
 use Rattle.bundle_store.specs.Build.{bytes_at}
@@ -29,7 +30,7 @@ use Rattle.lerc_header.specs.Written.{step_of}
 use Rattle.lerc_encode.specs.Choice.{choice}
 use Rattle.lerc_encode.specs.Encoded.{NeedsV4}
 use Rattle.lerc_cli.specs.declared.command.Command.{Command}
-use Rattle.lerc_cli.specs.declared.command.Command.TheVariants.{Encode, Decode, Info, Put, Get, GetRaw, List as ListAll, Check, Recover}
+use Rattle.lerc_cli.specs.declared.command.Command.TheVariants.{Encode, Decode, Info, Build, Put, Get, GetRaw, List as ListAll, Check, Recover}
 use Rattle.lerc_header.specs.declared.fault.BlobReason.{BlobReason}
 use Rattle.lerc_grammar.specs.Blob.{Blob}
 use Rattle.lerc_grammar.specs.Verdict.{WholeFault}
@@ -37,7 +38,7 @@ use Rattle.lerc_cli.specs.declared.stop.Reason.{Reason}
 use Rattle.lerc_cli.specs.declared.stop.Reason.TheVariants.{Blob as BlobReasonOf, Grid, Leftover, DepthNeedsV4, BadTileMark, BadSlot}
 use Rattle.lerc_cli.specs.declared.stop.Fault.{Fault}
 use Rattle.lerc_cli.specs.declared.stop.Refusal.{Refusal}
-use Rattle.lerc_cli.specs.declared.stop.Refusal.TheVariants.{NoTile, Beyond, BadBundle, BadJournal, TileTooLarge, Full, TooManyTiles, KeptTooMuch}
+use Rattle.lerc_cli.specs.declared.stop.Refusal.TheVariants.{NoTile, Beyond, BadBundle, BadJournal, NotEmpty, TileTooLarge, Full, TooManyTiles, KeptTooMuch}
 use Rattle.lerc_cli.specs.declared.stop.Stop.{Stop}
 use Rattle.lerc_cli.specs.declared.stop.Stop.TheVariants.{Usage, Refused, Source, Output, Volume, OutOfMemory, Store}
 use Rattle.lerc_cli.specs.Command.{reads_source, calls_volume}
@@ -76,8 +77,10 @@ OfBundle files P = OfRecovered files (λ bundle. Opens bundle × P bundle)
 abbrev pub IsBlob : List ℕ → Type 0
 IsBlob bytes = (r : Pixels) × Blob bytes r
 
--- the updates of a command's input, where it is told; only `put` has any
+-- the updates of a command's input, where it is told; only `build` and `put` have any
 abbrev pub UpdatesOf : Command → Given → List TileRec → Type 0
+UpdatesOf (Build version error workers) g updates =
+    OfBytes g.input (λ bytes. IsUpdates version (step_of error) bytes updates)
 UpdatesOf (Put version error workers) g updates =
     OfBytes g.input (λ bytes. IsUpdates version (step_of error) bytes updates)
 UpdatesOf c g updates = updates ≡ []
@@ -96,6 +99,9 @@ IsOutput Decode g n output =
     (r : Pixels) × (IsRaster r × OfInput g (λ bytes. Blob bytes r) × (output ≡ grid_of r))
 IsOutput Info g n output =
     (blob : List ℕ) × (IsBlob blob × OfInput g (λ bytes. bytes ≡ blob) × AreLinesOf blob output)
+IsOutput (Build version error workers) g n output = (updates : List TileRec)
+    × (UpdatesOf (Build version error workers) g updates × (n ≡ length updates)
+    × OfBundle g.files (λ bundle. bundle ≡ []) × (output ≡ built_line_of updates))
 IsOutput (Put version error workers) g n output = (updates : List TileRec)
     × (UpdatesOf (Put version error workers) g updates × (n ≡ length updates)
     × OfBundle g.files (λ bundle. HaveRoom bundle updates n) × (output ≡ put_lines updates))
@@ -193,6 +199,11 @@ abbrev pub IsUnopened : Command → Given → Stop → Type 0
 IsUnopened c g stop = (updates : List TileRec) × (UpdatesOf c g updates
     × ((refusal : Refusal) × ((stop ≡ Store refusal) × IsOpening g.files refusal)))
 
+-- the input has updates, and the bundle that is opened is not empty
+abbrev pub IsNotEmpty : Command → Given → Stop → Type 0
+IsNotEmpty c g stop = (len : ℕ) × ((stop ≡ Store (NotEmpty len)) × ((updates : List TileRec)
+    × (UpdatesOf c g updates × (0 < len) × OfBundle g.files (λ bundle. len ≡ length bundle))))
+
 -- there is no room for update number n, as it is put, and there is for those before it
 abbrev pub IsFull : Command → Given → ℕ → Stop → Type 0
 IsFull c g n stop = (len : ℕ) × ((stop ≡ Store (Full len)) × ((updates : List TileRec)
@@ -216,6 +227,10 @@ IsRefusal Decode g n (Refused fault) = IsNoBlob g fault
 IsRefusal Decode g n stop = ⊥
 IsRefusal Info g n (Refused fault) = IsNoBlob g fault
 IsRefusal Info g n stop = ⊥
+IsRefusal (Build version error workers) g n stop = (n ≡ 0)
+    × (IsNoUpdates version (step_of error) g.input stop
+    ⊎ (IsUnopened (Build version error workers) g stop
+    ⊎ IsNotEmpty (Build version error workers) g stop))
 IsRefusal (Put version error workers) g n stop =
     ((n ≡ 0) × IsNoUpdates version (step_of error) g.input stop)
     ⊎ (((n ≡ 0) × IsUnopened (Put version error workers) g stop)
@@ -236,8 +251,12 @@ IsRefusal Recover g n stop = ⊥
 abbrev pub IsListed : Option Files → List ℕ → Type 0
 IsListed files output = (slots : ℕ) × OfBundle files (λ bundle. output ≡ listing bundle slots)
 
--- what the command has meant to give by the time that an object fails
+-- What the command has meant to give by the time that an object fails. Before `build` has a line no
+-- update is done.
 abbrev pub IsCutOff : Command → Given → ℕ → Stop → List ℕ → Type 0
+IsCutOff (Build version error workers) g n Output output =
+    IsOutput (Build version error workers) g n output
+IsCutOff (Build version error workers) g n stop output = (n ≡ 0) × (output ≡ [])
 IsCutOff (Put version error workers) g n stop output = ((n ≡ 0) × (output ≡ []))
     ⊎ ((updates : List TileRec) × (UpdatesOf (Put version error workers) g updates
     × (n ≤ length updates) × (output ≡ put_lines (take n updates))))
@@ -255,6 +274,7 @@ abbrev pub MayWant : Command → Given → Type 0
 MayWant (Encode version error) g = Unit {0}
 MayWant Decode g = OfInput g HasHead
 MayWant Info g = OfInput g HasHead
+MayWant (Build version error workers) g = Unit {0}
 MayWant (Put version error workers) g = Unit {0}
 MayWant (Get slot) g = OfBundle g.files (λ bundle. 0 < (entry_at bundle slot).size)
 MayWant (GetRaw slot) g = OfBundle g.files (λ bundle. 0 < (entry_at bundle slot).size)

@@ -5,7 +5,7 @@ use Rattle.outside_io.specs.program.Word.{IsNumber}
 use Rattle.lerc_header.specs.declared.header.Version.{Version}
 use Rattle.lerc_header.specs.declared.header.Version.TheVariants.{V3, V4}
 use Rattle.lerc_cli.specs.declared.command.Command.{Command}
-use Rattle.lerc_cli.specs.declared.command.Command.TheVariants.{Encode, Decode, Info, Put, Get, GetRaw, List as ListAll, Check, Recover}
+use Rattle.lerc_cli.specs.declared.command.Command.TheVariants.{Encode, Decode, Info, Build, Put, Get, GetRaw, List as ListAll, Check, Recover}
 
 -- the word names the version of a blob
 abbrev pub IsVersionWord : List ℕ → Version → Type 0
@@ -27,6 +27,9 @@ IsSpelled (Encode version error) words = (v e : List ℕ)
     × IsWithin e error 0 4294967295)
 IsSpelled Decode words = words ≡ codes "decode" ∷ []
 IsSpelled Info words = words ≡ codes "info" ∷ []
+IsSpelled (Build version error workers) words = (v e w : List ℕ)
+    × ((words ≡ codes "build" ∷ v ∷ e ∷ w ∷ []) × IsVersionWord v version
+    × IsWithin e error 0 4294967295 × IsWithin w workers 1 64)
 IsSpelled (Put version error workers) words = (v e w : List ℕ)
     × ((words ≡ codes "put" ∷ v ∷ e ∷ w ∷ []) × IsVersionWord v version
     × IsWithin e error 0 4294967295 × IsWithin w workers 1 64)
@@ -51,6 +54,7 @@ abbrev pub reads_source : Command → Bool
 reads_source (Encode version error) = true
 reads_source Decode = true
 reads_source Info = true
+reads_source (Build version error workers) = true
 reads_source (Put version error workers) = true
 reads_source (Get slot) = false
 reads_source (GetRaw slot) = false
@@ -63,6 +67,7 @@ abbrev pub calls_volume : Command → Bool
 calls_volume (Encode version error) = false
 calls_volume Decode = false
 calls_volume Info = false
+calls_volume (Build version error workers) = true
 calls_volume (Put version error workers) = true
 calls_volume (Get slot) = true
 calls_volume (GetRaw slot) = true
@@ -75,6 +80,7 @@ abbrev pub makes_updates : Command → Bool
 makes_updates (Encode version error) = false
 makes_updates Decode = false
 makes_updates Info = false
+makes_updates (Build version error workers) = true
 makes_updates (Put version error workers) = true
 makes_updates (Get slot) = false
 makes_updates (GetRaw slot) = false

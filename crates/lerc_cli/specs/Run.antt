@@ -1,6 +1,6 @@
 -- What a run leaves of the objects that it is lent, whatever it answers. What an object tells is
 -- None, or false, where it tells nothing.
-use Rattle.std.specs.Prelude.{◌≡◌, ℕ, ◌≤◌, List, [], length, take, Option, Some, None, IfSome, Bool, IsTrue, IsFalse, if◌then◌else◌, Ok, Err}
+use Rattle.std.specs.Prelude.{◌≡◌, ℕ, ◌≤◌, List, [], length, replicate, take, Option, Some, None, IfSome, Bool, IsTrue, IsFalse, if◌then◌else◌, Ok, Err}
 use Rattle.outside_io.specs.volume.History.{History, contents}
 use Rattle.outside_io.specs.declared.volume.VolFile.TheVariants.{Bundle, Journal}
 use Rattle.outside_io.specs.streams.Sink.{Holds, HoldsPrefix}
@@ -16,7 +16,7 @@ use Rattle.lerc_encode.specs.Encoded.{Declares, IsEncodedOnce, NeedsV4}
 use Rattle.lerc_grammar.specs.Blob.{Blob}
 use Rattle.lerc_grammar.specs.Verdict.{WholeFault}
 use Rattle.lerc_cli.specs.declared.command.Command.{Command}
-use Rattle.lerc_cli.specs.declared.command.Command.TheVariants.{Encode, Decode, Info, Put, Get, GetRaw, List as ListAll, Check, Recover}
+use Rattle.lerc_cli.specs.declared.command.Command.TheVariants.{Encode, Decode, Info, Build, Put, Get, GetRaw, List as ListAll, Check, Recover}
 use Rattle.lerc_cli.specs.declared.stop.Reason.TheVariants.{Blob as BlobReasonOf}
 use Rattle.lerc_cli.specs.declared.stop.Stop.TheVariants.{Usage, Refused, Source, Output, Volume, OutOfMemory, Store}
 use Rattle.lerc_cli.specs.Command.{reads_source, calls_volume, makes_updates}
@@ -25,7 +25,10 @@ use Rattle.lerc_cli.specs.Answer.{Files, Given, Ends, HasHead, IsBlob}
 use Rattle.lerc_cli.specs.Info.{AreLinesOf}
 use Rattle.lerc_cli.specs.Tiles.{IsLeft, IsReady, KeepsTiles, OnAnswer, UpdatesAt, bundle_after, is_early}
 use Rattle.bundle_store.specs.declared.tile_rec.TileRec.{TileRec}
+use Rattle.bundle_lines.specs.Builds.{built_line_of}
 use Rattle.bundle_lines.specs.Puts.{AreMarks}
+use Rattle.bundle_store.specs.Build.{last_tiles}
+use Rattle.bundle_store.specs.Layout.{layout}
 use Rattle.bundle_store.specs.Tiles.{TileMap}
 use Rattle.outside_io.specs.program.Line.{GivesLine}
 use Rattle.outside_io.specs.streams.Faults.{IsCause}
@@ -47,6 +50,7 @@ abbrev pub TakesFor : Command → Option (List ℕ) → Option (List ℕ) → Ty
 TakesFor (Encode version error) left_old left_new = TookSome left_old left_new
 TakesFor Decode left_old left_new = TakesUpTo 134217729 left_old left_new
 TakesFor Info left_old left_new = TakesUpTo 134217729 left_old left_new
+TakesFor (Build version error workers) left_old left_new = TookSome left_old left_new
 TakesFor (Put version error workers) left_old left_new = TookSome left_old left_new
 TakesFor (Get slot) left_old left_new = left_new ≡ left_old
 TakesFor (GetRaw slot) left_old left_new = left_new ≡ left_old
@@ -86,6 +90,11 @@ pub record OfOutput (c : Command) (g : Given) (n : ℕ) (end : End) (same : Type
 
 -- ---- the volume
 
+-- Each mark of a build is the moment of its end: its updates are done at once.
+abbrev pub MarksAt : Command → List ℕ → ℕ → Type 0
+MarksAt (Build version error workers) marks moment = marks ≡ replicate (length marks) moment
+MarksAt c marks moment = Unit {0}
+
 -- The first type says that the volume is as it was.
 pub record OfVolume (c : Command) (g : Given) (end : End) (same : Type 0) (marks : List ℕ)
     (told_old told_new : Bool) (old new : History) (faults_old faults_new : ℕ) : Type 0 where
@@ -96,11 +105,12 @@ pub record OfVolume (c : Command) (g : Given) (end : End) (same : Type 0) (marks
   pub unmarked : IsFalse (makes_updates c) → marks ≡ []
   -- they never fall, and none is earlier than the start or later than the end
   pub marks_are : IsTrue told_old → AreMarks marks old.moment new.moment
+  pub marks_at : MarksAt c marks new.moment
   -- what the bundle reads as: what a recovery leaves, with the updates done that have a mark
   pub reads : IsTrue told_old → IsFalse (is_early c end) → OnAnswer end ((updates : List TileRec)
       × (UpdatesAt c g end updates × ((bundle : List ℕ)
       × (IsLeft (contents Bundle old) (contents Journal old) bundle
-      × (contents Bundle new ≡ bundle_after c bundle (take (length marks) updates))))))
+      × (contents Bundle new ≡ bundle_after c end bundle (take (length marks) updates))))))
   -- what a crash may leave at each moment
   pub tiles : (start : TileMap) → IsReady told_old old start → (updates : List TileRec)
       × (UpdatesAt c g end updates × KeepsTiles c updates marks start old new)
@@ -161,6 +171,16 @@ GivesBlob version error input old new =
 -- the bytes are the grid of a raster that the version has a place for
 abbrev pub IsGridFor : Version → List ℕ → Type 0
 IsGridFor version bytes = (r : Pixels) × (IsGrid bytes r × (¬ NeedsV4 version r))
+
+-- ---- of `build` in its own words
+
+-- The output has gained the line of the bundle of each slot's last tile, and that is the bundle,
+-- where the volume tells it. Each update has a mark: the moment of the end.
+pub record Builds (updates : List TileRec) (told : Bool) (new : History) (marks : List ℕ)
+    (held_old held_new : Option (List ℕ)) : Type 0 where
+  pub line : Holds held_old held_new (built_line_of updates)
+  pub bundle : IsTrue told → contents Bundle new ≡ layout (last_tiles updates)
+  pub marks_are : marks ≡ replicate (length updates) new.moment
 
 -- ---- of `decode` in its own words
 

@@ -9,7 +9,7 @@ use Rattle.bundle_lines.specs.Lines.{slot_text}
 use Rattle.lerc_cli.specs.declared.stop.Reason.{Reason}
 use Rattle.lerc_cli.specs.declared.stop.Reason.TheVariants.{Blob, Grid, Leftover as LeftoverOf, DepthNeedsV4, BadTileMark, BadSlot}
 use Rattle.lerc_cli.specs.declared.stop.Refusal.{Refusal}
-use Rattle.lerc_cli.specs.declared.stop.Refusal.TheVariants.{NoTile, Beyond, BadBundle, BadJournal, TileTooLarge, Full, TooManyTiles, KeptTooMuch}
+use Rattle.lerc_cli.specs.declared.stop.Refusal.TheVariants.{NoTile, Beyond, BadBundle, BadJournal, NotEmpty, TileTooLarge, Full, TooManyTiles, KeptTooMuch}
 use Rattle.lerc_cli.specs.declared.stop.Stop.{Stop}
 use Rattle.lerc_cli.specs.declared.stop.Stop.TheVariants.{Usage, Refused, Source, Output, Volume, OutOfMemory, Store}
 
@@ -106,6 +106,7 @@ refusal_text (BadBundle place found) =
     two_numbers (codes "BadBundle at") place (codes " found") found
 refusal_text (BadJournal place found) =
     two_numbers (codes "BadJournal at") place (codes " found") found
+refusal_text (NotEmpty len) = codes "NotEmpty" ++ and_number len
 refusal_text (TileTooLarge at len) = two_numbers (codes "TileTooLarge") at (codes " size") len
 refusal_text (Full len) = codes "Full" ++ and_number len
 refusal_text TooManyTiles = codes "TooManyTiles"

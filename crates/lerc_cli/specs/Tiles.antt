@@ -9,9 +9,12 @@ use Rattle.bundle_store.specs.Images.{EachImage, StandsFor}
 use Rattle.bundle_store.specs.Recover.{Leaves, Refuses}
 use Rattle.bundle_store.specs.Tiles.{TileMap}
 use Rattle.bundle_store.specs.declared.tile_rec.TileRec.{TileRec}
+use Rattle.bundle_store.specs.Build.{last_tiles}
+use Rattle.bundle_store.specs.Layout.{layout}
+use Rattle.bundle_lines.specs.Builds.{BuildKeeps}
 use Rattle.bundle_lines.specs.Puts.{PutsKeep, bundle_after_puts}
 use Rattle.lerc_cli.specs.declared.command.Command.{Command}
-use Rattle.lerc_cli.specs.declared.command.Command.TheVariants.{Put}
+use Rattle.lerc_cli.specs.declared.command.Command.TheVariants.{Build, Put}
 use Rattle.lerc_cli.specs.declared.stop.Refusal.TheVariants.{TileTooLarge, Full, TooManyTiles, KeptTooMuch}
 use Rattle.lerc_cli.specs.declared.stop.Stop.TheVariants.{Refused, Source, Output, Volume, OutOfMemory, Store}
 use Rattle.lerc_cli.specs.Answer.{Given, UpdatesOf}
@@ -30,9 +33,12 @@ abbrev pub KeepsStart : TileMap → History → History → Type 0
 KeepsStart start old new = During (EachImage (λ map. map ≡ start)) old new
 
 -- At each moment each image is sound. For `put` it stands for the tiles that stood at the start with
--- the first few updates done: at least those with a mark by then, and at most one more. For any
--- other command it stands for the tiles at the start.
+-- the first few updates done: at least those with a mark by then, and at most one more. For `build`
+-- all are done, or none that has a mark by then. For any other command it stands for the tiles at
+-- the start.
 abbrev pub KeepsTiles : Command → List TileRec → List ℕ → TileMap → History → History → Type 0
+KeepsTiles (Build version error workers) updates marks start old new =
+    BuildKeeps start updates marks old new
 KeepsTiles (Put version error workers) updates marks start old new =
     PutsKeep start updates marks old new
 KeepsTiles c updates marks start old new = KeepsStart start old new
@@ -51,8 +57,13 @@ pub record UpdatesAt (c : Command) (g : Given) (end : End) (updates : List TileR
   pub none : IsFalse (has_updates end) → updates ≡ []
 
 -- The volume is not called: the command calls none, or its input was refused, the source failed, or
--- memory was refused before.
+-- of `put` memory was refused, which it wants only before. `build` may want some behind a recovery.
 abbrev pub is_early : Command → End → Bool
+is_early (Build version error workers) (Err (Refused fault)) = true
+is_early (Build version error workers) (Err Source) = true
+is_early (Build version error workers) (Err (Store (TileTooLarge at len))) = true
+is_early (Build version error workers) (Err (Store TooManyTiles)) = true
+is_early (Build version error workers) (Err (Store (KeptTooMuch at))) = true
 is_early (Put version error workers) (Err (Refused fault)) = true
 is_early (Put version error workers) (Err Source) = true
 is_early (Put version error workers) (Err OutOfMemory) = true
@@ -67,10 +78,15 @@ OnAnswer (Err Volume) P = Unit {0}
 OnAnswer (Err OutOfMemory) P = Unit {0}
 OnAnswer end P = P
 
--- the bundle with these updates done
-abbrev pub bundle_after : Command → List ℕ → List TileRec → List ℕ
-bundle_after (Put version error workers) bundle updates = bundle_after_puts bundle updates
-bundle_after c bundle updates = bundle
+-- The bundle with these updates done. A build that ended well made one of no updates, too, and so
+-- did one whose line the output did not take.
+abbrev pub bundle_after : Command → End → List ℕ → List TileRec → List ℕ
+bundle_after (Build version error workers) (Ok x) bundle updates = layout (last_tiles updates)
+bundle_after (Build version error workers) (Err Output) bundle updates =
+    layout (last_tiles updates)
+bundle_after (Build version error workers) end bundle updates = bundle
+bundle_after (Put version error workers) end bundle updates = bundle_after_puts bundle updates
+bundle_after c end bundle updates = bundle
 
 -- What a recovery leaves of the bundle: what the journal says, or the bundle as it is where a test
 -- of the journal fails.

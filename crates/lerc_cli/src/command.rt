@@ -2,7 +2,7 @@ ghost use Rattle.std.specs.Prelude.{◌≡◌, ◌↔◌, ◌∷◌, [], ℕ, So
 ghost use Rattle.lerc_header.specs.declared.header.Version.{Version};
 ghost use Rattle.lerc_cli.specs.Command.{AreSlotWords, IsSpelled, IsVersionWord, IsWithin};
 ghost use Rattle.lerc_cli.specs.declared.command.Command.{Command};
-ghost use Rattle.lerc_cli.specs.inside.Spelling.{IsEncode, IsGet, IsGetRaw, IsPut};
+ghost use Rattle.lerc_cli.specs.inside.Spelling.{IsBuild, IsEncode, IsGet, IsGetRaw, IsPut};
 
 use bundle_index::Slot;
 use lerc_header::Version;
@@ -21,6 +21,13 @@ pub enum Command {
     Decode,
     /// Reads one blob, and gives the lines of what it says of itself.
     Info,
+    /// Reads tiles, and builds a bundle of the blob of each slot's last one in the place of an empty
+    /// bundle. The number of workers changes nothing of what is given and built.
+    Build {
+        version: Version,
+        error: u32,
+        workers: u32,
+    },
     /// Reads tiles, and puts the blob of each into its slot. The number of workers changes nothing
     /// of what is given and put.
     Put {
@@ -90,6 +97,21 @@ fn workers_of(word: &Word) -> Option<u32>
         Some(workers) if workers >= 1 && workers <= 64 => Some(workers as u32),
         _ => None,
     }
+}
+
+/// The command `build` of a version's word, an error's and that of a number of workers.
+fn build_of(version: &Word, error: &Word, workers: &Word) -> Option<Command>
+    ensures { (c : Command) → (result ≡ Some c)
+        ↔ IsBuild version.now error.now workers.now c }
+{
+    let version = version_of(version)?;
+    let error = error_of(error)?;
+    let workers = workers_of(workers)?;
+    Some(Command::Build {
+        version,
+        error,
+        workers,
+    })
 }
 
 /// The command `put` of a version's word, an error's and that of a number of workers.
@@ -183,6 +205,9 @@ fn with_three(name: &Word, first: &Word, second: &Word, third: &Word) -> Option<
     ensures { (c : Command) → (result ≡ Some c)
         ↔ IsSpelled c (name.now ∷ first.now ∷ second.now ∷ third.now ∷ []) }
 {
+    if has_text(name, b"build") {
+        return build_of(first, second, third);
+    }
     if has_text(name, b"put") {
         return put_of(first, second, third);
     }

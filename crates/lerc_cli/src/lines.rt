@@ -188,6 +188,7 @@ fn store_refusal(refusal: &Refusal) -> Line
         Refusal::BadJournal { place, found } => {
             add_two(&mut line, b"BadJournal at", *place, b" found", *found);
         }
+        Refusal::NotEmpty { len } => add_one(&mut line, b"NotEmpty", *len),
         Refusal::TileTooLarge { at, len } => {
             add_two(&mut line, b"TileTooLarge", *at, b" size", *len);
         }

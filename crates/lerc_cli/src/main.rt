@@ -4,12 +4,15 @@
 //! It stands on `lerc_decode`, `lerc_encode` and the layers below them. What it does is `run`,
 //! whose contract is the program's: over any words, any input, however it is cut into pieces, and
 //! objects that fail at any call, a grid is encoded exactly where the input is one, a blob is
-//! decoded, or told of, exactly where the input is one, tiles are put into a bundle and got from it,
-//! so that at each moment a crash leaves a whole one, and nothing else is given. `serve` reads the
-//! words and calls it, and `main` makes the objects over the machine.
+//! decoded, or told of, exactly where the input is one, a bundle is built of tiles, and tiles are
+//! put into it and got from it, so that at each moment a crash leaves a whole one, and nothing else
+//! is given. `serve` reads the words and calls it, and `main` makes the objects over the machine.
 #![tactic(auto)]
 
 mod arguments;
+mod build;
+#[cfg(test)]
+mod build_tests;
 mod bundle;
 #[cfg(test)]
 mod bundle_tests;

@@ -12,9 +12,12 @@ ghost use Rattle.lerc_cli.specs.Command.{IsSpelled, IsNoCommand};
 ghost use Rattle.outside_io.specs.program.Line.{GivesLine};
 ghost use Rattle.outside_io.specs.streams.Faults.{IsCause};
 ghost use Rattle.lerc_cli.specs.Run.{OfSource, OfOutput, OfVolume, OfRun, GivesLineOf, files_of, given};
-ghost use Rattle.lerc_cli.specs.Run.{GivesBlob, GivesGrid, GivesGridPrefix, GivesLines, IsGridFor, TellsFault, ToldHead};
+ghost use Rattle.tile_updates.specs.Updates.{IsUpdates};
+ghost use Rattle.lerc_header.specs.Written.{step_of};
+ghost use Rattle.lerc_cli.specs.Run.{Builds, GivesBlob, GivesGrid, GivesGridPrefix, GivesLines, IsGridFor, TellsFault, ToldHead};
 ghost use Rattle.lerc_cli.specs.Stop.{End, status_of, status_at, line_of};
 
+use crate::build::build;
 use crate::bundle::{check, list, recover};
 use crate::command::{Command, command_of};
 use crate::decode::decode;
@@ -56,6 +59,7 @@ fn perform<S: Source, K: Sink, V: Volume>(
         Command::Encode { version, error } => encode(alloc, version, error, src, out),
         Command::Decode => decode(alloc, src, out),
         Command::Info => info(alloc, src, out),
+        Command::Build { version, error, .. } => build(alloc, version, error, src, out, vol, marks),
         Command::Put { version, error, .. } => put(alloc, version, error, src, out, vol, marks),
         Command::Get { slot } => get(alloc, slot, out, vol),
         Command::GetRaw { slot } => get_raw(alloc, slot, out, vol),
@@ -126,9 +130,10 @@ fn ended_status<E: Sink>(ended: Result<(), Stop>, err: &mut E) -> u8
 ///
 /// `encode` reads one grid, and gives the blob that is chosen for its raster; it refuses a raster of
 /// more than one depth in version 3. `decode` and `info` read one whole blob; then `decode` gives
-/// its grid, and `info` the fourteen lines of what it says of itself. `put` reads tiles, and puts
-/// the blob of each into its slot of the bundle. `get`, `list` and `check` tell of the bundle, and
-/// `recover` of what a crash had left; these and `put` first make that whole.
+/// its grid, and `info` the fourteen lines of what it says of itself. `build` and `put` read tiles;
+/// `build` makes a bundle of each slot's last one in the place of an empty bundle, and `put` puts the
+/// blob of each into its slot. `get`, `list` and `check` tell of the bundle, and `recover` of what a
+/// crash had left; these, `build` and `put` first make that whole.
 ///
 /// | status | it comes |
 /// |---|---|
@@ -142,7 +147,8 @@ fn ended_status<E: Sink>(ended: Result<(), Stop>, err: &mut E) -> u8
 /// | 7 | where the store refuses; the line tells its first refusal |
 ///
 /// On a status other than 0 one line is given to `err`. The faults of `err` change nothing. Each
-/// tile that a `put` was told is there has a mark, the moment of that; nothing else has one.
+/// tile that a `put` was told is there has a mark, the moment of that, and each tile of a bundle that
+/// was built has one, the moment of its end; nothing else has one.
 pub fn run<S: Source, K: Sink, E: Sink, V: Volume>(
     alloc: Global,
     words: &[Word],
@@ -183,7 +189,8 @@ pub fn run<S: Source, K: Sink, E: Sink, V: Volume>(
 
     // At each moment of the run each image that a crash may leave is sound. It stands for the tiles
     // that stood as the run began; for `put`, with the first few of its updates done, at least those
-    // that have a mark by then, and at most one more.
+    // that have a mark by then, and at most one more; for `build`, with all done, or with none as
+    // long as none has a mark.
     ensures kept { (c : Command) → IsSpelled c words.now → (start : TileMap)
         → IsReady (V.told vol.old) (V.history vol.old) start
         → (updates : List TileRec) × ((end : End) × ((result.status ≡ status_at end)
@@ -212,6 +219,14 @@ pub fn run<S: Source, K: Sink, E: Sink, V: Volume>(
     ensures not_encoded { (version : Version) (error : ℕ)
         → IsSpelled (Command.Encode version error) words.now
         → result.status ≢ 0 → result.status ≢ 4 → out.new ≡ out.old }
+
+    // What follows for `build`: its updates are those of the input, which are made once.
+    ensures built { (version : Version) (error workers : ℕ)
+        → IsSpelled (Command.Build version error workers) words.now → result.status ≡ 0
+        → (input : List ℕ) → S.left src.old ≡ Some input
+        → (updates : List TileRec) → IsUpdates version (step_of error) input updates
+        → Builds updates (V.told vol.old) (V.history vol.new) result.marks.marks
+        (K.held out.old) (K.held out.new) }
 
     // What follows for `decode`.
     ensures exact { IsSpelled Command.Decode words.now

@@ -40,6 +40,8 @@ pub enum Refusal {
     BadBundle { place: u64, found: u64 },
     /// The journal counts, and a test of it fails.
     BadJournal { place: u64, found: u64 },
+    /// The bundle has `len` bytes, and is not empty.
+    NotEmpty { len: u64 },
     /// The blob of this tile of the input, counted from 0, has more bytes than a tile may have.
     TileTooLarge { at: u64, len: u64 },
     /// The bundle of `len` bytes has no room for the next tile.

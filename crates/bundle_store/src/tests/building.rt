@@ -1,7 +1,7 @@
 use super::{
     LARGE, SMALL, build, empty_volume, entry, first_slot, has_tile, length, put, report, stands,
 };
-use crate::{CheckReport, Session, StoreFault, TileRec};
+use crate::{BuiltSize, CheckReport, Session, StoreFault, TileRec, built_size};
 use bundle_index::Entry;
 use outside_io::{Bytes, VolFile, Volume};
 use std::alloc::Global;
@@ -81,6 +81,23 @@ fn a_build_keeps_the_last_tile_of_a_slot(rt: HostRuntime) -> Result<(), Fail> {
         )
     );
     assert!(rt; has_tile(alloc, &mut vol, first_slot()?, &SMALL));
+    Ok(())
+}
+
+#[test]
+fn the_size_of_a_build(rt: HostRuntime) -> Result<(), Fail> {
+    let alloc = rt.alloc();
+    let tiles = two_tiles(alloc)?;
+    let one = BuiltSize {
+        tiles: 1,
+        len: 131206,
+    };
+    assert_eq!(rt; built_size(alloc, &tiles), Ok(one));
+    let none = BuiltSize {
+        tiles: 0,
+        len: 131136,
+    };
+    assert_eq!(rt; built_size(alloc, &[]), Ok(none));
     Ok(())
 }
 

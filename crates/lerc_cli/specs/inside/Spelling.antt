@@ -2,7 +2,7 @@
 use Rattle.std.specs.Prelude.{◌≡◌, ℕ, List}
 use Rattle.lerc_header.specs.declared.header.Version.{Version}
 use Rattle.lerc_cli.specs.declared.command.Command.{Command}
-use Rattle.lerc_cli.specs.declared.command.Command.TheVariants.{Encode, Put, Get, GetRaw}
+use Rattle.lerc_cli.specs.declared.command.Command.TheVariants.{Encode, Build, Put, Get, GetRaw}
 use Rattle.lerc_cli.specs.Command.{AreSlotWords, IsVersionWord, IsWithin}
 
 -- the command is `encode` of these two words
@@ -17,6 +17,11 @@ IsGet row col c = (slot : ℕ) × ((c ≡ Get slot) × AreSlotWords row col slot
 -- the same of the tile's bytes
 abbrev pub IsGetRaw : List ℕ → List ℕ → Command → Type 0
 IsGetRaw row col c = (slot : ℕ) × ((c ≡ GetRaw slot) × AreSlotWords row col slot)
+
+-- the command is `build` of these three words
+abbrev pub IsBuild : List ℕ → List ℕ → List ℕ → Command → Type 0
+IsBuild v e w c = (version : Version) × ((error workers : ℕ) × ((c ≡ Build version error workers)
+    × IsVersionWord v version × IsWithin e error 0 4294967295 × IsWithin w workers 1 64))
 
 -- the command is `put` of these three words
 abbrev pub IsPut : List ℕ → List ℕ → List ℕ → Command → Type 0

@@ -1,13 +1,15 @@
--- What reading the updates of an input answers, and how puts end.
+-- What reading the updates of an input answers, and how a build and puts end.
 use Rattle.std.specs.Prelude.{◌≡◌, ◌⊎◌, ℕ, List, Option, Result, Ok, Err, Vec}
 use Rattle.std.specs.declared.alloc.Global.{Global}
 use Rattle.lerc_header.specs.declared.header.Version.{Version}
 use Rattle.lerc_header.specs.Written.{step_of}
 use Rattle.bundle_store.specs.declared.tile_rec.TileRec.{TileRec}
+use Rattle.bundle_lines.specs.declared.stop.BuildStop.TheVariants.{Output as BuildOutput, Volume as BuildVolume, NotEmpty as BuildNotEmpty, OutOfMemory as BuildMemory}
 use Rattle.bundle_lines.specs.declared.stop.PutStop.TheVariants.{Output as PutOutput, Volume as PutVolume, Full as PutFull}
+use Rattle.bundle_lines.specs.Builds.{BuildEnd}
 use Rattle.bundle_lines.specs.Ends.{PutEnd}
 use Rattle.tile_updates.specs.Updates.{IsUpdates, OfBytes}
-use Rattle.lerc_cli.specs.declared.stop.Refusal.TheVariants.{Full}
+use Rattle.lerc_cli.specs.declared.stop.Refusal.TheVariants.{NotEmpty, Full}
 use Rattle.lerc_cli.specs.declared.stop.Stop.{Stop}
 use Rattle.lerc_cli.specs.declared.stop.Stop.TheVariants.{Output, Volume, OutOfMemory, Store}
 use Rattle.lerc_cli.specs.Answer.{IsNoUpdates}
@@ -26,3 +28,11 @@ put_end_of (Ok x) = Ok tt
 put_end_of (Err PutOutput) = Err Output
 put_end_of (Err PutVolume) = Err Volume
 put_end_of (Err (PutFull len)) = Err (Store (Full len))
+
+-- how a build ended, as an end
+abbrev pub build_end_of : BuildEnd → End
+build_end_of (Ok x) = Ok tt
+build_end_of (Err BuildOutput) = Err Output
+build_end_of (Err BuildVolume) = Err Volume
+build_end_of (Err (BuildNotEmpty len)) = Err (Store (NotEmpty len))
+build_end_of (Err BuildMemory) = Err OutOfMemory

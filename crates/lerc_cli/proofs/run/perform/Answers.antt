@@ -87,3 +87,12 @@ returns-in-Put-clause-output g c = rw c.in-Put.is (c.put.ensures.output _)
 
 pub returns-in-Put-clause-volume : goal.returns-in-Put-clause-volume
 returns-in-Put-clause-volume g c = rw c.in-Put.is (c.put.ensures.volume _)
+
+pub returns-in-Build-clause-source : goal.returns-in-Build-clause-source
+returns-in-Build-clause-source g c = rw c.in-Build.is (c.build.ensures.source _)
+
+pub returns-in-Build-clause-output : goal.returns-in-Build-clause-output
+returns-in-Build-clause-output g c = rw c.in-Build.is (c.build.ensures.output _)
+
+pub returns-in-Build-clause-volume : goal.returns-in-Build-clause-volume
+returns-in-Build-clause-volume g c = rw c.in-Build.is (c.build.ensures.volume _)

@@ -1,6 +1,7 @@
 use Rattle.std.proofs.Common.{ap, refl, sym, ◌∙◌, rules}
 use Rattle.lerc_cli.specs.Stop.{status_at}
-use Rattle.lerc_cli.specs.declared.command.Command.TheVariants.{Encode, Decode, Info}
+use Rattle.lerc_cli.specs.declared.command.Command.TheVariants.{Encode, Decode, Info, Build}
+use Rattle.lerc_cli.proofs.Built.{built}
 use Rattle.lerc_cli.proofs.Encoding.{encoded_exactly}
 use Rattle.lerc_cli.proofs.Ends.{ok_at, output_status, some_status, source_status, unsaid, usage_said, usage_status, volume_status}
 use Rattle.lerc_cli.proofs.Exact.{complete, cut_short, decoded, exact, refused, wanted}
@@ -72,6 +73,10 @@ returns-clause-encoded_exactly g c = λ version error spelled input told which.
 pub returns-clause-not_encoded : goal.returns-clause-not_encoded
 returns-clause-not_encoded g c = λ version error spelled zero four.
     nothing_given (Encode version error) _ _ _ _ _ _ _ _ _ refl c.ended_status-status.ensures.status zero four (c.act-ended.ensures.output (Encode version error) spelled)
+
+pub returns-clause-built : goal.returns-clause-built
+returns-clause-built g c = λ version error workers spelled zero input told updates of.
+    built version error workers _ input _ updates _ _ _ _ _ _ _ _ _ _ _ _ _ _ _ told c.ended_status-status.ensures.status zero of (c.act-ended.ensures.output (Build version error workers) spelled) (c.act-ended.ensures.volume (Build version error workers) spelled)
 
 pub returns-clause-exact : goal.returns-clause-exact
 returns-clause-exact g c = λ spelled input told which. exact _ input _ _ _ _ _ _ _ _ _ told c.ended_status-status.ensures.status which (c.act-ended.ensures.output Decode spelled)

@@ -1,10 +1,17 @@
-use Rattle.std.proofs.Common.{◌≡◌, inl, Bool, false, [], length, ap, ◌∙◌}
-use Rattle.outside_io.specs.volume.Disk.{IsQuiet}
+use Rattle.std.proofs.Common.{◌≡◌, inl, Bool, false, ℕ, List, [], length, Result, Ok, Err, OnOk, sym, subst, ap, ◌∙◌}
+use Rattle.outside_io.specs.volume.Disk.{Disk, File, IsQuiet}
 use Rattle.outside_io.specs.volume.History.{During, History, current}
 use Rattle.outside_io.proofs.VolumeLemmas.Moments.{started}
 use Rattle.side_journal.specs.Says.{IsOpen}
-use Rattle.bundle_store.specs.Images.{EachImage, EmptyOr}
-use Rattle.bundle_store.specs.Tiles.{TileMap, tiles}
+use Rattle.bundle_store.specs.Images.{EachImage, EmptyOr, HoldsClosed}
+use Rattle.bundle_store.specs.declared.fault.StoreFault.{StoreFault}
+use Rattle.bundle_store.specs.inside.Table.{table_map}
+use Rattle.bundle_store.specs.Build.{last_tiles}
+use Rattle.bundle_store.specs.Built.{HoldsTiles}
+use Rattle.bundle_store.specs.Layout.{layout}
+use Rattle.bundle_store.specs.Tiles.{AreTiles, TileMap, tiles}
+use Rattle.bundle_store.proofs.Layouts.{layout_bundle, layout_tiles}
+use Rattle.bundle_store.proofs.Numbering.{are_shown}
 use Rattle.bundle_store.proofs.Recovering.{tiles_empty}
 use Rattle.bundle_store.proofs.Standing.{still_good}
 use Rattle.bundle_store.proofs.session.Session.build.Goals as goal
@@ -22,3 +29,17 @@ returns-in_err-table-clause-images g c = λ told. untouched _ _ _ (λ running. (
 
 pub returns-in_err-buffer-clause-images : goal.returns-in_err-buffer-clause-images
 returns-in_err-buffer-clause-images g c = λ told. untouched _ _ _ (λ running. (c.requires.ready told running).quiet) (λ running. (c.requires.ready told running).closed)
+
+-- a bundle that was laid out
+holds : (r : Result (Unit {0}) StoreFault) (map other : TileMap) (d : Disk) → AreTiles map → map ≡ other → OnOk r (HoldsClosed (layout map) d) → OnOk r (HoldsTiles d.bundle.now other)
+holds (Ok x) map other d are is done =
+    subst (λ (b : List ℕ). HoldsTiles b other) (sym (ap (λ (f : File). f.now) done.bundle_is)) (record { stands = layout_bundle map are; tiles_are = layout_tiles map are ∙ is })
+holds (Err fault) map other d are is done = tt
+
+pub returns-clause-holds : goal.returns-clause-holds
+returns-clause-holds g c = λ told.
+    let us = c.args.tiles.now in
+    let table = c.in_ok-table.table.items in
+    let same = ap (table_map us) c.as_slice.ensures.value in
+    let are = are_shown us table c.in_ok-table.ensures.long c.in_ok-table.ensures.table c.in_ok-check_tiles.ensures.fits in
+    holds c.build_on-built.result _ _ (current (g.V.Volume.history c.build_on-built.new.vol)) (subst AreTiles (sym same) are) (same ∙ c.in_ok-table.ensures.last) (c.build_on-built.ensures.done told)

@@ -1,0 +1,132 @@
+-- What a crash leaves of a build of all updates, and its marks.
+use Rattle.std.proofs.Common.{◌≡◌, ℕ, ◌+◌, ◌*◌, ◌<◌, ◌≤◌, List, [], ◌∷◌, length, replicate, take, slice_index, cond, Bool, false, refl, sym, ap, subst, ◌∙◌, inl, inr, arith, nat_le}
+use Rattle.std.proofs.lemmas.Bool.{cases_lt}
+use Rattle.std.proofs.lemmas.Bool.Decides.{nat_tests}
+use Rattle.std.proofs.lemmas.List.{get_or-replicate, length-replicate, take_all}
+use Rattle.std.proofs.lemmas.List.Folds.{sum_by-replicate}
+use Rattle.outside_io.specs.declared.volume.VolFile.TheVariants.{Bundle}
+use Rattle.outside_io.specs.volume.Disk.{Disk, File, IsQuiet, IsSettled}
+use Rattle.outside_io.specs.volume.History.{History, During, contents, current}
+use Rattle.outside_io.proofs.VolumeLemmas.Moments.{during_map_at, started_at}
+use Rattle.bundle_store.specs.declared.tile_rec.TileRec.{TileRec}
+use Rattle.bundle_store.specs.Build.{last_tiles, map_after}
+use Rattle.bundle_store.specs.Images.{EachImage, EmptyOr, HoldsClosed}
+use Rattle.bundle_store.specs.Session.{IsReadyToPut, SessionState}
+use Rattle.bundle_store.specs.Tiles.{IsReadable, TileMap, tiles}
+use Rattle.bundle_store.proofs.Recovering.{tiles_empty}
+use Rattle.bundle_store.proofs.Standing.{still_good, weaker}
+use Rattle.bundle_lines.specs.Builds.{BuildKeeps, IsAllOrNone}
+use Rattle.bundle_lines.specs.Puts.{AreMarks, marked}
+use Rattle.bundle_lines.specs.inside.Raising.{IsRaised}
+use Rattle.bundle_lines.proofs.Marked.{marked_none}
+
+-- ---- marks that are all one moment
+
+index_same : (n m i : ℕ) → i < length (replicate n m) → slice_index (replicate n m) i ≡ m
+index_same n m i less = get_or-replicate n i m 0 (omega (arith, less, length-replicate n m))
+
+pub equal_marks : (n m from : ℕ) → from ≤ m → AreMarks (replicate n m) from m
+equal_marks n m from le = record {
+  rising = λ i j order less. omega (arith, index_same n m i (omega (arith, order, less)), index_same n m j less);
+  within = λ i less. (omega (arith, index_same n m i less, le), omega (arith, index_same n m i less));
+}
+
+marked_equal : (n m t : ℕ) → marked (replicate n m) t ≡ n * cond (nat_le m t) 1 0
+marked_equal n m t = sum_by-replicate (λ x. cond (nat_le x t) 1 0) n m
+
+most_marked : (n m t : ℕ) → m ≤ t → marked (replicate n m) t ≤ n
+most_marked n m t le =
+    let one : ◌≡◌ {A = ℕ} (cond (nat_le m t) 1 0) 1 = grind (arith, nat_tests) in
+    omega (arith, marked_equal n m t ∙ ap (λ (k : ℕ). n * k) one)
+
+none_marked : (n m t : ℕ) → t < m → marked (replicate n m) t ≡ 0
+none_marked n m t less =
+    let none : ◌≡◌ {A = ℕ} (cond (nat_le m t) 1 0) 0 = grind (arith, nat_tests) in
+    omega (arith, marked_equal n m t ∙ ap (λ (k : ℕ). n * k) none)
+
+-- ---- images
+
+map_whole : (start : TileMap) (us : List TileRec) → map_after start (take (length us) us) ≡ map_after start us
+map_whole start us = ap (map_after start) (take_all (length us) us (omega arith))
+
+-- the empty map, or that of all updates
+all_or_none : (us : List TileRec) (t : ℕ) (map : TileMap) → EmptyOr (last_tiles us) map → IsAllOrNone (tiles []) us [] t map
+all_or_none us t map (inl none) = record { count = 0; least = omega arith; either = inl refl; map_is = none ∙ sym tiles_empty }
+all_or_none us t map (inr all) = record {
+  count = length us;
+  least = omega arith;
+  either = inr refl;
+  map_is = all ∙ sym (map_whole (tiles []) us ∙ ap (λ (m : TileMap). map_after m us) tiles_empty);
+}
+
+no_bytes : (b : List ℕ) → length b ≤ 0 → b ≡ []
+no_bytes [] le = refl
+no_bytes (x ∷ xs) le = absurd (omega (arith, le))
+
+-- nothing is done
+pub keeps_still : (us : List TileRec) (marks : List ℕ) (s : SessionState) (h : History) → marks ≡ [] → IsReadyToPut s (current h) → IsReadable (contents Bundle h) → BuildKeeps (tiles (contents Bundle h)) us marks h h
+keeps_still us marks s h none ready readable =
+    let start = tiles (contents Bundle h) in
+    subst (λ (m : List ℕ). BuildKeeps start us m h h) (sym none)
+    (started_at (λ t d. EachImage (IsAllOrNone start us [] t) d) h
+    (still_good (IsAllOrNone start us [] h.moment) (current h) ready.quiet ready.closed readable (record { count = 0; least = omega arith; either = inl refl; map_is = refl })))
+
+-- whatever the store answers
+pub keeps_raised : (us : List TileRec) (s : SessionState) (old new : History) → s.stopped ≡ false → IsReadyToPut s (current old) → IsReadable (contents Bundle old)
+    → During (λ d. s.stopped ≡ false → contents Bundle old ≡ [] → EachImage (EmptyOr (last_tiles us)) d) old new → (0 < length (contents Bundle old) → During (λ d. d ≡ current old) old new)
+    → BuildKeeps (tiles (contents Bundle old)) us [] old new
+keeps_raised us s old new running ready readable during beside =
+    let start = tiles (contents Bundle old) in
+    elim (cases_lt 0 (length (contents Bundle old))) [
+      | inl some ↦ during_map_at (λ _ d. d ≡ current old) (λ t d. EachImage (IsAllOrNone start us [] t) d) old new
+          (λ t d _ _ same. subst (EachImage (IsAllOrNone start us [] t)) (sym same)
+          (still_good (IsAllOrNone start us [] t) (current old) ready.quiet ready.closed readable (record { count = 0; least = omega arith; either = inl refl; map_is = refl })))
+          (beside some)
+      | inr none ↦ (let is : contents Bundle old ≡ [] = no_bytes (contents Bundle old) none in
+          during_map_at (λ _ d. s.stopped ≡ false → contents Bundle old ≡ [] → EachImage (EmptyOr (last_tiles us)) d) (λ t d. EachImage (IsAllOrNone start us [] t) d) old new
+          (λ t d _ _ each. weaker (EmptyOr (last_tiles us)) (IsAllOrNone start us [] t) d
+          (λ map either. subst (λ (b : List ℕ). IsAllOrNone (tiles b) us [] t map) (sym is) (all_or_none us t map either)) (each running is))
+          during)
+    ]
+
+quiet : (b : List ℕ) (d : Disk) → HoldsClosed b d → IsQuiet d
+quiet b d holds = record { bundle = subst IsSettled (sym holds.bundle_is) refl; journal = holds.journal }
+
+-- once the bundle stands, each update has its mark: until then nothing has changed but the images
+pub keeps_marked : (us : List TileRec) (marks : List ℕ) (old new : History) → marks ≡ replicate (length us) new.moment → IsRaised us old new
+    → BuildKeeps (tiles (contents Bundle old)) us [] old new → BuildKeeps (tiles (contents Bundle old)) us marks old new
+keeps_marked us marks old new is raised kept =
+    let start = tiles (contents Bundle old) in
+    record {
+      later = kept.later;
+      past = kept.past;
+      each = λ t ge le. elim (cases_lt t new.moment) [
+        | inl before ↦ (let none : marked marks t ≡ 0 = ap (λ (m : List ℕ). marked m t) is ∙ none_marked (length us) new.moment t before in
+            weaker (IsAllOrNone start us [] t) (IsAllOrNone start us marks t) (new.disk_at t)
+            (λ map some. record { count = some.count; least = omega (arith, none); either = some.either; map_is = some.map_is }) (kept.each t ge le))
+        | inr at ↦ (let e : new.moment ≡ t = omega arith in
+            let few : marked marks t ≤ length us = omega (arith, ap (λ (m : List ℕ). marked m t) is, most_marked (length us) new.moment t at) in
+            let from : start ≡ tiles [] = ap tiles raised.empty in
+            subst (λ (m : ℕ). EachImage (IsAllOrNone start us marks t) (new.disk_at m)) e
+            (still_good (IsAllOrNone start us marks t) (current new) (quiet _ (current new) raised.holds) raised.holds.closed (inr raised.tiles.stands) (record {
+              count = length us;
+              least = few;
+              either = inr refl;
+              map_is = raised.tiles.tiles_are ∙ sym (map_whole start us ∙ ap (λ (m : TileMap). map_after m us) (from ∙ tiles_empty));
+            })))
+      ];
+    }
+
+-- calls that leave each image as what stood at the start, and then a build
+pub builds_join : (start : TileMap) (us : List TileRec) (marks : List ℕ) (old mid new : History) → AreMarks marks mid.moment new.moment
+    → During (EachImage (λ map. map ≡ start)) old mid → BuildKeeps start us marks mid new → BuildKeeps start us marks old new
+builds_join start us marks old mid new are during kept = record {
+  later = omega (arith, during.later, kept.later);
+  past = λ t le. kept.past t (omega (arith, le, during.later)) ∙ during.past t le;
+  each = λ t ge le. elim (cases_lt t mid.moment) [
+    | inl before ↦ (let none : marked marks t ≡ 0 = marked_none marks mid.moment t (λ i less. (are.within i less).0) before in
+        subst (EachImage (IsAllOrNone start us marks t)) (sym (kept.past t (omega (arith, before))))
+        (weaker (λ map. map ≡ start) (IsAllOrNone start us marks t) (mid.disk_at t) (λ map same. record { count = 0; least = omega (arith, none); either = inl refl; map_is = same }) (during.each t ge (omega (arith, before)))))
+    | inr after ↦ kept.each t after le
+  ];
+}

@@ -1,0 +1,87 @@
+-- One answer of `build`.
+use Rattle.std.proofs.Common.{◌≡◌, inl, inr, ℕ, ◌<◌, List, [], length, Ok, Err, refl, sym, ◌∙◌, ap, arith}
+use Rattle.lerc_header.specs.declared.header.Version.{Version}
+use Rattle.lerc_header.specs.Written.{step_of}
+use Rattle.bundle_lines.specs.Builds.{built_line_of}
+use Rattle.tile_updates.proofs.Refusals.{stops_once, updates_once, updates_or_stop}
+use Rattle.lerc_cli.specs.declared.command.Command.TheVariants.{Build}
+use Rattle.lerc_cli.specs.declared.stop.Refusal.{Refusal}
+use Rattle.lerc_cli.specs.declared.stop.Refusal.TheVariants.{NotEmpty}
+use Rattle.lerc_cli.specs.declared.stop.Stop.{Stop}
+use Rattle.lerc_cli.specs.declared.stop.Stop.TheVariants.{Usage, Refused, Source, Output, Volume, OutOfMemory, Store}
+use Rattle.lerc_cli.specs.Answer.{Ends, Files, IsAnswer, IsOutput, IsRefusal, stream_stop_of}
+use Rattle.lerc_cli.specs.Stop.{End}
+use Rattle.lerc_cli.proofs.OneBundle.{both, one_opening, recovered_or_opening}
+use Rattle.lerc_cli.proofs.PutOnce.{IsOwn, all_told, own_bytes, own_refused, own_store}
+
+-- ---- one refusal
+
+one_build_refusal : (v : Version) (e w : ℕ) (bytes : List ℕ) (f : Files) (n m : ℕ) (stop other : Stop) → IsOwn stop → IsOwn other
+    → IsRefusal (Build v e w) (all_told bytes f) n stop → IsRefusal (Build v e w) (all_told bytes f) m other → stop ≡ other
+one_build_refusal v e w bytes f n m stop other own its (zero, inl (s, (is, tells))) (none, inl (t, (so, told))) =
+    let same = stops_once v (step_of e) bytes s t (own_bytes v (step_of e) bytes stop s own is tells) (own_bytes v (step_of e) bytes other t its so told) in
+    is ∙ ap stream_stop_of same ∙ sym so
+one_build_refusal v e w bytes f n m stop other own its (zero, inl (s, (is, tells))) (none, inr (inl (us, (of, rest)))) =
+    absurd (updates_or_stop v (step_of e) bytes us s of (own_bytes v (step_of e) bytes stop s own is tells))
+one_build_refusal v e w bytes f n m stop other own its (zero, inl (s, (is, tells))) (none, inr (inr (len, (so, (us, rest))))) =
+    absurd (updates_or_stop v (step_of e) bytes us s rest.0 (own_bytes v (step_of e) bytes stop s own is tells))
+one_build_refusal v e w bytes f n m stop other own its (zero, inr (inl (us, (of, rest)))) (none, inl (t, (so, told))) =
+    absurd (updates_or_stop v (step_of e) bytes us t of (own_bytes v (step_of e) bytes other t its so told))
+one_build_refusal v e w bytes f n m stop other own its (zero, inr (inl (us, (of, (r, (is, opening)))))) (none, inr (inl (vs, (from, (s, (so, closing)))))) =
+    is ∙ ap (λ (x : Refusal). Store x) (one_opening f r s opening closing) ∙ sym so
+one_build_refusal v e w bytes f n m stop other own its (zero, inr (inl (us, (of, (r, (is, opening)))))) (none, inr (inr (len, (so, (vs, (from, some, there)))))) =
+    absurd (recovered_or_opening f (λ b. len ≡ length b) r there opening)
+one_build_refusal v e w bytes f n m stop other own its (zero, inr (inr (len, (is, (us, rest))))) (none, inl (t, (so, told))) =
+    absurd (updates_or_stop v (step_of e) bytes us t rest.0 (own_bytes v (step_of e) bytes other t its so told))
+one_build_refusal v e w bytes f n m stop other own its (zero, inr (inr (len, (is, (us, (of, some, there)))))) (none, inr (inl (vs, (from, (s, (so, closing)))))) =
+    absurd (recovered_or_opening f (λ b. len ≡ length b) s there closing)
+one_build_refusal v e w bytes f n m stop other own its (zero, inr (inr (len, (is, (us, (of, some, there)))))) (none, inr (inr (size, (so, (vs, (from, more, here)))))) =
+    let same = both f (λ b. len ≡ length b) (λ b. size ≡ length b) there here in
+    is ∙ ap (λ (x : ℕ). Store (NotEmpty x)) (same.1.0 ∙ sym same.1.1) ∙ sym so
+
+build_or_refusal : (v : Version) (e w : ℕ) (bytes : List ℕ) (f : Files) (n m : ℕ) (output : List ℕ) (stop : Stop) → IsOwn stop
+    → IsOutput (Build v e w) (all_told bytes f) n output → IsRefusal (Build v e w) (all_told bytes f) m stop → ⊥
+build_or_refusal v e w bytes f n m output stop own (us, rest) (none, inl (t, (so, told))) = updates_or_stop v (step_of e) bytes us t rest.0 (own_bytes v (step_of e) bytes stop t own so told)
+build_or_refusal v e w bytes f n m output stop own (us, (of, all, empty, is)) (none, inr (inl (vs, (from, (s, (so, closing)))))) = recovered_or_opening f (λ b. b ≡ []) s empty closing
+build_or_refusal v e w bytes f n m output stop own (us, (of, all, empty, is)) (none, inr (inr (size, (so, (vs, (from, some, there)))))) =
+    let same = both f (λ b. b ≡ []) (λ b. size ≡ length b) empty there in
+    omega (arith, some, same.1.1, ap length same.1.0)
+
+-- ---- one output
+
+pub build_once : (v : Version) (e w : ℕ) (bytes : List ℕ) (f : Files) (n m : ℕ) (end other : End) (output another : List ℕ) → IsAnswer end → IsAnswer other
+    → Ends (Build v e w) (all_told bytes f) n end output → Ends (Build v e w) (all_told bytes f) m other another → (end ≡ other) × (output ≡ another)
+build_once v e w bytes f n m (Ok x) (Ok y) output another _ _ a b =
+    (refl, a.1.3 ∙ ap built_line_of (updates_once v (step_of e) bytes a.0 b.0 a.1.0 b.1.0) ∙ sym b.1.3)
+build_once v e w bytes f n m (Ok x) (Err (Refused s)) output another _ _ a b = absurd (build_or_refusal v e w bytes f n m output (Refused s) (own_refused s) a b.0)
+build_once v e w bytes f n m (Ok x) (Err (Store s)) output another _ _ a b = absurd (build_or_refusal v e w bytes f n m output (Store s) (own_store s) a b.0)
+build_once v e w bytes f n m (Err (Refused r)) (Ok y) output another _ _ a b = absurd (build_or_refusal v e w bytes f m n another (Refused r) (own_refused r) b a.0)
+build_once v e w bytes f n m (Err (Store r)) (Ok y) output another _ _ a b = absurd (build_or_refusal v e w bytes f m n another (Store r) (own_store r) b a.0)
+build_once v e w bytes f n m (Err (Refused r)) (Err (Refused s)) output another _ _ a b =
+    let same = one_build_refusal v e w bytes f n m (Refused r) (Refused s) (own_refused r) (own_refused s) a.0 b.0 in (ap (λ (x : Stop). Err x) same, a.1 ∙ sym b.1)
+build_once v e w bytes f n m (Err (Refused r)) (Err (Store s)) output another _ _ a b =
+    absurd (let same = one_build_refusal v e w bytes f n m (Refused r) (Store s) (own_refused r) (own_store s) a.0 b.0 in cc)
+build_once v e w bytes f n m (Err (Store r)) (Err (Refused s)) output another _ _ a b =
+    absurd (let same = one_build_refusal v e w bytes f n m (Store r) (Refused s) (own_store r) (own_refused s) a.0 b.0 in cc)
+build_once v e w bytes f n m (Err (Store r)) (Err (Store s)) output another _ _ a b =
+    let same = one_build_refusal v e w bytes f n m (Store r) (Store s) (own_store r) (own_store s) a.0 b.0 in (ap (λ (x : Stop). Err x) same, a.1.1 ∙ sym b.1.1)
+build_once v e w bytes f n m (Err Usage) other output another answer _ a b = absurd answer
+build_once v e w bytes f n m (Err Source) other output another answer _ a b = absurd answer
+build_once v e w bytes f n m (Err Output) other output another answer _ a b = absurd answer
+build_once v e w bytes f n m (Err Volume) other output another answer _ a b = absurd answer
+build_once v e w bytes f n m (Err OutOfMemory) other output another answer _ a b = absurd answer
+build_once v e w bytes f n m (Ok x) (Err Usage) output another _ answer a b = absurd answer
+build_once v e w bytes f n m (Ok x) (Err Source) output another _ answer a b = absurd answer
+build_once v e w bytes f n m (Ok x) (Err Output) output another _ answer a b = absurd answer
+build_once v e w bytes f n m (Ok x) (Err Volume) output another _ answer a b = absurd answer
+build_once v e w bytes f n m (Ok x) (Err OutOfMemory) output another _ answer a b = absurd answer
+build_once v e w bytes f n m (Err (Refused r)) (Err Usage) output another _ answer a b = absurd answer
+build_once v e w bytes f n m (Err (Refused r)) (Err Source) output another _ answer a b = absurd answer
+build_once v e w bytes f n m (Err (Refused r)) (Err Output) output another _ answer a b = absurd answer
+build_once v e w bytes f n m (Err (Refused r)) (Err Volume) output another _ answer a b = absurd answer
+build_once v e w bytes f n m (Err (Refused r)) (Err OutOfMemory) output another _ answer a b = absurd answer
+build_once v e w bytes f n m (Err (Store r)) (Err Usage) output another _ answer a b = absurd answer
+build_once v e w bytes f n m (Err (Store r)) (Err Source) output another _ answer a b = absurd answer
+build_once v e w bytes f n m (Err (Store r)) (Err Output) output another _ answer a b = absurd answer
+build_once v e w bytes f n m (Err (Store r)) (Err Volume) output another _ answer a b = absurd answer
+build_once v e w bytes f n m (Err (Store r)) (Err OutOfMemory) output another _ answer a b = absurd answer
