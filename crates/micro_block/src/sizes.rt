@@ -215,21 +215,31 @@ fn has_more_with<const N: usize>(
     has_more::<N>(qs, bound)
 }
 
-/// The same of all, with room that it makes.
-fn whole_has_more(distances: &[u32], least: u32, rule: Rule, step: u64, bound: usize) -> bool
+/// The same of the first `M` alone, with room that it makes.
+fn marked_front_has_more<const M: usize, const N: usize>(
+    distances: &[u32],
+    least: u32,
+    rule: Rule,
+    step: u64,
+    bound: usize,
+) -> bool
+    requires front { M ≤ 256 }
+    requires places { 0 < N }
     requires listable { AreListable step least rule distances.now }
     requires bound { bound ≤ 256 }
     ensures { result ≡ true →
         bound < distinct_above_0 (map (steps_above step least) distances.now) }
 {
-    let count = distances.len();
-    if count <= 64 {
-        let mut qs = [0; 64];
-        has_more_with::<256>(distances, least, rule, step, bound, &mut qs[..count])
-    } else {
-        let mut qs = [0; 256];
-        has_more_with::<1024>(distances, least, rule, step, bound, &mut qs[..count])
-    }
+    let count = distances.len().min(M);
+    let mut qs = [0; M];
+    has_more_with::<N>(
+        &distances[..count],
+        least,
+        rule,
+        step,
+        bound,
+        &mut qs[..count],
+    )
 }
 
 /// Whether more different numbers of steps above 0 than the bound are found: among as few as may
@@ -243,13 +253,16 @@ fn has_more_steps(distances: &[u32], least: u32, rule: Rule, step: u64, bound: u
     if bound <= 10 && front_has_more::<16>(distances, least, rule, step, bound) {
         return true;
     }
-    if bound <= 20 && front_has_more::<32>(distances, least, rule, step, bound) {
+    if bound <= 22 && front_has_more::<32>(distances, least, rule, step, bound) {
         return true;
     }
     if bound <= 42 && front_has_more::<64>(distances, least, rule, step, bound) {
         return true;
     }
-    whole_has_more(distances, least, rule, step, bound)
+    if bound <= 85 && marked_front_has_more::<128, 256>(distances, least, rule, step, bound) {
+        return true;
+    }
+    distances.len() > 64 && marked_front_has_more::<256, 1024>(distances, least, rule, step, bound)
 }
 
 /// How many bytes the list takes in the table form, where it may stand and is shorter than in the

@@ -70,7 +70,8 @@ fn write_offset(form: u8, col: u32, kind: PixelType, least: i64, out: &mut [u8])
 }
 
 /// Writes the bytes of the values that are so far above the least of the type.
-fn write_values(kind: PixelType, distances: &[u32], out: &mut [u8])
+#[inline(always)]
+fn write_each(kind: PixelType, distances: &[u32], out: &mut [u8])
     requires room { length out.old ≡ length distances.now * bytes_of kind }
     requires in_range { All (IsDistance kind) distances.now }
     ensures { out.new ≡ values_bytes kind (values_above kind distances.now) }
@@ -78,6 +79,22 @@ fn write_values(kind: PixelType, distances: &[u32], out: &mut [u8])
     let size = kind.bytes();
     for (i, distance) in distances.iter().enumerate() {
         kind.write_value(value_of(kind, *distance), &mut out[i * size..]);
+    }
+}
+
+/// The same, by a loop for each type.
+fn write_values(kind: PixelType, distances: &[u32], out: &mut [u8])
+    requires room { length out.old ≡ length distances.now * bytes_of kind }
+    requires in_range { All (IsDistance kind) distances.now }
+    ensures { out.new ≡ values_bytes kind (values_above kind distances.now) }
+{
+    match kind {
+        PixelType::I8 => write_each(PixelType::I8, distances, out),
+        PixelType::U8 => write_each(PixelType::U8, distances, out),
+        PixelType::I16 => write_each(PixelType::I16, distances, out),
+        PixelType::U16 => write_each(PixelType::U16, distances, out),
+        PixelType::I32 => write_each(PixelType::I32, distances, out),
+        PixelType::U32 => write_each(PixelType::U32, distances, out),
     }
 }
 
