@@ -17,21 +17,6 @@ pub none_is_nil : (xs : List ℕ) → length xs ≡ 0 → xs ≡ []
 none_is_nil [] h = refl
 none_is_nil (x ∷ xs) h = absurd (let no : ⊥ = omega arith in no)
 
-full_blank : (kind : PixelType) (rows cols depth : ℕ) → IsRaster (filled (blank kind rows cols depth) (pos 0)) → IsMarked kind rows cols depth [] (filled (blank kind rows cols depth) (pos 0))
-full_blank kind rows cols depth sound = record {
-  raster = sound;
-  kind_is = refl;
-  rows_are = refl;
-  cols_are = refl;
-  depth_is = refl;
-  marks = λ k below. ap is_some (get_or-replicate (rows * cols) k _ None below);
-}
-
-pub full_marked : (old new : Pixels) → old ≡ blank old.kind old.rows old.cols old.depth → new ≡ filled old (pos 0) → IsRaster new → IsMarked old.kind old.rows old.cols old.depth [] new
-full_marked old new none is sound =
-    let all : new ≡ filled (blank old.kind old.rows old.cols old.depth) (pos 0) = is ∙ ap (λ (r : Pixels). filled r (pos 0)) none in
-    subst (IsMarked old.kind old.rows old.cols old.depth []) (sym all) (full_blank old.kind old.rows old.cols old.depth (subst IsRaster all sound))
-
 pub bits_marked : (old new : Pixels) (mask : List ℕ) → (length mask ≡ 0 → ⊥) → MarksBits old new mask → IsRaster new → IsMarked old.kind old.rows old.cols old.depth mask new
 bits_marked old new mask some h sound = record {
   raster = sound;
@@ -49,9 +34,8 @@ bits_marked old new mask some h sound = record {
       ap (λ j. is_some (get_or new.pixels j None)) (sym there) ∙ h.places (k / old.cols) (k % old.cols) (row, col) ∙ ap (mask_bit mask) at ∙ ap (λ b. cond b true (mask_bit mask k)) (sym not);
 }
 
-same_mark : (r s : Pixels) (k : ℕ) → IsRaster r → SameMask r s → k < r.rows * r.cols → is_some (get_or s.pixels k None) ≡ is_some (get_or r.pixels k None)
-same_mark r s k h same below =
-    let wide : 0 < r.cols = h.shape.cols_above in
+same_mark : (r s : Pixels) (k : ℕ) → 0 < r.cols → SameMask r s → k < r.rows * r.cols → is_some (get_or s.pixels k None) ≡ is_some (get_or r.pixels k None)
+same_mark r s k wide same below =
     let row : k / r.cols < r.rows = div_below k r.cols r.rows wide below in
     let col : k % r.cols < r.cols = omega arith in
     let at : k / r.cols * r.cols + k % r.cols ≡ k = omega arith in
@@ -67,9 +51,25 @@ given_of kind rows cols depth values mask mid new m puts sound =
       rows_are = sym puts.same.shape.rows ∙ m.rows_are;
       cols_are = sym puts.same.shape.cols ∙ m.cols_are;
       depth_is = sym puts.same.shape.depth ∙ m.depth_is;
-      marks = λ k below. same_mark mid new k m.raster puts.same (omega (arith, size)) ∙ m.marks k below;
+      marks = λ k below. same_mark mid new k m.raster.shape.cols_above puts.same (omega (arith, size)) ∙ m.marks k below;
       each = λ k d below on less.
           let put : Spells mid.kind (drop ((k * mid.depth + d) * bytes_of mid.kind) values) (value_in new d k) = puts.put k d (omega (arith, size)) (m.marks k below ∙ on) (omega (arith, m.depth_is)) in
           subst (λ n. Spells kind (drop ((k * n + d) * bytes_of kind) values) (value_in new d k)) m.depth_is
           (subst (λ (t : PixelType). Spells t (drop ((k * mid.depth + d) * bytes_of t) values) (value_in new d k)) m.kind_is put);
+    }
+
+-- all pixels valid, and the values put
+pub whole_given : (kind : PixelType) (rows cols depth : ℕ) (values : List ℕ) (new : Pixels) → PutsAll (filled (blank kind rows cols depth) (pos 0)) new values → IsRaster new → IsGiven kind rows cols depth values [] new
+whole_given kind rows cols depth values new puts sound =
+    let old = filled (blank kind rows cols depth) (pos 0) in
+    let wide : 0 < cols = omega (arith, sound.shape.cols_above, puts.same.shape.cols) in
+    let all : (k : ℕ) → k < rows * cols → is_some (get_or old.pixels k None) ≡ true = λ k below. ap is_some (get_or-replicate (rows * cols) k _ None below) in
+    record {
+      raster = sound;
+      kind_is = sym puts.same.shape.kind;
+      rows_are = sym puts.same.shape.rows;
+      cols_are = sym puts.same.shape.cols;
+      depth_is = sym puts.same.shape.depth;
+      marks = λ k below. same_mark old new k wide puts.same below ∙ all k below;
+      each = λ k d below on less. puts.put k d below (all k below) less;
     }

@@ -8,9 +8,10 @@ ghost use Rattle.lerc_header.specs.Head.{number_of};
 ghost use Rattle.lerc_header.specs.Written.{step_of};
 ghost use Rattle.raster_values.specs.PixelType.{code_of};
 ghost use Rattle.lerc_c.specs.Arrays.{GivesSizes, IsAllowed, IsBlobOf, IsGiven, IsEncoded, values_size, mask_size};
-ghost use Rattle.lerc_c.specs.inside.Stops.{IsBlankStop, IsGivenStop, IsBlobStop, IsWriteStop, IsWritten, IsEncodeStop};
+ghost use Rattle.lerc_c.specs.inside.Stops.{IsBlankStop, IsGivenStop, IsSizeStop, IsBlobStop, IsWriteStop, IsWritten, IsEncodeStop};
 ghost use Rattle.lerc_c.specs.inside.Marked.{IsMarked};
 
+use crate::sizes::is_shape;
 use lerc_encode::{EncodeFault, encode};
 use lerc_header::{Step, Version};
 use outside_io::Bytes;
@@ -88,15 +89,6 @@ fn note_sound(raster: &Raster)
     let _rows = raster.rows();
 }
 
-/// Makes all pixels valid.
-fn mark_every(raster: &mut Raster)
-    requires { raster.old ≡ blank raster.old.kind raster.old.rows raster.old.cols raster.old.depth }
-    ensures { IsMarked raster.old.kind raster.old.rows raster.old.cols raster.old.depth [] raster.new }
-{
-    raster.mark_all();
-    note_sound(raster);
-}
-
 /// Makes the pixels valid whose bits are 1.
 fn mark_bits(raster: &mut Raster, mask: &[u8])
     requires blank { raster.old
@@ -108,22 +100,6 @@ fn mark_bits(raster: &mut Raster, mask: &[u8])
 {
     raster.mark_from_bits(mask);
     note_sound(raster);
-}
-
-/// Makes the pixels valid that the bits say, or all where there are none.
-fn mark(raster: &mut Raster, mask: &[u8])
-    requires blank { raster.old
-        ≡ blank raster.old.kind raster.old.rows raster.old.cols raster.old.depth }
-    requires size { (length mask.now ≡ 0 → ⊥)
-        → length mask.now ≡ mask_size raster.old.rows raster.old.cols }
-    ensures { IsMarked raster.old.kind raster.old.rows raster.old.cols raster.old.depth
-        mask.now raster.new }
-{
-    if mask.is_empty() {
-        mark_every(raster);
-        return;
-    }
-    mark_bits(raster, mask);
 }
 
 /// Gives the valid pixels their values.
@@ -141,13 +117,95 @@ fn put(raster: &mut Raster, values: &[u8])
 fn fill(raster: &mut Raster, values: &[u8], mask: &[u8])
     requires blank { raster.old
         ≡ blank raster.old.kind raster.old.rows raster.old.cols raster.old.depth }
+    requires some { length mask.now ≡ 0 → ⊥ }
     requires sizes { GivesSizes raster.old.kind raster.old.rows raster.old.cols raster.old.depth
         (length values.now) (length mask.now) }
     ensures { IsGiven raster.old.kind raster.old.rows raster.old.cols raster.old.depth
         values.now mask.now raster.new }
 {
-    mark(raster, mask);
+    mark_bits(raster, mask);
     put(raster, values);
+}
+
+/// The raster that the arrays are, where there is a mask.
+fn masked(
+    alloc: Global,
+    kind: PixelType,
+    rows: u32,
+    cols: u32,
+    depth: u32,
+    values: &[u8],
+    mask: &[u8],
+) -> Result<Raster, EncodeStop>
+    requires { length mask.now ≡ 0 → ⊥ }
+    ensures ok { IfOk result (λ r. IsGiven kind rows cols depth values.now mask.now r) }
+    ensures allowed { OnOk result (IsAllowed rows cols depth) }
+    ensures sizes { OnOk result
+        (GivesSizes kind rows cols depth (length values.now) (length mask.now)) }
+    ensures stop { IfErr result (λ stop.
+        IsGivenStop kind rows cols depth (length values.now) (length mask.now) stop) }
+{
+    let mut raster = blank_raster(alloc, kind, rows, cols, depth)?;
+    if !give_sizes(&raster, values.len(), mask.len()) {
+        return Err(EncodeStop::BadSizes);
+    }
+    fill(&mut raster, values, mask);
+    Ok(raster)
+}
+
+/// Whether so many bytes are the values of a raster of this type and these numbers.
+fn are_values(kind: PixelType, rows: u32, cols: u32, depth: u32, size: usize) -> bool
+    ensures { IsTrue result ↔ (size ≡ values_size kind rows cols depth) }
+{
+    let pixels = u64::from(rows) * u64::from(cols);
+    let Some(values) = pixels.checked_mul(u64::from(depth)) else {
+        return false;
+    };
+    let Some(bytes) = values.checked_mul(kind.bytes() as u64) else {
+        return false;
+    };
+    bytes == size as u64
+}
+
+/// What is wrong where the values are not as many as the shape asks for: the shape, if there are no
+/// rasters of it.
+fn size_stop(rows: u32, cols: u32, depth: u32) -> EncodeStop
+    ensures { IsSizeStop rows cols depth result }
+{
+    if rows == 0 || cols == 0 || depth == 0 {
+        return EncodeStop::BadShape;
+    }
+    if is_shape(rows, cols, depth) {
+        EncodeStop::BadSizes
+    } else {
+        EncodeStop::TooLarge
+    }
+}
+
+/// The raster with these values of which every pixel is valid.
+fn whole(
+    alloc: Global,
+    kind: PixelType,
+    rows: u32,
+    cols: u32,
+    depth: u32,
+    values: &[u8],
+) -> Result<Raster, EncodeStop>
+    ensures ok { IfOk result (λ r. IsGiven kind rows cols depth values.now [] r) }
+    ensures allowed { OnOk result (IsAllowed rows cols depth) }
+    ensures sizes { OnOk result (GivesSizes kind rows cols depth (length values.now) 0) }
+    ensures stop { IfErr result (λ stop.
+        IsGivenStop kind rows cols depth (length values.now) 0 stop) }
+{
+    if !are_values(kind, rows, cols, depth, values.len()) {
+        return Err(size_stop(rows, cols, depth));
+    }
+    match Raster::from_cells(alloc, kind, rows, cols, depth, values) {
+        Ok(raster) => Ok(raster),
+        Err(ShapeFault::BadSize) => Err(EncodeStop::BadShape),
+        Err(ShapeFault::TooLarge) => Err(EncodeStop::TooLarge),
+        Err(ShapeFault::OutOfMemory) => Err(EncodeStop::OutOfMemory),
+    }
 }
 
 /// The raster that the arrays are.
@@ -167,12 +225,10 @@ fn given(
     ensures stop { IfErr result (λ stop.
         IsGivenStop kind rows cols depth (length values.now) (length mask.now) stop) }
 {
-    let mut raster = blank_raster(alloc, kind, rows, cols, depth)?;
-    if !give_sizes(&raster, values.len(), mask.len()) {
-        return Err(EncodeStop::BadSizes);
+    if mask.is_empty() {
+        return whole(alloc, kind, rows, cols, depth, values);
     }
-    fill(&mut raster, values, mask);
-    Ok(raster)
+    masked(alloc, kind, rows, cols, depth, values, mask)
 }
 
 /// The blob of a raster.

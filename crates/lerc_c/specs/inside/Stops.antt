@@ -30,6 +30,13 @@ IsBlankStop rows cols depth TooLarge = (¬ HasZero rows cols depth) × IsTooLarg
 IsBlankStop rows cols depth OutOfRoom = IsAllowed rows cols depth
 IsBlankStop rows cols depth _ = ⊥
 
+-- or of which arrays of other lengths are none
+abbrev pub IsSizeStop : ℕ → ℕ → ℕ → EncodeStop → Type 0
+IsSizeStop rows cols depth BadShape = HasZero rows cols depth
+IsSizeStop rows cols depth TooLarge = (¬ HasZero rows cols depth) × IsTooLarge rows cols depth
+IsSizeStop rows cols depth BadSizes = IsAllowed rows cols depth
+IsSizeStop rows cols depth _ = ⊥
+
 abbrev pub IsGivenStop : PixelType → ℕ → ℕ → ℕ → ℕ → ℕ → EncodeStop → Type 0
 IsGivenStop kind rows cols depth values mask BadShape = HasZero rows cols depth
 IsGivenStop kind rows cols depth values mask TooLarge =
