@@ -1,11 +1,11 @@
 -- What a crash leaves of a build of all updates, and its marks.
-use Rattle.std.proofs.Common.{◌≡◌, ℕ, ◌*◌, ◌<◌, ◌≤◌, List, [], ◌∷◌, length, replicate, take, slice_index, cond, false, refl, sym, ap, subst, ◌∙◌, inl, inr, arith, nat_le}
+use Rattle.std.proofs.Common.{◌≡◌, ℕ, ◌+◌, ◌*◌, ◌<◌, ◌≤◌, List, [], ◌∷◌, length, replicate, take, slice_index, cond, Bool, false, refl, sym, ap, subst, ◌∙◌, inl, inr, arith, nat_le}
 use Rattle.std.proofs.lemmas.Bool.{cases_lt}
 use Rattle.std.proofs.lemmas.Bool.Decides.{nat_tests}
 use Rattle.std.proofs.lemmas.List.{get_or-replicate, length-replicate, take_all}
 use Rattle.std.proofs.lemmas.List.Folds.{sum_by-replicate}
 use Rattle.outside_io.specs.declared.volume.VolFile.TheVariants.{Bundle}
-use Rattle.outside_io.specs.volume.Disk.{Disk, IsQuiet, IsSettled}
+use Rattle.outside_io.specs.volume.Disk.{Disk, File, IsQuiet, IsSettled}
 use Rattle.outside_io.specs.volume.History.{History, During, contents, current}
 use Rattle.outside_io.proofs.VolumeLemmas.Moments.{during_map_at, started_at}
 use Rattle.bundle_store.specs.declared.tile_rec.TileRec.{TileRec}

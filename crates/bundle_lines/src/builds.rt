@@ -109,7 +109,7 @@ pub fn build_all<V: Volume, K: Sink>(
         Ok(()) => {}
         Err(stop) => return Err(stop),
     }
-    add_marks(marks, 0, vol.moment());
+    add_marks(marks, updates.len(), vol.moment());
     match give_built(size.tiles.into(), size.len, out) {
         Ok(()) => Ok(()),
         Err(_) => Err(BuildStop::Output),

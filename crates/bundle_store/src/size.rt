@@ -28,6 +28,6 @@ pub fn built_size(alloc: Global, tiles: &[TileRec]) -> Result<BuiltSize, AllocEr
     let (_, records) = measure(tiles, table.as_slice());
     Ok(BuiltSize {
         tiles: count_tiles(tiles, table.as_slice()),
-        len: RECORDS - 1 + records,
+        len: RECORDS + records,
     })
 }

@@ -6,6 +6,7 @@ use Rattle.side_journal.specs.Says.{IsOpen}
 use Rattle.bundle_store.specs.Images.{EachImage, EmptyOr, HoldsClosed}
 use Rattle.bundle_store.specs.declared.fault.StoreFault.{StoreFault}
 use Rattle.bundle_store.specs.inside.Table.{table_map}
+use Rattle.bundle_store.specs.Build.{last_tiles}
 use Rattle.bundle_store.specs.Built.{HoldsTiles}
 use Rattle.bundle_store.specs.Layout.{layout}
 use Rattle.bundle_store.specs.Tiles.{AreTiles, TileMap, tiles}
