@@ -1,6 +1,7 @@
 use super::{
     LARGE, SMALL, build, empty_volume, entry, first_slot, has_tile, length, put, report, stands,
 };
+use crate::build::check_tiles;
 use crate::{BuiltSize, CheckReport, Session, StoreFault, TileRec, built_size};
 use bundle_index::Entry;
 use outside_io::{Bytes, VolFile, Volume};
@@ -84,6 +85,14 @@ fn a_build_keeps_the_last_tile_of_a_slot(rt: HostRuntime) -> Result<(), Fail> {
     Ok(())
 }
 
+/// How much the bundle of these tiles holds.
+fn size_of(alloc: Global, tiles: &[TileRec]) -> Result<BuiltSize, Fail> {
+    match check_tiles(tiles) {
+        Ok(()) => Ok(built_size(alloc, tiles)?),
+        Err(_) => Err("tiles".into()),
+    }
+}
+
 #[test]
 fn the_size_of_a_build(rt: HostRuntime) -> Result<(), Fail> {
     let alloc = rt.alloc();
@@ -92,12 +101,12 @@ fn the_size_of_a_build(rt: HostRuntime) -> Result<(), Fail> {
         tiles: 1,
         len: 131206,
     };
-    assert_eq!(rt; built_size(alloc, &tiles), Ok(one));
+    assert_eq!(rt; size_of(alloc, &tiles)?, one);
     let none = BuiltSize {
         tiles: 0,
         len: 131136,
     };
-    assert_eq!(rt; built_size(alloc, &[]), Ok(none));
+    assert_eq!(rt; size_of(alloc, &[])?, none);
     Ok(())
 }
 
