@@ -1,65 +1,102 @@
 -- Symbols as they are counted, and the length of their codes by the counts.
-use Rattle.std.proofs.Common.{◌≡◌, ℕ, zero, suc, ◌+◌, ◌*◌, ◌<◌, ◌≤◌, nat_eq, cond, List, [], ◌∷◌, length, get_or, slice_index, take, replicate, refl, sym, ap, ◌∙◌, arith, ◌⊎◌, inl, inr}
-use Rattle.std.specs.Prelude.{sum, slice_set}
+use Rattle.std.proofs.Common.{◌≡◌, ℕ, zero, suc, ◌+◌, ◌*◌, ◌<◌, ◌≤◌, nat_eq, cond, List, [], ◌∷◌, ◌++◌, length, get_or, slice_index, take, replicate, refl, sym, ap, ◌∙◌, subst, arith, ◌⊎◌, inl, inr, ◌-◌, drop}
+use Rattle.std.specs.Prelude.{slice_set}
 use Rattle.std.specs.List.{count_by}
 use Rattle.std.proofs.lemmas.Bool.{cases_eq, cases_lt, eq-eqb, ne_eqb}
-use Rattle.std.proofs.lemmas.List.{length-append, get_or-set_same, get_or-set_other, get_or-replicate, get_or_past, take_all}
+use Rattle.std.proofs.lemmas.List.{length-append, get_or-set_same, get_or-set_other, get_or-replicate, get_or_past, take_more}
 use Rattle.std.proofs.lemmas.List.FromFn.{get_or-map-range_with_len}
-use Rattle.std.proofs.lemmas.List.Sums.{count_by_more_yes, count_by_more_no, sum_by-set, sum_by-cons}
+use Rattle.std.proofs.lemmas.List.Sums.{get_or-le-sum_by, sum_by-append, sum_by-cons, sum_by-set, sum_by_push}
 use Rattle.std.proofs.lemmas.List.Folds.{sum_by-replicate}
 use Rattle.std.proofs.Math.ListN.{length-set}
+use Rattle.std.proofs.Math.Seq.{take-add}
 use Rattle.std.proofs.Math.Nat.{mul-le-mul_left}
 use Rattle.huff_codes.specs.Sums.{sum_below}
 use Rattle.huff_codes.specs.Codes.{AreLengths, code_at, canonical_codes}
 use Rattle.huff_codes.specs.Words.{joined_codes}
 use Rattle.huff_codes.specs.Counts.{counts_of}
+use Rattle.huff_codes.specs.inside.Tallied.{AreTallied}
 use Rattle.huff_codes.proofs.Kraft.{sum-same, sum-le, sum-add, sum-none, sum-one, sum-zero, sum-suc}
 use Rattle.huff_codes.proofs.Made.{length-canonical_codes, length-canonical-at}
 use Rattle.huff_codes.proofs.Reading.{joined_codes-nil, joined_codes-cons}
 use Rattle.huff_codes.proofs.ChosenTables.{listed}
+use Rattle.huff_codes.proofs.Totals.{sum_is}
 
 -- ---- counting
 
--- the counts of the symbols so far
-pub record AreCounts (counts symbols : List ℕ) (k : ℕ) : Type 0 where
-  pub room : length counts ≡ 256
-  pub each : (s : ℕ) → s < 256 → get_or counts s 0 ≡ count_by (nat_eq s) (take k symbols)
-  pub total : sum counts ≡ k
-
-pub counts_begin : (symbols : List ℕ) → AreCounts (replicate 256 0) symbols 0
-counts_begin symbols = record {
+pub tallied_none : AreTallied [] (replicate 256 0)
+tallied_none = record {
   room = refl;
   each = λ s lt. get_or-replicate 256 s 0 0 lt;
   total = sum_by-replicate (λ x. x) 256 0;
 }
 
-pub counts_more : (counts symbols : List ℕ) (k s : ℕ) → k < length symbols → s ≡ get_or symbols k 0 → s < 256 → AreCounts counts symbols k → AreCounts (slice_set counts s (get_or counts s 0 + 1)) symbols (k + 1)
-counts_more counts symbols k s lt is low h = record {
-  room = length_same ∙ h.room;
+-- no count is above the number of symbols
+pub tallied_low : (symbols counts : List ℕ) (s : ℕ) → AreTallied symbols counts → get_or counts s 0 ≤ length symbols
+tallied_low symbols counts s h = elim (cases_lt s (length counts)) [
+  | inl lt ↦ let within = get_or-le-sum_by (λ x. x) counts s 0 lt in omega (arith, within, h.total)
+  | inr past ↦ let none = get_or_past counts s 0 past in omega (arith, none)
+]
+
+pub tallied_push : (symbols counts : List ℕ) (s : ℕ) → s < 256 → AreTallied symbols counts → AreTallied (symbols ++ s ∷ []) (slice_set counts s (get_or counts s 0 + 1))
+tallied_push symbols counts s low h = record {
+  room = length-set counts s (get_or counts s 0 + 1) ∙ h.room;
   each = λ t t_lt. by t t_lt (cases_eq t s);
-  total = let more = sum_by-set (λ x. x) counts s (get_or counts s 0 + 1) 0 within in let before = h.total in omega (arith, more, before);
+  total =
+      let more = sum_by-set (λ x. x) counts s (get_or counts s 0 + 1) 0 within in
+      let long = length-append symbols (s ∷ []) in
+      omega (arith, more, h.total, long);
 }
   where
     within : s < length counts
     within = let long = h.room in omega (arith, long, low)
 
-    length_same : length (slice_set counts s (get_or counts s 0 + 1)) ≡ length counts
-    length_same = length-set counts s (get_or counts s 0 + 1)
+    none_more : (n : ℕ) → n + 0 ≡ n
+    none_more n = omega arith
 
-    by : (t : ℕ) → t < 256 → (t ≡ s) ⊎ ((t ≡ s) → ⊥) → get_or (slice_set counts s (get_or counts s 0 + 1)) t 0 ≡ count_by (nat_eq t) (take (k + 1) symbols)
+    by : (t : ℕ) → t < 256 → (t ≡ s) ⊎ ((t ≡ s) → ⊥) → get_or (slice_set counts s (get_or counts s 0 + 1)) t 0 ≡ count_by (nat_eq t) (symbols ++ s ∷ [])
     by t t_lt (inl same) =
-        let one = count_by_more_yes (nat_eq t) symbols k 0 lt (eq-eqb t (get_or symbols k 0) (same ∙ is)) in
+        let one : cond (nat_eq t s) 1 0 ≡ 1 = rw (eq-eqb t s same) refl in
+        let pushed = sum_by_push (λ (x : ℕ). cond (nat_eq t x) 1 0) symbols s in
         let before = h.each t t_lt in
         let new : get_or (slice_set counts s (get_or counts s 0 + 1)) t 0 ≡ get_or counts s 0 + 1 = ap (λ n. get_or (slice_set counts s (get_or counts s 0 + 1)) n 0) same ∙ get_or-set_same counts s (get_or counts s 0 + 1) 0 within in
-        new ∙ ap (λ n. get_or counts n 0 + 1) (sym same) ∙ ap (λ n. n + 1) before ∙ sym one
+        new ∙ ap (λ n. get_or counts n 0 + 1) (sym same) ∙ ap (λ n. n + 1) before ∙ sym (pushed ∙ ap (λ n. count_by (nat_eq t) symbols + n) one)
     by t t_lt (inr other) =
+        let none : cond (nat_eq t s) 1 0 ≡ 0 = rw (ne_eqb t s other) refl in
+        let pushed = sum_by_push (λ (x : ℕ). cond (nat_eq t x) 1 0) symbols s in
         get_or-set_other counts s t (get_or counts s 0 + 1) 0 other ∙ h.each t t_lt
-        ∙ sym (count_by_more_no (nat_eq t) symbols k 0 lt (ne_eqb t (get_or symbols k 0) (λ e. other (e ∙ sym is))))
+        ∙ sym (pushed ∙ ap (λ n. count_by (nat_eq t) symbols + n) none ∙ none_more (count_by (nat_eq t) symbols))
 
-pub counts_all : (counts symbols : List ℕ) (k : ℕ) → length symbols ≤ k → AreCounts counts symbols k → counts ≡ counts_of symbols
+-- one symbol more of a list
+pub tallied_more : (symbols counts : List ℕ) (k s : ℕ) → k < length symbols → s ≡ get_or symbols k 0 → s < 256 → AreTallied (take k symbols) counts → AreTallied (take (k + 1) symbols) (slice_set counts s (get_or counts s 0 + 1))
+tallied_more symbols counts k s lt is low h =
+    subst (λ (xs : List ℕ). AreTallied xs (slice_set counts s (get_or counts s 0 + 1))) (ap (λ x. take k symbols ++ x ∷ []) is ∙ sym (take_more symbols k 0 lt)) (tallied_push (take k symbols) counts s low h)
+
+-- the counts of two lists together
+pub tallied_both : (xs ys a b c : List ℕ) → AreTallied xs a → AreTallied ys b → length c ≡ 256 → ((s : ℕ) → s < 256 → get_or c s 0 ≡ get_or a s 0 + get_or b s 0) → AreTallied (xs ++ ys) c
+tallied_both xs ys a b c ha hb room each = record {
+  room = room;
+  each = λ s lt. each s lt ∙ (λ i. ha.each s lt i + hb.each s lt i) ∙ sym (sum_by-append (λ (x : ℕ). cond (nat_eq s x) 1 0) xs ys);
+  total =
+      let all = sum_is c room ∙ sum-same 256 (slice_index c) (λ s. slice_index a s + slice_index b s) each ∙ sum-add 256 (slice_index a) (slice_index b) in
+      let first = sum_is a ha.room in
+      let second = sum_is b hb.room in
+      let long = length-append xs ys in
+      omega (arith, all, first, second, ha.total, hb.total, long);
+}
+
+-- four parts of a list, side by side
+pub quarters : (symbols : List ℕ) (n : ℕ) → ((take n symbols ++ take (2 * n - n) (drop n symbols)) ++ take (3 * n - 2 * n) (drop (2 * n) symbols)) ++ take (4 * n - 3 * n) (drop (3 * n) symbols) ≡ take (4 * n) symbols
+quarters symbols n =
+    ap (λ (xs : List ℕ). (xs ++ take (3 * n - 2 * n) (drop (2 * n) symbols)) ++ take (4 * n - 3 * n) (drop (3 * n) symbols)) (part n (2 * n) (omega arith))
+    ∙ ap (λ (xs : List ℕ). xs ++ take (4 * n - 3 * n) (drop (3 * n) symbols)) (part (2 * n) (3 * n) (omega arith))
+    ∙ part (3 * n) (4 * n) (omega arith)
+  where
+    part : (a b : ℕ) → a ≤ b → take a symbols ++ take (b - a) (drop a symbols) ≡ take b symbols
+    part a b le = sym (take-add a (b - a) symbols) ∙ (let e : a + (b - a) ≡ b = omega (arith, le) in ap (λ m. take m symbols) e)
+
+pub tallied_all : (symbols counts : List ℕ) → AreTallied symbols counts → counts ≡ counts_of symbols
 unfolding counts_of
-counts_all counts symbols k all h =
-    listed (λ (s : ℕ). count_by (nat_eq s) symbols) counts 256 h.room (λ s lt. h.each s lt ∙ ap (λ (xs : List ℕ). count_by (nat_eq s) xs) (take_all k symbols all))
+tallied_all symbols counts h = listed (λ (s : ℕ). count_by (nat_eq s) symbols) counts 256 h.room h.each
 
 pub counted_at : (symbols : List ℕ) (s : ℕ) → s < 256 → slice_index (counts_of symbols) s ≡ count_by (nat_eq s) symbols
 unfolding counts_of

@@ -9,3 +9,4 @@ pub mod Cutting
 pub mod Filling
 pub mod Lookup
 pub mod Looking
+pub mod Tallied

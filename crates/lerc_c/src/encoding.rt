@@ -1,18 +1,19 @@
 //! Arrays encoded into a blob.
 
-ghost use Rattle.std.specs.Prelude.{◌≡◌, ◌↔◌, [], IfOk, IfErr, OnOk, OnErr, IsTrue, length};
+ghost use Rattle.std.specs.Prelude.{◌≡◌, ◌<◌, ◌↔◌, [], IfOk, IfErr, OnOk, OnErr, IsTrue, length};
 ghost use Rattle.raster_values.specs.Raster.{IsRaster, blank};
 ghost use Rattle.raster_values.specs.Flat.{PutsAll};
 ghost use Rattle.lerc_header.specs.declared.header.Version.TheVariants.{V3};
 ghost use Rattle.lerc_header.specs.Head.{number_of};
 ghost use Rattle.lerc_header.specs.Written.{step_of};
 ghost use Rattle.raster_values.specs.PixelType.{code_of};
+ghost use Rattle.lerc_encode.specs.Choice.{choice};
 ghost use Rattle.lerc_c.specs.Arrays.{GivesSizes, IsAllowed, IsBlobOf, IsGiven, IsEncoded, values_size, mask_size};
 ghost use Rattle.lerc_c.specs.inside.Stops.{IsBlankStop, IsGivenStop, IsSizeStop, IsBlobStop, IsWriteStop, IsWritten, IsEncodeStop};
 ghost use Rattle.lerc_c.specs.inside.Marked.{IsMarked};
 
 use crate::sizes::is_shape;
-use lerc_encode::{EncodeFault, encode};
+use lerc_encode::{EncodeFault, LayFault, encode, encode_over};
 use lerc_header::{Step, Version};
 use outside_io::Bytes;
 use raster_values::{PixelType, Raster, ShapeFault};
@@ -248,6 +249,17 @@ fn blob_of(
     }
 }
 
+/// Why there is no room for the blob of a raster: it has so many bytes.
+fn no_room(alloc: Global, raster: &Raster, version: Version, step: Step, room: usize) -> EncodeStop
+    requires { room < length (choice raster.now version step) }
+    ensures { IsWriteStop raster.now version step room result }
+{
+    match blob_of(alloc, raster, version, step) {
+        Ok(blob) => EncodeStop::NoRoom(blob.len()),
+        Err(stop) => stop,
+    }
+}
+
 /// Lays the blob of a raster over the front of `out`, and answers how many bytes it has.
 fn write_blob(
     alloc: Global,
@@ -260,13 +272,12 @@ fn write_blob(
     ensures stop { IfErr result (λ stop. IsWriteStop raster.now version step (length out.old) stop) }
     ensures kept { OnErr result (out.new ≡ out.old) }
 {
-    let blob = blob_of(alloc, raster, version, step)?;
-    let size = blob.len();
-    if size > out.len() {
-        return Err(EncodeStop::NoRoom(size));
+    match encode_over(alloc, raster, version, step, out) {
+        Ok(size) => Ok(size),
+        Err(LayFault::DepthNeedsV4) => Err(EncodeStop::DepthNeedsV4),
+        Err(LayFault::NoRoom(_)) => Err(no_room(alloc, raster, version, step, out.len())),
+        Err(LayFault::OutOfMemory) => Err(EncodeStop::OutOfMemory),
     }
-    out[..size].copy_from_slice(blob.as_slice());
-    Ok(size)
 }
 
 /// Encodes the raster that the arrays are into `out`, and answers how many bytes the blob has.

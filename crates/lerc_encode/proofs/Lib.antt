@@ -14,5 +14,6 @@ mod Standing
 mod Candidates
 mod Endings
 mod Encoded
+mod Asked
 mod Laying
 mod Small

@@ -1,6 +1,6 @@
 //! The chosen blob of a raster.
 
-ghost use Rattle.std.specs.Prelude.{◌≡◌, ◌+◌, ◌^◌, ◌<◌, ◌≤◌, ◌↔◌, ◌++◌, IfOk, IsErrOf, IsTrue, drop, length};
+ghost use Rattle.std.specs.Prelude.{◌≡◌, ◌+◌, ◌^◌, ◌<◌, ◌≤◌, ◌↔◌, ◌++◌, ℕ, IfOk, IsErrOf, IsTrue, OnErr, OnOk, drop, length};
 ghost use Rattle.lerc_header.specs.declared.header.Version.TheVariants.{V3};
 ghost use Rattle.lerc_header.specs.Head.{head_length};
 ghost use Rattle.lerc_header.specs.Written.{IsHeader, head_bytes};
@@ -237,4 +237,57 @@ pub fn encode(
     }
     let blob = blob_of(alloc, raster, version, step.get())?;
     Ok(Bytes::from_vec(blob))
+}
+
+/// Why the blob of a raster was not laid over a buffer.
+#[derive(Debug, Drop)]
+pub enum LayFault {
+    /// The raster has more than one depth, which version 3 has no place for.
+    DepthNeedsV4,
+    /// The buffer is shorter than the blob, which has so many bytes.
+    NoRoom(usize),
+    /// There is no memory for what is known of the raster meanwhile.
+    OutOfMemory,
+}
+
+impl From<AllocError> for LayFault {
+    ghost use Rattle.lerc_encode.specs.declared.blob.LayFault.TheVariants.{OutOfMemory};
+
+    ghost from_gives = { λ _ e. e ≡ OutOfMemory };
+
+    fn from(_: AllocError) -> LayFault {
+        LayFault::OutOfMemory
+    }
+}
+
+/// Lays the blob of a raster, which is that of `encode`, over the front of `out`, and answers how
+/// many bytes it has. What stands behind it stays, and all of `out` where there is a fault.
+pub fn encode_over(
+    alloc: Global,
+    raster: &Raster,
+    version: Version,
+    step: Step,
+    out: &mut [u8],
+) -> Result<usize, LayFault>
+    ensures depth { IsErrOf result LayFault.DepthNeedsV4
+        ↔ ((version ≡ V3) × (1 < raster.now.depth)) }
+    ensures room { (n : ℕ) → IsErrOf result (LayFault.NoRoom n)
+        → (n ≡ length (choice raster.now version step)) × (length out.old < n) }
+    ensures kept { OnErr result (out.new ≡ out.old) }
+    ensures size { IfOk result (λ n. n ≡ length (choice raster.now version step)) }
+    ensures laid { IfOk result (λ n. out.new ≡ choice raster.now version step ++ drop n out.old) }
+    ensures decodes { OnOk result (IsEncodedOnce (choice raster.now version step) raster.now step) }
+    ensures declares { OnOk result (Declares (choice raster.now version step) version step) }
+{
+    let _rows = raster.rows();
+    if needs_v4(version, raster) {
+        return Err(LayFault::DepthNeedsV4);
+    }
+    let plan = plan_of(alloc, raster, version, step.get())?;
+    let size = version.head_length() + behind_len(&plan, raster);
+    if size > out.len() {
+        return Err(LayFault::NoRoom(size));
+    }
+    fill(&plan, raster, &mut out[..size]);
+    Ok(size)
 }

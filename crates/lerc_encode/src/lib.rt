@@ -12,7 +12,7 @@ mod laws;
 mod masks;
 mod ranging;
 
-pub use blob::{EncodeFault, encode};
+pub use blob::{EncodeFault, LayFault, encode, encode_over};
 pub use laws::blobs_are_small;
 
 #[cfg(test)]

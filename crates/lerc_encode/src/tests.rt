@@ -1,6 +1,6 @@
 //! Blobs that were worked by hand, of grids.
 
-use crate::{EncodeFault, encode};
+use crate::{EncodeFault, LayFault, encode, encode_over};
 use lerc_header::{Step, Version};
 use outside_io::{Bytes, MemSource};
 use raster_values::{Raster, grid_read};
@@ -36,6 +36,27 @@ const SEVEN_BLOB: [u8; 66] = *b"Lerc2 \x03\0\0\0\xc0\x66\x45\x59\
 fn all_values_are_one(rt: HostRuntime) -> Result<(), Fail> {
     let blob = blob_of(rt.alloc(), &SEVEN, Version::V3, 0)?;
     assert_eq!(rt; blob.as_slice(), SEVEN_BLOB.as_slice());
+    Ok(())
+}
+
+#[test]
+fn a_blob_is_laid_over_the_front(rt: HostRuntime) -> Result<(), Fail> {
+    let raster = raster_of(rt.alloc(), &SEVEN)?;
+    let mut room = [9; 70];
+    let answer = encode_over(rt.alloc(), &raster, Version::V3, Step::of(0), &mut room);
+    assert!(rt; matches!(answer, Ok(66)));
+    assert_eq!(rt; &room[..66], SEVEN_BLOB.as_slice());
+    assert_eq!(rt; &room[66..], b"\t\t\t\t".as_slice());
+    Ok(())
+}
+
+#[test]
+fn a_blob_has_no_room(rt: HostRuntime) -> Result<(), Fail> {
+    let raster = raster_of(rt.alloc(), &SEVEN)?;
+    let mut room = [9; 65];
+    let answer = encode_over(rt.alloc(), &raster, Version::V3, Step::of(0), &mut room);
+    assert!(rt; matches!(answer, Err(LayFault::NoRoom(66))));
+    assert_eq!(rt; room, [9; 65]);
     Ok(())
 }
 

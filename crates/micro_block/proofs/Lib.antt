@@ -14,3 +14,4 @@ mod Chosen
 mod WriteSteps
 mod QuantiseSteps
 mod ShortTables
+mod KeptBounds

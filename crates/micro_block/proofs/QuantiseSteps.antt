@@ -22,7 +22,7 @@ distance_read v m h k =
     ap (λ (z : ℤ). to_z w64 (of_z w64 z)) e ∙ to_z-of_z w64 (v -ℤ m) (omega (arith, ints, h, k))
 
 -- the product for a step
-pub is_product : (s d : ℕ) → 0 < s → d ≤ 31 → s ≤ 1 * 2 ^ d % 18446744073709551616 → (1 * 2 ^ (31 + d) % 18446744073709551616 + s - 1) / s ≤ 4294967296
+pub is_product : (s d : ℕ) → 0 < s → d ≤ 31 → s ≤ 1 * 2 ^ d % 18446744073709551616 → (1 * 2 ^ (31 + d) % 18446744073709551616 + s - 1) / s ≤ 4294967295
     → IsProduct s (record { factor = (1 * 2 ^ (31 + d) % 18446744073709551616 + s - 1) / s; shift = 31 + d; limit = 2147483648 })
 is_product s d some few fits small =
     let low : 2 ^ d ≤ 2 ^ 31 = pow-le-pow_right (omega arith) few in

@@ -10,18 +10,19 @@ use Rattle.micro_block.specs.inside.Stepping.{steps_above}
 use Rattle.micro_block.proofs.Fast.{by_product, half}
 
 -- a product and a shift by 32 do what a division does, as long as the number times the step is below 2 ^ 32
-pub near_is_product : (s : ℕ) → 0 < s → IsProduct s (record { factor = 4294967295 / s + 1; shift = 32; limit = 4294967295 / s + 1 })
-near_is_product s some =
+pub near_is_product : (s : ℕ) → 2 ≤ s → IsProduct s (record { factor = 4294967295 / s + 1; shift = 32; limit = 4294967295 / s + 1 })
+near_is_product s two =
+    let some : 0 < s = omega (arith, two) in
     let q = 4294967295 / s in
     let low : q * s ≤ 4294967295 = div-mul-le_self 4294967295 s in
     let high : 4294967295 < q * s + s = lt-div-mul-add some in
     let mul : (q + 1) * s ≡ q * s + s = omega arith in
-    let one : q * 1 ≤ q * s = mul-le-mul_left q some in
-    let fits : q + 1 ≤ 4294967296 = omega (arith, one, low) in
+    let more : q * 2 ≤ q * s = mul-le-mul_left q two in
+    let fits : q + 1 ≤ 4294967295 = omega (arith, more, low) in
     record {
       factor_fits = fits;
       shift_fits = omega arith;
-      limit_fits = fits;
+      limit_fits = omega (arith, fits);
       same = λ x below. by_product x s (q + 1) 4294967296 ((q + 1) * s - 4294967296) some (omega arith) (omega (arith, mul, high)) (small q low high mul x below);
     }
   where

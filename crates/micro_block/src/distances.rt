@@ -8,6 +8,7 @@ ghost use Rattle.micro_block.specs.inside.Stepping.{AreEndsOf};
 use raster_values::PixelType;
 
 /// The value that is so far above the least of its type.
+#[inline(always)]
 pub(crate) fn value_of(kind: PixelType, distance: u32) -> i64
     ensures { result ≡ value_above kind distance }
 {

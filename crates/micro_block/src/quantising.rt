@@ -47,7 +47,7 @@ fn product_value(value: i64, least: i64, half: u64, product: Product) -> u64
     ensures { result ≡ quantised (2 * half) least value }
 {
     let distance = (value - least) as u64;
-    ((distance + half) * product.factor) >> product.shift
+    ((distance + half) * u64::from(product.factor)) >> product.shift
 }
 
 /// The numbers of steps of twice `half`, which is 2^shift.

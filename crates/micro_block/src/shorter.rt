@@ -1,6 +1,7 @@
 // Where a table can be shorter than a list in the simple form.
 
 ghost use Rattle.std.specs.Prelude.{◌≡◌, ℕ, ◌+◌, ◌^◌, ◌<◌, ◌≤◌, length, true, MatchOption};
+ghost use Rattle.std.specs.Prelude.{count_ones};
 ghost use Rattle.lut_stuff.specs.Tables.{distinct_above_0};
 ghost use Rattle.micro_block.specs.inside.Shorter.{AreLongAbove, BoundsAt, IsLong};
 
@@ -26,7 +27,7 @@ fn entries_at(count: usize, width: u32, k: u32) -> Option<usize>
 
 /// The most entries with which a table of `count` numbers of `width` bits can be shorter than the
 /// numbers themselves, and 0 where it never can.
-pub(crate) fn most_entries(count: usize, width: u32) -> usize
+fn most_counted(count: usize, width: u32) -> usize
     requires count { count ≤ 256 }
     requires width { (0 < width) × (width ≤ 30) }
     ensures long { (d : ℕ) → result < d → d ≤ 254 → IsLong count width d }
@@ -40,8 +41,54 @@ pub(crate) fn most_entries(count: usize, width: u32) -> usize
     0
 }
 
-/// Whether more different numbers above 0 than the bound are found. It may answer no where there
-/// are more, since it tells numbers apart by their remainders alone, and ends as soon as it knows.
+/// The most entries for 64 numbers, by their width.
+static MOST_OF_64: [u8; 31] = [
+    0, 0, 1, 3, 7, 9, 15, 16, 22, 26, 30, 31, 31, 33, 35, 37, 39, 40, 41, 42, 44, 44, 45, 46, 47,
+    48, 48, 49, 49, 50, 50,
+];
+
+/// The most entries for 256 numbers, by their width.
+static MOST_OF_256: [u8; 31] = [
+    0, 0, 1, 3, 7, 15, 31, 34, 62, 63, 75, 91, 105, 116, 126, 127, 127, 134, 141, 147, 152, 157,
+    162, 166, 170, 173, 176, 179, 182, 184, 187,
+];
+
+/// The same: as it is kept for the numbers of values that whole blocks have, and else counted.
+pub(crate) fn most_entries(count: usize, width: u32) -> usize
+    requires count { count ≤ 256 }
+    requires width { (0 < width) × (width ≤ 30) }
+    ensures long { (d : ℕ) → result < d → d ≤ 254 → IsLong count width d }
+    ensures few { result ≤ 256 }
+{
+    match count {
+        64 => usize::from(MOST_OF_64[width as usize]),
+        256 => usize::from(MOST_OF_256[width as usize]),
+        _ => most_counted(count, width),
+    }
+}
+
+/// The set of the remainders of the numbers modulo 64, one bit each.
+fn remainders(qs: &[u32]) -> u64
+    ensures { count_ones result ≤ 1 + distinct_above_0 qs.now }
+{
+    let mut bits = 0;
+    for q in qs {
+        bits |= 1u64 << (*q % 64);
+    }
+    bits
+}
+
+/// Whether more different numbers above 0 than the bound are found, told apart by their remainders
+/// modulo 64: so it may answer no where there are more.
+pub(crate) fn has_more_remainders(qs: &[u32], bound: usize) -> bool
+    requires bound { bound ≤ 256 }
+    ensures { result ≡ true → bound < distinct_above_0 qs.now }
+{
+    remainders(qs).count_ones() as usize > bound + 1
+}
+
+/// Whether more different numbers above 0 than the bound are found, told apart by their remainders
+/// modulo `N`: so it may answer no where there are more. It ends as soon as it knows.
 pub(crate) fn has_more<const N: usize>(qs: &[u32], bound: usize) -> bool
     requires places { 0 < N }
     requires few { length qs.now ≤ 256 }

@@ -11,7 +11,7 @@ ghost use Rattle.micro_block.specs.inside.Sizes.{closed_sizes, IsTabledLength};
 ghost use Rattle.micro_block.specs.inside.Stepping.{AreListable, IsSpread, steps_above};
 ghost use Rattle.micro_block.specs.inside.Stepping.{values_above};
 
-use crate::shorter::{has_more, most_entries};
+use crate::shorter::{has_more, has_more_remainders, most_entries};
 use crate::spreading::Spread;
 use crate::stepping::{Rule, steps_each};
 use bit_stuff::{digit_count, head_len, stuffed_len};
@@ -149,6 +149,52 @@ fn table_of(distances: &[u32], least: u32, rule: Rule, step: u64) -> Option<usiz
 }
 
 /// Whether more different numbers of steps above 0 than the bound are found, told apart by their
+/// remainders modulo 64, with room for the numbers.
+fn has_more_remainders_with(
+    distances: &[u32],
+    least: u32,
+    rule: Rule,
+    step: u64,
+    bound: usize,
+    qs: &mut [u32],
+) -> bool
+    requires lengths { length qs.old ≡ length distances.now }
+    requires listable { AreListable step least rule distances.now }
+    requires bound { bound ≤ 256 }
+    ensures { result ≡ true →
+        bound < distinct_above_0 (map (steps_above step least) distances.now) }
+{
+    steps_each(distances, least, rule, step, qs);
+    has_more_remainders(qs, bound)
+}
+
+/// The same of the first `M` alone, with room that it makes.
+fn front_has_more<const M: usize>(
+    distances: &[u32],
+    least: u32,
+    rule: Rule,
+    step: u64,
+    bound: usize,
+) -> bool
+    requires front { M ≤ 256 }
+    requires listable { AreListable step least rule distances.now }
+    requires bound { bound ≤ 256 }
+    ensures { result ≡ true →
+        bound < distinct_above_0 (map (steps_above step least) distances.now) }
+{
+    let count = distances.len().min(M);
+    let mut qs = [0; M];
+    has_more_remainders_with(
+        &distances[..count],
+        least,
+        rule,
+        step,
+        bound,
+        &mut qs[..count],
+    )
+}
+
+/// Whether more different numbers of steps above 0 than the bound are found, told apart by their
 /// remainders modulo `N`, with room for the numbers.
 fn has_more_with<const N: usize>(
     distances: &[u32],
@@ -170,7 +216,7 @@ fn has_more_with<const N: usize>(
 }
 
 /// The same of the first `M` alone, with room that it makes.
-fn front_has_more<const M: usize, const N: usize>(
+fn marked_front_has_more<const M: usize, const N: usize>(
     distances: &[u32],
     least: u32,
     rule: Rule,
@@ -204,13 +250,19 @@ fn has_more_steps(distances: &[u32], least: u32, rule: Rule, step: u64, bound: u
     ensures { result ≡ true →
         bound < distinct_above_0 (map (steps_above step least) distances.now) }
 {
-    if bound <= 11 && front_has_more::<16, 64>(distances, least, rule, step, bound) {
+    if bound <= 10 && front_has_more::<16>(distances, least, rule, step, bound) {
         return true;
     }
-    if bound <= 50 && front_has_more::<64, 256>(distances, least, rule, step, bound) {
+    if bound <= 22 && front_has_more::<32>(distances, least, rule, step, bound) {
         return true;
     }
-    distances.len() > 64 && front_has_more::<256, 1024>(distances, least, rule, step, bound)
+    if bound <= 42 && front_has_more::<64>(distances, least, rule, step, bound) {
+        return true;
+    }
+    if bound <= 85 && marked_front_has_more::<128, 256>(distances, least, rule, step, bound) {
+        return true;
+    }
+    distances.len() > 64 && marked_front_has_more::<256, 1024>(distances, least, rule, step, bound)
 }
 
 /// How many bytes the list takes in the table form, where it may stand and is shorter than in the

@@ -9,7 +9,7 @@ ghost use Rattle.micro_block.specs.inside.Stepping.{AreStepped, IsRule, steps_ab
 #[derive(Clone, Copy)]
 pub(crate) struct Product {
     /// What is multiplied by.
-    pub(crate) factor: u64,
+    pub(crate) factor: u32,
     /// By how many bits the product is shifted.
     pub(crate) shift: u32,
     /// What the numbers are below.
@@ -51,11 +51,11 @@ pub(crate) fn far_product(step: u64) -> Option<Product>
         return None;
     }
     let factor = ((1 << (31 + digits)) + step - 1) / step;
-    if factor > 1 << 32 {
+    if factor > 4294967295 {
         return None;
     }
     Some(Product {
-        factor,
+        factor: factor as u32,
         shift: 31 + digits,
         limit: 1 << 31,
     })
@@ -64,12 +64,12 @@ pub(crate) fn far_product(step: u64) -> Option<Product>
 /// The product for a step, for numbers whose product with it is below 2^32. It takes a division of
 /// numbers of 32 bits to make.
 fn near_product(step: u64) -> Product
-    requires { (0 < step) × (step ≤ 8589934592) }
+    requires { (2 ≤ step) × (step ≤ 8589934592) }
     ensures { IsProduct step result }
 {
     let factor = 4294967295 / step + 1;
     Product {
-        factor,
+        factor: factor as u32,
         shift: 32,
         limit: factor,
     }
@@ -142,7 +142,7 @@ fn multiplied(distance: u32, least: u32, half: u32, product: Product) -> u32
     requires step { IsProduct (2 * half) product }
     ensures { result ≡ steps_above (2 * half) least distance }
 {
-    ((u64::from(distance - least + half) * product.factor) >> product.shift) as u32
+    ((u64::from(distance - least + half) * u64::from(product.factor)) >> product.shift) as u32
 }
 
 /// The number of steps, by a division.

@@ -2,7 +2,7 @@
 
 ghost use Rattle.std.specs.Prelude.{◌≡◌, ◌≢◌, ◌+◌, ◌*◌, ◌<◌, ◌≤◌, ◌≤ℤ◌, ◌∷◌, [], ◌++◌, ℕ, ℤ, pos};
 ghost use Rattle.std.specs.Prelude.{All, Some, length, map, get_or, take, drop, IsTrue, ◌↔◌};
-ghost use Rattle.bit_stuff.specs.Simple.{simple_bytes};
+ghost use Rattle.bit_stuff.specs.Simple.{greatest_number, simple_bytes};
 ghost use Rattle.lut_stuff.specs.Tables.{table_bytes, table_size};
 ghost use Rattle.raster_values.specs.Distance.{IsDistance, value_above};
 ghost use Rattle.raster_values.specs.PixelType.{InRange, bytes_of};
@@ -23,7 +23,7 @@ use crate::distances::{distances_of, value_of};
 use crate::sizes::narrow_type;
 use crate::spreading::{Spread, spread_of};
 use crate::stepping::{Rule, steps_each};
-use bit_stuff::write_simple;
+use bit_stuff::{digit_count, stuff, write_head};
 use lut_stuff::{table_len, write_table};
 use raster_values::PixelType;
 
@@ -70,7 +70,8 @@ fn write_offset(form: u8, col: u32, kind: PixelType, least: i64, out: &mut [u8])
 }
 
 /// Writes the bytes of the values that are so far above the least of the type.
-fn write_values(kind: PixelType, distances: &[u32], out: &mut [u8])
+#[inline(always)]
+fn write_each(kind: PixelType, distances: &[u32], out: &mut [u8])
     requires room { length out.old ≡ length distances.now * bytes_of kind }
     requires in_range { All (IsDistance kind) distances.now }
     ensures { out.new ≡ values_bytes kind (values_above kind distances.now) }
@@ -78,6 +79,22 @@ fn write_values(kind: PixelType, distances: &[u32], out: &mut [u8])
     let size = kind.bytes();
     for (i, distance) in distances.iter().enumerate() {
         kind.write_value(value_of(kind, *distance), &mut out[i * size..]);
+    }
+}
+
+/// The same, by a loop for each type.
+fn write_values(kind: PixelType, distances: &[u32], out: &mut [u8])
+    requires room { length out.old ≡ length distances.now * bytes_of kind }
+    requires in_range { All (IsDistance kind) distances.now }
+    ensures { out.new ≡ values_bytes kind (values_above kind distances.now) }
+{
+    match kind {
+        PixelType::I8 => write_each(PixelType::I8, distances, out),
+        PixelType::U8 => write_each(PixelType::U8, distances, out),
+        PixelType::I16 => write_each(PixelType::I16, distances, out),
+        PixelType::U16 => write_each(PixelType::U16, distances, out),
+        PixelType::I32 => write_each(PixelType::I32, distances, out),
+        PixelType::U32 => write_each(PixelType::U32, distances, out),
     }
 }
 
@@ -108,39 +125,39 @@ fn write_raw(distances: &[u32], col: u32, kind: PixelType, out: &mut [u8])
     write_values(kind, distances, &mut out[1..]);
 }
 
-/// Writes the list of the numbers of steps in the simple form, with room for the numbers.
-fn write_simple_steps(
-    distances: &[u32],
-    least: u32,
-    rule: Rule,
-    step: u64,
-    qs: &mut [u32],
-    out: &mut [u8],
-)
+/// Writes the list of the numbers of steps in the simple form, with room for the numbers. The
+/// greatest of them, which is known, tells the width.
+fn write_simple_steps(distances: &[u32], spread: Spread, step: u64, qs: &mut [u32], out: &mut [u8])
     requires lengths { length qs.old ≡ length distances.now }
-    requires listable { AreListable step least rule distances.now }
+    requires listable { AreListable step spread.least spread.rule distances.now }
+    requires most { spread.most
+        ≡ greatest_number (map (steps_above step spread.least) distances.now) }
     requires room { length out.old
-        ≡ length (simple_bytes (map (steps_above step least) distances.now)) }
-    ensures { out.new ≡ simple_bytes (map (steps_above step least) distances.now) }
+        ≡ length (simple_bytes (map (steps_above step spread.least) distances.now)) }
+    ensures { out.new ≡ simple_bytes (map (steps_above step spread.least) distances.now) }
 {
-    steps_each(distances, least, rule, step, qs);
-    write_simple(qs, out);
+    steps_each(distances, spread.least, spread.rule, step, qs);
+    let width = digit_count(spread.most);
+    let used = write_head(width, false, qs.len() as u32, out);
+    stuff(qs, width, &mut out[used..]);
 }
 
 /// Writes the list of the numbers of steps in the simple form.
-fn write_simple_list(distances: &[u32], least: u32, rule: Rule, step: u64, out: &mut [u8])
-    requires listable { AreListable step least rule distances.now }
+fn write_simple_list(distances: &[u32], spread: Spread, step: u64, out: &mut [u8])
+    requires listable { AreListable step spread.least spread.rule distances.now }
+    requires most { spread.most
+        ≡ greatest_number (map (steps_above step spread.least) distances.now) }
     requires room { length out.old
-        ≡ length (simple_bytes (map (steps_above step least) distances.now)) }
-    ensures { out.new ≡ simple_bytes (map (steps_above step least) distances.now) }
+        ≡ length (simple_bytes (map (steps_above step spread.least) distances.now)) }
+    ensures { out.new ≡ simple_bytes (map (steps_above step spread.least) distances.now) }
 {
     let count = distances.len();
     if count <= 64 {
         let mut qs = [0; 64];
-        write_simple_steps(distances, least, rule, step, &mut qs[..count], out);
+        write_simple_steps(distances, spread, step, &mut qs[..count], out);
     } else {
         let mut qs = [0; 256];
-        write_simple_steps(distances, least, rule, step, &mut qs[..count], out);
+        write_simple_steps(distances, spread, step, &mut qs[..count], out);
     }
 }
 
@@ -201,9 +218,8 @@ fn write_simple_form(distances: &[u32], ctx: &BlockCtx, spread: Spread, out: &mu
     ensures { let values = values_above ctx.now.kind distances.now in
         out.new ≡ form_bytes ctx.now.kind ctx.now.col ctx.now.step values choice.simple }
 {
-    let (least, rule) = (spread.least, spread.rule);
-    let used = write_offset(1, ctx.col, ctx.kind, value_of(ctx.kind, least), out);
-    write_simple_list(distances, least, rule, ctx.step, &mut out[used..]);
+    let used = write_offset(1, ctx.col, ctx.kind, value_of(ctx.kind, spread.least), out);
+    write_simple_list(distances, spread, ctx.step, &mut out[used..]);
 }
 
 /// Writes the form with a table over the front of `out`; how many bytes it takes.

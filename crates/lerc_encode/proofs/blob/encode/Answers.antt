@@ -1,21 +1,8 @@
-use Rattle.std.proofs.Common.{◌≡◌, ℕ, ◌<◌, ◌≤◌, sym, ◌∙◌, subst, List, length, arith, Bool, true, false, ◌⊎◌, inl, inr}
-use Rattle.std.specs.Prelude.{IsTrue, ◌↔◌}
-use Rattle.std.proofs.lemmas.Bool.{cases_lt}
-use Rattle.raster_values.specs.Raster.{Pixels, IsRaster}
-use Rattle.lerc_header.specs.Head.{IsTwiceError}
-use Rattle.lerc_header.specs.declared.header.Version.{Version}
-use Rattle.lerc_header.specs.declared.header.Version.TheVariants.{V3}
-use Rattle.lerc_encode.specs.Encoded.{Declares, IsAsked, IsEncodedOnce}
+use Rattle.std.proofs.Common.{ℕ, ◌≤◌, sym, ◌∙◌, subst, List, length}
+use Rattle.lerc_encode.specs.Encoded.{Declares, IsEncodedOnce}
+use Rattle.lerc_encode.proofs.Asked.{asked_of}
 use Rattle.lerc_encode.proofs.Encoded.{declares, encoded_once, few}
 use Rattle.lerc_encode.proofs.blob.encode.Goals as goal
-
-asked_of : (r : Pixels) (version : Version) (step : ℕ) (b : Bool) → IsRaster r → IsTwiceError step → b ≡ false → (IsTrue b ↔ ((version ≡ V3) × (1 < r.depth))) → IsAsked r version step
-asked_of r version step b is allowed off tells =
-    record { sound = is; step_allowed = allowed; flat = λ three. by three (cases_lt 1 r.depth) }
-  where
-    by : version ≡ V3 → (1 < r.depth) ⊎ (r.depth ≤ 1) → r.depth ≡ 1
-    by three (inl more) = absurd (let t : b ≡ true = tells.1 (three, more) in cc)
-    by three (inr low) = let some = is.shape.depth_above in omega (arith, low, some)
 
 pub blob_of-requires : goal.blob_of-requires
 blob_of-requires c =

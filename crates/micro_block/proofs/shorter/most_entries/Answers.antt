@@ -1,15 +1,21 @@
-use Rattle.std.proofs.Common.{arith}
-use Rattle.micro_block.proofs.ShortTables.{long_all, long_found, long_more, long_start}
+use Rattle.std.proofs.Common.{◌≡◌, ◌<◌, ℕ, true, refl, sym, subst, arith}
+use Rattle.micro_block.specs.declared.shorter.TheConstants.{MOST_OF_64, MOST_OF_256}
+use Rattle.micro_block.specs.inside.Shorter.{IsLong}
+use Rattle.micro_block.proofs.KeptBounds.{all_long, from_first}
 use Rattle.micro_block.proofs.shorter.most_entries.Goals as goal
 
-pub loop-i-init : goal.loop-i-init
-loop-i-init c = long_start c.args.count c.args.width
+tested_64 : all_long 64 0 MOST_OF_64 ≡ true
+tested_64 = refl
 
-pub returns-in-Some-clause-long : goal.returns-in-Some-clause-long
-returns-in-Some-clause-long c = long_found c.args.count c.args.width c.loop-i.i c.in-Some.most (omega arith) c.loop-i.invariant c.in-Some.ensures
+tested_256 : all_long 256 0 MOST_OF_256 ≡ true
+tested_256 = refl
 
-pub loop-i-preserved : goal.loop-i-preserved
-loop-i-preserved c = long_more c.args.count c.args.width c.loop-i.i (omega arith) c.loop-i.invariant c.in_default.ensures
+pub returns-in-64-clause-long : goal.returns-in-64-clause-long
+returns-in-64-clause-long c d above few =
+    subst (λ (n : ℕ). IsLong n c.args.width d) (sym c.in-64.is)
+    (from_first 64 MOST_OF_64 c.args.width d tested_64 (let le = c.requires.width.1 in omega (arith, le)) (subst (λ (n : ℕ). n < d) c.from.ensures above) few)
 
-pub returns-clause-long : goal.returns-clause-long
-returns-clause-long c = long_all c.args.count c.args.width c.loop-i.i (omega arith) (omega arith) c.loop-i.invariant
+pub returns-in-256-clause-long : goal.returns-in-256-clause-long
+returns-in-256-clause-long c d above few =
+    subst (λ (n : ℕ). IsLong n c.args.width d) (sym c.in-256.is)
+    (from_first 256 MOST_OF_256 c.args.width d tested_256 (let le = c.requires.width.1 in omega (arith, le)) (subst (λ (n : ℕ). n < d) c.from-in-256.ensures above) few)

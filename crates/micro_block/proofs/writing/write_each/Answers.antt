@@ -13,7 +13,7 @@ use Rattle.raster_values.proofs.Pack.{value_put}
 use Rattle.micro_block.specs.inside.Stepping.{values_above}
 use Rattle.micro_block.proofs.Above.{above_in_range}
 use Rattle.micro_block.proofs.Range.{reread}
-use Rattle.micro_block.proofs.writing.write_values.Goals as goal
+use Rattle.micro_block.proofs.writing.write_each.Goals as goal
 
 -- the value as the code reads it again
 again : (kind : PixelType) (z : ℤ) (d : ℕ) → z ≡ value_above kind d → IsDistance kind d → to_z w64 (of_z w64 z) ≡ value_above kind d
