@@ -101,22 +101,10 @@ count_of_rows kind rows cols depth marks values row col side zeros size below =
 pub count_is : (a : Inside) (row col side n : ℕ) → IsInside a → n ≡ length (rows_places a.marks a.cols row col (min side (a.rows - row)) (min side (a.cols - col))) → n ≡ block_count (seen a) row col side
 count_is a row col side n h found = found ∙ sym (count_of_rows a.values.kind a.rows a.cols a.depth a.marks a.values.values row col side h.zeros h.marks h.shape.depth_above)
 
-pub gathered_is : (a : Inside) (row col side d n : ℕ) (old new : List ℤ) → IsInside a → d < a.depth
-    → Gathers (rows_values a.depth d a.marks a.values.values a.cols row col (min side (a.rows - row)) (min side (a.cols - col))) old new 0 n
-    → (n ≡ block_count (seen a) row col side) × (new ≡ block_values (seen a) row col side d ++ drop (block_count (seen a) row col side) old)
-gathered_is a row col side d n old new h below g =
-    let r = seen a in
-    let same : block_values r row col side d ≡ rows_values a.depth d a.marks a.values.values a.cols row col (min side (a.rows - row)) (min side (a.cols - col)) =
-    block_of_rows a.values.kind a.rows a.cols a.depth a.marks a.values.values row col side d h.zeros h.marks below in
-    let bare : n ≡ length (rows_values a.depth d a.marks a.values.values a.cols row col (min side (a.rows - row)) (min side (a.cols - col))) = omega (arith, g.ends) in
-    let count : n ≡ block_count r row col side = bare ∙ ap length (sym same) ∙ has_count r row col side d in
-    (count, sym (take-append-drop n new) ∙ ap (λ t. t ++ drop n new) (g.front ∙ sym same) ∙ ap (λ t. block_values r row col side d ++ t) (g.rest ∙ ap (λ m. drop m old) count))
-
--- the same of something that each value gives
-pub gathered_as : {X : Type 0} (g : ℤ → X) (a : Inside) (row col side d n : ℕ) (old new : List X) → IsInside a → d < a.depth
+pub gathered_is : {X : Type 0} (g : ℤ → X) (a : Inside) (row col side d n : ℕ) (old new : List X) → IsInside a → d < a.depth
     → Gathers (map g (rows_values a.depth d a.marks a.values.values a.cols row col (min side (a.rows - row)) (min side (a.cols - col)))) old new 0 n
     → (n ≡ block_count (seen a) row col side) × (new ≡ map g (block_values (seen a) row col side d) ++ drop (block_count (seen a) row col side) old)
-gathered_as g a row col side d n old new h below gathers =
+gathered_is g a row col side d n old new h below gathers =
     let r = seen a in
     let rows = rows_values a.depth d a.marks a.values.values a.cols row col (min side (a.rows - row)) (min side (a.cols - col)) in
     let same : block_values r row col side d ≡ rows = block_of_rows a.values.kind a.rows a.cols a.depth a.marks a.values.values row col side d h.zeros h.marks below in

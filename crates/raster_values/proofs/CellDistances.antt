@@ -13,7 +13,7 @@ use Rattle.lane_kernels.specs.Kernels.{IsLeast, IsGreatest}
 use Rattle.byteorder.specs.Endian.{little_number}
 use Rattle.raster_values.specs.declared.cells.Cells.TheInside.{Inside}
 use Rattle.raster_values.specs.declared.kind.PixelType.{PixelType}
-use Rattle.raster_values.specs.PixelType.{InRange, bytes_of, type_least, value_of}
+use Rattle.raster_values.specs.PixelType.{InRange, bytes_of, value_of}
 use Rattle.raster_values.specs.Grid.{values_bytes}
 use Rattle.raster_values.specs.Distance.{distance_of, value_above}
 use Rattle.raster_values.specs.inside.CellList.{CellList}

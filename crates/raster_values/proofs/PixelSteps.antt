@@ -132,24 +132,12 @@ gathers_piece piece old n next is within =
       rest = ap (drop next) joined ∙ drop_at (take n old ++ piece) (drop next old) next both;
     }
 
--- the values of a run of marked pixels gathered behind those before it
-pub gather_piece : (depth d : ℕ) (marks : List Bool) (values first out piece : List ℤ) (from k start stop at n next : ℕ) → from ≤ k → AreRuns marks k start stop
-    → next ≡ n + (stop - start) → next ≤ length out → piece ≡ map (λ j. get_or values (j * depth + d) (pos 0)) (range_with_len start (stop - start))
-    → Gathers (run_values depth d marks values from (k - from)) first out at n
-    → Gathers (run_values depth d marks values from (stop - from)) first (put_mid n (next - n) out piece) at next
-gather_piece depth d marks values first out piece from k start stop at n next low runs is within cut before =
-    let f : ℕ → ℤ = λ j. get_or values (j * depth + d) (pos 0) in
-    let long : length piece ≡ stop - start = ap length cut ∙ length-map-range_with_len f start (stop - start) in
-    let one : Gathers piece out (put_mid n (next - n) out piece) n next = gathers_piece piece out n next (omega (arith, is, long)) within in
-    subst (λ vs. Gathers vs first (put_mid n (next - n) out piece) at next) (ap (λ vs. run_values depth d marks values from (k - from) ++ vs) cut ∙ sym (values_run depth d marks values from k start stop low runs))
-    (gathers_join (run_values depth d marks values from (k - from)) piece first out (put_mid n (next - n) out piece) at n next before one)
-
--- the same of something that each value gives
-pub gather_piece_as : {X : Type 0} (g : ℤ → X) (depth d : ℕ) (marks : List Bool) (values : List ℤ) (first out piece : List X) (from k start stop at n next : ℕ) → from ≤ k → AreRuns marks k start stop
+-- what the values of a run of marked pixels give, gathered behind what those before it give
+pub gather_piece : {X : Type 0} (g : ℤ → X) (depth d : ℕ) (marks : List Bool) (values : List ℤ) (first out piece : List X) (from k start stop at n next : ℕ) → from ≤ k → AreRuns marks k start stop
     → next ≡ n + (stop - start) → next ≤ length out → piece ≡ map (λ j. g (get_or values (j * depth + d) (pos 0))) (range_with_len start (stop - start))
     → Gathers (map g (run_values depth d marks values from (k - from))) first out at n
     → Gathers (map g (run_values depth d marks values from (stop - from))) first (put_mid n (next - n) out piece) at next
-gather_piece_as g depth d marks values first out piece from k start stop at n next low runs is within cut before =
+gather_piece g depth d marks values first out piece from k start stop at n next low runs is within cut before =
     let f : ℕ → ℤ = λ j. get_or values (j * depth + d) (pos 0) in
     let long : length piece ≡ stop - start = ap length cut ∙ length-map-range_with_len (λ j. g (f j)) start (stop - start) in
     let one : Gathers piece out (put_mid n (next - n) out piece) n next = gathers_piece piece out n next (omega (arith, is, long)) within in

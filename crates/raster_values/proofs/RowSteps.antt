@@ -41,18 +41,10 @@ count_more marks cols row col h wide n found before here =
     let e : length (rows_places marks cols row col (h + 1) wide) ≡ length (rows_places marks cols row col h wide) + length (f (row + h)) = ap length (pieces_more f row h) ∙ length-append (flat_map f (range_with_len row h)) (f (row + h)) in
     omega (arith, e)
 
-pub gather_more : (depth d : ℕ) (marks : List Bool) (values old mid new : List ℤ) (cols row col h wide n end : ℕ)
-    → Gathers (rows_values depth d marks values cols row col h wide) old mid 0 n → Gathers (run_values depth d marks values ((row + h) * cols + col) wide) mid new n end
-    → Gathers (rows_values depth d marks values cols row col (h + 1) wide) old new 0 end
-gather_more depth d marks values old mid new cols row col h wide n end before here =
-    let f : ℕ → List ℤ = λ i. run_values depth d marks values (i * cols + col) wide in
-    subst (λ vs. Gathers vs old new 0 end) (sym (pieces_more f row h)) (gathers_join (rows_values depth d marks values cols row col h wide) (f (row + h)) old mid new 0 n end before here)
-
--- the same of something that each value gives
-pub gather_more_as : {X : Type 0} (g : ℤ → X) (depth d : ℕ) (marks : List Bool) (values : List ℤ) (old mid new : List X) (cols row col h wide n end : ℕ)
+pub gather_more : {X : Type 0} (g : ℤ → X) (depth d : ℕ) (marks : List Bool) (values : List ℤ) (old mid new : List X) (cols row col h wide n end : ℕ)
     → Gathers (map g (rows_values depth d marks values cols row col h wide)) old mid 0 n → Gathers (map g (run_values depth d marks values ((row + h) * cols + col) wide)) mid new n end
     → Gathers (map g (rows_values depth d marks values cols row col (h + 1) wide)) old new 0 end
-gather_more_as g depth d marks values old mid new cols row col h wide n end before here =
+gather_more g depth d marks values old mid new cols row col h wide n end before here =
     let f : ℕ → List ℤ = λ i. run_values depth d marks values (i * cols + col) wide in
     let rows = rows_values depth d marks values cols row col h wide in
     subst (λ vs. Gathers vs old new 0 end) (sym (ap (map g) (pieces_more f row h) ∙ map-append g rows (f (row + h))))

@@ -10,43 +10,10 @@ use super::cells::{Cells, by_kind};
 use super::kind::PixelType;
 use super::mask::{Mask, Run};
 
-/// Puts the values of the marked pixels among `count` from `from` on behind the first `at` values
-/// of `out`, and answers where they end.
-fn gather_run(
-    marks: &Mask,
-    values: &Cells,
-    depth: usize,
-    d: usize,
-    from: usize,
-    count: usize,
-    out: &mut [i64],
-    at: usize,
-) -> usize
-    requires size { length values.now.values ≡ length marks.now * depth }
-    requires few { length values.now.values ≤ 16777216 }
-    requires within { from + count ≤ length marks.now }
-    requires depth { d < depth }
-    requires room { at + count ≤ length out.old }
-    ensures { Gathers
-        (run_values depth d marks.now values.now.values from count) out.old out.new at result }
-{
-    let end = from + count;
-    let mut n = at;
-    let mut k = from;
-    while k < end {
-        let run = marks.next_run(k, end);
-        let next = n + (run.end - run.start);
-        values.get_pixels(run.start, depth, d, &mut out[n..next]);
-        n = next;
-        k = run.end;
-    }
-    n
-}
-
 /// Puts the distances of the marked pixels among `count` from `from` on behind the first `at` of
 /// `out`, and answers where they end. The type is known before.
 #[inline(always)]
-fn gather_distance_run(
+fn gather_run(
     kind: PixelType,
     marks: &Mask,
     values: &Cells,
@@ -165,40 +132,8 @@ pub(super) fn count_rows(
     n
 }
 
-/// Puts the values of a block's marked pixels in front of `out`, and answers how many these are.
-pub(super) fn gather_rows(
-    marks: &Mask,
-    values: &Cells,
-    depth: usize,
-    d: usize,
-    cols: usize,
-    row: usize,
-    col: usize,
-    high: usize,
-    wide: usize,
-    out: &mut [i64],
-) -> usize
-    requires size { length values.now.values ≡ length marks.now * depth }
-    requires few { length values.now.values ≤ 16777216 }
-    requires across { col + wide ≤ cols }
-    requires rows { row + high ≤ length marks.now }
-    requires within { (row + high) * cols ≤ length marks.now }
-    requires depth { d < depth }
-    requires room { high * wide ≤ length out.old }
-    ensures gathered { Gathers
-        (rows_values depth d marks.now values.now.values cols row col high wide)
-        out.old out.new 0 result }
-    ensures within { result ≤ high * wide }
-{
-    let mut n = 0;
-    for i in row..row + high {
-        n = gather_run(marks, values, depth, d, i * cols + col, wide, out, n);
-    }
-    n
-}
-
 /// Puts the distances of a block's marked pixels in front of `out`, and answers how many these are.
-pub(super) fn gather_distance_rows(
+pub(super) fn gather_rows(
     marks: &Mask,
     values: &Cells,
     depth: usize,
@@ -230,7 +165,7 @@ pub(super) fn gather_distance_rows(
     ))
 }
 
-/// Does what `gather_distance_rows` does, for a type that is known before.
+/// Does what `gather_rows` does, for a type that is known before.
 #[inline(always)]
 fn gather_marked_rows(
     kind: PixelType,
@@ -261,7 +196,7 @@ fn gather_marked_rows(
     let mut n = 0;
     for i in row..row + high {
         let from = i * cols + col;
-        n = gather_distance_run(kind, marks, values, depth, d, from, wide, out, n);
+        n = gather_run(kind, marks, values, depth, d, from, wide, out, n);
     }
     n
 }

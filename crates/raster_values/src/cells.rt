@@ -17,9 +17,6 @@ use outside_io::{Failed, Source, take_all};
 use std::alloc::{AllocError, Global};
 use std::marker::Model;
 
-/// How many bytes 0 are laid down at once.
-const BLOCK: usize = 4096;
-
 /// How many values are laid down at once where one list is repeated.
 const SPAN: usize = 8192;
 
@@ -126,13 +123,7 @@ fn repeat_bytes(bytes: &mut Vec<u8>, from: usize, end: usize, to: usize)
 fn zeros(alloc: Global, count: usize) -> Result<Vec<u8>, AllocError>
     ensures { IfOk result (λ bytes. bytes.items ≡ replicate count 0) }
 {
-    let block = [0u8; BLOCK];
-    let mut bytes = Vec::with_capacity(alloc, count)?;
-    while bytes.len() < count {
-        let some = BLOCK.min(count - bytes.len());
-        bytes.extend_from_slice(&block[..some])?;
-    }
-    Ok(bytes)
+    vec![in alloc; 0u8; count]
 }
 
 /// Lays the bytes of values over the front.

@@ -312,33 +312,6 @@ impl Raster {
         )
     }
 
-    /// Puts the values at a depth of a block's valid pixels in front of `out`, row by row, and
-    /// answers how many these are. The rest of `out` stays.
-    pub fn gather_block(&self, row: u32, col: u32, side: u32, d: u32, out: &mut [i64]) -> usize
-        requires place { InShape self.now row col }
-        requires depth { d < self.now.depth }
-        requires room { side * side ≤ length out.old }
-        ensures count { result ≡ block_count self.now row col side }
-        ensures within { result ≤ side * side }
-        ensures values { out.new ≡ block_values self.now row col side d
-            ++ drop (block_count self.now row col side) out.old }
-    {
-        let high = edge(side, row, self.rows);
-        let wide = edge(side, col, self.cols);
-        blocks::gather_rows(
-            &self.marks,
-            &self.values,
-            self.depth as usize,
-            d as usize,
-            self.cols as usize,
-            row as usize,
-            col as usize,
-            high as usize,
-            wide as usize,
-            out,
-        )
-    }
-
     /// Puts the values at a depth of a block's valid pixels in front of `out`, row by row and each
     /// by how far it is above the type's least, and answers how many these are. The rest of `out`
     /// stays.
@@ -354,7 +327,7 @@ impl Raster {
     {
         let high = edge(side, row, self.rows);
         let wide = edge(side, col, self.cols);
-        blocks::gather_distance_rows(
+        blocks::gather_rows(
             &self.marks,
             &self.values,
             self.depth as usize,

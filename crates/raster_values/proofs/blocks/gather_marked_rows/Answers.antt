@@ -1,10 +1,10 @@
-use Rattle.std.proofs.Common.{◌≡◌, ◌≤◌, ◌+◌, ◌-◌, ◌*◌, ℕ, map, arith, sym, subst}
+use Rattle.std.proofs.Common.{◌≡◌, ◌≤◌, ◌+◌, ◌-◌, ◌*◌, ℕ, map, arith, subst}
 use Rattle.std.specs.Prelude.{ℤ}
 use Rattle.std.proofs.lemmas.List.{length-map}
 use Rattle.raster_values.specs.Distance.{distance_of}
 use Rattle.raster_values.specs.inside.Runs.{run_values, rows_values, Gathers}
 use Rattle.raster_values.proofs.RunSteps.{length_places, length_values}
-use Rattle.raster_values.proofs.RowSteps.{gather_more_as}
+use Rattle.raster_values.proofs.RowSteps.{gather_more}
 use Rattle.raster_values.proofs.blocks.gather_marked_rows.Goals as goal
 
 pub loop-i-preserved : goal.loop-i-preserved
@@ -13,14 +13,14 @@ loop-i-preserved c =
     let h = c.loop-i.i - c.args.row in
     let at : c.loop-i.i ≡ c.args.row + h = omega arith in
     let next : h + 1 ≡ c.loop-i.i + 1 - c.args.row = omega arith in
-    let end = c.gather_distance_run-n.result in
-    let new = c.gather_distance_run-n.new.out in
+    let end = c.gather_run-n.result in
+    let new = c.gather_run-n.new.out in
     let run = run_values c.args.depth c.args.d c.args.marks.now c.args.values.now.values ((c.args.row + h) * c.args.cols + c.args.col) c.args.wide in
     let here : Gathers (map g run) c.loop-i.out new c.loop-i.n end =
-    subst (λ i. Gathers (map g (run_values c.args.depth c.args.d c.args.marks.now c.args.values.now.values (i * c.args.cols + c.args.col) c.args.wide)) c.loop-i.out new c.loop-i.n end) at c.gather_distance_run-n.ensures in
+    subst (λ i. Gathers (map g (run_values c.args.depth c.args.d c.args.marks.now c.args.values.now.values (i * c.args.cols + c.args.col) c.args.wide)) c.loop-i.out new c.loop-i.n end) at c.gather_run-n.ensures in
     record {
       gathered = subst (λ m. Gathers (map g (rows_values c.args.depth c.args.d c.args.marks.now c.args.values.now.values c.args.cols c.args.row c.args.col m c.args.wide)) c.args.out.now new 0 end) next
-          (gather_more_as g c.args.depth c.args.d c.args.marks.now c.args.values.now.values c.args.out.now c.loop-i.out new c.args.cols c.args.row c.args.col h c.args.wide c.loop-i.n end c.loop-i.invariant.gathered here);
+          (gather_more g c.args.depth c.args.d c.args.marks.now c.args.values.now.values c.args.out.now c.loop-i.out new c.args.cols c.args.row c.args.col h c.args.wide c.loop-i.n end c.loop-i.invariant.gathered here);
       within = subst (λ m. end ≤ m * c.args.wide) next (let w : end ≤ (h + 1) * c.args.wide =
           omega (
             arith,

@@ -1,27 +1,13 @@
-use Rattle.std.proofs.Common.{◌≡◌, ◌≤◌, ◌+◌, ◌-◌, ◌*◌, arith, subst}
-use Rattle.raster_values.specs.inside.Runs.{run_values, rows_values, Gathers}
-use Rattle.raster_values.proofs.RunSteps.{length_places, length_values}
-use Rattle.raster_values.proofs.RowSteps.{gather_more}
+use Rattle.std.proofs.Common.{ℕ, map, sym, subst}
+use Rattle.std.specs.Prelude.{ℤ}
+use Rattle.raster_values.specs.Distance.{distance_of}
+use Rattle.raster_values.specs.inside.Runs.{Gathers}
+use Rattle.raster_values.proofs.CellDistances.{rows_are_whole}
 use Rattle.raster_values.proofs.blocks.gather_rows.Goals as goal
 
-pub loop-i-preserved : goal.loop-i-preserved
-loop-i-preserved c =
-    let h = c.loop-i.i - c.args.row in
-    let at : c.loop-i.i ≡ c.args.row + h = omega arith in
-    let next : h + 1 ≡ c.loop-i.i + 1 - c.args.row = omega arith in
-    let end = c.gather_run-n.result in
-    let new = c.gather_run-n.new.out in
-    let here : Gathers (run_values c.args.depth c.args.d c.args.marks.now c.args.values.now.values ((c.args.row + h) * c.args.cols + c.args.col) c.args.wide) c.loop-i.out new c.loop-i.n end =
-    subst (λ i. Gathers (run_values c.args.depth c.args.d c.args.marks.now c.args.values.now.values (i * c.args.cols + c.args.col) c.args.wide) c.loop-i.out new c.loop-i.n end) at c.gather_run-n.ensures in
-    record {
-      gathered = subst (λ m. Gathers (rows_values c.args.depth c.args.d c.args.marks.now c.args.values.now.values c.args.cols c.args.row c.args.col m c.args.wide) c.args.out.now new 0 end) next
-          (gather_more c.args.depth c.args.d c.args.marks.now c.args.values.now.values c.args.out.now c.loop-i.out new c.args.cols c.args.row c.args.col h c.args.wide c.loop-i.n end c.loop-i.invariant.gathered here);
-      within = subst (λ m. end ≤ m * c.args.wide) next (let w : end ≤ (h + 1) * c.args.wide =
-          omega (
-            arith,
-            c.loop-i.invariant.within,
-            here.ends,
-            length_values c.args.depth c.args.d c.args.marks.now c.args.values.now.values ((c.args.row + h) * c.args.cols + c.args.col) c.args.wide,
-            length_places c.args.marks.now ((c.args.row + h) * c.args.cols + c.args.col) c.args.wide,
-          ) in w);
-    }
+pub returns-then-is_whole-clause-gathered : goal.returns-then-is_whole-clause-gathered
+returns-then-is_whole-clause-gathered c =
+    let g : ℤ → ℕ = distance_of c.args.values.now.kind in
+    subst (λ vs. Gathers (map g vs) c.args.out.now c.get_rows.new.out 0 c.get_rows.result)
+    (sym (rows_are_whole c.args.depth c.args.d c.args.marks.now c.args.values.now.values c.args.cols c.args.row c.args.col c.args.high c.args.wide (c.is_whole.ensures c.if-is_whole.true) c.requires.across c.requires.within))
+    c.get_rows.ensures.gathered

@@ -2,6 +2,7 @@ use Rattle.std.proofs.Common.{◌≡◌, ◌≤◌, ◌+◌, ◌-◌, ◌*◌, �
 use Rattle.std.specs.Prelude.{ℤ, pos}
 use Rattle.std.specs.List.{range_with_len}
 use Rattle.std.proofs.lemmas.List.{length-take-le, length-drop}
+use Rattle.raster_values.specs.Distance.{distance_of}
 use Rattle.raster_values.proofs.PixelSteps.{gather_piece}
 use Rattle.raster_values.proofs.blocks.gather_run.Goals as goal
 
@@ -23,6 +24,6 @@ loop-k-preserved c =
       low = omega (arith, runs.first, runs.second, c.loop-k.invariant.low);
       high = c.next_run-run.ensures.within;
       within = omega (arith, c.loop-k.invariant.within, runs.first, runs.second, c.loop-k.invariant.low);
-      gathered = gather_piece depth d c.args.marks.now values c.args.out.now c.loop-k.out c.get_pixels.new.out c.args.from k start stop c.args.at n next c.loop-k.invariant.low runs (let e : next ≡ n + (stop - start) = omega arith in e) fits
-          (c.get_pixels.ensures ∙ ap (λ j. map f (range_with_len start j)) size) c.loop-k.invariant.gathered;
+      gathered = gather_piece (distance_of c.args.values.now.kind) depth d c.args.marks.now values c.args.out.now c.loop-k.out c.get_distances_as.new.out c.args.from k start stop c.args.at n next c.loop-k.invariant.low runs (let e : next ≡ n + (stop - start) = omega arith in e) fits
+          (c.get_distances_as.ensures ∙ ap (λ j. map (λ i. distance_of c.args.values.now.kind (f i)) (range_with_len start j)) size) c.loop-k.invariant.gathered;
     }

@@ -1,4 +1,5 @@
-use Rattle.std.proofs.Common.{◌≤◌, ◌+◌, ◌-◌}
+use Rattle.std.proofs.Common.{◌≤◌, ◌+◌, ◌-◌, map}
+use Rattle.raster_values.specs.Distance.{distance_of}
 use Rattle.raster_values.specs.inside.Runs.{run_values, Gathers}
 use Rattle.raster_values.proofs.blocks.gather_run.Given as goal
 
@@ -7,7 +8,7 @@ invariant-loop-k l = record {
   low : l.from ≤ l.k;
   high : l.k ≤ l.end;
   within : l.n ≤ l.at + (l.k - l.from);
-  gathered : Gathers (run_values l.depth l.d l.marks l.values.values l.from (l.k - l.from)) l.initial.out l.out l.at l.n;
+  gathered : Gathers (map (distance_of l.values.kind) (run_values l.depth l.d l.marks l.values.values l.from (l.k - l.from))) l.initial.out l.out l.at l.n;
 }
 
 abbrev pub decreases-loop-k : goal.decreases-loop-k

@@ -1,8 +1,7 @@
-use Rattle.std.proofs.Common.{◌≡◌, ◌≤◌, ◌<◌, ◌+◌, ◌-◌, ◌*◌, ◌∙◌, ℕ, ap, List, refl, sym, subst, length, map, get_or, take, drop, arith, rules}
+use Rattle.std.proofs.Common.{◌≡◌, ◌≤◌, ◌+◌, ◌-◌, ◌*◌, ◌∙◌, ℕ, ap, List, refl, sym, subst, length, map, get_or, take, drop, arith, rules}
 use Rattle.std.specs.Prelude.{ℤ, pos}
 use Rattle.std.specs.List.{range_with_len}
 use Rattle.std.proofs.lemmas.List.{length-take-le, length-drop}
-use Rattle.std.proofs.Math.Nat.{mul-le-mul_right}
 use Rattle.raster_values.specs.Distance.{distance_of}
 use Rattle.raster_values.proofs.CellDistances.{next_row, row_fits, row_within, rows_pushed}
 use Rattle.raster_values.proofs.cells.Cells.get_lines_as.Goals as goal

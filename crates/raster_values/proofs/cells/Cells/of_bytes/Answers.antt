@@ -1,5 +1,4 @@
-use Rattle.std.proofs.Common.{◌≡◌, ◌∙◌, sym, length, arith, rules}
-use Rattle.raster_values.specs.Grid.{values_bytes}
+use Rattle.std.proofs.Common.{◌≡◌, ◌∙◌, sym, arith}
 use Rattle.raster_values.specs.inside.CellList.{values_in}
 use Rattle.raster_values.proofs.CellBytes.{are_cells, length-values_in}
 use Rattle.raster_values.proofs.Spelled.{AreBytes, bytes_of_values, values_fit}

@@ -1,8 +1,7 @@
 use Rattle.std.proofs.Common.{◌≡◌, ◌*◌, ◌∙◌, ap, length, replicate, true, false, arith}
 use Rattle.std.proofs.lemmas.List.{length-replicate}
-use Rattle.raster_values.specs.PixelType.{bytes_of}
 use Rattle.raster_values.specs.declared.raster.Raster.TheInside.{Inside}
-use Rattle.raster_values.specs.inside.CellList.{CellList, values_in}
+use Rattle.raster_values.specs.inside.CellList.{values_in}
 use Rattle.raster_values.specs.inside.View.{IsInside}
 use Rattle.raster_values.proofs.Spelled.{AreBytes}
 use Rattle.raster_values.proofs.Views.{sound}

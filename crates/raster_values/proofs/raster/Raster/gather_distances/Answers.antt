@@ -4,25 +4,25 @@ use Rattle.raster_values.specs.Raster.{Pixels}
 use Rattle.raster_values.specs.Block.{block_count, block_values}
 use Rattle.raster_values.specs.Distance.{distance_of}
 use Rattle.raster_values.specs.inside.Runs.{rows_values, Gathers}
-use Rattle.raster_values.proofs.BlockViews.{gathered_as}
+use Rattle.raster_values.proofs.BlockViews.{gathered_is}
 use Rattle.raster_values.proofs.raster.Raster.gather_distances.Goals as goal
 
-both : (c : goal.After-slice_known-2-1) → (c.gather_distance_rows.result ≡ block_count c.args.self.now c.args.row c.args.col c.args.side)
-    × (c.gather_distance_rows.new.out
+both : (c : goal.After-slice_known-2-1) → (c.gather_rows.result ≡ block_count c.args.self.now c.args.row c.args.col c.args.side)
+    × (c.gather_rows.new.out
     ≡ map (distance_of c.args.self.now.kind) (block_values c.args.self.now c.args.row c.args.col c.args.side c.args.d) ++ drop (block_count c.args.self.now c.args.row c.args.col c.args.side) c.args.out.now)
 both c =
     let a = c.self.inside in
     let g : ℤ → ℕ = distance_of a.values.kind in
-    let new = c.gather_distance_rows.new.out in
-    let n = c.gather_distance_rows.result in
+    let new = c.gather_rows.new.out in
+    let n = c.gather_rows.result in
     let gathers : Gathers (map g (rows_values a.depth c.args.d a.marks a.values.values a.cols c.args.row c.args.col (min c.args.side (a.rows - c.args.row)) (min c.args.side (a.cols - c.args.col)))) c.args.out.now new 0 n =
     subst (λ vs. Gathers (map g vs) c.args.out.now new 0 n)
     (ap (λ m. rows_values a.depth c.args.d a.marks a.values.values a.cols c.args.row c.args.col m c.edge-wide.result) c.edge-high.ensures
     ∙ ap (λ m. rows_values a.depth c.args.d a.marks a.values.values a.cols c.args.row c.args.col (min c.args.side (a.rows - c.args.row)) m) c.edge-wide.ensures)
-    c.gather_distance_rows.ensures.gathered in
+    c.gather_rows.ensures.gathered in
     subst (λ (r : Pixels). c.args.d < r.depth → (n ≡ block_count r c.args.row c.args.col c.args.side)
     × (new ≡ map (distance_of r.kind) (block_values r c.args.row c.args.col c.args.side c.args.d) ++ drop (block_count r c.args.row c.args.col c.args.side) c.args.out.now)) c.self.view_is
-    (λ below. gathered_as g a c.args.row c.args.col c.args.side c.args.d n c.args.out.now new c.self.invariant below gathers) c.requires.depth
+    (λ below. gathered_is g a c.args.row c.args.col c.args.side c.args.d n c.args.out.now new c.self.invariant below gathers) c.requires.depth
 
 pub returns-clause-count : goal.returns-clause-count
 returns-clause-count c = (both c).0
