@@ -11,8 +11,6 @@
 
 mod arguments;
 mod build;
-#[cfg(test)]
-mod build_tests;
 mod bundle;
 #[cfg(test)]
 mod bundle_tests;

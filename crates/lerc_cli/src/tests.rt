@@ -173,7 +173,6 @@ const ZERO: [u8; 19] = [
 pub(crate) struct Left {
     pub(crate) status: u8,
     pub(crate) marks: usize,
-    pub(crate) moments: Vec<u64>,
     pub(crate) out: MemSink,
     pub(crate) err: MemSink,
 }
@@ -217,14 +216,9 @@ pub(crate) fn left_over<V: Volume>(
     let mut out = MemSink::new(alloc, pieces.1, Bytes::of(alloc, failing.1)?, 100000)?;
     let mut err = MemSink::new(alloc, 100, Bytes::of(alloc, &[])?, 1000)?;
     let report = run(alloc, &list, &mut src, &mut out, &mut err, vol);
-    let mut moments = Vec::new(alloc);
-    for i in 0..report.marks.len() {
-        moments.push(report.marks.at(i))?;
-    }
     Ok(Left {
         status: report.status,
         marks: report.marks.len(),
-        moments,
         out,
         err,
     })
