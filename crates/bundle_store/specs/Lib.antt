@@ -1,3 +1,4 @@
+pub use Rattle.byteorder.specs.Endian
 pub use Rattle.bundle_index.specs.Entry
 pub use Rattle.bundle_index.specs.Header
 pub use Rattle.bundle_index.specs.Numbers

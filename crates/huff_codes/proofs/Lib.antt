@@ -28,7 +28,7 @@ pub mod Filling
 pub mod ChosenRuns
 pub mod ChosenTables
 pub mod Counted
-pub mod Tallies
+mod Tallies
 mod Pushing
 pub mod Once
 mod Lookups

@@ -1,4 +1,5 @@
 -- Codes, their lengths, tables and words; `inside` has the words of private functions.
+pub use Rattle.byteorder.specs.Endian
 pub mod Sums
 pub mod Bits
 pub mod Tree

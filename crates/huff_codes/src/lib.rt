@@ -1,8 +1,10 @@
-//! Code lengths, code tables and code words, read; the lengths and the codes that are chosen.
+//! Code lengths, code tables and code words, read and written; the lengths and the codes that are
+//! chosen.
 //!
-//! The crate stands on `bit_stuff` and `lut_stuff` for its lists, and takes no memory. What the
-//! layer above uses: bytes are read exactly where they begin with a table of codes, or with the
-//! words of some symbols, and else their first fault is told.
+//! The crate stands on `bit_stuff` and `lut_stuff` for its lists, and on `first_fault` and
+//! byteorder. It takes no memory. What the layer above uses: bytes are read exactly where they begin
+//! with a table of codes, or with the words of some symbols, and else their first fault is told; what
+//! is written of lengths and symbols is such a table and such words.
 #![tactic(auto)]
 
 mod chosen_table;

@@ -11,6 +11,8 @@
 
 mod arguments;
 mod build;
+#[cfg(test)]
+mod build_tests;
 mod bundle;
 #[cfg(test)]
 mod bundle_tests;

@@ -8,7 +8,7 @@ use outside_io::{MemVolume, Pick, Volume};
 use std::alloc::Global;
 use std::test::Fail;
 
-const PICKS: [Pick; 4] = [Pick::Oldest, Pick::Newest, Pick::Torn(0), Pick::Torn(255)];
+pub(crate) const PICKS: [Pick; 4] = [Pick::Oldest, Pick::Newest, Pick::Torn(0), Pick::Torn(255)];
 
 const LAST: [&str; 4] = ["get", "127", "127", "raw"];
 
@@ -73,7 +73,7 @@ fn a_failing_call_of_a_put_leaves_no_line(rt: HostRuntime) -> Result<(), Fail> {
 }
 
 /// One image of a moment.
-fn image(alloc: Global, vol: &MemVolume, moment: u64, pick: Pick) -> Result<MemVolume, Fail> {
+pub(crate) fn image(alloc: Global, vol: &MemVolume, moment: u64, pick: Pick) -> Result<MemVolume, Fail> {
     if moment > vol.moment() {
         return Err("moment".into());
     }

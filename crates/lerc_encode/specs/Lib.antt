@@ -1,3 +1,4 @@
+pub use Rattle.byteorder.specs.Endian
 pub mod Ranges
 pub mod Masks
 pub mod Heads

@@ -8,10 +8,10 @@ ghost use Rattle.lerc_encode.specs.inside.Choosing.{AreRanges, IsBase, IsChosen,
 
 use crate::blocks::{Measured, measure};
 use crate::codings::{Codings, coded_form_len, codings_of};
-use crate::first::first_least;
 use crate::forms::{ValueForm, block_form_len, sweep_len, with_large};
 use crate::ranging::Ranges;
 use lerc_header::{Header, Version};
+use micro_block::first_least;
 use raster_values::Raster;
 use std::alloc::{AllocError, Global};
 

@@ -5,7 +5,6 @@ mod blob;
 mod blocks;
 mod choosing;
 mod codings;
-mod first;
 mod forms;
 mod images;
 mod laws;

@@ -1,8 +1,8 @@
 //! Lists in both forms: the numbers themselves stuffed, or a table of the different ones and
 //! stuffed indexes into it.
 //!
-//! It stands on `bit_stuff` and takes no memory. The layer above uses one contract: a list is read
-//! exactly where the bytes begin with one, else its first fault is told.
+//! It stands on `bit_stuff`, `first_fault` and byteorder, and takes no memory. The layer above uses
+//! one contract: a list is read exactly where the bytes begin with one, else its first fault is told.
 #![tactic(auto)]
 
 mod laws;

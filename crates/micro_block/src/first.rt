@@ -5,7 +5,7 @@ ghost use Rattle.micro_block.specs.Fewest.{IsFirstLeast, former_of};
 
 /// The place of the first of the least sizes, of those that are there, and that size. None where
 /// none is there.
-pub(crate) fn first_least(sizes: &[Option<usize>]) -> Option<(usize, usize)>
+pub fn first_least(sizes: &[Option<usize>]) -> Option<(usize, usize)>
     ensures { MatchOption result ((i n : ℕ) → get_or sizes.now i None ≡ Some n → ⊥)
         (λ p. IsFirstLeast (λ m. m) sizes.now p.0 p.1) }
 {

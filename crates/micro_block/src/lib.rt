@@ -1,8 +1,8 @@
 //! Micro blocks: the values of one depth of a few rows and columns, raw, as numbers of steps from
 //! an offset, or all alike.
 //!
-//! The crate stands on `raster_values`, `bit_stuff`, `lut_stuff` and `lane_kernels`, and takes no
-//! memory. The layer above uses one contract: bytes are a block of these values, both ways.
+//! The crate stands on `raster_values`, `bit_stuff`, `lut_stuff`, `lane_kernels`, `first_fault` and
+//! byteorder, and takes no memory. The layer above uses one contract: bytes are a block of these values, both ways.
 #![tactic(auto)]
 
 mod choosing;
@@ -20,6 +20,7 @@ mod writing;
 
 pub use choosing::{BlockSize, block_len, block_size};
 pub use context::{BlockCtx, BlockFault, BlockReason};
+pub use first::first_least;
 pub use laws::{
     block_values_are_in_range, blocks_stand_or_have_one_fault, first_least_is_first,
     written_blocks_stand,

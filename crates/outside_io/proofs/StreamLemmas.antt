@@ -1,4 +1,4 @@
 -- Lemmas for who takes from sources and gives to sinks.
-pub mod Counts
+mod Counts
 pub mod Gives
 pub mod Takes

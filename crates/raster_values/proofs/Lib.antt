@@ -35,5 +35,5 @@ pub mod GridDecided
 mod Repeats
 mod AllCells
 pub mod Distances
-pub mod Ranges
+mod Ranges
 mod CellDistances

@@ -1,4 +1,5 @@
 -- What contracts of this crate cite.
+pub use Rattle.byteorder.specs.Endian
 pub use Rattle.outside_io.specs.streams.Faults.{CountsFaults}
 pub use Rattle.outside_io.specs.streams.Sink.{Holds, HoldsPrefix}
 pub mod PixelType

@@ -367,7 +367,9 @@ impl Cells {
             (whole_rows depth d self.now.values cols row col high wide)) out.old out.new 0 result }
         ensures all { result ≡ high * wide }
     {
-        by_kind!(self.kind, kind => self.get_rows_as(kind, depth, d, cols, row, col, high, wide, out))
+        by_kind!(self.kind, kind => {
+            self.get_rows_as(kind, depth, d, cols, row, col, high, wide, out)
+        })
     }
 
     /// Does what `get_rows` does, for a type that is known before, and for rows of eight pixels as
