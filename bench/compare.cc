@@ -105,6 +105,7 @@ std::vector<Case> cases() {
         int64_t a = int64_t(smooth(21, i, j, 60) * 9), b = int64_t(smooth(22, i, j, 90) * 9);
         return double(mix(uint64_t(a * 16 + b)) % 40);
     };
+    auto far_apart = [](uint32_t i, uint32_t j) { return double(mix(1 + mix(uint64_t(i) * 65536 + j) % 40) >> 34); };
     std::vector<Raster> tiles;
     for (uint32_t t = 0; t < 16; t++)
         tiles.push_back(masked(made<int16_t>(FUTSKHERI_I16, 257, 257,
@@ -118,6 +119,7 @@ std::vector<Case> cases() {
         {"noise i32 2048x2048, lossless", 0, {made<int32_t>(FUTSKHERI_I32, 2048, 2048, noise)}},
         {"16 tiles i16 257x257, masks, error 1", 1, tiles},
         {"40 classes u8 4096x4096, lossless", 0, {made<uint8_t>(FUTSKHERI_U8, 4096, 4096, classes)}},
+        {"40 values far apart i32 2048x2048, lossless", 0, {made<int32_t>(FUTSKHERI_I32, 2048, 2048, far_apart)}},
         {"constant i16 4096x4096, lossless", 0,
          {made<int16_t>(FUTSKHERI_I16, 4096, 4096, [](uint32_t, uint32_t) { return 1234; })}},
     };

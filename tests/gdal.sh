@@ -26,24 +26,7 @@ else
 
     # A cache of two by two such tiles, of which the upper right one is there.
     mkdir -p cache/_alllayers/L00
-    cat >cache/conf.xml <<'CONF'
-<CacheInfo>
-  <TileCacheInfo>
-    <SpatialReference><WKID>3857</WKID></SpatialReference>
-    <TileOrigin><X>-256</X><Y>256</Y></TileOrigin>
-    <TileCols>256</TileCols>
-    <TileRows>256</TileRows>
-    <LODInfos>
-      <LODInfo><LevelID>0</LevelID><Scale>4000</Scale><Resolution>1</Resolution></LODInfo>
-    </LODInfos>
-  </TileCacheInfo>
-  <TileImageInfo><CacheTileFormat>LERC</CacheTileFormat></TileImageInfo>
-  <CacheStorageInfo>
-    <StorageFormat>esriMapCacheStorageModeCompactV2</StorageFormat>
-    <PacketSize>128</PacketSize>
-  </CacheStorageInfo>
-</CacheInfo>
-CONF
+    cp "$here/docs/conf.xml" cache/conf.xml
     tiles=cache/_alllayers/L00/R0000C0000.bundle
     for command in put build; do
         rm -f "$tiles" "$tiles.jnl"
