@@ -3,6 +3,7 @@
 // round), how much faster Futskheri is, and the blob's size. Each library decodes the other's blob too, to the same values and
 // mask; where it does not, or a value is further off than the error, the program ends with 1.
 #include "futskheri.h"
+#include "heights.h"
 #include <Lerc_c_api.h>
 #include <cstdio>
 #include <cstdlib>
@@ -39,38 +40,6 @@ struct Times {
 }
 
 // ---- rasters
-
-uint64_t mix(uint64_t x) {
-    x ^= x >> 33;
-    x *= 0xff51afd7ed558ccdULL;
-    x ^= x >> 33;
-    x *= 0xc4ceb9fe1a85ec53ULL;
-    return x ^ (x >> 33);
-}
-
-double at_corner(uint64_t seed, int64_t i, int64_t j) {
-    return double(mix(seed * 0x9e3779b97f4a7c15ULL + uint64_t(i) * 1000003 + uint64_t(j)) >> 11) / 9007199254740992.0;
-}
-
-// A surface that is smooth over `scale` pixels, from 0 to 1.
-double smooth(uint64_t seed, uint32_t row, uint32_t col, double scale) {
-    double y = row / scale, x = col / scale;
-    int64_t i = int64_t(y), j = int64_t(x);
-    double v = y - double(i), u = x - double(j);
-    v = v * v * (3 - 2 * v);
-    u = u * u * (3 - 2 * u);
-    double top = at_corner(seed, i, j) * (1 - u) + at_corner(seed, i, j + 1) * u;
-    double low = at_corner(seed, i + 1, j) * (1 - u) + at_corner(seed, i + 1, j + 1) * u;
-    return top * (1 - v) + low * v;
-}
-
-// Heights: hills upon hills, each half as wide and half as high as the last.
-double height(uint64_t seed, uint32_t row, uint32_t col) {
-    double sum = 0, high = 2000, scale = 1024;
-    for (int k = 0; k < 9; k++, high /= 2, scale /= 2)
-        sum += high * smooth(seed + uint64_t(k), row, col, scale);
-    return sum;
-}
 
 template <class T, class F> Raster made(uint32_t kind, uint32_t rows, uint32_t cols, F value) {
     Raster r{kind, rows, cols, Bytes(size_t(rows) * cols * sizeof(T)), Bytes((size_t(rows) * cols + 7) / 8, 0),

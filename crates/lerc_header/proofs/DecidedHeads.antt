@@ -1,15 +1,14 @@
 -- Bytes begin with a header or have a first fault: each test is decided.
-use Rattle.std.proofs.Common.{◌≡◌, ℕ, ℤ, pos, negsuc, ◌+◌, ◌*◌, ◌/◌, ◌%◌, ◌<◌, ◌≤◌, ◌≤ℤ◌, ◌*ℤ◌, zero, suc, List, [], ◌∷◌, length, take, refl, sym, ap, ◌∙◌, subst, arith, ◌⊎◌, inl, inr, ⊎_elim}
+use Rattle.std.proofs.Common.{◌≡◌, ℕ, ℤ, pos, negsuc, ◌+◌, ◌*◌, ◌/◌, ◌%◌, ◌<◌, ◌≤◌, ◌≤ℤ◌, ◌*ℤ◌, zero, suc, List, [], ◌∷◌, length, take, refl, ap, ◌∙◌, subst, arith, ◌⊎◌, inl, inr, ⊎_elim}
 use Rattle.std.specs.Prelude.{codes, ◌≢◌, ◌-ℤ◌}
 use Rattle.std.proofs.lemmas.Int.{ints, by_lt_z}
 use Rattle.std.proofs.lemmas.Bool.{cases_eq, cases_lt}
-use Rattle.first_fault.specs.Faults.{Faults, none, wrong, choice, unless}
+use Rattle.first_fault.specs.Faults.{Faults, none, wrong, choice}
 use Rattle.first_fault.specs.Parts.{HasFault}
 use Rattle.first_fault.proofs.Decided.{decided_unless}
 use Rattle.raster_values.specs.declared.kind.PixelType.{PixelType}
 use Rattle.raster_values.specs.declared.kind.PixelType.TheVariants.{I8, U8, I16, U16, I32, U32}
 use Rattle.raster_values.specs.PixelType.{InRange, type_least, type_greatest, code_of}
-use Rattle.raster_values.specs.Raster.{IsShape}
 use Rattle.double_bits.specs.Halves.{HalfDouble}
 use Rattle.double_bits.proofs.HalfBits.{half_or_none}
 use Rattle.double_bits.proofs.OneHalf.{one_half}
@@ -18,10 +17,9 @@ use Rattle.lerc_header.specs.declared.fault.BlobReason.TheVariants.{Truncated, B
 use Rattle.lerc_header.specs.declared.header.Version.{Version}
 use Rattle.lerc_header.specs.declared.header.Version.TheVariants.{V3, V4}
 use Rattle.lerc_header.specs.declared.header.Header.{Header}
-use Rattle.lerc_header.specs.Head.{HeadAt, RangeAt, IsTwiceError, i32_at, u32_at, double_at, shift, head_length, depth_at, number_of}
-use Rattle.lerc_header.specs.HeadFaults.{HasKey, HasVersion, key_tests, key_faults, IsWithin, pixels_at, values_at, HasKind, HasStep, HasWhole, HasLeast, HasEnds, HasNone, field_faults, whole_faults, header_faults}
+use Rattle.lerc_header.specs.Head.{HeadAt, RangeAt, IsTwiceError, i32_at, u32_at, double_at, shift, head_length, depth_at}
+use Rattle.lerc_header.specs.HeadFaults.{HasKey, HasVersion, key_tests, key_faults, IsWithin, pixels_at, values_at, HasKind, HasStep, HasLeast, HasEnds, HasNone, field_faults, whole_faults, header_faults}
 use Rattle.lerc_header.proofs.HeadLemmas.{number_once, kind_once}
-use Rattle.lerc_header.proofs.FaultLemmas.{in_key_tests}
 use Rattle.lerc_header.proofs.ReadParts.{IsValueAt, not_least, not_ends, pixels_found}
 use Rattle.lerc_header.specs.declared.reading.Shape.{Shape}
 use Rattle.lerc_header.specs.declared.reading.Counts.{Counts}

@@ -1,7 +1,7 @@
 -- Journals that stay closed.
-use Rattle.std.proofs.Common.{◌≡◌, inl, inr, refl, ℕ, ◌+◌, ◌<◌, ◌≤◌, List, [], ◌∷◌, ◌++◌, length, get_or, take, drop, sym, ◌∙◌, ap, subst, arith}
+use Rattle.std.proofs.Common.{◌≡◌, inl, inr, refl, ℕ, ◌+◌, ◌≤◌, List, [], ◌∷◌, ◌++◌, length, get_or, take, drop, sym, ◌∙◌, ap, subst, arith}
 use Rattle.std.proofs.lemmas.List.{drop_all, append-nil}
-use Rattle.outside_io.specs.volume.Disk.{Disk, IsImage, IsSettled, laid}
+use Rattle.outside_io.specs.volume.Disk.{Disk, IsSettled, laid}
 use Rattle.outside_io.proofs.VolumeLemmas.Images.{only_image}
 use Rattle.side_journal.specs.Says.{IsOpen}
 use Rattle.side_journal.specs.Steps.{IsReady, KeepsClosed}

@@ -7,7 +7,7 @@ use Rattle.side_journal.specs.Says.{IsOpen}
 use Rattle.outside_io.specs.declared.volume.VolFile.TheVariants.{Journal}
 use Rattle.outside_io.proofs.VolumeLemmas.Laid.{length-laid}
 use Rattle.outside_io.proofs.VolumeLemmas.Limits.{Allowed, Keeps, Limits, limits_wrote}
-use Rattle.side_journal.specs.Steps.{EachOpen, EachShut, KeepsBody, SameBehindGate}
+use Rattle.side_journal.specs.Steps.{EachOpen, EachShut, KeepsBody}
 
 abbrev pub Whole : ℕ → Type 0
 Whole n = n ≡ 96

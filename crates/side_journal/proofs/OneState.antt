@@ -1,11 +1,10 @@
 -- A journal says one thing.
-use Rattle.std.proofs.Common.{◌≡◌, ◌≢◌, ◌⊎◌, inl, inr, refl, ℕ, ◌<◌, ◌≤◌, List, sym, ◌∙◌, ap, arith}
-use Rattle.bundle_index.specs.declared.entry.Entry.{Entry}
+use Rattle.std.proofs.Common.{◌≡◌, inl, inr, refl, ℕ, List, sym, ◌∙◌, ap, arith}
 use Rattle.side_journal.specs.declared.body.Body.{Body}
 use Rattle.side_journal.specs.declared.body.Body.TheVariants.{Tile, Build}
 use Rattle.side_journal.specs.declared.body.JournalState.{JournalState}
 use Rattle.side_journal.specs.declared.body.JournalState.TheVariants.{Closed, Open, Bad}
-use Rattle.side_journal.specs.Says.{Fails, FailsKind, FailsLength, FailsMark, FailsSlot, IsOpen, Says, SaysBody}
+use Rattle.side_journal.specs.Says.{Fails, FailsKind, FailsLength, FailsMark, FailsSlot, Says, SaysBody}
 
 one_body : (j : List ℕ) (a b : Body) → SaysBody j a → SaysBody j b → a ≡ b
 one_body j (Tile s e n h) (Tile t f m k) one two = λ i. Tile ((sym one.slot_is ∙ two.slot_is) i) ((sym one.entry_is ∙ two.entry_is) i) ((sym one.size_is ∙ two.size_is) i) ((sym one.header_is ∙ two.header_is) i)

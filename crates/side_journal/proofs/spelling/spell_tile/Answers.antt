@@ -1,4 +1,4 @@
-use Rattle.std.proofs.Common.{◌≡◌, ℕ, List, length, replicate, ◌∙◌, rules}
+use Rattle.std.proofs.Common.{◌≡◌, replicate, ◌∙◌, rules}
 use Rattle.byteorder.specs.Endian.{little_bytes}
 use Rattle.outside_io.specs.volume.Disk.{laid}
 use Rattle.bundle_index.specs.Entry.{word_of}
