@@ -15,7 +15,7 @@ use Rattle.lerc_grammar.proofs.More.{more_key, more_fields, more_body}
 use Rattle.lerc_decode.specs.declared.from_source.FromFault.{FromFault}
 use Rattle.lerc_decode.specs.declared.from_source.FromFault.TheVariants.{Blob as FromBlob, OutOfMemory}
 use Rattle.lerc_decode.specs.FromSource.{IsSized}
-use Rattle.lerc_decode.specs.Decoding.{Stage, Key, Fields, Body, Whole, Wrong, NoMemory, IsStageOf, HasHeader}
+use Rattle.lerc_decode.specs.Decoding.{Stage, Key, Fields, Body, Whole, Wrong, NoMemory, IsStageOf, HasHeader, IsLeast}
 use Rattle.lerc_decode.specs.States.{missing_at, finished_at}
 use Rattle.lerc_decode.specs.inside.Feeding.{Begins, Joins, Follows}
 use Rattle.lerc_cli.specs.declared.stop.Stop.TheVariants.{Refused}
@@ -41,7 +41,7 @@ header_of : (left0 left1 : Option (List ℕ)) (taken : List ℕ) → HasHeader t
 header_of None left1 taken stands b = tt
 header_of (Some input) left1 taken stands (rest, j) = record { header = stands.header; stands = subst (λ (u : List ℕ). HeadAt u stands.header) (sym j) (head_more taken rest stands.header stands.stands) }
 
-decided : (left0 left1 : Option (List ℕ)) (taken : List ℕ) (place : ℕ) (reason : BlobReason) → FirstFault taken place reason → Joins left0 left1 [] taken
+decided : (left0 left1 : Option (List ℕ)) (taken : List ℕ) (place : ℕ) (reason : BlobReason) → FirstFault taken place reason × IsLeast taken → Joins left0 left1 [] taken
     → IsSized (Err (FromBlob (record { reason = reason; place = place }))) left0 left1
 decided None left1 taken place reason first j = j
 decided (Some input) left1 taken place reason first (rest, (e, j)) = (taken, (rest, (j, (e, inl first))))
@@ -54,7 +54,7 @@ kept_told (Body h) taken kept left0 left1 stands k f b end = found_more left0 le
 kept_told (Whole r) taken None left0 left1 stands k f b end = no_room left0 left1 taken r stands.0 f
 kept_told (Whole r) taken (Some bytes) left0 left1 stands k f b end =
     ((r, subst (λ (u : List ℕ). Blob u r) (sym k) (done_blob taken r stands.0)), subst (λ (u : List ℕ). Joins left0 left1 [] u) (sym k) f)
-kept_told (Wrong place reason) taken kept left0 left1 stands k f b end = decided left0 left1 taken place reason stands.0 f
+kept_told (Wrong place reason) taken kept left0 left1 stands k f b end = decided left0 left1 taken place reason stands f
 kept_told NoMemory taken kept left0 left1 stands k f b end = header_of left0 left1 taken stands b
 
 -- ---- the whole input

@@ -62,7 +62,7 @@ asked_end (Some rest) new asks = subst IsAtEnd (sym asks.1) refl
 
 pub reads_fault : (fault : FromFault) (left new : Option (List ℕ)) → IsSized (Err fault) left new → ReadsBlob left (Err (stop_of fault))
 reads_fault (FromBlob f) None new told = (f.reason, (refl, tt))
-reads_fault (FromBlob f) (Some input) new (taken, (rest, (j, (e, inl first)))) =
+reads_fault (FromBlob f) (Some input) new (taken, (rest, (j, (e, inl (first, least))))) =
     (f.reason, (refl, inside (subst (λ (u : List ℕ). FirstFault u f.place f.reason) (sym j) (fault_stays taken rest f.place f.reason first))))
 reads_fault (FromBlob f) (Some input) new (taken, (rest, (j, (e, inr (more, (none, is)))))) =
     let all : input ≡ taken = j ∙ ap (λ u. taken ++ u) none ∙ append-nil taken in

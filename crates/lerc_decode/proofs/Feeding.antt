@@ -125,7 +125,7 @@ decoded (Body h) taken left0 left1 stands f b end = found_more left0 left1 taken
 decoded (Whole r) taken None left1 stands f b end = f
 decoded (Whole r) taken (Some input) left1 stands (rest, (e, j)) b end = (taken, (rest, (j, (e, (stands.0, refl)))))
 decoded (Wrong place reason) taken None left1 stands f b end = f
-decoded (Wrong place reason) taken (Some input) left1 stands (rest, (e, j)) b end = (taken, (rest, (j, (e, inl stands.0))))
+decoded (Wrong place reason) taken (Some input) left1 stands (rest, (e, j)) b end = (taken, (rest, (j, (e, inl stands))))
 decoded NoMemory taken None left1 stands f b end = tt
 decoded NoMemory taken (Some input) left1 stands f (rest, j) end = record { header = stands.header; stands = subst (λ (u : List ℕ). HeadAt u stands.header) (sym j) (head_more taken rest stands.header stands.stands) }
 

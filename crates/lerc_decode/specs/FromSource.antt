@@ -5,7 +5,7 @@ use Rattle.raster_values.specs.Raster.{Pixels}
 use Rattle.lerc_header.specs.declared.fault.BlobFault.{BlobFault}
 use Rattle.lerc_header.specs.declared.fault.BlobReason.TheVariants.{Truncated}
 use Rattle.lerc_grammar.specs.Verdict.{FirstFault, IsDone, IsMore}
-use Rattle.lerc_decode.specs.Decoding.{HasHeader}
+use Rattle.lerc_decode.specs.Decoding.{HasHeader, IsLeast}
 use Rattle.lerc_decode.specs.declared.decoder.DecodeFault.{DecodeFault}
 use Rattle.lerc_decode.specs.declared.decoder.DecodeFault.TheVariants.{Blob as BlobOf, OutOfMemory as NoMemoryOf}
 use Rattle.lerc_decode.specs.declared.from_source.Decoded.{Decoded}
@@ -28,9 +28,10 @@ abbrev pub CountsSource : {X : Type 0} → Result X FromFault → ℕ → ℕ �
 CountsSource (Err Source) old new = (old ≤ new) × FailedBetween old new
 CountsSource _ old new = new ≡ old
 
--- the bytes taken decide this fault; or the source ended before anything was decided
+-- the bytes taken decide this fault, and no fewer of them; or the source ended before anything was
+-- decided
 abbrev pub IsFaultIn : BlobFault → List ℕ → List ℕ → Type 0
-IsFaultIn f taken rest = FirstFault taken f.place f.reason
+IsFaultIn f taken rest = (FirstFault taken f.place f.reason × IsLeast taken)
     ⊎ (IsMore taken × ((rest ≡ []) × (f ≡ record { reason = Truncated; place = length taken })))
 
 -- the bytes taken are a blob, or its first fault is decided

@@ -1,6 +1,6 @@
 //! The decoder.
 
-ghost use Rattle.std.specs.Prelude.{◌≡◌, ◌<◌, ◌≤◌, ◌+◌, ◌-◌, ◌++◌, ◌↔◌, min, [], length, take, MatchBool};
+ghost use Rattle.std.specs.Prelude.{◌≡◌, ◌<◌, ◌≤◌, ◌+◌, ◌-◌, ◌*◌, ◌^◌, ◌++◌, ◌↔◌, min, max, [], length, take, vec_capacity, IsTrue, MatchBool};
 ghost use Rattle.lerc_header.specs.Head.{HeadAt, head_length};
 ghost use Rattle.lerc_header.specs.HeadFaults.{HasKey, HasVersion};
 ghost use Rattle.lerc_decode.specs.Decoding.{Key, HasTaken, IsSame, IsStageOf};
@@ -89,12 +89,44 @@ fn fill(head: &mut [u8; 70], have: usize, want: usize, piece: &[u8]) -> usize
     used
 }
 
-/// Puts bytes behind those of the vector; whether there was memory for them.
-fn grow(blob: &mut Vec<u8>, bytes: &[u8]) -> bool
+/// How many bytes there is to be room for where `len` are there and more follow, so that there are
+/// `whole`: for twice as many as are there, but for no more than the blob has.
+fn room_wanted(len: usize, whole: usize, size: usize) -> usize
+    requires more { len ≤ whole }
+    requires within { whole ≤ size }
+    requires few { size < 2 ^ 32 }
+    ensures value { result ≡ min (max whole (2 * len)) size }
+    ensures enough { whole ≤ result }
+{
+    whole.max(2 * len).min(size)
+}
+
+/// Makes room for so many more bytes of a blob of `size` bytes; whether there was memory for it.
+fn make_room(blob: &mut Vec<u8>, more: usize, size: usize) -> bool
+    requires within { length blob.old.items + more ≤ size }
+    requires few { size < 2 ^ 32 }
+    ensures bytes { blob.new.items ≡ blob.old.items }
+    ensures room { IsTrue result → length blob.old.items + more ≤ vec_capacity blob.new }
+    ensures most { vec_capacity blob.new ≤ max (vec_capacity blob.old)
+        (min (max (length blob.old.items + more) (2 * length blob.old.items)) size) }
+{
+    let len = blob.len();
+    if len + more <= blob.capacity() {
+        return true;
+    }
+    let room = room_wanted(len, len + more, size);
+    blob.reserve_exact(room - len).is_ok()
+}
+
+/// Puts bytes of a blob of `size` bytes behind those of the vector; whether there was memory for
+/// them.
+fn grow(blob: &mut Vec<u8>, bytes: &[u8], size: usize) -> bool
+    requires within { length blob.old.items + length bytes.now ≤ size }
+    requires few { size < 2 ^ 32 }
     ensures { MatchBool result (blob.new.items ≡ blob.old.items ++ bytes.now)
         (blob.new.items ≡ blob.old.items) }
 {
-    blob.extend_from_slice(bytes).is_ok()
+    make_room(blob, bytes.len(), size) && blob.extend_from_slice(bytes).is_ok()
 }
 
 /// What a whole header says; its bytes are put into the vector where it stands.
@@ -201,7 +233,7 @@ impl Decoder {
         let header = *header;
         let size = header.size as usize;
         let used = piece.len().min(size - self.blob.len());
-        if !grow(&mut self.blob, &piece[..used]) {
+        if !grow(&mut self.blob, &piece[..used], size) {
             self.progress = Progress::OutOfMemory;
             return 0;
         }

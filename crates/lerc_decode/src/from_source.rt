@@ -92,7 +92,7 @@ fn answer(finished: Result<Raster, DecodeFault>, size: usize) -> Result<Decoded,
 }
 
 /// Decodes the blob that comes first of the source's bytes, and counts them. `Ok` takes its bytes
-/// alone.
+/// alone, and a fault of the blob the bytes that decide it alone.
 pub fn decode_sized<S: Source>(alloc: Global, src: &mut S) -> Result<Decoded, FromFault>
     ensures counted { CountsSource result (S.faults src.old) (S.faults src.new) }
     ensures raster { IfOk result (λ d. IsRaster d.raster) }
@@ -109,7 +109,8 @@ pub fn decode_sized<S: Source>(alloc: Global, src: &mut S) -> Result<Decoded, Fr
     }
 }
 
-/// Decodes the blob that comes first of the source's bytes. `Ok` takes its bytes alone.
+/// Decodes the blob that comes first of the source's bytes. `Ok` takes its bytes alone, and a fault
+/// of the blob the bytes that decide it alone.
 pub fn decode_from<S: Source>(alloc: Global, src: &mut S) -> Result<Raster, FromFault>
     ensures counted { CountsSource result (S.faults src.old) (S.faults src.new) }
     ensures raster { IfOk result (λ r. IsRaster r) }

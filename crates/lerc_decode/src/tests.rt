@@ -127,6 +127,7 @@ fn a_wrong_field_of_the_header_is_told(rt: HostRuntime) -> Result<(), Fail> {
         (0, [0x6c].as_slice(), BlobReason::BadKey, 0),
         (6, &[6], BlobReason::BadVersion, 6),
         (14, &[0], BlobReason::BadRows, 14),
+        (18, &[0], BlobReason::BadCols, 18),
         (14, &[1, 16, 0, 0, 1, 16], BlobReason::TooLarge, 18),
         (22, &[2], BlobReason::BadCount, 22),
         (26, &[0], BlobReason::BadBlockSize, 26),
@@ -134,6 +135,8 @@ fn a_wrong_field_of_the_header_is_told(rt: HostRuntime) -> Result<(), Fail> {
         (34, &[6], BlobReason::FloatPixels, 34),
         (34, &[8], BlobReason::BadType, 34),
         (44, &[0xd0, 0x3f], BlobReason::BadError, 38),
+        // 256 is no u8, be it the least value or the greatest.
+        (52, &[0x70, 0x40], BlobReason::BadRange, 46),
         (60, &[0x70, 0x40], BlobReason::BadRange, 54),
     ];
     for (at, bytes, reason, place) in rows {
@@ -143,6 +146,13 @@ fn a_wrong_field_of_the_header_is_told(rt: HostRuntime) -> Result<(), Fail> {
         has_fault(&rt, rt.alloc(), &changed, fault(reason, place));
     }
     Ok(())
+}
+
+#[test]
+fn a_wrong_depth_is_told(rt: HostRuntime) {
+    let mut changed = RANGES;
+    changed[22] = 0;
+    has_fault(&rt, rt.alloc(), &changed, fault(BlobReason::BadDepth, 22));
 }
 
 #[test]
