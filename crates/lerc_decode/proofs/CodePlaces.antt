@@ -1,9 +1,7 @@
 -- Where faults of code tables and words are told: within the bytes.
-use Rattle.std.proofs.Common.{◌≡◌, ℕ, ◌+◌, ◌-◌, ◌*◌, ◌/◌, ◌<◌, ◌≤◌, Bool, List, ◌++◌, length, slice_index, take, drop, ap, sym, ◌∙◌, subst, arith, inl, inr, ◌⊎◌}
+use Rattle.std.proofs.Common.{◌≡◌, ℕ, ◌+◌, ◌-◌, ◌*◌, ◌/◌, ◌<◌, ◌≤◌, Bool, List, length, slice_index, take, drop, ap, sym, ◌∙◌, arith, inl, inr}
 use Rattle.std.proofs.lemmas.List.{length-append, length-drop}
 use Rattle.first_fault.specs.Faults.{Faults, none, wrong, choice, unless, moved, in_order}
-use Rattle.bit_stuff.specs.declared.heads.ListHead.{ListHead}
-use Rattle.bit_stuff.specs.declared.heads.ListReason.{ListReason}
 use Rattle.bit_stuff.specs.declared.heads.ListReason.TheVariants as list
 use Rattle.bit_stuff.specs.Head.{IsHeadOf, count_at, count_faults, count_size, form_faults, head_faults, size_code, table_bit, width_bits}
 use Rattle.bit_stuff.specs.Simple.{binary_digits}
@@ -14,9 +12,7 @@ use Rattle.huff_codes.specs.declared.faults.CodeReason.{CodeReason}
 use Rattle.huff_codes.specs.declared.faults.CodeReason.TheVariants as code
 use Rattle.huff_codes.specs.Table.{IsRange, IsLengthList, number_faults, end_faults, first_faults, symbols_faults, range_faults, length_faults, code_faults, range_code_faults, table_faults}
 use Rattle.huff_codes.specs.Words.{word_faults}
-use Rattle.huff_codes.specs.Codes.{code_at}
-use Rattle.huff_codes.specs.Words.{joined_codes, ArePassed, passed_faults, next_faults, further_faults, whole_end, IsBegun}
-use Rattle.huff_codes.specs.Bits.{word_bits}
+use Rattle.huff_codes.specs.Words.{joined_codes, passed_faults, next_faults}
 use Rattle.huff_codes.proofs.Windows.{length-word_bits}
 use Rattle.std.specs.Prelude.{IsTrue}
 

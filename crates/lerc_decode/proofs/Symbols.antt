@@ -1,15 +1,15 @@
 -- Symbols that are read, and what they leave in the raster.
-use Rattle.std.proofs.Common.{◌≡◌, ℕ, ℤ, pos, ◌+◌, ◌-◌, ◌*◌, ◌<◌, ◌≤◌, ◌≢◌, Bool, List, [], ◌++◌, length, get_or, take, drop, Option, None, refl, sym, ap, ◌∙◌, subst, arith, inl, inr, ◌⊎◌}
+use Rattle.std.proofs.Common.{◌≡◌, ℕ, pos, ◌+◌, ◌-◌, ◌*◌, ◌<◌, ◌≤◌, ◌≢◌, Bool, List, [], ◌++◌, length, get_or, take, drop, None, refl, sym, ap, ◌∙◌, subst, arith, inl, inr, ◌⊎◌}
 use Rattle.std.specs.Prelude.{unwrap_or}
 use Rattle.std.proofs.lemmas.Bool.{cases_lt}
 use Rattle.std.proofs.lemmas.List.{append_assoc, get_or_past, length-append, length-drop, length-take-le, take-append-drop, take_all, take_rest}
-use Rattle.first_fault.specs.Faults.{Faults, moved}
+use Rattle.first_fault.specs.Faults.{moved}
 use Rattle.raster_values.specs.Raster.{Pixels, IsRaster}
 use Rattle.raster_values.specs.Flat.{value_in}
 use Rattle.huff_codes.specs.declared.faults.CodeFault.{CodeFault}
 use Rattle.huff_codes.specs.Table.{IsCoding, IsTable, table_faults}
 use Rattle.huff_codes.specs.Words.{AreWords, word_faults}
-use Rattle.delta_mode.specs.Deltas.{AreDeltas, TakesDeltas, deltas, deltas_from, is_valid}
+use Rattle.delta_mode.specs.Deltas.{AreDeltas, TakesDeltas, deltas_from, is_valid}
 use Rattle.delta_mode.proofs.SymbolLaws.{deltas_as}
 use Rattle.lerc_header.specs.declared.header.Header.{Header}
 use Rattle.lerc_header.specs.declared.fault.BlobReason.{BlobReason}

@@ -1,4 +1,4 @@
-use Rattle.std.proofs.Common.{◌≡◌, ◌+◌, ◌*◌, ◌∙◌, arith, sym}
+use Rattle.std.proofs.Common.{◌≡◌, ◌+◌, ◌*◌, ◌∙◌, arith}
 use Rattle.lerc_decode.proofs.Filling.{keeps}
 use Rattle.lerc_decode.proofs.Symbols.{keeps_then, next_depths}
 use Rattle.lerc_decode.proofs.codes.take_deltas.Goals as goal
