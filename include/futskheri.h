@@ -59,14 +59,14 @@ enum {
 /* The first fault of bytes that are no blob. */
 struct futskheri_fault {
     uint64_t place;  /* where the field begins that fails, in bytes from the first */
-    uint32_t reason; /* the number of the reason, 0 to 30; futskheri_reason_name has its name */
+    uint32_t reason; /* the number of the reason, 1 to 31; futskheri_reason_name has its name */
     uint32_t stated; /* BadChecksum and BadMaskCount: what the blob says, else 0 */
     uint32_t found;  /* and what was found, else 0 */
 };
 
 /* What the header of a blob says. */
 struct futskheri_head {
-    uint64_t step;     /* twice the greatest error of a value; 1 where no value was changed */
+    uint64_t step;     /* twice the greatest error of a value: at least 1; 1 where every value is exact */
     int64_t least;     /* the least and the greatest valid value, both 0 where no pixel is valid */
     int64_t greatest;
     uint32_t version;  /* 3 or 4 */
@@ -104,13 +104,13 @@ uint64_t futskheri_greatest_size(uint32_t kind, uint32_t rows, uint32_t cols, ui
  * mask_size 0: every pixel is valid.
  * OK: *size is the size of the blob. NO_ROOM: *size is the size that the blob would have. Else *size stays;
  * where it is not OK, out stays. The first of these that holds is answered: BAD_KIND, BAD_VERSION, BAD_SHAPE,
- * TOO_LARGE, BAD_SIZES, DEPTH_NEEDS_V4, NO_ROOM; NO_MEMORY may come instead of the last three. */
+ * TOO_LARGE, BAD_SIZES, DEPTH_NEEDS_V4, NO_ROOM; NO_MEMORY may come instead of the last. */
 uint32_t futskheri_encode(uint32_t kind, uint32_t rows, uint32_t cols, uint32_t depth, uint32_t version,
                           uint32_t error, const void *values, size_t values_size, const uint8_t *mask,
                           size_t mask_size, uint8_t *out, size_t out_size, uint64_t *size);
 
 /* Writes the name of a reason, as `BadChecksum`, into out, as much of it as there is room for and with no 0
- * behind it, and answers how long the name is: at most 30, and 0 where no reason has the number. */
+ * behind it, and answers how long the name is: at most 30, and 0 where no reason has the number. None has 0. */
 size_t futskheri_reason_name(uint32_t reason, uint8_t *out, size_t out_size);
 
 #ifdef __cplusplus

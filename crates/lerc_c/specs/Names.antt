@@ -36,10 +36,11 @@ reason_name NoCode = codes "NoCode"
 reason_name PastEnd = codes "PastEnd"
 reason_name Leftover = codes "Leftover"
 
--- the names in the order of the numbers
+-- the names in the order of the numbers, of which 0 has none
 abbrev pub names : List (List ℕ)
 names =
-    codes "Truncated"
+    []
+    ∷ codes "Truncated"
     ∷ codes "BadKey"
     ∷ codes "BadVersion"
     ∷ codes "BadRows"

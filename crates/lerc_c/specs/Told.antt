@@ -9,39 +9,39 @@ use Rattle.lerc_grammar.specs.Verdict.{FirstFault, IsMore}
 use Rattle.lerc_c.specs.declared.told.Fault.{Fault}
 use Rattle.lerc_c.specs.declared.told.Head.{Head}
 
--- the number of a reason: they are counted from 0 in the order of a blob's parts
+-- the number of a reason: they are counted from 1 in the order of a blob's parts; 0 stands for none
 abbrev pub reason_number : BlobReason → ℕ
-reason_number Truncated = 0
-reason_number BadKey = 1
-reason_number BadVersion = 2
-reason_number BadRows = 3
-reason_number BadCols = 4
-reason_number BadDepth = 5
-reason_number TooLarge = 6
-reason_number BadCount = 7
-reason_number BadBlockSize = 8
-reason_number BadBlobSize = 9
-reason_number FloatPixels = 10
-reason_number BadType = 11
-reason_number BadError = 12
-reason_number BadRange = 13
-reason_number (BadChecksum stored computed) = 14
-reason_number BadMaskLength = 15
-reason_number BadRun = 16
-reason_number (BadMaskCount header counted) = 17
-reason_number MaskMissing = 18
-reason_number BadSweep = 19
-reason_number BadMode = 20
-reason_number BadBlockTag = 21
-reason_number BadOffsetCode = 22
-reason_number BadListHead = 23
-reason_number BadListCount = 24
-reason_number BadTable = 25
-reason_number BadIndex = 26
-reason_number BadCodeTable = 27
-reason_number NoCode = 28
-reason_number PastEnd = 29
-reason_number Leftover = 30
+reason_number Truncated = 1
+reason_number BadKey = 2
+reason_number BadVersion = 3
+reason_number BadRows = 4
+reason_number BadCols = 5
+reason_number BadDepth = 6
+reason_number TooLarge = 7
+reason_number BadCount = 8
+reason_number BadBlockSize = 9
+reason_number BadBlobSize = 10
+reason_number FloatPixels = 11
+reason_number BadType = 12
+reason_number BadError = 13
+reason_number BadRange = 14
+reason_number (BadChecksum stored computed) = 15
+reason_number BadMaskLength = 16
+reason_number BadRun = 17
+reason_number (BadMaskCount header counted) = 18
+reason_number MaskMissing = 19
+reason_number BadSweep = 20
+reason_number BadMode = 21
+reason_number BadBlockTag = 22
+reason_number BadOffsetCode = 23
+reason_number BadListHead = 24
+reason_number BadListCount = 25
+reason_number BadTable = 26
+reason_number BadIndex = 27
+reason_number BadCodeTable = 28
+reason_number NoCode = 29
+reason_number PastEnd = 30
+reason_number Leftover = 31
 
 -- the two numbers that did not agree: what the blob says, and what was found; 0 for other reasons
 abbrev pub stated_of : BlobReason → ℕ

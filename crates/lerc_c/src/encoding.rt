@@ -1,22 +1,20 @@
 //! Arrays encoded into a blob.
 
-ghost use Rattle.std.specs.Prelude.{◌≡◌, ◌<◌, ◌↔◌, [], IfOk, IfErr, OnOk, OnErr, IsTrue, length};
-ghost use Rattle.raster_values.specs.Raster.{IsRaster, blank};
+ghost use Rattle.std.specs.Prelude.{◌≡◌, ◌<◌, ◌↔◌, [], IfOk, IfErr, IfSome, OnOk, OnErr, IsTrue, length};
+ghost use Rattle.raster_values.specs.Raster.{IsRaster, IsShape, blank};
 ghost use Rattle.raster_values.specs.Flat.{PutsAll};
 ghost use Rattle.lerc_header.specs.declared.header.Version.TheVariants.{V3};
 ghost use Rattle.lerc_header.specs.Head.{number_of};
 ghost use Rattle.lerc_header.specs.Written.{step_of};
 ghost use Rattle.raster_values.specs.PixelType.{code_of};
-ghost use Rattle.lerc_encode.specs.Choice.{choice};
-ghost use Rattle.lerc_c.specs.Arrays.{GivesSizes, IsAllowed, IsBlobOf, IsGiven, IsEncoded, values_size, mask_size};
-ghost use Rattle.lerc_c.specs.inside.Stops.{IsBlankStop, IsGivenStop, IsSizeStop, IsBlobStop, IsWriteStop, IsWritten, IsEncodeStop};
+ghost use Rattle.lerc_c.specs.Arrays.{GivesSizes, IsGiven, IsEncoded, values_size, mask_size};
+ghost use Rattle.lerc_c.specs.inside.Stops.{IsArgumentStop, IsFit, IsWriteStop, IsWritten, IsEncodeStop};
 ghost use Rattle.lerc_c.specs.inside.Marked.{IsMarked};
 
 use crate::sizes::is_shape;
-use lerc_encode::{EncodeFault, LayFault, encode, encode_over};
+use lerc_encode::{LayFault, encode_over};
 use lerc_header::{Step, Version};
-use outside_io::Bytes;
-use raster_values::{PixelType, Raster, ShapeFault};
+use raster_values::{PixelType, Raster};
 use std::alloc::Global;
 
 /// Why no blob was written.
@@ -53,34 +51,54 @@ pub(crate) fn version_of(number: u32) -> Option<Version>
     }
 }
 
-/// A raster of which no pixel is valid.
-fn blank_raster(
-    alloc: Global,
+/// Whether arrays of these lengths give the values and the mask of a raster of this shape.
+fn give_sizes(kind: PixelType, rows: u32, cols: u32, depth: u32, values: usize, mask: usize) -> bool
+    requires { IsShape rows cols depth }
+    ensures { IsTrue result ↔ GivesSizes kind rows cols depth values mask }
+{
+    let pixels = rows as usize * cols as usize;
+    let size = pixels * depth as usize * kind.bytes();
+    values == size && (mask == 0 || mask == pixels.div_ceil(8))
+}
+
+/// Whether the version has no place for the depths.
+fn needs_v4(version: Version, depth: u32) -> bool
+    ensures { IsTrue result ↔ ((version ≡ V3) × (1 < depth)) }
+{
+    match version {
+        Version::V3 => depth > 1,
+        Version::V4 => false,
+    }
+}
+
+/// Whether there are rasters of the shape, arrays of these lengths give one, and the version has a
+/// place for it.
+fn test_arguments(
     kind: PixelType,
     rows: u32,
     cols: u32,
     depth: u32,
-) -> Result<Raster, EncodeStop>
-    ensures ok { IfOk result (λ r. r ≡ blank kind rows cols depth) }
-    ensures allowed { OnOk result (IsAllowed rows cols depth) }
-    ensures stop { IfErr result (λ stop. IsBlankStop rows cols depth stop) }
+    version: Version,
+    values: usize,
+    mask: usize,
+) -> Result<(), EncodeStop>
+    ensures ok { OnOk result (IsFit kind rows cols depth version values mask) }
+    ensures stop { IfErr result (λ stop.
+        IsArgumentStop kind rows cols depth version values mask stop) }
 {
-    match Raster::new(alloc, kind, rows, cols, depth) {
-        Ok(raster) => Ok(raster),
-        Err(ShapeFault::BadSize) => Err(EncodeStop::BadShape),
-        Err(ShapeFault::TooLarge) => Err(EncodeStop::TooLarge),
-        Err(ShapeFault::OutOfMemory) => Err(EncodeStop::OutOfMemory),
+    if rows == 0 || cols == 0 || depth == 0 {
+        return Err(EncodeStop::BadShape);
     }
-}
-
-/// Whether arrays of these lengths give the values and the mask of a raster of this shape.
-fn give_sizes(raster: &Raster, values: usize, mask: usize) -> bool
-    ensures { IsTrue result ↔ GivesSizes
-        raster.now.kind raster.now.rows raster.now.cols raster.now.depth values mask }
-{
-    let pixels = raster.rows() as usize * raster.cols() as usize;
-    let size = pixels * raster.depth() as usize * raster.kind().bytes();
-    values == size && (mask == 0 || mask == pixels.div_ceil(8))
+    if !is_shape(rows, cols, depth) {
+        return Err(EncodeStop::TooLarge);
+    }
+    if !give_sizes(kind, rows, cols, depth, values, mask) {
+        return Err(EncodeStop::BadSizes);
+    }
+    if needs_v4(version, depth) {
+        return Err(EncodeStop::DepthNeedsV4);
+    }
+    Ok(())
 }
 
 /// What holds of each raster, for the proofs.
@@ -128,7 +146,7 @@ fn fill(raster: &mut Raster, values: &[u8], mask: &[u8])
     put(raster, values);
 }
 
-/// The raster that the arrays are, where there is a mask.
+/// The raster that the arrays are, where there is a mask. None where memory is refused.
 fn masked(
     alloc: Global,
     kind: PixelType,
@@ -137,53 +155,17 @@ fn masked(
     depth: u32,
     values: &[u8],
     mask: &[u8],
-) -> Result<Raster, EncodeStop>
-    requires { length mask.now ≡ 0 → ⊥ }
-    ensures ok { IfOk result (λ r. IsGiven kind rows cols depth values.now mask.now r) }
-    ensures allowed { OnOk result (IsAllowed rows cols depth) }
-    ensures sizes { OnOk result
-        (GivesSizes kind rows cols depth (length values.now) (length mask.now)) }
-    ensures stop { IfErr result (λ stop.
-        IsGivenStop kind rows cols depth (length values.now) (length mask.now) stop) }
+) -> Option<Raster>
+    requires some { length mask.now ≡ 0 → ⊥ }
+    requires sizes { GivesSizes kind rows cols depth (length values.now) (length mask.now) }
+    ensures { IfSome result (λ r. IsGiven kind rows cols depth values.now mask.now r) }
 {
-    let mut raster = blank_raster(alloc, kind, rows, cols, depth)?;
-    if !give_sizes(&raster, values.len(), mask.len()) {
-        return Err(EncodeStop::BadSizes);
-    }
+    let mut raster = Raster::new(alloc, kind, rows, cols, depth).ok()?;
     fill(&mut raster, values, mask);
-    Ok(raster)
+    Some(raster)
 }
 
-/// Whether so many bytes are the values of a raster of this type and these numbers.
-fn are_values(kind: PixelType, rows: u32, cols: u32, depth: u32, size: usize) -> bool
-    ensures { IsTrue result ↔ (size ≡ values_size kind rows cols depth) }
-{
-    let pixels = u64::from(rows) * u64::from(cols);
-    let Some(values) = pixels.checked_mul(u64::from(depth)) else {
-        return false;
-    };
-    let Some(bytes) = values.checked_mul(kind.bytes() as u64) else {
-        return false;
-    };
-    bytes == size as u64
-}
-
-/// What is wrong where the values are not as many as the shape asks for: the shape, if there are no
-/// rasters of it.
-fn size_stop(rows: u32, cols: u32, depth: u32) -> EncodeStop
-    ensures { IsSizeStop rows cols depth result }
-{
-    if rows == 0 || cols == 0 || depth == 0 {
-        return EncodeStop::BadShape;
-    }
-    if is_shape(rows, cols, depth) {
-        EncodeStop::BadSizes
-    } else {
-        EncodeStop::TooLarge
-    }
-}
-
-/// The raster with these values of which every pixel is valid.
+/// The raster with these values of which every pixel is valid. None where memory is refused.
 fn whole(
     alloc: Global,
     kind: PixelType,
@@ -191,25 +173,17 @@ fn whole(
     cols: u32,
     depth: u32,
     values: &[u8],
-) -> Result<Raster, EncodeStop>
-    ensures ok { IfOk result (λ r. IsGiven kind rows cols depth values.now [] r) }
-    ensures allowed { OnOk result (IsAllowed rows cols depth) }
-    ensures sizes { OnOk result (GivesSizes kind rows cols depth (length values.now) 0) }
-    ensures stop { IfErr result (λ stop.
-        IsGivenStop kind rows cols depth (length values.now) 0 stop) }
+) -> Option<Raster>
+    requires { length values.now ≡ values_size kind rows cols depth }
+    ensures { IfSome result (λ r. IsGiven kind rows cols depth values.now [] r) }
 {
-    if !are_values(kind, rows, cols, depth, values.len()) {
-        return Err(size_stop(rows, cols, depth));
-    }
     match Raster::from_cells(alloc, kind, rows, cols, depth, values) {
-        Ok(raster) => Ok(raster),
-        Err(ShapeFault::BadSize) => Err(EncodeStop::BadShape),
-        Err(ShapeFault::TooLarge) => Err(EncodeStop::TooLarge),
-        Err(ShapeFault::OutOfMemory) => Err(EncodeStop::OutOfMemory),
+        Ok(raster) => Some(raster),
+        Err(_) => None,
     }
 }
 
-/// The raster that the arrays are.
+/// The raster that the arrays are. None where memory is refused.
 fn given(
     alloc: Global,
     kind: PixelType,
@@ -218,46 +192,14 @@ fn given(
     depth: u32,
     values: &[u8],
     mask: &[u8],
-) -> Result<Raster, EncodeStop>
-    ensures ok { IfOk result (λ r. IsGiven kind rows cols depth values.now mask.now r) }
-    ensures allowed { OnOk result (IsAllowed rows cols depth) }
-    ensures sizes { OnOk result
-        (GivesSizes kind rows cols depth (length values.now) (length mask.now)) }
-    ensures stop { IfErr result (λ stop.
-        IsGivenStop kind rows cols depth (length values.now) (length mask.now) stop) }
+) -> Option<Raster>
+    requires { GivesSizes kind rows cols depth (length values.now) (length mask.now) }
+    ensures { IfSome result (λ r. IsGiven kind rows cols depth values.now mask.now r) }
 {
     if mask.is_empty() {
         return whole(alloc, kind, rows, cols, depth, values);
     }
     masked(alloc, kind, rows, cols, depth, values, mask)
-}
-
-/// The blob of a raster.
-fn blob_of(
-    alloc: Global,
-    raster: &Raster,
-    version: Version,
-    step: Step,
-) -> Result<Bytes, EncodeStop>
-    ensures ok { IfOk result (λ blob. IsBlobOf blob raster.now version step) }
-    ensures stop { IfErr result (λ stop. IsBlobStop raster.now.depth version stop) }
-{
-    match encode(alloc, raster, version, step) {
-        Ok(blob) => Ok(blob),
-        Err(EncodeFault::DepthNeedsV4) => Err(EncodeStop::DepthNeedsV4),
-        Err(EncodeFault::OutOfMemory) => Err(EncodeStop::OutOfMemory),
-    }
-}
-
-/// Why there is no room for the blob of a raster: it has so many bytes.
-fn no_room(alloc: Global, raster: &Raster, version: Version, step: Step, room: usize) -> EncodeStop
-    requires { room < length (choice raster.now version step) }
-    ensures { IsWriteStop raster.now version step room result }
-{
-    match blob_of(alloc, raster, version, step) {
-        Ok(blob) => EncodeStop::NoRoom(blob.len()),
-        Err(stop) => stop,
-    }
 }
 
 /// Lays the blob of a raster over the front of `out`, and answers how many bytes it has.
@@ -269,13 +211,14 @@ fn write_blob(
     out: &mut [u8],
 ) -> Result<usize, EncodeStop>
     ensures ok { IfOk result (λ size. IsWritten raster.now version step size out.old out.new) }
-    ensures stop { IfErr result (λ stop. IsWriteStop raster.now version step (length out.old) stop) }
+    ensures stop { IfErr result (λ stop.
+        IsWriteStop raster.now version step (length out.old) stop) }
     ensures kept { OnErr result (out.new ≡ out.old) }
 {
     match encode_over(alloc, raster, version, step, out) {
         Ok(size) => Ok(size),
         Err(LayFault::DepthNeedsV4) => Err(EncodeStop::DepthNeedsV4),
-        Err(LayFault::NoRoom(_)) => Err(no_room(alloc, raster, version, step, out.len())),
+        Err(LayFault::NoRoom(size)) => Err(EncodeStop::NoRoom(size)),
         Err(LayFault::OutOfMemory) => Err(EncodeStop::OutOfMemory),
     }
 }
@@ -300,6 +243,9 @@ pub(crate) fn encode_into(
         version (step_of error) (length out.old) stop) }
     ensures kept { OnErr result (out.new ≡ out.old) }
 {
-    let raster = given(alloc, kind, rows, cols, depth, values, mask)?;
+    test_arguments(kind, rows, cols, depth, version, values.len(), mask.len())?;
+    let Some(raster) = given(alloc, kind, rows, cols, depth, values, mask) else {
+        return Err(EncodeStop::OutOfMemory);
+    };
     write_blob(alloc, &raster, version, Step::of(error), out)
 }

@@ -138,8 +138,8 @@ pub extern "C" fn futskheri_greatest_size(kind: u32, rows: u32, cols: u32, depth
 /// pixel valid.
 ///
 /// 0: `size` is the blob's. 9: `size` is what the blob would have. 3 to 8 say what of the arguments
-/// is wrong, 2 that memory was refused. Where it is not 0 `out` stays; where it is neither 0 nor 9
-/// `size` does.
+/// is wrong, which is tested first, 2 that memory was refused. Where it is not 0 `out` stays; where
+/// it is neither 0 nor 9 `size` does.
 #[unsafe(no_mangle)]
 pub extern "C" fn futskheri_encode(
     alloc: Global,
@@ -168,7 +168,9 @@ pub extern "C" fn futskheri_encode(
     ensures deep { result ≡ 8 → IsAllowed rows cols depth × (WithKind kind (λ k.
         GivesSizes k rows cols depth (length values.now) (length mask.now))
         × ((version ≡ 3) × (1 < depth))) }
-    ensures memory { result ≡ 2 → IsAllowed rows cols depth }
+    ensures memory { result ≡ 2 → IsAllowed rows cols depth × (WithKind kind (λ k.
+        GivesSizes k rows cols depth (length values.now) (length mask.now))
+        × (version ≡ 3 → depth ≡ 1)) }
     ensures named { result ≢ 4 → result ≢ 5 → AreNamed kind version }
     ensures kept { result ≢ 0 → out.new ≡ out.old }
     ensures size_kept { result ≢ 0 → result ≢ 9 → size.new ≡ size.old }
@@ -199,7 +201,7 @@ pub extern "C" fn futskheri_encode(
 }
 
 /// Writes the name of a reason, as much of it as there is room for, and answers how long it is: 0
-/// where no reason has the number.
+/// where no reason has the number, as none has 0.
 #[unsafe(no_mangle)]
 pub extern "C" fn futskheri_reason_name(reason: u32, out: &mut [u8]) -> usize
     ensures reasons { (r : BlobReason) → reason ≡ reason_number r

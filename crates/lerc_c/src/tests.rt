@@ -33,6 +33,24 @@ fn a_raster_out_and_in(rt: HostRuntime) {
     );
     assert_eq!(rt; status, 0);
     assert!(rt; size <= futskheri_greatest_size(1, 2, 2, 1));
+    let mut short = [5; 3];
+    let mut wanted = 0;
+    let status = futskheri_encode(
+        rt.alloc(),
+        1,
+        2,
+        2,
+        1,
+        4,
+        0,
+        &values,
+        b"\xdf",
+        &mut short,
+        &mut wanted,
+    );
+    assert_eq!(rt; status, 9);
+    assert_eq!(rt; wanted, size);
+    assert_eq!(rt; short, [5; 3]);
     let mut back = [7; 4];
     let mut mask = [7];
     let mut fault = NO_FAULT;
@@ -70,7 +88,11 @@ fn bytes_that_are_no_blob(rt: HostRuntime) {
     );
     assert_eq!(rt; status, 1);
     assert_eq!(rt; fault.place, 6);
+    assert_eq!(rt; fault.reason, 3);
     let mut name = *b"............";
     assert_eq!(rt; futskheri_reason_name(fault.reason, &mut name), 10);
     assert_eq!(rt; name, *b"BadVersion..");
+    assert_eq!(rt; futskheri_reason_name(0, &mut name), 0);
+    assert_eq!(rt; futskheri_reason_name(31, &mut name), 8);
+    assert_eq!(rt; name, *b"Leftoveron..");
 }

@@ -13,7 +13,7 @@ use lerc_header::{BlobFault, BlobReason, Header, Version};
 pub struct Fault {
     /// Where the field begins that fails, in bytes from the blob's first.
     pub place: u64,
-    /// The number of the reason.
+    /// The number of the reason, 1 to 31.
     pub reason: u32,
     /// Where two numbers do not agree: what the blob says, and what was found. Else 0.
     pub stated: u32,
@@ -24,7 +24,7 @@ pub struct Fault {
 #[repr(C)]
 #[derive(Clone, Copy)]
 pub struct Head {
-    /// Twice the greatest error of a value; 1 where no value was changed.
+    /// Twice the greatest error of a value: at least 1; 1 where every value is exact.
     pub step: u64,
     /// The least and the greatest value, both 0 where no pixel is valid.
     pub least: i64,
@@ -75,42 +75,42 @@ pub(crate) fn head_of(header: &Header) -> Head
     }
 }
 
-/// The number of a reason.
+/// The number of a reason, 1 to 31.
 fn number_of_reason(reason: BlobReason) -> u32
     ensures { result ≡ reason_number reason }
 {
     match reason {
-        BlobReason::Truncated => 0,
-        BlobReason::BadKey => 1,
-        BlobReason::BadVersion => 2,
-        BlobReason::BadRows => 3,
-        BlobReason::BadCols => 4,
-        BlobReason::BadDepth => 5,
-        BlobReason::TooLarge => 6,
-        BlobReason::BadCount => 7,
-        BlobReason::BadBlockSize => 8,
-        BlobReason::BadBlobSize => 9,
-        BlobReason::FloatPixels => 10,
-        BlobReason::BadType => 11,
-        BlobReason::BadError => 12,
-        BlobReason::BadRange => 13,
-        BlobReason::BadChecksum { .. } => 14,
-        BlobReason::BadMaskLength => 15,
-        BlobReason::BadRun => 16,
-        BlobReason::BadMaskCount { .. } => 17,
-        BlobReason::MaskMissing => 18,
-        BlobReason::BadSweep => 19,
-        BlobReason::BadMode => 20,
-        BlobReason::BadBlockTag => 21,
-        BlobReason::BadOffsetCode => 22,
-        BlobReason::BadListHead => 23,
-        BlobReason::BadListCount => 24,
-        BlobReason::BadTable => 25,
-        BlobReason::BadIndex => 26,
-        BlobReason::BadCodeTable => 27,
-        BlobReason::NoCode => 28,
-        BlobReason::PastEnd => 29,
-        BlobReason::Leftover => 30,
+        BlobReason::Truncated => 1,
+        BlobReason::BadKey => 2,
+        BlobReason::BadVersion => 3,
+        BlobReason::BadRows => 4,
+        BlobReason::BadCols => 5,
+        BlobReason::BadDepth => 6,
+        BlobReason::TooLarge => 7,
+        BlobReason::BadCount => 8,
+        BlobReason::BadBlockSize => 9,
+        BlobReason::BadBlobSize => 10,
+        BlobReason::FloatPixels => 11,
+        BlobReason::BadType => 12,
+        BlobReason::BadError => 13,
+        BlobReason::BadRange => 14,
+        BlobReason::BadChecksum { .. } => 15,
+        BlobReason::BadMaskLength => 16,
+        BlobReason::BadRun => 17,
+        BlobReason::BadMaskCount { .. } => 18,
+        BlobReason::MaskMissing => 19,
+        BlobReason::BadSweep => 20,
+        BlobReason::BadMode => 21,
+        BlobReason::BadBlockTag => 22,
+        BlobReason::BadOffsetCode => 23,
+        BlobReason::BadListHead => 24,
+        BlobReason::BadListCount => 25,
+        BlobReason::BadTable => 26,
+        BlobReason::BadIndex => 27,
+        BlobReason::BadCodeTable => 28,
+        BlobReason::NoCode => 29,
+        BlobReason::PastEnd => 30,
+        BlobReason::Leftover => 31,
     }
 }
 

@@ -244,7 +244,7 @@ other_sum : (r : Pixels) (version : Version) (step sum : ℕ) → header_with r 
 unfolding header_with header_of
 other_sum r version step sum = refl
 
-covered : (r : Pixels) (version : Version) (step sum : ℕ) → drop 14 (head_bytes (header_with r version step sum) ++ behind_head r version step) ≡ field_bytes (header_with r version step 0) ++ behind_head r version step
+pub covered : (r : Pixels) (version : Version) (step sum : ℕ) → drop 14 (head_bytes (header_with r version step sum) ++ behind_head r version step) ≡ field_bytes (header_with r version step 0) ++ behind_head r version step
 covered r version step sum =
     let h = header_with r version step sum in
     let long = length-head h ∙ version_of r version step sum in

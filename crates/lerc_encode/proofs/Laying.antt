@@ -1,5 +1,5 @@
 -- How a blob is laid out.
-use Rattle.std.proofs.Common.{◌≡◌, ℕ, ◌+◌, ◌-◌, ◌^◌, ◌<◌, ◌≤◌, List, ◌++◌, length, take, drop, refl, sym, ap, ◌∙◌, subst, arith, length-append, length-drop}
+use Rattle.std.proofs.Common.{◌≡◌, ℕ, ◌+◌, ◌-◌, ◌≤◌, List, ◌++◌, length, take, drop, refl, sym, ap, ◌∙◌, arith, length-append, length-drop}
 use Rattle.std.specs.Prelude.{ℤ}
 use Rattle.std.proofs.lemmas.List.{drop_at, length-take-le, take-append-drop}
 use Rattle.byteorder.specs.Endian.{little_bytes}
@@ -109,15 +109,12 @@ pub version_with : (r : Pixels) (version : Version) (step sum : ℕ) → head_le
 unfolding header_with header_of
 version_with r version step sum = refl
 
-pub sealed : (h g : Header) (old mid new rest : List ℕ) (n sum : ℕ) → g ≡ record h { checksum = sum } → n ≡ head_length h.version → mid ≡ head_bytes h ++ drop n old → sum ≡ sum_of rest → rest ≡ drop 14 mid → sum < 2 ^ 32
+pub sealed : (h g : Header) (old mid new rest : List ℕ) (n sum : ℕ) → g ≡ record h { checksum = sum } → n ≡ head_length h.version → mid ≡ head_bytes h ++ drop n old → sum ≡ sum_of rest → rest ≡ drop 14 mid
     → new ≡ head_bytes g ++ drop (head_length g.version) mid → IsSealed h (drop n old) new
-sealed h g old mid new rest n sum e is first sum_is rest_is low second =
+sealed h g old mid new rest n sum e is first sum_is rest_is second =
     let covered : sum ≡ sum_of (drop 14 (head_bytes h ++ drop n old)) = sum_is ∙ ap sum_of (rest_is ∙ ap (drop 14) first) in
     let behind : drop (head_length g.version) mid ≡ drop n old = ap (λ (x : Header). drop (head_length x.version) mid) e ∙ ap (λ (xs : List ℕ). drop (head_length h.version) xs) first ∙ drop_at (head_bytes h) (drop n old) (head_length h.version) (length-head h) in
-    record {
-      fits = subst (λ k. k < 2 ^ 32) covered low;
-      bytes = second ∙ (λ t. head_bytes (e t) ++ behind t) ∙ ap (λ k. head_bytes (record h { checksum = k }) ++ drop n old) covered;
-    }
+    second ∙ (λ t. head_bytes (e t) ++ behind t) ∙ ap (λ k. head_bytes (record h { checksum = k }) ++ drop n old) covered
 
 -- the sealed blob is the chosen one
 other_sum : (r : Pixels) (version : Version) (step sum : ℕ) → header_with r version step sum ≡ record (header_with r version step 0) { checksum = sum }
@@ -127,9 +124,5 @@ other_sum r version step sum = refl
 pub sealed_is : (r : Pixels) (version : Version) (step : ℕ) (h : Header) (behind blob : List ℕ) → h ≡ header_with r version step 0 → behind ≡ behind_head r version step → IsSealed h behind blob → blob ≡ choice r version step
 unfolding choice checksum_of
 sealed_is r version step h behind blob e f s =
-    s.bytes ∙ (λ t. head_bytes (record (e t) { checksum = sum_of (drop 14 (head_bytes (e t) ++ f t)) }) ++ f t)
+    s ∙ (λ t. head_bytes (record (e t) { checksum = sum_of (drop 14 (head_bytes (e t) ++ f t)) }) ++ f t)
     ∙ ap (λ (x : Header). head_bytes x ++ behind_head r version step) (sym (other_sum r version step (sum_of (drop 14 (head_bytes (header_with r version step 0) ++ behind_head r version step)))))
-
-pub sealed_sum : (r : Pixels) (version : Version) (step : ℕ) (h : Header) (behind blob : List ℕ) → h ≡ header_with r version step 0 → behind ≡ behind_head r version step → IsSealed h behind blob → checksum_of r version step < 2 ^ 32
-unfolding checksum_of
-sealed_sum r version step h behind blob e f s = subst (λ k. k < 2 ^ 32) (λ t. sum_of (drop 14 (head_bytes (e t) ++ f t))) s.fits

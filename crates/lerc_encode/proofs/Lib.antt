@@ -14,6 +14,9 @@ mod Standing
 mod Candidates
 mod Endings
 mod Encoded
+mod Sums
+mod BlocksBelow
+mod Below
 mod Asked
 mod Laying
 mod Small

@@ -4,7 +4,7 @@ ghost use Rattle.std.specs.Prelude.{◌≡◌, ◌+◌, ◌^◌, ◌<◌, ◌≤
 ghost use Rattle.lerc_header.specs.declared.header.Version.TheVariants.{V3};
 ghost use Rattle.lerc_header.specs.Head.{head_length};
 ghost use Rattle.lerc_header.specs.Written.{IsHeader, head_bytes};
-ghost use Rattle.lerc_encode.specs.Choice.{behind_head, checksum_of, choice, header_with};
+ghost use Rattle.lerc_encode.specs.Choice.{behind_head, choice, header_with};
 ghost use Rattle.lerc_encode.specs.Encoded.{Declares, IsAsked, IsEncodedOnce};
 ghost use Rattle.lerc_encode.specs.inside.Choosing.{AreRanges, IsBase};
 ghost use Rattle.lerc_encode.specs.inside.Layout.{IsPlan, IsSealed};
@@ -17,13 +17,16 @@ use lerc_header::{Header, Step, Version, checksum, write_header};
 use outside_io::Bytes;
 use raster_values::Raster;
 use std::alloc::{AllocError, Global};
+use thiserror::Error;
 
 /// Why there is no blob of a raster.
-#[derive(Debug, Drop)]
+#[derive(Debug, Drop, Error)]
 pub enum EncodeFault {
     /// The raster has more than one depth, which version 3 has no place for.
+    #[error("depth needs version 4")]
     DepthNeedsV4,
     /// There is no memory for the blob, or for what is known of the raster meanwhile.
+    #[error("out of memory")]
     OutOfMemory,
 }
 
@@ -176,8 +179,7 @@ fn fill(plan: &Plan, raster: &Raster, blob: &mut [u8])
     requires plan { IsPlan raster.now plan.now.base.version plan.now.base.step plan.now }
     requires room { length blob.old ≡ head_length plan.now.base.version
         + length (behind_head raster.now plan.now.base.version plan.now.base.step) }
-    ensures chosen { blob.new ≡ choice raster.now plan.now.base.version plan.now.base.step }
-    ensures sum { checksum_of raster.now plan.now.base.version plan.now.base.step < 2 ^ 32 }
+    ensures { blob.new ≡ choice raster.now plan.now.base.version plan.now.base.step }
 {
     let size = blob.len();
     let head = plan.base.version.head_length().min(size);
@@ -193,8 +195,7 @@ fn blob_of(
     step: u64,
 ) -> Result<Vec<u8>, AllocError>
     requires { IsAsked raster.now version step }
-    ensures chosen { IfOk result (λ blob. blob.items ≡ choice raster.now version step) }
-    ensures sum { IfOk result (λ blob. checksum_of raster.now version step < 2 ^ 32) }
+    ensures { IfOk result (λ blob. blob.items ≡ choice raster.now version step) }
 {
     let plan = plan_of(alloc, raster, version, step)?;
     let size = version.head_length() + behind_len(&plan, raster);
@@ -272,7 +273,9 @@ pub fn encode_over(
     ensures depth { IsErrOf result LayFault.DepthNeedsV4
         ↔ ((version ≡ V3) × (1 < raster.now.depth)) }
     ensures room { (n : ℕ) → IsErrOf result (LayFault.NoRoom n)
-        → (n ≡ length (choice raster.now version step)) × (length out.old < n) }
+        → (n ≡ length (choice raster.now version step)) × ((length out.old < n)
+        × IsEncodedOnce (choice raster.now version step) raster.now step) }
+    ensures few { IfOk result (λ n. n ≤ 134217728) }
     ensures kept { OnErr result (out.new ≡ out.old) }
     ensures size { IfOk result (λ n. n ≡ length (choice raster.now version step)) }
     ensures laid { IfOk result (λ n. out.new ≡ choice raster.now version step ++ drop n out.old) }

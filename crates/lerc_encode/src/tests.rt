@@ -115,6 +115,15 @@ fn version_3_has_one_depth(rt: HostRuntime) -> Result<(), Fail> {
     Ok(())
 }
 
+#[test]
+fn faults_have_texts(rt: HostRuntime) -> Result<(), Fail> {
+    let deep = format!(in rt.alloc(); "{}", EncodeFault::DepthNeedsV4)?;
+    assert_eq!(rt; deep.as_str(), "depth needs version 4");
+    let full = format!(in rt.alloc(); "{}", EncodeFault::OutOfMemory)?;
+    assert_eq!(rt; full.as_str(), "out of memory");
+    Ok(())
+}
+
 /// One row of nine pixels of u8, all 7 but the fourth, which is not valid.
 const EIGHT: [u8; 34] = *b"LGR1\x01\x01\0\0\0\x09\0\0\0\x01\0\0\0\
 \x01\x01\x01\0\x01\x01\x01\x01\x01\x07\x07\x07\x07\x07\x07\x07\x07";

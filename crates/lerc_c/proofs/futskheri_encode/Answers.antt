@@ -1,7 +1,8 @@
-use Rattle.std.proofs.Common.{◌≡◌, ◌<◌, length, refl, ap, ◌∙◌}
+use Rattle.std.proofs.Common.{◌≡◌, ◌<◌, Some, length, refl, ap, ◌∙◌}
 use Rattle.lerc_header.specs.declared.header.Version.TheVariants.{V3}
 use Rattle.lerc_header.specs.Head.{number_of}
 use Rattle.lerc_c.specs.Arrays.{IsAllowed, GivesSizes}
+use Rattle.lerc_c.specs.inside.Stops.{IsFit}
 use Rattle.lerc_c.proofs.futskheri_encode.Goals as goal
 
 pub returns-in-Ok-clause-named : goal.returns-in-Ok-clause-named
@@ -16,3 +17,15 @@ returns-in-Err-DepthNeedsV4-clause-deep c = λ _.
     × (GivesSizes c.in-Some.kind c.args.rows c.args.cols c.args.depth (length c.args.values.now) (length c.args.mask.now) × ((c.in-Some-version_of.version ≡ V3) × (1 < c.args.depth)))
     = rw c.in-Err-DepthNeedsV4.field-0-is at c.in-Err-DepthNeedsV4.ensures.stop in
     (told.0, ((c.in-Some.kind, ((c.in-Some.ensures c.in-Some.kind).0 refl, told.1.0)), ((c.in-Some-version_of.ensures c.in-Some-version_of.version).0 refl ∙ ap number_of told.1.1.0, told.1.1.1)))
+
+pub returns-in-Err-OutOfMemory-clause-memory : goal.returns-in-Err-OutOfMemory-clause-memory
+returns-in-Err-OutOfMemory-clause-memory c = λ _.
+    let version = c.in-Some-version_of.version in
+    let told : IsFit c.in-Some.kind c.args.rows c.args.cols c.args.depth version (length c.args.values.now) (length c.args.mask.now)
+    = rw c.in-Err-OutOfMemory.field-0-is at c.in-Err-OutOfMemory.ensures.stop in (
+      told.allowed,
+      (
+        (c.in-Some.kind, ((c.in-Some.ensures c.in-Some.kind).0 refl, told.sizes)),
+        λ three. told.flat (let same : Some version ≡ Some V3 = (c.in-Some-version_of.ensures V3).1 three in cc),
+      ),
+    )

@@ -4,7 +4,8 @@ use Rattle.raster_values.specs.declared.kind.PixelType.{PixelType}
 use Rattle.raster_values.specs.Raster.{Pixels, IsRaster}
 use Rattle.lerc_c.specs.Arrays.{mark_at}
 
-pub record IsMarked (kind : PixelType) (rows cols depth : ℕ) (mask : List ℕ) (r : Pixels) : Type 0 where
+pub record IsMarked (kind : PixelType) (rows cols depth : ℕ) (mask : List ℕ) (r : Pixels) :
+    Type 0 where
   pub raster : IsRaster r
   pub kind_is : r.kind ≡ kind
   pub rows_are : r.rows ≡ rows

@@ -23,33 +23,25 @@ IsArrayStop bytes values mask (Refused f) = IsRefused bytes f.place f.reason
 IsArrayStop bytes values mask OutOfMemory = HasHeader bytes
 IsArrayStop bytes values mask Sizes = IsMisfit bytes values mask
 
--- why there is no raster of a shape
-abbrev pub IsBlankStop : ℕ → ℕ → ℕ → EncodeStop → Type 0
-IsBlankStop rows cols depth BadShape = HasZero rows cols depth
-IsBlankStop rows cols depth TooLarge = (¬ HasZero rows cols depth) × IsTooLarge rows cols depth
-IsBlankStop rows cols depth OutOfRoom = IsAllowed rows cols depth
-IsBlankStop rows cols depth _ = ⊥
+-- there are rasters of the shape, arrays of these lengths give one, and the version has a place for
+-- the depths
+pub record IsFit (kind : PixelType) (rows cols depth : ℕ) (version : Version) (values mask : ℕ) :
+    Type 0 where
+  pub allowed : IsAllowed rows cols depth
+  pub sizes : GivesSizes kind rows cols depth values mask
+  pub flat : version ≡ V3 → depth ≡ 1
 
--- or of which arrays of other lengths are none
-abbrev pub IsSizeStop : ℕ → ℕ → ℕ → EncodeStop → Type 0
-IsSizeStop rows cols depth BadShape = HasZero rows cols depth
-IsSizeStop rows cols depth TooLarge = (¬ HasZero rows cols depth) × IsTooLarge rows cols depth
-IsSizeStop rows cols depth BadSizes = IsAllowed rows cols depth
-IsSizeStop rows cols depth _ = ⊥
-
-abbrev pub IsGivenStop : PixelType → ℕ → ℕ → ℕ → ℕ → ℕ → EncodeStop → Type 0
-IsGivenStop kind rows cols depth values mask BadShape = HasZero rows cols depth
-IsGivenStop kind rows cols depth values mask TooLarge =
+-- what of them does not hold
+abbrev pub IsArgumentStop : PixelType → ℕ → ℕ → ℕ → Version → ℕ → ℕ → EncodeStop → Type 0
+IsArgumentStop kind rows cols depth version values mask BadShape = HasZero rows cols depth
+IsArgumentStop kind rows cols depth version values mask TooLarge =
     (¬ HasZero rows cols depth) × IsTooLarge rows cols depth
-IsGivenStop kind rows cols depth values mask BadSizes =
+IsArgumentStop kind rows cols depth version values mask BadSizes =
     IsAllowed rows cols depth × (¬ GivesSizes kind rows cols depth values mask)
-IsGivenStop kind rows cols depth values mask OutOfRoom = IsAllowed rows cols depth
-IsGivenStop kind rows cols depth values mask _ = ⊥
-
-abbrev pub IsBlobStop : ℕ → Version → EncodeStop → Type 0
-IsBlobStop depth version DepthNeedsV4 = (version ≡ V3) × (1 < depth)
-IsBlobStop depth version OutOfRoom = Unit {0}
-IsBlobStop depth version _ = ⊥
+IsArgumentStop kind rows cols depth version values mask DepthNeedsV4 =
+    IsAllowed rows cols depth
+    × (GivesSizes kind rows cols depth values mask × ((version ≡ V3) × (1 < depth)))
+IsArgumentStop kind rows cols depth version values mask _ = ⊥
 
 -- the raster's blob stands in front, and nothing behind it was changed
 pub record IsWritten (r : Pixels) (version : Version) (step size : ℕ) (old new : List ℕ) :
@@ -74,15 +66,9 @@ IsWriteStop r version step room _ = ⊥
 
 abbrev pub IsEncodeStop : PixelType → ℕ → ℕ → ℕ → List ℕ → List ℕ → Version → ℕ → ℕ → EncodeStop
     → Type 0
-IsEncodeStop kind rows cols depth values mask version step room BadShape = HasZero rows cols depth
-IsEncodeStop kind rows cols depth values mask version step room TooLarge =
-    (¬ HasZero rows cols depth) × IsTooLarge rows cols depth
-IsEncodeStop kind rows cols depth values mask version step room BadSizes =
-    IsAllowed rows cols depth × (¬ GivesSizes kind rows cols depth (length values) (length mask))
-IsEncodeStop kind rows cols depth values mask version step room DepthNeedsV4 =
-    IsAllowed rows cols depth
-    × (GivesSizes kind rows cols depth (length values) (length mask) × ((version ≡ V3) × (1 < depth)))
 IsEncodeStop kind rows cols depth values mask version step room OutOfRoom =
-    IsAllowed rows cols depth
+    IsFit kind rows cols depth version (length values) (length mask)
 IsEncodeStop kind rows cols depth values mask version step room (NoRoom size) =
     IsTooLong kind rows cols depth values mask version step size room
+IsEncodeStop kind rows cols depth values mask version step room stop =
+    IsArgumentStop kind rows cols depth version (length values) (length mask) stop

@@ -1,5 +1,5 @@
 -- What is known of a blob before it is written.
-use Rattle.std.specs.Prelude.{◌≡◌, ℕ, ◌^◌, ◌<◌, ◌≤◌, false, List, ◌++◌, drop, length}
+use Rattle.std.specs.Prelude.{◌≡◌, ℕ, ◌≤◌, false, List, ◌++◌, drop, length}
 use Rattle.lerc_header.specs.Checksum.{sum_of}
 use Rattle.lerc_header.specs.Written.{head_bytes}
 use Rattle.raster_values.specs.Raster.{Pixels}
@@ -26,7 +26,6 @@ pub record IsPlan (r : Pixels) (version : Version) (step : ℕ) (p : Plan) : Typ
   pub ending : IsEnding r version step p.ending
 
 -- the bytes are the header with the checksum of what it covers, and what stands behind it
-pub record IsSealed (h : Header) (behind blob : List ℕ) : Type 0 where
-  pub fits : sum_of (drop 14 (head_bytes h ++ behind)) < 2 ^ 32
-  pub bytes : blob
-      ≡ head_bytes (record h { checksum = sum_of (drop 14 (head_bytes h ++ behind)) }) ++ behind
+abbrev pub IsSealed : Header → List ℕ → List ℕ → Type 0
+IsSealed h behind blob =
+    blob ≡ head_bytes (record h { checksum = sum_of (drop 14 (head_bytes h ++ behind)) }) ++ behind

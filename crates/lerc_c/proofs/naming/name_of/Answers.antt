@@ -1,10 +1,8 @@
-use Rattle.std.proofs.Common.{[], ap, sym, arith}
+use Rattle.std.proofs.Common.{◌≡◌, ◌<◌, ◌≤◌, [], ap, sym, arith, ⊎_elim}
 use Rattle.std.proofs.lemmas.List.{get_or_past}
+use Rattle.std.proofs.lemmas.Bool.{cases_lt}
 use Rattle.lerc_c.specs.Names.{name_at, names}
 use Rattle.lerc_c.proofs.naming.name_of.Goals as goal
-
-pub returns-in-0-clause-name : goal.returns-in-0-clause-name
-returns-in-0-clause-name c = ap name_at (sym c.in-0.is)
 
 pub returns-in-1-clause-name : goal.returns-in-1-clause-name
 returns-in-1-clause-name c = ap name_at (sym c.in-1.is)
@@ -96,5 +94,12 @@ returns-in-29-clause-name c = ap name_at (sym c.in-29.is)
 pub returns-in-30-clause-name : goal.returns-in-30-clause-name
 returns-in-30-clause-name c = ap name_at (sym c.in-30.is)
 
+pub returns-in-31-clause-name : goal.returns-in-31-clause-name
+returns-in-31-clause-name c = ap name_at (sym c.in-31.is)
+
 pub returns-in_default-clause-name : goal.returns-in_default-clause-name
-returns-in_default-clause-name c = sym (get_or_past names c.args.number [] (omega arith))
+returns-in_default-clause-name c =
+    ⊎_elim
+    (λ (some : 0 < c.args.number). sym (get_or_past names c.args.number [] (omega arith)))
+    (λ (none : c.args.number ≤ 0). ap name_at (let e : 0 ≡ c.args.number = omega arith in e))
+    (cases_lt 0 c.args.number)

@@ -2,6 +2,7 @@ use Rattle.std.proofs.Common.{ℕ, ◌≤◌, sym, ◌∙◌, subst, List, lengt
 use Rattle.lerc_encode.specs.Encoded.{Declares, IsEncodedOnce}
 use Rattle.lerc_encode.proofs.Asked.{asked_of}
 use Rattle.lerc_encode.proofs.Encoded.{declares, encoded_once, few}
+use Rattle.lerc_encode.proofs.Below.{checksum_below}
 use Rattle.lerc_encode.proofs.blob.encode.Goals as goal
 
 pub blob_of-requires : goal.blob_of-requires
@@ -11,18 +12,18 @@ blob_of-requires c =
 pub returns-clause-few : goal.returns-clause-few
 returns-clause-few c =
     let asked = asked_of c.args.raster.now c.args.version c.get.result c.needs_v4.result c.rows-rows.ensures.sound c.get.ensures.allowed c.if-needs_v4.false c.needs_v4.ensures in
-    subst (λ (bytes : List ℕ). length bytes ≤ 134217728) (sym (c.from_vec.ensures ∙ c.in_ok-blob.ensures.chosen)) (few c.args.raster.now c.args.version c.get.result asked)
+    subst (λ (bytes : List ℕ). length bytes ≤ 134217728) (sym (c.from_vec.ensures ∙ c.in_ok-blob.ensures)) (few c.args.raster.now c.args.version c.get.result asked)
 
 pub returns-clause-decodes : goal.returns-clause-decodes
 returns-clause-decodes c =
     let r = c.args.raster.now in
     let asked = asked_of r c.args.version c.get.result c.needs_v4.result c.rows-rows.ensures.sound c.get.ensures.allowed c.if-needs_v4.false c.needs_v4.ensures in
     subst (λ step. IsEncodedOnce c.from_vec.result r step) c.get.ensures.step
-    (subst (λ (bytes : List ℕ). IsEncodedOnce bytes r c.get.result) (sym (c.from_vec.ensures ∙ c.in_ok-blob.ensures.chosen)) (encoded_once r c.args.version c.get.result asked c.in_ok-blob.ensures.sum))
+    (subst (λ (bytes : List ℕ). IsEncodedOnce bytes r c.get.result) (sym (c.from_vec.ensures ∙ c.in_ok-blob.ensures)) (encoded_once r c.args.version c.get.result asked (checksum_below r c.args.version c.get.result)))
 
 pub returns-clause-declares : goal.returns-clause-declares
 returns-clause-declares c =
     let r = c.args.raster.now in
     let asked = asked_of r c.args.version c.get.result c.needs_v4.result c.rows-rows.ensures.sound c.get.ensures.allowed c.if-needs_v4.false c.needs_v4.ensures in
     subst (λ step. Declares c.from_vec.result c.args.version step) c.get.ensures.step
-    (subst (λ (bytes : List ℕ). Declares bytes c.args.version c.get.result) (sym (c.from_vec.ensures ∙ c.in_ok-blob.ensures.chosen)) (declares r c.args.version c.get.result asked c.in_ok-blob.ensures.sum))
+    (subst (λ (bytes : List ℕ). Declares bytes c.args.version c.get.result) (sym (c.from_vec.ensures ∙ c.in_ok-blob.ensures)) (declares r c.args.version c.get.result asked (checksum_below r c.args.version c.get.result)))

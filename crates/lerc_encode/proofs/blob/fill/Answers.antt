@@ -4,7 +4,7 @@ use Rattle.lerc_header.specs.Head.{head_length}
 use Rattle.lerc_header.specs.Written.{IsHeader}
 use Rattle.lerc_header.specs.declared.header.Header.{Header}
 use Rattle.lerc_encode.proofs.Encoded.{is_header, few, length_choice}
-use Rattle.lerc_encode.proofs.Laying.{sealed_is, sealed_sum, end_behind, put_long, version_with}
+use Rattle.lerc_encode.proofs.Laying.{sealed_is, end_behind, put_long, version_with}
 use Rattle.lerc_encode.proofs.blob.fill.Goals as goal
 
 pub header_of-requires-clause-few : goal.header_of-requires-clause-few
@@ -32,8 +32,8 @@ seal-requires-clause-room c =
     let long = put_long n c.args.blob.now c.write_behind.new.out (omega (arith, least)) (omega (arith, room, least, known, out)) in
     omega (arith, long, head, room)
 
-pub returns-clause-chosen : goal.returns-clause-chosen
-returns-clause-chosen c =
+pub returns : goal.returns
+returns c =
     let r = c.args.raster.now in
     let v = c.args.plan.now.base.version in
     let s = c.args.plan.now.base.step in
@@ -46,18 +46,3 @@ returns-clause-chosen c =
     let same : head_length c.header_of.result.version ≡ n = omega (arith, head, least, known, room) in
     let behind = ap (λ k. drop k (put_mid n (length blob - n) blob c.write_behind.new.out)) same ∙ end_behind n blob c.write_behind.new.out (omega (arith, least)) ∙ c.write_behind.ensures in
     sealed_is r v s c.header_of.result _ c.seal.new.blob c.header_of.ensures behind c.seal.ensures
-
-pub returns-clause-sum : goal.returns-clause-sum
-returns-clause-sum c =
-    let r = c.args.raster.now in
-    let v = c.args.plan.now.base.version in
-    let s = c.args.plan.now.base.step in
-    let n = c.min-head.result in
-    let blob = c.args.blob.now in
-    let head : head_length c.header_of.result.version ≡ head_length v = ap (λ (x : Header). head_length x.version) c.header_of.ensures ∙ version_with r v s 0 in
-    let room = c.requires.room in
-    let least = c.min-head.ensures in
-    let known = c.head_length.ensures in
-    let same : head_length c.header_of.result.version ≡ n = omega (arith, head, least, known, room) in
-    let behind = ap (λ k. drop k (put_mid n (length blob - n) blob c.write_behind.new.out)) same ∙ end_behind n blob c.write_behind.new.out (omega (arith, least)) ∙ c.write_behind.ensures in
-    sealed_sum r v s c.header_of.result _ c.seal.new.blob c.header_of.ensures behind c.seal.ensures
