@@ -95,7 +95,7 @@ memory_volume v e w g same told h f is = record {
   unmarked = λ _. refl;
   marks_are = λ tells. no_marks h.moment h.moment;
   marks_at = refl;
-  reads = λ tells late. tt;
+  reads = λ tells late. inl is;
   tiles = λ start ready. ([], (none_at v e w g OutOfMemory refl, keeps_unbuilt [] start h h (stays start told h ready)));
 }
 
@@ -155,7 +155,7 @@ late_memory v e w g same told told_new h h_new f f_new so = record {
   unmarked = λ is. absurd (let bad : ⊥ = cc in bad);
   marks_are = λ t. no_marks h.moment h_new.moment;
   marks_at = refl;
-  reads = λ t _. tt;
+  reads = λ t _. inr ([], (none_at v e w g OutOfMemory refl, (contents Bundle h_new, (so.reads t (λ is. let bad : ⊥ = cc in bad), refl))));
   tiles = λ start ready. ([], (none_at v e w g OutOfMemory refl, keeps_unbuilt [] start h h_new (so.tiles start ready)));
 }
 

@@ -1,5 +1,5 @@
 -- An object that a command does not touch is left as its contract says.
-use Rattle.std.proofs.Common.{◌≡◌, ℕ, List, [], Option, Some, None, Bool, Ok, Err, inl, refl, rules, sym, subst, arith}
+use Rattle.std.proofs.Common.{◌≡◌, ℕ, List, [], Option, Some, None, Bool, Ok, Err, inl, inr, refl, rules, sym, subst, arith}
 use Rattle.std.specs.Prelude.{IsTrue, IsFalse}
 use Rattle.outside_io.specs.declared.volume.VolFile.TheVariants.{Bundle, Journal}
 use Rattle.outside_io.specs.streams.Source.{TakesUpTo}
@@ -163,15 +163,28 @@ volume_idle c g n end same same_out held held_new f f_new told h faults is idle 
     (λ failed. let there : Ends c g n (Err Volume) out.gave.0 = subst (λ (x : End). Ends c g n x out.gave.0) failed out.gave.1.0 in clash (calls_volume c) there.0 idle)
     (record { some = λ _. no_updates c g (idle_makes c idle); none = λ _. refl })
 
-answers : (end : End) (P : Type 0) → ((end ≡ Err Volume → ⊥) → P) → OnAnswer end P
-answers (Ok x) P p = p (λ is. cc)
-answers (Err Usage) P p = p (λ is. cc)
-answers (Err (Refused fault)) P p = p (λ is. cc)
-answers (Err Source) P p = p (λ is. cc)
-answers (Err Output) P p = p (λ is. cc)
-answers (Err Volume) P p = tt
-answers (Err OutOfMemory) P p = tt
-answers (Err (Store refusal)) P p = p (λ is. cc)
+-- memory was refused to a command
+memory : (c : Command) (same P : Type 0) → P → OnAnswer (Err OutOfMemory) c same P
+memory (Encode version error) same P p = p
+memory Decode same P p = p
+memory Info same P p = p
+memory (Build version error workers) same P p = inr p
+memory (Put version error workers) same P p = p
+memory (Get slot) same P p = p
+memory (GetRaw slot) same P p = p
+memory ListAll same P p = p
+memory Check same P p = p
+memory Recover same P p = p
+
+answers : (end : End) (c : Command) (same P : Type 0) → ((end ≡ Err Volume → ⊥) → P) → OnAnswer end c same P
+answers (Ok x) c same P p = p (λ is. cc)
+answers (Err Usage) c same P p = p (λ is. cc)
+answers (Err (Refused fault)) c same P p = p (λ is. cc)
+answers (Err Source) c same P p = p (λ is. cc)
+answers (Err Output) c same P p = p (λ is. cc)
+answers (Err Volume) c same P p = tt
+answers (Err OutOfMemory) c same P p = memory c same P (p (λ is. cc))
+answers (Err (Store refusal)) c same P p = p (λ is. cc)
 
 -- the volume of a command that reads the bundle
 pub reading_volume : (c : Command) (g : Given) (end : End) (same : Type 0) (told told_new : Bool) (h h_new : History) (faults faults_new : ℕ)
@@ -184,7 +197,7 @@ reading_volume c g end same told told_new h h_new faults faults_new calls none s
   unmarked = λ _. refl;
   marks_are = λ tells. no_marks h.moment h_new.moment;
   marks_at = none_at c h_new.moment;
-  reads = λ tells late. answers end _ (λ well.
+  reads = λ tells late. answers end c same _ (λ well.
       ([], (record { some = λ _. no_updates c g none; none = λ _. refl }, (contents Bundle h_new, (so.reads tells well, sym (same_bundle c end (contents Bundle h_new) [] none))))));
   tiles = λ start ready. ([], (record { some = λ _. no_updates c g none; none = λ _. refl }, keeps_none c start h h_new (so.tiles start ready)));
 }

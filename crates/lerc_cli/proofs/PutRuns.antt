@@ -272,11 +272,11 @@ not_early v e w (Err (PutFull len)) is = cc
 updates_at : (v : Version) (e w : ℕ) (g : Given) (r : PutEnd) (us : List TileRec) → UpdatesOf (Put v e w) g us → UpdatesAt (Put v e w) g (put_end_of r) us
 updates_at v e w g r us of = record { some = λ _. of; none = λ bad. absurd (clash (has_updates (put_end_of r)) (late v e w r) bad) }
 
-on_answer : (r : PutEnd) (P : Type 0) → UnlessVolume r P → OnAnswer (put_end_of r) P
-on_answer (Ok x) P p = p
-on_answer (Err PutOutput) P p = p
-on_answer (Err PutVolume) P p = tt
-on_answer (Err (PutFull len)) P p = p
+on_answer : (v : Version) (e w : ℕ) (r : PutEnd) (same P : Type 0) → UnlessVolume r P → OnAnswer (put_end_of r) (Put v e w) same P
+on_answer v e w (Ok x) same P p = p
+on_answer v e w (Err PutOutput) same P p = p
+on_answer v e w (Err PutVolume) same P p = tt
+on_answer v e w (Err (PutFull len)) same P p = p
 
 unless_map : (r : PutEnd) (P Q : Type 0) → (P → Q) → UnlessVolume r P → UnlessVolume r Q
 unless_map (Ok x) P Q so p = so p
@@ -299,7 +299,7 @@ put_all_volume v e w g failed told told_mid told_new h h_mid h_new f f_mid f_new
   unmarked = λ is. absurd (let bad : ⊥ = cc in bad);
   marks_are = λ t. earlier_marks marks h.moment h_mid.moment h_new.moment (so.later t) (are (so.told ∙ t));
   marks_at = tt;
-  reads = λ t _. on_answer r _ (unless_map r _ _ (λ (held : HoldsClosed (bundle_after_puts (contents Bundle h_mid) (take (length marks) us)) (current h_new)).
+  reads = λ t _. on_answer v e w r same _ (unless_map r _ _ (λ (held : HoldsClosed (bundle_after_puts (contents Bundle h_mid) (take (length marks) us)) (current h_new)).
       let o = opened t in (us, (updates_at v e w g r us of, (contents Bundle h_mid, (inl (o.done, o.leaves), ap (λ (x : File). x.now) held.bundle_is))))) (reads (so.told ∙ t)));
   tiles = λ start ready.
       let o = opened ready.tells in

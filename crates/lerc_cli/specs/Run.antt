@@ -107,7 +107,8 @@ pub record OfVolume (c : Command) (g : Given) (end : End) (same : Type 0) (marks
   pub marks_are : IsTrue told_old → AreMarks marks old.moment new.moment
   pub marks_at : MarksAt c marks new.moment
   -- what the bundle reads as: what a recovery leaves, with the updates done that have a mark
-  pub reads : IsTrue told_old → IsFalse (is_early c end) → OnAnswer end ((updates : List TileRec)
+  pub reads : IsTrue told_old → IsFalse (is_early c end)
+      → OnAnswer end c same ((updates : List TileRec)
       × (UpdatesAt c g end updates × ((bundle : List ℕ)
       × (IsLeft (contents Bundle old) (contents Journal old) bundle
       × (contents Bundle new ≡ bundle_after c end bundle (take (length marks) updates))))))
@@ -139,7 +140,8 @@ pub record OfRun (c : Command) (status : ℕ) (marks : List ℕ)
   pub source : OfSource c end same_source left_old left_new taking_old taking_new
   pub output : OfOutput c (given left_old (files_of told_old old)) (length marks) end same_output
       held_old held_new giving_old giving_new
-  pub volume : OfVolume c (given left_old (files_of told_old old)) end same_volume marks told_old told_new old new calling_old calling_new
+  pub volume : OfVolume c (given left_old (files_of told_old old)) end same_volume marks
+      told_old told_new old new calling_old calling_new
   pub line : GivesLineOf end same_error said_old said_new saying_old saying_new
 
 -- Memory for the words was refused: the line of that is all that was given.

@@ -32,10 +32,10 @@ pub record IsReady (told : Bool) (h : History) (start : TileMap) : Type 0 where
 abbrev pub KeepsStart : TileMap → History → History → Type 0
 KeepsStart start old new = During (EachImage (λ map. map ≡ start)) old new
 
--- At each moment each image is sound. For `put` it stands for the tiles that stood at the start with
--- the first few updates done: at least those with a mark by then, and at most one more. For `build`
--- all are done, or none that has a mark by then. For any other command it stands for the tiles at
--- the start.
+-- At each moment each image is sound. For `put` it stands for the tiles that stood at the start
+-- with the first few updates done: at least those with a mark by then, and at most one more. For
+-- `build` all are done, or none that has a mark by then. For any other command it stands for the
+-- tiles at the start.
 abbrev pub KeepsTiles : Command → List TileRec → List ℕ → TileMap → History → History → Type 0
 KeepsTiles (Build version error workers) updates marks start old new =
     BuildKeeps start updates marks old new
@@ -72,11 +72,12 @@ is_early (Put version error workers) (Err (Store TooManyTiles)) = true
 is_early (Put version error workers) (Err (Store (KeptTooMuch at))) = true
 is_early c end = not (calls_volume c)
 
--- unless the volume failed or memory was refused
-abbrev pub OnAnswer : End → Type 0 → Type 0
-OnAnswer (Err Volume) P = Unit {0}
-OnAnswer (Err OutOfMemory) P = Unit {0}
-OnAnswer end P = P
+-- Unless the volume failed. Where memory was refused to `build`, the volume may also be as it was,
+-- which the first type says.
+abbrev pub OnAnswer : End → Command → Type 0 → Type 0 → Type 0
+OnAnswer (Err Volume) c same P = Unit {0}
+OnAnswer (Err OutOfMemory) (Build version error workers) same P = same ⊎ P
+OnAnswer end c same P = P
 
 -- The bundle with these updates done. A build that ended well made one of no updates, too, and so
 -- did one whose line the output did not take.

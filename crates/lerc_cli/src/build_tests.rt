@@ -66,7 +66,10 @@ fn a_bundle_of_each_slot_s_last_tile_is_built_once(rt: HostRuntime) -> Result<()
     assert_eq!(rt; left.out.held(), b"built 1 131206\n".as_slice());
     assert!(rt; stands(&mut vol, 64, &ENTRY));
     assert_eq!(rt; over(alloc, &["list"], &mut vol)?.out.held(), LISTED);
-    assert_eq!(rt; over(alloc, &FIRST, &mut vol)?.out.held(), NONE_VALID.as_slice());
+    assert_eq!(rt;
+        over(alloc, &FIRST, &mut vol)?.out.held(),
+        NONE_VALID.as_slice()
+    );
     let left = build(alloc, "0", &tiles, &[], &mut vol)?;
     assert_eq!(rt; (left.status, left.marks), (7, 0));
     assert_eq!(rt; left.out.held().len(), 0);

@@ -21,8 +21,8 @@ pub enum Command {
     Decode,
     /// Reads one blob, and gives the lines of what it says of itself.
     Info,
-    /// Reads tiles, and builds a bundle of the blob of each slot's last one in the place of an empty
-    /// bundle. The number of workers changes nothing of what is given and built.
+    /// Reads tiles, and builds a bundle of the blob of each slot's last one in the place of an
+    /// empty bundle. The number of workers changes nothing of what is given and built.
     Build {
         version: Version,
         error: u32,

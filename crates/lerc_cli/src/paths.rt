@@ -1,6 +1,7 @@
 //! Where the bundle stands.
 
-ghost use Rattle.std.specs.Prelude.{◌≡◌, ◌++◌, Some, IfOk, IfSome, codes, slice_get, string_bytes};
+ghost use Rattle.std.specs.Prelude.{◌≡◌, ◌↔◌, ◌++◌, Some, IfOk, IfSome, IsNone, codes, slice_get, string_bytes};
+ghost use Rattle.lerc_cli.specs.Arguments.{IsNoPath};
 
 use crate::arguments::{Arguments, word_at};
 use std::alloc::{AllocError, Global};
@@ -14,9 +15,11 @@ pub struct Paths {
 }
 
 /// The paths that the first word behind the program's name says. None where there is no such word,
-/// where it is `-`, or where it is no text. Want of memory is its only error.
+/// where it is `-`, or where it is no UTF-8. Want of memory is its only error.
 pub fn bundle_paths<A: Arguments>(alloc: Global, args: &A) -> Result<Option<Paths>, AllocError>
-    ensures { IfOk result (λ paths. IfSome paths (λ p. (string_bytes p.journal
+    ensures none { IfOk result (λ paths. IfSome (A.texts args.now)
+        (λ texts. IsNone paths ↔ IsNoPath (slice_get texts 1))) }
+    ensures some { IfOk result (λ paths. IfSome paths (λ p. (string_bytes p.journal
         ≡ string_bytes p.bundle ++ codes ".jnl") × IfSome (A.texts args.now) (λ texts.
         slice_get texts 1 ≡ Some (string_bytes p.bundle)))) }
 {

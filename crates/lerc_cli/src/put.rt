@@ -92,8 +92,8 @@ fn put_end(ended: Result<(), PutStop>) -> Result<(), Stop>
     }
 }
 
-/// Reads a whole input of tiles, and puts each into its slot. A tile is put before its mark is kept,
-/// and its mark is kept before its line is given.
+/// Reads a whole input of tiles, and puts each into its slot. A tile is put before its mark is
+/// kept, and its mark is kept before its line is given.
 pub fn put<S: Source, K: Sink, V: Volume>(
     alloc: Global,
     version: Version,

@@ -73,7 +73,12 @@ fn a_failing_call_of_a_put_leaves_no_line(rt: HostRuntime) -> Result<(), Fail> {
 }
 
 /// One image of a moment.
-pub(crate) fn image(alloc: Global, vol: &MemVolume, moment: u64, pick: Pick) -> Result<MemVolume, Fail> {
+pub(crate) fn image(
+    alloc: Global,
+    vol: &MemVolume,
+    moment: u64,
+    pick: Pick,
+) -> Result<MemVolume, Fail> {
     if moment > vol.moment() {
         return Err("moment".into());
     }

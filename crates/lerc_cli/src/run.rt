@@ -128,12 +128,12 @@ fn ended_status<E: Sink>(ended: Result<(), Stop>, err: &mut E) -> u8
 /// Does all that the program does: finds the command of the words, does it, and answers the status
 /// that the program ends with.
 ///
-/// `encode` reads one grid, and gives the blob that is chosen for its raster; it refuses a raster of
-/// more than one depth in version 3. `decode` and `info` read one whole blob; then `decode` gives
-/// its grid, and `info` the fourteen lines of what it says of itself. `build` and `put` read tiles;
-/// `build` makes a bundle of each slot's last one in the place of an empty bundle, and `put` puts the
-/// blob of each into its slot. `get`, `list` and `check` tell of the bundle, and `recover` of what a
-/// crash had left; these, `build` and `put` first make that whole.
+/// `encode` reads one grid, and gives the blob that is chosen for its raster; it refuses a raster
+/// of more than one depth in version 3. `decode` and `info` read one whole blob; then `decode`
+/// gives its grid, and `info` the fourteen lines of what it says of itself. `build` and `put` read
+/// tiles; `build` makes a bundle of each slot's last one in the place of an empty bundle, and `put`
+/// puts the blob of each into its slot. `get`, `list` and `check` tell of the bundle, and `recover`
+/// of what a crash had left; these, `build` and `put` first make that whole.
 ///
 /// | status | it comes |
 /// |---|---|
@@ -147,8 +147,8 @@ fn ended_status<E: Sink>(ended: Result<(), Stop>, err: &mut E) -> u8
 /// | 7 | where the store refuses; the line tells its first refusal |
 ///
 /// On a status other than 0 one line is given to `err`. The faults of `err` change nothing. Each
-/// tile that a `put` was told is there has a mark, the moment of that, and each tile of a bundle that
-/// was built has one, the moment of its end; nothing else has one.
+/// tile that a `put` was told is there has a mark, the moment of that, and each tile of a bundle
+/// that was built has one, the moment of its end; nothing else has one.
 pub fn run<S: Source, K: Sink, E: Sink, V: Volume>(
     alloc: Global,
     words: &[Word],
@@ -177,8 +177,8 @@ pub fn run<S: Source, K: Sink, E: Sink, V: Volume>(
         (err.new ≡ err.old) (E.held err.old) (E.held err.new)
         (E.faults err.old) (E.faults err.new) }
 
-    // Where all that a command reads is told and has an output, it gets that, unless an object fails
-    // or memory is refused.
+    // Where all that a command reads is told and has an output, it gets that, unless an object
+    // fails or memory is refused.
     ensures complete { (c : Command) → IsSpelled c words.now
         → Tells c (given (S.left src.old) (files_of (V.told vol.old) (V.history vol.old)))
         → (n : ℕ) (output : List ℕ)
@@ -188,9 +188,9 @@ pub fn run<S: Source, K: Sink, E: Sink, V: Volume>(
         → (result.status ≡ 0) × Holds (K.held out.old) (K.held out.new) output }
 
     // At each moment of the run each image that a crash may leave is sound. It stands for the tiles
-    // that stood as the run began; for `put`, with the first few of its updates done, at least those
-    // that have a mark by then, and at most one more; for `build`, with all done, or with none as
-    // long as none has a mark.
+    // that stood as the run began; for `put`, with the first few of its updates done, at least
+    // those that have a mark by then, and at most one more; for `build`, with all done, or with
+    // none as long as none has a mark.
     ensures kept { (c : Command) → IsSpelled c words.now → (start : TileMap)
         → IsReady (V.told vol.old) (V.history vol.old) start
         → (updates : List TileRec) × ((end : End) × ((result.status ≡ status_at end)
