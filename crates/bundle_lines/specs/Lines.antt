@@ -34,7 +34,9 @@ built_line tiles len = named_line (codes "built") (and_number tiles ++ and_numbe
 
 -- the slot's entry; a slot without a tile has no line
 unfoldable pub list_line : ℕ → Entry → List ℕ
-list_line slot e = if e.size == 0 then [] else named_line (decimal (slot / 128)) (and_number (slot % 128)
+list_line slot e =
+    if e.size == 0 then []
+    else named_line (decimal (slot / 128)) (and_number (slot % 128)
     ++ (and_number e.offset ++ and_number e.size))
 
 -- the lines of the slots below a number, in their order

@@ -57,7 +57,8 @@ marked marks t = count_by (λ mark. nat_le mark t) marks
 -- they never fall, none is earlier than the start, and none is later than the end
 pub record AreMarks (marks : List ℕ) (from to : ℕ) : Type 0 where
   pub rising : (i j : ℕ) → i ≤ j → j < length marks → slice_index marks i ≤ slice_index marks j
-  pub within : (i : ℕ) → i < length marks → (from ≤ slice_index marks i) × (slice_index marks i ≤ to)
+  pub within : (i : ℕ) → i < length marks
+      → (from ≤ slice_index marks i) × (slice_index marks i ≤ to)
 
 -- ---- crashes
 

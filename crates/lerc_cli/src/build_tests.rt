@@ -1,9 +1,8 @@
-//! Building bundles: what is given and built, what a crash at each moment leaves, and refusals.
+//! Building bundles: what is given and built, and refusals.
 
-use crate::bundle_tests::{ENTRY, bundle_of, over, volume};
+use crate::bundle_tests::{ENTRY, FRESH, HEADER, bundle_of, over, stands, volume};
 use crate::encode_tests::TENS;
-use crate::put_tests::{PICKS, image};
-use crate::tests::{GRID, Left, NO_PIXEL, NONE_VALID, left_over};
+use crate::tests::{GRID, Left, NO_PIXEL, NONE_VALID, left_over, told_over};
 use outside_io::{MemVolume, VolFile, Volume};
 use std::alloc::Global;
 use std::test::Fail;
@@ -11,20 +10,16 @@ use std::test::Fail;
 const FIRST: [&str; 4] = ["get", "0", "0", "raw"];
 
 /// The line of a listing of the one tile.
-const LISTED: &[u8] = b"0 0 131140 66\n";
-
-/// The header of a bundle of no tiles.
-const FRESH: [u8; 64] =
-    *b"\x03\x00\x00\x00\x00\x40\x00\x00\x00\x00\x00\x00\x05\x00\x00\x00\x00\x00\x00\x00\x00\x00\x00\x00\x40\x00\x02\x00\x00\x00\x00\x00\x28\x00\x00\x00\x00\x00\x00\x00\x14\x00\x02\x00\x03\x00\x00\x00\x10\x00\x00\x00\x00\x40\x00\x00\x05\x00\x00\x00\x00\x00\x02\x00";
+pub(crate) const LISTED: &[u8] = b"0 0 131140 66\n";
 
 /// Two tiles for the first slot: of one pixel, and of one that is not valid.
-fn two_tiles(alloc: Global) -> Result<Vec<u8>, Fail> {
+pub(crate) fn two_tiles(alloc: Global) -> Result<Vec<u8>, Fail> {
     let mark = b"T\0\0".as_slice();
     Ok([mark, &GRID, mark, &NO_PIXEL].concat(alloc)?)
 }
 
 /// What a build leaves. The calls on the output of these numbers fail.
-fn build(
+pub(crate) fn build(
     alloc: Global,
     error: &str,
     input: &[u8],
@@ -35,12 +30,6 @@ fn build(
     Ok(left_over(alloc, &words, input, (7, 100), (&[], failing), vol)?)
 }
 
-/// Whether the bundle holds these bytes at the place.
-fn stands(vol: &mut MemVolume, at: u64, bytes: &[u8; 8]) -> bool {
-    let mut found = [0; 8];
-    vol.read(VolFile::Bundle, at, &mut found) == Ok(8) && found == *bytes
-}
-
 #[test]
 fn a_bundle_of_no_tiles_is_built(rt: HostRuntime) -> Result<(), Fail> {
     let alloc = rt.alloc();
@@ -49,9 +38,8 @@ fn a_bundle_of_no_tiles_is_built(rt: HostRuntime) -> Result<(), Fail> {
     assert_eq!(rt; (left.status, left.marks), (0, 0));
     assert_eq!(rt; left.out.held(), b"built 0 131136\n".as_slice());
     assert_eq!(rt; vol.len(VolFile::Bundle), Ok(131136));
-    let mut header = [0; 64];
-    assert_eq!(rt; vol.read(VolFile::Bundle, 0, &mut header), Ok(64));
-    assert_eq!(rt; header, FRESH);
+    assert!(rt; stands(&mut vol, VolFile::Bundle, 0, &FRESH));
+    assert!(rt; stands(&mut vol, VolFile::Bundle, 64, &[0; 100]));
     assert_eq!(rt; over(alloc, &["list"], &mut vol)?.out.held().len(), 0);
     Ok(())
 }
@@ -64,7 +52,15 @@ fn a_bundle_of_each_slot_s_last_tile_is_built_once(rt: HostRuntime) -> Result<()
     let left = build(alloc, "0", &tiles, &[], &mut vol)?;
     assert_eq!(rt; (left.status, left.marks), (0, 2));
     assert_eq!(rt; left.out.held(), b"built 1 131206\n".as_slice());
-    assert!(rt; stands(&mut vol, 64, &ENTRY));
+    assert_eq!(rt; vol.len(VolFile::Bundle), Ok(131206));
+    let rows = [
+        (0, HEADER.as_slice()),
+        (64, &ENTRY),
+        (131136, &[66, 0, 0, 0]),
+    ];
+    for (at, bytes) in rows {
+        assert!(rt; stands(&mut vol, VolFile::Bundle, at, bytes), "at {at}");
+    }
     assert_eq!(rt; over(alloc, &["list"], &mut vol)?.out.held(), LISTED);
     assert_eq!(rt;
         over(alloc, &FIRST, &mut vol)?.out.held(),
@@ -77,6 +73,19 @@ fn a_bundle_of_each_slot_s_last_tile_is_built_once(rt: HostRuntime) -> Result<()
     Ok(())
 }
 
+#[test]
+fn the_marks_of_a_build_are_its_end(rt: HostRuntime) -> Result<(), Fail> {
+    let alloc = rt.alloc();
+    let mut vol = volume(alloc, &[], &[], &[])?;
+    let tiles = two_tiles(alloc)?;
+    let words = ["build", "3", "0", "2"];
+    let (report, _out, _err) = told_over(alloc, &words, &tiles, (7, 100), (&[], &[]), &mut vol)?;
+    let marks = report.marks;
+    assert!(rt; marks.len() == 2);
+    assert_eq!(rt; (marks.at(0), marks.at(1)), (vol.moment(), vol.moment()));
+    Ok(())
+}
+
 /// Whether the first tile is the last one of the two, or there is none and the list is empty.
 fn has_the_last_or_none(alloc: Global, vol: &mut MemVolume, may_lack: bool) -> Result<bool, Fail> {
     let listing = over(alloc, &["list"], vol)?;
@@ -86,23 +95,6 @@ fn has_the_last_or_none(alloc: Global, vol: &mut MemVolume, may_lack: bool) -> R
     } else {
         Ok(listing.out.held() == LISTED && tile.out.held() == NONE_VALID.as_slice())
     }
-}
-
-#[test]
-fn a_crash_at_any_moment_of_a_build_leaves_all_or_nothing(rt: HostRuntime) -> Result<(), Fail> {
-    let alloc = rt.alloc();
-    let mut vol = volume(alloc, &[], &[], &[])?;
-    let left = build(alloc, "0", &two_tiles(alloc)?, &[], &mut vol)?;
-    assert_eq!(rt; left.status, 0);
-    let end = vol.moment();
-    for moment in 0..=end {
-        for pick in PICKS {
-            let mut crashed = image(alloc, &vol, moment, pick)?;
-            assert_eq!(rt; over(alloc, &["recover"], &mut crashed)?.status, 0);
-            assert!(rt; has_the_last_or_none(alloc, &mut crashed, moment < end)?);
-        }
-    }
-    Ok(())
 }
 
 #[test]
@@ -142,11 +134,13 @@ fn the_input_of_a_build_is_refused_before_its_bundle(rt: HostRuntime) -> Result<
     let alloc = rt.alloc();
     let bundle = bundle_of(alloc, &ENTRY)?;
     let one = [b"T\0\0".as_slice(), &TENS].concat(alloc)?;
+    let mut cut = one.clone()?;
+    cut.truncate(31);
     let rows = [
         (one.as_slice(), 7, b"store: NotEmpty 131206\n".as_slice()),
         (&[0x55], 2, b"refused: BadTileMark at 0\n"),
         (&[0x54, 0x80], 2, b"refused: BadSlot at 1\n"),
-        (&one[..31], 2, b"refused: Truncated at 31\n"),
+        (&cut, 2, b"refused: Truncated at 31\n"),
     ];
     for (input, status, line) in rows {
         let mut vol = volume(alloc, &bundle, &[], &[])?;

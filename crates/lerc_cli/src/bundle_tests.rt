@@ -1,13 +1,17 @@
-//! Bundles: what the commands on them give, and what they say of bundles and journals that are none.
+//! Bundles: what the commands on them give, and what they say of files that are none.
 
-use crate::tests::{BLOB, GRID, Left, left_over};
-use outside_io::{Bytes, MemVolume, NoVolume, Piece, Start};
+use crate::tests::{BLOB, GRID, Left, USAGE, left_over};
+use outside_io::{Bytes, MemVolume, NoVolume, Piece, Start, VolFile, Volume};
 use std::alloc::Global;
 use std::test::Fail;
 
 /// The header of a bundle of 131,206 bytes that has one record.
-const HEADER: [u8; 64] =
+pub(crate) const HEADER: [u8; 64] =
     *b"\x03\x00\x00\x00\x00\x40\x00\x00\x42\x00\x00\x00\x05\x00\x00\x00\x00\x00\x00\x00\x00\x00\x00\x00\x86\x00\x02\x00\x00\x00\x00\x00\x28\x00\x00\x00\x00\x00\x00\x00\x14\x00\x02\x00\x03\x00\x00\x00\x10\x00\x00\x00\x00\x40\x00\x00\x05\x00\x00\x00\x00\x00\x02\x00";
+
+/// The header of a bundle of no tiles.
+pub(crate) const FRESH: [u8; 64] =
+    *b"\x03\x00\x00\x00\x00\x40\x00\x00\x00\x00\x00\x00\x05\x00\x00\x00\x00\x00\x00\x00\x00\x00\x00\x00\x40\x00\x02\x00\x00\x00\x00\x00\x28\x00\x00\x00\x00\x00\x00\x00\x14\x00\x02\x00\x03\x00\x00\x00\x10\x00\x00\x00\x00\x40\x00\x00\x05\x00\x00\x00\x00\x00\x02\x00";
 
 /// The entry of the record.
 pub(crate) const ENTRY: [u8; 8] = [0x44, 0x00, 0x02, 0x00, 0x00, 0x42, 0x00, 0x00];
@@ -41,6 +45,15 @@ pub(crate) fn volume(
     let journal = file_of(alloc, journal)?;
     let failing = Vec::from_slice(alloc, failing)?;
     Ok(MemVolume::new(alloc, bundle, journal, failing, None, 1000, 300_000)?)
+}
+
+/// Whether these bytes, 100 at most, stand at the place of the file.
+pub(crate) fn stands(vol: &mut MemVolume, file: VolFile, at: u64, bytes: &[u8]) -> bool {
+    let mut found = [0; 100];
+    match vol.read(file, at, &mut found) {
+        Ok(got) => bytes.len() <= got && got <= 100 && &found[..bytes.len()] == bytes,
+        Err(_) => false,
+    }
 }
 
 /// What a command leaves over a volume, whose input is empty.
@@ -236,15 +249,54 @@ fn a_failing_volume_ends_the_run(rt: HostRuntime) -> Result<(), Fail> {
         assert_eq!(rt; left.out.held().len(), 0);
         assert_eq!(rt; left.err.held(), b"volume failed\n".as_slice());
     }
-    let mut none = NoVolume::new();
-    let left = left_over(
-        alloc,
-        &["get", "0", "0"],
-        &[],
-        (1, 1),
-        (&[], &[]),
-        &mut none,
-    )?;
-    assert_eq!(rt; left.status, 5);
+    for words in [["list"].as_slice(), &["get", "0", "0"]] {
+        let mut none = NoVolume::new();
+        let left = left_over(alloc, words, &[], (1, 1), (&[], &[]), &mut none)?;
+        assert_eq!(rt; left.status, 5);
+        assert_eq!(rt; left.err.held(), b"volume failed\n".as_slice());
+    }
+    Ok(())
+}
+
+#[test]
+fn a_tile_of_another_format_is_passed_on(rt: HostRuntime) -> Result<(), Fail> {
+    let alloc = rt.alloc();
+    // The size in front of three bytes, and what a check finds.
+    let rows = [
+        (3, b"tiles 1\nbytes 3\nbad 0\n".as_slice()),
+        (4, b"tiles 1\nbytes 3\nbad 1\nfirst 0 0\n"),
+    ];
+    for (size, report) in rows {
+        let mut index = Vec::new(alloc);
+        index.resize(131064, 0)?;
+        let entry = [0x44, 0, 2, 0, 0, 3, 0, 0];
+        let record = [size, 0, 0, 0, 0xff, 0xd8, 0xff];
+        let bundle = [FRESH.as_slice(), &entry, &index, &record].concat(alloc)?;
+        let mut vol = volume(alloc, &bundle, &[], &[])?;
+        let raw = over(alloc, &["get", "0", "0", "raw"], &mut vol)?;
+        assert_eq!(rt; raw.out.held(), [0xff, 0xd8, 0xff].as_slice());
+        let left = over(alloc, &["get", "0", "0"], &mut vol)?;
+        assert_eq!(rt; (left.status, left.out.held().len()), (2, 0));
+        assert_eq!(rt; left.err.held(), b"refused: Truncated at 3\n".as_slice());
+        assert_eq!(rt; over(alloc, &["check"], &mut vol)?.out.held(), report);
+    }
+    Ok(())
+}
+
+#[test]
+fn words_that_are_nearly_a_command_are_refused(rt: HostRuntime) -> Result<(), Fail> {
+    let alloc = rt.alloc();
+    let rows = [
+        ["build", "3", "0", "0"].as_slice(),
+        &["get", "128", "0"],
+        &["get", "01", "0"],
+        &["list", "0"],
+    ];
+    for words in rows {
+        let mut vol = volume(alloc, &[], &[], &[])?;
+        let left = over(alloc, words, &mut vol)?;
+        assert_eq!(rt; (left.status, left.marks, vol.moment()), (1, 0, 0));
+        assert_eq!(rt; left.err.held(), USAGE);
+    }
     Ok(())
 }

@@ -19,6 +19,8 @@ mod bundle_tests;
 #[cfg(test)]
 mod coded_tests;
 mod command;
+#[cfg(test)]
+mod crash_tests;
 mod decode;
 mod encode;
 #[cfg(test)]

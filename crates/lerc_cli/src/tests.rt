@@ -6,7 +6,7 @@ ghost use Rattle.std.specs.Prelude.{◌<◌, None};
 
 use crate::arguments::{Arguments, command_words};
 use crate::run::run;
-use outside_io::{Bytes, MemSink, MemSource, NoVolume, Volume, Word};
+use outside_io::{Bytes, MemSink, MemSource, NoVolume, Report, Volume, Word};
 use std::alloc::{AllocError, Global};
 use std::env::FillError;
 use std::test::Fail;
@@ -192,15 +192,15 @@ pub(crate) fn left_by(
     left_over(alloc, words, input, pieces, failing, &mut NoVolume::new())
 }
 
-/// The same over a volume.
-pub(crate) fn left_over<V: Volume>(
+/// What a run over a volume answers, and the output and the error output behind it.
+pub(crate) fn told_over<V: Volume>(
     alloc: Global,
     words: &[&str],
     input: &[u8],
     pieces: (usize, usize),
     failing: (&[u8], &[u8]),
     vol: &mut V,
-) -> Result<Left, AllocError>
+) -> Result<(Report, MemSink, MemSink), AllocError>
     requires source { 0 < pieces.0 }
     requires output { 0 < pieces.1 }
 {
@@ -216,6 +216,22 @@ pub(crate) fn left_over<V: Volume>(
     let mut out = MemSink::new(alloc, pieces.1, Bytes::of(alloc, failing.1)?, 100000)?;
     let mut err = MemSink::new(alloc, 100, Bytes::of(alloc, &[])?, 1000)?;
     let report = run(alloc, &list, &mut src, &mut out, &mut err, vol);
+    Ok((report, out, err))
+}
+
+/// The same, with the number of marks.
+pub(crate) fn left_over<V: Volume>(
+    alloc: Global,
+    words: &[&str],
+    input: &[u8],
+    pieces: (usize, usize),
+    failing: (&[u8], &[u8]),
+    vol: &mut V,
+) -> Result<Left, AllocError>
+    requires source { 0 < pieces.0 }
+    requires output { 0 < pieces.1 }
+{
+    let (report, out, err) = told_over(alloc, words, input, pieces, failing, vol)?;
     Ok(Left {
         status: report.status,
         marks: report.marks.len(),

@@ -100,7 +100,8 @@ AsksOne (Ok true) old new =
 AsksOne (Err e) old new = TookSome old new
 
 -- the first tiles were taken from the input, and this was made of them
-pub record IsSoFar (v : Version) (step : ℕ) (old now : Option (List ℕ)) (done : SoFar) : Type 0 where
+pub record IsSoFar (v : Version) (step : ℕ) (old now : Option (List ℕ)) (done : SoFar)
+    : Type 0 where
   pub tiles : List Tile
   pub front : List ℕ
   pub stream : IsStream front tiles
