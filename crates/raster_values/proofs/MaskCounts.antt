@@ -128,6 +128,13 @@ all_set (false ∷ ms) k full below = absurd (let no : ⊥ = omega (arith, sum_b
 all_set (true ∷ ms) zero full below = refl
 all_set (true ∷ ms) (suc k) full below = all_set ms k (omega (arith, sum_by-cons (λ m. cond m 1 0) true ms, full)) (omega arith)
 
+-- and where each is, all are counted
+pub all_counted : (ms : List Bool) → ((k : ℕ) → k < length ms → get_or ms k false ≡ true) → count_by (λ m. m) ms ≡ length ms
+all_counted [] each = refl
+all_counted (m ∷ ms) each =
+    let one : ◌≡◌ {A = ℕ} (cond m 1 0) 1 = ap (λ b. cond b 1 0) (each 0 (omega arith)) in
+    omega (arith, sum_by-cons (λ b. cond b 1 0) m ms, one, all_counted ms (λ k below. each (suc k) (omega (arith, below))))
+
 -- ---- a run of bits set
 
 pub bit_after_none : (old marks : List ℕ) (from k : ℕ) → bit_after old marks from 0 k ≡ mask_bit old k

@@ -1,6 +1,6 @@
 //! The mask of a raster, as bytes.
 
-ghost use Rattle.std.specs.Prelude.{◌≡◌, ℕ, ◌+◌, ◌*◌, ◌/◌, ◌<◌, ◌≤◌, Bool, List, IfOk, IsTrue, length, get_or, replicate, slice_set, take, drop, nat_eq, nat_lt, map, ◌++◌, ◌-◌, true, false, if◌then◌else◌, ◌&&◌};
+ghost use Rattle.std.specs.Prelude.{◌≡◌, ◌≢◌, ◌↔◌, ℕ, ◌+◌, ◌*◌, ◌/◌, ◌<◌, ◌≤◌, Bool, List, IfOk, IsTrue, length, get_or, replicate, slice_set, take, drop, nat_eq, nat_lt, map, ◌++◌, ◌-◌, true, false, if◌then◌else◌, ◌&&◌};
 ghost use Rattle.std.specs.List.{count_by, filter, range_with_len};
 ghost use Rattle.raster_values.specs.Order.{mask_bit, marks_in};
 ghost use Rattle.raster_values.specs.inside.Bits.{byte_bit, bit_after};
@@ -40,19 +40,13 @@ pub struct Run {
     pub end: usize,
 }
 
-/// Whether each bit of a byte is `mark`.
-fn is_full(byte: u8, mark: bool) -> bool
-    ensures { IsTrue result → (q : ℕ) → q < 8 → byte_bit byte q ≡ mark }
-{
-    if mark { byte == 255 } else { byte == 0 }
-}
-
 /// How many bits of a byte from `from` on are 0 before one that is not, the bits counted from the
 /// highest.
 fn zeros_from(byte: u8, from: usize) -> usize
     requires { from < 8 }
     ensures within { from + result ≤ 8 }
     ensures zeros { (q : ℕ) → from ≤ q → q < from + result → byte_bit byte q ≡ false }
+    ensures end { from + result < 8 → byte_bit byte (from + result) ≡ true }
 {
     let rest = byte & (255u8 >> from);
     (rest.leading_zeros() as usize).saturating_sub(from)
@@ -63,6 +57,7 @@ fn equal_from(byte: u8, from: usize, mark: bool) -> usize
     requires { from < 8 }
     ensures within { from + result ≤ 8 }
     ensures equal { (q : ℕ) → from ≤ q → q < from + result → byte_bit byte q ≡ mark }
+    ensures end { from + result < 8 → byte_bit byte (from + result) ≢ mark }
 {
     if mark {
         zeros_from(!byte, from)
@@ -213,7 +208,8 @@ impl Mask {
 
     /// Whether every pixel is valid.
     pub fn is_whole(&self) -> bool
-        ensures { IsTrue result → (k : ℕ) → k < length self.now → get_or self.now k false ≡ true }
+        ensures { IsTrue result
+            ↔ ((k : ℕ) → k < length self.now → get_or self.now k false ≡ true) }
     {
         self.valid == self.count
     }
@@ -344,9 +340,6 @@ impl Mask {
         ensures run { (k : ℕ) → at ≤ k → k < result → get_or self.now k false ≡ mark }
     {
         let byte = self.bytes[at / 8];
-        if at % 8 == 0 && is_full(byte, mark) {
-            return limit.min(at + 8);
-        }
         limit.min(at + equal_from(byte, at % 8, mark).max(1))
     }
 

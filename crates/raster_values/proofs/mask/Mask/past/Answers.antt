@@ -10,16 +10,7 @@ index-byte-requires c =
     search (rules, below)
 
 pub overflow_add-at : goal.overflow_add-at
-overflow_add-at c = omega (arith, count_is c.self.inside _ c.self.view_is, c.self.invariant.few)
-
-pub overflow_add-at-2 : goal.overflow_add-at-2
-overflow_add-at-2 c = omega (arith, count_is c.self.inside _ c.self.view_is, c.self.invariant.few, c.equal_from.ensures.within, c.max.ensures)
-
-pub returns-then-is_full-clause-run : goal.returns-then-is_full-clause-run
-returns-then-is_full-clause-run c k low high =
-    let below : c.args.at / 8 < length c.self.inside.bytes.items = omega (arith, count_is c.self.inside _ c.self.view_is, c.self.invariant.size) in
-    in_byte c.self.inside _ c.args.at k 8 c.index-byte.result.now c.args.mark c.self.invariant c.self.view_is low (omega (arith, c.min.ensures, high)) (omega arith)
-    (c.index-byte.ensures ∙ get_or_default c.self.inside.bytes.items (c.args.at / 8) c.index-byte.result.now 0 below) (λ q from to. c.is_full.ensures c.if-is_full.true q (omega (arith, to)))
+overflow_add-at c = omega (arith, count_is c.self.inside _ c.self.view_is, c.self.invariant.few, c.equal_from.ensures.within, c.max.ensures)
 
 pub returns-clause-run : goal.returns-clause-run
 returns-clause-run c k low high =
@@ -27,7 +18,7 @@ returns-clause-run c k low high =
     let byte = c.index-byte.ensures ∙ get_or_default c.self.inside.bytes.items (c.args.at / 8) c.index-byte.result.now 0 below in
     ⊎_elim
     (λ (lt : c.args.at < k).
-    in_byte c.self.inside _ c.args.at k c.equal_from.result c.index-byte.result.now c.args.mark c.self.invariant c.self.view_is low (omega (arith, lt, high, c.min-2.ensures, c.max.ensures))
+    in_byte c.self.inside _ c.args.at k c.equal_from.result c.index-byte.result.now c.args.mark c.self.invariant c.self.view_is low (omega (arith, lt, high, c.min.ensures, c.max.ensures))
     c.equal_from.ensures.within byte c.equal_from.ensures.equal)
     (λ (ge : k ≤ c.args.at).
     let same : c.args.at ≡ k = omega arith in
