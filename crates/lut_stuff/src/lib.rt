@@ -5,6 +5,7 @@
 //! one contract: a list is read exactly where the bytes begin with one, else its first fault is told.
 #![tactic(auto)]
 
+mod hashing;
 mod laws;
 mod marking;
 mod reading;
