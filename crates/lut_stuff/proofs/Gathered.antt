@@ -1,13 +1,12 @@
 -- The different values of a list, gathered in the order in which they first come.
-use Rattle.std.proofs.Common.{◌≡◌, ℕ, zero, suc, ◌+◌, ◌<◌, ◌≤◌, ◌⊎◌, ◌||◌, eqb, Bool, true, false, List, [], ◌∷◌, ◌++◌, length, get_or, replicate, set, take, refl, sym, ap, ◌∙◌, subst, inl, inr, arith}
-use Rattle.std.specs.Prelude.{IsTrue}
+use Rattle.std.proofs.Common.{◌≡◌, ℕ, zero, suc, ◌<◌, ◌⊎◌, ◌||◌, eqb, Bool, true, false, List, [], ◌∷◌, ◌++◌, length, get_or, replicate, set, refl, sym, ap, ◌∙◌, inl, inr, arith}
 use Rattle.std.specs.List.Sorted.{IsPermutation, IsSorted}
 use Rattle.std.specs.Ordering.{nat_cmp}
 use Rattle.std.proofs.lemmas.Bool.{cases_lt, true≢false}
 use Rattle.std.proofs.lemmas.Bool.Decides.{eqb_tells}
 use Rattle.std.proofs.lemmas.List.{get_or-set_other, get_or-set_same, length-append}
 use Rattle.std.proofs.lemmas.List.Sorted.{IsNonDecreasingBy-from_sort, IsPermutation-sym, length_permutation}
-use Rattle.lut_stuff.specs.Tables.{distinct_above_0, entries_of, occurs}
+use Rattle.lut_stuff.specs.Tables.{entries_of, occurs}
 use Rattle.lut_stuff.specs.inside.Slots.{AreDistinct, AreSlots, slot_of}
 use Rattle.lut_stuff.proofs.Marked.{distinct_known, distinct_new, distinct_none, occurs_end}
 use Rattle.lut_stuff.proofs.Rising.{has_occurs, has_permuted, occurs_has, risen, risen_entries, risen_whole, up_from}

@@ -1,4 +1,4 @@
-use Rattle.std.proofs.Common.{◌≡◌, ◌∙◌, ◌++◌, ◌∷◌, [], ◌+◌, ◌<◌, ℕ, List, false, get_or, take, sym, ap, subst, arith}
+use Rattle.std.proofs.Common.{◌≡◌, ◌∙◌, ◌++◌, ◌∷◌, [], ◌<◌, ℕ, List, false, get_or, take, sym, ap, subst, arith}
 use Rattle.std.proofs.lemmas.List.{take_more_set}
 use Rattle.lut_stuff.specs.Tables.{occurs}
 use Rattle.lut_stuff.specs.inside.Slots.{AreDistinct, slot_of}

@@ -1,4 +1,4 @@
-use Rattle.std.proofs.Common.{◌≡◌, ◌∙◌, ℕ, ap, sym, refl, replicate, get_or, zero}
+use Rattle.std.proofs.Common.{◌∙◌, ap, sym, refl, zero}
 use Rattle.std.proofs.lemmas.List.{get_or-replicate}
 use Rattle.lut_stuff.specs.Tables.{index_in}
 use Rattle.lut_stuff.proofs.hashing.index_all.Goals as goal
