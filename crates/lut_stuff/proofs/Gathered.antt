@@ -76,12 +76,12 @@ slots_set values slots v n some at within s = record {
   known = λ k there. elim (eqb_tells k n) [
     | inl same ↦ ap (occurs (values ++ v ∷ [])) (here k same.1) ∙ occurs_last values v
     | inr other ↦ let e : get_or (set slots n v) k 0 ≡ get_or slots k 0 = get_or-set_other slots n k v 0 other.1 in
-    ap (occurs (values ++ v ∷ [])) e ∙ occurs_still values v (get_or slots k 0) (s.known k (omega (arith, e, there)))
+        ap (occurs (values ++ v ∷ [])) e ∙ occurs_still values v (get_or slots k 0) (s.known k (omega (arith, e, there)))
   ];
   taken = λ k above h. elim (eqb_tells (slot_of k) n) [
     | inl same ↦ omega (arith, here (slot_of k) same.1, some)
     | inr other ↦ let e : get_or (set slots n v) (slot_of k) 0 ≡ get_or slots (slot_of k) 0 = get_or-set_other slots n (slot_of k) v 0 other.1 in
-    omega (arith, e, s.taken k above (sym (occurs_other values v k (λ same. other.1 (ap slot_of same ∙ sym at))) ∙ h))
+        omega (arith, e, s.taken k above (sym (occurs_other values v k (λ same. other.1 (ap slot_of same ∙ sym at))) ∙ h))
   ];
 }
   where
@@ -103,7 +103,7 @@ slot_empty values slots v some empty s = pick (occurs values v) refl
 -- ---- the found ones
 
 pub distinct_start : AreDistinct [] []
-distinct_start = record { count = sym distinct_none; zero = refl; others = λ v some. refl; }
+distinct_start = record { count = sym distinct_none; zero = refl; others = λ v some. refl }
 
 -- a value that is 0, or known, adds none
 pub distinct_stay : (values found : List ℕ) (v : ℕ) → (0 < v → occurs values v ≡ true) → AreDistinct values found → AreDistinct (values ++ v ∷ []) found

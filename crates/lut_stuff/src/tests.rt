@@ -238,7 +238,10 @@ fn long_lists(rt: HostRuntime) {
             assert!(rt; digest(&bytes[..len]) == sum, "the bytes");
             let mut back = [77; 1024];
             let back = &mut back[..count];
-            assert!(rt; read_list(&bytes[..len], back) == Ok(len), "the length read");
+            assert!(rt;
+                read_list(&bytes[..len], back) == Ok(len),
+                "the length read"
+            );
             assert!(rt; &*back == values, "the values read");
         }
     }

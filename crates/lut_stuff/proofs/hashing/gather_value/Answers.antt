@@ -30,7 +30,7 @@ returns-clause-found c = λ values s d.
     let new : occurs values v ≡ false = elim c.else-last-gt0.branch [
       | else-last-gt0-via-then-last-gt0+else-has_value w ↦ sym (d.others v some) ∙ sym w.has_value.ensures ∙ w.if-has_value.false
       | else-last-gt0-via-else-last-gt0 w ↦
-      let at : get_or slots (slot_of v) 0 ≡ get_or slots c.slot_of-slot.result 0 = ap (λ (n : ℕ). get_or slots n 0) (sym c.slot_of-slot.ensures.slot) in
-      slot_empty values slots v some (omega (arith, at, w.if-last-gt0.false)) s
+          let at : get_or slots (slot_of v) 0 ≡ get_or slots c.slot_of-slot.result 0 = ap (λ (n : ℕ). get_or slots n 0) (sym c.slot_of-slot.ensures.slot) in
+          slot_empty values slots v some (omega (arith, at, w.if-last-gt0.false)) s
     ] in
     subst (λ (u : List ℕ). AreDistinct (values ++ v ∷ []) u) (sym (take_more_set found c.args.count v c.requires.room)) (distinct_added values (take c.args.count found) v some new d)
