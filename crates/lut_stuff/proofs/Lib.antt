@@ -4,3 +4,4 @@ pub mod Rising
 pub mod Tabled
 mod Below
 mod Marked
+mod Gathered

@@ -1,4 +1,4 @@
 -- The words of private functions alone: no public clause cites them.
 pub mod Indexes
-pub mod Risen
 pub mod Marks
+pub mod Slots

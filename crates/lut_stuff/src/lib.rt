@@ -5,6 +5,7 @@
 //! one contract: a list is read exactly where the bytes begin with one, else its first fault is told.
 #![tactic(auto)]
 
+mod hashing;
 mod laws;
 mod marking;
 mod reading;
@@ -15,7 +16,7 @@ pub use laws::{
     table_bytes_are_a_list,
 };
 pub use reading::read_list;
-pub use writing::{table_len, write_table};
+pub use writing::{table_len, write_table, write_table_front};
 
 #[cfg(test)]
 mod tests;

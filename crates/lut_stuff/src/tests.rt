@@ -1,6 +1,6 @@
 ghost use Rattle.std.specs.Prelude.{◌^◌, ◌<◌, ◌≤◌, length, All};
 
-use crate::{read_list, table_len, write_table};
+use crate::{read_list, table_len, write_table, write_table_front};
 use bit_stuff::{ListFault, ListReason, unstuff};
 use std::process::Abort;
 
@@ -71,19 +71,27 @@ fn each_fault_is_told_at_its_place(rt: HostRuntime) {
     );
 }
 
-/// The chosen list of the values in the table form is `want`.
+/// The chosen list of the values in the table form is `want`, which is read back as the values, and
+/// what stands behind it is left.
 fn expect_table(rt: &impl Abort, values: &[u32], want: &[u8])
-    requires count { length values.now ≤ 1024 }
+    requires count { length values.now ≤ 256 }
     requires values { All (λ v. v < 2 ^ 31) values.now }
 {
-    let mut out = [0u8; 512];
+    let mut out = [77u8; 600];
     assert!(rt;
-        want.len() <= 512 && table_len(values) == Some(want.len()),
+        want.len() < 600 && table_len(values) == Some(want.len()),
         "the length"
     );
-    let out = &mut out[..want.len()];
-    write_table(values, out);
-    assert!(rt; &*out == want, "the bytes");
+    let used = write_table_front(values, &mut out);
+    assert!(rt; used == want.len(), "the length written");
+    assert!(rt; &out[..used] == want, "the bytes");
+    assert!(rt; out[used..].iter().all(|b| *b == 77), "behind them");
+    write_table(values, &mut out[..used]);
+    assert!(rt; &out[..used] == want, "the bytes again");
+    let mut back = [77; 256];
+    let back = &mut back[..values.len()];
+    assert!(rt; read_list(want, back) == Ok(used), "the length read");
+    assert!(rt; &*back == values, "the values read");
 }
 
 #[test]
@@ -113,6 +121,26 @@ fn chosen_tables(rt: HostRuntime) {
         &[2147483647, 5, 5],
         &[
             0xbf, 3, 3, 0x05, 0x00, 0x00, 0x80, 0xff, 0xff, 0xff, 0x3f, 0x16,
+        ],
+    );
+    // Numbers that share a slot, with zeros among them.
+    expect_table(
+        &rt,
+        &[5000, 5233, 5000, 0, 5233, 5233, 5000],
+        &[0xad, 7, 3, 0x88, 0x33, 0x8e, 0x02, 0x19, 0x1a],
+    );
+    expect_table(
+        &rt,
+        &[2131, 2508, 0, 2741, 2131, 2885, 2508, 2131],
+        &[
+            0xac, 8, 5, 0x53, 0xc8, 0x9c, 0xb5, 0x5a, 0xb4, 0x11, 0x16, 0x2a,
+        ],
+    );
+    expect_table(
+        &rt,
+        &[1073742089, 0, 1073742322, 1073742089],
+        &[
+            0xbf, 4, 3, 0x09, 0x01, 0x00, 0x40, 0xf9, 0x00, 0x00, 0x20, 0x61,
         ],
     );
     assert!(rt; table_len(&[0, 0]) == None);
@@ -146,8 +174,8 @@ fn tables_of_254_different_values_and_not_of_255(rt: HostRuntime) {
 
 // How many values, of which value `i` is `7 * i * i + 3 * i` modulo the second number, times the
 // third; the length of their table and a digest of its bytes, worked out apart from this program; 0
-// where there is none.
-const LONG: [(usize, u32, u32, usize, u32); 19] = [
+// where there is none. The last two have 254 different values and 255.
+const LONG: [(usize, u32, u32, usize, u32); 24] = [
     (64, 61, 1, 66, 723565034),
     (65, 251, 1, 124, 2713471827),
     (256, 251, 1, 353, 845726444),
@@ -167,6 +195,11 @@ const LONG: [(usize, u32, u32, usize, u32); 19] = [
     (300, 251, 30011, 627, 3354451392),
     (1024, 61, 2003, 708, 2777320107),
     (1024, 5003, 1, 0, 0),
+    (64, 9, 60013, 27, 3116752470),
+    (256, 9, 60013, 76, 1509238688),
+    (300, 9, 60013, 87, 411444306),
+    (292, 521, 60013, 1090, 3167337486),
+    (293, 521, 60013, 0, 0),
 ];
 
 /// One number for bytes, to compare long ones by.
@@ -200,8 +233,16 @@ fn long_lists(rt: HostRuntime) {
         assert!(rt; len.unwrap_or(0) == want, "{count} modulo {modulus}");
         if let Some(len) = len {
             assert!(rt; len <= 2048, "the length");
-            write_table(values, &mut bytes[..len]);
+            let used = write_table_front(values, &mut bytes);
+            assert!(rt; used == len, "the length written");
             assert!(rt; digest(&bytes[..len]) == sum, "the bytes");
+            let mut back = [77; 1024];
+            let back = &mut back[..count];
+            assert!(rt;
+                read_list(&bytes[..len], back) == Ok(len),
+                "the length read"
+            );
+            assert!(rt; &*back == values, "the values read");
         }
     }
 }

@@ -24,7 +24,7 @@ use crate::sizes::narrow_type;
 use crate::spreading::{Spread, spread_of};
 use crate::stepping::{Rule, steps_each};
 use bit_stuff::{digit_count, stuff, write_head};
-use lut_stuff::{table_len, write_table};
+use lut_stuff::write_table_front;
 use raster_values::PixelType;
 
 /// The tag of a block.
@@ -182,9 +182,7 @@ fn write_table_steps(
         ++ drop result out.old }
 {
     steps_each(distances, least, rule, step, qs);
-    let size = table_len(qs).unwrap_or(0);
-    write_table(qs, &mut out[..size]);
-    size
+    write_table_front(qs, out)
 }
 
 /// Writes the list of the numbers of steps in the table form over the front of `out`; how many
