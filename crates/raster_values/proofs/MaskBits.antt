@@ -1,6 +1,6 @@
 -- How the bytes of a mask stand for its marks.
 use Rattle.std.proofs.Common.{◌≡◌, ◌≢◌, ℕ, ◌+◌, ◌-◌, ◌*◌, ◌/◌, ◌%◌, ◌^◌, ◌<◌, ◌≤◌, zero, suc, Bool, true, false, cond, List, [], ◌∷◌, ◌++◌, length, get_or, replicate, set, take, drop, map, refl, sym, ap, ◌∙◌, subst, arith, ⊎_elim, ◌&&◌}
-use Rattle.std.specs.Prelude.{nat_eq, nat_lt, IsTrue}
+use Rattle.std.specs.Prelude.{nat_eq, nat_lt}
 use Rattle.std.specs.List.{count_by, filter, range_with_len}
 use Rattle.std.proofs.lemmas.List.{ext_get_or, get_or_past, get_or-set_same, get_or-set_other, length-set, length-replicate, get_or-replicate, map-append, length-map, get_or-map}
 use Rattle.std.proofs.lemmas.List.FromFn.{length-range_with_len, get_or-range_with_len}

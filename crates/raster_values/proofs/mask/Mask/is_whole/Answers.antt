@@ -1,6 +1,5 @@
 use Rattle.std.proofs.Common.{◌≡◌, Bool, List, sym, subst, ◌∙◌, length, get_or, false, true, ◌<◌, ℕ}
 use Rattle.std.specs.Prelude.{IsTrue, nat_eq}
-use Rattle.std.specs.Prelude.{count_by}
 use Rattle.std.proofs.lemmas.Bool.{eq-eqb, eqb-true}
 use Rattle.raster_values.specs.inside.MaskView.{seen_mask}
 use Rattle.raster_values.proofs.MaskBits.{size_is}
