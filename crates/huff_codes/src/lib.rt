@@ -2,9 +2,9 @@
 //! chosen.
 //!
 //! The crate stands on `bit_stuff` and `lut_stuff` for its lists, and on `first_fault` and
-//! byteorder. It takes no memory. What the layer above uses: bytes are read exactly where they begin
-//! with a table of codes, or with the words of some symbols, and else their first fault is told; what
-//! is written of lengths and symbols is such a table and such words.
+//! byteorder. It takes no memory. What the layer above uses: bytes are read exactly where they
+//! begin with a table of codes, or with the words of some symbols, and else their first fault is
+//! told; what is written of lengths and symbols is such a table and such words.
 #![tactic(auto)]
 
 mod chosen_table;

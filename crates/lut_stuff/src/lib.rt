@@ -2,7 +2,8 @@
 //! stuffed indexes into it.
 //!
 //! It stands on `bit_stuff`, `first_fault` and byteorder, and takes no memory. The layer above uses
-//! one contract: a list is read exactly where the bytes begin with one, else its first fault is told.
+//! one contract: a list is read exactly where the bytes begin with one, else its first fault is
+//! told.
 #![tactic(auto)]
 
 mod hashing;

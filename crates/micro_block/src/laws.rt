@@ -26,7 +26,8 @@ pub fn block_values_are_in_range()
 {}
 
 /// The written block stands for what is kept of its values, each within half a step of the value,
-/// not below the least of them and not above the top. At step 1 it stands for the values themselves.
+/// not below the least of them and not above the top. At step 1 it stands for the values
+/// themselves.
 pub fn written_blocks_stand()
     ensures stands { (f : Frame) (values : List ℤ) → AreWritable f values →
         IsBlock f (block_bytes f.kind f.col f.step values)

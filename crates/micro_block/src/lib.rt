@@ -2,7 +2,8 @@
 //! an offset, or all alike.
 //!
 //! The crate stands on `raster_values`, `bit_stuff`, `lut_stuff`, `lane_kernels`, `first_fault` and
-//! byteorder, and takes no memory. The layer above uses one contract: bytes are a block of these values, both ways.
+//! byteorder, and takes no memory. The layer above uses one contract: bytes are a block of these
+//! values, both ways.
 #![tactic(auto)]
 
 mod choosing;

@@ -1,5 +1,5 @@
-//! Rasters: pixel types, rasters and their grid files. This crate stands on outside_io, first_fault,
-//! lane_kernels, byteorder and thiserror.
+//! Rasters: pixel types, rasters and their grid files. This crate stands on outside_io,
+//! first_fault, lane_kernels, byteorder and thiserror.
 //!
 //! The contract that the layers above use: a raster is a pixel type, a shape, a set of valid places
 //! and their values. `mark` and `set` change one place and nothing else, `fill` changes all of
