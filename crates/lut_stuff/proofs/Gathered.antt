@@ -1,12 +1,12 @@
 -- The different values of a list, gathered in the order in which they first come.
-use Rattle.std.proofs.Common.{◌≡◌, ℕ, zero, suc, ◌<◌, ◌⊎◌, ◌||◌, eqb, Bool, true, false, List, [], ◌∷◌, ◌++◌, length, get_or, replicate, set, refl, sym, ap, ◌∙◌, inl, inr, arith}
+use Rattle.std.proofs.Common.{◌≡◌, ℕ, zero, suc, ◌<◌, ◌≤◌, ◌⊎◌, ◌||◌, eqb, Bool, true, false, List, [], ◌∷◌, ◌++◌, length, get_or, replicate, set, take, refl, sym, ap, drop, ◌∙◌, inl, inr, arith}
 use Rattle.std.specs.List.Sorted.{IsPermutation, IsSorted}
 use Rattle.std.specs.Ordering.{nat_cmp}
 use Rattle.std.proofs.lemmas.Bool.{cases_lt, true≢false}
 use Rattle.std.proofs.lemmas.Bool.Decides.{eqb_tells}
-use Rattle.std.proofs.lemmas.List.{get_or-set_other, get_or-set_same, length-append}
+use Rattle.std.proofs.lemmas.List.{append-nil, append_assoc, get_or-set_other, get_or-set_same, length-append, take-append-drop}
 use Rattle.std.proofs.lemmas.List.Sorted.{IsNonDecreasingBy-from_sort, IsPermutation-sym, length_permutation}
-use Rattle.lut_stuff.specs.Tables.{entries_of, occurs}
+use Rattle.lut_stuff.specs.Tables.{distinct_above_0, entries_of, occurs}
 use Rattle.lut_stuff.specs.inside.Slots.{AreDistinct, AreSlots, slot_of}
 use Rattle.lut_stuff.proofs.Marked.{distinct_known, distinct_new, distinct_none, occurs_end}
 use Rattle.lut_stuff.proofs.Rising.{has_occurs, has_permuted, occurs_has, risen, risen_entries, risen_whole, up_from}
@@ -126,6 +126,26 @@ distinct_added values found v some new d = record {
   zero = occurs_other found v 0 (λ e. omega (arith, e, some)) ∙ d.zero;
   others = λ k above. occurs_end found v k ∙ ap (λ (b : Bool). b || eqb k v) (d.others k above) ∙ sym (occurs_end values v k);
 }
+
+-- ---- more values have no fewer different ones
+
+distinct_end : (xs : List ℕ) (v : ℕ) → distinct_above_0 xs ≤ distinct_above_0 (xs ++ v ∷ [])
+distinct_end xs v = elim (cases_lt 0 v) [
+  | inl some ↦ pick (occurs xs v) refl some
+  | inr none ↦ omega (arith, distinct_known xs v (λ some. absurd (omega (arith, some, none))))
+]
+  where
+    pick : (b : Bool) → occurs xs v ≡ b → 0 < v → distinct_above_0 xs ≤ distinct_above_0 (xs ++ v ∷ [])
+    pick true e some = omega (arith, distinct_known xs v (λ _. e))
+    pick false e some = omega (arith, distinct_new xs v some e)
+
+distinct_append : (xs ys : List ℕ) → distinct_above_0 xs ≤ distinct_above_0 (xs ++ ys)
+distinct_append xs [] = omega (arith, ap distinct_above_0 (append-nil xs))
+distinct_append xs (y ∷ ys) =
+    omega (arith, distinct_end xs y, distinct_append (xs ++ y ∷ []) ys, ap distinct_above_0 (append_assoc xs (y ∷ []) ys))
+
+pub distinct_taken : (values : List ℕ) (n : ℕ) → distinct_above_0 (take n values) ≤ distinct_above_0 values
+distinct_taken values n = omega (arith, distinct_append (take n values) (drop n values), ap distinct_above_0 (take-append-drop n values))
 
 -- ---- sorted
 

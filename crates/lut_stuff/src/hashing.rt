@@ -1,6 +1,6 @@
 // The different values of a list of any numbers, by a slot for each hash.
 
-ghost use Rattle.std.specs.Prelude.{◌≡◌, ◌+◌, ◌<◌, ◌≤◌, ◌++◌, ◌∷◌, [], ℕ, List, IsTrue, length, map, take};
+ghost use Rattle.std.specs.Prelude.{◌≡◌, ◌+◌, ◌<◌, ◌≤◌, ◌++◌, ◌∷◌, [], ℕ, List, length, map, min, take};
 ghost use Rattle.lut_stuff.specs.Tables.{distinct_above_0, index_in, occurs};
 ghost use Rattle.lut_stuff.specs.inside.Slots.{AreDistinct, ArePlaces, AreSlots, slot_of};
 
@@ -49,17 +49,21 @@ fn gather_value(value: u32, slots: &mut [u32], found: &mut [u32], count: usize) 
 }
 
 /// Writes the different values above 0 over the front of `found`, in the order in which they first
-/// come; how many there are.
+/// come, and stops behind the first 255; how many it wrote.
 pub(crate) fn gather_distinct(values: &[u32], found: &mut [u32]) -> usize
     requires { length values.now ≤ length found.old }
     ensures within { result ≤ length found.new }
-    ensures count { result ≡ distinct_above_0 values.now }
-    ensures distinct { AreDistinct values.now (take result found.new) }
+    ensures count { result ≡ min 255 (distinct_above_0 values.now) }
+    ensures distinct { distinct_above_0 values.now ≤ 254 →
+        AreDistinct values.now (take result found.new) }
 {
     let mut slots = [0; 256];
     let mut count = 0;
     for value in values {
         count = gather_value(*value, &mut slots, found, count);
+        if count > 254 {
+            return count;
+        }
     }
     count
 }

@@ -7,4 +7,5 @@ invariant-loop-value l = record {
   slots : AreSlots (take l.value-index l.values) l.slots;
   found : AreDistinct (take l.value-index l.values) (take l.count l.found);
   few : l.count ≤ l.value-index;
+  low : l.count ≤ 254;
 }
