@@ -5,3 +5,7 @@
 
 #[cfg(test)]
 mod same;
+#[cfg(test)]
+mod sessions;
+#[cfg(test)]
+mod stores;

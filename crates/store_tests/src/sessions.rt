@@ -1,0 +1,94 @@
+//! The worked bundles, what a crash at each moment leaves of them, and refusals with their numbers.
+
+mod building;
+mod crashes;
+mod failing;
+mod putting;
+mod refusals;
+
+use crate::same::same;
+use crate::stores::{LARGE, SMALL, first_slot, pair, tile};
+use bundle_index::{Entry, Slot};
+use bundle_store::{CheckReport, Session, StoreFault, TileRec, recover};
+use outside_io::{Bytes, VolFile, Volume};
+use std::alloc::Global;
+use std::process::Abort;
+
+/// What a put answers, once the volume is recovered.
+fn put<V: Volume>(alloc: Global, vol: &mut V, slot: Slot, tile: &[u8]) -> Result<(), StoreFault> {
+    recover(vol)?;
+    let mut session = Session::open(alloc, vol)?;
+    session.put_blob(vol, slot, tile)
+}
+
+/// What a build answers, once the volume is recovered.
+fn build<V: Volume>(alloc: Global, vol: &mut V, tiles: &[TileRec]) -> Result<(), StoreFault> {
+    recover(vol)?;
+    let mut session = Session::open(alloc, vol)?;
+    session.build(vol, tiles)
+}
+
+/// What a get answers.
+fn get<V: Volume>(alloc: Global, vol: &mut V, slot: Slot) -> Result<Bytes, StoreFault> {
+    Session::open(alloc, vol)?.get(vol, slot)
+}
+
+/// The entry of a slot.
+fn entry<V: Volume>(alloc: Global, vol: &mut V, slot: Slot) -> Result<Entry, StoreFault> {
+    Session::open(alloc, vol)?.entry(vol, slot)
+}
+
+/// What a check finds.
+fn report<V: Volume>(alloc: Global, vol: &mut V) -> Result<CheckReport, StoreFault> {
+    Session::open(alloc, vol)?.check(vol)
+}
+
+/// The bundle's length, by a session.
+fn length<V: Volume>(alloc: Global, vol: &mut V) -> Result<u64, StoreFault> {
+    Session::open(alloc, vol)?.length(vol)
+}
+
+/// Why a get answers no tile.
+fn fault_of_get<V: Volume>(alloc: Global, vol: &mut V, slot: Slot) -> Option<StoreFault> {
+    get(alloc, vol, slot).err()
+}
+
+/// Whether the slot has this tile.
+fn has_tile<V: Volume>(alloc: Global, vol: &mut V, slot: Slot, tile: &[u8]) -> bool {
+    match get(alloc, vol, slot) {
+        Ok(bytes) => bytes.as_slice() == tile,
+        Err(_) => false,
+    }
+}
+
+/// The slot has this tile.
+fn expect_tile<V: Volume>(rt: &impl Abort, alloc: Global, vol: &mut V, slot: Slot, tile: &[u8]) {
+    same(rt, "tile", has_tile(alloc, vol, slot, tile), true);
+}
+
+/// A check finds one tile, of so many bytes, and no bad entry.
+fn expect_one_tile<V: Volume>(rt: &impl Abort, alloc: Global, vol: &mut V, bytes: u64) {
+    let found = CheckReport {
+        tiles: 1,
+        bytes,
+        bad: 0,
+        first_bad: None,
+    };
+    same(rt, "report", report(alloc, vol), Ok(found));
+}
+
+/// These bytes, 100 at most, stand at that place of the file.
+fn expect_bytes<V: Volume>(rt: &impl Abort, vol: &mut V, file: VolFile, at: u64, bytes: &[u8]) {
+    let mut buf = [0; 100];
+    let got = vol.read(file, at, &mut buf).expect(rt, "read");
+    let stand = bytes.len() <= got && got <= 100 && &buf[..bytes.len()] == bytes;
+    same(rt, at, stand, true);
+}
+
+/// Two tiles for the first slot, the large one and then the small one.
+fn two_tiles(rt: &impl Abort, alloc: Global) -> Vec<TileRec> {
+    let slot = first_slot(rt);
+    let large = tile(rt, alloc, slot, &LARGE);
+    let small = tile(rt, alloc, slot, &SMALL);
+    pair(rt, alloc, large, small)
+}

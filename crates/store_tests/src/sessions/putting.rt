@@ -1,0 +1,174 @@
+use super::{entry, expect_bytes, expect_one_tile, expect_tile, fault_of_get, length, put, report};
+use crate::same::same;
+use crate::stores::{LARGE, SMALL, empty_volume, first_slot, last_slot, volume};
+use bundle_index::{BundleHeader, Entry, Slot};
+use bundle_store::StoreFault;
+use outside_io::{MemVolume, VolFile, Volume};
+use std::alloc::Global;
+use std::process::Abort;
+
+/// A volume after a put of the small tile into the last slot.
+fn one_put(rt: &impl Abort, alloc: Global) -> MemVolume {
+    let mut vol = empty_volume(rt, alloc);
+    put(alloc, &mut vol, last_slot(rt), &SMALL).expect(rt, "put");
+    vol
+}
+
+/// The same after a put of the large tile into the same slot.
+fn two_puts(rt: &impl Abort, alloc: Global) -> MemVolume {
+    let mut vol = one_put(rt, alloc);
+    put(alloc, &mut vol, last_slot(rt), &LARGE).expect(rt, "put");
+    vol
+}
+
+/// The greatest size, the slack and the length that the bundle's header names.
+fn numbers<V: Volume>(rt: &impl Abort, vol: &mut V) -> (u32, u64, u64) {
+    let mut bytes = [0; 64];
+    vol.read(VolFile::Bundle, 0, &mut bytes)
+        .expect(rt, "header");
+    let header = BundleHeader::of(bytes);
+    (header.greatest(), header.slack(), header.length())
+}
+
+#[test]
+fn a_first_put(rt: HostRuntime) {
+    let alloc = rt.alloc();
+    let mut vol = one_put(&rt, alloc);
+    same(&rt, "length", length(alloc, &mut vol), Ok(131206));
+    same(&rt, "header", numbers(&rt, &mut vol), (66, 0, 131206));
+    expect_bytes(&rt, &mut vol, VolFile::Bundle, 131136, &[66, 0, 0, 0]);
+    expect_bytes(&rt, &mut vol, VolFile::Bundle, 131140, &SMALL);
+    expect_bytes(
+        &rt,
+        &mut vol,
+        VolFile::Bundle,
+        131128,
+        &[0x44, 0, 2, 0, 0, 0x42, 0, 0],
+    );
+    expect_tile(&rt, alloc, &mut vol, last_slot(&rt), &SMALL);
+}
+
+const BODY: [u8; 32] =
+    *b"\x00LBJRNL1\x01\x00\xff\x3f\x00\x00\x00\x00\x44\x00\x02\x00\x00\x42\x00\x00\x86\x00\x02\x00\x00\x00\x00\x00";
+
+#[test]
+fn the_journal_of_a_first_put(rt: HostRuntime) {
+    let mut vol = one_put(&rt, rt.alloc());
+    let mut header = [0; 64];
+    same(
+        &rt,
+        "header",
+        vol.read(VolFile::Bundle, 0, &mut header).ok(),
+        Some(64),
+    );
+    same(&rt, "length", vol.len(VolFile::Journal).ok(), Some(96));
+    expect_bytes(&rt, &mut vol, VolFile::Journal, 0, &BODY);
+    expect_bytes(&rt, &mut vol, VolFile::Journal, 32, &header);
+}
+
+#[test]
+fn a_second_put_into_the_same_slot(rt: HostRuntime) {
+    let alloc = rt.alloc();
+    let mut vol = two_puts(&rt, alloc);
+    same(&rt, "length", length(alloc, &mut vol), Ok(131282));
+    expect_bytes(
+        &rt,
+        &mut vol,
+        VolFile::Bundle,
+        131128,
+        &[0x8a, 0, 2, 0, 0, 0x48, 0, 0],
+    );
+    same(&rt, "header", numbers(&rt, &mut vol), (72, 70, 131282));
+    let second = Entry {
+        offset: 131210,
+        size: 72,
+    };
+    same(
+        &rt,
+        "entry",
+        entry(alloc, &mut vol, last_slot(&rt)),
+        Ok(second),
+    );
+    expect_tile(&rt, alloc, &mut vol, last_slot(&rt), &LARGE);
+}
+
+#[test]
+fn what_is_found_after_two_puts(rt: HostRuntime) {
+    let alloc = rt.alloc();
+    let mut vol = two_puts(&rt, alloc);
+    expect_one_tile(&rt, alloc, &mut vol, 72);
+    let none = fault_of_get(alloc, &mut vol, first_slot(&rt));
+    same(&rt, "first slot", none, Some(StoreFault::NoTile));
+}
+
+#[test]
+fn a_journal_of_one_byte_is_not_open(rt: HostRuntime) {
+    let alloc = rt.alloc();
+    let mut vol = volume(&rt, alloc, 0, &[], &[255], &[]);
+    same(
+        &rt,
+        "put",
+        put(alloc, &mut vol, first_slot(&rt), &LARGE),
+        Ok(()),
+    );
+    expect_tile(&rt, alloc, &mut vol, first_slot(&rt), &LARGE);
+}
+
+/// Writes bytes over the bundle.
+fn spoil<V: Volume>(rt: &impl Abort, vol: &mut V, place: u64, bytes: &[u8]) {
+    let len = vol.len(VolFile::Bundle).expect(rt, "length");
+    if place > len.min(1099511627776) || bytes.len() > 100 {
+        panic!(rt; "place {place}");
+    }
+    vol.write(VolFile::Bundle, place, bytes).expect(rt, "write");
+}
+
+/// What a check finds after two puts into the last slot where bytes are other ones: how many tiles
+/// and bytes, how many bad entries, and whether the first of these is the last slot's.
+fn expect_found(
+    rt: &impl Abort,
+    alloc: Global,
+    place: u64,
+    bytes: &[u8],
+    wanted: (u32, u64, u32, bool),
+) {
+    let mut vol = two_puts(rt, alloc);
+    spoil(rt, &mut vol, place, bytes);
+    let found = report(alloc, &mut vol).expect(rt, "check");
+    let is_last = found.first_bad == Slot::of(127, 127);
+    same(
+        rt,
+        place,
+        (found.tiles, found.bytes, found.bad, is_last),
+        wanted,
+    );
+}
+
+// The number in front of the tile; an offset in front of the first tile's; a size that passes the
+// end; another slot with the same tile.
+#[test]
+fn entries_that_a_check_finds_bad(rt: HostRuntime) {
+    let alloc = rt.alloc();
+    expect_found(&rt, alloc, 131206, &[73, 0, 0, 0], (1, 72, 1, true));
+    expect_found(
+        &rt,
+        alloc,
+        131128,
+        &[0x43, 0, 2, 0, 0, 0x48, 0, 0],
+        (1, 72, 1, true),
+    );
+    expect_found(
+        &rt,
+        alloc,
+        131128,
+        &[0x8a, 0, 2, 0, 0, 0x49, 0, 0],
+        (1, 73, 1, true),
+    );
+    expect_found(
+        &rt,
+        alloc,
+        64,
+        &[0x8a, 0, 2, 0, 0, 0x48, 0, 0],
+        (2, 144, 0, false),
+    );
+}
