@@ -17,6 +17,3 @@ pub use laws::{
     headers_after_a_put_have_their_fields, headers_after_a_put_pass, headers_pass_or_fail,
 };
 pub use slot::Slot;
-
-#[cfg(test)]
-mod tests;

@@ -12,8 +12,6 @@ mod lines;
 mod listing;
 mod puts;
 mod stop;
-#[cfg(test)]
-mod tests;
 
 pub use builds::build_all;
 pub use checking::check_all;

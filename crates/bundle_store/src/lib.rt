@@ -21,8 +21,6 @@ mod rows;
 mod session;
 mod size;
 mod syncs;
-#[cfg(test)]
-mod tests;
 mod tile_rec;
 
 pub use check::CheckReport;

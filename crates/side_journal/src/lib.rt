@@ -17,6 +17,3 @@ pub use body::{Body, JournalState};
 pub use laws::{body_bytes_say_their_body, journals_say_one_thing, the_gate_says_nothing};
 pub use reading::read_journal;
 pub use steps::{arm, close_gate, open_gate, prepare};
-
-#[cfg(test)]
-mod tests;

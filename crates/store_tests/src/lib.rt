@@ -4,8 +4,18 @@
 #![tactic(auto)]
 
 #[cfg(test)]
+mod index;
+#[cfg(test)]
+mod journal;
+#[cfg(test)]
+mod lines;
+#[cfg(test)]
 mod same;
 #[cfg(test)]
 mod sessions;
 #[cfg(test)]
 mod stores;
+#[cfg(test)]
+mod streams;
+#[cfg(test)]
+mod updates;

@@ -7,8 +7,6 @@
 #![tactic(auto)]
 
 mod laws;
-#[cfg(test)]
-mod tests;
 mod tile;
 
 pub use laws::{streams_have_one_list_of_tiles, tiles_are_parts};

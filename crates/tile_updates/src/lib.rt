@@ -8,8 +8,6 @@
 
 mod laws;
 mod stop;
-#[cfg(test)]
-mod tests;
 mod updates;
 
 pub use laws::{inputs_have_one_answer, inputs_have_one_list_of_updates};

@@ -4,7 +4,7 @@ use Rattle.outside_io.specs.volume.Disk.{Disk}
 use Rattle.outside_io.specs.volume.History.{contents}
 use Rattle.outside_io.specs.declared.volume.VolFile.TheVariants.{Journal}
 use Rattle.side_journal.proofs.Spells.{length-body_bytes}
-use Rattle.side_journal.proofs.tests.make.Goals as goal
+use Rattle.store_tests.proofs.journal.make.Goals as goal
 
 -- the gate of a journal set
 gated : (gate : ℕ) (j : List ℕ) → length j ≡ 96 → length (gate ∷ drop 1 j) ≡ 96

@@ -1,6 +1,0 @@
-use Rattle.std.proofs.Common.{ℕ, ◌<◌, length}
-use Rattle.bundle_store.specs.Build.{bytes_at}
-use Rattle.bundle_lines.proofs.tests.fit.Given as goal
-
-abbrev pub invariant-loop-i : goal.invariant-loop-i
-invariant-loop-i l = (k : ℕ) → k < l.i → (0 < length (bytes_at l.updates k)) × (length (bytes_at l.updates k) < 16777216)

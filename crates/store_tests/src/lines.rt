@@ -1,0 +1,354 @@
+//! Worked lines and marks, what a crash leaves at each moment of two puts, and objects that fail.
+
+use crate::same::same;
+use crate::stores::{
+    FRESH, LARGE, PICKS, SMALL, check_fit, empty_volume, failing_volume, first_slot, image,
+    last_slot, pair, tile, volume,
+};
+use bundle_index::Slot;
+use bundle_lines::{
+    BuildStop, LineStop, PutStop, build_all, give_built, give_recovery, give_report, list_all,
+    put_all,
+};
+use bundle_store::{CheckReport, Recovery, Session, TileRec, recover};
+use outside_io::{Bytes, Marks, MemSink, MemVolume, Pick, Sink, Volume};
+use std::alloc::Global;
+use std::process::Abort;
+
+/// A sink that takes so many bytes.
+fn sink(rt: &impl Abort, alloc: Global, room: usize) -> MemSink {
+    let failing = Bytes::of(alloc, b"").expect(rt, "memory");
+    MemSink::new(alloc, 100000, failing, room).expect(rt, "memory")
+}
+
+/// How puts end, once the volume is recovered; and their marks.
+fn put<V: Volume, K: Sink>(
+    rt: &impl Abort,
+    alloc: Global,
+    vol: &mut V,
+    out: &mut K,
+    updates: &[TileRec],
+) -> (Result<(), PutStop>, Marks) {
+    let mut marks = Marks::new(alloc);
+    marks.reserve(updates.len()).expect(rt, "memory");
+    check_fit(rt, updates);
+    recover(vol).expect(rt, "recover");
+    let mut session = Session::open(alloc, vol).expect(rt, "open");
+    let end = put_all(&mut session, vol, out, &mut marks, updates);
+    (end, marks)
+}
+
+/// How a build ends, once the volume is recovered; and its marks.
+fn build<V: Volume, K: Sink>(
+    rt: &impl Abort,
+    alloc: Global,
+    vol: &mut V,
+    out: &mut K,
+    updates: &[TileRec],
+) -> (Result<(), BuildStop>, Marks) {
+    let mut marks = Marks::new(alloc);
+    marks.reserve(updates.len()).expect(rt, "memory");
+    check_fit(rt, updates);
+    recover(vol).expect(rt, "recover");
+    let mut session = Session::open(alloc, vol).expect(rt, "open");
+    let end = build_all(alloc, &mut session, vol, out, &mut marks, updates);
+    (end, marks)
+}
+
+/// How a listing ends.
+fn list<V: Volume, K: Sink>(
+    rt: &impl Abort,
+    alloc: Global,
+    vol: &mut V,
+    out: &mut K,
+) -> Result<(), LineStop> {
+    let session = Session::open(alloc, vol).expect(rt, "open");
+    list_all(&session, vol, out)
+}
+
+/// The bundle has this listing, of 100 bytes at most.
+fn expect_listing<V: Volume>(rt: &impl Abort, alloc: Global, vol: &mut V, listing: &[u8]) {
+    let mut out = sink(rt, alloc, 100);
+    same(rt, "listing ends", list(rt, alloc, vol, &mut out), Ok(()));
+    same(rt, "listing", out.held(), listing);
+}
+
+/// The small tile for the first slot, and the large one for the last.
+fn two_tiles(rt: &impl Abort, alloc: Global) -> Vec<TileRec> {
+    let small = tile(rt, alloc, first_slot(rt), &SMALL);
+    let large = tile(rt, alloc, last_slot(rt), &LARGE);
+    pair(rt, alloc, small, large)
+}
+
+/// Both marks.
+fn two_marks(rt: &impl Abort, marks: &Marks) -> (u64, u64) {
+    if marks.len() != 2 {
+        panic!(rt; "two marks");
+    }
+    (marks.at(0), marks.at(1))
+}
+
+const TWO_PUTS: &[u8] = b"put 0 0 66\nput 127 127 72\n";
+
+#[test]
+fn two_puts_have_their_marks_and_lines(rt: HostRuntime) {
+    let alloc = rt.alloc();
+    let mut vol = empty_volume(&rt, alloc);
+    let mut out = sink(&rt, alloc, 100);
+    let (end, marks) = put(&rt, alloc, &mut vol, &mut out, &two_tiles(&rt, alloc));
+    same(&rt, "end", end, Ok(()));
+    same(&rt, "lines", out.held(), TWO_PUTS);
+    let (first, second) = two_marks(&rt, &marks);
+    same(&rt, "first mark", first < second, true);
+    same(&rt, "second mark", second, vol.moment());
+}
+
+#[test]
+fn a_build_has_one_line_and_its_marks_one_moment(rt: HostRuntime) {
+    let alloc = rt.alloc();
+    let mut vol = empty_volume(&rt, alloc);
+    let mut out = sink(&rt, alloc, 100);
+    let tiles = two_tiles(&rt, alloc);
+    let (end, marks) = build(&rt, alloc, &mut vol, &mut out, &tiles);
+    same(&rt, "end", end, Ok(()));
+    same(&rt, "line", out.held(), b"built 2 131282\n".as_slice());
+    same(
+        &rt,
+        "marks",
+        two_marks(&rt, &marks),
+        (vol.moment(), vol.moment()),
+    );
+    let (end, marks) = build(&rt, alloc, &mut vol, &mut out, &tiles);
+    same(&rt, "again", end, Err(BuildStop::NotEmpty { len: 131282 }));
+    same(
+        &rt,
+        "marks and bytes",
+        (marks.len(), out.held().len()),
+        (0, 15),
+    );
+}
+
+const LISTED_ONE: &[u8] = b"0 0 131140 66\n";
+
+const LISTED_TWO: &[u8] = b"0 0 131140 66\n127 127 131210 72\n";
+
+#[test]
+fn a_build_whose_line_is_cut_stands(rt: HostRuntime) {
+    let alloc = rt.alloc();
+    let mut vol = empty_volume(&rt, alloc);
+    let mut out = sink(&rt, alloc, 3);
+    let (end, marks) = build(&rt, alloc, &mut vol, &mut out, &two_tiles(&rt, alloc));
+    same(&rt, "end", (end, marks.len()), (Err(BuildStop::Output), 2));
+    same(&rt, "line", out.held(), b"bui".as_slice());
+    expect_listing(&rt, alloc, &mut vol, LISTED_TWO);
+}
+
+/// The length of the slot's tile once the image is recovered, 0 for none.
+fn recovered_len(
+    rt: &impl Abort,
+    alloc: Global,
+    vol: &MemVolume,
+    moment: u64,
+    pick: Pick,
+    slot: Slot,
+) -> usize {
+    let mut image = image(rt, alloc, vol, moment, pick);
+    recover(&mut image).expect(rt, "recover");
+    let session = Session::open(alloc, &mut image).expect(rt, "open");
+    match session.get(&mut image, slot) {
+        Ok(tile) => tile.len(),
+        Err(_) => 0,
+    }
+}
+
+/// An image of a moment, once recovered, has the tiles that have a mark by then, and the second
+/// never without the first.
+fn expect_marked(
+    rt: &impl Abort,
+    alloc: Global,
+    vol: &MemVolume,
+    marks: (u64, u64),
+    moment: u64,
+    pick: Pick,
+) {
+    let small = recovered_len(rt, alloc, vol, moment, pick, first_slot(rt));
+    let large = recovered_len(rt, alloc, vol, moment, pick, last_slot(rt));
+    same(
+        rt,
+        moment,
+        small == 66 || (moment < marks.0 && small == 0),
+        true,
+    );
+    same(
+        rt,
+        moment,
+        large == 72 || (moment < marks.1 && large == 0),
+        true,
+    );
+    same(rt, moment, large == 0 || small == 66, true);
+}
+
+/// So does each image of each moment.
+fn expect_all_marked(rt: &impl Abort, alloc: Global, vol: &MemVolume, marks: (u64, u64)) {
+    for moment in 0..vol.moment() {
+        for pick in PICKS {
+            expect_marked(rt, alloc, vol, marks, moment, pick);
+        }
+    }
+}
+
+#[test]
+fn a_crash_leaves_what_has_a_mark(rt: HostRuntime) {
+    let alloc = rt.alloc();
+    let mut vol = empty_volume(&rt, alloc);
+    let mut out = sink(&rt, alloc, 100);
+    let (end, marks) = put(&rt, alloc, &mut vol, &mut out, &two_tiles(&rt, alloc));
+    same(&rt, "end", end, Ok(()));
+    expect_all_marked(&rt, alloc, &vol, two_marks(&rt, &marks));
+}
+
+/// Where the call of that number fails, two puts leave so many marks and these lines.
+fn expect_lines(rt: &impl Abort, alloc: Global, number: u64, done: usize, lines: &[u8]) {
+    let mut vol = failing_volume(rt, alloc, &[number]);
+    let mut out = sink(rt, alloc, 100);
+    let (end, marks) = put(rt, alloc, &mut vol, &mut out, &two_tiles(rt, alloc));
+    same(rt, number, (end, marks.len()), (Err(PutStop::Volume), done));
+    same(rt, number, out.held(), lines);
+}
+
+// Recovery and opening make 4 calls on an empty file, a first put 44, and a second put 16.
+#[test]
+fn a_volume_that_fails_leaves_the_lines_of_the_marks(rt: HostRuntime) {
+    let alloc = rt.alloc();
+    expect_lines(&rt, alloc, 4, 0, b"");
+    expect_lines(&rt, alloc, 47, 0, b"");
+    expect_lines(&rt, alloc, 48, 1, &TWO_PUTS[..11]);
+    expect_lines(&rt, alloc, 63, 1, &TWO_PUTS[..11]);
+}
+
+/// Puts of two tiles fail at an output of so many bytes, which then has these lines, and leave a
+/// bundle with this listing.
+fn expect_cut(rt: &impl Abort, alloc: Global, room: usize, lines: &[u8], listing: &[u8]) {
+    let mut vol = empty_volume(rt, alloc);
+    let mut out = sink(rt, alloc, room);
+    let (end, _) = put(rt, alloc, &mut vol, &mut out, &two_tiles(rt, alloc));
+    same(rt, room, end, Err(PutStop::Output));
+    same(rt, room, out.held(), lines);
+    expect_listing(rt, alloc, &mut vol, listing);
+}
+
+#[test]
+fn an_output_that_fails_leaves_its_update(rt: HostRuntime) {
+    let alloc = rt.alloc();
+    expect_cut(&rt, alloc, 0, b"", LISTED_ONE);
+    expect_cut(&rt, alloc, 10, b"put 0 0 66", LISTED_ONE);
+    expect_cut(&rt, alloc, 11, b"put 0 0 66\n", LISTED_TWO);
+    expect_cut(&rt, alloc, 25, b"put 0 0 66\nput 127 127 72", LISTED_TWO);
+}
+
+#[test]
+fn the_first_update_without_room_ends_the_puts(rt: HostRuntime) {
+    let alloc = rt.alloc();
+    let mut vol = volume(&rt, alloc, 1099511627776 - 70, &FRESH, &[], &[]);
+    let mut out = sink(&rt, alloc, 100);
+    let (end, marks) = put(&rt, alloc, &mut vol, &mut out, &two_tiles(&rt, alloc));
+    let full = PutStop::Full { len: 1099511627776 };
+    same(&rt, "end", (end, marks.len()), (Err(full), 1));
+    same(&rt, "lines", out.held(), &TWO_PUTS[..11]);
+}
+
+/// How many lines these bytes end.
+fn line_count(bytes: &[u8]) -> u32 {
+    let mut count = 0u32;
+    for byte in bytes {
+        if *byte == b'\n' {
+            count = count.wrapping_add(1);
+        }
+    }
+    count
+}
+
+/// A bundle in which each slot has a tile of one byte. The calls of these numbers fail.
+fn full_volume(rt: &impl Abort, alloc: Global, failing: &[u64]) -> MemVolume {
+    let mut front = Vec::from_slice(alloc, &FRESH).expect(rt, "memory");
+    for _ in 0..16384 {
+        front
+            .extend_from_slice(b"\x44\x00\x02\x00\x00\x01\x00\x00")
+            .expect(rt, "memory");
+    }
+    volume(rt, alloc, 131141, &front, &[], failing)
+}
+
+#[test]
+fn a_full_index_is_listed_by_slot(rt: HostRuntime) {
+    let alloc = rt.alloc();
+    let mut vol = full_volume(&rt, alloc, &[]);
+    let mut out = sink(&rt, alloc, 600000);
+    same(&rt, "end", list(&rt, alloc, &mut vol, &mut out), Ok(()));
+    same(&rt, "lines", line_count(out.held()), 16384);
+    let first = b"0 0 131140 1\n0 1 131140 1\n0 2 131140 1\n".as_slice();
+    let last = b"127 126 131140 1\n127 127 131140 1\n".as_slice();
+    same(&rt, "first lines", out.held().starts_with(first), true);
+    same(&rt, "last lines", out.held().ends_with(last), true);
+}
+
+/// Where the call of that number fails, the listing of a full index has so many lines.
+fn expect_rows(rt: &impl Abort, alloc: Global, number: u64, lines: u32) {
+    let mut vol = full_volume(rt, alloc, &[number]);
+    let mut out = sink(rt, alloc, 600000);
+    same(
+        rt,
+        number,
+        list(rt, alloc, &mut vol, &mut out),
+        Err(LineStop::Volume),
+    );
+    same(rt, number, line_count(out.held()), lines);
+}
+
+// Opening makes 2 calls, and a listing 128.
+#[test]
+fn a_listing_that_fails_has_the_rows_before(rt: HostRuntime) {
+    let alloc = rt.alloc();
+    expect_rows(&rt, alloc, 2, 0);
+    expect_rows(&rt, alloc, 3, 128);
+    expect_rows(&rt, alloc, 129, 16256);
+    let mut vol = full_volume(&rt, alloc, &[]);
+    let mut out = sink(&rt, alloc, 20);
+    same(
+        &rt,
+        "end",
+        list(&rt, alloc, &mut vol, &mut out),
+        Err(LineStop::Output),
+    );
+    same(
+        &rt,
+        "lines",
+        out.held(),
+        b"0 0 131140 1\n0 1 131".as_slice(),
+    );
+}
+
+const OTHER_LINES: &[u8] =
+    b"built 2 131282\nclosed\napplied\nemptied\ntiles 3\nbytes 4294967296\nbad 1\nfirst 1 2\n";
+
+#[test]
+fn the_other_lines(rt: HostRuntime) {
+    let mut out = sink(&rt, rt.alloc(), 200);
+    same(&rt, "built", give_built(2, 131282, &mut out).is_ok(), true);
+    for found in [Recovery::Closed, Recovery::Applied, Recovery::Emptied] {
+        same(
+            &rt,
+            "recovery",
+            give_recovery(found, &mut out).is_ok(),
+            true,
+        );
+    }
+    let report = CheckReport {
+        tiles: 3,
+        bytes: 4294967296,
+        bad: 1,
+        first_bad: Slot::of(1, 2),
+    };
+    same(&rt, "report", give_report(report, &mut out).is_ok(), true);
+    same(&rt, "lines", out.held(), OTHER_LINES);
+}
