@@ -3,4 +3,24 @@
 #![tactic(auto)]
 
 #[cfg(test)]
+mod coded_blobs;
+#[cfg(test)]
+mod coded_decoding;
+#[cfg(test)]
+mod decoding;
+#[cfg(test)]
+mod encoding;
+#[cfg(test)]
+mod fixtures;
+#[cfg(test)]
+mod grids;
+#[cfg(test)]
+mod headers;
+#[cfg(test)]
+mod rasters;
+#[cfg(test)]
 mod same;
+#[cfg(test)]
+mod symbol_encoding;
+#[cfg(test)]
+mod worked_blobs;

@@ -13,8 +13,3 @@ mod ranging;
 
 pub use blob::{EncodeFault, LayFault, encode, encode_over};
 pub use laws::blobs_are_small;
-
-#[cfg(test)]
-mod symbol_tests;
-#[cfg(test)]
-mod tests;

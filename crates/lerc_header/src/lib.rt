@@ -12,8 +12,6 @@ mod laws;
 mod numbers;
 mod reading;
 mod step;
-#[cfg(test)]
-mod tests;
 mod writing;
 
 pub use fault::{BlobFault, BlobReason};

@@ -15,8 +15,6 @@ mod mask;
 mod order;
 mod raster;
 mod reading;
-#[cfg(test)]
-mod tests;
 
 pub use grid::grid_write;
 pub use kind::PixelType;

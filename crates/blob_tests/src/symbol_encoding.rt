@@ -1,6 +1,6 @@
 //! Blobs of 8-bit values in code words, whose bytes another program wrote.
 
-use crate::tests::blob_of;
+use crate::encoding::encodes;
 use lerc_header::Version;
 use std::alloc::{AllocError, Global};
 use std::process::Abort;
@@ -31,9 +31,7 @@ const RAMP_BLOB: [u8; 111] =
 #[test]
 fn a_ramp_is_told_by_its_differences(rt: HostRuntime) -> Result<(), Fail> {
     let grid = ramp(rt.alloc())?;
-    let blob = blob_of(rt.alloc(), &grid, Version::V3, 0)?;
-    assert_eq!(rt; blob.as_slice(), RAMP_BLOB.as_slice());
-    Ok(())
+    encodes(&rt, rt.alloc(), &grid, Version::V3, 0, &RAMP_BLOB)
 }
 
 /// The last values of the rows of the ruler.
@@ -66,13 +64,10 @@ const RULER_BLOB: [u8; 173] =
 #[test]
 fn a_ruler_is_told_by_its_values(rt: HostRuntime) -> Result<(), Fail> {
     let grid = ruler(rt.alloc())?;
-    let blob = blob_of(rt.alloc(), &grid, Version::V4, 0)?;
-    assert_eq!(rt; blob.as_slice(), RULER_BLOB.as_slice());
-    Ok(())
+    encodes(&rt, rt.alloc(), &grid, Version::V4, 0, &RULER_BLOB)
 }
 
-/// Eight rows of twelve i8 with three depths. One of five pixels is not
-/// valid.
+/// Eight rows of twelve i8 with three depths. One of five pixels is not valid.
 fn depths(alloc: Global) -> Result<Vec<u8>, AllocError> {
     let mut grid = Vec::new(alloc);
     grid.extend_from_slice(b"LGR1\0\x08\0\0\0\x0c\0\0\0\x03\0\0\0")?;
@@ -104,7 +99,5 @@ const DEPTHS_BLOB: [u8; 203] =
 #[test]
 fn depths_have_one_table(rt: HostRuntime) -> Result<(), Fail> {
     let grid = depths(rt.alloc())?;
-    let blob = blob_of(rt.alloc(), &grid, Version::V4, 0)?;
-    assert_eq!(rt; blob.as_slice(), DEPTHS_BLOB.as_slice());
-    Ok(())
+    encodes(&rt, rt.alloc(), &grid, Version::V4, 0, &DEPTHS_BLOB)
 }

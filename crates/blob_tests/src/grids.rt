@@ -1,0 +1,317 @@
+//! Grids that are written, read in pieces, cut short, wrong, and of sources that fail.
+
+ghost use Rattle.std.specs.Prelude.{◌<◌};
+
+use crate::fixtures::{given, has_grid, source};
+use crate::same::same;
+use outside_io::{Bytes, Failed, MemSink, MemSource, take_all};
+use raster_values::{GridFault, GridReason, GridStop, PixelType, Raster, grid_read, grid_write};
+use std::alloc::Global;
+use std::process::Abort;
+use std::test::Fail;
+
+/// Makes a pixel valid.
+fn mark(rt: &impl Abort, raster: &mut Raster, row: u32, col: u32) {
+    assert!(rt; row < raster.rows() && col < raster.cols());
+    raster.mark(row, col, true);
+}
+
+/// Gives a valid pixel a value at a depth.
+fn set(rt: &impl Abort, raster: &mut Raster, row: u32, col: u32, d: u32, value: i64) {
+    assert!(rt; row < raster.rows() && col < raster.cols() && d < raster.depth());
+    assert!(rt; raster.is_valid(row, col));
+    assert!(rt; raster.kind().least() <= value);
+    assert!(rt; value <= raster.kind().greatest());
+    raster.set(row, col, d, value);
+}
+
+/// Values, each behind its row, its column and its depth.
+type Placed<'a> = &'a [(u32, u32, u32, i64)];
+
+/// A raster of the shape with these values.
+fn raster_with(
+    rt: &impl Abort,
+    alloc: Global,
+    kind: PixelType,
+    (rows, cols, depth): (u32, u32, u32),
+    values: Placed<'_>,
+) -> Result<Raster, Fail> {
+    let mut raster = Raster::new(alloc, kind, rows, cols, depth)?;
+    for (row, col, d, value) in values {
+        mark(rt, &mut raster, *row, *col);
+        set(rt, &mut raster, *row, *col, *d, *value);
+    }
+    Ok(raster)
+}
+
+/// A sink that takes 18 bytes, three a call.
+fn small_sink(alloc: Global) -> Result<MemSink, Fail> {
+    Ok(MemSink::new(alloc, 3, Bytes::of(alloc, b"")?, 18)?)
+}
+
+/// The sink takes the first 18 bytes of the raster's grid, and fails then.
+fn fails_behind(rt: &impl Abort, raster: &Raster, mut sink: MemSink) {
+    let answer = grid_write(raster, &mut sink);
+    same(rt, "a small sink", answer, Err(Failed));
+    same(rt, "a small sink", sink.held().len(), 18);
+}
+
+/// The raster has this grid, of which a small sink takes 18 bytes.
+fn is_written(rt: &impl Abort, alloc: Global, raster: &Raster, grid: &[u8]) -> Result<(), Fail> {
+    has_grid(rt, alloc, "the grid", raster, grid)?;
+    fails_behind(rt, raster, small_sink(alloc)?);
+    Ok(())
+}
+
+/// The raster of the shape with these values has this grid.
+fn has_written(
+    rt: &impl Abort,
+    alloc: Global,
+    kind: PixelType,
+    shape: (u32, u32, u32),
+    values: Placed<'_>,
+    grid: &[u8],
+) -> Result<(), Fail> {
+    let raster = raster_with(rt, alloc, kind, shape, values)?;
+    is_written(rt, alloc, &raster, grid)
+}
+
+#[test]
+fn grids(rt: HostRuntime) -> Result<(), Fail> {
+    let one = [(0, 0, 0, 7)];
+    has_written(&rt, rt.alloc(), PixelType::U8, (1, 1, 1), &one, ONE)?;
+    let four = [(0, 0, 0, 10), (0, 1, 0, 11), (0, 2, 0, 12), (0, 3, 0, 13)];
+    has_written(&rt, rt.alloc(), PixelType::I16, (1, 4, 1), &four, FOUR)?;
+    let deep = [
+        (0, 0, 0, -1),
+        (0, 0, 1, 2),
+        (1, 0, 0, 3),
+        (1, 0, 1, -128),
+        (1, 1, 1, 127),
+    ];
+    has_written(&rt, rt.alloc(), PixelType::I8, (2, 2, 2), &deep, DEEP)
+}
+
+/// A grid of one byte, 7.
+const ONE: &[u8] = b"LGR1\x01\x01\x00\x00\x00\x01\x00\x00\x00\x01\x00\x00\x00\x01\x07";
+
+/// A grid of sixteen bits and four columns: 10, 11, 12, 13.
+const FOUR: &[u8] = b"LGR1\x02\x01\x00\x00\x00\x04\x00\x00\x00\x01\x00\x00\x00\
+\x01\x01\x01\x01\x0a\x00\x0b\x00\x0c\x00\x0d\x00";
+
+/// A grid of eight bits, two rows and columns and two depths, with three valid pixels.
+const DEEP: &[u8] = b"LGR1\x00\x02\x00\x00\x00\x02\x00\x00\x00\x02\x00\x00\x00\
+\x01\x00\x01\x01\xff\x02\x03\x80\x00\x7f";
+
+/// A raster of sixteen bits, 100 rows and 50 columns, of which all values are 258 but that of the
+/// pixel in row 50 and column 25, which is not valid.
+fn many_pieces(rt: &impl Abort, alloc: Global) -> Result<Raster, Fail> {
+    let mut raster = Raster::new(alloc, PixelType::U16, 100, 50, 1)?;
+    unmark(rt, &mut raster);
+    Ok(raster)
+}
+
+/// Fills the raster, and makes the pixel in row 50 and column 25 invalid, twice.
+fn unmark(rt: &impl Abort, raster: &mut Raster) {
+    assert!(rt; raster.rows() == 100 && raster.cols() == 50 && raster.depth() == 1);
+    assert!(rt; raster.kind() == PixelType::U16);
+    raster.fill(258);
+    same(rt, "filled", raster.valid_count(), 5000);
+    raster.mark(50, 25, false);
+    raster.mark(50, 25, false);
+    same(rt, "marked", raster.valid_count(), 4999);
+    same(rt, "the value", raster.get(50, 25, 0), 0);
+}
+
+/// The byte at a place behind the head of the grid of this raster.
+fn wanted(place: usize) -> u8 {
+    match place {
+        2542 => 0,
+        0..5017 => 1,
+        _ if place % 2 == 1 => 2,
+        _ => 1,
+    }
+}
+
+/// The grid of this raster has these bytes behind its head.
+fn has_pieces(rt: &impl Abort, alloc: Global, raster: Raster) -> Result<(), Fail> {
+    let sink = given(alloc, &raster)?;
+    are_wanted(rt, sink.held());
+    Ok(())
+}
+
+/// These are the bytes of the grid.
+fn are_wanted(rt: &impl Abort, grid: &[u8]) {
+    same(rt, "bytes", grid.len(), 15015);
+    for (place, byte) in grid.iter().enumerate() {
+        if place >= 17 {
+            same(rt, place, *byte, wanted(place));
+        }
+    }
+}
+
+#[test]
+fn a_grid_of_many_pieces(rt: HostRuntime) -> Result<(), Fail> {
+    let raster = many_pieces(&rt, rt.alloc())?;
+    has_pieces(&rt, rt.alloc(), raster)
+}
+
+/// A grid with three bytes behind it.
+fn followed(alloc: Global, grid: &[u8], piece: usize) -> Result<MemSource, Fail>
+    requires { 0 < piece }
+{
+    let longer = [grid, b"+++"].concat(alloc)?;
+    source(alloc, &longer, piece, b"")
+}
+
+/// How many bytes are left in the source, of which it gives at most ten.
+fn left(mut src: MemSource) -> Result<usize, Failed> {
+    let mut rest = [0; 10];
+    take_all(&mut src, &mut rest)
+}
+
+/// The raster of a grid, read in pieces of this length, and copied. What follows is left.
+fn copied(rt: &impl Abort, alloc: Global, grid: &[u8], piece: usize) -> Result<Raster, Fail>
+    requires { 0 < piece }
+{
+    let mut src = followed(alloc, grid, piece)?;
+    let read = grid_read(alloc, &mut src, 5);
+    same(rt, piece, left(src), Ok(3));
+    Ok(read?.copy(alloc)?)
+}
+
+/// The grid is read in pieces of any length.
+fn is_read(rt: &impl Abort, alloc: Global, grid: &[u8]) -> Result<(), Fail> {
+    for piece in [1, 7, 1000] {
+        assert!(rt; piece > 0);
+        let raster = copied(rt, alloc, grid, piece)?;
+        has_grid(rt, alloc, piece, &raster, grid)?;
+    }
+    Ok(())
+}
+
+/// A grid of sixteen bits and four columns, the second of which is not valid.
+const THREE: &[u8] = b"LGR1\x02\x01\x00\x00\x00\x04\x00\x00\x00\x01\x00\x00\x00\
+\x01\x00\x01\x01\x0a\x00\xff\xff\x0d\x00";
+
+/// A grid of 32 bits and two columns, both of which are not valid.
+const NONE: &[u8] = b"LGR1\x05\x01\x00\x00\x00\x02\x00\x00\x00\x01\x00\x00\x00\x00\x00";
+
+#[test]
+fn grids_are_read_in_any_pieces(rt: HostRuntime) -> Result<(), Fail> {
+    is_read(&rt, rt.alloc(), ONE)?;
+    is_read(&rt, rt.alloc(), THREE)?;
+    is_read(&rt, rt.alloc(), DEEP)?;
+    is_read(&rt, rt.alloc(), NONE)
+}
+
+/// What is read of the source is no grid, and the read ends so.
+fn stops(rt: &impl Abort, alloc: Global, mut src: MemSource, at: u64, want: GridStop)
+    requires { at < 1000 }
+{
+    same(rt, at, grid_read(alloc, &mut src, at).err(), Some(want));
+}
+
+/// The bytes, from this place on and in pieces of this length, have this fault.
+fn has_fault(
+    rt: &impl Abort,
+    alloc: Global,
+    bytes: &[u8],
+    (at, piece): (u64, usize),
+    reason: GridReason,
+    place: u64,
+) -> Result<(), Fail> {
+    assert!(rt; at < 1000 && 0 < piece);
+    let src = source(alloc, bytes, piece, b"")?;
+    stops(
+        rt,
+        alloc,
+        src,
+        at,
+        GridStop::Fault(GridFault { reason, place }),
+    );
+    Ok(())
+}
+
+#[test]
+fn the_first_fault_of_a_head(rt: HostRuntime) -> Result<(), Fail> {
+    let rows = [
+        (b"".as_slice(), GridReason::Truncated, 100),
+        (b"LGR", GridReason::Truncated, 103),
+        (b"LGR2", GridReason::BadMagic, 100),
+        (b"LGR1\x06", GridReason::BadType, 104),
+        (b"LGR1\x00\x00\x00\x00\x00", GridReason::BadSize, 105),
+    ];
+    for (bytes, reason, place) in rows {
+        has_fault(&rt, rt.alloc(), bytes, (100, 7), reason, place)?;
+    }
+    Ok(())
+}
+
+/// A grid with one row and these columns and depths has this fault.
+fn has_shape_fault(
+    rt: &impl Abort,
+    alloc: Global,
+    shape: &[u8; 8],
+    reason: GridReason,
+    place: u64,
+) -> Result<(), Fail> {
+    let mut bytes = *b"LGR1\x00\x01\x00\x00\x00........";
+    bytes[9..].copy_from_slice(shape);
+    has_fault(rt, alloc, &bytes, (0, 7), reason, place)
+}
+
+#[test]
+fn the_first_fault_of_a_shape(rt: HostRuntime) -> Result<(), Fail> {
+    let rows = [
+        (b"\x00\x00\x00\x00\x00\x00\x01\x00", GridReason::BadSize, 9),
+        (b"\x01\x00\x00\x00\x00\x00\x00\x00", GridReason::BadSize, 13),
+        (
+            b"\x01\x00\x00\x00\x01\x00\x01\x00",
+            GridReason::TooLarge,
+            13,
+        ),
+        (
+            b"\x00\x00\x00\x01\x02\x00\x00\x00",
+            GridReason::TooLarge,
+            13,
+        ),
+    ];
+    for (shape, reason, place) in rows {
+        has_shape_fault(&rt, rt.alloc(), shape, reason, place)?;
+    }
+    Ok(())
+}
+
+#[test]
+fn a_wrong_mark_before_the_cut(rt: HostRuntime) -> Result<(), Fail> {
+    let wrong = b"LGR1\x00\x02\x00\x00\x00\x02\x00\x00\x00\x01\x00\x00\x00\x01\x02";
+    has_fault(&rt, rt.alloc(), wrong, (100, 1), GridReason::BadMark, 118)?;
+    let cut = b"LGR1\x00\x02\x00\x00\x00\x02\x00\x00\x00\x01\x00\x00\x00\x01\x01";
+    has_fault(&rt, rt.alloc(), cut, (100, 1), GridReason::Truncated, 119)
+}
+
+#[test]
+fn a_grid_cut_at_each_length(rt: HostRuntime) -> Result<(), Fail> {
+    for len in 0..DEEP.len() {
+        let place = len as u64;
+        has_fault(
+            &rt,
+            rt.alloc(),
+            &DEEP[..len],
+            (0, 7),
+            GridReason::Truncated,
+            place,
+        )?;
+    }
+    Ok(())
+}
+
+#[test]
+fn a_source_that_fails_at_each_call(rt: HostRuntime) -> Result<(), Fail> {
+    for call in 0..6 {
+        let src = source(rt.alloc(), DEEP, 7, &[call])?;
+        stops(&rt, rt.alloc(), src, 0, GridStop::Source);
+    }
+    Ok(())
+}
