@@ -38,8 +38,8 @@ fn grids_are_encoded_in_any_pieces(rt: HostRuntime) {
 /// A run of these words over this grid gives a blob that has this image behind its header.
 fn gives_image(rt: &(impl Abort + AllocGlobal), words: &[&str], grid: &[u8], image: &[u8]) {
     let left = left_by(rt.alloc(), words, grid, (7, 100), (&[], &[])).expect(rt, "memory");
-    let found = (left.status, left.out.held().get(66..));
-    same(rt, grid.len(), found, (0, Some(image)));
+    same(rt, "status", left.status, 0);
+    same(rt, "image", left.out.held().get(66..), Some(image));
 }
 
 #[test]

@@ -320,6 +320,19 @@ pub(crate) fn refuses(rt: &(impl Abort + AllocGlobal), words: &[&str], input: &[
     }
 }
 
+/// The input with these bytes written over it at this place.
+fn written_over(
+    rt: &(impl Abort + AllocGlobal),
+    input: &[u8],
+    place: usize,
+    bytes: &[u8],
+) -> Vec<u8> {
+    let end = place.saturating_add(bytes.len());
+    let front = input.get(..place).expect(rt, "a place");
+    let back = input.get(end..).expect(rt, "room at the place");
+    [front, bytes, back].concat(rt.alloc()).expect(rt, "memory")
+}
+
 /// The same where these bytes are written over the input at this place.
 pub(crate) fn refuses_with(
     rt: &(impl Abort + AllocGlobal),
@@ -327,10 +340,7 @@ pub(crate) fn refuses_with(
     input: &[u8],
     (place, bytes, line): (usize, &[u8], &[u8]),
 ) {
-    assert!(rt; place <= input.len() && bytes.len() <= input.len() - place);
-    let parts = [&input[..place], bytes, &input[place + bytes.len()..]];
-    let changed = parts.concat(rt.alloc()).expect(rt, "memory");
-    refuses(rt, words, &changed, line);
+    refuses(rt, words, &written_over(rt, input, place, bytes), line);
 }
 
 /// The same where one more byte stands behind the input.
@@ -351,7 +361,7 @@ fn refuses_cut(rt: &(impl Abort + AllocGlobal), words: &[&str], input: &[u8]) {
     refuses(rt, words, input, line.expect(rt, "memory").as_bytes());
 }
 
-/// A run over the bytes up to any of them says so.
+/// A run over any number of the first of these bytes, but not over all, says so.
 pub(crate) fn refuses_each_cut(rt: &(impl Abort + AllocGlobal), words: &[&str], input: &[u8]) {
     for length in 0..input.len() {
         refuses_cut(rt, words, &input[..length]);
@@ -380,8 +390,9 @@ pub(crate) fn fails_at_output(
     output: &[u8],
 ) {
     for length in 0..output.len() {
+        let call = u8::try_from(length).expect(rt, "256 calls at most");
         let wanted = (4, &output[..length], b"output failed\n".as_slice());
-        leaves(rt, words, input, (100, 1), (&[], &[length as u8]), wanted);
+        leaves(rt, words, input, (100, 1), (&[], &[call]), wanted);
     }
 }
 
@@ -509,14 +520,18 @@ fn arguments_of(rt: &(impl Abort + AllocGlobal), texts: &[&[u8]]) -> ListedArgum
     ListedArguments { listed }
 }
 
+/// These words have these bytes.
+fn words_are(rt: &impl Abort, words: &[Word], texts: &[&[u8]]) {
+    same(rt, "number of words", words.len(), texts.len());
+    for (word, text) in words.iter().zip(texts) {
+        same(rt, texts.len(), word.as_slice(), *text);
+    }
+}
+
 /// The words of a command line of these texts are those behind the second.
 fn words_are_behind_two(rt: &(impl Abort + AllocGlobal), texts: &[&[u8]]) {
     let words = command_words(rt.alloc(), &arguments_of(rt, texts)).expect(rt, "memory");
-    let count = texts.len();
-    same(rt, count, words.len(), count.saturating_sub(2));
-    for (word, text) in words.iter().zip(texts.iter().skip(2)) {
-        same(rt, count, word.as_slice(), *text);
-    }
+    words_are(rt, &words, texts.get(2..).unwrap_or(&[]));
 }
 
 #[test]
