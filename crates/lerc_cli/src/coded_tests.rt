@@ -1,7 +1,8 @@
 //! What `run` gives of blobs of blocks and of codes that were worked by hand.
 
-use crate::tests::left_by;
-use std::test::Fail;
+use crate::tests::{gives, refuses};
+
+const DECODE: &[&str] = &["decode"];
 
 /// A blob of one block, whose last value is above the greatest one unless it is capped.
 pub(crate) const STEPS: [u8; 72] = [
@@ -150,40 +151,25 @@ const CODE_IN_CODE: [u8; 99] = [
 ];
 
 #[test]
-fn blocks_and_codes_are_decoded(rt: HostRuntime) -> Result<(), Fail> {
-    let rows = [
-        (STEPS.as_slice(), FOUR.as_slice()),
-        (&STEPS_DEEP, &FOUR_DEEP),
-        (&THREE_BLOCKS, &SEVENTEEN),
-        (&DIFFERENCES, &ONES),
-        (&DIFFERENCES_OF_I8, &SIGNED),
-        (&PLAIN_OF_I8, &SIGNED),
-    ];
-    for (blob, grid) in rows {
-        let left = left_by(rt.alloc(), &["decode"], blob, (7, 5), (&[], &[]))?;
-        assert_eq!(rt; left.status, 0);
-        assert_eq!(rt; left.out.held(), grid);
-    }
-    Ok(())
+fn blocks_and_codes_are_decoded(rt: HostRuntime) {
+    gives(&rt, DECODE, &STEPS, &FOUR);
+    gives(&rt, DECODE, &STEPS_DEEP, &FOUR_DEEP);
+    gives(&rt, DECODE, &THREE_BLOCKS, &SEVENTEEN);
+    gives(&rt, DECODE, &DIFFERENCES, &ONES);
+    gives(&rt, DECODE, &DIFFERENCES_OF_I8, &SIGNED);
+    gives(&rt, DECODE, &PLAIN_OF_I8, &SIGNED);
 }
 
 #[test]
-fn wrong_blocks_and_codes_are_refused(rt: HostRuntime) -> Result<(), Fail> {
-    let rows = [
-        (
-            MODE_OF_VERSION_4.as_slice(),
-            b"refused: BadMode at 67\n".as_slice(),
-        ),
-        (&WIDE_BLOCKS, b"refused: BadBlockSize at 67\n"),
-        (&SECOND_TAG_FIRST, b"refused: BadBlockTag at 67\n"),
-        (&FEW_WORDS, b"refused: PastEnd at 95\n"),
-        (&CODE_IN_CODE, b"refused: BadCodeTable at 87\n"),
-    ];
-    for (input, line) in rows {
-        let left = left_by(rt.alloc(), &["decode"], input, (7, 100), (&[], &[]))?;
-        assert_eq!(rt; left.status, 2);
-        assert_eq!(rt; left.out.held().len(), 0);
-        assert_eq!(rt; left.err.held(), line);
-    }
-    Ok(())
+fn wrong_blocks_and_codes_are_refused(rt: HostRuntime) {
+    refuses(&rt, DECODE, &MODE_OF_VERSION_4, b"refused: BadMode at 67\n");
+    refuses(&rt, DECODE, &WIDE_BLOCKS, b"refused: BadBlockSize at 67\n");
+    refuses(
+        &rt,
+        DECODE,
+        &SECOND_TAG_FIRST,
+        b"refused: BadBlockTag at 67\n",
+    );
+    refuses(&rt, DECODE, &FEW_WORDS, b"refused: PastEnd at 95\n");
+    refuses(&rt, DECODE, &CODE_IN_CODE, b"refused: BadCodeTable at 87\n");
 }

@@ -2,10 +2,11 @@
 //! from the bytes of the blobs.
 
 use crate::tests::{
-    BAD_RUN, BLOB, MISCOUNTED, NO_SWEEP, NONE_VALID, NONE_VALID_ODD, RANGES, RUNS, SWEEP, USAGE,
-    WIDE, left_by,
+    BAD_RUN, BLOB, MISCOUNTED, NO_SWEEP, NONE_VALID, NONE_VALID_ODD, RANGES, RUNS, SWEEP, WIDE,
+    fails_at_output, fails_at_source, gives, is_no_command, refuses, refuses_longer,
 };
-use std::test::Fail;
+
+const INFO: &[&str] = &["info"];
 
 /// What is told of the blob of one unsigned byte, 7.
 const LINES: &[u8] =
@@ -52,90 +53,42 @@ const BLOCKS_LINES: &[u8] =
     least 10\ngreatest 13\nchecksum 57a9a459\nmask full\nimage blocks\n";
 
 #[test]
-fn a_blob_is_told_in_any_pieces(rt: HostRuntime) -> Result<(), Fail> {
-    let rows = [
-        (BLOB.as_slice(), LINES),
-        (&NONE_VALID, NONE_VALID_LINES),
-        (&NONE_VALID_ODD, NONE_VALID_ODD_LINES),
-        (&RUNS, RUNS_LINES),
-        (&RANGES, RANGES_LINES),
-        (&SWEEP, SWEEP_LINES),
-        (&WIDE, WIDE_LINES),
-        (&BLOCKS, BLOCKS_LINES),
-    ];
-    for (blob, lines) in rows {
-        for (taken, given) in [(1, 1), (7, 5), (100, 1000)] {
-            assert!(rt; taken > 0 && given > 0);
-            let left = left_by(rt.alloc(), &["info"], blob, (taken, given), (&[], &[]))?;
-            assert_eq!(rt; left.status, 0, "in pieces of {taken}");
-            assert_eq!(rt; left.out.held(), lines);
-            assert_eq!(rt; left.err.held().len(), 0);
-            assert_eq!(rt; left.marks, 0);
-        }
-    }
-    Ok(())
+fn a_blob_is_told_in_any_pieces(rt: HostRuntime) {
+    gives(&rt, INFO, &BLOB, LINES);
+    gives(&rt, INFO, &NONE_VALID, NONE_VALID_LINES);
+    gives(&rt, INFO, &NONE_VALID_ODD, NONE_VALID_ODD_LINES);
+    gives(&rt, INFO, &RUNS, RUNS_LINES);
+    gives(&rt, INFO, &RANGES, RANGES_LINES);
+    gives(&rt, INFO, &SWEEP, SWEEP_LINES);
+    gives(&rt, INFO, &WIDE, WIDE_LINES);
+    gives(&rt, INFO, &BLOCKS, BLOCKS_LINES);
 }
 
 #[test]
-fn nothing_is_told_before_the_blob_is_decoded(rt: HostRuntime) -> Result<(), Fail> {
-    let longer = [BLOB.as_slice(), &[0]].concat(rt.alloc())?;
-    let rows = [
-        (longer.as_slice(), b"refused: Leftover at 66\n".as_slice()),
-        (&BLOB[..65], b"refused: Truncated at 65\n"),
-        (&BAD_RUN, b"refused: BadRun at 66\n"),
-        (
-            &MISCOUNTED,
-            b"refused: BadMaskCount at 66 header 7 counted 8\n",
-        ),
-        (&NO_SWEEP, b"refused: PastEnd at 74\n"),
-    ];
-    for (input, line) in rows {
-        for piece in [1, 7, 100] {
-            assert!(rt; piece > 0);
-            let left = left_by(rt.alloc(), &["info"], input, (piece, 100), (&[], &[]))?;
-            assert_eq!(rt; left.status, 2, "in pieces of {piece}");
-            assert_eq!(rt; left.out.held().len(), 0);
-            assert_eq!(rt; left.err.held(), line);
-        }
-    }
-    Ok(())
+fn nothing_is_told_before_the_blob_is_decoded(rt: HostRuntime) {
+    refuses_longer(&rt, INFO, &BLOB, b"refused: Leftover at 66\n");
+    refuses(&rt, INFO, &BLOB[..65], b"refused: Truncated at 65\n");
+    refuses(&rt, INFO, &BAD_RUN, b"refused: BadRun at 66\n");
+    let count = b"refused: BadMaskCount at 66 header 7 counted 8\n";
+    refuses(&rt, INFO, &MISCOUNTED, count);
+    refuses(&rt, INFO, &NO_SWEEP, b"refused: PastEnd at 74\n");
 }
 
 #[test]
-fn a_failing_source_ends_it(rt: HostRuntime) -> Result<(), Fail> {
+fn a_failing_source_ends_it(rt: HostRuntime) {
     // In pieces of 7 bytes the blob takes eleven calls, and the end one more.
-    for failing in [0, 1, 10, 11] {
-        let left = left_by(rt.alloc(), &["info"], &BLOB, (7, 100), (&[failing], &[]))?;
-        assert_eq!(rt; left.status, 3, "at call {failing}");
-        assert_eq!(rt; left.out.held().len(), 0);
-        assert_eq!(rt; left.err.held(), b"source failed\n".as_slice());
-    }
-    Ok(())
+    fails_at_source(&rt, INFO, &BLOB, &[0, 1, 10, 11]);
 }
 
 #[test]
-fn a_failing_output_has_a_prefix_of_the_lines(rt: HostRuntime) -> Result<(), Fail> {
-    for failing in 0..132u8 {
-        let left = left_by(rt.alloc(), &["info"], &BLOB, (66, 1), (&[], &[failing]))?;
-        assert_eq!(rt; left.status, 4, "at call {failing}");
-        assert_eq!(rt; left.out.held(), &LINES[..usize::from(failing)]);
-        assert_eq!(rt; left.err.held(), b"output failed\n".as_slice());
-    }
-    Ok(())
+fn a_failing_output_has_a_prefix_of_the_lines(rt: HostRuntime) {
+    fails_at_output(&rt, INFO, &BLOB, LINES);
 }
 
 #[test]
-fn further_words_are_no_command(rt: HostRuntime) -> Result<(), Fail> {
-    for words in [
-        ["info", "x"],
-        ["info", ""],
-        ["info", "info"],
-        ["decode", "info"],
-    ] {
-        let left = left_by(rt.alloc(), &words, &BLOB, (66, 100), (&[], &[]))?;
-        assert_eq!(rt; left.status, 1);
-        assert_eq!(rt; left.out.held().len(), 0);
-        assert_eq!(rt; left.err.held(), USAGE);
-    }
-    Ok(())
+fn further_words_are_no_command(rt: HostRuntime) {
+    is_no_command(&rt, &["info", "x"], &BLOB);
+    is_no_command(&rt, &["info", ""], &BLOB);
+    is_no_command(&rt, &["info", "info"], &BLOB);
+    is_no_command(&rt, &["decode", "info"], &BLOB);
 }

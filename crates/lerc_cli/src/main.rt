@@ -42,6 +42,8 @@ mod put;
 mod put_tests;
 mod reading;
 mod run;
+#[cfg(test)]
+mod same;
 mod stop;
 #[cfg(test)]
 mod tests;
