@@ -20,6 +20,3 @@ pub use laws::{
 pub use packing::stuff;
 pub use simple::{digit_count, list_width, simple_len, write_simple};
 pub use unpacking::{stuffed_len, unstuff, unstuff_front};
-
-#[cfg(test)]
-mod tests;

@@ -14,6 +14,3 @@ mod walk;
 pub use depth::{deltas_of, undelta};
 pub use laws::{symbols_have_a_raster, symbols_have_one_depth, symbols_have_one_raster};
 pub use plain::{plain_of, unplain};
-
-#[cfg(test)]
-mod tests;

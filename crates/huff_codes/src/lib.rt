@@ -33,8 +33,3 @@ pub use lengths::Lengths;
 pub use table::{SymbolRange, read_table};
 pub use words::read_symbols;
 pub use writing::{have_lengths, symbols_len, write_symbols};
-
-#[cfg(test)]
-mod tests;
-#[cfg(test)]
-mod writing_tests;

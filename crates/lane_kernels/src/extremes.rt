@@ -15,24 +15,3 @@ pub fn range(values: &[i64]) -> Option<(i64, i64)>
     }
     Some((least, greatest))
 }
-
-#[cfg(test)]
-mod tests {
-    use super::*;
-
-    #[test]
-    fn finds_the_least_and_the_greatest(rt: HostRuntime) {
-        let rows: [(&[i64], Option<(i64, i64)>); 7] = [
-            (&[], None),
-            (&[3], Some((3, 3))),
-            (&[-7, 2], Some((-7, 2))),
-            (&[2, -7], Some((-7, 2))),
-            (&[5, 5, 5, 5, 5, 5, 5, 5, 4], Some((4, 5))),
-            (&[5, 5, 5, 5, 5, 5, 5, 5, 6], Some((5, 6))),
-            (&[0, i64::MAX, i64::MIN, -1], Some((i64::MIN, i64::MAX))),
-        ];
-        for (values, want) in rows {
-            assert_eq!(rt; range(values), want, "{values:?}");
-        }
-    }
-}

@@ -18,6 +18,3 @@ pub use laws::{
 };
 pub use reading::read_list;
 pub use writing::{table_len, write_table, write_table_front};
-
-#[cfg(test)]
-mod tests;

@@ -12,6 +12,3 @@ mod write;
 pub use laws::{bytes_are_runs_or_go_wrong, pieces_go_on, repeats_are_found, runs_are_determined};
 pub use read::{RunFault, read_runs};
 pub use write::{runs_len, write_runs};
-
-#[cfg(test)]
-mod tests;

@@ -29,6 +29,3 @@ pub use laws::{
 pub use quantising::quantise;
 pub use reading::read_block;
 pub use writing::{write_block, write_distances};
-
-#[cfg(test)]
-mod tests;

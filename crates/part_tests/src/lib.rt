@@ -4,4 +4,20 @@
 #![tactic(auto)]
 
 #[cfg(test)]
+mod blocks;
+#[cfg(test)]
+mod code_words;
+#[cfg(test)]
+mod code_writing;
+#[cfg(test)]
+mod lanes;
+#[cfg(test)]
+mod list_forms;
+#[cfg(test)]
+mod runs;
+#[cfg(test)]
 mod same;
+#[cfg(test)]
+mod stuffed_bits;
+#[cfg(test)]
+mod symbols;

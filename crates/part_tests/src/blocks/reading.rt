@@ -1,8 +1,9 @@
 ghost use Rattle.micro_block.specs.Frame.{IsBlockCtx};
 
 use super::whole;
-use crate::{BlockCtx, BlockFault, BlockReason, read_block};
+use crate::same::same;
 use bit_stuff::ListReason;
+use micro_block::{BlockCtx, BlockFault, BlockReason, read_block};
 use raster_values::PixelType;
 use std::process::Abort;
 
@@ -11,10 +12,10 @@ fn expect_block(rt: &impl Abort, bytes: &[u8], ctx: &BlockCtx, used: usize, valu
     requires { IsBlockCtx ctx.now }
 {
     let mut out = [77; 8];
-    assert!(rt; values.len() <= 8, "the row");
+    assert!(rt; values.len() <= 8);
     let out = &mut out[..values.len()];
-    assert!(rt; read_block(bytes, ctx, out) == Ok(used), "the length");
-    assert!(rt; &*out == values, "the values");
+    same(rt, "the length", read_block(bytes, ctx, out), Ok(used));
+    same(rt, "the values", &*out, values);
 }
 
 /// Reading a block of four values meets this fault.
@@ -23,7 +24,7 @@ fn expect_fault(rt: &impl Abort, bytes: &[u8], ctx: &BlockCtx, reason: BlockReas
 {
     let mut out = [0; 4];
     let fault = BlockFault { reason, at };
-    assert!(rt; read_block(bytes, ctx, &mut out) == Err(fault), "at {at}");
+    same(rt, at, read_block(bytes, ctx, &mut out), Err(fault));
 }
 
 #[test]

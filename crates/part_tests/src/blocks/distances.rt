@@ -2,11 +2,19 @@ ghost use Rattle.std.specs.Prelude.{◌≡◌, ◌≤ℤ◌, All, map, true};
 ghost use Rattle.raster_values.specs.Distance.{IsDistance, value_above};
 ghost use Rattle.micro_block.specs.Frame.{IsBlockCtx};
 
-use super::whole;
-use crate::distances::value_of;
-use crate::{BlockCtx, BlockSize, block_size, write_distances};
+use super::{expect_bytes, whole};
+use crate::same::same;
+use micro_block::{BlockCtx, BlockSize, block_size, write_distances};
 use raster_values::PixelType;
 use std::process::Abort;
+
+/// Whether no value that is so far above the least is above the top.
+fn none_above(distances: &[u32], kind: PixelType, top: i64) -> bool
+    ensures { result ≡ true → All (λ d. value_above kind d ≤ℤ top) distances.now }
+{
+    let least = kind.least();
+    distances.iter().all(|d| least + i64::from(*d) <= top)
+}
 
 /// Whether there are values that are so far above the least, and none is above the top.
 fn suit(distances: &[u32], ctx: &BlockCtx) -> bool
@@ -15,14 +23,7 @@ fn suit(distances: &[u32], ctx: &BlockCtx) -> bool
     ensures capped { result ≡ true →
         All (λ v. v ≤ℤ ctx.now.top) (map (value_above ctx.now.kind) distances.now) }
 {
-    let (greatest, top) = (ctx.kind.greatest(), ctx.top);
-    for distance in distances {
-        let value = value_of(ctx.kind, *distance);
-        if value > greatest || value > top {
-            return false;
-        }
-    }
-    true
+    none_above(distances, ctx.kind, ctx.top)
 }
 
 /// The chosen block has these bytes, it has a table or not, and nothing behind it is touched.
@@ -30,17 +31,17 @@ fn expect_written(rt: &impl Abort, distances: &[u32], ctx: &BlockCtx, table: boo
     requires { IsBlockCtx ctx.now }
 {
     let mut out = [0xee; 80];
-    assert!(rt; distances.len() <= 256 && suit(distances, ctx), "the row");
+    assert!(rt; distances.len() <= 256 && suit(distances, ctx));
     let size = block_size(distances, ctx);
     let wanted = BlockSize {
         len: bytes.len(),
         has_table: table,
     };
-    assert!(rt; size == wanted && size.len < 80, "the size");
+    same(rt, "the size", size, wanted);
+    assert!(rt; size.len < 80);
     let len = write_distances(distances, ctx, size.has_table, &mut out);
-    assert!(rt; len == size.len, "the answer");
-    assert!(rt; &out[..len] == bytes, "the bytes");
-    assert!(rt; out[len..].iter().all(|b| *b == 0xee), "what is behind");
+    same(rt, "the answer", len, size.len);
+    expect_bytes(rt, &out, bytes);
 }
 
 #[test]

@@ -1,21 +1,28 @@
 ghost use Rattle.std.specs.Prelude.{◌≡◌, ◌≤◌, ◌≤ℤ◌, All, length, true};
-ghost use Rattle.raster_values.specs.PixelType.{InRange};
+ghost use Rattle.raster_values.specs.PixelType.{InRange, type_least};
 ghost use Rattle.micro_block.specs.Frame.{IsBlockCtx};
 
-use super::whole;
-use crate::{BlockCtx, block_len, quantise, write_block};
+use super::{expect_bytes, whole};
+use crate::same::same;
+use micro_block::{BlockCtx, block_len, quantise, write_block};
 use raster_values::PixelType;
 use std::process::Abort;
 
+/// Whether each value is one from the least of the type to the top.
+fn all_within(values: &[i64], kind: PixelType, top: i64) -> bool
+    ensures { result ≡ true → All (λ v. (type_least kind ≤ℤ v) × (v ≤ℤ top)) values.now }
+{
+    let least = kind.least();
+    values.iter().all(|v| least <= *v && *v <= top)
+}
+
 /// Whether the values may be written under the context.
 fn suit(values: &[i64], ctx: &BlockCtx) -> bool
+    requires { IsBlockCtx ctx.now }
     ensures in_range { result ≡ true → All (InRange ctx.now.kind) values.now }
     ensures capped { result ≡ true → All (λ v. v ≤ℤ ctx.now.top) values.now }
 {
-    let (least, greatest, top) = (ctx.kind.least(), ctx.kind.greatest(), ctx.top);
-    values
-        .iter()
-        .all(|v| least <= *v && *v <= greatest && *v <= top)
+    all_within(values, ctx.kind, ctx.top)
 }
 
 /// The chosen block of the values has these bytes, and nothing behind them is touched.
@@ -23,20 +30,21 @@ fn expect_written(rt: &impl Abort, values: &[i64], ctx: &BlockCtx, bytes: &[u8])
     requires { IsBlockCtx ctx.now }
 {
     let mut out = [0xee; 80];
-    assert!(rt; values.len() <= 256 && suit(values, ctx), "the row");
+    assert!(rt; values.len() <= 256 && suit(values, ctx));
     let size = block_len(values, ctx);
-    assert!(rt; size == bytes.len() && size < 80, "the length");
-    assert!(rt; write_block(values, ctx, &mut out) == size, "the answer");
-    assert!(rt; &out[..size] == bytes, "the bytes");
-    assert!(rt; out[size..].iter().all(|b| *b == 0xee), "what is behind");
+    same(rt, "the length", size, bytes.len());
+    assert!(rt; size < 80);
+    let len = write_block(values, ctx, &mut out);
+    same(rt, "the answer", len, size);
+    expect_bytes(rt, &out, bytes);
 }
 
 /// The chosen block of the values takes so many bytes.
 fn expect_length(rt: &impl Abort, values: &[i64], ctx: &BlockCtx, size: usize)
     requires { IsBlockCtx ctx.now }
 {
-    assert!(rt; values.len() <= 256 && suit(values, ctx), "the row");
-    assert!(rt; block_len(values, ctx) == size, "the length");
+    assert!(rt; values.len() <= 256 && suit(values, ctx));
+    same(rt, "the length", block_len(values, ctx), size);
 }
 
 #[test]
@@ -161,9 +169,9 @@ fn many_different_values_take_a_simple_list(rt: HostRuntime) {
 fn half_a_step_is_rounded_up(rt: HostRuntime) {
     let mut out = [9; 6];
     quantise(&[-5, -4, -3, -2, -1, 5], -5, 2, &mut out);
-    assert!(rt; out == [0, 1, 1, 2, 2, 5], "by twos");
+    same(&rt, "by twos", out, [0, 1, 1, 2, 2, 5]);
     quantise(&[0, 2, 3, 4, 8, 9], 0, 6, &mut out);
-    assert!(rt; out == [0, 0, 1, 1, 1, 2], "by sixes");
+    same(&rt, "by sixes", out, [0, 0, 1, 1, 1, 2]);
     quantise(&[-5, -4, -3, -2, -1, 5], -5, 1, &mut out);
-    assert!(rt; out == [0, 1, 2, 3, 4, 10], "by ones");
+    same(&rt, "by ones", out, [0, 1, 2, 3, 4, 10]);
 }

@@ -1,0 +1,152 @@
+//! Runs of masks, over `mask_runs`.
+
+ghost use Rattle.std.specs.Prelude.{◌≤◌, length};
+
+use crate::same::same;
+use mask_runs::{RunFault, read_runs, runs_len, write_runs};
+use std::process::Abort;
+
+/// The length of the longest mask.
+const MOST: usize = 100_000;
+
+/// The bytes have their first fault at the place, as runs of a mask of this length.
+fn expect_fault(rt: &impl Abort, bytes: &[u8], length: usize, place: usize) {
+    let mut room = [0u8; MOST];
+    assert!(rt; length <= MOST);
+    let fault = RunFault { at: place };
+    same(rt, place, read_runs(bytes, &mut room[..length]), Err(fault));
+}
+
+/// The bytes are read as this mask.
+fn expect_read(rt: &impl Abort, bytes: &[u8], mask: &[u8]) {
+    let mut room = [0x55u8; MOST];
+    assert!(rt; mask.len() <= MOST);
+    let out = &mut room[..mask.len()];
+    same(rt, "the answer", read_runs(bytes, out), Ok(()));
+    same(rt, "the mask", &*out, mask);
+}
+
+/// Writes the chosen runs of a mask over the front of `out`; how many bytes they take.
+fn write_front(rt: &impl Abort, mask: &[u8], out: &mut [u8]) -> usize
+    ensures { result ≤ length out.new }
+{
+    assert!(rt; mask.len() <= MOST);
+    let size = runs_len(mask);
+    assert!(rt; size <= out.len());
+    write_runs(mask, &mut out[..size]);
+    size
+}
+
+/// These are the chosen runs of the mask, and are read as it.
+fn expect_chosen(rt: &impl Abort, mask: &[u8], bytes: &[u8]) {
+    let mut room = [0u8; 16];
+    let size = write_front(rt, mask, &mut room);
+    same(rt, "the runs", &room[..size], bytes);
+    expect_read(rt, bytes, mask);
+}
+
+#[test]
+fn each_fault_is_told_at_its_place(rt: HostRuntime) {
+    // a count that is cut
+    expect_fault(&rt, &[], 0, 0);
+    expect_fault(&rt, &[0x03], 3, 0);
+    expect_fault(&rt, &[0x01, 0x00, 0xaa, 0x00], 1, 3);
+    // a count 0
+    expect_fault(&rt, &[0x00, 0x00], 0, 0);
+    expect_fault(&rt, &[0x01, 0x00, 0xaa, 0x00, 0x00, 0x00, 0x80], 1, 3);
+    // a literal that is cut, and a repeat that is cut before its byte
+    expect_fault(&rt, &[0x03, 0x00, 0xaa, 0xbb], 3, 0);
+    expect_fault(&rt, &[0xfe, 0xff, 0x07, 0x02, 0x00, 0xaa], 4, 3);
+    expect_fault(&rt, &[0xfd, 0xff], 3, 0);
+    // a literal and a repeat that would pass the mask's end, and a literal that is cut, too
+    expect_fault(&rt, &[0x03, 0x00, 0xaa, 0xbb, 0xcc, 0x00, 0x80], 2, 0);
+    expect_fault(&rt, &[0x01, 0x00, 0xaa, 0xfd, 0xff, 0xbb, 0x00, 0x80], 3, 3);
+    expect_fault(&rt, &[0x05, 0x00, 0xaa], 1, 0);
+    // an end mark, at the front and in the middle, before the mask is full
+    expect_fault(&rt, &[0x00, 0x80], 1, 0);
+    expect_fault(
+        &rt,
+        &[0x01, 0x00, 0xaa, 0x00, 0x80, 0x01, 0x00, 0xbb, 0x00, 0x80],
+        2,
+        3,
+    );
+    // a byte after the end mark
+    expect_fault(&rt, &[0x01, 0x00, 0xaa, 0x00, 0x80, 0x07], 1, 5);
+    expect_fault(&rt, &[0x00, 0x80, 0x00, 0x80], 0, 2);
+    // a run where the end mark should stand
+    expect_fault(&rt, &[0x01, 0x00, 0xaa, 0x01, 0x00, 0xbb, 0x00, 0x80], 1, 3);
+}
+
+#[test]
+fn the_chosen_runs_are_written_and_read(rt: HostRuntime) {
+    expect_chosen(&rt, &[], &[0x00, 0x80]);
+    expect_chosen(&rt, &[0xef, 0x80], &[0x02, 0x00, 0xef, 0x80, 0x00, 0x80]);
+    expect_chosen(&rt, &[7, 7, 7, 7], &[0x04, 0x00, 7, 7, 7, 7, 0x00, 0x80]);
+    expect_chosen(&rt, &[7, 7, 7, 7, 7], &[0xfb, 0xff, 7, 0x00, 0x80]);
+    let between = [0x02, 0x00, 1, 2, 0xfb, 0xff, 7, 0x01, 0x00, 3, 0x00, 0x80];
+    expect_chosen(&rt, &[1, 2, 7, 7, 7, 7, 7, 3], &between);
+    let side_by_side = [0xfa, 0xff, 7, 0xfb, 0xff, 8, 0x00, 0x80];
+    expect_chosen(&rt, &[7, 7, 7, 7, 7, 7, 8, 8, 8, 8, 8], &side_by_side);
+    let behind_four = [0x05, 0x00, 1, 7, 7, 7, 7, 0xfb, 0xff, 8, 0x00, 0x80];
+    expect_chosen(&rt, &[1, 7, 7, 7, 7, 8, 8, 8, 8, 8], &behind_four);
+}
+
+// Lawful runs of a mask that are not the chosen ones.
+#[test]
+fn other_runs_are_read_too(rt: HostRuntime) {
+    expect_read(&rt, &[0xff, 0xff, 9, 0x00, 0x80], &[9]);
+    let literal = [0x05, 0x00, 7, 7, 7, 7, 7, 0x00, 0x80];
+    expect_read(&rt, &literal, &[7, 7, 7, 7, 7]);
+    let three = [0xfd, 0xff, 7, 0x01, 0x00, 1, 0x01, 0x00, 2, 0x00, 0x80];
+    expect_read(&rt, &three, &[7, 7, 7, 1, 2]);
+}
+
+#[test]
+fn a_repeat_is_cut_at_its_longest(rt: HostRuntime) {
+    let mut mask = [0xffu8; 32_769];
+    mask[32_768] = 0;
+    let runs = [0x01, 0x80, 0xff, 0x02, 0x00, 0xff, 0x00, 0x00, 0x80];
+    expect_chosen(&rt, &mask, &runs);
+    expect_fault(&rt, &runs, 32_768, 3);
+}
+
+/// A mask of many literals and repeats: 40,000 bytes in which no two neighbours are equal, 40,000
+/// equal bytes, and 20,000 bytes that change ever faster.
+fn byte_at(k: u32) -> u8 {
+    let square = u64::from(k) * u64::from(k);
+    match k {
+        0..40_000 => (k % 3) as u8,
+        40_000..80_000 => 9,
+        _ => (square / 3000 % 7) as u8,
+    }
+}
+
+fn hash(bytes: &[u8]) -> u64 {
+    let mut sum = 0u64;
+    for byte in bytes {
+        sum = (sum % 1_000_003 * 31 + u64::from(*byte)) % 1_000_003;
+    }
+    sum
+}
+
+/// The mask of these bytes.
+fn long_mask() -> [u8; MOST] {
+    let mut mask = [0u8; MOST];
+    let mut k = 0u32;
+    for byte in &mut mask {
+        *byte = byte_at(k);
+        k = k.wrapping_add(1);
+    }
+    mask
+}
+
+// The length and the sum are those of another program's runs of the same mask.
+#[test]
+fn a_long_mask_is_written_as_elsewhere(rt: HostRuntime) {
+    let mask = long_mask();
+    let mut room = [0u8; MOST];
+    let size = write_front(&rt, &mask, &mut room);
+    same(&rt, "the length", size, 59_134);
+    same(&rt, "the sum", hash(&room[..size]), 393_074);
+    expect_read(&rt, &room[..size], &mask);
+}

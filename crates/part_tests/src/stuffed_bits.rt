@@ -1,0 +1,269 @@
+//! Stuffed numbers, heads and simple lists, over `bit_stuff`.
+
+ghost use Rattle.std.specs.Prelude.{◌≡◌, ◌≤◌, length};
+ghost use Rattle.bit_stuff.specs.Stuffed.{stuffed_size};
+
+use crate::same::same;
+use bit_stuff::{
+    ListFault, ListHead, ListReason, read_head, simple_len, stuff, stuffed_len, unstuff,
+    unstuff_front, write_simple,
+};
+use std::process::Abort;
+
+/// One number for a list, to compare long lists by.
+fn digest(values: &[u32]) -> u32 {
+    let mut all = 0u32;
+    for v in values {
+        all = all.wrapping_mul(31).wrapping_add(*v).wrapping_add(1);
+    }
+    all
+}
+
+/// Byte `j` of a case: `7 * j * j + 13 * j + 5` modulo 256.
+fn byte_at(j: usize) -> u8 {
+    let j = (j % 256) as u8;
+    7u8.wrapping_mul(j)
+        .wrapping_add(13)
+        .wrapping_mul(j)
+        .wrapping_add(5)
+}
+
+/// The bytes of the longest case, of which the others are the front.
+fn case_bytes() -> [u8; 3968] {
+    let mut bytes = [0; 3968];
+    for j in 0..3968 {
+        bytes[j] = byte_at(j);
+    }
+    bytes
+}
+
+/// The bits of the last byte above so many bits of fields.
+fn spare_bits(used: usize) -> u8 {
+    [0x00, 0xfe, 0xfc, 0xf8, 0xf0, 0xe0, 0xc0, 0x80][used % 8]
+}
+
+/// Sets the spare bits of the last byte.
+fn set_spare(bytes: &mut [u8], spare: u8) {
+    if let Some(last) = bytes.last_mut() {
+        *last |= spare;
+    }
+}
+
+/// Clears the spare bits of the last byte.
+fn clear_spare(bytes: &mut [u8], spare: u8) {
+    if let Some(last) = bytes.last_mut() {
+        *last &= !spare;
+    }
+}
+
+/// The fields of the bytes have this digest, with the spare bits set, and are written with the
+/// spare bits clear, in which state the bytes are left.
+fn expect_both_ways(
+    rt: &impl Abort,
+    width: u32,
+    bytes: &mut [u8],
+    written: &mut [u8],
+    values: &mut [u32],
+    wanted: u32,
+)
+    requires width { width ≤ 31 }
+    requires count { length values.old ≤ 1024 }
+    requires size { length bytes.old ≡ stuffed_size (length values.old) width }
+    requires room { length written.old ≡ stuffed_size (length values.old) width }
+{
+    let spare = spare_bits(values.len() * width as usize);
+    set_spare(bytes, spare);
+    unstuff(bytes, width, values);
+    same(rt, "read", digest(values), wanted);
+    stuff(values, width, written);
+    clear_spare(bytes, spare);
+    same(rt, "written", &*written, &*bytes);
+}
+
+/// So many fields of the case's bytes have this digest, also with more bytes behind them, and are
+/// written as they were read.
+fn expect_fields(rt: &impl Abort, width: u32, count: usize, wanted: u32) {
+    assert!(rt; width <= 31 && count <= 1024);
+    let len = stuffed_len(count, width);
+    assert!(rt; len <= 3968);
+    let mut bytes = case_bytes();
+    let mut written = [0; 3968];
+    let mut room = [0; 1024];
+    let values = &mut room[..count];
+    expect_both_ways(
+        rt,
+        width,
+        &mut bytes[..len],
+        &mut written[..len],
+        values,
+        wanted,
+    );
+    unstuff_front(&bytes, width, values);
+    same(rt, "read from the front", digest(values), wanted);
+}
+
+/// The digests of as many fields of a width as these counts say.
+fn expect_width<const N: usize>(rt: &impl Abort, width: u32, counts: [usize; N], wanted: [u32; N]) {
+    for i in 0..N {
+        expect_fields(rt, width, counts[i], wanted[i]);
+    }
+}
+
+const EDGES: [usize; 7] = [0, 1, 7, 8, 9, 64, 1024];
+
+const TWO: [usize; 2] = [17, 64];
+
+// The digests were worked out apart from this program.
+#[test]
+fn fields_are_read_and_written_whatever_the_spare_bits(rt: HostRuntime) {
+    expect_width(
+        &rt,
+        0,
+        EDGES,
+        [
+            0, 1, 917087137, 2659897472, 852443009, 329810944, 1535655936,
+        ],
+    );
+    expect_width(
+        &rt,
+        1,
+        EDGES,
+        [
+            0, 2, 1805514339, 136369662, 4227459524, 118046366, 4053956801,
+        ],
+    );
+    expect_width(
+        &rt,
+        7,
+        EDGES,
+        [
+            0, 6, 2593510373, 3089410275, 1282438069, 1879993805, 3413411242,
+        ],
+    );
+    expect_width(
+        &rt,
+        8,
+        EDGES,
+        [
+            0, 6, 1833212480, 995012216, 780607670, 1737555392, 3413590016,
+        ],
+    );
+    expect_width(
+        &rt,
+        13,
+        EDGES,
+        [
+            0, 6406, 1971071305, 973672980, 119097274, 3127014061, 3764290147,
+        ],
+    );
+    expect_width(
+        &rt,
+        31,
+        EDGES,
+        [
+            0, 1799035142, 1870426375, 2479923331, 1102910909, 2626669539, 2816211005,
+        ],
+    );
+    expect_width(&rt, 2, TWO, [278613576, 1357367956]);
+    expect_width(&rt, 3, TWO, [72549577, 3771924697]);
+    expect_width(&rt, 4, TWO, [2624599716, 3251663754]);
+    expect_width(&rt, 5, TWO, [1348942829, 4090048196]);
+    expect_width(&rt, 6, TWO, [2563820506, 2451341132]);
+    expect_width(&rt, 9, TWO, [2085068665, 1713829620]);
+    expect_width(&rt, 10, TWO, [1264119726, 589654133]);
+    expect_width(&rt, 11, TWO, [2006423837, 3580335232]);
+    expect_width(&rt, 12, TWO, [3966685057, 3568901622]);
+    expect_width(&rt, 14, TWO, [2915802544, 3636873890]);
+    expect_width(&rt, 15, TWO, [1751288362, 1327225652]);
+    expect_width(&rt, 16, TWO, [2007023542, 599819456]);
+    expect_width(&rt, 17, TWO, [311207812, 625658873]);
+    expect_width(&rt, 18, TWO, [735648403, 2825842080]);
+    expect_width(&rt, 19, TWO, [1563467664, 1063378317]);
+    expect_width(&rt, 20, TWO, [7269834, 1983352558]);
+    expect_width(&rt, 21, TWO, [1777479906, 293412837]);
+    expect_width(&rt, 22, TWO, [4031249526, 1453301512]);
+    expect_width(&rt, 23, TWO, [1791737142, 590081021]);
+    expect_width(&rt, 24, TWO, [366743990, 317267456]);
+    expect_width(&rt, 25, TWO, [537443553, 4006101976]);
+    expect_width(&rt, 26, TWO, [1764687648, 2836158710]);
+    expect_width(&rt, 27, TWO, [4077635141, 456359785]);
+    expect_width(&rt, 28, TWO, [2322813731, 2599551810]);
+    expect_width(&rt, 29, TWO, [1391058957, 2610220388]);
+    expect_width(&rt, 30, TWO, [2187083467, 2586122220]);
+}
+
+#[test]
+fn short_rows(rt: HostRuntime) {
+    let mut values = [7u32; 3];
+    unstuff(&[0xff, 0x3f, 0x00, 0x00, 0xc0], 13, &mut values);
+    same(&rt, "read", values, [8191, 1, 4096]);
+    let mut bytes = [0u8; 5];
+    stuff(&values, 13, &mut bytes);
+    same(&rt, "written", bytes, [0xff, 0x3f, 0x00, 0x00, 0x40]);
+    same(&rt, "the most bytes", stuffed_len(16777216, 31), 65011712);
+    same(&rt, "no bytes", stuffed_len(9, 0), 0);
+}
+
+/// The chosen simple list of the values is `want`.
+fn expect_chosen(rt: &impl Abort, values: &[u32], want: &[u8]) {
+    assert!(rt; values.len() <= 1024 && values.iter().all(|v| *v < 2147483648));
+    let mut room = [0u8; 16];
+    let len = simple_len(values);
+    same(rt, "the length", len, want.len());
+    assert!(rt; len <= 16);
+    let out = &mut room[..len];
+    write_simple(values, out);
+    same(rt, "the bytes", &*out, want);
+}
+
+#[test]
+fn chosen_simple_lists(rt: HostRuntime) {
+    expect_chosen(&rt, &[1, 2, 3], &[0x82, 0x03, 0x39]);
+    expect_chosen(&rt, &[0, 5, 5, 0], &[0x83, 0x04, 0x68, 0x01]);
+    expect_chosen(&rt, &[], &[0x80, 0x00]);
+    expect_chosen(&rt, &[0; 256], &[0x40, 0x00, 0x01]);
+    expect_chosen(&rt, &[0; 255], &[0x80, 0xff]);
+}
+
+/// Reading the head of a list of `want` numbers meets this fault.
+fn expect_fault(rt: &impl Abort, bytes: &[u8], want: u32, reason: ListReason, at: usize) {
+    same(
+        rt,
+        at,
+        read_head(bytes, want),
+        Err(ListFault { reason, at }),
+    );
+}
+
+/// The bytes begin with this head, which takes `used` of them.
+fn expect_head(rt: &impl Abort, bytes: &[u8], head: ListHead, used: usize) {
+    same(rt, used, read_head(bytes, head.count), Ok((head, used)));
+}
+
+#[test]
+fn heads_and_their_faults(rt: HostRuntime) {
+    expect_fault(&rt, &[], 4, ListReason::Cut, 0);
+    expect_fault(&rt, &[0xc2], 4, ListReason::BadHead, 0);
+    expect_fault(&rt, &[0xe0, 4], 4, ListReason::BadHead, 0);
+    expect_fault(&rt, &[0xa0], 4, ListReason::BadTable, 0);
+    expect_fault(&rt, &[0x42, 4], 4, ListReason::Cut, 1);
+    expect_fault(&rt, &[0x82, 0x03, 0x39], 4, ListReason::BadCount, 1);
+    let simple = ListHead {
+        width: 2,
+        table: false,
+        count: 3,
+    };
+    expect_head(&rt, &[0x82, 0x03, 0x39], simple, 2);
+    let table = ListHead {
+        width: 31,
+        table: true,
+        count: 1024,
+    };
+    expect_head(&rt, &[0x7f, 0x00, 0x04], table, 3);
+    let wide = ListHead {
+        width: 0,
+        table: false,
+        count: 16909060,
+    };
+    expect_head(&rt, &[0x00, 4, 3, 2, 1, 9], wide, 5);
+}
