@@ -8,6 +8,8 @@
 
 mod laws;
 mod program;
+#[cfg(test)]
+mod same;
 mod streams;
 mod volume;
 

@@ -78,8 +78,24 @@ pub fn give_line<K: Sink>(sink: &mut K, line: &Line)
 #[cfg(test)]
 mod tests {
     use super::*;
+    use crate::same::same;
     use crate::{Bytes, MemSink};
+    use std::process::Abort;
     use std::test::Fail;
+
+    // What of the line a sink takes that has room for so many bytes.
+    fn gives(
+        rt: &(impl Abort + AllocGlobal),
+        line: &Line,
+        room: usize,
+        wanted: &[u8],
+    ) -> Result<(), Fail> {
+        let never = Bytes::of(rt.alloc(), b"")?;
+        let mut sink = MemSink::new(rt.alloc(), 2, never, room)?;
+        give_line(&mut sink, line);
+        same(rt, room, sink.held(), wanted);
+        Ok(())
+    }
 
     #[test]
     fn a_line_is_text_and_numbers(rt: HostRuntime) -> Result<(), Fail> {
@@ -90,12 +106,8 @@ mod tests {
         line.number(u64::MAX);
         line.text(b"\n");
         let want = b"put 7 0 18446744073709551615\n".as_slice();
-        assert_eq!(rt; line.as_slice(), want);
-        for (room, taken) in [(99, 29), (5, 5)] {
-            let mut sink = MemSink::new(rt.alloc(), 2, Bytes::of(rt.alloc(), b"")?, room)?;
-            give_line(&mut sink, &line);
-            assert_eq!(rt; sink.held(), &want[..taken]);
-        }
-        Ok(())
+        same(&rt, "the line", line.as_slice(), want);
+        gives(&rt, &line, 99, want)?;
+        gives(&rt, &line, 5, b"put 7")
     }
 }

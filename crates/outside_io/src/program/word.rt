@@ -84,7 +84,16 @@ fn decimal(digits: &[u8]) -> Option<u64>
 #[cfg(test)]
 mod tests {
     use super::*;
+    use crate::same::same;
+    use std::process::Abort;
     use std::test::Fail;
+
+    fn reads(rt: &(impl Abort + AllocGlobal), text: &str, wanted: Option<u64>) -> Result<(), Fail> {
+        let word = Word::of(rt.alloc(), text)?;
+        same(rt, text, word.as_slice(), text.as_bytes());
+        same(rt, text, word.number(), wanted);
+        Ok(())
+    }
 
     #[test]
     fn numbers(rt: HostRuntime) -> Result<(), Fail> {
@@ -103,16 +112,14 @@ mod tests {
             ("+1", None),
             ("raw", None),
         ];
-        for (text, want) in rows {
-            let word = Word::of(rt.alloc(), text)?;
-            assert_eq!(rt; word.as_slice(), text.as_bytes());
-            assert_eq!(rt; word.number(), want, "of {text}");
+        for (text, wanted) in rows {
+            reads(&rt, text, wanted)?;
         }
 
         // A word need be no text.
         let word = Word::new(vec![in rt.alloc(); 0xff, b'1']?);
-        assert_eq!(rt; word.as_slice(), [0xff, b'1'].as_slice());
-        assert_eq!(rt; word.number(), None);
+        same(&rt, "no text", word.as_slice(), [0xff, b'1'].as_slice());
+        same(&rt, "no text", word.number(), None);
         Ok(())
     }
 }

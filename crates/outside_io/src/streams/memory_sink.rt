@@ -123,28 +123,38 @@ impl Sink for MemSink {
 mod tests {
     use super::*;
     use crate::give_all;
+    use crate::same::same;
+    use std::process::Abort;
     use std::test::Fail;
 
     #[test]
     fn a_byte_at_a_time_until_none_is_free(rt: HostRuntime) -> Result<(), Fail> {
         let mut sink = MemSink::new(rt.alloc(), 1, Bytes::of(rt.alloc(), b"")?, 3)?;
-        assert_eq!(rt; give_all(&mut sink, b"ab"), Ok(()));
-        assert_eq!(rt; sink.held(), b"ab".as_slice());
-        assert_eq!(rt; give_all(&mut sink, b"cd"), Err(Failed));
-        assert_eq!(rt; sink.held(), b"abc".as_slice());
-        assert_eq!(rt; sink.give(b""), Ok(0));
+        same(&rt, "two bytes", give_all(&mut sink, b"ab"), Ok(()));
+        same(&rt, "two bytes", sink.held(), b"ab".as_slice());
+        same(&rt, "two more", give_all(&mut sink, b"cd"), Err(Failed));
+        same(&rt, "two more", sink.held(), b"abc".as_slice());
+        same(&rt, "none", sink.give(b""), Ok(0));
+        Ok(())
+    }
+
+    // What a sink holds after two lists of bytes, of which it refuses the first.
+    fn refuses_the_first(
+        rt: &(impl Abort + AllocGlobal),
+        failing: u8,
+        wanted: &[u8],
+    ) -> Result<(), Fail> {
+        let failing_calls = Bytes::of(rt.alloc(), &[failing])?;
+        let mut sink = MemSink::new(rt.alloc(), 2, failing_calls, 9)?;
+        same(rt, failing, give_all(&mut sink, b"abc"), Err(Failed));
+        same(rt, failing, give_all(&mut sink, b"cd"), Ok(()));
+        same(rt, failing, sink.held(), wanted);
         Ok(())
     }
 
     #[test]
     fn failing_calls(rt: HostRuntime) -> Result<(), Fail> {
-        let rows = [(b"\x00", b"cd".as_slice()), (b"\x01", b"abcd".as_slice())];
-        for (failing, want) in rows {
-            let mut sink = MemSink::new(rt.alloc(), 2, Bytes::of(rt.alloc(), failing)?, 9)?;
-            assert_eq!(rt; give_all(&mut sink, b"abc"), Err(Failed));
-            assert_eq!(rt; give_all(&mut sink, b"cd"), Ok(()));
-            assert_eq!(rt; sink.held(), want);
-        }
-        Ok(())
+        refuses_the_first(&rt, 0, b"cd")?;
+        refuses_the_first(&rt, 1, b"abcd")
     }
 }

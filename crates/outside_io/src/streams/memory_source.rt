@@ -109,12 +109,25 @@ impl Source for MemSource {
 #[cfg(test)]
 mod tests {
     use super::*;
+    use crate::same::same;
     use crate::take_all;
     use std::alloc::Global;
     use std::process::Abort;
     use std::test::Fail;
 
     const TEXT: &[u8] = b"nine byte";
+
+    fn source_of(
+        rt: &impl Abort,
+        alloc: Global,
+        piece: usize,
+        failing: &[u8],
+    ) -> Result<MemSource, Fail> {
+        assert!(rt; piece > 0);
+        let text = Bytes::of(alloc, TEXT)?;
+        let failing = Bytes::of(alloc, failing)?;
+        Ok(MemSource::new(text, piece, failing))
+    }
 
     /// How many bytes a call with a buffer of 5 takes, or -1 where it fails, for five calls in a
     /// row.
@@ -124,8 +137,7 @@ mod tests {
         piece: usize,
         failing: &[u8],
     ) -> Result<[i64; 5], Fail> {
-        assert!(rt; piece > 0);
-        let mut source = MemSource::new(Bytes::of(alloc, TEXT)?, piece, Bytes::of(alloc, failing)?);
+        let mut source = source_of(rt, alloc, piece, failing)?;
         let mut counts = [0; 5];
         let mut taken = Vec::new(alloc);
         for count in counts.iter_mut() {
@@ -138,7 +150,7 @@ mod tests {
                 Err(Failed) => *count = -1,
             }
         }
-        assert!(rt; TEXT.starts_with(taken.as_slice()));
+        same(rt, piece, TEXT.starts_with(taken.as_slice()), true);
         Ok(counts)
     }
 
@@ -153,35 +165,35 @@ mod tests {
         ];
         for (piece, failing, want) in rows {
             let counts = five_calls(&rt, rt.alloc(), piece, failing)?;
-            assert_eq!(rt; counts, want, "pieces of {piece}");
+            same(&rt, piece, counts, want);
         }
         Ok(())
     }
 
     #[test]
     fn nothing_is_taken_behind_a_failure(rt: HostRuntime) -> Result<(), Fail> {
-        let failing = Bytes::of(rt.alloc(), b"\x01")?;
-        let mut source = MemSource::new(Bytes::of(rt.alloc(), TEXT)?, 2, failing);
+        let mut source = source_of(&rt, rt.alloc(), 2, b"\x01")?;
         let mut buf = [0; 6];
-        assert_eq!(rt; take_all(&mut source, &mut buf), Err(Failed));
-        assert_eq!(rt; take_all(&mut source, &mut buf), Ok(6));
-        assert_eq!(rt; &buf[..], b"ne byt".as_slice());
+        same(&rt, "fails", take_all(&mut source, &mut buf), Err(Failed));
+        same(&rt, "goes on", take_all(&mut source, &mut buf), Ok(6));
+        same(&rt, "bytes", buf, *b"ne byt");
+        Ok(())
+    }
+
+    fn all_is_taken(rt: &impl Abort, alloc: Global, piece: usize) -> Result<(), Fail> {
+        let mut source = source_of(rt, alloc, piece, b"")?;
+        let mut buf = [0; 6];
+        same(rt, piece, take_all(&mut source, &mut buf), Ok(6));
+        same(rt, piece, buf, *b"nine b");
+        same(rt, piece, take_all(&mut source, &mut buf), Ok(3));
+        same(rt, piece, &buf[..3], b"yte".as_slice());
+        same(rt, piece, take_all(&mut source, &mut buf), Ok(0));
         Ok(())
     }
 
     #[test]
     fn all_of_a_front(rt: HostRuntime) -> Result<(), Fail> {
-        for piece in [1, 7] {
-            assert!(rt; piece > 0);
-            let never = Bytes::of(rt.alloc(), b"")?;
-            let mut source = MemSource::new(Bytes::of(rt.alloc(), TEXT)?, piece, never);
-            let mut buf = [0; 6];
-            assert_eq!(rt; take_all(&mut source, &mut buf), Ok(6));
-            assert_eq!(rt; &buf[..], b"nine b".as_slice());
-            assert_eq!(rt; take_all(&mut source, &mut buf), Ok(3));
-            assert_eq!(rt; &buf[..3], b"yte".as_slice());
-            assert_eq!(rt; take_all(&mut source, &mut buf), Ok(0));
-        }
-        Ok(())
+        all_is_taken(&rt, rt.alloc(), 1)?;
+        all_is_taken(&rt, rt.alloc(), 7)
     }
 }

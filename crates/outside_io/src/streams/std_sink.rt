@@ -45,6 +45,7 @@ impl<W: Write> Sink for StdSink<W> {
 mod tests {
     use super::*;
     use crate::give_all;
+    use crate::same::same;
     use std::io;
     use std::io::Cursor;
 
@@ -79,22 +80,21 @@ mod tests {
             interruptions: 3,
             taken: 0,
         });
-        assert_eq!(rt; give_all(&mut sink, b""), Ok(()));
-        assert_eq!(rt; sink.writer.interruptions, 3);
-        assert_eq!(rt; give_all(&mut sink, b"ab"), Err(Failed));
-        assert_eq!(rt;
-            (sink.faults, sink.writer.taken, sink.writer.interruptions),
-            (1, b'a', 0)
-        );
+        same(&rt, "none", give_all(&mut sink, b""), Ok(()));
+        same(&rt, "no call", sink.writer.interruptions, 3);
+        same(&rt, "two bytes", give_all(&mut sink, b"ab"), Err(Failed));
+        same(&rt, "faults", sink.faults, 1);
+        let writer = (sink.writer.taken, sink.writer.interruptions);
+        same(&rt, "writer", writer, (b'a', 0));
     }
 
     #[test]
     fn writes_until_the_writer_takes_nothing(rt: HostRuntime) {
         let mut sink = StdSink::new(Cursor::new([0u8; 4]));
-        assert_eq!(rt; give_all(&mut sink, b"abc"), Ok(()));
-        assert_eq!(rt; sink.faults, 0);
-        assert_eq!(rt; give_all(&mut sink, b"de"), Err(Failed));
-        assert_eq!(rt; sink.faults, 1);
-        assert_eq!(rt; sink.writer.get_ref().as_slice(), b"abcd".as_slice());
+        same(&rt, "three bytes", give_all(&mut sink, b"abc"), Ok(()));
+        same(&rt, "no fault", sink.faults, 0);
+        same(&rt, "two more", give_all(&mut sink, b"de"), Err(Failed));
+        same(&rt, "one fault", sink.faults, 1);
+        same(&rt, "all bytes", *sink.writer.get_ref(), *b"abcd");
     }
 }

@@ -45,6 +45,7 @@ impl<R: Read> Source for StdSource<R> {
 #[cfg(test)]
 mod tests {
     use super::*;
+    use crate::same::same;
     use crate::take_all;
     use std::io;
 
@@ -74,20 +75,21 @@ mod tests {
     fn reads_to_the_end_and_counts_errors(rt: HostRuntime) {
         let mut buf = [0; 6];
         let mut source = StdSource::new(b"nine byte".as_slice());
-        assert_eq!(rt; take_all(&mut source, &mut buf), Ok(6));
-        assert_eq!(rt; &buf[..], b"nine b".as_slice());
-        assert_eq!(rt; take_all(&mut source, &mut buf), Ok(3));
-        assert_eq!(rt; &buf[..3], b"yte".as_slice());
-        assert_eq!(rt; source.faults, 0);
+        same(&rt, "front", take_all(&mut source, &mut buf), Ok(6));
+        same(&rt, "front", buf, *b"nine b");
+        same(&rt, "rest", take_all(&mut source, &mut buf), Ok(3));
+        same(&rt, "rest", &buf[..3], b"yte".as_slice());
+        same(&rt, "no fault", source.faults, 0);
 
         let mut broken = StdSource::new(BrokenReader {
             interruptions: 3,
             has_failed: false,
         });
-        assert_eq!(rt; broken.take(&mut []), Ok(0));
-        assert_eq!(rt; broken.reader.interruptions, 3);
-        assert_eq!(rt; broken.take(&mut buf), Err(Failed));
-        assert_eq!(rt; (broken.faults, broken.reader.interruptions), (1, 0));
+        same(&rt, "none", broken.take(&mut []), Ok(0));
+        same(&rt, "no call", broken.reader.interruptions, 3);
+        same(&rt, "an error", broken.take(&mut buf), Err(Failed));
+        same(&rt, "one fault", broken.faults, 1);
+        same(&rt, "all calls", broken.reader.interruptions, 0);
     }
 
     #[test]
@@ -97,9 +99,9 @@ mod tests {
             interruptions: 3,
             has_failed: true,
         });
-        assert_eq!(rt; source.take(&mut buf), Ok(3));
-        assert_eq!(rt; buf, [7; 3]);
-        assert_eq!(rt; source.faults, 0);
+        same(&rt, "count", source.take(&mut buf), Ok(3));
+        same(&rt, "bytes", buf, [7; 3]);
+        same(&rt, "no fault", source.faults, 0);
     }
 
     #[test]
@@ -109,8 +111,9 @@ mod tests {
             interruptions: 0,
             has_failed: false,
         });
-        assert_eq!(rt; take_all(&mut source, &mut buf), Err(Failed));
-        assert_eq!(rt; (source.faults, buf), (1, [0; 3]));
-        assert_eq!(rt; take_all(&mut source, &mut buf), Ok(3));
+        same(&rt, "fails", take_all(&mut source, &mut buf), Err(Failed));
+        same(&rt, "one fault", source.faults, 1);
+        same(&rt, "no byte", buf, [0; 3]);
+        same(&rt, "goes on", take_all(&mut source, &mut buf), Ok(3));
     }
 }

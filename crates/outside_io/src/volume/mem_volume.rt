@@ -354,57 +354,70 @@ impl Volume for MemVolume {
 #[cfg(test)]
 mod tests {
     use super::*;
+    use crate::same::same;
     use crate::{Bytes, Piece};
+    use std::process::Abort;
     use std::test::Fail;
+
+    const BUNDLE: VolFile = VolFile::Bundle;
+
+    // A volume whose bundle has this length, and these bytes at a place. Its other bytes are 0.
+    fn volume_of(alloc: Global, len: u64, at: u64, bytes: &[u8]) -> Result<MemVolume, Fail> {
+        let bytes = Bytes::of(alloc, bytes)?;
+        let pieces = vec![in alloc; Piece { at, bytes }]?;
+        let bundle = Start::new(len, pieces);
+        let journal = Start::new(0, Vec::new(alloc));
+        let vol = MemVolume::new(alloc, bundle, journal, Vec::new(alloc), None, 9, 9)?;
+        Ok(vol)
+    }
 
     // What the bundle holds, behind its length and before nines.
     fn held(vol: &mut MemVolume) -> Option<(u64, [u8; 6])> {
         let mut buf = [9; 6];
-        let len = vol.len(VolFile::Bundle).ok()?;
-        vol.read(VolFile::Bundle, 0, &mut buf).ok()?;
+        let len = vol.len(BUNDLE).ok()?;
+        vol.read(BUNDLE, 0, &mut buf).ok()?;
         Some((len, buf))
     }
 
     #[test]
     fn a_long_file_is_read_at_both_ends(rt: HostRuntime) -> Result<(), Fail> {
-        let alloc = rt.alloc();
-        let mut pieces = Vec::new(alloc);
-        let bytes = Bytes::of(alloc, b"abc")?;
-        pieces.push(Piece {
-            at: 1099511627773,
-            bytes,
-        })?;
-        let bundle = Start::new(1099511627776, pieces);
-        let journal = Start::new(0, Vec::new(alloc));
-        let mut vol = MemVolume::new(alloc, bundle, journal, Vec::new(alloc), None, 9, 9)?;
+        let mut vol = volume_of(rt.alloc(), 1099511627776, 1099511627773, b"abc")?;
         let mut buf = [9; 5];
-        assert_eq!(rt; vol.len(VolFile::Bundle).ok(), Some(1099511627776));
-        assert_eq!(rt;
-            vol.read(VolFile::Bundle, 1099511627772, &mut buf).ok(),
-            Some(4)
-        );
-        assert_eq!(rt; buf, [0, 97, 98, 99, 9]);
-        assert_eq!(rt; vol.read(VolFile::Bundle, 0, &mut buf).ok(), Some(5));
-        assert_eq!(rt; buf, [0; 5]);
-        assert_eq!(rt;
-            vol.read(VolFile::Bundle, 1099511627777, &mut buf).ok(),
-            Some(0)
-        );
+        same(&rt, "length", vol.len(BUNDLE), Ok(1099511627776));
+        same(&rt, "end", vol.read(BUNDLE, 1099511627772, &mut buf), Ok(4));
+        same(&rt, "end", buf, [0, 97, 98, 99, 9]);
+        same(&rt, "front", vol.read(BUNDLE, 0, &mut buf), Ok(5));
+        same(&rt, "front", buf, [0; 5]);
+        let past_it = vol.read(BUNDLE, 1099511627777, &mut buf);
+        same(&rt, "past it", past_it, Ok(0));
+        Ok(())
+    }
+
+    // The second of its three calls is a write, and the third a sync of it.
+    fn write_and_sync(rt: &impl Abort, vol: &mut MemVolume) {
+        assert_eq!(rt; vol.len(BUNDLE).ok(), Some(4));
+        same(rt, "write", vol.write(BUNDLE, 3, b"XY"), Ok(()));
+        same(rt, "sync", vol.sync(BUNDLE), Ok(()));
+    }
+
+    fn crash_leaves(
+        rt: &(impl Abort + AllocGlobal),
+        vol: &MemVolume,
+        moment: u64,
+        pick: Pick,
+        wanted: (u64, [u8; 6]),
+    ) -> Result<(), Fail> {
+        assert!(rt; moment <= vol.moment());
+        let mut left = vol.crash(rt.alloc(), moment, pick)?;
+        same(rt, moment, left.moment(), 0);
+        same(rt, moment, held(&mut left), Some(wanted));
         Ok(())
     }
 
     #[test]
     fn a_crash_leaves_what_its_pick_names(rt: HostRuntime) -> Result<(), Fail> {
-        let alloc = rt.alloc();
-        let mut pieces = Vec::new(alloc);
-        let bytes = Bytes::of(alloc, b"abcd")?;
-        pieces.push(Piece { at: 0, bytes })?;
-        let bundle = Start::new(4, pieces);
-        let journal = Start::new(0, Vec::new(alloc));
-        let mut vol = MemVolume::new(alloc, bundle, journal, Vec::new(alloc), None, 9, 9)?;
-        assert_eq!(rt; vol.len(VolFile::Bundle).ok(), Some(4));
-        assert_eq!(rt; vol.write(VolFile::Bundle, 3, b"XY").ok(), Some(()));
-        assert_eq!(rt; vol.sync(VolFile::Bundle).ok(), Some(()));
+        let mut vol = volume_of(rt.alloc(), 4, 0, b"abcd")?;
+        write_and_sync(&rt, &mut vol);
         for (moment, pick, len, bytes) in [
             (1, Pick::Newest, 4, *b"abcd\x09\x09"),
             (2, Pick::Oldest, 4, *b"abcd\x09\x09"),
@@ -416,10 +429,7 @@ mod tests {
             (3, Pick::Torn(0), 5, *b"abcXY\x09"),
             (3, Pick::Torn(255), 5, *b"abcXY\x09"),
         ] {
-            assert!(rt; moment <= vol.moment());
-            let mut left = vol.crash(alloc, moment, pick)?;
-            assert_eq!(rt; left.moment(), 0);
-            assert_eq!(rt; held(&mut left), Some((len, bytes)), "at {moment}");
+            crash_leaves(&rt, &vol, moment, pick, (len, bytes))?;
         }
         Ok(())
     }
@@ -433,21 +443,32 @@ mod tests {
         failed
     }
 
+    // An empty volume that fails at the call with this number, and where it has to.
+    fn failing_volume(
+        alloc: Global,
+        number: u64,
+        stop: Option<u64>,
+        calls: usize,
+        room: usize,
+    ) -> Result<MemVolume, Fail> {
+        let failing = [number].to_vec(alloc)?;
+        let bundle = Start::new(0, Vec::new(alloc));
+        let journal = Start::new(0, Vec::new(alloc));
+        let vol = MemVolume::new(alloc, bundle, journal, failing, stop, calls, room)?;
+        Ok(vol)
+    }
+
     #[test]
     fn it_fails_at_the_calls_it_was_given(rt: HostRuntime) -> Result<(), Fail> {
-        let alloc = rt.alloc();
         for (number, stop, calls, room, want) in [
             (3, None, 9, 9, [false, false, false, true, false]),
             (9, Some(2), 9, 9, [false, false, true, true, true]),
             (9, None, 3, 9, [false, false, false, true, true]),
             (0, None, 9, 2, [true, false, false, true, true]),
         ] {
-            let failing = [number].to_vec(alloc)?;
-            let bundle = Start::new(0, Vec::new(alloc));
-            let journal = Start::new(0, Vec::new(alloc));
-            let mut vol = MemVolume::new(alloc, bundle, journal, failing, stop, calls, room)?;
-            assert_eq!(rt; failures(&mut vol), want);
-            assert_eq!(rt; vol.moment(), 5);
+            let mut vol = failing_volume(rt.alloc(), number, stop, calls, room)?;
+            same(&rt, number, failures(&mut vol), want);
+            same(&rt, number, vol.moment(), 5);
         }
         Ok(())
     }

@@ -100,17 +100,19 @@ impl Volume for NoVolume {
 #[cfg(test)]
 mod tests {
     use super::*;
+    use crate::same::same;
 
     #[test]
     fn each_call_fails(rt: HostRuntime) {
+        let (bundle, journal) = (VolFile::Bundle, VolFile::Journal);
         let mut vol = NoVolume::new();
         let mut buf = [7; 2];
-        assert_eq!(rt; vol.len(VolFile::Bundle), Err(Failed));
-        assert_eq!(rt; vol.read(VolFile::Journal, 0, &mut buf), Err(Failed));
-        assert_eq!(rt; vol.write(VolFile::Bundle, 0, b"ab"), Err(Failed));
-        assert_eq!(rt; vol.cut(VolFile::Journal, 0), Err(Failed));
-        assert_eq!(rt; vol.sync(VolFile::Bundle), Err(Failed));
-        assert_eq!(rt; vol.moment(), 5);
-        assert_eq!(rt; buf, [7; 2]);
+        same(&rt, "len", vol.len(bundle), Err(Failed));
+        same(&rt, "read", vol.read(journal, 0, &mut buf), Err(Failed));
+        same(&rt, "write", vol.write(bundle, 0, b"ab"), Err(Failed));
+        same(&rt, "cut", vol.cut(journal, 0), Err(Failed));
+        same(&rt, "sync", vol.sync(bundle), Err(Failed));
+        same(&rt, "moment", vol.moment(), 5);
+        same(&rt, "buffer", buf, [7; 2]);
     }
 }

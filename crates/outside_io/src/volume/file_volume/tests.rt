@@ -1,8 +1,12 @@
+ghost use Rattle.std.specs.Prelude.{◌≤◌, ◌+◌, ◌^◌, length};
+
 use super::*;
-use std::alloc::Allocator;
+use crate::same::same;
+use std::alloc::{AllocError, Allocator, Global};
 use std::cell::Cell;
 use std::fs;
 use std::fs::Metadata;
+use std::process::Abort;
 use std::rc::Rc;
 use std::test::Fail;
 
@@ -15,6 +19,52 @@ fn other(file: VolFile) -> VolFile {
     }
 }
 
+fn volume_of<R: Files + Drop>(
+    alloc: Global,
+    files: R,
+    bundle: &str,
+    journal: &str,
+) -> Result<FileVolume<R>, AllocError> {
+    let bundle = String::from_str(alloc, bundle)?;
+    let journal = String::from_str(alloc, journal)?;
+    Ok(FileVolume::new(files, bundle, journal))
+}
+
+// The five calls without what they promise: the run shows what they do, and a test that is told
+// less is proved sooner.
+
+fn len<R: Files + Drop>(vol: &mut FileVolume<R>, file: VolFile) -> Result<u64, Failed> {
+    vol.len(file)
+}
+
+fn read<R: Files + Drop>(
+    vol: &mut FileVolume<R>,
+    file: VolFile,
+    at: u64,
+    buf: &mut [u8],
+) -> Result<usize, Failed> {
+    vol.read(file, at, buf)
+}
+
+fn write<R: Files + Drop>(
+    vol: &mut FileVolume<R>,
+    file: VolFile,
+    at: u64,
+    bytes: &[u8],
+) -> Result<(), Failed>
+    requires { at + length bytes.now ≤ 2 ^ 62 }
+{
+    vol.write(file, at, bytes)
+}
+
+fn cut<R: Files + Drop>(vol: &mut FileVolume<R>, file: VolFile, len: u64) -> Result<(), Failed> {
+    vol.cut(file, len)
+}
+
+fn sync<R: Files + Drop>(vol: &mut FileVolume<R>, file: VolFile) -> Result<(), Failed> {
+    vol.sync(file)
+}
+
 // ---- on the machine
 
 fn path_of(file: VolFile) -> &'static str {
@@ -24,48 +74,75 @@ fn path_of(file: VolFile) -> &'static str {
     }
 }
 
-fn volume_of_the_machine(rt: HostRuntime) -> Result<FileVolume<HostRuntime>, Fail> {
-    let alloc = rt.alloc();
-    let bundle = String::from_str(alloc, path_of(VolFile::Bundle))?;
-    let journal = String::from_str(alloc, path_of(VolFile::Journal))?;
-    Ok(FileVolume::new(rt, bundle, journal))
+fn volume_of_the_machine(rt: HostRuntime) -> Result<FileVolume<HostRuntime>, AllocError> {
+    let bundle = path_of(VolFile::Bundle);
+    let journal = path_of(VolFile::Journal);
+    volume_of(rt.alloc(), rt, bundle, journal)
+}
+
+// Whether the machine has the file, where it tells.
+fn is_there(files: &impl Files, file: VolFile) -> Option<bool> {
+    fs::exists(files, path_of(file)).ok()
+}
+
+// Whether there was a file to remove.
+fn is_removed(files: &impl Files, file: VolFile) -> bool {
+    fs::remove_file(files, path_of(file)).is_ok()
+}
+
+// No file is there yet.
+fn finds_none(rt: &(impl Abort + Files), vol: &mut FileVolume<HostRuntime>, file: VolFile) {
+    let mut buf = [9; 6];
+    same(rt, "length", len(vol, file), Ok(0));
+    same(rt, "bytes", read(vol, file, 0, &mut buf), Ok(0));
+    let calls = [cut(vol, file, 0), cut(vol, file, 1), sync(vol, file)];
+    same(rt, "no file", calls, [Ok(()), Err(Failed), Ok(())]);
+    same(rt, "buffer", buf, [9; 6]);
+    same(rt, "a sync makes none", is_there(rt, file), Some(false));
+}
+
+fn writes_and_reads(rt: &(impl Abort + Files), vol: &mut FileVolume<HostRuntime>, file: VolFile) {
+    let mut buf = [9; 6];
+    let calls = [
+        write(vol, file, 0, b"abcd"),
+        write(vol, file, 3, b"XY"),
+        sync(vol, file),
+        cut(vol, file, 4),
+        cut(vol, file, 5),
+    ];
+    let wanted = [Ok(()), Ok(()), Ok(()), Ok(()), Err(Failed)];
+    same(rt, "a file", calls, wanted);
+    same(rt, "length", len(vol, file), Ok(4));
+    same(rt, "count", read(vol, file, 1, &mut buf), Ok(3));
+    same(rt, "bytes", buf, [98, 99, 88, 9, 9, 9]);
+    same(rt, "moment", vol.moment(), 12);
+    same(rt, "the other file", is_there(rt, other(file)), Some(false));
+}
+
+fn file_holds(
+    rt: &(impl Abort + Files + AllocGlobal),
+    file: VolFile,
+    wanted: &[u8],
+) -> Result<(), Fail> {
+    let bytes = fs::read(rt, path_of(file))?;
+    same(rt, "bytes of the file", bytes.as_slice(), wanted);
+    Ok(())
 }
 
 #[test]
 fn files_of_the_machine_are_written_and_read_back(rt: HostRuntime) -> Result<(), Fail> {
     for file in BOTH {
-        let _ = fs::remove_file(&rt, path_of(file));
-        let _ = fs::remove_file(&rt, path_of(other(file)));
+        // What a run before left.
+        is_removed(&rt, file);
+        is_removed(&rt, other(file));
         let mut vol = volume_of_the_machine(rt)?;
-        let mut buf = [9; 6];
-
-        // No file is there yet.
-        assert_eq!(rt; vol.len(file), Ok(0));
-        assert_eq!(rt; vol.read(file, 0, &mut buf), Ok(0));
-        assert_eq!(rt; vol.cut(file, 0), Ok(()));
-        assert_eq!(rt; vol.cut(file, 1), Err(Failed));
-        assert_eq!(rt; vol.sync(file), Ok(()));
-        assert!(rt; !fs::exists(&rt, path_of(file))?);
-
-        assert_eq!(rt; vol.write(file, 0, b"abcd"), Ok(()));
-        assert_eq!(rt; vol.write(file, 3, b"XY"), Ok(()));
-        assert_eq!(rt; vol.sync(file), Ok(()));
-        assert_eq!(rt; vol.cut(file, 4), Ok(()));
-        assert_eq!(rt; vol.cut(file, 5), Err(Failed));
-        assert_eq!(rt; vol.len(file), Ok(4));
-        assert_eq!(rt; vol.read(file, 1, &mut buf), Ok(3));
-        assert_eq!(rt; buf, [98, 99, 88, 9, 9, 9]);
-        assert_eq!(rt; vol.moment(), 12);
-        assert!(rt; !fs::exists(&rt, path_of(other(file)))?);
-
+        finds_none(&rt, &mut vol, file);
+        writes_and_reads(&rt, &mut vol, file);
         // Another volume finds it, and its first write leaves the rest.
         let mut next = volume_of_the_machine(rt)?;
-        assert_eq!(rt; next.write(file, 1, b"Z"), Ok(()));
-        assert_eq!(rt;
-            fs::read(&rt, path_of(file))?.as_slice(),
-            b"aZcX".as_slice()
-        );
-        fs::remove_file(&rt, path_of(file))?;
+        same(&rt, "write", write(&mut next, file, 1, b"Z"), Ok(()));
+        file_holds(&rt, file, b"aZcX")?;
+        same(&rt, "removed", is_removed(&rt, file), true);
     }
     Ok(())
 }
@@ -74,31 +151,25 @@ fn files_of_the_machine_are_written_and_read_back(rt: HostRuntime) -> Result<(),
 fn calls<R: Files + Drop>(vol: &mut FileVolume<R>, file: VolFile) -> [bool; 5] {
     let mut buf = [0; 5];
     [
-        vol.len(file).is_ok(),
-        vol.read(file, 0, &mut buf).is_ok(),
-        vol.write(file, 0, b"abcde").is_ok(),
-        vol.cut(file, 3).is_ok(),
-        vol.sync(file).is_ok(),
+        len(vol, file).is_ok(),
+        read(vol, file, 0, &mut buf).is_ok(),
+        write(vol, file, 0, b"abcde").is_ok(),
+        cut(vol, file, 3).is_ok(),
+        sync(vol, file).is_ok(),
     ]
 }
 
 #[test]
 fn a_folder_is_no_file(rt: HostRuntime) -> Result<(), Fail> {
-    let alloc = rt.alloc();
-    for file in BOTH {
-        let text = match file {
-            VolFile::Bundle => [".", "no_such_folder/x"],
-            VolFile::Journal => ["no_such_folder/x", "."],
-        };
-        let bundle = String::from_str(alloc, text[0])?;
-        let journal = String::from_str(alloc, text[1])?;
-        let mut vol = FileVolume::new(rt, bundle, journal);
-        assert_eq!(rt; calls(&mut vol, file), [false; 5]);
+    for (file, bundle, journal) in [
+        (VolFile::Bundle, ".", "no_such_folder/x"),
+        (VolFile::Journal, "no_such_folder/x", "."),
+    ] {
+        let mut vol = volume_of(rt.alloc(), rt, bundle, journal)?;
+        same(&rt, bundle, calls(&mut vol, file), [false; 5]);
         // A file in a folder that is not there is not there, and cannot be made.
-        assert_eq!(rt;
-            calls(&mut vol, other(file)),
-            [true, true, false, false, true]
-        );
+        let in_none = [true, true, false, false, true];
+        same(&rt, journal, calls(&mut vol, other(file)), in_none);
     }
     Ok(())
 }
@@ -138,6 +209,17 @@ const NONE: Counts = Counts {
     syncs: 0,
 };
 
+// What is asked of a folder.
+fn opened_and_synced(opens: u32, syncs: u32) -> Counts {
+    Counts {
+        opens,
+        reads: 0,
+        writes: 0,
+        cuts: 0,
+        syncs,
+    }
+}
+
 // A file, or none, and what was asked of it. Each of its bytes is its letter.
 #[derive(Drop)]
 struct Drawer {
@@ -158,12 +240,43 @@ impl Drawer {
     fn len(&self) -> u64 {
         self.len.get().unwrap_or(0)
     }
+
+    // The file is made or emptied where that is asked.
+    fn open(&self, how: &OpenOptions, fault: Fault) -> io::Result<()> {
+        let mut counts = self.counts.get();
+        counts.opens = counts.opens.wrapping_add(1);
+        self.counts.set(counts);
+        let refusal = match self.letter {
+            b'/' => Fault::OpenFolder,
+            _ => Fault::Open,
+        };
+        if fault == refusal {
+            return Err(error(ErrorKind::PermissionDenied));
+        }
+        let is_there = self.len.get().is_some();
+        if !is_there && !how.asks_create() {
+            return Err(error(ErrorKind::NotFound));
+        }
+        if !is_there || how.asks_truncate() {
+            self.len.set(Some(0));
+        }
+        Ok(())
+    }
 }
 
 #[derive(Clone, Copy)]
 enum Place {
     File(VolFile),
     Folder,
+}
+
+fn place_of(path: &str) -> Option<Place> {
+    match path {
+        "shelf/b" => Some(Place::File(VolFile::Bundle)),
+        "shelf/j" => Some(Place::File(VolFile::Journal)),
+        "shelf" => Some(Place::Folder),
+        _ => None,
+    }
 }
 
 // A machine of two files and the folder that names them.
@@ -331,32 +444,11 @@ impl Files for Machine {
     type Dir = Handle;
 
     fn open_file(&self, how: &OpenOptions, path: &str) -> io::Result<Handle> {
-        let place = match path {
-            "shelf/b" => Place::File(VolFile::Bundle),
-            "shelf/j" => Place::File(VolFile::Journal),
-            "shelf" => Place::Folder,
-            _ => return Err(error(ErrorKind::NotFound)),
+        let Some(place) = place_of(path) else {
+            return Err(error(ErrorKind::NotFound));
         };
         let desk = self.desk.clone()?;
-        let drawer = desk.drawer(place);
-        let mut counts = drawer.counts.get();
-        counts.opens = counts.opens.wrapping_add(1);
-        drawer.counts.set(counts);
-        if drawer.letter == b'/' && desk.fault.get() == Fault::OpenFolder {
-            return Err(error(ErrorKind::PermissionDenied));
-        }
-        if drawer.letter != b'/' && desk.fault.get() == Fault::Open {
-            return Err(error(ErrorKind::PermissionDenied));
-        }
-        if drawer.len.get().is_none() {
-            if !how.asks_create() {
-                return Err(error(ErrorKind::NotFound));
-            }
-            drawer.len.set(Some(0));
-        }
-        if how.asks_truncate() {
-            drawer.len.set(Some(0));
-        }
+        desk.drawer(place).open(how, desk.fault.get())?;
         Ok(Handle {
             desk,
             place,
@@ -402,56 +494,61 @@ impl Files for Machine {
     }
 }
 
-// A machine whose files have this length, or are not there, and a volume of them.
 fn volume_on(
-    rt: &HostRuntime,
+    rt: &impl AllocGlobal,
     len: Option<u64>,
     fault: Fault,
 ) -> Result<(Rc<Desk>, FileVolume<Machine>), Fail> {
-    let Ok(desk) = Rc::new(rt.alloc(), Desk::new(len, fault)) else {
-        return Err(Fail::from("no memory"));
-    };
-    let bundle = String::from_str(rt.alloc(), "shelf/b")?;
-    let journal = String::from_str(rt.alloc(), "shelf/j")?;
+    let desk = desk_with(rt.alloc(), len, fault)?;
     let machine = Machine {
         desk: desk.clone()?,
     };
-    Ok((desk, FileVolume::new(machine, bundle, journal)))
+    let vol = volume_of(rt.alloc(), machine, "shelf/b", "shelf/j")?;
+    Ok((desk, vol))
+}
+
+fn desk_with(alloc: Global, len: Option<u64>, fault: Fault) -> Result<Rc<Desk>, Fail> {
+    match Rc::new(alloc, Desk::new(len, fault)) {
+        Ok(desk) => Ok(desk),
+        Err(_) => Err(Fail::from("no memory")),
+    }
+}
+
+// Each of its calls moves two bytes at most, so five take three of them.
+fn writes_reads_and_cuts(
+    rt: &impl Abort,
+    drawer: &Drawer,
+    vol: &mut FileVolume<Machine>,
+    file: VolFile,
+) {
+    let mut buf = [0; 5];
+    same(rt, "write", write(vol, file, 0, b"abcde"), Ok(()));
+    same(rt, "written", drawer.len.get(), Some(5));
+    same(rt, "length", len(vol, file), Ok(5));
+    same(rt, "count", read(vol, file, 0, &mut buf), Ok(5));
+    same(rt, "bytes", buf, [drawer.letter; 5]);
+    same(rt, "cut", cut(vol, file, 3), Ok(()));
+    same(rt, "left", drawer.len.get(), Some(3));
+    same(rt, "syncs", [sync(vol, file), sync(vol, file)], [Ok(()); 2]);
 }
 
 #[test]
 fn each_call_goes_to_its_own_file_until_all_is_done(rt: HostRuntime) -> Result<(), Fail> {
+    let counts = Counts {
+        opens: 2,
+        reads: 3,
+        writes: 3,
+        cuts: 1,
+        syncs: 2,
+    };
     for file in BOTH {
         let (desk, mut vol) = volume_on(&rt, None, Fault::Nothing)?;
-        let drawer = desk.drawer(Place::File(file));
-        let mut buf = [0; 5];
-        assert_eq!(rt; vol.write(file, 0, b"abcde"), Ok(()));
-        assert_eq!(rt; drawer.len.get(), Some(5));
-        assert_eq!(rt; vol.len(file), Ok(5));
-        assert_eq!(rt; vol.read(file, 0, &mut buf), Ok(5));
-        assert_eq!(rt; buf, [drawer.letter; 5]);
-        assert_eq!(rt; vol.cut(file, 3), Ok(()));
-        assert_eq!(rt; drawer.len.get(), Some(3));
-        assert_eq!(rt; vol.sync(file), Ok(()));
-        assert_eq!(rt; vol.sync(file), Ok(()));
-        let counts = Counts {
-            opens: 2,
-            reads: 3,
-            writes: 3,
-            cuts: 1,
-            syncs: 2,
-        };
-        assert_eq!(rt; desk.counts(file), counts);
-        assert_eq!(rt; desk.counts(other(file)), NONE);
+        writes_reads_and_cuts(&rt, desk.drawer(Place::File(file)), &mut vol, file);
+        same(&rt, "its own file", desk.counts(file), counts);
+        same(&rt, "the other file", desk.counts(other(file)), NONE);
         // The name of the file that was made is synced once.
-        assert_eq!(rt;
-            desk.folder.counts.get(),
-            Counts {
-                opens: 1,
-                syncs: 1,
-                ..NONE
-            }
-        );
+        let folder = opened_and_synced(1, 1);
+        same(&rt, "the folder", desk.folder.counts.get(), folder);
     }
     Ok(())
 }
@@ -460,18 +557,31 @@ fn each_call_goes_to_its_own_file_until_all_is_done(rt: HostRuntime) -> Result<(
 fn a_write_leaves_what_is_there(rt: HostRuntime) -> Result<(), Fail> {
     for file in BOTH {
         let (desk, mut vol) = volume_on(&rt, Some(6), Fault::Nothing)?;
-        assert_eq!(rt; vol.write(file, 0, b"a"), Ok(()));
-        assert_eq!(rt; vol.len(file), Ok(6));
-        assert_eq!(rt; vol.sync(file), Ok(()));
-        assert_eq!(rt; desk.folder.counts.get(), NONE, "it was there before");
+        same(&rt, "write", write(&mut vol, file, 0, b"a"), Ok(()));
+        same(&rt, "length", len(&mut vol, file), Ok(6));
+        same(&rt, "sync", sync(&mut vol, file), Ok(()));
+        same(&rt, "it was there before", desk.folder.counts.get(), NONE);
     }
+    Ok(())
+}
+
+fn refuses(
+    rt: &(impl Abort + AllocGlobal),
+    file: VolFile,
+    fault: Fault,
+    wanted: [bool; 5],
+) -> Result<(), Fail> {
+    let number = fault as u8;
+    let (_, mut vol) = volume_on(rt, Some(6), fault)?;
+    same(rt, number, calls(&mut vol, file), wanted);
+    same(rt, number, vol.moment(), 5);
     Ok(())
 }
 
 #[test]
 fn what_the_machine_refuses_is_a_failure(rt: HostRuntime) -> Result<(), Fail> {
     for file in BOTH {
-        for (fault, want) in [
+        for (fault, wanted) in [
             (Fault::Nothing, [true; 5]),
             (Fault::Open, [false; 5]),
             (Fault::SeekStart, [true, false, false, true, true]),
@@ -481,39 +591,47 @@ fn what_the_machine_refuses_is_a_failure(rt: HostRuntime) -> Result<(), Fail> {
             (Fault::Cut, [true, true, true, false, true]),
             (Fault::Sync, [true, true, true, true, false]),
         ] {
-            let (desk, mut vol) = volume_on(&rt, Some(6), fault)?;
-            assert_eq!(rt; calls(&mut vol, file), want);
-            assert_eq!(rt; vol.moment(), 5);
+            refuses(&rt, file, fault, wanted)?;
         }
     }
     Ok(())
 }
 
+fn new_name_is_synced(
+    rt: &(impl Abort + AllocGlobal),
+    fault: Fault,
+    wanted: Result<(), Failed>,
+    folder: Counts,
+) -> Result<(), Fail> {
+    let number = fault as u8;
+    let (desk, mut vol) = volume_on(rt, None, fault)?;
+    same(
+        rt,
+        number,
+        write(&mut vol, VolFile::Bundle, 0, b"a"),
+        Ok(()),
+    );
+    same(rt, number, sync(&mut vol, VolFile::Bundle), wanted);
+    // A sync of the name that failed is made again.
+    desk.fault.set(Fault::Nothing);
+    same(rt, number, sync(&mut vol, VolFile::Bundle), Ok(()));
+    same(rt, number, desk.folder.counts.get(), folder);
+    Ok(())
+}
+
 #[test]
 fn a_new_name_is_synced_where_the_machine_can(rt: HostRuntime) -> Result<(), Fail> {
-    for (fault, want, opens, syncs) in [
+    for (fault, wanted, opens, syncs) in [
         (Fault::Nothing, Ok(()), 1, 1),
         (Fault::OpenFolder, Ok(()), 1, 0),
         (Fault::FolderCalls, Ok(()), 1, 1),
         (Fault::SyncFolder, Err(Failed), 2, 2),
     ] {
-        let (desk, mut vol) = volume_on(&rt, None, fault)?;
-        assert_eq!(rt; vol.write(VolFile::Bundle, 0, b"a"), Ok(()));
-        assert_eq!(rt; vol.sync(VolFile::Bundle), want);
-        // A sync of the name that failed is made again.
-        desk.fault.set(Fault::Nothing);
-        assert_eq!(rt; vol.sync(VolFile::Bundle), Ok(()));
-        assert_eq!(rt;
-            desk.folder.counts.get(),
-            Counts {
-                opens,
-                syncs,
-                ..NONE
-            }
-        );
+        let folder = opened_and_synced(opens, syncs);
+        new_name_is_synced(&rt, fault, wanted, folder)?;
     }
-    assert_eq!(rt; folder_of("/b"), "/");
-    assert_eq!(rt; folder_of("b"), ".");
-    assert_eq!(rt; folder_of("a/c/b"), "a/c");
+    same(&rt, "/b", folder_of("/b"), "/");
+    same(&rt, "b", folder_of("b"), ".");
+    same(&rt, "a/c/b", folder_of("a/c/b"), "a/c");
     Ok(())
 }
