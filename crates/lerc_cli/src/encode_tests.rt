@@ -4,7 +4,7 @@ use crate::coded_tests::{ONES, STEPS, STEPS_DEEP};
 use crate::same::same;
 use crate::tests::{
     BLOB, EIGHT, GRID, NO_PIXEL, NONE_VALID, RUNS, SWEEP, TWO_ENDS, fails_at_output,
-    fails_at_source, gives, is_no_command, left_by, refuses, refuses_each_cut, refuses_longer,
+    fails_at_source, gives, is_no_command, left_behind, refuses, refuses_each_cut, refuses_longer,
     refuses_with,
 };
 use std::process::Abort;
@@ -37,9 +37,10 @@ fn grids_are_encoded_in_any_pieces(rt: HostRuntime) {
 
 /// A run of these words over this grid gives a blob that has this image behind its header.
 fn gives_image(rt: &(impl Abort + AllocGlobal), words: &[&str], grid: &[u8], image: &[u8]) {
-    let left = left_by(rt.alloc(), words, grid, (7, 100), (&[], &[])).expect(rt, "memory");
+    let left = left_behind(rt, words, grid, (7, 100), (&[], &[]));
     same(rt, "status", left.status, 0);
-    same(rt, "image", left.out.held().get(66..), Some(image));
+    let found = left.out.held().get(66..).expect(rt, "a header");
+    same(rt, "image", found, image);
 }
 
 #[test]

@@ -290,6 +290,18 @@ fn label(
     text.expect(rt, "memory")
 }
 
+/// What such a run leaves.
+pub(crate) fn left_behind(
+    rt: &(impl Abort + AllocGlobal),
+    words: &[&str],
+    input: &[u8],
+    pieces: (usize, usize),
+    failing: (&[u8], &[u8]),
+) -> Left {
+    assert!(rt; pieces.0 > 0 && pieces.1 > 0);
+    left_by(rt.alloc(), words, input, pieces, failing).expect(rt, "memory")
+}
+
 /// Such a run leaves this status, this output, this error output and no mark.
 pub(crate) fn leaves(
     rt: &(impl Abort + AllocGlobal),
@@ -299,8 +311,7 @@ pub(crate) fn leaves(
     failing: (&[u8], &[u8]),
     wanted: (u8, &[u8], &[u8]),
 ) {
-    assert!(rt; pieces.0 > 0 && pieces.1 > 0);
-    let left = left_by(rt.alloc(), words, input, pieces, failing).expect(rt, "memory");
+    let left = left_behind(rt, words, input, pieces, failing);
     let found = (left.status, left.out.held(), left.err.held(), left.marks);
     let at = label(rt, words, input, pieces, failing);
     same(rt, at, found, (wanted.0, wanted.1, wanted.2, 0));
