@@ -1,9 +1,9 @@
 //! The bytes of the journal, its faults, and what a crash leaves of it.
 
-ghost use Rattle.side_journal.specs.Bodies.{IsBody};
+ghost use Rattle.side_journal.specs.Bodies.{IsBody, IsState};
 
 use crate::same::same;
-use crate::stores::{PICKS, image, start};
+use crate::stores::{PICKS, expect_bytes, image, start};
 use outside_io::{Failed, MemVolume, Pick, VolFile, Volume};
 use side_journal::{Body, JournalState, arm, close_gate, open_gate, prepare, read_journal};
 use std::alloc::Global;
@@ -17,7 +17,9 @@ fn beside(rt: &impl Abort, alloc: Global, journal: &[u8], stop: Option<u64>) -> 
 }
 
 /// What a journal of these bytes says.
-fn state_of(rt: &impl Abort, alloc: Global, journal: &[u8]) -> JournalState {
+fn state_of(rt: &impl Abort, alloc: Global, journal: &[u8]) -> JournalState
+    ensures { IsState result }
+{
     let mut vol = beside(rt, alloc, journal, None);
     read_journal(&mut vol).expect(rt, "read")
 }
@@ -80,15 +82,11 @@ fn the_bytes_of_a_put(rt: HostRuntime) {
     let body = first_body(&rt, alloc);
     let mut other = beside(&rt, alloc, &[], None);
     same(&rt, "armed", make(&mut other, &body, 0).is_ok(), true);
-    let mut bytes = [9; 97];
-    same(
-        &rt,
-        "length",
-        other.read(VolFile::Journal, 0, &mut bytes).ok(),
-        Some(96),
-    );
-    same(&rt, "gate", bytes[0], 0);
-    same(&rt, "body", &bytes[1..96], &FIRST_PUT[1..]);
+    let read = other.read(VolFile::Journal, 0, &mut [9; 97]);
+    same(&rt, "length", read.ok(), Some(96));
+    let mut shut = FIRST_PUT;
+    shut[0] = 0;
+    expect_bytes(&rt, &mut other, VolFile::Journal, 0, &shut);
 }
 
 /// That journal with two other bytes at `at` is bad, at that place and for that number.

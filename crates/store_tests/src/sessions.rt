@@ -77,14 +77,6 @@ fn expect_one_tile<V: Volume>(rt: &impl Abort, alloc: Global, vol: &mut V, bytes
     same(rt, "report", report(alloc, vol), Ok(found));
 }
 
-/// These bytes, 100 at most, stand at that place of the file.
-fn expect_bytes<V: Volume>(rt: &impl Abort, vol: &mut V, file: VolFile, at: u64, bytes: &[u8]) {
-    let mut buf = [0; 100];
-    let got = vol.read(file, at, &mut buf).expect(rt, "read");
-    let stand = bytes.len() <= got && got <= 100 && &buf[..bytes.len()] == bytes;
-    same(rt, at, stand, true);
-}
-
 /// Two tiles for the first slot, the large one and then the small one.
 fn two_tiles(rt: &impl Abort, alloc: Global) -> Vec<TileRec> {
     let slot = first_slot(rt);

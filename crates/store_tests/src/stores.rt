@@ -4,9 +4,10 @@
 ghost use Rattle.std.specs.Prelude.{◌≤◌, length};
 ghost use Rattle.bundle_store.specs.Build.{EachFits};
 
+use crate::same::same;
 use bundle_index::Slot;
 use bundle_store::TileRec;
-use outside_io::{Bytes, MemVolume, Pick, Piece, Start, Volume};
+use outside_io::{Bytes, MemVolume, Pick, Piece, Start, VolFile, Volume};
 use std::alloc::Global;
 use std::process::Abort;
 
@@ -75,6 +76,20 @@ pub(crate) fn image(
         panic!(rt; "moment {moment}");
     }
     vol.crash(alloc, moment, pick).expect(rt, "memory")
+}
+
+/// These bytes, 100 at most, stand at that place of the file.
+pub(crate) fn expect_bytes<V: Volume>(
+    rt: &impl Abort,
+    vol: &mut V,
+    file: VolFile,
+    at: u64,
+    bytes: &[u8],
+) {
+    let mut buf = [0; 100];
+    let got = vol.read(file, at, &mut buf).expect(rt, "read");
+    let stand = bytes.len() <= got && got <= 100 && &buf[..bytes.len()] == bytes;
+    same(rt, at, stand, true);
 }
 
 /// The first slot.

@@ -1,6 +1,6 @@
-use super::{build, entry, expect_bytes, expect_one_tile, expect_tile, length, put, two_tiles};
+use super::{build, entry, expect_one_tile, expect_tile, length, put, two_tiles};
 use crate::same::same;
-use crate::stores::{FRESH, LARGE, SMALL, check_fit, empty_volume, first_slot};
+use crate::stores::{FRESH, LARGE, SMALL, check_fit, empty_volume, expect_bytes, first_slot};
 use bundle_index::Entry;
 use bundle_store::{BuiltSize, Session, StoreFault, TileRec, built_size};
 use outside_io::{VolFile, Volume};

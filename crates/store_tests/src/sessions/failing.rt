@@ -9,27 +9,62 @@ use outside_io::{MemVolume, Volume};
 use std::alloc::Global;
 use std::process::Abort;
 
-/// Whether each call of a session that is stopped says so.
-fn says_stopped<V: Volume>(session: &mut Session, vol: &mut V, slot: Slot) -> bool
+/// Each call of a session that is stopped says so.
+fn expect_stopped<V: Volume>(rt: &impl Abort, session: &mut Session, vol: &mut V, slot: Slot)
     requires { session.old.stopped ≡ true }
 {
-    session.length(vol) == Err(StoreFault::Stopped)
-        && session.check(vol) == Err(StoreFault::Stopped)
-        && session.entry(vol, slot) == Err(StoreFault::Stopped)
-        && session.row_entries(vol, 0, &mut [Entry { offset: 0, size: 0 }; 128])
-            == Err(StoreFault::Stopped)
-        && session.get(vol, slot).err() == Some(StoreFault::Stopped)
-        && session.put_blob(vol, slot, &[]) == Err(StoreFault::Stopped)
-        && session.build(vol, &[]) == Err(StoreFault::Stopped)
+    let mut row = [Entry { offset: 0, size: 0 }; 128];
+    same(
+        rt,
+        "length",
+        session.length(vol).err(),
+        Some(StoreFault::Stopped),
+    );
+    same(
+        rt,
+        "check",
+        session.check(vol).err(),
+        Some(StoreFault::Stopped),
+    );
+    same(
+        rt,
+        "entry",
+        session.entry(vol, slot).err(),
+        Some(StoreFault::Stopped),
+    );
+    same(
+        rt,
+        "row",
+        session.row_entries(vol, 0, &mut row).err(),
+        Some(StoreFault::Stopped),
+    );
+    same(
+        rt,
+        "get",
+        session.get(vol, slot).err(),
+        Some(StoreFault::Stopped),
+    );
+    same(
+        rt,
+        "put",
+        session.put_blob(vol, slot, &[]).err(),
+        Some(StoreFault::Stopped),
+    );
+    same(
+        rt,
+        "build",
+        session.build(vol, &[]).err(),
+        Some(StoreFault::Stopped),
+    );
 }
 
-/// Whether a put answers Device, and each call of its session Stopped from then on.
-fn put_stops<V: Volume>(alloc: Global, vol: &mut V, slot: Slot) -> Result<bool, StoreFault> {
-    recover(vol)?;
-    let mut session = Session::open(alloc, vol)?;
+/// A put answers Device, and each call of its session Stopped from then on.
+fn expect_stopping_put<V: Volume>(rt: &impl Abort, alloc: Global, vol: &mut V, slot: Slot) {
+    recover(vol).expect(rt, "recover");
+    let mut session = Session::open(alloc, vol).expect(rt, "open");
     match session.put_blob(vol, slot, &LARGE) {
-        Err(StoreFault::Device) => Ok(says_stopped(&mut session, vol, slot)),
-        _ => Ok(false),
+        Err(StoreFault::Device) => expect_stopped(rt, &mut session, vol, slot),
+        _ => panic!(rt; "the volume fails"),
     }
 }
 
@@ -37,7 +72,7 @@ fn put_stops<V: Volume>(alloc: Global, vol: &mut V, slot: Slot) -> Result<bool, 
 fn expect_stop(rt: &impl Abort, alloc: Global, number: u64) {
     let slot = first_slot(rt);
     let mut vol = failing_volume(rt, alloc, &[number]);
-    same(rt, number, put_stops(alloc, &mut vol, slot), Ok(true));
+    expect_stopping_put(rt, alloc, &mut vol, slot);
     same(rt, number, put(alloc, &mut vol, slot, &SMALL), Ok(()));
 }
 

@@ -1,6 +1,6 @@
-use super::{entry, expect_bytes, expect_one_tile, expect_tile, fault_of_get, length, put, report};
+use super::{entry, expect_one_tile, expect_tile, fault_of_get, length, put, report};
 use crate::same::same;
-use crate::stores::{LARGE, SMALL, empty_volume, first_slot, last_slot, volume};
+use crate::stores::{LARGE, SMALL, empty_volume, expect_bytes, first_slot, last_slot, volume};
 use bundle_index::{BundleHeader, Entry, Slot};
 use bundle_store::StoreFault;
 use outside_io::{MemVolume, VolFile, Volume};
