@@ -32,17 +32,23 @@ fn sevens() -> [u8; 2049] {
     bytes
 }
 
+/// The checksum of so many first bytes is this.
+fn first_sum_to(rt: &impl Abort, bytes: &[u8], count: usize, sum: u32) {
+    assert!(rt; count <= bytes.len());
+    sums_to(rt, &bytes[..count], sum);
+}
+
 #[test]
 fn checksums_fold_after_each_group(rt: HostRuntime) {
     // Values of a second program that was written from the published text.
     let full = [0xff; 719];
-    sums_to(&rt, &full[..0], 0xffff_ffff);
-    sums_to(&rt, &full[..717], 0xff00_ff00);
-    sums_to(&rt, &full[..718], 0xffff_ffff);
-    sums_to(&rt, &full[..719], 0xff00_ff00);
+    first_sum_to(&rt, &full, 0, 0xffff_ffff);
+    first_sum_to(&rt, &full, 717, 0xff00_ff00);
+    first_sum_to(&rt, &full, 718, 0xffff_ffff);
+    first_sum_to(&rt, &full, 719, 0xff00_ff00);
     let long = sevens();
-    sums_to(&rt, &long[..2048], 0x0d79_9f2a);
-    sums_to(&rt, &long[..2049], 0xc9a3_bc2a);
+    first_sum_to(&rt, &long, 2048, 0x0d79_9f2a);
+    first_sum_to(&rt, &long, 2049, 0xc9a3_bc2a);
 }
 
 /// The header of `BLOB`.
