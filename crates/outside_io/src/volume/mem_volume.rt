@@ -362,9 +362,12 @@ mod tests {
     const BUNDLE: VolFile = VolFile::Bundle;
 
     // A volume whose bundle has this length, and these bytes at a place. Its other bytes are 0.
-    fn volume_of(alloc: Global, len: u64, at: u64, bytes: &[u8]) -> Result<MemVolume, Fail> {
+    fn volume_of(alloc: Global, len: u64, at: u64, bytes: &[u8]) -> Result<MemVolume, Fail>
+        requires { at + length bytes.now ≤ len }
+    {
+        let mut pieces = Vec::new(alloc);
         let bytes = Bytes::of(alloc, bytes)?;
-        let pieces = vec![in alloc; Piece { at, bytes }]?;
+        pieces.push(Piece { at, bytes })?;
         let bundle = Start::new(len, pieces);
         let journal = Start::new(0, Vec::new(alloc));
         let vol = MemVolume::new(alloc, bundle, journal, Vec::new(alloc), None, 9, 9)?;
