@@ -207,9 +207,8 @@ fn predictors_are_left_then_above_then_before(rt: HostRuntime) -> Result<(), Fai
 #[test]
 fn symbols_give_the_values_back(rt: HostRuntime) -> Result<(), Fail> {
     let mut raster = blank(rt.alloc(), PixelType::U8, 3, 3, 1)?;
-    for (row, col, _) in &masked() {
-        put(&rt, &mut raster, *row, *col, 0, 99);
-    }
+    put_all(&rt, &mut raster, 0, &[(0, 0, 99), (0, 2, 99), (1, 0, 99)]);
+    put_all(&rt, &mut raster, 0, &[(1, 1, 99), (2, 1, 99), (2, 2, 99)]);
     take_deltas(&rt, &[10, 20, 10, 5, 238, 2], &mut raster, 0);
     expect_all(&rt, &raster, 0, &masked());
     expect_all(&rt, &raster, 0, &[(0, 1, 0), (1, 2, 0), (2, 0, 0)]);
