@@ -38,6 +38,23 @@ fn put<V: Volume, K: Sink>(
     (end, marks)
 }
 
+/// Puts of the two tiles, at an output of so many bytes, end so and give these. It answers their
+/// marks.
+fn expect_puts<V: Volume>(
+    rt: &impl Abort,
+    alloc: Global,
+    vol: &mut V,
+    room: usize,
+    wanted: Result<(), PutStop>,
+    lines: &[u8],
+) -> Marks {
+    let mut out = sink(rt, alloc, room);
+    let (end, marks) = put(rt, alloc, vol, &mut out, &two_tiles(rt, alloc));
+    same(rt, "end", end, wanted);
+    same(rt, "output", out.held(), lines);
+    marks
+}
+
 /// How a build ends, once the volume is recovered; and its marks.
 fn build<V: Volume, K: Sink>(
     rt: &impl Abort,
@@ -94,10 +111,7 @@ const TWO_PUTS: &[u8] = b"put 0 0 66\nput 127 127 72\n";
 fn two_puts_have_their_marks_and_lines(rt: HostRuntime) {
     let alloc = rt.alloc();
     let mut vol = empty_volume(&rt, alloc);
-    let mut out = sink(&rt, alloc, 100);
-    let (end, marks) = put(&rt, alloc, &mut vol, &mut out, &two_tiles(&rt, alloc));
-    same(&rt, "end", end, Ok(()));
-    same(&rt, "lines", out.held(), TWO_PUTS);
+    let marks = expect_puts(&rt, alloc, &mut vol, 100, Ok(()), TWO_PUTS);
     let (first, second) = two_marks(&rt, &marks);
     same(&rt, "first mark", first < second, true);
     same(&rt, "second mark", second, vol.moment());
@@ -201,19 +215,15 @@ fn expect_all_marked(rt: &impl Abort, alloc: Global, vol: &MemVolume, marks: (u6
 fn a_crash_leaves_what_has_a_mark(rt: HostRuntime) {
     let alloc = rt.alloc();
     let mut vol = empty_volume(&rt, alloc);
-    let mut out = sink(&rt, alloc, 100);
-    let (end, marks) = put(&rt, alloc, &mut vol, &mut out, &two_tiles(&rt, alloc));
-    same(&rt, "end", end, Ok(()));
+    let marks = expect_puts(&rt, alloc, &mut vol, 100, Ok(()), TWO_PUTS);
     expect_all_marked(&rt, alloc, &vol, two_marks(&rt, &marks));
 }
 
 /// Where the call of that number fails, two puts leave so many marks and these lines.
 fn expect_lines(rt: &impl Abort, alloc: Global, number: u64, done: usize, lines: &[u8]) {
     let mut vol = failing_volume(rt, alloc, &[number]);
-    let mut out = sink(rt, alloc, 100);
-    let (end, marks) = put(rt, alloc, &mut vol, &mut out, &two_tiles(rt, alloc));
-    same(rt, number, (end, marks.len()), (Err(PutStop::Volume), done));
-    same(rt, number, out.held(), lines);
+    let marks = expect_puts(rt, alloc, &mut vol, 100, Err(PutStop::Volume), lines);
+    same(rt, number, marks.len(), done);
 }
 
 // Recovery and opening make 4 calls on an empty file, a first put 44, and a second put 16.
@@ -230,10 +240,7 @@ fn a_volume_that_fails_leaves_the_lines_of_the_marks(rt: HostRuntime) {
 /// bundle with this listing.
 fn expect_cut(rt: &impl Abort, alloc: Global, room: usize, lines: &[u8], listing: &[u8]) {
     let mut vol = empty_volume(rt, alloc);
-    let mut out = sink(rt, alloc, room);
-    let (end, _) = put(rt, alloc, &mut vol, &mut out, &two_tiles(rt, alloc));
-    same(rt, room, end, Err(PutStop::Output));
-    same(rt, room, out.held(), lines);
+    expect_puts(rt, alloc, &mut vol, room, Err(PutStop::Output), lines);
     expect_listing(rt, alloc, &mut vol, listing);
 }
 
@@ -250,11 +257,9 @@ fn an_output_that_fails_leaves_its_update(rt: HostRuntime) {
 fn the_first_update_without_room_ends_the_puts(rt: HostRuntime) {
     let alloc = rt.alloc();
     let mut vol = volume(&rt, alloc, 1099511627776 - 70, &FRESH, &[], &[]);
-    let mut out = sink(&rt, alloc, 100);
-    let (end, marks) = put(&rt, alloc, &mut vol, &mut out, &two_tiles(&rt, alloc));
     let full = PutStop::Full { len: 1099511627776 };
-    same(&rt, "end", (end, marks.len()), (Err(full), 1));
-    same(&rt, "lines", out.held(), &TWO_PUTS[..11]);
+    let marks = expect_puts(&rt, alloc, &mut vol, 100, Err(full), &TWO_PUTS[..11]);
+    same(&rt, "marks", marks.len(), 1);
 }
 
 /// How many lines these bytes end.

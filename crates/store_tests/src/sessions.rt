@@ -53,6 +53,51 @@ fn fault_of_get<V: Volume>(alloc: Global, vol: &mut V, slot: Slot) -> Option<Sto
     get(alloc, vol, slot).err()
 }
 
+/// A put answers so, once the volume is recovered.
+fn expect_put<V: Volume>(
+    rt: &impl Abort,
+    alloc: Global,
+    vol: &mut V,
+    slot: Slot,
+    tile: &[u8],
+    wanted: Result<(), StoreFault>,
+) {
+    same(rt, "put", put(alloc, vol, slot, tile), wanted);
+}
+
+/// A build answers so, once the volume is recovered.
+fn expect_build<V: Volume>(
+    rt: &impl Abort,
+    alloc: Global,
+    vol: &mut V,
+    tiles: &[TileRec],
+    wanted: Result<(), StoreFault>,
+) {
+    same(rt, "build", build(alloc, vol, tiles), wanted);
+}
+
+/// The slot has an entry of these numbers.
+fn expect_entry<V: Volume>(
+    rt: &impl Abort,
+    alloc: Global,
+    vol: &mut V,
+    slot: Slot,
+    offset: u64,
+    size: u32,
+) {
+    same(
+        rt,
+        "entry",
+        entry(alloc, vol, slot),
+        Ok(Entry { offset, size }),
+    );
+}
+
+/// A session gives this length of the bundle.
+fn expect_length<V: Volume>(rt: &impl Abort, alloc: Global, vol: &mut V, wanted: u64) {
+    same(rt, "length", length(alloc, vol), Ok(wanted));
+}
+
 /// Whether the slot has this tile.
 fn has_tile<V: Volume>(alloc: Global, vol: &mut V, slot: Slot, tile: &[u8]) -> bool {
     match get(alloc, vol, slot) {

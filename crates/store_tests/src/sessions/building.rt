@@ -1,4 +1,6 @@
-use super::{build, entry, expect_one_tile, expect_tile, length, put, two_tiles};
+use super::{
+    expect_build, expect_entry, expect_length, expect_one_tile, expect_put, expect_tile, two_tiles,
+};
 use crate::same::same;
 use crate::stores::{FRESH, LARGE, SMALL, check_fit, empty_volume, expect_bytes, first_slot};
 use bundle_index::Entry;
@@ -23,46 +25,39 @@ fn index_is_zero<V: Volume>(vol: &mut V) -> bool {
 fn a_build_of_no_tiles(rt: HostRuntime) {
     let alloc = rt.alloc();
     let mut vol = empty_volume(&rt, alloc);
-    same(&rt, "build", build(alloc, &mut vol, &[]), Ok(()));
-    same(&rt, "length", length(alloc, &mut vol), Ok(131136));
+    expect_build(&rt, alloc, &mut vol, &[], Ok(()));
+    expect_length(&rt, alloc, &mut vol, 131136);
     expect_bytes(&rt, &mut vol, VolFile::Bundle, 0, &FRESH);
     same(&rt, "index", index_is_zero(&mut vol), true);
 }
 
-/// The entries of the first two slots, read with those of their row.
-fn first_entries<V: Volume>(alloc: Global, vol: &mut V) -> Result<(Entry, Entry), StoreFault> {
+/// The row's first entry has these numbers, and its second one is 0.
+fn expect_first_row<V: Volume>(
+    rt: &impl Abort,
+    alloc: Global,
+    vol: &mut V,
+    offset: u64,
+    size: u32,
+) {
     let mut row = [Entry { offset: 0, size: 0 }; 128];
-    Session::open(alloc, vol)?.row_entries(vol, 0, &mut row)?;
-    Ok((row[0], row[1]))
+    let session = Session::open(alloc, vol).expect(rt, "open");
+    session.row_entries(vol, 0, &mut row).expect(rt, "row");
+    same(rt, "first", row[0], Entry { offset, size });
+    same(rt, "second", row[1], Entry { offset: 0, size: 0 });
 }
 
 #[test]
 fn a_build_keeps_the_last_tile_of_a_slot(rt: HostRuntime) {
     let alloc = rt.alloc();
+    let slot = first_slot(&rt);
+    let word = [0x44, 0, 2, 0, 0, 0x42, 0, 0];
     let mut vol = empty_volume(&rt, alloc);
-    let tiles = two_tiles(&rt, alloc);
-    same(&rt, "build", build(alloc, &mut vol, &tiles), Ok(()));
-    same(&rt, "length", length(alloc, &mut vol), Ok(131206));
-    let last = Entry {
-        offset: 131140,
-        size: 66,
-    };
-    let none = Entry { offset: 0, size: 0 };
-    same(
-        &rt,
-        "entry",
-        entry(alloc, &mut vol, first_slot(&rt)),
-        Ok(last),
-    );
-    same(&rt, "row", first_entries(alloc, &mut vol), Ok((last, none)));
-    expect_bytes(
-        &rt,
-        &mut vol,
-        VolFile::Bundle,
-        64,
-        &[0x44, 0, 2, 0, 0, 0x42, 0, 0],
-    );
-    expect_tile(&rt, alloc, &mut vol, first_slot(&rt), &SMALL);
+    expect_build(&rt, alloc, &mut vol, &two_tiles(&rt, alloc), Ok(()));
+    expect_length(&rt, alloc, &mut vol, 131206);
+    expect_entry(&rt, alloc, &mut vol, slot, 131140, 66);
+    expect_first_row(&rt, alloc, &mut vol, 131140, 66);
+    expect_bytes(&rt, &mut vol, VolFile::Bundle, 64, &word);
+    expect_tile(&rt, alloc, &mut vol, slot, &SMALL);
 }
 
 /// The bundle of these tiles holds so much.
@@ -84,19 +79,9 @@ fn a_build_beside_a_bundle(rt: HostRuntime) {
     let alloc = rt.alloc();
     let mut vol = empty_volume(&rt, alloc);
     let tiles = two_tiles(&rt, alloc);
-    same(&rt, "build", build(alloc, &mut vol, &tiles), Ok(()));
-    let again = build(alloc, &mut vol, &tiles);
-    same(
-        &rt,
-        "again",
-        again,
-        Err(StoreFault::NotEmpty { len: 131206 }),
-    );
-    same(
-        &rt,
-        "put",
-        put(alloc, &mut vol, first_slot(&rt), &LARGE),
-        Ok(()),
-    );
+    let fault = StoreFault::NotEmpty { len: 131206 };
+    expect_build(&rt, alloc, &mut vol, &tiles, Ok(()));
+    expect_build(&rt, alloc, &mut vol, &tiles, Err(fault));
+    expect_put(&rt, alloc, &mut vol, first_slot(&rt), &LARGE, Ok(()));
     expect_one_tile(&rt, alloc, &mut vol, 72);
 }

@@ -1,7 +1,10 @@
-use super::{entry, expect_one_tile, expect_tile, fault_of_get, length, put, report};
+use super::{
+    expect_entry, expect_length, expect_one_tile, expect_put, expect_tile, fault_of_get, put,
+    report,
+};
 use crate::same::same;
 use crate::stores::{LARGE, SMALL, empty_volume, expect_bytes, first_slot, last_slot, volume};
-use bundle_index::{BundleHeader, Entry, Slot};
+use bundle_index::{BundleHeader, Slot};
 use bundle_store::StoreFault;
 use outside_io::{MemVolume, VolFile, Volume};
 use std::alloc::Global;
@@ -21,75 +24,66 @@ fn two_puts(rt: &impl Abort, alloc: Global) -> MemVolume {
     vol
 }
 
-/// The greatest size, the slack and the length that the bundle's header names.
-fn numbers<V: Volume>(rt: &impl Abort, vol: &mut V) -> (u32, u64, u64) {
+/// The bytes of the bundle's header.
+fn header_of<V: Volume>(rt: &impl Abort, vol: &mut V) -> [u8; 64] {
     let mut bytes = [0; 64];
-    vol.read(VolFile::Bundle, 0, &mut bytes)
-        .expect(rt, "header");
-    let header = BundleHeader::of(bytes);
-    (header.greatest(), header.slack(), header.length())
+    same(
+        rt,
+        "header",
+        vol.read(VolFile::Bundle, 0, &mut bytes).ok(),
+        Some(64),
+    );
+    bytes
+}
+
+/// The bundle's header names this greatest size, slack and length.
+fn expect_numbers<V: Volume>(rt: &impl Abort, vol: &mut V, wanted: (u32, u64, u64)) {
+    let header = BundleHeader::of(header_of(rt, vol));
+    let found = (header.greatest(), header.slack(), header.length());
+    same(rt, "numbers", found, wanted);
 }
 
 #[test]
 fn a_first_put(rt: HostRuntime) {
     let alloc = rt.alloc();
+    let word = [0x44, 0, 2, 0, 0, 0x42, 0, 0];
     let mut vol = one_put(&rt, alloc);
-    same(&rt, "length", length(alloc, &mut vol), Ok(131206));
-    same(&rt, "header", numbers(&rt, &mut vol), (66, 0, 131206));
+    expect_length(&rt, alloc, &mut vol, 131206);
+    expect_numbers(&rt, &mut vol, (66, 0, 131206));
     expect_bytes(&rt, &mut vol, VolFile::Bundle, 131136, &[66, 0, 0, 0]);
     expect_bytes(&rt, &mut vol, VolFile::Bundle, 131140, &SMALL);
-    expect_bytes(
-        &rt,
-        &mut vol,
-        VolFile::Bundle,
-        131128,
-        &[0x44, 0, 2, 0, 0, 0x42, 0, 0],
-    );
+    expect_bytes(&rt, &mut vol, VolFile::Bundle, 131128, &word);
     expect_tile(&rt, alloc, &mut vol, last_slot(&rt), &SMALL);
 }
 
 const BODY: [u8; 32] =
     *b"\x00LBJRNL1\x01\x00\xff\x3f\x00\x00\x00\x00\x44\x00\x02\x00\x00\x42\x00\x00\x86\x00\x02\x00\x00\x00\x00\x00";
 
+/// The journal has these bytes, and then those of the bundle's header.
+fn expect_journal<V: Volume>(rt: &impl Abort, vol: &mut V, body: &[u8]) {
+    let header = header_of(rt, vol);
+    same(rt, "length", vol.len(VolFile::Journal).ok(), Some(96));
+    expect_bytes(rt, vol, VolFile::Journal, 0, body);
+    expect_bytes(rt, vol, VolFile::Journal, 32, &header);
+}
+
 #[test]
 fn the_journal_of_a_first_put(rt: HostRuntime) {
     let mut vol = one_put(&rt, rt.alloc());
-    let mut header = [0; 64];
-    same(
-        &rt,
-        "header",
-        vol.read(VolFile::Bundle, 0, &mut header).ok(),
-        Some(64),
-    );
-    same(&rt, "length", vol.len(VolFile::Journal).ok(), Some(96));
-    expect_bytes(&rt, &mut vol, VolFile::Journal, 0, &BODY);
-    expect_bytes(&rt, &mut vol, VolFile::Journal, 32, &header);
+    expect_journal(&rt, &mut vol, &BODY);
 }
 
 #[test]
 fn a_second_put_into_the_same_slot(rt: HostRuntime) {
     let alloc = rt.alloc();
+    let slot = last_slot(&rt);
+    let word = [0x8a, 0, 2, 0, 0, 0x48, 0, 0];
     let mut vol = two_puts(&rt, alloc);
-    same(&rt, "length", length(alloc, &mut vol), Ok(131282));
-    expect_bytes(
-        &rt,
-        &mut vol,
-        VolFile::Bundle,
-        131128,
-        &[0x8a, 0, 2, 0, 0, 0x48, 0, 0],
-    );
-    same(&rt, "header", numbers(&rt, &mut vol), (72, 70, 131282));
-    let second = Entry {
-        offset: 131210,
-        size: 72,
-    };
-    same(
-        &rt,
-        "entry",
-        entry(alloc, &mut vol, last_slot(&rt)),
-        Ok(second),
-    );
-    expect_tile(&rt, alloc, &mut vol, last_slot(&rt), &LARGE);
+    expect_length(&rt, alloc, &mut vol, 131282);
+    expect_bytes(&rt, &mut vol, VolFile::Bundle, 131128, &word);
+    expect_numbers(&rt, &mut vol, (72, 70, 131282));
+    expect_entry(&rt, alloc, &mut vol, slot, 131210, 72);
+    expect_tile(&rt, alloc, &mut vol, slot, &LARGE);
 }
 
 #[test]
@@ -105,12 +99,7 @@ fn what_is_found_after_two_puts(rt: HostRuntime) {
 fn a_journal_of_one_byte_is_not_open(rt: HostRuntime) {
     let alloc = rt.alloc();
     let mut vol = volume(&rt, alloc, 0, &[], &[255], &[]);
-    same(
-        &rt,
-        "put",
-        put(alloc, &mut vol, first_slot(&rt), &LARGE),
-        Ok(()),
-    );
+    expect_put(&rt, alloc, &mut vol, first_slot(&rt), &LARGE, Ok(()));
     expect_tile(&rt, alloc, &mut vol, first_slot(&rt), &LARGE);
 }
 

@@ -1,4 +1,4 @@
-use super::{build, entry, fault_of_get, length, put};
+use super::{expect_build, expect_entry, expect_length, expect_put, fault_of_get, length};
 use crate::same::same;
 use crate::stores::{SMALL, empty_volume, first_slot, pair, tile, volume};
 use bundle_index::{BundleHeader, Entry};
@@ -122,12 +122,12 @@ fn with_an_empty_tile(rt: &impl Abort, alloc: Global, first: Bytes) -> Vec<TileR
 fn tiles_of_no_bytes(rt: HostRuntime) {
     let alloc = rt.alloc();
     let mut vol = empty_volume(&rt, alloc);
-    let done = put(alloc, &mut vol, first_slot(&rt), &[]);
-    same(&rt, "put", done, Err(StoreFault::EmptyTile { at: 0 }));
+    let first = StoreFault::EmptyTile { at: 0 };
+    expect_put(&rt, alloc, &mut vol, first_slot(&rt), &[], Err(first));
     let small = Bytes::of(alloc, &SMALL).expect(&rt, "memory");
     let tiles = with_an_empty_tile(&rt, alloc, small);
-    let done = build(alloc, &mut vol, &tiles);
-    same(&rt, "build", done, Err(StoreFault::EmptyTile { at: 1 }));
+    let second = StoreFault::EmptyTile { at: 1 };
+    expect_build(&rt, alloc, &mut vol, &tiles, Err(second));
 }
 
 #[test]
@@ -139,14 +139,9 @@ fn tiles_of_too_many_bytes(rt: HostRuntime) {
         at: 0,
         len: 16777216,
     };
-    same(
-        &rt,
-        "put",
-        put(alloc, &mut vol, first_slot(&rt), &large),
-        Err(fault),
-    );
+    expect_put(&rt, alloc, &mut vol, first_slot(&rt), &large, Err(fault));
     let tiles = with_an_empty_tile(&rt, alloc, Bytes::from_vec(large));
-    same(&rt, "build", build(alloc, &mut vol, &tiles), Err(fault));
+    expect_build(&rt, alloc, &mut vol, &tiles, Err(fault));
 }
 
 #[test]
@@ -155,14 +150,10 @@ fn a_bundle_is_full_past_two_to_the_forty(rt: HostRuntime) {
     let slot = first_slot(&rt);
     let mut full = bundle_of(&rt, alloc, 1099511627707, [0; 8]);
     let fault = StoreFault::Full { len: 1099511627707 };
-    same(&rt, "full", put(alloc, &mut full, slot, &SMALL), Err(fault));
-    same(&rt, "length", length(alloc, &mut full), Ok(1099511627707));
+    expect_put(&rt, alloc, &mut full, slot, &SMALL, Err(fault));
+    expect_length(&rt, alloc, &mut full, 1099511627707);
     let mut vol = bundle_of(&rt, alloc, 1099511627706, [0; 8]);
-    same(&rt, "put", put(alloc, &mut vol, slot, &SMALL), Ok(()));
-    let last = Entry {
-        offset: 1099511627710,
-        size: 66,
-    };
-    same(&rt, "entry", entry(alloc, &mut vol, slot), Ok(last));
-    same(&rt, "length", length(alloc, &mut vol), Ok(1099511627776));
+    expect_put(&rt, alloc, &mut vol, slot, &SMALL, Ok(()));
+    expect_entry(&rt, alloc, &mut vol, slot, 1099511627710, 66);
+    expect_length(&rt, alloc, &mut vol, 1099511627776);
 }
