@@ -42,10 +42,14 @@ mod put;
 mod put_tests;
 mod reading;
 mod run;
+#[cfg(test)]
+mod same;
 mod stop;
 #[cfg(test)]
 mod tests;
 mod tile;
+#[cfg(test)]
+mod volumes;
 
 use arguments::ProcessArguments;
 use lines::tell;
