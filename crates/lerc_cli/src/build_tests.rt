@@ -1,154 +1,141 @@
 //! Building bundles: what is given and built, and refusals.
 
-use crate::bundle_tests::{ENTRY, FRESH, HEADER, bundle_of, over, stands, volume};
 use crate::encode_tests::TENS;
-use crate::tests::{GRID, Left, NO_PIXEL, NONE_VALID, left_over, told_over};
+use crate::same::same;
+use crate::tests::{GRID, NO_PIXEL, NONE_VALID};
+use crate::volumes::{
+    ENTRY, FRESH, HEADER, empty, fails_alone, fed, gives, holds, mark_at, marks_of, over, volume,
+    with_one,
+};
 use outside_io::{MemVolume, VolFile, Volume};
-use std::alloc::Global;
-use std::test::Fail;
+use std::process::Abort;
+
+const BUILD: [&str; 4] = ["build", "3", "0", "2"];
+
+/// The words of a build whose values may be 1 from the given ones.
+const BUILD_WITHIN_1: [&str; 4] = ["build", "3", "1", "2"];
 
 const FIRST: [&str; 4] = ["get", "0", "0", "raw"];
 
 /// The line of a listing of the one tile.
 pub(crate) const LISTED: &[u8] = b"0 0 131140 66\n";
 
+/// What stands in front of a tile of the first slot.
+const FIRST_SLOT: &[u8] = b"T\0\0";
+
 /// Two tiles for the first slot: of one pixel, and of one that is not valid.
-pub(crate) fn two_tiles(alloc: Global) -> Result<Vec<u8>, Fail> {
-    let mark = b"T\0\0".as_slice();
-    Ok([mark, &GRID, mark, &NO_PIXEL].concat(alloc)?)
+const TWO_TILES: [&[u8]; 4] = [FIRST_SLOT, &GRID, FIRST_SLOT, &NO_PIXEL];
+
+/// What a bundle of no tiles holds.
+const NO_TILES: [(u64, &[u8]); 2] = [(0, &FRESH), (64, &[0; 100])];
+
+/// What a bundle of the two holds.
+const BUILT: [(u64, &[u8]); 3] = [(0, &HEADER), (64, &ENTRY), (131136, b"\x42\0\0\0")];
+
+/// Builds a bundle of the two tiles.
+pub(crate) fn build_two(rt: &(impl Abort + AllocGlobal), vol: &mut MemVolume) {
+    let done = (0, 2, b"built 1 131206\n".as_slice(), b"".as_slice());
+    fed(rt, vol, &BUILD, &TWO_TILES, &[], done);
 }
 
-/// What a build leaves. The calls on the output of these numbers fail.
-pub(crate) fn build(
-    alloc: Global,
-    error: &str,
-    input: &[u8],
-    failing: &[u8],
-    vol: &mut MemVolume,
-) -> Result<Left, Fail> {
-    let words = ["build", "3", error, "2"];
-    Ok(left_over(alloc, &words, input, (7, 100), (&[], failing), vol)?)
-}
-
-#[test]
-fn a_bundle_of_no_tiles_is_built(rt: HostRuntime) -> Result<(), Fail> {
-    let alloc = rt.alloc();
-    let mut vol = volume(alloc, &[], &[], &[])?;
-    let left = build(alloc, "0", &[], &[], &mut vol)?;
-    assert_eq!(rt; (left.status, left.marks), (0, 0));
-    assert_eq!(rt; left.out.held(), b"built 0 131136\n".as_slice());
-    assert_eq!(rt; vol.len(VolFile::Bundle), Ok(131136));
-    assert!(rt; stands(&mut vol, VolFile::Bundle, 0, &FRESH));
-    assert!(rt; stands(&mut vol, VolFile::Bundle, 64, &[0; 100]));
-    assert_eq!(rt; over(alloc, &["list"], &mut vol)?.out.held().len(), 0);
-    Ok(())
+/// The first tile is the last one of the two.
+fn has_the_last(rt: &(impl Abort + AllocGlobal), vol: &mut MemVolume) {
+    gives(rt, vol, &["list"], LISTED);
+    gives(rt, vol, &FIRST, &NONE_VALID);
 }
 
 #[test]
-fn a_bundle_of_each_slot_s_last_tile_is_built_once(rt: HostRuntime) -> Result<(), Fail> {
-    let alloc = rt.alloc();
-    let mut vol = volume(alloc, &[], &[], &[])?;
-    let tiles = two_tiles(alloc)?;
-    let left = build(alloc, "0", &tiles, &[], &mut vol)?;
-    assert_eq!(rt; (left.status, left.marks), (0, 2));
-    assert_eq!(rt; left.out.held(), b"built 1 131206\n".as_slice());
-    assert_eq!(rt; vol.len(VolFile::Bundle), Ok(131206));
-    let rows = [
-        (0, HEADER.as_slice()),
-        (64, &ENTRY),
-        (131136, &[66, 0, 0, 0]),
-    ];
-    for (at, bytes) in rows {
-        assert!(rt; stands(&mut vol, VolFile::Bundle, at, bytes), "at {at}");
-    }
-    assert_eq!(rt; over(alloc, &["list"], &mut vol)?.out.held(), LISTED);
-    assert_eq!(rt;
-        over(alloc, &FIRST, &mut vol)?.out.held(),
-        NONE_VALID.as_slice()
-    );
-    let left = build(alloc, "0", &tiles, &[], &mut vol)?;
-    assert_eq!(rt; (left.status, left.marks), (7, 0));
-    assert_eq!(rt; left.out.held().len(), 0);
-    assert_eq!(rt; left.err.held(), b"store: NotEmpty 131206\n".as_slice());
-    Ok(())
+fn a_bundle_of_no_tiles_is_built(rt: HostRuntime) {
+    let mut vol = empty(&rt);
+    let done = (0, 0, b"built 0 131136\n".as_slice(), b"".as_slice());
+    fed(&rt, &mut vol, &BUILD, &[], &[], done);
+    holds(&rt, &mut vol, VolFile::Bundle, 131136, &NO_TILES);
+    gives(&rt, &mut vol, &["list"], b"");
 }
 
 #[test]
-fn the_marks_of_a_build_are_its_end(rt: HostRuntime) -> Result<(), Fail> {
-    let alloc = rt.alloc();
-    let mut vol = volume(alloc, &[], &[], &[])?;
-    let tiles = two_tiles(alloc)?;
-    let words = ["build", "3", "0", "2"];
-    let (report, _out, _err) = told_over(alloc, &words, &tiles, (7, 100), (&[], &[]), &mut vol)?;
-    let marks = report.marks;
-    assert!(rt; marks.len() == 2);
-    assert_eq!(rt; (marks.at(0), marks.at(1)), (vol.moment(), vol.moment()));
-    Ok(())
+fn a_bundle_of_each_slot_s_last_tile_is_built_once(rt: HostRuntime) {
+    let mut vol = empty(&rt);
+    build_two(&rt, &mut vol);
+    holds(&rt, &mut vol, VolFile::Bundle, 131206, &BUILT);
+    has_the_last(&rt, &mut vol);
+    let again = (7, 0, b"".as_slice(), b"store: NotEmpty 131206\n".as_slice());
+    fed(&rt, &mut vol, &BUILD, &TWO_TILES, &[], again);
 }
 
-/// Whether the first tile is the last one of the two, or there is none and the list is empty.
-fn has_the_last_or_none(alloc: Global, vol: &mut MemVolume, may_lack: bool) -> Result<bool, Fail> {
-    let listing = over(alloc, &["list"], vol)?;
-    let tile = over(alloc, &FIRST, vol)?;
-    if tile.status == 7 {
-        Ok(may_lack && listing.out.held().is_empty())
+#[test]
+fn the_marks_of_a_build_are_its_end(rt: HostRuntime) {
+    let mut vol = empty(&rt);
+    let marks = marks_of(&rt, &mut vol, &BUILD, &TWO_TILES, 2, b"built 1 131206\n");
+    same(&rt, "the first mark", mark_at(&rt, &marks, 0), vol.moment());
+    same(&rt, "the second", mark_at(&rt, &marks, 1), vol.moment());
+}
+
+/// The first tile is the last one of the two, or there is none and the list is empty.
+fn has_the_last_or_none(rt: &(impl Abort + AllocGlobal), vol: &mut MemVolume) {
+    if over(rt, vol, &FIRST).status == 7 {
+        gives(rt, vol, &["list"], b"");
     } else {
-        Ok(listing.out.held() == LISTED && tile.out.held() == NONE_VALID.as_slice())
+        has_the_last(rt, vol);
+    }
+}
+
+/// Whether a build fails at this call of the volume, and leaves all tiles or none.
+fn fails_at(rt: &(impl Abort + AllocGlobal), call: u64) -> bool {
+    let mut vol = volume(rt, &[], &[], &[call]);
+    let fails = fails_alone(rt, &mut vol, &BUILD, &TWO_TILES);
+    has_the_last_or_none(rt, &mut vol);
+    fails
+}
+
+#[test]
+fn a_failing_call_of_a_build_leaves_no_line(rt: HostRuntime) {
+    for call in 0..35 {
+        same(&rt, call, fails_at(&rt, call), call < 34);
     }
 }
 
 #[test]
-fn a_failing_call_of_a_build_leaves_no_line(rt: HostRuntime) -> Result<(), Fail> {
-    let alloc = rt.alloc();
-    let tiles = two_tiles(alloc)?;
-    let mut calls = 0;
-    for call in 0..200 {
-        let mut vol = volume(alloc, &[], &[], &[call])?;
-        let left = build(alloc, "0", &tiles, &[], &mut vol)?;
-        if left.status == 0 {
-            break;
-        }
-        calls = call;
-        assert_eq!(rt; (left.status, left.marks), (5, 0), "at call {call}");
-        assert_eq!(rt; left.out.held().len(), 0);
-        assert_eq!(rt; left.err.held(), b"volume failed\n".as_slice());
-        assert!(rt; has_the_last_or_none(alloc, &mut vol, true)?);
-    }
-    assert!(rt; 20 < calls && calls < 150);
-    Ok(())
+fn an_output_that_fails_leaves_the_bundle_built(rt: HostRuntime) {
+    let mut vol = empty(&rt);
+    let failed = (4, 2, b"".as_slice(), b"output failed\n".as_slice());
+    fed(&rt, &mut vol, &BUILD, &TWO_TILES, &[0], failed);
+    has_the_last(&rt, &mut vol);
+}
+
+/// A build of these parts over this volume tells this line alone.
+fn refused(
+    rt: &(impl Abort + AllocGlobal),
+    vol: &mut MemVolume,
+    parts: &[&[u8]],
+    status: u8,
+    line: &[u8],
+) {
+    fed(rt, vol, &BUILD_WITHIN_1, parts, &[], (status, 0, b"", line));
+}
+
+/// A build of these parts is refused with this line, before a call of the volume.
+fn refused_unread(rt: &(impl Abort + AllocGlobal), parts: &[&[u8]], line: &[u8]) {
+    let mut vol = with_one(rt, &[]);
+    refused(rt, &mut vol, parts, 2, line);
+    same(rt, "calls of the volume", vol.moment(), 0);
 }
 
 #[test]
-fn an_output_that_fails_leaves_the_bundle_built(rt: HostRuntime) -> Result<(), Fail> {
-    let alloc = rt.alloc();
-    let mut vol = volume(alloc, &[], &[], &[])?;
-    let left = build(alloc, "0", &two_tiles(alloc)?, &[0], &mut vol)?;
-    assert_eq!(rt; (left.status, left.marks), (4, 2));
-    assert_eq!(rt; left.out.held().len(), 0);
-    assert!(rt; has_the_last_or_none(alloc, &mut vol, false)?);
-    Ok(())
-}
-
-#[test]
-fn the_input_of_a_build_is_refused_before_its_bundle(rt: HostRuntime) -> Result<(), Fail> {
-    let alloc = rt.alloc();
-    let bundle = bundle_of(alloc, &ENTRY)?;
-    let one = [b"T\0\0".as_slice(), &TENS].concat(alloc)?;
-    let mut cut = one.clone()?;
-    cut.truncate(31);
-    let rows = [
-        (one.as_slice(), 7, b"store: NotEmpty 131206\n".as_slice()),
-        (&[0x55], 2, b"refused: BadTileMark at 0\n"),
-        (&[0x54, 0x80], 2, b"refused: BadSlot at 1\n"),
-        (&cut, 2, b"refused: Truncated at 31\n"),
-    ];
-    for (input, status, line) in rows {
-        let mut vol = volume(alloc, &bundle, &[], &[])?;
-        let left = build(alloc, "1", input, &[], &mut vol)?;
-        assert_eq!(rt; (left.status, left.marks), (status, 0));
-        assert_eq!(rt; left.out.held().len(), 0);
-        assert_eq!(rt; left.err.held(), line);
-        assert!(rt; status == 7 || vol.moment() == 0);
-    }
-    Ok(())
+fn the_input_of_a_build_is_refused_before_its_bundle(rt: HostRuntime) {
+    let mut vol = with_one(&rt, &[]);
+    refused(
+        &rt,
+        &mut vol,
+        &[FIRST_SLOT, &TENS],
+        7,
+        b"store: NotEmpty 131206\n",
+    );
+    refused_unread(&rt, &[&[0x55]], b"refused: BadTileMark at 0\n");
+    refused_unread(&rt, &[&[0x54, 0x80]], b"refused: BadSlot at 1\n");
+    refused_unread(
+        &rt,
+        &[FIRST_SLOT, &TENS[..28]],
+        b"refused: Truncated at 31\n",
+    );
 }

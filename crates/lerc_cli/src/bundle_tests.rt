@@ -1,291 +1,178 @@
 //! Bundles: what the commands on them give, and what they say of files that are none.
 
-use crate::tests::{BLOB, GRID, Left, USAGE, left_over};
-use outside_io::{Bytes, MemVolume, NoVolume, Piece, Start, VolFile, Volume};
-use std::alloc::Global;
-use std::test::Fail;
+use crate::same::same;
+use crate::tests::{BLOB, GRID, USAGE};
+use crate::volumes::{
+    ENTRY, FRESH, HEADER, LAST, VOLUME_FAILED, bundle_of, empty, ends, gives, joined, no_entries,
+    volume, with_entry, with_one,
+};
+use outside_io::{MemVolume, NoVolume, Volume};
+use std::process::Abort;
 
-/// The header of a bundle of 131,206 bytes that has one record.
-pub(crate) const HEADER: [u8; 64] =
-    *b"\x03\x00\x00\x00\x00\x40\x00\x00\x42\x00\x00\x00\x05\x00\x00\x00\x00\x00\x00\x00\x00\x00\x00\x00\x86\x00\x02\x00\x00\x00\x00\x00\x28\x00\x00\x00\x00\x00\x00\x00\x14\x00\x02\x00\x03\x00\x00\x00\x10\x00\x00\x00\x00\x40\x00\x00\x05\x00\x00\x00\x00\x00\x02\x00";
+/// The words that give the grid of the last slot's tile.
+const LAST_GRID: [&str; 3] = ["get", "127", "127"];
 
-/// The header of a bundle of no tiles.
-pub(crate) const FRESH: [u8; 64] =
-    *b"\x03\x00\x00\x00\x00\x40\x00\x00\x00\x00\x00\x00\x05\x00\x00\x00\x00\x00\x00\x00\x00\x00\x00\x00\x40\x00\x02\x00\x00\x00\x00\x00\x28\x00\x00\x00\x00\x00\x00\x00\x14\x00\x02\x00\x03\x00\x00\x00\x10\x00\x00\x00\x00\x40\x00\x00\x05\x00\x00\x00\x00\x00\x02\x00";
+/// The front of a tile that is no blob.
+const OTHER_FORMAT: &[u8] = b"\xff\xd8\xff";
 
-/// The entry of the record.
-pub(crate) const ENTRY: [u8; 8] = [0x44, 0x00, 0x02, 0x00, 0x00, 0x42, 0x00, 0x00];
-
-/// A bundle with one record, of a blob, and this entry of the last slot.
-pub(crate) fn bundle_of(alloc: Global, entry: &[u8; 8]) -> Result<Vec<u8>, Fail> {
-    let mut index = Vec::new(alloc);
-    index.resize(131064, 0)?;
-    let size = [66, 0, 0, 0];
-    Ok([HEADER.as_slice(), &index, entry, &size, &BLOB].concat(alloc)?)
-}
-
-/// A file of these bytes.
-fn file_of(alloc: Global, bytes: &[u8]) -> Result<Start, Fail> {
-    let mut pieces = Vec::new(alloc);
-    pieces.push(Piece {
-        at: 0,
-        bytes: Bytes::of(alloc, bytes)?,
-    })?;
-    Ok(Start::new(bytes.len() as u64, pieces))
-}
-
-/// This bundle beside this journal. The calls of these numbers fail.
-pub(crate) fn volume(
-    alloc: Global,
-    bundle: &[u8],
+/// A bundle with this entry of the last slot, beside this journal, gives this output.
+fn gives_from(
+    rt: &(impl Abort + AllocGlobal),
+    entry: &[u8; 8],
     journal: &[u8],
-    failing: &[u64],
-) -> Result<MemVolume, Fail> {
-    let bundle = file_of(alloc, bundle)?;
-    let journal = file_of(alloc, journal)?;
-    let failing = Vec::from_slice(alloc, failing)?;
-    Ok(MemVolume::new(alloc, bundle, journal, failing, None, 1000, 300_000)?)
+    words: &[&str],
+    output: &[u8],
+) {
+    gives(rt, &mut with_entry(rt, entry, journal, &[]), words, output);
 }
 
-/// Whether these bytes, 100 at most, stand at the place of the file.
-pub(crate) fn stands(vol: &mut MemVolume, file: VolFile, at: u64, bytes: &[u8]) -> bool {
-    let mut found = [0; 100];
-    match vol.read(file, at, &mut found) {
-        Ok(got) => bytes.len() <= got && got <= 100 && &found[..bytes.len()] == bytes,
-        Err(_) => false,
-    }
-}
-
-/// What a command leaves over a volume, whose input is empty.
-pub(crate) fn over(alloc: Global, words: &[&str], vol: &mut MemVolume) -> Result<Left, Fail> {
-    Ok(left_over(alloc, words, &[], (1, 7), (&[], &[]), vol)?)
+/// A run over a bundle with this entry of the last slot tells this line alone.
+fn tells(
+    rt: &(impl Abort + AllocGlobal),
+    entry: &[u8; 8],
+    words: &[&str],
+    status: u8,
+    line: &[u8],
+) {
+    let mut vol = with_entry(rt, entry, &[], &[]);
+    ends(rt, &mut vol, words, (status, 0, b"", line));
 }
 
 #[test]
-fn a_tile_is_given_as_bytes_and_as_a_grid(rt: HostRuntime) -> Result<(), Fail> {
-    let alloc = rt.alloc();
-    let bundle = bundle_of(alloc, &ENTRY)?;
-    let rows = [
-        (["get", "127", "127"].as_slice(), GRID.as_slice()),
-        (&["get", "127", "127", "raw"], &BLOB),
-    ];
-    for (words, want) in rows {
-        // A journal that was cut off as it was made does not count.
-        for journal in [[].as_slice(), &[0xff]] {
-            let mut vol = volume(alloc, &bundle, journal, &[])?;
-            let left = over(alloc, words, &mut vol)?;
-            assert_eq!(rt; left.status, 0);
-            assert_eq!(rt; left.out.held(), want);
-            assert_eq!(rt; (left.err.held().len(), left.marks), (0, 0));
-        }
+fn a_tile_is_given_as_bytes_and_as_a_grid(rt: HostRuntime) {
+    // A journal that was cut off as it was made does not count.
+    for journal in [[].as_slice(), &[0xff]] {
+        gives_from(&rt, &ENTRY, journal, &LAST_GRID, &GRID);
+        gives_from(&rt, &ENTRY, journal, &LAST, &BLOB);
     }
-    Ok(())
+}
+
+/// A bundle with this entry of the last slot is listed, checked and recovered so.
+fn is_told(rt: &(impl Abort + AllocGlobal), entry: &[u8; 8], listing: &[u8], report: &[u8]) {
+    gives_from(rt, entry, &[], &["list"], listing);
+    gives_from(rt, entry, &[], &["check"], report);
+    gives_from(rt, entry, &[], &["recover"], b"closed\n");
 }
 
 #[test]
-fn a_bundle_is_listed_checked_and_recovered(rt: HostRuntime) -> Result<(), Fail> {
-    let alloc = rt.alloc();
-    // The entry of the last slot, and what the commands give.
-    let rows = [
-        (
-            ENTRY,
-            b"127 127 131140 66\n".as_slice(),
-            b"tiles 1\nbytes 66\nbad 0\n".as_slice(),
-        ),
-        ([0; 8], b"", b"tiles 0\nbytes 0\nbad 0\n"),
-        (
-            [0x44, 0, 2, 0, 0, 65, 0, 0],
-            b"127 127 131140 65\n",
-            b"tiles 1\nbytes 65\nbad 1\nfirst 127 127\n",
-        ),
-    ];
-    for (entry, listing, report) in rows {
-        let bundle = bundle_of(alloc, &entry)?;
-        let commands = [
-            (["list"].as_slice(), listing),
-            (&["check"], report),
-            (&["recover"], b"closed\n"),
-        ];
-        for (words, want) in commands {
-            let mut vol = volume(alloc, &bundle, &[], &[])?;
-            let left = over(alloc, words, &mut vol)?;
-            assert_eq!(rt; left.status, 0);
-            assert_eq!(rt; left.out.held(), want);
-            assert_eq!(rt; (left.err.held().len(), left.marks), (0, 0));
-        }
-    }
-    Ok(())
-}
-
-#[test]
-fn an_open_journal_counts_before_each_command(rt: HostRuntime) -> Result<(), Fail> {
-    let alloc = rt.alloc();
-    let bundle = bundle_of(alloc, &[0; 8])?;
-    // One tile, whose entry and header are to be laid over; and a bundle that was being built.
-    let tile = [
-        b"\x01LBJRNL1\x01\x00\xff\x3f\x00\x00\x00\x00".as_slice(),
+fn a_bundle_is_listed_checked_and_recovered(rt: HostRuntime) {
+    is_told(
+        &rt,
         &ENTRY,
-        &[0x86, 0, 2, 0, 0, 0, 0, 0],
-        &HEADER,
-    ]
-    .concat(alloc)?;
-    let build = [b"\x01LBJRNL1\x02".as_slice(), &[0; 87]].concat(alloc)?;
-    let rows = [
-        (
-            tile.as_slice(),
-            b"applied\n".as_slice(),
-            b"127 127 131140 66\n".as_slice(),
-        ),
-        (&build, b"emptied\n", b""),
-    ];
-    for (journal, line, listing) in rows {
-        let mut vol = volume(alloc, &bundle, journal, &[])?;
-        assert_eq!(rt; over(alloc, &["recover"], &mut vol)?.out.held(), line);
-        assert_eq!(rt;
-            over(alloc, &["recover"], &mut vol)?.out.held(),
-            b"closed\n".as_slice()
-        );
-        assert_eq!(rt; over(alloc, &["list"], &mut vol)?.out.held(), listing);
-        let mut vol = volume(alloc, &bundle, journal, &[])?;
-        assert_eq!(rt; over(alloc, &["list"], &mut vol)?.out.held(), listing);
-    }
-    Ok(())
+        b"127 127 131140 66\n",
+        b"tiles 1\nbytes 66\nbad 0\n",
+    );
+    is_told(&rt, &[0; 8], b"", b"tiles 0\nbytes 0\nbad 0\n");
+    let bad = b"tiles 1\nbytes 65\nbad 1\nfirst 127 127\n";
+    is_told(&rt, b"\x44\0\x02\0\0\x41\0\0", b"127 127 131140 65\n", bad);
+}
+
+/// A recovery of a bundle of no tiles beside a journal of these parts gives the line, and the next
+/// one does nothing. The listing is the same behind them as without them.
+fn recovers(rt: &(impl Abort + AllocGlobal), parts: &[&[u8]], line: &[u8], listing: &[u8]) {
+    let journal = joined(rt, parts);
+    let mut vol = with_entry(rt, &[0; 8], &journal, &[]);
+    gives(rt, &mut vol, &["recover"], line);
+    gives(rt, &mut vol, &["recover"], b"closed\n");
+    gives(rt, &mut vol, &["list"], listing);
+    gives_from(rt, &[0; 8], &journal, &["list"], listing);
 }
 
 #[test]
-fn a_tile_that_is_not_there_is_told(rt: HostRuntime) -> Result<(), Fail> {
-    let alloc = rt.alloc();
-    // The entry of the last slot, the row, and the line.
-    let rows = [
-        (ENTRY, "0", b"store: NoTile 0 127\n".as_slice()),
-        (
-            [0x44, 0, 2, 0, 0, 0, 0, 0],
-            "127",
-            b"store: NoTile 127 127\n",
-        ),
-        (
-            [0x86, 0, 2, 0, 0, 5, 0, 0],
-            "127",
-            b"store: Beyond 127 127 offset 131206 size 5 got 0\n",
-        ),
-        (
-            [0x44, 0, 2, 0, 0, 67, 0, 0],
-            "127",
-            b"store: Beyond 127 127 offset 131140 size 67 got 66\n",
-        ),
-    ];
-    for (entry, row, line) in rows {
-        let bundle = bundle_of(alloc, &entry)?;
-        for words in [["get", row, "127"].as_slice(), &["get", row, "127", "raw"]] {
-            let mut vol = volume(alloc, &bundle, &[], &[])?;
-            let left = over(alloc, words, &mut vol)?;
-            assert_eq!(rt; left.status, 7);
-            assert_eq!(rt; left.out.held().len(), 0);
-            assert_eq!(rt; left.err.held(), line);
-        }
-    }
-    Ok(())
+fn an_open_journal_counts_before_each_command(rt: HostRuntime) {
+    // One tile, whose entry and header are to be laid over.
+    let front = b"\x01LBJRNL1\x01\x00\xff\x3f\x00\x00\x00\x00".as_slice();
+    let tile = [front, &ENTRY, b"\x86\0\x02\0\0\0\0\0", &HEADER];
+    recovers(&rt, &tile, b"applied\n", b"127 127 131140 66\n");
+    // A bundle that was being built.
+    recovers(&rt, &[b"\x01LBJRNL1\x02", &[0; 87]], b"emptied\n", b"");
+}
+
+/// The tile of this row of the last column is not there, which both commands tell by this line.
+fn is_missing(rt: &(impl Abort + AllocGlobal), entry: &[u8; 8], row: &str, line: &[u8]) {
+    tells(rt, entry, &["get", row, "127"], 7, line);
+    tells(rt, entry, &["get", row, "127", "raw"], 7, line);
 }
 
 #[test]
-fn a_tile_that_is_no_blob_is_refused(rt: HostRuntime) -> Result<(), Fail> {
-    let alloc = rt.alloc();
+fn a_tile_that_is_not_there_is_told(rt: HostRuntime) {
+    is_missing(&rt, &ENTRY, "0", b"store: NoTile 0 127\n");
+    is_missing(
+        &rt,
+        b"\x44\0\x02\0\0\0\0\0",
+        "127",
+        b"store: NoTile 127 127\n",
+    );
+    let behind = b"store: Beyond 127 127 offset 131206 size 5 got 0\n";
+    is_missing(&rt, b"\x86\0\x02\0\0\x05\0\0", "127", behind);
+    let longer = b"store: Beyond 127 127 offset 131140 size 67 got 66\n";
+    is_missing(&rt, b"\x44\0\x02\0\0\x43\0\0", "127", longer);
+}
+
+#[test]
+fn a_tile_that_is_no_blob_is_refused(rt: HostRuntime) {
     // Entries of 65 bytes of the blob, and of those from its size on.
-    let rows = [
-        (
-            [0x44, 0, 2, 0, 0, 65, 0, 0],
-            b"refused: Truncated at 65\n".as_slice(),
-        ),
-        ([0x40, 0, 2, 0, 0, 70, 0, 0], b"refused: BadKey at 0\n"),
-    ];
-    for (entry, line) in rows {
-        let bundle = bundle_of(alloc, &entry)?;
-        let mut vol = volume(alloc, &bundle, &[], &[])?;
-        let left = over(alloc, &["get", "127", "127"], &mut vol)?;
-        assert_eq!(rt; left.status, 2);
-        assert_eq!(rt; left.out.held().len(), 0);
-        assert_eq!(rt; left.err.held(), line);
-    }
-    Ok(())
+    let cut = b"\x44\0\x02\0\0\x41\0\0";
+    tells(&rt, cut, &LAST_GRID, 2, b"refused: Truncated at 65\n");
+    let shifted = b"\x40\0\x02\0\0\x46\0\0";
+    tells(&rt, shifted, &LAST_GRID, 2, b"refused: BadKey at 0\n");
+}
+
+/// These bytes beside this journal are refused with this line.
+fn refuses(rt: &(impl Abort + AllocGlobal), bundle: &[u8], journal: &[&[u8]], line: &[u8]) {
+    let mut vol = volume(rt, bundle, &joined(rt, journal), &[]);
+    ends(rt, &mut vol, &LAST, (7, 0, b"", line));
 }
 
 #[test]
-fn files_that_are_no_bundle_are_refused(rt: HostRuntime) -> Result<(), Fail> {
-    let alloc = rt.alloc();
-    let whole = bundle_of(alloc, &ENTRY)?;
-    let mut journal = [0; 96];
-    journal[..9].copy_from_slice(b"\x01LBJRNL1\x03");
-    let rows = [
-        (
-            &[0; 100].as_slice(),
-            [].as_slice(),
-            b"store: BadBundle at 100 found 100\n".as_slice(),
-        ),
-        (
-            &whole.as_slice(),
-            &journal,
-            b"store: BadJournal at 8 found 3\n",
-        ),
-    ];
-    for (bundle, beside, line) in rows {
-        let mut vol = volume(alloc, bundle, beside, &[])?;
-        let left = over(alloc, &["get", "127", "127", "raw"], &mut vol)?;
-        assert_eq!(rt; left.status, 7);
-        assert_eq!(rt; left.out.held().len(), 0);
-        assert_eq!(rt; left.err.held(), line);
-    }
-    Ok(())
+fn files_that_are_no_bundle_are_refused(rt: HostRuntime) {
+    refuses(&rt, &[0; 100], &[], b"store: BadBundle at 100 found 100\n");
+    let journal = [b"\x01LBJRNL1\x03".as_slice(), &[0; 87]];
+    let line = b"store: BadJournal at 8 found 3\n";
+    refuses(&rt, &bundle_of(&rt, &ENTRY), &journal, line);
 }
 
 #[test]
-fn a_failing_volume_ends_the_run(rt: HostRuntime) -> Result<(), Fail> {
-    let alloc = rt.alloc();
-    let bundle = bundle_of(alloc, &ENTRY)?;
+fn a_failing_volume_ends_the_run(rt: HostRuntime) {
     // Two syncs, the journal's length, the bundle's, its header, the entry and the tile.
     for call in 0..7 {
-        let mut vol = volume(alloc, &bundle, &[], &[call])?;
-        let left = over(alloc, &["get", "127", "127"], &mut vol)?;
-        assert_eq!(rt; left.status, 5, "at call {call}");
-        assert_eq!(rt; left.out.held().len(), 0);
-        assert_eq!(rt; left.err.held(), b"volume failed\n".as_slice());
+        let mut vol = with_one(&rt, &[call]);
+        ends(&rt, &mut vol, &LAST_GRID, (5, 0, b"", VOLUME_FAILED));
     }
     for words in [["list"].as_slice(), &["get", "0", "0"]] {
-        let mut none = NoVolume::new();
-        let left = left_over(alloc, words, &[], (1, 1), (&[], &[]), &mut none)?;
-        assert_eq!(rt; left.status, 5);
-        assert_eq!(rt; left.err.held(), b"volume failed\n".as_slice());
+        ends(&rt, &mut NoVolume::new(), words, (5, 0, b"", VOLUME_FAILED));
     }
-    Ok(())
+}
+
+/// A bundle whose first slot has a tile of three bytes that are no blob, behind this size.
+fn with_other_format(rt: &(impl Abort + AllocGlobal), size: &[u8; 4]) -> MemVolume {
+    let entry = b"\x44\0\x02\0\0\x03\0\0";
+    let bundle = joined(rt, &[&FRESH, entry, &no_entries(rt), size, OTHER_FORMAT]);
+    volume(rt, &bundle, &[], &[])
+}
+
+/// That tile is passed on, and a check finds this.
+fn passes_on(rt: &(impl Abort + AllocGlobal), size: &[u8; 4], report: &[u8]) {
+    let mut vol = with_other_format(rt, size);
+    gives(rt, &mut vol, &["get", "0", "0", "raw"], OTHER_FORMAT);
+    let refused = (
+        2,
+        0,
+        b"".as_slice(),
+        b"refused: Truncated at 3\n".as_slice(),
+    );
+    ends(rt, &mut vol, &["get", "0", "0"], refused);
+    gives(rt, &mut vol, &["check"], report);
 }
 
 #[test]
-fn a_tile_of_another_format_is_passed_on(rt: HostRuntime) -> Result<(), Fail> {
-    let alloc = rt.alloc();
-    // The size in front of three bytes, and what a check finds.
-    let rows = [
-        (3, b"tiles 1\nbytes 3\nbad 0\n".as_slice()),
-        (4, b"tiles 1\nbytes 3\nbad 1\nfirst 0 0\n"),
-    ];
-    for (size, report) in rows {
-        let mut index = Vec::new(alloc);
-        index.resize(131064, 0)?;
-        let entry = [0x44, 0, 2, 0, 0, 3, 0, 0];
-        let record = [size, 0, 0, 0, 0xff, 0xd8, 0xff];
-        let bundle = [FRESH.as_slice(), &entry, &index, &record].concat(alloc)?;
-        let mut vol = volume(alloc, &bundle, &[], &[])?;
-        let raw = over(alloc, &["get", "0", "0", "raw"], &mut vol)?;
-        assert_eq!(rt; raw.out.held(), [0xff, 0xd8, 0xff].as_slice());
-        let left = over(alloc, &["get", "0", "0"], &mut vol)?;
-        assert_eq!(rt; (left.status, left.out.held().len()), (2, 0));
-        assert_eq!(rt; left.err.held(), b"refused: Truncated at 3\n".as_slice());
-        assert_eq!(rt; over(alloc, &["check"], &mut vol)?.out.held(), report);
-    }
-    Ok(())
+fn a_tile_of_another_format_is_passed_on(rt: HostRuntime) {
+    passes_on(&rt, b"\x03\0\0\0", b"tiles 1\nbytes 3\nbad 0\n");
+    passes_on(&rt, b"\x04\0\0\0", b"tiles 1\nbytes 3\nbad 1\nfirst 0 0\n");
 }
 
 #[test]
-fn words_that_are_nearly_a_command_are_refused(rt: HostRuntime) -> Result<(), Fail> {
-    let alloc = rt.alloc();
+fn words_that_are_nearly_a_command_are_refused(rt: HostRuntime) {
     let rows = [
         ["build", "3", "0", "0"].as_slice(),
         &["get", "128", "0"],
@@ -293,10 +180,8 @@ fn words_that_are_nearly_a_command_are_refused(rt: HostRuntime) -> Result<(), Fa
         &["list", "0"],
     ];
     for words in rows {
-        let mut vol = volume(alloc, &[], &[], &[])?;
-        let left = over(alloc, words, &mut vol)?;
-        assert_eq!(rt; (left.status, left.marks, vol.moment()), (1, 0, 0));
-        assert_eq!(rt; left.err.held(), USAGE);
+        let mut vol = empty(&rt);
+        ends(&rt, &mut vol, words, (1, 0, b"", USAGE));
+        same(&rt, "calls of the volume", vol.moment(), 0);
     }
-    Ok(())
 }

@@ -1,61 +1,86 @@
 //! What a recovery says of each image that a crash may leave at each moment, and what stands then.
 
-use crate::build_tests::{LISTED, build, two_tiles};
-use crate::bundle_tests::{ENTRY, bundle_of, over, volume};
-use crate::coded_tests::STEPS;
-use crate::encode_tests::TENS;
-use crate::put_tests::{LAST, put_last, with_one};
-use crate::tests::BLOB;
-use outside_io::{MemVolume, Pick, Volume};
-use std::alloc::Global;
-use std::test::Fail;
+ghost use Rattle.std.specs.Prelude.{◌<◌};
 
-const PICKS: [Pick; 4] = [Pick::Oldest, Pick::Newest, Pick::Torn(0), Pick::Torn(255)];
+use crate::build_tests::{LISTED, build_two};
+use crate::coded_tests::STEPS;
+use crate::put_tests::put_tens;
+use crate::same::same;
+use crate::tests::BLOB;
+use crate::volumes::{ENTRY, LAST, empty, gives, gives_at, with_entry, with_one};
+use outside_io::{MemVolume, Pick, Volume};
+use std::process::Abort;
+
+/// The line of a recovery, and what a command behind it gives.
+type Recovered<'a> = (&'a [u8], &'a [u8]);
+
+const APPLIED: Recovered<'static> = (b"applied\n", &STEPS);
+
+const NEW: Recovered<'static> = (b"closed\n", &STEPS);
 
 /// One image of a moment.
-fn image(alloc: Global, vol: &MemVolume, moment: u64, pick: Pick) -> Result<MemVolume, Fail> {
-    if moment > vol.moment() {
-        return Err("moment".into());
-    }
-    Ok(vol.crash(alloc, moment, pick)?)
+fn image(rt: &(impl Abort + AllocGlobal), vol: &MemVolume, moment: u64, pick: Pick) -> MemVolume {
+    assert!(rt; moment <= vol.moment());
+    vol.crash(rt.alloc(), moment, pick).expect(rt, "memory")
 }
 
-/// Whether a recovery of each of the four images of these moments, the last left out, gives such a
-/// line, and these words then give such an output.
-fn all_give(
-    alloc: Global,
+/// A recovery of this image of the moment gives such a line, and these words then such an output.
+fn recovers(
+    rt: &(impl Abort + AllocGlobal),
+    vol: &MemVolume,
+    moment: u64,
+    pick: Pick,
+    words: &[&str],
+    want: Recovered<'_>,
+) {
+    let mut crashed = image(rt, vol, moment, pick);
+    gives_at(rt, &mut crashed, moment, &["recover"], want.0);
+    gives_at(rt, &mut crashed, moment, words, want.1);
+}
+
+/// So do the four images of this moment: as last synced, as read, torn with 0 and with 255.
+fn four_recover(
+    rt: &(impl Abort + AllocGlobal),
+    vol: &MemVolume,
+    moment: u64,
+    words: &[&str],
+    want: [Recovered<'_>; 4],
+) {
+    let [oldest, newest, torn_0, torn_255] = want;
+    recovers(rt, vol, moment, Pick::Oldest, words, oldest);
+    recovers(rt, vol, moment, Pick::Newest, words, newest);
+    recovers(rt, vol, moment, Pick::Torn(0), words, torn_0);
+    recovers(rt, vol, moment, Pick::Torn(255), words, torn_255);
+}
+
+/// So do the four images of each of these moments, the last left out.
+fn all_recover(
+    rt: &(impl Abort + AllocGlobal),
     vol: &MemVolume,
     moments: (u64, u64),
     words: &[&str],
-    want: [(&[u8], &[u8]); 4],
-) -> Result<bool, Fail> {
+    want: [Recovered<'_>; 4],
+) {
     for moment in moments.0..moments.1 {
-        for number in 0..4 {
-            let mut crashed = image(alloc, vol, moment, PICKS[number])?;
-            let (line, output) = want[number];
-            let told = over(alloc, &["recover"], &mut crashed)?;
-            let left = over(alloc, words, &mut crashed)?;
-            if told.out.held() != line || left.out.held() != output {
-                return Ok(false);
-            }
-        }
+        four_recover(rt, vol, moment, words, want);
     }
-    Ok(true)
+}
+
+/// A volume over whose tile another one was put.
+fn put_over(rt: &(impl Abort + AllocGlobal)) -> MemVolume {
+    let mut vol = with_one(rt, &[]);
+    put_tens(rt, &mut vol);
+    vol
 }
 
 // The recovery and the opening make 5 calls, and the put 19: call number 17 opens the journal's
 // gate, and the next one syncs it; call number 22 closes it, and the last one syncs that.
 #[test]
-fn a_crash_at_each_moment_of_a_put_leaves_the_old_or_the_new_tile(
-    rt: HostRuntime,
-) -> Result<(), Fail> {
-    let alloc = rt.alloc();
-    let mut vol = with_one(alloc, &[])?;
-    assert_eq!(rt; put_last(alloc, "1", &TENS, &[], &mut vol)?.status, 0);
-    assert_eq!(rt; vol.moment(), 24);
+fn a_crash_at_each_moment_of_a_put_leaves_the_old_or_the_new_tile(rt: HostRuntime) {
+    let vol = put_over(&rt);
+    same(&rt, "the last moment", vol.moment(), 24);
     let old = (b"closed\n".as_slice(), BLOB.as_slice());
-    let applied = (b"applied\n".as_slice(), STEPS.as_slice());
-    let new = (b"closed\n".as_slice(), STEPS.as_slice());
+    let (applied, new) = (APPLIED, NEW);
     let rows = [
         (0, 18, [old, old, old, old]),
         (18, 19, [old, applied, old, applied]),
@@ -64,51 +89,48 @@ fn a_crash_at_each_moment_of_a_put_leaves_the_old_or_the_new_tile(
         (24, 25, [new, new, new, new]),
     ];
     for (first, end, want) in rows {
-        assert!(rt;
-            all_give(alloc, &vol, (first, end), &LAST, want)?,
-            "from {first}"
-        );
+        all_recover(&rt, &vol, (first, end), &LAST, want);
     }
-    Ok(())
+}
+
+/// The moment at which a recovery ended.
+fn end_of(rt: &(impl Abort + AllocGlobal), vol: &MemVolume) -> u64
+    ensures { 1 < result }
+{
+    let end = vol.moment();
+    assert!(rt; end > 1 && end < 20);
+    end
+}
+
+/// A recovery of this image of the moment is recovered again at each of its own moments.
+fn is_recovered_again(rt: &(impl Abort + AllocGlobal), vol: &MemVolume, moment: u64, pick: Pick) {
+    let mut crashed = image(rt, vol, moment, pick);
+    gives(rt, &mut crashed, &["recover"], b"applied\n");
+    let end = end_of(rt, &crashed);
+    let (applied, new) = (APPLIED, NEW);
+    let all = [applied, applied, applied, applied];
+    all_recover(rt, &crashed, (0, end - 1), &LAST, all);
+    four_recover(rt, &crashed, end - 1, &LAST, [applied, new, new, applied]);
+    four_recover(rt, &crashed, end, &LAST, [new, new, new, new]);
 }
 
 // The recovery writes the header and the entry again, syncs them, closes the gate and syncs that.
 #[test]
-fn a_crash_within_a_recovery_is_recovered_again(rt: HostRuntime) -> Result<(), Fail> {
-    let alloc = rt.alloc();
-    let mut vol = with_one(alloc, &[])?;
-    assert_eq!(rt; put_last(alloc, "1", &TENS, &[], &mut vol)?.status, 0);
-    let applied = (b"applied\n".as_slice(), STEPS.as_slice());
-    let new = (b"closed\n".as_slice(), STEPS.as_slice());
+fn a_crash_within_a_recovery_is_recovered_again(rt: HostRuntime) {
+    let vol = put_over(&rt);
     for moment in 19..23 {
-        for pick in [Pick::Oldest, Pick::Torn(255)] {
-            let mut crashed = image(alloc, &vol, moment, pick)?;
-            let told = over(alloc, &["recover"], &mut crashed)?;
-            assert_eq!(rt; told.out.held(), b"applied\n".as_slice());
-            let end = crashed.moment();
-            assert!(rt; end > 1 && end < 20);
-            let all = [applied, applied, applied, applied];
-            assert!(rt; all_give(alloc, &crashed, (0, end - 1), &LAST, all)?);
-            let some = [applied, new, new, applied];
-            assert!(rt; all_give(alloc, &crashed, (end - 1, end), &LAST, some)?);
-            let none = [new, new, new, new];
-            assert!(rt; all_give(alloc, &crashed, (end, end + 1), &LAST, none)?);
-        }
+        is_recovered_again(&rt, &vol, moment, Pick::Oldest);
+        is_recovered_again(&rt, &vol, moment, Pick::Torn(255));
     }
-    Ok(())
 }
 
 // The recovery and the opening make 4 calls, and the build 30: call number 11 opens the journal's
 // gate, and the next one syncs it; call number 32 closes it, and the last one syncs that.
 #[test]
-fn a_crash_at_each_moment_of_a_build_leaves_all_tiles_or_none(rt: HostRuntime) -> Result<(), Fail> {
-    let alloc = rt.alloc();
-    let mut vol = volume(alloc, &[], &[], &[])?;
-    assert_eq!(rt;
-        build(alloc, "0", &two_tiles(alloc)?, &[], &mut vol)?.status,
-        0
-    );
-    assert_eq!(rt; vol.moment(), 34);
+fn a_crash_at_each_moment_of_a_build_leaves_all_tiles_or_none(rt: HostRuntime) {
+    let mut vol = empty(&rt);
+    build_two(&rt, &mut vol);
+    same(&rt, "the last moment", vol.moment(), 34);
     let none = (b"closed\n".as_slice(), b"".as_slice());
     let emptied = (b"emptied\n".as_slice(), b"".as_slice());
     let whole = (b"closed\n".as_slice(), LISTED);
@@ -120,21 +142,14 @@ fn a_crash_at_each_moment_of_a_build_leaves_all_tiles_or_none(rt: HostRuntime) -
         (34, 35, [whole, whole, whole, whole]),
     ];
     for (first, end, want) in rows {
-        assert!(rt;
-            all_give(alloc, &vol, (first, end), &["list"], want)?,
-            "from {first}"
-        );
+        all_recover(&rt, &vol, (first, end), &["list"], want);
     }
-    Ok(())
 }
 
 #[test]
-fn a_journal_torn_as_it_was_made_does_not_count(rt: HostRuntime) -> Result<(), Fail> {
-    let alloc = rt.alloc();
-    let mut vol = volume(alloc, &bundle_of(alloc, &ENTRY)?, &[0xff], &[])?;
-    let told = over(alloc, &["recover"], &mut vol)?;
-    assert_eq!(rt; told.out.held(), b"closed\n".as_slice());
-    assert_eq!(rt; put_last(alloc, "1", &TENS, &[], &mut vol)?.status, 0);
-    assert_eq!(rt; over(alloc, &LAST, &mut vol)?.out.held(), STEPS.as_slice());
-    Ok(())
+fn a_journal_torn_as_it_was_made_does_not_count(rt: HostRuntime) {
+    let mut vol = with_entry(&rt, &ENTRY, &[0xff], &[]);
+    gives(&rt, &mut vol, &["recover"], b"closed\n");
+    put_tens(&rt, &mut vol);
+    gives(&rt, &mut vol, &LAST, &STEPS);
 }

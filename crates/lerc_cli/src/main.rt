@@ -48,6 +48,8 @@ mod stop;
 #[cfg(test)]
 mod tests;
 mod tile;
+#[cfg(test)]
+mod volumes;
 
 use arguments::ProcessArguments;
 use lines::tell;

@@ -1,221 +1,205 @@
 //! Putting tiles: what is given and put, and refusals.
 
-ghost use Rattle.std.specs.Prelude.{◌≤◌};
-
-use crate::bundle_tests::{ENTRY, FRESH, HEADER, bundle_of, over, stands, volume};
 use crate::coded_tests::{FOUR, STEPS};
 use crate::encode_tests::TENS;
-use crate::tests::{BLOB, GRID, Left, left_over, told_over};
-use outside_io::{Bytes, MemVolume, Piece, Start, VolFile, Volume};
-use std::alloc::Global;
-use std::test::Fail;
+use crate::same::same;
+use crate::tests::{BLOB, GRID};
+use crate::volumes::{
+    ENTRY, FRESH, HEADER, LAST, empty, fails_alone, fed, gives, holds, long_bundle, mark_at,
+    marks_of, with_one,
+};
+use outside_io::{Marks, MemVolume, VolFile, Volume};
+use std::process::Abort;
 
-pub(crate) const LAST: [&str; 4] = ["get", "127", "127", "raw"];
+/// The words of a put without an error.
+const PUT: [&str; 4] = ["put", "3", "0", "1"];
 
-/// What a put of one tile into the last slot leaves. The calls on the output of these numbers fail.
-pub(crate) fn put_last(
-    alloc: Global,
-    error: &str,
-    grid: &[u8],
-    failing: &[u8],
-    vol: &mut MemVolume,
-) -> Result<Left, Fail> {
-    let input = [[0x54, 0x7f, 0x7f].as_slice(), grid].concat(alloc)?;
-    let words = ["put", "3", error, "1"];
-    Ok(left_over(alloc, &words, &input, (7, 100), (&[], failing), vol)?)
+/// The words of a put whose values may be 1 from the given ones.
+const PUT_WITHIN_1: [&str; 4] = ["put", "3", "1", "1"];
+
+/// What stands in front of a tile of the last slot.
+const LAST_SLOT: &[u8] = b"\x54\x7f\x7f";
+
+/// A tile of one pixel for the last slot.
+const PIXEL: [&[u8]; 2] = [LAST_SLOT, &GRID];
+
+/// Two of them.
+const TWO_PIXELS: [&[u8]; 4] = [LAST_SLOT, &GRID, LAST_SLOT, &GRID];
+
+/// A tile of four numbers for the last slot.
+const FOUR_TENS: [&[u8]; 2] = [LAST_SLOT, &TENS];
+
+/// Puts a tile of one pixel into the last slot.
+fn put_pixel(rt: &(impl Abort + AllocGlobal), vol: &mut MemVolume) {
+    let done = (0, 1, b"put 127 127 66\n".as_slice(), b"".as_slice());
+    fed(rt, vol, &PUT, &PIXEL, &[], done);
 }
 
-/// A bundle with one tile in the last slot. The calls of these numbers fail.
-pub(crate) fn with_one(alloc: Global, failing: &[u64]) -> Result<MemVolume, Fail> {
-    volume(alloc, &bundle_of(alloc, &ENTRY)?, &[], failing)
+/// Puts a tile of four numbers into the last slot.
+pub(crate) fn put_tens(rt: &(impl Abort + AllocGlobal), vol: &mut MemVolume) {
+    let done = (0, 1, b"put 127 127 72\n".as_slice(), b"".as_slice());
+    fed(rt, vol, &PUT_WITHIN_1, &FOUR_TENS, &[], done);
+}
+
+/// The commands give the tile of four numbers, which was put over the first record's.
+fn gives_tens(rt: &(impl Abort + AllocGlobal), vol: &mut MemVolume) {
+    gives(rt, vol, &["list"], b"127 127 131210 72\n");
+    gives(rt, vol, &["check"], b"tiles 1\nbytes 72\nbad 0\n");
+    gives(rt, vol, &["get", "127", "127"], &FOUR);
+    gives(rt, vol, &LAST, &STEPS);
 }
 
 #[test]
-fn tiles_are_put_one_over_the_other(rt: HostRuntime) -> Result<(), Fail> {
-    let alloc = rt.alloc();
-    let mut vol = volume(alloc, &[], &[], &[])?;
-    let left = put_last(alloc, "0", &GRID, &[], &mut vol)?;
-    assert_eq!(rt; (left.status, left.marks), (0, 1));
-    assert_eq!(rt; left.out.held(), b"put 127 127 66\n".as_slice());
-    assert_eq!(rt; over(alloc, &LAST, &mut vol)?.out.held(), BLOB.as_slice());
-    let left = put_last(alloc, "1", &TENS, &[], &mut vol)?;
-    assert_eq!(rt; (left.status, left.marks), (0, 1));
-    assert_eq!(rt; left.out.held(), b"put 127 127 72\n".as_slice());
-    let rows = [
-        (["list"].as_slice(), b"127 127 131210 72\n".as_slice()),
-        (&["check"], b"tiles 1\nbytes 72\nbad 0\n"),
-        (&["get", "127", "127"], &FOUR),
-        (&LAST, &STEPS),
-    ];
-    for (words, want) in rows {
-        assert_eq!(rt; over(alloc, words, &mut vol)?.out.held(), want);
+fn tiles_are_put_one_over_the_other(rt: HostRuntime) {
+    let mut vol = empty(&rt);
+    put_pixel(&rt, &mut vol);
+    gives(&rt, &mut vol, &LAST, &BLOB);
+    put_tens(&rt, &mut vol);
+    gives_tens(&rt, &mut vol);
+}
+
+/// What a bundle holds behind a first put.
+const FIRST_BUNDLE: [(u64, &[u8]); 5] = [
+    (0, &HEADER),
+    (64, &[0; 100]),
+    (131128, &ENTRY),
+    (131136, b"\x42\0\0\0"),
+    (131140, &BLOB),
+];
+
+/// What the journal beside it holds.
+const FIRST_JOURNAL: [(u64, &[u8]); 2] = [
+    (
+        0,
+        b"\0LBJRNL1\x01\0\xff\x3f\0\0\0\0\x44\0\x02\0\0\x42\0\0\x86\0\x02\0\0\0\0\0",
+    ),
+    (32, &HEADER),
+];
+
+#[test]
+fn a_first_put_writes_these_files(rt: HostRuntime) {
+    let mut vol = empty(&rt);
+    put_pixel(&rt, &mut vol);
+    holds(&rt, &mut vol, VolFile::Bundle, 131206, &FIRST_BUNDLE);
+    holds(&rt, &mut vol, VolFile::Journal, 96, &FIRST_JOURNAL);
+}
+
+/// What a bundle of a tile holds behind a put over it: the greatest size, the bytes that no entry
+/// names and the length; the entry; the record.
+const BUNDLE_BEHIND: [(u64, &[u8]); 5] = [
+    (8, b"\x48\0\0\0\x05\0\0\0"),
+    (16, b"\x46\0\0\0\0\0\0\0\xd2\0\x02\0\0\0\0\0"),
+    (131128, b"\x8a\0\x02\0\0\x48\0\0"),
+    (131206, b"\x48\0\0\0"),
+    (131210, &STEPS),
+];
+
+#[test]
+fn a_put_over_a_tile_writes_these_places(rt: HostRuntime) {
+    let mut vol = with_one(&rt, &[]);
+    put_tens(&rt, &mut vol);
+    holds(&rt, &mut vol, VolFile::Bundle, 131282, &BUNDLE_BEHIND);
+}
+
+/// Three tiles for two slots.
+const THREE_TILES: [&[u8]; 6] = [b"\x54\0\0", &GRID, b"\x54\0\x01", &GRID, b"\x54\0\0", &GRID];
+
+/// Three marks rise from above 0 to this moment.
+fn rise_to(rt: &impl Abort, marks: &Marks, moment: u64) {
+    let (first, second) = (mark_at(rt, marks, 0), mark_at(rt, marks, 1));
+    same(rt, "the first mark is above 0", first > 0, true);
+    same(rt, "the second is above it", second > first, true);
+    same(rt, "the last is above both", moment > second, true);
+    same(rt, "the last is the moment", mark_at(rt, marks, 2), moment);
+}
+
+#[test]
+fn three_tiles_have_rising_marks(rt: HostRuntime) {
+    let mut vol = empty(&rt);
+    let output = b"put 0 0 66\nput 0 1 66\nput 0 0 66\n";
+    let marks = marks_of(&rt, &mut vol, &PUT, &THREE_TILES, 3, output);
+    rise_to(&rt, &marks, vol.moment());
+    let slack = b"\x46\0\0\0\0\0\0\0\x12\x01\x02\0\0\0\0\0";
+    holds(&rt, &mut vol, VolFile::Bundle, 131346, &[(16, slack)]);
+}
+
+/// Whether a put fails at this call of the volume, and then gives no line.
+fn fails_at(rt: &(impl Abort + AllocGlobal), call: u64) -> bool {
+    let mut vol = with_one(rt, &[call]);
+    fails_alone(rt, &mut vol, &PUT_WITHIN_1, &FOUR_TENS)
+}
+
+#[test]
+fn a_failing_call_of_a_put_leaves_no_line(rt: HostRuntime) {
+    for call in 0..25 {
+        same(&rt, call, fails_at(&rt, call), call < 24);
     }
-    Ok(())
 }
 
 #[test]
-fn a_first_put_writes_these_files(rt: HostRuntime) -> Result<(), Fail> {
-    let alloc = rt.alloc();
-    let mut vol = volume(alloc, &[], &[], &[])?;
-    assert_eq!(rt; put_last(alloc, "0", &GRID, &[], &mut vol)?.status, 0);
-    assert_eq!(rt; vol.len(VolFile::Bundle), Ok(131206));
-    assert_eq!(rt; vol.len(VolFile::Journal), Ok(96));
-    let journal = b"\0LBJRNL1\x01\0\xff\x3f\0\0\0\0\x44\0\x02\0\0\x42\0\0\x86\0\x02\0\0\0\0\0";
-    let rows = [
-        (VolFile::Bundle, 0, HEADER.as_slice()),
-        (VolFile::Bundle, 64, &[0; 100]),
-        (VolFile::Bundle, 131128, &ENTRY),
-        (VolFile::Bundle, 131136, &[66, 0, 0, 0]),
-        (VolFile::Bundle, 131140, &BLOB),
-        (VolFile::Journal, 0, journal),
-        (VolFile::Journal, 32, &HEADER),
-    ];
-    for (file, at, bytes) in rows {
-        assert!(rt; stands(&mut vol, file, at, bytes), "at {at}");
-    }
-    Ok(())
+fn an_output_that_fails_leaves_the_tile_put(rt: HostRuntime) {
+    let mut vol = with_one(&rt, &[]);
+    let failed = (4, 1, b"".as_slice(), b"output failed\n".as_slice());
+    fed(&rt, &mut vol, &PUT_WITHIN_1, &FOUR_TENS, &[0], failed);
+    gives(&rt, &mut vol, &LAST, &STEPS);
+}
+
+/// A put of these parts over a bundle is refused with this line, before a call of the volume.
+fn refused(rt: &(impl Abort + AllocGlobal), parts: &[&[u8]], line: &[u8]) {
+    let mut vol = with_one(rt, &[]);
+    fed(rt, &mut vol, &PUT, parts, &[], (2, 0, b"", line));
+    same(rt, "calls of the volume", vol.moment(), 0);
 }
 
 #[test]
-fn a_put_over_a_tile_writes_these_places(rt: HostRuntime) -> Result<(), Fail> {
-    let alloc = rt.alloc();
-    let mut vol = with_one(alloc, &[])?;
-    assert_eq!(rt; put_last(alloc, "1", &TENS, &[], &mut vol)?.status, 0);
-    assert_eq!(rt; vol.len(VolFile::Bundle), Ok(131282));
-    // The greatest size, the bytes that no entry names and the length; the entry; the record.
-    let rows = [
-        (8, [72, 0, 0, 0, 5, 0, 0, 0].as_slice()),
-        (16, &[70, 0, 0, 0, 0, 0, 0, 0, 0xd2, 0, 2, 0, 0, 0, 0, 0]),
-        (131128, &[0x8a, 0, 2, 0, 0, 0x48, 0, 0]),
-        (131206, &[72, 0, 0, 0]),
-        (131210, &STEPS),
-    ];
-    for (at, bytes) in rows {
-        assert!(rt; stands(&mut vol, VolFile::Bundle, at, bytes), "at {at}");
-    }
-    Ok(())
-}
-
-#[test]
-fn three_tiles_have_rising_marks(rt: HostRuntime) -> Result<(), Fail> {
-    let alloc = rt.alloc();
-    let mut vol = volume(alloc, &[], &[], &[])?;
-    let (first, second) = ([0x54, 0, 0], [0x54, 0, 1]);
-    let input = [first.as_slice(), &GRID, &second, &GRID, &first, &GRID].concat(alloc)?;
-    let words = ["put", "3", "0", "1"];
-    let (report, out, _err) = told_over(alloc, &words, &input, (7, 100), (&[], &[]), &mut vol)?;
-    assert_eq!(rt; report.status, 0);
-    assert_eq!(rt;
-        out.held(),
-        b"put 0 0 66\nput 0 1 66\nput 0 0 66\n".as_slice()
+fn an_input_that_is_no_stream_of_tiles_is_refused(rt: HostRuntime) {
+    refused(&rt, &[&[0x55]], b"refused: BadTileMark at 0\n");
+    refused(&rt, &[&[0x54, 0x80]], b"refused: BadSlot at 1\n");
+    refused(&rt, &[&[0x54, 0, 0x80]], b"refused: BadSlot at 2\n");
+    let second = [LAST_SLOT, &GRID, LAST_SLOT, &GRID[..17], &[2]];
+    refused(&rt, &second, b"refused: BadMark at 42\n");
+    refused(
+        &rt,
+        &[LAST_SLOT, &GRID[..18]],
+        b"refused: Truncated at 21\n",
     );
-    let marks = report.marks;
-    assert!(rt; marks.len() == 3);
-    assert!(rt; 0 < marks.at(0) && marks.at(0) < marks.at(1) && marks.at(1) < marks.at(2));
-    assert_eq!(rt; marks.at(2), vol.moment());
-    assert_eq!(rt; vol.len(VolFile::Bundle), Ok(131346));
-    let slack = [70, 0, 0, 0, 0, 0, 0, 0, 0x12, 1, 2, 0, 0, 0, 0, 0];
-    assert!(rt; stands(&mut vol, VolFile::Bundle, 16, &slack));
-    Ok(())
 }
 
 #[test]
-fn a_failing_call_of_a_put_leaves_no_line(rt: HostRuntime) -> Result<(), Fail> {
-    let alloc = rt.alloc();
-    let mut calls = 0;
-    for call in 0..100 {
-        let mut vol = with_one(alloc, &[call])?;
-        let left = put_last(alloc, "1", &TENS, &[], &mut vol)?;
-        if left.status == 0 {
-            break;
-        }
-        calls = call;
-        assert_eq!(rt; (left.status, left.marks), (5, 0), "at call {call}");
-        assert_eq!(rt; left.out.held().len(), 0);
-        assert_eq!(rt; left.err.held(), b"volume failed\n".as_slice());
-    }
-    assert!(rt; 20 < calls && calls < 60);
-    Ok(())
+fn a_bundle_without_room_for_a_tile_is_full(rt: HostRuntime) {
+    let mut vol = long_bundle(&rt, 1099511627707);
+    let full = (
+        7,
+        0,
+        b"".as_slice(),
+        b"store: Full 1099511627707\n".as_slice(),
+    );
+    fed(&rt, &mut vol, &PUT, &PIXEL, &[], full);
+    holds(
+        &rt,
+        &mut vol,
+        VolFile::Bundle,
+        1099511627707,
+        &[(0, &FRESH)],
+    );
 }
 
 #[test]
-fn an_output_that_fails_leaves_the_tile_put(rt: HostRuntime) -> Result<(), Fail> {
-    let alloc = rt.alloc();
-    let mut vol = with_one(alloc, &[])?;
-    let left = put_last(alloc, "1", &TENS, &[0], &mut vol)?;
-    assert_eq!(rt; (left.status, left.marks), (4, 1));
-    assert_eq!(rt; left.out.held().len(), 0);
-    assert_eq!(rt; over(alloc, &LAST, &mut vol)?.out.held(), STEPS.as_slice());
-    Ok(())
-}
-
-#[test]
-fn an_input_that_is_no_stream_of_tiles_is_refused(rt: HostRuntime) -> Result<(), Fail> {
-    let alloc = rt.alloc();
-    let tile = [[0x54, 0x7f, 0x7f].as_slice(), &GRID].concat(alloc)?;
-    let mut marked = tile.clone()?;
-    marked.truncate(20);
-    marked.push(2)?;
-    let second = [tile.as_slice(), &marked].concat(alloc)?;
-    let mut cut = tile.clone()?;
-    cut.truncate(21);
-    let rows = [
-        ([0x55].as_slice(), b"refused: BadTileMark at 0\n".as_slice()),
-        (&[0x54, 0x80], b"refused: BadSlot at 1\n"),
-        (&[0x54, 0, 0x80], b"refused: BadSlot at 2\n"),
-        (&second, b"refused: BadMark at 42\n"),
-        (&cut, b"refused: Truncated at 21\n"),
-    ];
-    for (input, line) in rows {
-        let mut vol = with_one(alloc, &[])?;
-        let words = ["put", "3", "0", "1"];
-        let left = left_over(alloc, &words, input, (7, 100), (&[], &[]), &mut vol)?;
-        assert_eq!(rt; (left.status, left.marks), (2, 0));
-        assert_eq!(rt; left.out.held().len(), 0);
-        assert_eq!(rt; left.err.held(), line);
-        assert_eq!(rt; vol.moment(), 0);
-    }
-    Ok(())
-}
-
-/// A bundle of no tiles that has this length, of which its header needs memory.
-fn long_bundle(alloc: Global, len: u64) -> Result<MemVolume, Fail>
-    requires { 64 ≤ len }
-{
-    let mut pieces = Vec::new(alloc);
-    pieces.push(Piece {
-        at: 0,
-        bytes: Bytes::of(alloc, &FRESH)?,
-    })?;
-    let bundle = Start::new(len, pieces);
-    let journal = Start::new(0, Vec::new(alloc));
-    Ok(MemVolume::new(alloc, bundle, journal, Vec::new(alloc), None, 200, 1000)?)
-}
-
-#[test]
-fn a_bundle_without_room_for_a_tile_is_full(rt: HostRuntime) -> Result<(), Fail> {
-    let alloc = rt.alloc();
-    let mut vol = long_bundle(alloc, 1099511627707)?;
-    let left = put_last(alloc, "0", &GRID, &[], &mut vol)?;
-    assert_eq!(rt; (left.status, left.marks, left.out.held().len()), (7, 0, 0));
-    assert_eq!(rt; left.err.held(), b"store: Full 1099511627707\n".as_slice());
-    assert_eq!(rt; vol.len(VolFile::Bundle), Ok(1099511627707));
-    assert!(rt; stands(&mut vol, VolFile::Bundle, 0, &FRESH));
-    Ok(())
-}
-
-#[test]
-fn the_last_tile_that_a_bundle_has_room_for_is_put(rt: HostRuntime) -> Result<(), Fail> {
-    let alloc = rt.alloc();
-    let mut vol = long_bundle(alloc, 1099511627706)?;
-    let tile = [0x54, 0x7f, 0x7f];
-    let input = [tile.as_slice(), &GRID, &tile, &GRID].concat(alloc)?;
-    let words = ["put", "3", "0", "1"];
-    let left = left_over(alloc, &words, &input, (7, 100), (&[], &[]), &mut vol)?;
-    assert_eq!(rt; (left.status, left.marks), (7, 1));
-    assert_eq!(rt; left.out.held(), b"put 127 127 66\n".as_slice());
-    assert_eq!(rt; left.err.held(), b"store: Full 1099511627776\n".as_slice());
-    let entry = [0xbe, 0xff, 0xff, 0xff, 0xff, 0x42, 0, 0];
-    assert!(rt; stands(&mut vol, VolFile::Bundle, 131128, &entry));
-    Ok(())
+fn the_last_tile_that_a_bundle_has_room_for_is_put(rt: HostRuntime) {
+    let mut vol = long_bundle(&rt, 1099511627706);
+    let full = (
+        7,
+        1,
+        b"put 127 127 66\n".as_slice(),
+        b"store: Full 1099511627776\n".as_slice(),
+    );
+    fed(&rt, &mut vol, &PUT, &TWO_PIXELS, &[], full);
+    let entry = b"\xbe\xff\xff\xff\xff\x42\0\0";
+    holds(
+        &rt,
+        &mut vol,
+        VolFile::Bundle,
+        1099511627776,
+        &[(131128, entry)],
+    );
 }
