@@ -193,8 +193,8 @@ fn stuff_wide(values: &[u32], width: u32, out: &mut [u8]) -> usize
     }
 }
 
-/// Does what `stuff_eights` does, and at width 0 nothing. The loop in it is made once for each width,
-/// so that no shift is by a number that is not known before.
+/// Does what `stuff_eights` does, and at width 0 nothing. The loop in it is made once for each
+/// width, so that no shift is by a number that is not known before.
 pub(crate) fn stuff_front(values: &[u32], width: u32, out: &mut [u8]) -> usize
     requires count { length values.now ≤ 2 ^ 24 }
     requires width { width ≤ 31 }
