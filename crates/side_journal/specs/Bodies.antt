@@ -27,8 +27,7 @@ IsBody (Tile slot entry size header) = IsTile slot entry size header
 IsBody Build = Unit {0}
 
 -- what a reading gives, over whatever volume: a body that a journal can say, or a number that
--- fails
--- the test of its place
+-- fails the test of its place
 abbrev pub IsState : JournalState → Type 0
 IsState Closed = Unit {0}
 IsState (Open body) = IsBody body

@@ -3,8 +3,7 @@
 //! memory.
 //!
 //! The contract that the layer above uses: what each step leaves of the journal at every moment of
-//! a
-//! crash. No step touches the bundle.
+//! a crash. No step touches the bundle.
 #![tactic(auto)]
 
 mod body;

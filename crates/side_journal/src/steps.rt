@@ -69,8 +69,7 @@ fn set_gate<V: Volume>(vol: &mut V, gate: u8) -> Result<(), Failed>
 }
 
 /// Opens the gate: from its sync on the journal counts. Failed only where the volume failed; a
-/// crash
-/// then leaves the gate open or closed, before the same body.
+/// crash then leaves the gate open or closed, before the same body.
 pub fn open_gate<V: Volume>(vol: &mut V) -> Result<(), Failed>
     requires whole { IsTrue (V.told vol.old) → length (contents Journal (V.history vol.old)) ≡ 96 }
     requires settled { IsTrue (V.told vol.old) → IsSettled (current (V.history vol.old)).journal }
@@ -87,8 +86,7 @@ pub fn open_gate<V: Volume>(vol: &mut V) -> Result<(), Failed>
 }
 
 /// Closes the gate: from its sync on the journal does not count. Failed only where the volume
-/// failed;
-/// a crash then leaves the gate open or closed, before the same body.
+/// failed; a crash then leaves the gate open or closed, before the same body.
 pub fn close_gate<V: Volume>(vol: &mut V) -> Result<(), Failed>
     requires whole { IsTrue (V.told vol.old) → length (contents Journal (V.history vol.old)) ≡ 96 }
     requires settled { IsTrue (V.told vol.old) → IsSettled (current (V.history vol.old)).journal }
