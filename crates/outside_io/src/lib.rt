@@ -8,8 +8,6 @@
 
 mod laws;
 mod program;
-#[cfg(test)]
-mod same;
 mod streams;
 mod volume;
 

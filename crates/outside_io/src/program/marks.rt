@@ -83,22 +83,3 @@ impl Marks {
         }
     }
 }
-
-#[cfg(test)]
-mod tests {
-    use super::*;
-    use crate::same::same;
-    use std::test::Fail;
-
-    #[test]
-    fn marks_in_their_order(rt: HostRuntime) -> Result<(), Fail> {
-        let mut marks = Marks::new(rt.alloc());
-        same(&rt, "no mark", (marks.len(), marks.is_empty()), (0, true));
-        marks.reserve(2)?;
-        marks.add(40);
-        marks.add(2);
-        same(&rt, "two", (marks.len(), marks.is_empty()), (2, false));
-        same(&rt, "the marks", (marks.at(0), marks.at(1)), (40, 2));
-        Ok(())
-    }
-}

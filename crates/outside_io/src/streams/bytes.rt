@@ -75,23 +75,3 @@ impl Bytes {
         }
     }
 }
-
-#[cfg(test)]
-mod tests {
-    use super::*;
-    use crate::same::same;
-    use std::test::Fail;
-
-    #[test]
-    fn bytes_are_a_copy(rt: HostRuntime) -> Result<(), Fail> {
-        let bytes = Bytes::of(rt.alloc(), b"LGR1")?;
-        let wanted = b"LGR1".as_slice();
-        same(&rt, "copy", bytes.as_slice(), wanted);
-        same(&rt, "length", (bytes.len(), bytes.is_empty()), (4, false));
-        let items = bytes.into_vec();
-        same(&rt, "vector", items.as_slice(), wanted);
-        let again = Bytes::from_vec(items);
-        same(&rt, "bytes of it", again.as_slice(), wanted);
-        Ok(())
-    }
-}

@@ -271,6 +271,3 @@ impl<R: Files + Drop> Volume for FileVolume<R> {
         self.tally.moment()
     }
 }
-
-#[cfg(test)]
-mod tests;

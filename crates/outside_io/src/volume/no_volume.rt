@@ -96,23 +96,3 @@ impl Volume for NoVolume {
         self.tally.moment()
     }
 }
-
-#[cfg(test)]
-mod tests {
-    use super::*;
-    use crate::same::same;
-
-    #[test]
-    fn each_call_fails(rt: HostRuntime) {
-        let (bundle, journal) = (VolFile::Bundle, VolFile::Journal);
-        let mut vol = NoVolume::new();
-        let mut buf = [7; 2];
-        same(&rt, "len", vol.len(bundle), Err(Failed));
-        same(&rt, "read", vol.read(journal, 0, &mut buf), Err(Failed));
-        same(&rt, "write", vol.write(bundle, 0, b"ab"), Err(Failed));
-        same(&rt, "cut", vol.cut(journal, 0), Err(Failed));
-        same(&rt, "sync", vol.sync(bundle), Err(Failed));
-        same(&rt, "moment", vol.moment(), 5);
-        same(&rt, "buffer", buf, [7; 2]);
-    }
-}
