@@ -1,3 +1,10 @@
+pub use Rattle.outside_io.specs.program.Line
+pub use Rattle.outside_io.specs.streams.Faults
+pub use Rattle.outside_io.specs.streams.Sink
+pub use Rattle.outside_io.specs.streams.Source
+pub use Rattle.lerc_header.specs.Written
+pub use Rattle.bundle_store.specs.Tiles.{TileMap}
+pub use Rattle.tile_updates.specs.Updates
 pub mod Answer
 pub mod Arguments
 pub mod Command

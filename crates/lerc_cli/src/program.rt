@@ -9,14 +9,14 @@ ghost use Rattle.lerc_cli.specs.Stop.{line_of};
 
 use crate::arguments::{Arguments, command_words};
 use crate::lines::tell;
-use crate::run::run;
+use crate::running::run;
 use crate::stop::Stop;
 use outside_io::{Sink, Source, Volume};
 use std::alloc::Global;
 use std::process::ExitCode;
 
 /// What the process ends with.
-pub(crate) fn exit_code(status: u8) -> ExitCode
+pub fn exit_code(status: u8) -> ExitCode
     ensures { exit_status result ≡ status }
 {
     ExitCode::from(status)

@@ -3,7 +3,7 @@ use Rattle.std.specs.Prelude.{OnOk}
 use Rattle.lerc_header.specs.declared.header.Version.{Version}
 use Rattle.lerc_cli.specs.Run.{GivesBlob}
 use Rattle.lerc_cli.proofs.Idle.{reading_volume, source_idle, volume_idle}
-use Rattle.lerc_cli.proofs.run.perform.Goals as goal
+use Rattle.lerc_cli.proofs.running.perform.Goals as goal
 
 pub returns-in-Encode-clause-output : goal.returns-in-Encode-clause-output
 returns-in-Encode-clause-output g c = rw (c.in-Encode.is, c.requires) (c.encode.ensures.output _)

@@ -4,9 +4,8 @@
 
 ghost use Rattle.std.specs.Prelude.{◌<◌, None};
 
-use crate::arguments::{Arguments, command_words};
-use crate::run::run;
 use crate::same::same;
+use lerc_cli::{Arguments, command_words, run};
 use outside_io::{Bytes, MemSink, MemSource, NoVolume, Report, Volume, Word};
 use std::alloc::{AllocError, Global};
 use std::env::FillError;

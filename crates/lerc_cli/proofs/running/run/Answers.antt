@@ -7,7 +7,7 @@ use Rattle.lerc_cli.proofs.Ends.{ok_at, output_status, some_status, source_statu
 use Rattle.lerc_cli.proofs.Exact.{complete, cut_short, decoded, exact, refused, wanted}
 use Rattle.lerc_cli.proofs.Informed.{informed, informed_exactly}
 use Rattle.lerc_cli.proofs.Outputs.{nothing_given, on_ok}
-use Rattle.lerc_cli.proofs.run.run.Goals as goal
+use Rattle.lerc_cli.proofs.running.run.Goals as goal
 
 pub returns-clause-usage : goal.returns-clause-usage
 returns-clause-usage g c = (
