@@ -81,4 +81,3 @@ loop-at-preserved c =
           (puts_more kind depth c.args.marks.now c.args.bytes.now old vs c.loop-at.at start end count piece are full
           (c.requires.bytes ∙ ap (λ n. n * bytes_of kind) (sym c.loop-at.invariant.size)) runs (omega arith) cut c.loop-at.invariant.put);
     }
-

@@ -72,4 +72,3 @@ returns c =
     let f : ℕ → ℤ = λ k. get_or c.args.self.now.values (k * c.args.depth + c.args.d) (pos 0) in
     let whole : c.loop-i.i ≡ c.args.count = omega arith in
     subst (λ n. AreEnds c.args.self.now.kind (map f (range_with_len c.args.first n)) c.loop-i.near c.loop-i.far) whole c.loop-i.invariant
-
