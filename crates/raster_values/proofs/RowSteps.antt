@@ -28,6 +28,13 @@ piece_fits f a n all below =
     subst (λ m. length (flat_map f (range_with_len a (n + 1))) ≤ length (flat_map f (range_with_len a m))) e (pieces_rise f a (n + 1) (all - n - 1)) in
     omega (arith, rise, ap length (pieces_more f a n), length-append (flat_map f (range_with_len a n)) (f (a + n)))
 
+-- the pixels of a row of a block stand among all, of which there are few
+pub row_inside : (i end cols col wide places depth d size : ℕ) → i < end → end * cols ≤ places → col + wide ≤ cols → d < depth → size ≡ places * depth → size ≤ 16777216 → (i * cols + col + wide ≤ places) × (places ≤ 16777216)
+row_inside i end cols col wide places depth d size below within across deep is few =
+    let up : suc i * cols ≤ end * cols = mul-le-mul_right cols (omega arith) in
+    let one : places * 1 ≤ places * depth = mul-le-mul_left places (omega arith) in
+    (omega (arith, up), omega (arith, one))
+
 pub area_inside : (h row high wide cols size : ℕ) → h < high → wide ≤ cols → (row + high) * cols ≤ size → h * wide + wide ≤ size
 area_inside h row high wide cols size below across within =
     let first : suc h * wide ≤ suc h * cols = mul-le-mul_left (suc h) across in

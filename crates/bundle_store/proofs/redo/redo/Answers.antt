@@ -1,5 +1,7 @@
-use Rattle.std.proofs.Common.{◌≡◌, refl, ap, ◌∙◌}
-use Rattle.outside_io.specs.volume.Disk.{Disk}
+use Rattle.std.proofs.Common.{◌≡◌, refl, ap, ◌∙◌, subst, ◌∷◌, drop}
+use Rattle.outside_io.specs.volume.Disk.{Disk, change, settled}
+use Rattle.std.specs.Prelude.{OnOk}
+use Rattle.outside_io.specs.declared.volume.VolFile.TheVariants.{Journal}
 use Rattle.outside_io.specs.volume.History.{current}
 use Rattle.outside_io.proofs.VolumeLemmas.Moments.{during_join, during_map}
 use Rattle.bundle_store.specs.Appended.{with_entry}
@@ -31,3 +33,7 @@ returns-clause-images g c = λ told.
     let journal = ap (λ (x : Disk). x.journal.now) done in
     let closing = during_map _ Pass _ _ (λ d keeps way. in_closing b j c.args.slot c.args.entry c.args.header.now (current (g.V.Volume.history c.write_over.new.vol)) d (said_header j c.args.slot c.args.entry way.size c.args.header.now way.says) way.says.slot_below (c.requires.long told) way bundle journal keeps) (c.close_gate.ensures.during told_1) in
     during_join Pass _ _ _ writing closing
+
+pub returns-clause-done : goal.returns-clause-done
+returns-clause-done g c = λ told.
+    subst (λ (d : Disk). OnOk c.close_gate.result (current (g.V.Volume.history c.close_gate.new.vol) ≡ change Journal (λ f. settled (0 ∷ drop 1 f.now)) d)) (c.in_ok-write_over.ensures.done told) (c.close_gate.ensures.done (c.write_over.ensures.told ∙ told))

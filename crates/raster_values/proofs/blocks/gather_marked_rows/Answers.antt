@@ -1,11 +1,26 @@
-use Rattle.std.proofs.Common.{◌≡◌, ◌≤◌, ◌+◌, ◌-◌, ◌*◌, ℕ, map, arith, subst}
+use Rattle.std.proofs.Common.{◌≡◌, ◌≤◌, ◌+◌, ◌-◌, ◌*◌, ℕ, length, map, arith, subst}
 use Rattle.std.specs.Prelude.{ℤ}
 use Rattle.std.proofs.lemmas.List.{length-map}
 use Rattle.raster_values.specs.Distance.{distance_of}
 use Rattle.raster_values.specs.inside.Runs.{run_values, rows_values, Gathers}
 use Rattle.raster_values.proofs.RunSteps.{length_places, length_values}
-use Rattle.raster_values.proofs.RowSteps.{gather_more}
+use Rattle.raster_values.proofs.RowSteps.{row_inside, gather_more}
 use Rattle.raster_values.proofs.blocks.gather_marked_rows.Goals as goal
+
+pub overflow_mul-from : goal.overflow_mul-from
+overflow_mul-from c =
+    let h = row_inside c.loop-i.i (c.args.row + c.args.high) c.args.cols c.args.col c.args.wide (length c.args.marks.now) c.args.depth c.args.d (length c.args.values.now.values) (omega arith) c.requires.within c.requires.across c.requires.depth c.requires.size c.requires.few in
+    omega arith
+
+pub overflow_add-from : goal.overflow_add-from
+overflow_add-from c =
+    let h = row_inside c.loop-i.i (c.args.row + c.args.high) c.args.cols c.args.col c.args.wide (length c.args.marks.now) c.args.depth c.args.d (length c.args.values.now.values) (omega arith) c.requires.within c.requires.across c.requires.depth c.requires.size c.requires.few in
+    omega arith
+
+pub gather_run-n-requires-clause-within : goal.gather_run-n-requires-clause-within
+gather_run-n-requires-clause-within c =
+    let h = row_inside c.loop-i.i (c.args.row + c.args.high) c.args.cols c.args.col c.args.wide (length c.args.marks.now) c.args.depth c.args.d (length c.args.values.now.values) (omega arith) c.requires.within c.requires.across c.requires.depth c.requires.size c.requires.few in
+    omega arith
 
 pub loop-i-preserved : goal.loop-i-preserved
 loop-i-preserved c =

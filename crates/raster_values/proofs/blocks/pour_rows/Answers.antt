@@ -2,8 +2,23 @@ use Rattle.std.proofs.Common.{◌≡◌, ◌+◌, ◌-◌, ◌*◌, ◌++◌, Li
 use Rattle.std.specs.Prelude.{All}
 use Rattle.raster_values.specs.PixelType.{InRange}
 use Rattle.raster_values.specs.inside.Runs.{run_places, run_values, rows_places, rows_values, LeavesRun, LeavesRows}
-use Rattle.raster_values.proofs.RowSteps.{all_marked, row_full, piece_fits, count_more, pour_more, leaves_more}
+use Rattle.raster_values.proofs.RowSteps.{row_inside, all_marked, row_full, piece_fits, count_more, pour_more, leaves_more}
 use Rattle.raster_values.proofs.blocks.pour_rows.Goals as goal
+
+pub overflow_mul-i : goal.overflow_mul-i
+overflow_mul-i c =
+    let h = row_inside c.loop-i.i (c.args.row + c.args.high) c.args.cols c.args.col c.args.wide (length c.args.marks.now) c.args.depth c.args.d (length c.args.values.now.values) (omega arith) c.requires.within c.requires.across c.requires.depth c.requires.size c.requires.few in
+    omega arith
+
+pub overflow_add-i : goal.overflow_add-i
+overflow_add-i c =
+    let h = row_inside c.loop-i.i (c.args.row + c.args.high) c.args.cols c.args.col c.args.wide (length c.args.marks.now) c.args.depth c.args.d (length c.args.values.now.values) (omega arith) c.requires.within c.requires.across c.requires.depth c.requires.size c.requires.few in
+    omega arith
+
+pub pour_run-n-requires-clause-within : goal.pour_run-n-requires-clause-within
+pour_run-n-requires-clause-within c =
+    let h = row_inside c.loop-i.i (c.args.row + c.args.high) c.args.cols c.args.col c.args.wide (length c.args.marks.now) c.args.depth c.args.d (length c.args.values.now.values) (omega arith) c.requires.within c.requires.across c.requires.depth c.requires.size c.requires.few in
+    omega arith
 
 pub pour_run-n-requires-clause-room : goal.pour_run-n-requires-clause-room
 pour_run-n-requires-clause-room c =

@@ -10,6 +10,38 @@ use Rattle.raster_values.proofs.order.pour_bytes.Goals as goal
 pub loop-at-init : goal.loop-at-init
 loop-at-init c = record { kind = refl; pours = pours_none c.args.values.now.kind c.args.depth c.args.marks.now c.args.bytes.now c.args.values.now.values c.requires.count }
 
+pub overflow_mul-count : goal.overflow_mul-count
+overflow_mul-count c =
+    let h = run_within c.args.depth _ _ _ (length c.args.values.now.values) c.args.marks.now c.next_run-run.ensures.runs c.requires.size in
+    omega arith
+
+pub overflow_mul-run : goal.overflow_mul-run
+overflow_mul-run c =
+    let h = run_within c.args.depth _ _ _ (length c.args.values.now.values) c.args.marks.now c.next_run-run.ensures.runs c.requires.size in
+    omega arith
+
+pub overflow_mul-next : goal.overflow_mul-next
+overflow_mul-next c =
+    let start = c.next_run-run.result.start in
+    let end = c.next_run-run.result.end in
+    let runs : AreRuns c.args.marks.now c.loop-at.at start end = c.next_run-run.ensures.runs in
+    let kind = c.args.values.now.kind in
+    let count = (end - start) * c.args.depth in
+    let same : count * c.bytes-size.result ≡ count * bytes_of kind = ap (λ n. count * n) (c.bytes-size.ensures ∙ ap bytes_of c.kind.ensures) in
+    let fits : c.loop-at.from + count * bytes_of kind ≤ length c.args.bytes.now = pours_within kind c.args.depth c.args.marks.now c.args.bytes.now c.args.values.now.values c.loop-at.values.values c.loop-at.at c.loop-at.from start end c.requires.size runs c.loop-at.invariant.pours in
+    omega arith
+
+pub overflow_add-next : goal.overflow_add-next
+overflow_add-next c =
+    let start = c.next_run-run.result.start in
+    let end = c.next_run-run.result.end in
+    let runs : AreRuns c.args.marks.now c.loop-at.at start end = c.next_run-run.ensures.runs in
+    let kind = c.args.values.now.kind in
+    let count = (end - start) * c.args.depth in
+    let same : count * c.bytes-size.result ≡ count * bytes_of kind = ap (λ n. count * n) (c.bytes-size.ensures ∙ ap bytes_of c.kind.ensures) in
+    let fits : c.loop-at.from + count * bytes_of kind ≤ length c.args.bytes.now = pours_within kind c.args.depth c.args.marks.now c.args.bytes.now c.args.values.now.values c.loop-at.values.values c.loop-at.at c.loop-at.from start end c.requires.size runs c.loop-at.invariant.pours in
+    omega arith
+
 pub put_bytes-requires-clause-within : goal.put_bytes-requires-clause-within
 put_bytes-requires-clause-within c =
     let start = c.next_run-run.result.start in

@@ -1,4 +1,4 @@
-use Rattle.std.proofs.Common.{◌≡◌, ◌≤◌, ◌+◌, ◌-◌, ◌*◌, ap, ◌∙◌, sym, subst, length, take, drop, arith}
+use Rattle.std.proofs.Common.{◌≡◌, ◌≤◌, ◌+◌, ◌-◌, ◌*◌, ap, ◌∙◌, sym, subst, length, take, drop, arith, rules}
 use Rattle.std.specs.Prelude.{All}
 use Rattle.std.proofs.Math.Nat.{mul-le-mul_right}
 use Rattle.raster_values.specs.declared.kind.PixelType.{PixelType}
@@ -10,7 +10,43 @@ use Rattle.raster_values.proofs.Spelled.{AreBytes, bytes_put, length-bytes_put, 
 use Rattle.raster_values.proofs.Pack.{apart}
 use Rattle.raster_values.proofs.Poured.{piece_are}
 use Rattle.raster_values.proofs.AllCells.{puts_more}
+use Rattle.raster_values.proofs.OrderSteps.{run_cut}
 use Rattle.raster_values.proofs.order.put_cells.Goals as goal
+
+pub overflow_mul-from : goal.overflow_mul-from
+overflow_mul-from c =
+    let h = run_cut c.args.values.now.kind c.args.depth c.next_run-run.ensures.runs c.requires.size c.requires.few (c.bytes-size.ensures ∙ ap bytes_of c.kind.ensures) c.requires.bytes in
+    omega arith
+
+pub overflow_mul-end : goal.overflow_mul-end
+overflow_mul-end c =
+    let h = run_cut c.args.values.now.kind c.args.depth c.next_run-run.ensures.runs c.requires.size c.requires.few (c.bytes-size.ensures ∙ ap bytes_of c.kind.ensures) c.requires.bytes in
+    omega arith
+
+pub overflow_sub-end : goal.overflow_sub-end
+overflow_sub-end c =
+    let h = run_cut c.args.values.now.kind c.args.depth c.next_run-run.ensures.runs c.requires.size c.requires.few (c.bytes-size.ensures ∙ ap bytes_of c.kind.ensures) c.requires.bytes in
+    omega arith
+
+pub overflow_mul-from-in-loop-at : goal.overflow_mul-from-in-loop-at
+overflow_mul-from-in-loop-at c =
+    let h = run_cut c.args.values.now.kind c.args.depth c.next_run-run.ensures.runs c.requires.size c.requires.few (c.bytes-size.ensures ∙ ap bytes_of c.kind.ensures) c.requires.bytes in
+    omega arith
+
+pub overflow_mul-end-in-loop-at : goal.overflow_mul-end-in-loop-at
+overflow_mul-end-in-loop-at c =
+    let h = run_cut c.args.values.now.kind c.args.depth c.next_run-run.ensures.runs c.requires.size c.requires.few (c.bytes-size.ensures ∙ ap bytes_of c.kind.ensures) c.requires.bytes in
+    omega arith
+
+pub slice_bounds-put_bytes-end : goal.slice_bounds-put_bytes-end
+slice_bounds-put_bytes-end c =
+    let h = run_cut c.args.values.now.kind c.args.depth c.next_run-run.ensures.runs c.requires.size c.requires.few (c.bytes-size.ensures ∙ ap bytes_of c.kind.ensures) c.requires.bytes in
+    search rules
+
+pub put_bytes-requires-clause-within : goal.put_bytes-requires-clause-within
+put_bytes-requires-clause-within c =
+    let h = run_cut c.args.values.now.kind c.args.depth c.next_run-run.ensures.runs c.requires.size c.requires.few (c.bytes-size.ensures ∙ ap bytes_of c.kind.ensures) c.requires.bytes in
+    omega (arith, c.loop-at.invariant.size)
 
 pub loop-at-preserved : goal.loop-at-preserved
 loop-at-preserved c =

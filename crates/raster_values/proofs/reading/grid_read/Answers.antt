@@ -30,6 +30,16 @@ returns-in_err-take_marks-clause-fault g c =
 pub returns-in_err-take_marks-clause-some : goal.returns-in_err-take_marks-clause-some
 returns-in_err-take_marks-clause-some g c = on_err c.from_residual-in_err-take_marks.result (took_more _ _ _ c.in_ok-head.ensures.ok.0 c.in_ok-head.ensures.ok.1.1 c.in_err-take_marks.ensures.some)
 
+pub overflow_mul-behind : goal.overflow_mul-behind
+overflow_mul-behind g c =
+    let few : c.in_ok-head.head.rows * c.in_ok-head.head.cols ≤ 16777216 = area_few c.in_ok-head.head c.in_ok-head.ensures.ok.0 c.in_ok-head.ensures.ok.1.0 in
+    omega (arith, few, c.requires)
+
+pub overflow_add-behind-2 : goal.overflow_add-behind-2
+overflow_add-behind-2 g c =
+    let few : c.in_ok-head.head.rows * c.in_ok-head.head.cols ≤ 16777216 = area_few c.in_ok-head.head c.in_ok-head.ensures.ok.0 c.in_ok-head.ensures.ok.1.0 in
+    omega (arith, few, c.requires)
+
 pub take_values-requires : goal.take_values-requires
 take_values-requires g c =
     let few : c.in_ok-head.head.rows * c.in_ok-head.head.cols ≤ 16777216 = area_few c.in_ok-head.head c.in_ok-head.ensures.ok.0 c.in_ok-head.ensures.ok.1.0 in

@@ -9,6 +9,16 @@ use Rattle.raster_values.proofs.CellBytes.{with_run, length-with_run, with_run_i
 use Rattle.raster_values.proofs.Repeats.{repeated, length-repeated, repeated_in_range, fills_one, fills_copied}
 use Rattle.raster_values.proofs.cells.Cells.fill_pixels.Goals as goal
 
+pub overflow_mul-at : goal.overflow_mul-at
+overflow_mul-at c =
+    let h = pixel_fits c.args.first (length c.args.pixel.now) (c.args.first + c.args.count) (omega arith) in
+    omega (arith, c.requires.within)
+
+pub put_run-requires-clause-within : goal.put_run-requires-clause-within
+put_run-requires-clause-within c =
+    let h = pixel_fits c.args.first (length c.args.pixel.now) (c.args.first + c.args.count) (omega arith) in
+    omega (arith, c.requires.within)
+
 pub loop-done-init : goal.loop-done-init
 loop-done-init c =
     let pixel = c.args.pixel.now in
@@ -33,6 +43,34 @@ behind first n more count deep size few less within =
     let up : more * deep ≤ n * deep = mul-le-mul_right deep few in
     let all : (first + (n + more)) * deep ≤ (first + count) * deep = mul-le-mul_right deep (omega arith) in
     (omega arith, omega arith)
+
+pub overflow_mul-done : goal.overflow_mul-done
+overflow_mul-done c =
+    let some : c.min-more.result ≤ c.loop-done.done = omega (arith, c.min.ensures, c.min-more.ensures) in
+    let less : c.loop-done.done + c.min-more.result ≤ c.args.count = omega (arith, c.min.ensures, c.min-more.ensures, c.loop-done.invariant.within) in
+    let room = behind c.args.first c.loop-done.done c.min-more.result c.args.count (length c.args.pixel.now) (length c.args.self.now.values) some less c.requires.within in
+    omega (arith, room.0, room.1, c.requires.few)
+
+pub overflow_add-at : goal.overflow_add-at
+overflow_add-at c =
+    let some : c.min-more.result ≤ c.loop-done.done = omega (arith, c.min.ensures, c.min-more.ensures) in
+    let less : c.loop-done.done + c.min-more.result ≤ c.args.count = omega (arith, c.min.ensures, c.min-more.ensures, c.loop-done.invariant.within) in
+    let room = behind c.args.first c.loop-done.done c.min-more.result c.args.count (length c.args.pixel.now) (length c.args.self.now.values) some less c.requires.within in
+    omega (arith, room.0, room.1, c.requires.few)
+
+pub overflow_mul-more : goal.overflow_mul-more
+overflow_mul-more c =
+    let some : c.min-more.result ≤ c.loop-done.done = omega (arith, c.min.ensures, c.min-more.ensures) in
+    let less : c.loop-done.done + c.min-more.result ≤ c.args.count = omega (arith, c.min.ensures, c.min-more.ensures, c.loop-done.invariant.within) in
+    let room = behind c.args.first c.loop-done.done c.min-more.result c.args.count (length c.args.pixel.now) (length c.args.self.now.values) some less c.requires.within in
+    omega (arith, room.0, room.1, c.requires.few)
+
+pub repeat_run-requires-clause-behind : goal.repeat_run-requires-clause-behind
+repeat_run-requires-clause-behind c =
+    let some : c.min-more.result ≤ c.loop-done.done = omega (arith, c.min.ensures, c.min-more.ensures) in
+    let less : c.loop-done.done + c.min-more.result ≤ c.args.count = omega (arith, c.min.ensures, c.min-more.ensures, c.loop-done.invariant.within) in
+    let room = behind c.args.first c.loop-done.done c.min-more.result c.args.count (length c.args.pixel.now) (length c.args.self.now.values) some less c.requires.within in
+    omega (arith, room.0, room.1, c.requires.few)
 
 pub repeat_run-requires-clause-within : goal.repeat_run-requires-clause-within
 repeat_run-requires-clause-within c =

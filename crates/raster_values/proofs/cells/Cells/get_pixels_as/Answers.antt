@@ -2,7 +2,23 @@ use Rattle.std.proofs.Common.{◌<◌, ◌+◌, ◌*◌, ◌∙◌, ℕ, sym, re
 use Rattle.std.specs.Prelude.{ℤ, pos}
 use Rattle.std.proofs.lemmas.List.{ext_get_or}
 use Rattle.std.proofs.lemmas.List.FromFn.{get_or-map-range_with_len, length-map-range_with_len}
+use Rattle.raster_values.proofs.PixelSteps.{pixel_room}
 use Rattle.raster_values.proofs.cells.Cells.get_pixels_as.Goals as goal
+
+pub overflow_mul-first : goal.overflow_mul-first
+overflow_mul-first c =
+    let room = pixel_room c.args.first c.loop-i.i (length c.args.out.now) c.args.depth c.args.d (length c.args.self.now.values) (omega arith) c.requires.depth c.requires.within in
+    omega arith
+
+pub overflow_add-first-in-loop-i : goal.overflow_add-first-in-loop-i
+overflow_add-first-in-loop-i c =
+    let room = pixel_room c.args.first c.loop-i.i (length c.args.out.now) c.args.depth c.args.d (length c.args.self.now.values) (omega arith) c.requires.depth c.requires.within in
+    omega arith
+
+pub get_as-requires-clause-within : goal.get_as-requires-clause-within
+get_as-requires-clause-within c =
+    let room = pixel_room c.args.first c.loop-i.i (length c.args.out.now) c.args.depth c.args.d (length c.args.self.now.values) (omega arith) c.requires.depth c.requires.within in
+    omega arith
 
 pub returns : goal.returns
 returns c =

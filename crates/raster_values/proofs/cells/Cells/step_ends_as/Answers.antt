@@ -4,8 +4,50 @@ use Rattle.std.specs.List.{range_with_len}
 use Rattle.raster_values.specs.Distance.{distance_of}
 use Rattle.raster_values.specs.inside.Runs.{AreEnds}
 use Rattle.raster_values.proofs.PixelSteps.{pixel_room}
-use Rattle.raster_values.proofs.CellDistances.{place_below, distance_there, value_fits, ends_of_one, ends_pushed}
+use Rattle.raster_values.proofs.CellDistances.{place_below, bytes_within, distance_there, value_fits, ends_of_one, ends_pushed}
 use Rattle.raster_values.proofs.cells.Cells.step_ends_as.Goals as goal
+
+pub overflow_mul-first : goal.overflow_mul-first
+overflow_mul-first c =
+    let below : c.args.first * c.args.depth + c.args.d < length c.args.self.now.values = place_below c.args.first c.args.count c.args.depth c.args.d (length c.args.self.now.values) c.requires.some c.requires.depth c.requires.within in
+    omega arith
+
+pub overflow_add-first : goal.overflow_add-first
+overflow_add-first c =
+    let below : c.args.first * c.args.depth + c.args.d < length c.args.self.now.values = place_below c.args.first c.args.count c.args.depth c.args.d (length c.args.self.now.values) c.requires.some c.requires.depth c.requires.within in
+    omega arith
+
+pub distance_at-begin-requires-clause-few : goal.distance_at-begin-requires-clause-few
+distance_at-begin-requires-clause-few c =
+    let below : c.args.first * c.args.depth + c.args.d < length c.args.self.now.values = place_below c.args.first c.args.count c.args.depth c.args.d (length c.args.self.now.values) c.requires.some c.requires.depth c.requires.within in
+    omega arith
+
+pub overflow_mul-first-in-loop-i : goal.overflow_mul-first-in-loop-i
+overflow_mul-first-in-loop-i c =
+    let room = pixel_room c.args.first c.loop-i.i c.args.count c.args.depth c.args.d (length c.args.self.now.values) (omega arith) c.requires.depth c.requires.within in
+    omega arith
+
+pub overflow_add-first-in-loop-i-2 : goal.overflow_add-first-in-loop-i-2
+overflow_add-first-in-loop-i-2 c =
+    let room = pixel_room c.args.first c.loop-i.i c.args.count c.args.depth c.args.d (length c.args.self.now.values) (omega arith) c.requires.depth c.requires.within in
+    omega arith
+
+pub distance_at-here-requires-clause-few : goal.distance_at-here-requires-clause-few
+distance_at-here-requires-clause-few c =
+    let room = pixel_room c.args.first c.loop-i.i c.args.count c.args.depth c.args.d (length c.args.self.now.values) (omega arith) c.requires.depth c.requires.within in
+    omega arith
+
+pub distance_at-begin-requires-clause-within : goal.distance_at-begin-requires-clause-within
+distance_at-begin-requires-clause-within c =
+    let at = c.args.first * c.args.depth + c.args.d in
+    let below : at < length c.args.self.now.values = place_below c.args.first c.args.count c.args.depth c.args.d (length c.args.self.now.values) c.requires.some c.requires.depth c.requires.within in
+    bytes_within c.self.inside c.args.self.now c.args.kind at c.as_slice-bytes.result.now c.self.invariant c.self.view_is c.requires.kind c.as_slice-bytes.ensures.value below
+
+pub distance_at-here-requires-clause-within : goal.distance_at-here-requires-clause-within
+distance_at-here-requires-clause-within c =
+    let at = (c.args.first + c.loop-i.i) * c.args.depth + c.args.d in
+    let room = pixel_room c.args.first c.loop-i.i c.args.count c.args.depth c.args.d (length c.args.self.now.values) (omega arith) c.requires.depth c.requires.within in
+    bytes_within c.self.inside c.args.self.now c.args.kind at c.as_slice-bytes.result.now c.self.invariant c.self.view_is c.requires.kind c.as_slice-bytes.ensures.value room.0
 
 pub loop-i-init : goal.loop-i-init
 loop-i-init c =
