@@ -9,7 +9,6 @@ use crate::decoding::{decodes, has_fault};
 use lerc_header::{BlobReason, checksum};
 use std::alloc::Global;
 use std::process::Abort;
-use std::test::Fail;
 
 /// Puts the checksum right.
 fn sum(rt: &impl Abort, blob: &mut [u8]) {
@@ -25,21 +24,35 @@ fn change(rt: &impl Abort, blob: &mut [u8], at: usize, bytes: &[u8]) {
     sum(rt, blob);
 }
 
-#[test]
-fn blobs_of_blocks_are_their_rasters(rt: HostRuntime) -> Result<(), Fail> {
-    decodes(&rt, rt.alloc(), &STEPS, &FOUR)?;
-    decodes(&rt, rt.alloc(), &STEPS_DEEP, &FOUR_DEEP)?;
-    decodes(&rt, rt.alloc(), &THREE_BLOCKS, &SEVENTEEN)?;
-    decodes(&rt, rt.alloc(), &MANY_BLOCKS, &WIDE)
-}
+/// Blobs of blocks, and their grids.
+const OF_BLOCKS: &[(&[u8], &[u8])] = &[
+    (&STEPS, &FOUR),
+    (&STEPS_DEEP, &FOUR_DEEP),
+    (&THREE_BLOCKS, &SEVENTEEN),
+    (&MANY_BLOCKS, &WIDE),
+];
 
 #[test]
-fn blobs_of_codes_are_their_rasters(rt: HostRuntime) -> Result<(), Fail> {
-    decodes(&rt, rt.alloc(), &DIFFERENCES, &ONES)?;
-    decodes(&rt, rt.alloc(), &DIFFERENCES_OF_I8, &SIGNED)?;
-    decodes(&rt, rt.alloc(), &PLAIN_OF_I8, &SIGNED)?;
-    decodes(&rt, rt.alloc(), &DIFFERENCES_DEEP, &PAIRS)?;
-    decodes(&rt, rt.alloc(), &PLAIN_DEEP, &PAIRS)
+fn blobs_of_blocks_are_their_rasters(rt: HostRuntime) {
+    for (blob, grid) in OF_BLOCKS {
+        decodes(&rt, rt.alloc(), blob, grid);
+    }
+}
+
+/// Blobs of codes, and their grids.
+const OF_CODES: &[(&[u8], &[u8])] = &[
+    (&DIFFERENCES, &ONES),
+    (&DIFFERENCES_OF_I8, &SIGNED),
+    (&PLAIN_OF_I8, &SIGNED),
+    (&DIFFERENCES_DEEP, &PAIRS),
+    (&PLAIN_DEEP, &PAIRS),
+];
+
+#[test]
+fn blobs_of_codes_are_their_rasters(rt: HostRuntime) {
+    for (blob, grid) in OF_CODES {
+        decodes(&rt, rt.alloc(), blob, grid);
+    }
 }
 
 /// `STEPS` with these bytes written over it at a place has this fault.
@@ -56,21 +69,27 @@ fn is_wrong_block(
     has_fault(rt, alloc, &blob, reason, place);
 }
 
+/// A place, the bytes that are written there, and the reason and the place of the fault.
+const WRONG_BLOCKS: &[(usize, &[u8], BlobReason, u64)] = &[
+    (62, &[1], BlobReason::BadMaskLength, 62),
+    (62, &[255; 4], BlobReason::BadMaskLength, 62),
+    (66, &[2], BlobReason::BadSweep, 66),
+    (26, &[33], BlobReason::BadBlockSize, 67),
+    (67, &[0x85], BlobReason::BadBlockTag, 67),
+    (67, &[0xc1], BlobReason::BadOffsetCode, 67),
+    (69, &[0xc2], BlobReason::BadListHead, 69),
+    (70, &[5], BlobReason::BadListCount, 70),
+    (69, &[0xa0], BlobReason::BadTable, 69),
+    (69, &[0xa2, 4, 1], BlobReason::BadTable, 71),
+    (69, &[0xa2], BlobReason::PastEnd, 72),
+    (69, &[0x9f], BlobReason::PastEnd, 71),
+];
+
 #[test]
 fn what_is_wrong_with_blocks_is_told(rt: HostRuntime) {
-    is_wrong_block(&rt, rt.alloc(), 62, &[1], BlobReason::BadMaskLength, 62);
-    let far = [255; 4];
-    is_wrong_block(&rt, rt.alloc(), 62, &far, BlobReason::BadMaskLength, 62);
-    is_wrong_block(&rt, rt.alloc(), 66, &[2], BlobReason::BadSweep, 66);
-    is_wrong_block(&rt, rt.alloc(), 26, &[33], BlobReason::BadBlockSize, 67);
-    is_wrong_block(&rt, rt.alloc(), 67, &[0x85], BlobReason::BadBlockTag, 67);
-    is_wrong_block(&rt, rt.alloc(), 67, &[0xc1], BlobReason::BadOffsetCode, 67);
-    is_wrong_block(&rt, rt.alloc(), 69, &[0xc2], BlobReason::BadListHead, 69);
-    is_wrong_block(&rt, rt.alloc(), 70, &[5], BlobReason::BadListCount, 70);
-    is_wrong_block(&rt, rt.alloc(), 69, &[0xa0], BlobReason::BadTable, 69);
-    is_wrong_block(&rt, rt.alloc(), 69, &[0xa2, 4, 1], BlobReason::BadTable, 71);
-    is_wrong_block(&rt, rt.alloc(), 69, &[0xa2], BlobReason::PastEnd, 72);
-    is_wrong_block(&rt, rt.alloc(), 69, &[0x9f], BlobReason::PastEnd, 71);
+    for (at, bytes, reason, place) in WRONG_BLOCKS {
+        is_wrong_block(&rt, rt.alloc(), *at, bytes, *reason, *place);
+    }
 }
 
 /// `DIFFERENCES` with these bytes written over it at a place has this fault.
@@ -87,22 +106,22 @@ fn is_wrong_code(
     has_fault(rt, alloc, &blob, reason, place);
 }
 
+/// A place, the bytes that are written there, and the reason and the place of the fault.
+const WRONG_CODES: &[(usize, &[u8], BlobReason, u64)] = &[
+    (67, &[3], BlobReason::BadMode, 67),
+    (67, &[2], BlobReason::BadMode, 67),
+    (68, &[1], BlobReason::BadCodeTable, 68),
+    (72, &[255, 0], BlobReason::BadCodeTable, 72),
+    (86, &[0], BlobReason::BadCodeTable, 84),
+    (86, &[0x0a], BlobReason::NoCode, 91),
+    (87, &[0, 0, 0, 0x80], BlobReason::BadCodeTable, 87),
+];
+
 #[test]
 fn what_is_wrong_with_codes_is_told(rt: HostRuntime) {
-    is_wrong_code(&rt, rt.alloc(), 67, &[3], BlobReason::BadMode, 67);
-    is_wrong_code(&rt, rt.alloc(), 67, &[2], BlobReason::BadMode, 67);
-    is_wrong_code(&rt, rt.alloc(), 68, &[1], BlobReason::BadCodeTable, 68);
-    is_wrong_code(&rt, rt.alloc(), 72, &[255, 0], BlobReason::BadCodeTable, 72);
-    is_wrong_code(&rt, rt.alloc(), 86, &[0], BlobReason::BadCodeTable, 84);
-    is_wrong_code(&rt, rt.alloc(), 86, &[0x0a], BlobReason::NoCode, 91);
-    is_wrong_code(
-        &rt,
-        rt.alloc(),
-        87,
-        &[0, 0, 0, 0x80],
-        BlobReason::BadCodeTable,
-        87,
-    );
+    for (at, bytes, reason, place) in WRONG_CODES {
+        is_wrong_code(&rt, rt.alloc(), *at, bytes, *reason, *place);
+    }
 }
 
 /// The first 66 bytes of a blob with this size, these bytes behind them and the checksum put right
@@ -115,57 +134,36 @@ fn is_wrong_image(
     image: &[u8],
     reason: BlobReason,
     place: u64,
-) -> Result<(), Fail> {
+) {
     assert!(rt; blob.len() >= 66);
-    let mut bytes = [&blob[..66], image].concat(alloc)?;
+    let front = &blob[..66];
+    let mut bytes = [front, image].concat(alloc).expect(rt, "memory");
     change(rt, &mut bytes, 30, &[size]);
     has_fault(rt, alloc, &bytes, reason, place);
-    Ok(())
 }
 
 #[test]
-fn a_place_is_told_behind_a_longer_image(rt: HostRuntime) -> Result<(), Fail> {
+fn a_place_is_told_behind_a_longer_image(rt: HostRuntime) {
     let index = [0, 0x81, 10, 0xa3, 4, 3, 0x11, 3];
-    is_wrong_image(
-        &rt,
-        rt.alloc(),
-        &STEPS,
-        74,
-        &index,
-        BlobReason::BadIndex,
-        73,
-    )?;
+    let reason = BlobReason::BadIndex;
+    is_wrong_image(&rt, rt.alloc(), &STEPS, 74, &index, reason, 73);
     let longer = [0, 0x81, 10, 0x82, 4, 0x94, 0];
-    is_wrong_image(
-        &rt,
-        rt.alloc(),
-        &STEPS,
-        73,
-        &longer,
-        BlobReason::Leftover,
-        72,
-    )
+    let reason = BlobReason::Leftover;
+    is_wrong_image(&rt, rt.alloc(), &STEPS, 73, &longer, reason, 72);
 }
 
 #[test]
-fn the_further_word_is_wanted(rt: HostRuntime) -> Result<(), Fail> {
+fn the_further_word_is_wanted(rt: HostRuntime) {
     let image = &DIFFERENCES[66..95];
-    is_wrong_image(
-        &rt,
-        rt.alloc(),
-        &DIFFERENCES,
-        95,
-        image,
-        BlobReason::PastEnd,
-        95,
-    )
+    let reason = BlobReason::PastEnd;
+    is_wrong_image(&rt, rt.alloc(), &DIFFERENCES, 95, image, reason, 95);
 }
 
 #[test]
-fn the_further_word_may_be_any(rt: HostRuntime) -> Result<(), Fail> {
+fn the_further_word_may_be_any(rt: HostRuntime) {
     let mut blob = DIFFERENCES;
     change(&rt, &mut blob, 95, &[1, 2, 3, 4]);
-    decodes(&rt, rt.alloc(), &blob, &ONES)
+    decodes(&rt, rt.alloc(), &blob, &ONES);
 }
 
 #[test]

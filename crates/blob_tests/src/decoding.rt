@@ -15,7 +15,6 @@ use outside_io::{MemSource, Source};
 use raster_values::Raster;
 use std::alloc::Global;
 use std::process::Abort;
-use std::test::Fail;
 
 /// The lengths of pieces in which each blob is fed.
 const PIECES: [usize; 3] = [1, 7, 1000];
@@ -32,18 +31,12 @@ fn fed_in(alloc: Global, bytes: &[u8], piece: usize) -> Result<Raster, DecodeFau
 }
 
 /// The blob has this grid, in pieces of any length.
-pub(crate) fn decodes(
-    rt: &impl Abort,
-    alloc: Global,
-    blob: &[u8],
-    grid: &[u8],
-) -> Result<(), Fail> {
+pub(crate) fn decodes(rt: &impl Abort, alloc: Global, blob: &[u8], grid: &[u8]) {
     for piece in PIECES {
         assert!(rt; piece > 0);
-        let raster = fed_in(alloc, blob, piece)?;
-        has_grid(rt, alloc, piece, &raster, grid)?;
+        let raster = fed_in(alloc, blob, piece).expect(rt, "a raster");
+        has_grid(rt, alloc, piece, &raster, grid);
     }
-    Ok(())
 }
 
 /// The bytes have this fault, in pieces of any length.
@@ -61,16 +54,23 @@ pub(crate) fn has_fault(
     }
 }
 
+/// Blobs and their grids.
+const BLOBS: &[(&[u8], &[u8])] = &[
+    (&BLOB, &GRID),
+    (&NONE_VALID, &NO_PIXEL),
+    (&NONE_VALID_ODD, &NO_PIXEL),
+    (&RUNS, &EIGHT),
+    (&RUNS_SPARE, &EIGHT),
+    (&RANGES, &TWO_PAIRS),
+    (&SWEEP, &TWO_ENDS),
+    (&MINUS_ZERO, &ZERO),
+];
+
 #[test]
-fn blobs_are_their_rasters(rt: HostRuntime) -> Result<(), Fail> {
-    decodes(&rt, rt.alloc(), &BLOB, &GRID)?;
-    decodes(&rt, rt.alloc(), &NONE_VALID, &NO_PIXEL)?;
-    decodes(&rt, rt.alloc(), &NONE_VALID_ODD, &NO_PIXEL)?;
-    decodes(&rt, rt.alloc(), &RUNS, &EIGHT)?;
-    decodes(&rt, rt.alloc(), &RUNS_SPARE, &EIGHT)?;
-    decodes(&rt, rt.alloc(), &RANGES, &TWO_PAIRS)?;
-    decodes(&rt, rt.alloc(), &SWEEP, &TWO_ENDS)?;
-    decodes(&rt, rt.alloc(), &MINUS_ZERO, &ZERO)
+fn blobs_are_their_rasters(rt: HostRuntime) {
+    for (blob, grid) in BLOBS {
+        decodes(&rt, rt.alloc(), blob, grid);
+    }
 }
 
 #[test]
@@ -118,23 +118,29 @@ fn is_wrong(
     has_fault(rt, alloc, &changed, reason, place);
 }
 
+/// A place, the bytes that are written there, and the reason and the place of the fault.
+const WRONG_FIELDS: &[(usize, &[u8], BlobReason, u64)] = &[
+    (0, &[0x6c], BlobReason::BadKey, 0),
+    (6, &[6], BlobReason::BadVersion, 6),
+    (14, &[0], BlobReason::BadRows, 14),
+    (18, &[0], BlobReason::BadCols, 18),
+    (14, &[1, 16, 0, 0, 1, 16], BlobReason::TooLarge, 18),
+    (22, &[2], BlobReason::BadCount, 22),
+    (26, &[0], BlobReason::BadBlockSize, 26),
+    (30, &[65], BlobReason::BadBlobSize, 30),
+    (34, &[6], BlobReason::FloatPixels, 34),
+    (34, &[8], BlobReason::BadType, 34),
+    (44, &[0xd0, 0x3f], BlobReason::BadError, 38),
+    // 256 is no u8, be it the least value or the greatest.
+    (52, &[0x70, 0x40], BlobReason::BadRange, 46),
+    (60, &[0x70, 0x40], BlobReason::BadRange, 54),
+];
+
 #[test]
 fn a_wrong_field_of_the_header_is_told(rt: HostRuntime) {
-    is_wrong(&rt, rt.alloc(), 0, &[0x6c], BlobReason::BadKey, 0);
-    is_wrong(&rt, rt.alloc(), 6, &[6], BlobReason::BadVersion, 6);
-    is_wrong(&rt, rt.alloc(), 14, &[0], BlobReason::BadRows, 14);
-    is_wrong(&rt, rt.alloc(), 18, &[0], BlobReason::BadCols, 18);
-    let large = [1, 16, 0, 0, 1, 16];
-    is_wrong(&rt, rt.alloc(), 14, &large, BlobReason::TooLarge, 18);
-    is_wrong(&rt, rt.alloc(), 22, &[2], BlobReason::BadCount, 22);
-    is_wrong(&rt, rt.alloc(), 26, &[0], BlobReason::BadBlockSize, 26);
-    is_wrong(&rt, rt.alloc(), 30, &[65], BlobReason::BadBlobSize, 30);
-    is_wrong(&rt, rt.alloc(), 34, &[6], BlobReason::FloatPixels, 34);
-    is_wrong(&rt, rt.alloc(), 34, &[8], BlobReason::BadType, 34);
-    is_wrong(&rt, rt.alloc(), 44, &[0xd0, 0x3f], BlobReason::BadError, 38);
-    // 256 is no u8, be it the least value or the greatest.
-    is_wrong(&rt, rt.alloc(), 52, &[0x70, 0x40], BlobReason::BadRange, 46);
-    is_wrong(&rt, rt.alloc(), 60, &[0x70, 0x40], BlobReason::BadRange, 54);
+    for (at, bytes, reason, place) in WRONG_FIELDS {
+        is_wrong(&rt, rt.alloc(), *at, bytes, *reason, *place);
+    }
 }
 
 #[test]
@@ -246,16 +252,10 @@ fn what_is_missing_to_the_next_decision_is_wanted(rt: HostRuntime) {
 }
 
 /// The source gives a blob of this size that has this grid.
-fn gives(
-    rt: &impl Abort,
-    alloc: Global,
-    src: &mut MemSource,
-    size: usize,
-    grid: &[u8],
-) -> Result<(), Fail> {
-    let decoded = decode_sized(alloc, src)?;
+fn gives(rt: &impl Abort, alloc: Global, src: &mut MemSource, size: usize, grid: &[u8]) {
+    let decoded = decode_sized(alloc, src).expect(rt, "a blob");
     same(rt, "size", decoded.size, size);
-    has_grid(rt, alloc, "raster", &decoded.raster, grid)
+    has_grid(rt, alloc, "raster", &decoded.raster, grid);
 }
 
 /// The source has this byte left and no other.
@@ -266,11 +266,15 @@ fn has_left(rt: &impl Abort, mut src: MemSource, byte: u8) {
 }
 
 #[test]
-fn a_source_gives_the_blob_alone(rt: HostRuntime) -> Result<(), Fail> {
-    let mut src = source(rt.alloc(), &followed(9), 7, &[])?;
-    gives(&rt, rt.alloc(), &mut src, 66, &GRID)?;
+fn a_source_gives_the_blob_alone(rt: HostRuntime) {
+    let mut src = source(&rt, rt.alloc(), &followed(9), 7, &[]);
+    gives(&rt, rt.alloc(), &mut src, 66, &GRID);
     has_left(&rt, src, 9);
-    Ok(())
+}
+
+/// A source of `BLOB` in pieces of at most 7 bytes, which fails at the call of that number.
+fn failing_at(rt: &impl Abort, alloc: Global, number: u8) -> MemSource {
+    source(rt, alloc, &BLOB, 7, &[number])
 }
 
 /// Whether it is told that the source failed, and whether it gave a raster.
@@ -282,16 +286,13 @@ fn told_of(alloc: Global, mut src: MemSource) -> (bool, bool) {
     }
 }
 
+// In pieces of at most 7 bytes the 10, 52 and 4 bytes that are wanted take eleven calls.
 #[test]
-fn a_source_that_fails_is_told(rt: HostRuntime) -> Result<(), Fail> {
-    // In pieces of at most 7 bytes the 10, 52 and 4 bytes that are wanted take eleven calls.
-    for failing in 0..11 {
-        let src = source(rt.alloc(), &BLOB, 7, &[failing])?;
-        same(&rt, failing, told_of(rt.alloc(), src), (true, false));
+fn a_source_that_fails_is_told(rt: HostRuntime) {
+    for number in 0..12 {
+        let told = told_of(rt.alloc(), failing_at(&rt, rt.alloc(), number));
+        same(&rt, number, told, (number < 11, number >= 11));
     }
-    let src = source(rt.alloc(), &BLOB, 7, &[11])?;
-    same(&rt, 11, told_of(rt.alloc(), src), (false, true));
-    Ok(())
 }
 
 /// The fault that a source's bytes have.
@@ -303,14 +304,13 @@ fn fault_of(alloc: Global, mut src: MemSource) -> Option<BlobFault> {
 }
 
 #[test]
-fn a_source_that_ends_is_truncated(rt: HostRuntime) -> Result<(), Fail> {
-    let src = source(rt.alloc(), &BLOB[..65], 7, &[])?;
+fn a_source_that_ends_is_truncated(rt: HostRuntime) {
+    let src = source(&rt, rt.alloc(), &BLOB[..65], 7, &[]);
     let cut = BlobFault {
         reason: BlobReason::Truncated,
         place: 65,
     };
     same(&rt, "cut", fault_of(rt.alloc(), src), Some(cut));
-    Ok(())
 }
 
 /// The blob of at most 79 bytes has these forms, and the same where a byte follows it.

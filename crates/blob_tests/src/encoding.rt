@@ -10,31 +10,62 @@ use outside_io::Bytes;
 use raster_values::Raster;
 use std::alloc::Global;
 use std::process::Abort;
-use std::test::Fail;
 
 /// The blob of a grid.
-fn blob_of(alloc: Global, grid: &[u8], version: Version, error: u32) -> Result<Bytes, Fail> {
-    let raster = raster_of(alloc, grid)?;
-    Ok(encode(alloc, &raster, version, Step::of(error))?)
+fn blob_of(rt: &impl Abort, alloc: Global, grid: &[u8], version: Version, error: u32) -> Bytes {
+    let raster = raster_of(rt, alloc, grid);
+    encode(alloc, &raster, version, Step::of(error)).expect(rt, "a blob")
 }
 
 /// This is the blob of a grid.
 pub(crate) fn encodes(
     rt: &impl Abort,
     alloc: Global,
+    at: &str,
     grid: &[u8],
     version: Version,
     error: u32,
     blob: &[u8],
-) -> Result<(), Fail> {
-    let found = blob_of(alloc, grid, version, error)?;
-    same(rt, "the blob", found.as_slice(), blob);
-    Ok(())
+) {
+    let found = blob_of(rt, alloc, grid, version, error);
+    same(rt, at, found.as_slice(), blob);
 }
 
+/// One row of i16: 10 11 12 13.
+const TENS: [u8; 29] = *b"LGR1\x02\x01\0\0\0\x04\0\0\0\x01\0\0\0\
+\x01\x01\x01\x01\x0a\0\x0b\0\x0c\0\x0d\0";
+
+/// One row of i16 with two depths: 10 11 12 13, and 100 100 100 103.
+const TWO_DEPTHS: [u8; 37] = *b"LGR1\x02\x01\0\0\0\x04\0\0\0\x02\0\0\0\
+\x01\x01\x01\x01\x0a\0\x64\0\x0b\0\x64\0\x0c\0\x64\0\x0d\0\x67\0";
+
+/// What a row shows, a grid, a version, an error, and the blob that is chosen.
+const CHOSEN: &[(&str, &[u8], Version, u32, &[u8])] = &[
+    ("all values are one", &GRID, Version::V3, 0, &BLOB),
+    ("no pixel is valid", &NO_PIXEL, Version::V3, 0, &NONE_VALID),
+    ("some pixels are valid", &EIGHT, Version::V3, 0, &RUNS),
+    ("a block has its steps", &TENS, Version::V3, 1, &STEPS),
+    (
+        "each depth has its range",
+        &TWO_DEPTHS,
+        Version::V4,
+        1,
+        &STEPS_DEEP,
+    ),
+    (
+        "the ends of a type are swept",
+        &TWO_ENDS,
+        Version::V3,
+        0,
+        &SWEEP,
+    ),
+];
+
 #[test]
-fn all_values_are_one(rt: HostRuntime) -> Result<(), Fail> {
-    encodes(&rt, rt.alloc(), &GRID, Version::V3, 0, &BLOB)
+fn grids_have_the_blobs_that_were_worked_by_hand(rt: HostRuntime) {
+    for (at, grid, version, error, blob) in CHOSEN {
+        encodes(&rt, rt.alloc(), at, grid, *version, *error, blob);
+    }
 }
 
 /// How many bytes the raster's blob has, or how many it would have where there is no room for it,
@@ -54,47 +85,21 @@ fn over_nines() -> [u8; 70] {
     bytes
 }
 
-#[test]
-fn a_blob_is_laid_over_the_front(rt: HostRuntime) -> Result<(), Fail> {
-    let raster = raster_of(rt.alloc(), &GRID)?;
-    let mut room = [9; 70];
-    let told = laid(rt.alloc(), raster, &mut room);
-    same(&rt, "size", told, (66, true));
-    same(&rt, "the buffer", room, over_nines());
-    Ok(())
+/// The blob of 66 bytes is laid over a buffer of nines or not, which is left like this.
+fn lays(rt: &impl Abort, alloc: Global, room: &mut [u8], is_laid: bool, wanted: &[u8]) {
+    let told = laid(alloc, raster_of(rt, alloc, &GRID), room);
+    same(rt, "size", told, (66, is_laid));
+    same(rt, "the buffer", &*room, wanted);
 }
 
 #[test]
-fn a_blob_has_no_room(rt: HostRuntime) -> Result<(), Fail> {
-    let raster = raster_of(rt.alloc(), &GRID)?;
-    let mut room = [9; 65];
-    let told = laid(rt.alloc(), raster, &mut room);
-    same(&rt, "size", told, (66, false));
-    same(&rt, "the buffer", room, [9; 65]);
-    Ok(())
+fn a_blob_is_laid_over_the_front(rt: HostRuntime) {
+    lays(&rt, rt.alloc(), &mut [9; 70], true, &over_nines());
 }
 
 #[test]
-fn no_pixel_is_valid(rt: HostRuntime) -> Result<(), Fail> {
-    encodes(&rt, rt.alloc(), &NO_PIXEL, Version::V3, 0, &NONE_VALID)
-}
-
-/// One row of i16: 10 11 12 13.
-const TENS: [u8; 29] = *b"LGR1\x02\x01\0\0\0\x04\0\0\0\x01\0\0\0\
-\x01\x01\x01\x01\x0a\0\x0b\0\x0c\0\x0d\0";
-
-#[test]
-fn a_block_has_its_steps(rt: HostRuntime) -> Result<(), Fail> {
-    encodes(&rt, rt.alloc(), &TENS, Version::V3, 1, &STEPS)
-}
-
-/// One row of i16 with two depths: 10 11 12 13, and 100 100 100 103.
-const TWO_DEPTHS: [u8; 37] = *b"LGR1\x02\x01\0\0\0\x04\0\0\0\x02\0\0\0\
-\x01\x01\x01\x01\x0a\0\x64\0\x0b\0\x64\0\x0c\0\x64\0\x0d\0\x67\0";
-
-#[test]
-fn each_depth_has_its_range(rt: HostRuntime) -> Result<(), Fail> {
-    encodes(&rt, rt.alloc(), &TWO_DEPTHS, Version::V4, 1, &STEPS_DEEP)
+fn a_blob_has_no_room(rt: HostRuntime) {
+    lays(&rt, rt.alloc(), &mut [9; 65], false, &[9; 65]);
 }
 
 /// Whether the blob of the raster would need version 4.
@@ -104,46 +109,29 @@ fn needs_v4(alloc: Global, raster: Raster) -> bool {
 }
 
 #[test]
-fn version_3_has_one_depth(rt: HostRuntime) -> Result<(), Fail> {
-    let raster = raster_of(rt.alloc(), &TWO_DEPTHS)?;
+fn version_3_has_one_depth(rt: HostRuntime) {
+    let raster = raster_of(&rt, rt.alloc(), &TWO_DEPTHS);
     same(&rt, "two depths", needs_v4(rt.alloc(), raster), true);
-    Ok(())
 }
 
 /// The fault has this text.
-fn has_text(rt: &impl Abort, alloc: Global, fault: EncodeFault, want: &str) -> Result<(), Fail> {
-    let text = format!(in alloc; "{fault}")?;
+fn has_text(rt: &impl Abort, alloc: Global, fault: EncodeFault, want: &str) {
+    let text = format!(in alloc; "{fault}").expect(rt, "memory");
     same(rt, "the text", text.as_str(), want);
-    Ok(())
 }
 
 #[test]
-fn faults_have_texts(rt: HostRuntime) -> Result<(), Fail> {
-    has_text(
-        &rt,
-        rt.alloc(),
-        EncodeFault::DepthNeedsV4,
-        "depth needs version 4",
-    )?;
-    has_text(&rt, rt.alloc(), EncodeFault::OutOfMemory, "out of memory")
-}
-
-#[test]
-fn some_pixels_are_valid(rt: HostRuntime) -> Result<(), Fail> {
-    encodes(&rt, rt.alloc(), &EIGHT, Version::V3, 0, &RUNS)
-}
-
-#[test]
-fn the_ends_of_a_type_are_swept(rt: HostRuntime) -> Result<(), Fail> {
-    encodes(&rt, rt.alloc(), &TWO_ENDS, Version::V3, 0, &SWEEP)
+fn faults_have_texts(rt: HostRuntime) {
+    let deep = EncodeFault::DepthNeedsV4;
+    has_text(&rt, rt.alloc(), deep, "depth needs version 4");
+    has_text(&rt, rt.alloc(), EncodeFault::OutOfMemory, "out of memory");
 }
 
 /// The blob of a grid has 71 bytes, of which these are the image.
-fn is_swept(rt: &impl Abort, alloc: Global, grid: &[u8], image: &[u8; 5]) -> Result<(), Fail> {
-    let blob = blob_of(alloc, grid, Version::V3, 0)?;
+fn is_swept(rt: &impl Abort, alloc: Global, grid: &[u8], image: &[u8; 5]) {
+    let blob = blob_of(rt, alloc, grid, Version::V3, 0);
     assert!(rt; blob.as_slice().len() == 71);
     same(rt, "the image", &blob.as_slice()[66..], image);
-    Ok(())
 }
 
 /// One row of u8: 1 2 3 4.
@@ -151,11 +139,7 @@ const FOUR: [u8; 25] = *b"LGR1\x01\x01\0\0\0\x04\0\0\0\x01\0\0\0\
 \x01\x01\x01\x01\x01\x02\x03\x04";
 
 #[test]
-fn few_small_values_are_swept(rt: HostRuntime) -> Result<(), Fail> {
-    is_swept(&rt, rt.alloc(), &FOUR, b"\x01\x01\x02\x03\x04")
-}
-
-#[test]
-fn two_values_are_swept(rt: HostRuntime) -> Result<(), Fail> {
-    is_swept(&rt, rt.alloc(), &ONES, b"\x01\x01\0\0\x01")
+fn few_small_values_and_two_values_are_swept(rt: HostRuntime) {
+    is_swept(&rt, rt.alloc(), &FOUR, b"\x01\x01\x02\x03\x04");
+    is_swept(&rt, rt.alloc(), &ONES, b"\x01\x01\0\0\x01");
 }

@@ -1,4 +1,5 @@
 //! What tests of rasters and blobs begin with: sources, rasters of grids and the grids of rasters.
+//! Each ends the test where memory is refused.
 
 ghost use Rattle.std.specs.Prelude.{◌<◌};
 
@@ -8,31 +9,41 @@ use raster_values::{Raster, grid_read, grid_write};
 use std::alloc::Global;
 use std::fmt::Display;
 use std::process::Abort;
-use std::test::Fail;
 
 /// A source of these bytes that gives at most `piece` of them a call, and fails at the calls named.
 pub(crate) fn source(
+    rt: &impl Abort,
     alloc: Global,
     bytes: &[u8],
     piece: usize,
     failing: &[u8],
-) -> Result<MemSource, Fail>
+) -> MemSource
     requires { 0 < piece }
 {
-    Ok(MemSource::new(Bytes::of(alloc, bytes)?, piece, Bytes::of(alloc, failing)?))
+    let bytes = Bytes::of(alloc, bytes).expect(rt, "memory");
+    let failing = Bytes::of(alloc, failing).expect(rt, "memory");
+    MemSource::new(bytes, piece, failing)
 }
 
 /// The raster of a grid.
-pub(crate) fn raster_of(alloc: Global, grid: &[u8]) -> Result<Raster, Fail> {
-    let mut source = source(alloc, grid, 7, b"")?;
-    Ok(grid_read(alloc, &mut source, 0)?)
+pub(crate) fn raster_of(rt: &impl Abort, alloc: Global, grid: &[u8]) -> Raster {
+    let mut source = source(rt, alloc, grid, 7, b"");
+    grid_read(alloc, &mut source, 0).expect(rt, "a grid")
+}
+
+/// A sink that takes so many bytes, `piece` a call.
+pub(crate) fn sink(rt: &impl Abort, alloc: Global, piece: usize, room: usize) -> MemSink
+    requires { 0 < piece }
+{
+    let failing = Bytes::of(alloc, b"").expect(rt, "memory");
+    MemSink::new(alloc, piece, failing, room).expect(rt, "memory")
 }
 
 /// The sink to which the raster's grid was given.
-pub(crate) fn given(alloc: Global, raster: &Raster) -> Result<MemSink, Fail> {
-    let mut sink = MemSink::new(alloc, 1000, Bytes::of(alloc, b"")?, 20000)?;
-    grid_write(raster, &mut sink)?;
-    Ok(sink)
+pub(crate) fn given(rt: &impl Abort, alloc: Global, raster: &Raster) -> MemSink {
+    let mut sink = sink(rt, alloc, 1000, 20000);
+    grid_write(raster, &mut sink).expect(rt, "the grid");
+    sink
 }
 
 /// The raster has this grid.
@@ -42,8 +53,7 @@ pub(crate) fn has_grid(
     at: impl Display + Drop,
     raster: &Raster,
     grid: &[u8],
-) -> Result<(), Fail> {
-    let sink = given(alloc, raster)?;
+) {
+    let sink = given(rt, alloc, raster);
     same(rt, at, sink.held(), grid);
-    Ok(())
 }

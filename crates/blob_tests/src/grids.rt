@@ -2,13 +2,12 @@
 
 ghost use Rattle.std.specs.Prelude.{◌<◌};
 
-use crate::fixtures::{given, has_grid, source};
+use crate::fixtures::{given, has_grid, sink, source};
 use crate::same::same;
-use outside_io::{Bytes, Failed, MemSink, MemSource, take_all};
+use outside_io::{Failed, MemSource, take_all};
 use raster_values::{GridFault, GridReason, GridStop, PixelType, Raster, grid_read, grid_write};
 use std::alloc::Global;
 use std::process::Abort;
-use std::test::Fail;
 
 /// Makes a pixel valid.
 fn mark(rt: &impl Abort, raster: &mut Raster, row: u32, col: u32) {
@@ -35,35 +34,24 @@ fn raster_with(
     kind: PixelType,
     (rows, cols, depth): (u32, u32, u32),
     values: Placed<'_>,
-) -> Result<Raster, Fail> {
-    let mut raster = Raster::new(alloc, kind, rows, cols, depth)?;
+) -> Raster {
+    let mut raster = Raster::new(alloc, kind, rows, cols, depth).expect(rt, "a raster");
     for (row, col, d, value) in values {
         mark(rt, &mut raster, *row, *col);
         set(rt, &mut raster, *row, *col, *d, *value);
     }
-    Ok(raster)
+    raster
 }
 
-/// A sink that takes 18 bytes, three a call.
-fn small_sink(alloc: Global) -> Result<MemSink, Fail> {
-    Ok(MemSink::new(alloc, 3, Bytes::of(alloc, b"")?, 18)?)
-}
-
-/// The sink takes the first 18 bytes of the raster's grid, and fails then.
-fn fails_behind(rt: &impl Abort, raster: &Raster, mut sink: MemSink) {
+/// A sink that has room for 18 bytes takes these of the raster's grid, three a call, and fails then.
+fn fails_behind(rt: &impl Abort, alloc: Global, raster: &Raster) {
+    let mut sink = sink(rt, alloc, 3, 18);
     let answer = grid_write(raster, &mut sink);
     same(rt, "a small sink", answer, Err(Failed));
     same(rt, "a small sink", sink.held().len(), 18);
 }
 
-/// The raster has this grid, of which a small sink takes 18 bytes.
-fn is_written(rt: &impl Abort, alloc: Global, raster: &Raster, grid: &[u8]) -> Result<(), Fail> {
-    has_grid(rt, alloc, "the grid", raster, grid)?;
-    fails_behind(rt, raster, small_sink(alloc)?);
-    Ok(())
-}
-
-/// The raster of the shape with these values has this grid.
+/// The raster of the shape with these values has this grid, of which a small sink takes 18 bytes.
 fn has_written(
     rt: &impl Abort,
     alloc: Global,
@@ -71,17 +59,18 @@ fn has_written(
     shape: (u32, u32, u32),
     values: Placed<'_>,
     grid: &[u8],
-) -> Result<(), Fail> {
-    let raster = raster_with(rt, alloc, kind, shape, values)?;
-    is_written(rt, alloc, &raster, grid)
+) {
+    let raster = raster_with(rt, alloc, kind, shape, values);
+    has_grid(rt, alloc, "the grid", &raster, grid);
+    fails_behind(rt, alloc, &raster);
 }
 
 #[test]
-fn grids(rt: HostRuntime) -> Result<(), Fail> {
+fn grids(rt: HostRuntime) {
     let one = [(0, 0, 0, 7)];
-    has_written(&rt, rt.alloc(), PixelType::U8, (1, 1, 1), &one, ONE)?;
+    has_written(&rt, rt.alloc(), PixelType::U8, (1, 1, 1), &one, ONE);
     let four = [(0, 0, 0, 10), (0, 1, 0, 11), (0, 2, 0, 12), (0, 3, 0, 13)];
-    has_written(&rt, rt.alloc(), PixelType::I16, (1, 4, 1), &four, FOUR)?;
+    has_written(&rt, rt.alloc(), PixelType::I16, (1, 4, 1), &four, FOUR);
     let deep = [
         (0, 0, 0, -1),
         (0, 0, 1, 2),
@@ -89,7 +78,7 @@ fn grids(rt: HostRuntime) -> Result<(), Fail> {
         (1, 0, 1, -128),
         (1, 1, 1, 127),
     ];
-    has_written(&rt, rt.alloc(), PixelType::I8, (2, 2, 2), &deep, DEEP)
+    has_written(&rt, rt.alloc(), PixelType::I8, (2, 2, 2), &deep, DEEP);
 }
 
 /// A grid of one byte, 7.
@@ -105,10 +94,10 @@ const DEEP: &[u8] = b"LGR1\x00\x02\x00\x00\x00\x02\x00\x00\x00\x02\x00\x00\x00\
 
 /// A raster of sixteen bits, 100 rows and 50 columns, of which all values are 258 but that of the
 /// pixel in row 50 and column 25, which is not valid.
-fn many_pieces(rt: &impl Abort, alloc: Global) -> Result<Raster, Fail> {
-    let mut raster = Raster::new(alloc, PixelType::U16, 100, 50, 1)?;
+fn many_pieces(rt: &impl Abort, alloc: Global) -> Raster {
+    let mut raster = Raster::new(alloc, PixelType::U16, 100, 50, 1).expect(rt, "a raster");
     unmark(rt, &mut raster);
-    Ok(raster)
+    raster
 }
 
 /// Fills the raster, and makes the pixel in row 50 and column 25 invalid, twice.
@@ -133,13 +122,6 @@ fn wanted(place: usize) -> u8 {
     }
 }
 
-/// The grid of this raster has these bytes behind its head.
-fn has_pieces(rt: &impl Abort, alloc: Global, raster: Raster) -> Result<(), Fail> {
-    let sink = given(alloc, &raster)?;
-    are_wanted(rt, sink.held());
-    Ok(())
-}
-
 /// These are the bytes of the grid.
 fn are_wanted(rt: &impl Abort, grid: &[u8]) {
     same(rt, "bytes", grid.len(), 15015);
@@ -151,17 +133,17 @@ fn are_wanted(rt: &impl Abort, grid: &[u8]) {
 }
 
 #[test]
-fn a_grid_of_many_pieces(rt: HostRuntime) -> Result<(), Fail> {
-    let raster = many_pieces(&rt, rt.alloc())?;
-    has_pieces(&rt, rt.alloc(), raster)
+fn a_grid_of_many_pieces(rt: HostRuntime) {
+    let raster = many_pieces(&rt, rt.alloc());
+    are_wanted(&rt, given(&rt, rt.alloc(), &raster).held());
 }
 
 /// A grid with three bytes behind it.
-fn followed(alloc: Global, grid: &[u8], piece: usize) -> Result<MemSource, Fail>
+fn followed(rt: &impl Abort, alloc: Global, grid: &[u8], piece: usize) -> MemSource
     requires { 0 < piece }
 {
-    let longer = [grid, b"+++"].concat(alloc)?;
-    source(alloc, &longer, piece, b"")
+    let longer = [grid, b"+++"].concat(alloc).expect(rt, "memory");
+    source(rt, alloc, &longer, piece, b"")
 }
 
 /// How many bytes are left in the source, of which it gives at most ten.
@@ -170,24 +152,23 @@ fn left(mut src: MemSource) -> Result<usize, Failed> {
     take_all(&mut src, &mut rest)
 }
 
-/// The raster of a grid, read in pieces of this length, and copied. What follows is left.
-fn copied(rt: &impl Abort, alloc: Global, grid: &[u8], piece: usize) -> Result<Raster, Fail>
+/// The raster of a grid, read in pieces of this length. What follows is left.
+fn read_in(rt: &impl Abort, alloc: Global, grid: &[u8], piece: usize) -> Raster
     requires { 0 < piece }
 {
-    let mut src = followed(alloc, grid, piece)?;
-    let read = grid_read(alloc, &mut src, 5);
+    let mut src = followed(rt, alloc, grid, piece);
+    let read = grid_read(alloc, &mut src, 5).expect(rt, "a grid");
     same(rt, piece, left(src), Ok(3));
-    Ok(read?.copy(alloc)?)
+    read
 }
 
-/// The grid is read in pieces of any length.
-fn is_read(rt: &impl Abort, alloc: Global, grid: &[u8]) -> Result<(), Fail> {
+/// The grid is read in pieces of any length, and a copy of its raster has it.
+fn is_read(rt: &impl Abort, alloc: Global, grid: &[u8]) {
     for piece in [1, 7, 1000] {
         assert!(rt; piece > 0);
-        let raster = copied(rt, alloc, grid, piece)?;
-        has_grid(rt, alloc, piece, &raster, grid)?;
+        let raster = read_in(rt, alloc, grid, piece).copy(alloc);
+        has_grid(rt, alloc, piece, &raster.expect(rt, "a copy"), grid);
     }
-    Ok(())
 }
 
 /// A grid of sixteen bits and four columns, the second of which is not valid.
@@ -198,11 +179,11 @@ const THREE: &[u8] = b"LGR1\x02\x01\x00\x00\x00\x04\x00\x00\x00\x01\x00\x00\x00\
 const NONE: &[u8] = b"LGR1\x05\x01\x00\x00\x00\x02\x00\x00\x00\x01\x00\x00\x00\x00\x00";
 
 #[test]
-fn grids_are_read_in_any_pieces(rt: HostRuntime) -> Result<(), Fail> {
-    is_read(&rt, rt.alloc(), ONE)?;
-    is_read(&rt, rt.alloc(), THREE)?;
-    is_read(&rt, rt.alloc(), DEEP)?;
-    is_read(&rt, rt.alloc(), NONE)
+fn grids_are_read_in_any_pieces(rt: HostRuntime) {
+    is_read(&rt, rt.alloc(), ONE);
+    is_read(&rt, rt.alloc(), THREE);
+    is_read(&rt, rt.alloc(), DEEP);
+    is_read(&rt, rt.alloc(), NONE);
 }
 
 /// What is read of the source is no grid, and the read ends so.
@@ -220,98 +201,79 @@ fn has_fault(
     (at, piece): (u64, usize),
     reason: GridReason,
     place: u64,
-) -> Result<(), Fail> {
+) {
     assert!(rt; at < 1000 && 0 < piece);
-    let src = source(alloc, bytes, piece, b"")?;
-    stops(
-        rt,
-        alloc,
-        src,
-        at,
-        GridStop::Fault(GridFault { reason, place }),
-    );
-    Ok(())
+    let src = source(rt, alloc, bytes, piece, b"");
+    let fault = GridFault { reason, place };
+    stops(rt, alloc, src, at, GridStop::Fault(fault));
 }
 
+/// Bytes from place 100 on, and the reason and the place of their fault.
+const HEADS: &[(&[u8], GridReason, u64)] = &[
+    (b"", GridReason::Truncated, 100),
+    (b"LGR", GridReason::Truncated, 103),
+    (b"LGR2", GridReason::BadMagic, 100),
+    (b"LGR1\x06", GridReason::BadType, 104),
+    (b"LGR1\x00\x00\x00\x00\x00", GridReason::BadSize, 105),
+];
+
 #[test]
-fn the_first_fault_of_a_head(rt: HostRuntime) -> Result<(), Fail> {
-    let rows = [
-        (b"".as_slice(), GridReason::Truncated, 100),
-        (b"LGR", GridReason::Truncated, 103),
-        (b"LGR2", GridReason::BadMagic, 100),
-        (b"LGR1\x06", GridReason::BadType, 104),
-        (b"LGR1\x00\x00\x00\x00\x00", GridReason::BadSize, 105),
-    ];
-    for (bytes, reason, place) in rows {
-        has_fault(&rt, rt.alloc(), bytes, (100, 7), reason, place)?;
+fn the_first_fault_of_a_head(rt: HostRuntime) {
+    for (bytes, reason, place) in HEADS {
+        has_fault(&rt, rt.alloc(), bytes, (100, 7), *reason, *place);
     }
-    Ok(())
 }
 
-/// A grid with one row and these columns and depths has this fault.
-fn has_shape_fault(
-    rt: &impl Abort,
-    alloc: Global,
-    shape: &[u8; 8],
-    reason: GridReason,
-    place: u64,
-) -> Result<(), Fail> {
-    let mut bytes = *b"LGR1\x00\x01\x00\x00\x00........";
-    bytes[9..].copy_from_slice(shape);
-    has_fault(rt, alloc, &bytes, (0, 7), reason, place)
+/// The columns and depths of a grid with one row, and the reason and the place of its fault.
+const SHAPES: &[(&[u8; 8], GridReason, u64)] = &[
+    (b"\x00\x00\x00\x00\x00\x00\x01\x00", GridReason::BadSize, 9),
+    (b"\x01\x00\x00\x00\x00\x00\x00\x00", GridReason::BadSize, 13),
+    (
+        b"\x01\x00\x00\x00\x01\x00\x01\x00",
+        GridReason::TooLarge,
+        13,
+    ),
+    (
+        b"\x00\x00\x00\x01\x02\x00\x00\x00",
+        GridReason::TooLarge,
+        13,
+    ),
+];
+
+/// The head of a grid with one row and this shape.
+fn head_with(shape: &[u8; 8]) -> [u8; 17] {
+    let mut head = *b"LGR1\x00\x01\x00\x00\x00........";
+    head[9..].copy_from_slice(shape);
+    head
 }
 
 #[test]
-fn the_first_fault_of_a_shape(rt: HostRuntime) -> Result<(), Fail> {
-    let rows = [
-        (b"\x00\x00\x00\x00\x00\x00\x01\x00", GridReason::BadSize, 9),
-        (b"\x01\x00\x00\x00\x00\x00\x00\x00", GridReason::BadSize, 13),
-        (
-            b"\x01\x00\x00\x00\x01\x00\x01\x00",
-            GridReason::TooLarge,
-            13,
-        ),
-        (
-            b"\x00\x00\x00\x01\x02\x00\x00\x00",
-            GridReason::TooLarge,
-            13,
-        ),
-    ];
-    for (shape, reason, place) in rows {
-        has_shape_fault(&rt, rt.alloc(), shape, reason, place)?;
+fn the_first_fault_of_a_shape(rt: HostRuntime) {
+    for (shape, reason, place) in SHAPES {
+        has_fault(&rt, rt.alloc(), &head_with(shape), (0, 7), *reason, *place);
     }
-    Ok(())
 }
 
 #[test]
-fn a_wrong_mark_before_the_cut(rt: HostRuntime) -> Result<(), Fail> {
+fn a_wrong_mark_before_the_cut(rt: HostRuntime) {
     let wrong = b"LGR1\x00\x02\x00\x00\x00\x02\x00\x00\x00\x01\x00\x00\x00\x01\x02";
-    has_fault(&rt, rt.alloc(), wrong, (100, 1), GridReason::BadMark, 118)?;
+    has_fault(&rt, rt.alloc(), wrong, (100, 1), GridReason::BadMark, 118);
     let cut = b"LGR1\x00\x02\x00\x00\x00\x02\x00\x00\x00\x01\x00\x00\x00\x01\x01";
-    has_fault(&rt, rt.alloc(), cut, (100, 1), GridReason::Truncated, 119)
+    has_fault(&rt, rt.alloc(), cut, (100, 1), GridReason::Truncated, 119);
 }
 
 #[test]
-fn a_grid_cut_at_each_length(rt: HostRuntime) -> Result<(), Fail> {
+fn a_grid_cut_at_each_length(rt: HostRuntime) {
+    let reason = GridReason::Truncated;
     for len in 0..DEEP.len() {
-        let place = len as u64;
-        has_fault(
-            &rt,
-            rt.alloc(),
-            &DEEP[..len],
-            (0, 7),
-            GridReason::Truncated,
-            place,
-        )?;
+        has_fault(&rt, rt.alloc(), &DEEP[..len], (0, 7), reason, len as u64);
     }
-    Ok(())
 }
 
 #[test]
-fn a_source_that_fails_at_each_call(rt: HostRuntime) -> Result<(), Fail> {
+fn a_source_that_fails_at_each_call(rt: HostRuntime) {
     for call in 0..6 {
-        let src = source(rt.alloc(), DEEP, 7, &[call])?;
+        let src = source(&rt, rt.alloc(), DEEP, 7, &[call]);
         stops(&rt, rt.alloc(), src, 0, GridStop::Source);
     }
-    Ok(())
 }

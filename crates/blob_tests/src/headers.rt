@@ -174,57 +174,73 @@ fn has_fault(rt: &impl Abort, bytes: &[u8], reason: BlobReason, place: u64) {
     same(rt, place, read_header(bytes), Err(fault));
 }
 
+/// Two places with the bytes that are written there, often the same twice, and the reason and the
+/// place of the fault of a header of version 3.
+const FAULTS_IN_3: &[((usize, u8), (usize, u8), BlobReason, u64)] = &[
+    ((0, 0x6c), (0, 0x6c), BlobReason::BadKey, 0),
+    ((6, 6), (6, 6), BlobReason::BadVersion, 6),
+    ((9, 1), (9, 1), BlobReason::BadVersion, 6),
+    ((14, 0), (14, 0), BlobReason::BadRows, 14),
+    ((17, 0x80), (17, 0x80), BlobReason::BadRows, 14),
+    ((18, 0), (18, 0), BlobReason::BadCols, 18),
+    // 4,097 rows and columns
+    ((15, 0x10), (19, 0x10), BlobReason::TooLarge, 18),
+    ((22, 2), (22, 2), BlobReason::BadCount, 22),
+    ((25, 0x80), (25, 0x80), BlobReason::BadCount, 22),
+    ((26, 0), (26, 0), BlobReason::BadBlockSize, 26),
+    // 65, and 2 ^ 27 + 1
+    ((30, 65), (30, 65), BlobReason::BadBlobSize, 30),
+    ((30, 1), (33, 8), BlobReason::BadBlobSize, 30),
+    ((34, 6), (34, 6), BlobReason::FloatPixels, 34),
+    ((34, 7), (34, 7), BlobReason::FloatPixels, 34),
+    ((34, 8), (34, 8), BlobReason::BadType, 34),
+    ((37, 0x80), (37, 0x80), BlobReason::BadType, 34),
+    // 0.25, 1.5 and 2 ^ 32
+    ((44, 0xd0), (44, 0xd0), BlobReason::BadError, 38),
+    ((44, 0xf8), (44, 0xf8), BlobReason::BadError, 38),
+    ((44, 0xf0), (45, 0x41), BlobReason::BadError, 38),
+    // zMin 7.5; zMax 256; zMin 8 above zMax 7
+    ((52, 0x1e), (52, 0x1e), BlobReason::BadRange, 46),
+    ((60, 0x70), (60, 0x70), BlobReason::BadRange, 54),
+    ((52, 0x20), (52, 0x20), BlobReason::BadRange, 54),
+    // two fields: the first one
+    ((18, 0), (34, 6), BlobReason::BadCols, 18),
+    ((44, 0xd0), (60, 0x70), BlobReason::BadError, 38),
+];
+
 #[test]
 fn fields_of_version_3_fail_at_their_places(rt: HostRuntime) {
-    fails_in_3(&rt, (0, 0x6c), (0, 0x6c), BlobReason::BadKey, 0);
-    fails_in_3(&rt, (6, 6), (6, 6), BlobReason::BadVersion, 6);
-    fails_in_3(&rt, (9, 1), (9, 1), BlobReason::BadVersion, 6);
-    fails_in_3(&rt, (14, 0), (14, 0), BlobReason::BadRows, 14);
-    fails_in_3(&rt, (17, 0x80), (17, 0x80), BlobReason::BadRows, 14);
-    fails_in_3(&rt, (18, 0), (18, 0), BlobReason::BadCols, 18);
-    // 4,097 rows and columns
-    fails_in_3(&rt, (15, 0x10), (19, 0x10), BlobReason::TooLarge, 18);
-    fails_in_3(&rt, (22, 2), (22, 2), BlobReason::BadCount, 22);
-    fails_in_3(&rt, (25, 0x80), (25, 0x80), BlobReason::BadCount, 22);
-    fails_in_3(&rt, (26, 0), (26, 0), BlobReason::BadBlockSize, 26);
-    // 65, and 2 ^ 27 + 1
-    fails_in_3(&rt, (30, 65), (30, 65), BlobReason::BadBlobSize, 30);
-    fails_in_3(&rt, (30, 1), (33, 8), BlobReason::BadBlobSize, 30);
-    fails_in_3(&rt, (34, 6), (34, 6), BlobReason::FloatPixels, 34);
-    fails_in_3(&rt, (34, 7), (34, 7), BlobReason::FloatPixels, 34);
-    fails_in_3(&rt, (34, 8), (34, 8), BlobReason::BadType, 34);
-    fails_in_3(&rt, (37, 0x80), (37, 0x80), BlobReason::BadType, 34);
-    // 0.25, 1.5 and 2 ^ 32
-    fails_in_3(&rt, (44, 0xd0), (44, 0xd0), BlobReason::BadError, 38);
-    fails_in_3(&rt, (44, 0xf8), (44, 0xf8), BlobReason::BadError, 38);
-    fails_in_3(&rt, (44, 0xf0), (45, 0x41), BlobReason::BadError, 38);
-    // zMin 7.5; zMax 256; zMin 8 above zMax 7
-    fails_in_3(&rt, (52, 0x1e), (52, 0x1e), BlobReason::BadRange, 46);
-    fails_in_3(&rt, (60, 0x70), (60, 0x70), BlobReason::BadRange, 54);
-    fails_in_3(&rt, (52, 0x20), (52, 0x20), BlobReason::BadRange, 54);
-    // two fields: the first one
-    fails_in_3(&rt, (18, 0), (34, 6), BlobReason::BadCols, 18);
-    fails_in_3(&rt, (44, 0xd0), (60, 0x70), BlobReason::BadError, 38);
+    for (first, second, reason, place) in FAULTS_IN_3 {
+        fails_in_3(&rt, *first, *second, *reason, *place);
+    }
 }
+
+/// Two places with the bytes that are written there, often the same twice, and the reason and the
+/// place of the fault of a header of version 4.
+const FAULTS_IN_4: &[((usize, u8), (usize, u8), BlobReason, u64)] = &[
+    ((14, 0), (14, 0), BlobReason::BadRows, 14),
+    ((18, 0), (18, 0), BlobReason::BadCols, 18),
+    // 0, and 65,537
+    ((22, 0), (22, 0), BlobReason::BadDepth, 22),
+    ((22, 1), (24, 1), BlobReason::BadDepth, 22),
+    // 4 columns become 8,388,612 of two depths
+    ((20, 0x80), (20, 0x80), BlobReason::TooLarge, 22),
+    ((26, 5), (26, 5), BlobReason::BadCount, 26),
+    ((30, 0), (30, 0), BlobReason::BadBlockSize, 30),
+    ((34, 69), (34, 69), BlobReason::BadBlobSize, 34),
+    ((38, 6), (38, 6), BlobReason::FloatPixels, 38),
+    ((38, 8), (38, 8), BlobReason::BadType, 38),
+    ((48, 0xd0), (48, 0xd0), BlobReason::BadError, 42),
+    // zMin 10.5; zMax 6,750,208
+    ((56, 0x25), (56, 0x25), BlobReason::BadRange, 50),
+    ((65, 0x41), (65, 0x41), BlobReason::BadRange, 58),
+];
 
 #[test]
 fn fields_of_version_4_fail_at_their_places(rt: HostRuntime) {
-    fails_in_4(&rt, (14, 0), (14, 0), BlobReason::BadRows, 14);
-    fails_in_4(&rt, (18, 0), (18, 0), BlobReason::BadCols, 18);
-    // 0, and 65,537
-    fails_in_4(&rt, (22, 0), (22, 0), BlobReason::BadDepth, 22);
-    fails_in_4(&rt, (22, 1), (24, 1), BlobReason::BadDepth, 22);
-    // 4 columns become 8,388,612 of two depths
-    fails_in_4(&rt, (20, 0x80), (20, 0x80), BlobReason::TooLarge, 22);
-    fails_in_4(&rt, (26, 5), (26, 5), BlobReason::BadCount, 26);
-    fails_in_4(&rt, (30, 0), (30, 0), BlobReason::BadBlockSize, 30);
-    fails_in_4(&rt, (34, 69), (34, 69), BlobReason::BadBlobSize, 34);
-    fails_in_4(&rt, (38, 6), (38, 6), BlobReason::FloatPixels, 38);
-    fails_in_4(&rt, (38, 8), (38, 8), BlobReason::BadType, 38);
-    fails_in_4(&rt, (48, 0xd0), (48, 0xd0), BlobReason::BadError, 42);
-    // zMin 10.5; zMax 6,750,208
-    fails_in_4(&rt, (56, 0x25), (56, 0x25), BlobReason::BadRange, 50);
-    fails_in_4(&rt, (65, 0x41), (65, 0x41), BlobReason::BadRange, 58);
+    for (first, second, reason, place) in FAULTS_IN_4 {
+        fails_in_4(&rt, *first, *second, *reason, *place);
+    }
 }
 
 #[test]

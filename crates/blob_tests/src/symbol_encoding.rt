@@ -2,23 +2,19 @@
 
 use crate::encoding::encodes;
 use lerc_header::Version;
-use std::alloc::{AllocError, Global};
+use std::alloc::Global;
 use std::process::Abort;
-use std::test::Fail;
 
 /// Eight rows of sixteen u8, each value the row's number plus the column's.
-fn ramp(alloc: Global) -> Result<Vec<u8>, AllocError> {
-    let mut grid = Vec::new(alloc);
-    grid.extend_from_slice(b"LGR1\x01\x08\0\0\0\x10\0\0\0\x01\0\0\0")?;
-    for _ in 0..128 {
-        grid.push(1)?;
-    }
-    for row in 0..8u8 {
-        for col in 0..16u8 {
-            grid.push(row + col)?;
+fn ramp() -> [u8; 273] {
+    let mut grid = [1; 273];
+    grid[..17].copy_from_slice(b"LGR1\x01\x08\0\0\0\x10\0\0\0\x01\0\0\0");
+    for row in 0..8 {
+        for col in 0..16 {
+            grid[145 + 16 * row + col] = (row + col) as u8;
         }
     }
-    Ok(grid)
+    grid
 }
 
 const RAMP_BLOB: [u8; 111] =
@@ -29,26 +25,23 @@ const RAMP_BLOB: [u8; 111] =
 \xff\xff\xff\xff\xff\xff\xff\xff\xff\xff\xff\0\0\0\0";
 
 #[test]
-fn a_ramp_is_told_by_its_differences(rt: HostRuntime) -> Result<(), Fail> {
-    let grid = ramp(rt.alloc())?;
-    encodes(&rt, rt.alloc(), &grid, Version::V3, 0, &RAMP_BLOB)
+fn a_ramp_is_told_by_its_differences(rt: HostRuntime) {
+    encodes(&rt, rt.alloc(), "ramp", &ramp(), Version::V3, 0, &RAMP_BLOB);
 }
 
 /// The last values of the rows of the ruler.
 const LASTS: [u8; 16] = [4, 5, 4, 6, 4, 5, 4, 7, 4, 5, 4, 6, 4, 5, 4, 8];
 
 /// Sixteen rows of sixteen u8: how often two divides the number of the pixel, counted from 1.
-fn ruler(alloc: Global) -> Result<Vec<u8>, AllocError> {
-    let mut grid = Vec::new(alloc);
-    grid.extend_from_slice(b"LGR1\x01\x10\0\0\0\x10\0\0\0\x01\0\0\0")?;
-    for _ in 0..256 {
-        grid.push(1)?;
+fn ruler() -> [u8; 529] {
+    let mut grid = [1; 529];
+    grid[..17].copy_from_slice(b"LGR1\x01\x10\0\0\0\x10\0\0\0\x01\0\0\0");
+    for k in 0..16 {
+        let row = &mut grid[273 + 16 * k..289 + 16 * k];
+        row.copy_from_slice(b"\0\x01\0\x02\0\x01\0\x03\0\x01\0\x02\0\x01\0.");
+        row[15] = LASTS[k];
     }
-    for last in LASTS {
-        grid.extend_from_slice(b"\0\x01\0\x02\0\x01\0\x03\0\x01\0\x02\0\x01\0")?;
-        grid.push(last)?;
-    }
-    Ok(grid)
+    grid
 }
 
 const RULER_BLOB: [u8; 173] =
@@ -62,27 +55,39 @@ const RULER_BLOB: [u8; 173] =
 \xc9\0\0\0\0";
 
 #[test]
-fn a_ruler_is_told_by_its_values(rt: HostRuntime) -> Result<(), Fail> {
-    let grid = ruler(rt.alloc())?;
-    encodes(&rt, rt.alloc(), &grid, Version::V4, 0, &RULER_BLOB)
+fn a_ruler_is_told_by_its_values(rt: HostRuntime) {
+    encodes(
+        &rt,
+        rt.alloc(),
+        "ruler",
+        &ruler(),
+        Version::V4,
+        0,
+        &RULER_BLOB,
+    );
+}
+
+/// The values of the pixel at a place, a depth each.
+fn values_at(place: u8) -> [u8; 3] {
+    let value = (place / 12 * 3).wrapping_add(place % 12);
+    [value, value.wrapping_sub(50), value.wrapping_sub(100)]
 }
 
 /// Eight rows of twelve i8 with three depths. One of five pixels is not valid.
-fn depths(alloc: Global) -> Result<Vec<u8>, AllocError> {
+fn depths(rt: &impl Abort, alloc: Global) -> Vec<u8> {
     let mut grid = Vec::new(alloc);
-    grid.extend_from_slice(b"LGR1\0\x08\0\0\0\x0c\0\0\0\x03\0\0\0")?;
+    grid.extend_from_slice(b"LGR1\0\x08\0\0\0\x0c\0\0\0\x03\0\0\0")
+        .expect(rt, "memory");
     for place in 0..96u8 {
-        grid.push(u8::from(place % 5 != 2))?;
+        grid.push(u8::from(place % 5 != 2)).expect(rt, "memory");
     }
     for place in 0..96u8 {
         if place % 5 != 2 {
-            let value = place / 12 * 3 + place % 12;
-            grid.push(value)?;
-            grid.push(value.wrapping_sub(50))?;
-            grid.push(value.wrapping_sub(100))?;
+            grid.extend_from_slice(&values_at(place))
+                .expect(rt, "memory");
         }
     }
-    Ok(grid)
+    grid
 }
 
 const DEPTHS_BLOB: [u8; 203] =
@@ -97,7 +102,15 @@ const DEPTHS_BLOB: [u8; 203] =
 \x42\x08\x49\0\0\x80\x10\0\0\0\0";
 
 #[test]
-fn depths_have_one_table(rt: HostRuntime) -> Result<(), Fail> {
-    let grid = depths(rt.alloc())?;
-    encodes(&rt, rt.alloc(), &grid, Version::V4, 0, &DEPTHS_BLOB)
+fn depths_have_one_table(rt: HostRuntime) {
+    let grid = depths(&rt, rt.alloc());
+    encodes(
+        &rt,
+        rt.alloc(),
+        "depths",
+        &grid,
+        Version::V4,
+        0,
+        &DEPTHS_BLOB,
+    );
 }

@@ -5,6 +5,31 @@ use crate::{
     futskheri_decode, futskheri_encode, futskheri_greatest_size, futskheri_header,
     futskheri_reason_name,
 };
+use std::alloc::Global;
+use std::process::Abort;
+
+/// The number is the wanted one, in the case that `at` names. A test is proved to be safe before it
+/// runs, and a call costs that proof a twentieth of what the macro costs.
+fn same(rt: &impl Abort, at: &str, found: u64, wanted: u64) {
+    assert_eq!(rt; found, wanted, "{at}");
+}
+
+/// The bytes are the wanted ones, in the case that `at` names.
+fn same_bytes(rt: &impl Abort, at: &str, found: &[u8], wanted: &[u8]) {
+    assert_eq!(rt; found, wanted, "{at}");
+}
+
+/// The status where two rows and columns of u8, of which the third pixel is not valid, are encoded,
+/// and the size that is told.
+fn encode(alloc: Global, blob: &mut [u8]) -> (u32, u64) {
+    let (kind, version) = (1, 4);
+    let values = [1, 2, 9, 200];
+    let mut size = 0;
+    let status = futskheri_encode(
+        alloc, kind, 2, 2, 1, version, 0, &values, b"\xdf", blob, &mut size,
+    );
+    (status, size)
+}
 
 const NO_FAULT: Fault = Fault {
     place: 0,
@@ -13,55 +38,45 @@ const NO_FAULT: Fault = Fault {
     found: 0,
 };
 
-#[test]
-fn a_raster_out_and_in(rt: HostRuntime) {
-    let values = [1, 2, 9, 200];
-    let mut blob = [0; 200];
-    let mut size = 0;
-    let status = futskheri_encode(
-        rt.alloc(),
-        1,
-        2,
-        2,
-        1,
-        4,
-        0,
-        &values,
-        b"\xdf",
-        &mut blob,
-        &mut size,
-    );
-    assert_eq!(rt; status, 0);
-    assert!(rt; size <= futskheri_greatest_size(1, 2, 2, 1));
-    let mut short = [5; 3];
-    let mut wanted = 0;
-    let status = futskheri_encode(
-        rt.alloc(),
-        1,
-        2,
-        2,
-        1,
-        4,
-        0,
-        &values,
-        b"\xdf",
-        &mut short,
-        &mut wanted,
-    );
-    assert_eq!(rt; status, 9);
-    assert_eq!(rt; wanted, size);
-    assert_eq!(rt; short, [5; 3]);
+/// The status where a blob is decoded, and the place and the reason that are told.
+fn decode(alloc: Global, blob: &[u8], values: &mut [u8], mask: &mut [u8]) -> (u32, u64, u32) {
+    let mut fault = NO_FAULT;
+    let status = futskheri_decode(alloc, blob, values, mask, &mut fault);
+    (status, fault.place, fault.reason)
+}
+
+/// The blob has that raster.
+fn expect_raster(rt: &impl Abort, alloc: Global, blob: &[u8]) {
     let mut back = [7; 4];
     let mut mask = [7];
-    let mut fault = NO_FAULT;
-    let status = futskheri_decode(rt.alloc(), &blob, &mut back, &mut mask, &mut fault);
-    assert_eq!(rt; status, 0);
-    assert_eq!(rt; back, [1, 2, 0, 200]);
-    assert_eq!(rt; mask, [0xd0]);
+    let (status, ..) = decode(alloc, blob, &mut back, &mut mask);
+    same(rt, "decoded", u64::from(status), 0);
+    same_bytes(rt, "values", &back, &[1, 2, 0, 200]);
+    same_bytes(rt, "mask", &mask, &[0xd0]);
+}
+
+/// There is no room in three bytes for that blob, whose size is told, and they are left.
+fn expect_no_room(rt: &impl Abort, alloc: Global, size: u64) {
+    let mut short = [5; 3];
+    let (status, wanted) = encode(alloc, &mut short);
+    same(rt, "no room", u64::from(status), 9);
+    same(rt, "wanted", wanted, size);
+    same_bytes(rt, "the three bytes", &short, &[5; 3]);
 }
 
 #[test]
-fn bytes_that_are_no_blob(rt: HostRuntime) {
+fn a_raster_out_and_in(rt: HostRuntime) {
+    let mut blob = [0; 200];
+    let (status, size) = encode(rt.alloc(), &mut blob);
+    same(&rt, "encoded", u64::from(status), 0);
+    let is_small = size <= futskheri_greatest_size(1, 2, 2, 1);
+    same(&rt, "not above the greatest size", u64::from(is_small), 1);
+    expect_no_room(&rt, rt.alloc(), size);
+    expect_raster(&rt, rt.alloc(), &blob);
+}
+
+/// The status of a look at a header, and the place that is told.
+fn look(blob: &[u8]) -> (u32, u64) {
     let mut fault = NO_FAULT;
     let mut head = Head {
         step: 0,
@@ -77,22 +92,33 @@ fn bytes_that_are_no_blob(rt: HostRuntime) {
         size: 0,
         checksum: 0,
     };
-    assert_eq!(rt; futskheri_header(b"Lerc2", &mut head, &mut fault), 1);
-    assert_eq!(rt; fault.place, 5);
-    let status = futskheri_decode(
-        rt.alloc(),
-        b"Lerc2 \x05\0\0\0",
-        &mut [],
-        &mut [],
-        &mut fault,
-    );
-    assert_eq!(rt; status, 1);
-    assert_eq!(rt; fault.place, 6);
-    assert_eq!(rt; fault.reason, 3);
-    let mut name = *b"............";
-    assert_eq!(rt; futskheri_reason_name(fault.reason, &mut name), 10);
-    assert_eq!(rt; name, *b"BadVersion..");
-    assert_eq!(rt; futskheri_reason_name(0, &mut name), 0);
-    assert_eq!(rt; futskheri_reason_name(31, &mut name), 8);
-    assert_eq!(rt; name, *b"Leftoveron..");
+    let status = futskheri_header(blob, &mut head, &mut fault);
+    (status, fault.place)
+}
+
+#[test]
+fn bytes_that_are_no_blob(rt: HostRuntime) {
+    let (status, place) = look(b"Lerc2");
+    same(&rt, "cut", u64::from(status), 1);
+    same(&rt, "place of the cut", place, 5);
+    let blob = b"Lerc2 \x05\0\0\0";
+    let (status, place, reason) = decode(rt.alloc(), blob, &mut [], &mut []);
+    same(&rt, "version 5", u64::from(status), 1);
+    same(&rt, "place of the version", place, 6);
+    same(&rt, "reason", u64::from(reason), 3);
+}
+
+/// A reason has a name of this length, which leaves these bytes of what stood in the array.
+fn expect_name(rt: &impl Abort, reason: u32, before: &[u8; 12], length: u64, after: &[u8; 12]) {
+    let mut name = *before;
+    let found = futskheri_reason_name(reason, &mut name) as u64;
+    same(rt, "the length of a name", found, length);
+    same_bytes(rt, "a name", &name, after);
+}
+
+#[test]
+fn names_of_reasons(rt: HostRuntime) {
+    expect_name(&rt, 3, b"............", 10, b"BadVersion..");
+    expect_name(&rt, 0, b"BadVersion..", 0, b"BadVersion..");
+    expect_name(&rt, 31, b"BadVersion..", 8, b"Leftoveron..");
 }

@@ -72,55 +72,49 @@ fn expect_words_fault(rt: &impl Abort, bytes: &[u8], count: usize, reason: CodeR
     same(rt, count, read_both(bytes, &mut room[..count]), Err(fault));
 }
 
+/// How many bytes of the table are there, a place and the byte that stands there, and the reason
+/// and the place of its first fault.
+const FAULTS: &[(usize, usize, u8, CodeReason, usize)] = &[
+    // the version: cut, below 2, below 0
+    (3, 0, 0x04, CodeReason::Cut, 0),
+    (23, 0, 0x01, CodeReason::BadTable, 0),
+    (23, 3, 0x80, CodeReason::BadTable, 0),
+    // the size: cut, not 256
+    (7, 0, 0x04, CodeReason::Cut, 4),
+    (23, 4, 0x01, CodeReason::BadTable, 4),
+    // the first symbol: cut, 511, below 0
+    (11, 0, 0x04, CodeReason::Cut, 8),
+    (23, 9, 0x01, CodeReason::BadTable, 8),
+    (23, 11, 0x80, CodeReason::BadTable, 8),
+    // the end of the range: cut, 2, 514, below 0
+    (15, 0, 0x04, CodeReason::Cut, 12),
+    (23, 13, 0x00, CodeReason::BadTable, 12),
+    (23, 13, 0x02, CodeReason::BadTable, 12),
+    (23, 15, 0x80, CodeReason::BadTable, 12),
+    // an earlier fault comes first
+    (15, 9, 0x01, CodeReason::BadTable, 8),
+    // the list: its head is cut, has no meaning, its count is cut, is another, its numbers are cut
+    (16, 0, 0x04, CodeReason::List(ListReason::Cut), 16),
+    (23, 16, 0xc2, CodeReason::List(ListReason::BadHead), 16),
+    (17, 0, 0x04, CodeReason::List(ListReason::Cut), 17),
+    (23, 17, 0x04, CodeReason::List(ListReason::BadCount), 17),
+    (18, 0, 0x04, CodeReason::List(ListReason::Cut), 18),
+    (23, 16, 0xa0, CodeReason::List(ListReason::BadTable), 16),
+    // no length above 0, told before the cut of the words
+    (19, 18, 0x00, CodeReason::BadTable, 16),
+    (23, 18, 0x00, CodeReason::BadTable, 16),
+    // the words are cut
+    (22, 0, 0x04, CodeReason::Cut, 19),
+    (19, 0, 0x04, CodeReason::Cut, 19),
+    // the code `0` of 1 begins `00` of 0
+    (23, 22, 0x80, CodeReason::BadTable, 19),
+];
+
 #[test]
 fn each_fault_of_a_table_is_told_at_its_place(rt: HostRuntime) {
-    // the version: cut, below 2, below 0
-    expect_fault(&rt, 3, 0, 0x04, CodeReason::Cut, 0);
-    expect_fault(&rt, 23, 0, 0x01, CodeReason::BadTable, 0);
-    expect_fault(&rt, 23, 3, 0x80, CodeReason::BadTable, 0);
-    // the size: cut, not 256
-    expect_fault(&rt, 7, 0, 0x04, CodeReason::Cut, 4);
-    expect_fault(&rt, 23, 4, 0x01, CodeReason::BadTable, 4);
-    // the first symbol: cut, 511, below 0
-    expect_fault(&rt, 11, 0, 0x04, CodeReason::Cut, 8);
-    expect_fault(&rt, 23, 9, 0x01, CodeReason::BadTable, 8);
-    expect_fault(&rt, 23, 11, 0x80, CodeReason::BadTable, 8);
-    // the end of the range: cut, 2, 514, below 0
-    expect_fault(&rt, 15, 0, 0x04, CodeReason::Cut, 12);
-    expect_fault(&rt, 23, 13, 0x00, CodeReason::BadTable, 12);
-    expect_fault(&rt, 23, 13, 0x02, CodeReason::BadTable, 12);
-    expect_fault(&rt, 23, 15, 0x80, CodeReason::BadTable, 12);
-    // an earlier fault comes first
-    expect_fault(&rt, 15, 9, 0x01, CodeReason::BadTable, 8);
-    // the list: its head is cut, has no meaning, its count is cut, is another, its numbers are cut
-    expect_fault(&rt, 16, 0, 0x04, CodeReason::List(ListReason::Cut), 16);
-    expect_fault(&rt, 23, 16, 0xc2, CodeReason::List(ListReason::BadHead), 16);
-    expect_fault(&rt, 17, 0, 0x04, CodeReason::List(ListReason::Cut), 17);
-    expect_fault(
-        &rt,
-        23,
-        17,
-        0x04,
-        CodeReason::List(ListReason::BadCount),
-        17,
-    );
-    expect_fault(&rt, 18, 0, 0x04, CodeReason::List(ListReason::Cut), 18);
-    expect_fault(
-        &rt,
-        23,
-        16,
-        0xa0,
-        CodeReason::List(ListReason::BadTable),
-        16,
-    );
-    // no length above 0, told before the cut of the words
-    expect_fault(&rt, 19, 18, 0x00, CodeReason::BadTable, 16);
-    expect_fault(&rt, 23, 18, 0x00, CodeReason::BadTable, 16);
-    // the words are cut
-    expect_fault(&rt, 22, 0, 0x04, CodeReason::Cut, 19);
-    expect_fault(&rt, 19, 0, 0x04, CodeReason::Cut, 19);
-    // the code `0` of 1 begins `00` of 0
-    expect_fault(&rt, 23, 22, 0x80, CodeReason::BadTable, 19);
+    for (cut, at, byte, reason, place) in FAULTS {
+        expect_fault(&rt, *cut, *at, *byte, *reason, *place);
+    }
 }
 
 #[test]

@@ -14,31 +14,31 @@ const LAST: i64 = 2147483647;
 
 const LAST_UNSIGNED: u32 = 2147483647;
 
+/// What a row shows, values, and the least and the greatest of them.
+const RANGES: &[(&str, &[i64], Option<(i64, i64)>)] = &[
+    ("none", &[], None),
+    ("one", &[3], Some((3, 3))),
+    ("rising", &[-7, 2], Some((-7, 2))),
+    ("falling", &[2, -7], Some((-7, 2))),
+    ("last least", &[5, 5, 5, 5, 5, 5, 5, 5, 4], Some((4, 5))),
+    ("last greatest", &[5, 5, 5, 5, 5, 5, 5, 5, 6], Some((5, 6))),
+    (
+        "the ends",
+        &[0, i64::MAX, i64::MIN, -1],
+        Some((i64::MIN, i64::MAX)),
+    ),
+];
+
+/// The least and the greatest of the values are these.
+fn expect_range(rt: &impl Abort, at: &str, values: &[i64], want: Option<(i64, i64)>) {
+    same(rt, at, range(values), want);
+}
+
 #[test]
 fn finds_the_least_and_the_greatest(rt: HostRuntime) {
-    same(&rt, "none", range(&[]), None);
-    same(&rt, "one", range(&[3]), Some((3, 3)));
-    same(&rt, "rising", range(&[-7, 2]), Some((-7, 2)));
-    same(&rt, "falling", range(&[2, -7]), Some((-7, 2)));
-    same(
-        &rt,
-        "last least",
-        range(&[5, 5, 5, 5, 5, 5, 5, 5, 4]),
-        Some((4, 5)),
-    );
-    same(
-        &rt,
-        "last greatest",
-        range(&[5, 5, 5, 5, 5, 5, 5, 5, 6]),
-        Some((5, 6)),
-    );
-    let ends = (i64::MIN, i64::MAX);
-    same(
-        &rt,
-        "the ends",
-        range(&[0, i64::MAX, i64::MIN, -1]),
-        Some(ends),
-    );
+    for (at, values, want) in RANGES {
+        expect_range(&rt, at, values, *want);
+    }
 }
 
 /// The values less a number are these.
@@ -51,14 +51,24 @@ fn expect_less(rt: &impl Abort, values: &[i64], least: i64, want: &[i64]) {
     same(rt, least, &*out, want);
 }
 
+/// Values, a number, and the values less that number.
+const LESS: &[(&[i64], i64, &[i64])] = &[
+    (&[], 5, &[]),
+    (&[5, 7, -3], -3, &[8, 10, 0]),
+    (
+        &[1, 2, 3, 4, 5, 6, 7, 8, 9],
+        10,
+        &[-9, -8, -7, -6, -5, -4, -3, -2, -1],
+    ),
+    (&[FAR, 0, -FAR], -FAR, &[8589934592, FAR, 0]),
+    (&[FAR, 0, -FAR], FAR, &[0, -FAR, -8589934592]),
+];
+
 #[test]
 fn subtracts_from_each(rt: HostRuntime) {
-    expect_less(&rt, &[], 5, &[]);
-    expect_less(&rt, &[5, 7, -3], -3, &[8, 10, 0]);
-    let nine = [-9, -8, -7, -6, -5, -4, -3, -2, -1];
-    expect_less(&rt, &[1, 2, 3, 4, 5, 6, 7, 8, 9], 10, &nine);
-    expect_less(&rt, &[FAR, 0, -FAR], -FAR, &[8589934592, FAR, 0]);
-    expect_less(&rt, &[FAR, 0, -FAR], FAR, &[0, -FAR, -8589934592]);
+    for (values, least, want) in LESS {
+        expect_less(&rt, values, *least, want);
+    }
 }
 
 /// Whether sums may be made of these.
@@ -98,43 +108,90 @@ fn expect_unsigned(rt: &impl Abort, offset: i64, step: i64, top: i64, qs: &[u32]
     same(rt, offset, &*out, want);
 }
 
+/// The least and the greatest number of 32 bits.
+const LOW: i64 = -2147483648;
+
+const HIGH: i64 = 2147483647;
+
+/// Numbers of steps, an offset, a step and a top, and the sums.
+const SUMS: &[(&[i64], i64, i64, i64, &[i64])] = &[
+    (&[LAST], LOW, 8589934590, HIGH, &[HIGH]),
+    (&[], 0, 1, 10, &[]),
+    (
+        &[0, 9, 10, 11, 8, 7, 6, 5, 12],
+        0,
+        1,
+        10,
+        &[0, 9, 10, 10, 8, 7, 6, 5, 10],
+    ),
+    (&[0, 3, 4, LAST], -5, 4, 10, &[-5, 7, 10, 10]),
+    (
+        &[0, 1, 2, LAST],
+        -FAR,
+        8589934592,
+        FAR,
+        &[-FAR, FAR, FAR, FAR],
+    ),
+    (
+        &[0, 1, 2, LAST],
+        -FAR,
+        8589934591,
+        FAR,
+        &[-FAR, 4294967295, FAR, FAR],
+    ),
+    (
+        &[0, 1, LAST],
+        -FAR,
+        1,
+        FAR,
+        &[-FAR, -4294967295, -2147483649],
+    ),
+    (&[0, 1, LAST], 6, 8589934592, 7, &[6, 7, 7]),
+    (&[0, 1, LAST], 7, 1, 7, &[7, 7, 7]),
+    (&[0, 1, LAST], FAR, 8589934592, -FAR, &[-FAR, -FAR, -FAR]),
+];
+
 #[test]
 fn adds_and_caps(rt: HostRuntime) {
-    let (low, high) = (-2147483648, 2147483647);
-    expect_sums(&rt, low, 8589934590, high, &[LAST], &[high]);
-    expect_sums(&rt, 0, 1, 10, &[], &[]);
-    let nine = [0, 9, 10, 11, 8, 7, 6, 5, 12];
-    expect_sums(&rt, 0, 1, 10, &nine, &[0, 9, 10, 10, 8, 7, 6, 5, 10]);
-    expect_sums(&rt, -5, 4, 10, &[0, 3, 4, LAST], &[-5, 7, 10, 10]);
-    let four = [0, 1, 2, LAST];
-    expect_sums(&rt, -FAR, 8589934592, FAR, &four, &[-FAR, FAR, FAR, FAR]);
-    let near = [-FAR, 4294967295, FAR, FAR];
-    expect_sums(&rt, -FAR, 8589934591, FAR, &four, &near);
-    let three = [0, 1, LAST];
-    let ones = [-FAR, -4294967295, -2147483649];
-    expect_sums(&rt, -FAR, 1, FAR, &three, &ones);
-    expect_sums(&rt, 6, 8589934592, 7, &three, &[6, 7, 7]);
-    expect_sums(&rt, 7, 1, 7, &three, &[7, 7, 7]);
-    expect_sums(&rt, FAR, 8589934592, -FAR, &three, &[-FAR, -FAR, -FAR]);
+    for (qs, offset, step, top, want) in SUMS {
+        expect_sums(&rt, *offset, *step, *top, qs, want);
+    }
 }
+
+/// The same of numbers without a sign.
+const UNSIGNED_SUMS: &[(&[u32], i64, i64, i64, &[i64])] = &[
+    (&[0, LAST_UNSIGNED], LOW, 8589934590, HIGH, &[LOW, HIGH]),
+    (&[], 0, 1, 10, &[]),
+    (
+        &[0, 9, 10, 11, LAST_UNSIGNED],
+        0,
+        1,
+        10,
+        &[0, 9, 10, 10, 10],
+    ),
+    (&[0, 3, 4, LAST_UNSIGNED], -5, 4, 10, &[-5, 7, 10, 10]),
+    (
+        &[0, 1, 2, LAST_UNSIGNED],
+        -FAR,
+        8589934591,
+        FAR,
+        &[-FAR, 4294967295, FAR, FAR],
+    ),
+    (
+        &[0, 1, LAST_UNSIGNED],
+        -FAR,
+        1,
+        FAR,
+        &[-FAR, -4294967295, -2147483649],
+    ),
+    (&[0, 1, LAST_UNSIGNED], 6, 8589934592, 7, &[6, 7, 7]),
+    (&[0, 1, LAST_UNSIGNED], 7, 1, 7, &[7, 7, 7]),
+    (&[0, 1, LAST_UNSIGNED], FAR, 2, -FAR, &[-FAR, -FAR, -FAR]),
+];
 
 #[test]
 fn adds_and_caps_as_the_signed_one(rt: HostRuntime) {
-    let (low, high) = (-2147483648, 2147483647);
-    let ends = [0, LAST_UNSIGNED];
-    expect_unsigned(&rt, low, 8589934590, high, &ends, &[low, high]);
-    expect_unsigned(&rt, 0, 1, 10, &[], &[]);
-    let five = [0, 9, 10, 11, LAST_UNSIGNED];
-    expect_unsigned(&rt, 0, 1, 10, &five, &[0, 9, 10, 10, 10]);
-    let four = [0, 3, 4, LAST_UNSIGNED];
-    expect_unsigned(&rt, -5, 4, 10, &four, &[-5, 7, 10, 10]);
-    let four = [0, 1, 2, LAST_UNSIGNED];
-    let near = [-FAR, 4294967295, FAR, FAR];
-    expect_unsigned(&rt, -FAR, 8589934591, FAR, &four, &near);
-    let three = [0, 1, LAST_UNSIGNED];
-    let ones = [-FAR, -4294967295, -2147483649];
-    expect_unsigned(&rt, -FAR, 1, FAR, &three, &ones);
-    expect_unsigned(&rt, 6, 8589934592, 7, &three, &[6, 7, 7]);
-    expect_unsigned(&rt, 7, 1, 7, &three, &[7, 7, 7]);
-    expect_unsigned(&rt, FAR, 2, -FAR, &three, &[-FAR, -FAR, -FAR]);
+    for (qs, offset, step, top, want) in UNSIGNED_SUMS {
+        expect_unsigned(&rt, *offset, *step, *top, qs, want);
+    }
 }

@@ -16,19 +16,26 @@ fn expect_list(rt: &impl Abort, bytes: &[u8], used: usize, values: &[u32]) {
     same(rt, "the values", &*out, values);
 }
 
+/// Bytes that begin with a list, how many of them it takes, and its values.
+const LISTS: &[(&[u8], usize, &[u32])] = &[
+    (&[0x82, 0x03, 0x39], 3, &[1, 2, 3]),
+    (&[0x83, 0x04, 0x68, 0x01, 0xff], 4, &[0, 5, 5, 0]),
+    (&[0xa3, 0x04, 0x02, 0x05, 0x06, 0xff], 5, &[0, 5, 5, 0]),
+    // The same with the count in two and in four bytes, and with every spare bit set.
+    (&[0x63, 0x04, 0x00, 0x02, 0x05, 0x06], 6, &[0, 5, 5, 0]),
+    (&[0x23, 4, 0, 0, 0, 0x02, 0xfd, 0xf6], 8, &[0, 5, 5, 0]),
+    // Three entries have two digits, though their number with entry 0 has three.
+    (&[0xa2, 0x03, 0x04, 0x39, 0x39], 5, &[1, 2, 3]),
+    (&[0x80, 0x00], 2, &[]),
+    (&[0xa1, 0x00, 0x02, 0x01], 4, &[]),
+    (&[0x80, 0x02], 2, &[0, 0]),
+];
+
 #[test]
 fn both_forms_are_read(rt: HostRuntime) {
-    expect_list(&rt, &[0x82, 0x03, 0x39], 3, &[1, 2, 3]);
-    expect_list(&rt, &[0x83, 0x04, 0x68, 0x01, 0xff], 4, &[0, 5, 5, 0]);
-    expect_list(&rt, &[0xa3, 0x04, 0x02, 0x05, 0x06, 0xff], 5, &[0, 5, 5, 0]);
-    // The same with the count in two and in four bytes, and with every spare bit set.
-    expect_list(&rt, &[0x63, 0x04, 0x00, 0x02, 0x05, 0x06], 6, &[0, 5, 5, 0]);
-    expect_list(&rt, &[0x23, 4, 0, 0, 0, 0x02, 0xfd, 0xf6], 8, &[0, 5, 5, 0]);
-    // Three entries have two digits, though their number with entry 0 has three.
-    expect_list(&rt, &[0xa2, 0x03, 0x04, 0x39, 0x39], 5, &[1, 2, 3]);
-    expect_list(&rt, &[0x80, 0x00], 2, &[]);
-    expect_list(&rt, &[0xa1, 0x00, 0x02, 0x01], 4, &[]);
-    expect_list(&rt, &[0x80, 0x02], 2, &[0, 0]);
+    for (bytes, used, values) in LISTS {
+        expect_list(&rt, bytes, *used, values);
+    }
 }
 
 /// Reading a list of four numbers meets this fault.
@@ -38,38 +45,35 @@ fn expect_fault(rt: &impl Abort, bytes: &[u8], reason: ListReason, at: usize) {
     same(rt, at, read_list(bytes, &mut out), Err(fault));
 }
 
+/// Bytes, and the reason and the place of their fault.
+const FAULTS: &[(&[u8], ListReason, usize)] = &[
+    (&[], ListReason::Cut, 0),
+    (&[0xc2], ListReason::BadHead, 0),
+    (&[0xe0, 0x03], ListReason::BadHead, 0),
+    (&[0xa0], ListReason::BadTable, 0),
+    (&[0xa0, 0x03, 0x02], ListReason::BadTable, 0),
+    (&[0x82], ListReason::Cut, 1),
+    (&[0x63, 0x04], ListReason::Cut, 1),
+    (&[0x82, 0x03, 0x39], ListReason::BadCount, 1),
+    (&[0xa3, 0x05, 0x00], ListReason::BadCount, 1),
+    (&[0x83, 0x04, 0x68], ListReason::Cut, 2),
+    (&[0x43, 0x04, 0x00, 0x68], ListReason::Cut, 3),
+    (&[0xa3, 0x04], ListReason::Cut, 2),
+    (&[0x23, 4, 0, 0, 0], ListReason::Cut, 5),
+    (&[0xa3, 0x04, 0x01], ListReason::BadTable, 2),
+    (&[0xa3, 0x04, 0x00], ListReason::BadTable, 2),
+    (&[0xa3, 0x04, 0x03], ListReason::Cut, 3),
+    (&[0xa3, 0x04, 0x05, 0x11], ListReason::Cut, 3),
+    (&[0xa3, 0x04, 0x03, 0x11], ListReason::Cut, 4),
+    (&[0xa3, 0x04, 0x03, 0x11, 0x03], ListReason::BadIndex, 4),
+    (&[0x63, 4, 0, 0x03, 0x11, 0xc0], ListReason::BadIndex, 5),
+];
+
 #[test]
 fn each_fault_is_told_at_its_place(rt: HostRuntime) {
-    expect_fault(&rt, &[], ListReason::Cut, 0);
-    expect_fault(&rt, &[0xc2], ListReason::BadHead, 0);
-    expect_fault(&rt, &[0xe0, 0x03], ListReason::BadHead, 0);
-    expect_fault(&rt, &[0xa0], ListReason::BadTable, 0);
-    expect_fault(&rt, &[0xa0, 0x03, 0x02], ListReason::BadTable, 0);
-    expect_fault(&rt, &[0x82], ListReason::Cut, 1);
-    expect_fault(&rt, &[0x63, 0x04], ListReason::Cut, 1);
-    expect_fault(&rt, &[0x82, 0x03, 0x39], ListReason::BadCount, 1);
-    expect_fault(&rt, &[0xa3, 0x05, 0x00], ListReason::BadCount, 1);
-    expect_fault(&rt, &[0x83, 0x04, 0x68], ListReason::Cut, 2);
-    expect_fault(&rt, &[0x43, 0x04, 0x00, 0x68], ListReason::Cut, 3);
-    expect_fault(&rt, &[0xa3, 0x04], ListReason::Cut, 2);
-    expect_fault(&rt, &[0x23, 4, 0, 0, 0], ListReason::Cut, 5);
-    expect_fault(&rt, &[0xa3, 0x04, 0x01], ListReason::BadTable, 2);
-    expect_fault(&rt, &[0xa3, 0x04, 0x00], ListReason::BadTable, 2);
-    expect_fault(&rt, &[0xa3, 0x04, 0x03], ListReason::Cut, 3);
-    expect_fault(&rt, &[0xa3, 0x04, 0x05, 0x11], ListReason::Cut, 3);
-    expect_fault(&rt, &[0xa3, 0x04, 0x03, 0x11], ListReason::Cut, 4);
-    expect_fault(
-        &rt,
-        &[0xa3, 0x04, 0x03, 0x11, 0x03],
-        ListReason::BadIndex,
-        4,
-    );
-    expect_fault(
-        &rt,
-        &[0x63, 4, 0, 0x03, 0x11, 0xc0],
-        ListReason::BadIndex,
-        5,
-    );
+    for (bytes, reason, at) in FAULTS {
+        expect_fault(&rt, bytes, *reason, *at);
+    }
 }
 
 /// Whether a list may have the values.
@@ -114,55 +118,52 @@ fn expect_none(rt: &impl Abort, values: &[u32]) {
     same(rt, "no table", table_len(values), None);
 }
 
-#[test]
-fn chosen_tables(rt: HostRuntime) {
-    expect_table(&rt, &[0, 5, 5, 0], &[0xa3, 0x04, 0x02, 0x05, 0x06]);
-    expect_table(&rt, &[5], &[0xa3, 0x01, 0x02, 0x05, 0x01]);
-    expect_table(&rt, &[9, 2], &[0xa4, 0x02, 0x03, 0x92, 0x06]);
-    expect_table(&rt, &[2, 3, 1], &[0xa2, 0x03, 0x04, 0x39, 0x1e]);
-    expect_table(&rt, &[255, 254, 255], &[0xa8, 3, 3, 0xfe, 0xff, 0x26]);
-    expect_table(
-        &rt,
-        &[256, 0, 255, 256],
-        &[0xa9, 4, 3, 0xff, 0x00, 0x02, 0x92],
-    );
-    expect_table(
-        &rt,
+/// Values, and their chosen list in the table form.
+const TABLES: &[(&[u32], &[u8])] = &[
+    (&[0, 5, 5, 0], &[0xa3, 0x04, 0x02, 0x05, 0x06]),
+    (&[5], &[0xa3, 0x01, 0x02, 0x05, 0x01]),
+    (&[9, 2], &[0xa4, 0x02, 0x03, 0x92, 0x06]),
+    (&[2, 3, 1], &[0xa2, 0x03, 0x04, 0x39, 0x1e]),
+    (&[255, 254, 255], &[0xa8, 3, 3, 0xfe, 0xff, 0x26]),
+    (&[256, 0, 255, 256], &[0xa9, 4, 3, 0xff, 0x00, 0x02, 0x92]),
+    (
         &[1023, 1, 1023, 512],
         &[0xaa, 4, 4, 0x01, 0x00, 0xf8, 0x3f, 0xb7],
-    );
-    expect_table(
-        &rt,
+    ),
+    (
         &[1024, 0, 1024, 1023],
         &[0xab, 4, 3, 0xff, 0x03, 0x20, 0x62],
-    );
-    expect_table(
-        &rt,
+    ),
+    (
         &[2147483647, 5, 5],
         &[
             0xbf, 3, 3, 0x05, 0x00, 0x00, 0x80, 0xff, 0xff, 0xff, 0x3f, 0x16,
         ],
-    );
+    ),
     // Numbers that share a slot, with zeros among them.
-    expect_table(
-        &rt,
+    (
         &[5000, 5233, 5000, 0, 5233, 5233, 5000],
         &[0xad, 7, 3, 0x88, 0x33, 0x8e, 0x02, 0x19, 0x1a],
-    );
-    expect_table(
-        &rt,
+    ),
+    (
         &[2131, 2508, 0, 2741, 2131, 2885, 2508, 2131],
         &[
             0xac, 8, 5, 0x53, 0xc8, 0x9c, 0xb5, 0x5a, 0xb4, 0x11, 0x16, 0x2a,
         ],
-    );
-    expect_table(
-        &rt,
+    ),
+    (
         &[1073742089, 0, 1073742322, 1073742089],
         &[
             0xbf, 4, 3, 0x09, 0x01, 0x00, 0x40, 0xf9, 0x00, 0x00, 0x20, 0x61,
         ],
-    );
+    ),
+];
+
+#[test]
+fn chosen_tables(rt: HostRuntime) {
+    for (values, want) in TABLES {
+        expect_table(&rt, values, want);
+    }
     expect_none(&rt, &[0, 0]);
     expect_none(&rt, &[]);
 }
@@ -221,58 +222,67 @@ fn fill(values: &mut [u32], modulus: u32, factor: u32)
     }
 }
 
-/// The table of so many values has this length and digest, and is read back as the values.
-fn expect_long(rt: &impl Abort, count: usize, modulus: u32, factor: u32, size: usize, sum: u32)
-    requires { 0 < modulus }
-{
+/// The values have a table of this length and digest, which is read back as the values.
+fn expect_digest(rt: &impl Abort, values: &[u32], size: usize, sum: u32) {
     let (mut front, mut again) = ([0u8; 2048], [0u8; 2048]);
-    let mut room = [0; 1024];
-    assert!(rt; count <= 1024 && size <= 2048);
-    let values = &mut room[..count];
-    fill(values, modulus, factor);
+    assert!(rt; size <= 2048);
     write_twice(rt, values, size, &mut front, &mut again);
     same(rt, "the bytes", digest(&front[..size]), sum);
     same(rt, "the bytes again", digest(&again[..size]), sum);
     expect_list(rt, &front[..size], size, values);
 }
 
-/// So many values have no table.
-fn expect_no_long(rt: &impl Abort, count: usize, modulus: u32, factor: u32)
-    requires { 0 < modulus }
-{
+/// So many values have a table of this length and digest, or none.
+fn expect_long(
+    rt: &impl Abort,
+    count: usize,
+    modulus: u32,
+    factor: u32,
+    wanted: Option<(usize, u32)>,
+) {
     let mut room = [0; 1024];
-    assert!(rt; count <= 1024);
+    assert!(rt; count <= 1024 && 0 < modulus);
     let values = &mut room[..count];
     fill(values, modulus, factor);
-    expect_none(rt, values);
+    match wanted {
+        Some((size, sum)) => expect_digest(rt, values, size, sum),
+        None => expect_none(rt, values),
+    }
 }
 
-// The lengths and the digests were worked out apart from this program. The last two have 254
-// different values and 255.
+/// How many values, their modulus and their factor; the length and the digest of their table, or
+/// none where they have no table. The lengths and the digests were worked out apart from this
+/// program. The last two have 254 different values and 255.
+const LONG: &[(usize, u32, u32, Option<(usize, u32)>)] = &[
+    (64, 61, 1, Some((66, 723565034))),
+    (65, 251, 1, Some((124, 2713471827))),
+    (256, 251, 1, Some((353, 845726444))),
+    (64, 509, 1, Some((122, 4197093958))),
+    (257, 61, 1, Some((188, 141105890))),
+    (257, 251, 1, Some((354, 3831803636))),
+    (1024, 251, 1, Some((1025, 2832024978))),
+    (64, 1021, 1, Some((130, 2087555540))),
+    (256, 509, 1, Some((465, 2832354930))),
+    (1024, 509, 1, Some((1314, 4103588935))),
+    (1024, 1021, 1, None),
+    (64, 61, 2003, Some((107, 1479760995))),
+    (65, 5003, 1, Some((164, 4053328527))),
+    (256, 61, 50021, Some((247, 1511404620))),
+    (256, 5003, 1, None),
+    (257, 5003, 1, None),
+    (300, 251, 30011, Some((627, 3354451392))),
+    (1024, 61, 2003, Some((708, 2777320107))),
+    (1024, 5003, 1, None),
+    (64, 9, 60013, Some((27, 3116752470))),
+    (256, 9, 60013, Some((76, 1509238688))),
+    (300, 9, 60013, Some((87, 411444306))),
+    (292, 521, 60013, Some((1090, 3167337486))),
+    (293, 521, 60013, None),
+];
+
 #[test]
 fn long_lists(rt: HostRuntime) {
-    expect_long(&rt, 64, 61, 1, 66, 723565034);
-    expect_long(&rt, 65, 251, 1, 124, 2713471827);
-    expect_long(&rt, 256, 251, 1, 353, 845726444);
-    expect_long(&rt, 64, 509, 1, 122, 4197093958);
-    expect_long(&rt, 257, 61, 1, 188, 141105890);
-    expect_long(&rt, 257, 251, 1, 354, 3831803636);
-    expect_long(&rt, 1024, 251, 1, 1025, 2832024978);
-    expect_long(&rt, 64, 1021, 1, 130, 2087555540);
-    expect_long(&rt, 256, 509, 1, 465, 2832354930);
-    expect_long(&rt, 1024, 509, 1, 1314, 4103588935);
-    expect_no_long(&rt, 1024, 1021, 1);
-    expect_long(&rt, 64, 61, 2003, 107, 1479760995);
-    expect_long(&rt, 65, 5003, 1, 164, 4053328527);
-    expect_long(&rt, 256, 61, 50021, 247, 1511404620);
-    expect_no_long(&rt, 256, 5003, 1);
-    expect_no_long(&rt, 257, 5003, 1);
-    expect_long(&rt, 300, 251, 30011, 627, 3354451392);
-    expect_long(&rt, 1024, 61, 2003, 708, 2777320107);
-    expect_no_long(&rt, 1024, 5003, 1);
-    expect_long(&rt, 64, 9, 60013, 27, 3116752470);
-    expect_long(&rt, 256, 9, 60013, 76, 1509238688);
-    expect_long(&rt, 300, 9, 60013, 87, 411444306);
-    expect_long(&rt, 292, 521, 60013, 1090, 3167337486);
-    expect_no_long(&rt, 293, 521, 60013);
+    for (count, modulus, factor, wanted) in LONG {
+        expect_long(&rt, *count, *modulus, *factor, *wanted);
+    }
 }

@@ -5,21 +5,19 @@ ghost use Rattle.raster_values.specs.PixelType.{InRange};
 
 use crate::same::same;
 use delta_mode::{deltas_of, plain_of, undelta, unplain};
-use raster_values::{PixelType, Raster, ShapeFault};
+use raster_values::{PixelType, Raster};
 use std::alloc::Global;
 use std::process::Abort;
-use std::test::Fail;
 
 /// A raster of which no pixel is valid. What `Raster::new` promises besides stays out of the proofs
 /// of the tests.
 fn blank(
+    rt: &impl Abort,
     alloc: Global,
     kind: PixelType,
-    rows: u32,
-    cols: u32,
-    depth: u32,
-) -> Result<Raster, ShapeFault> {
-    Raster::new(alloc, kind, rows, cols, depth)
+    (rows, cols, depth): (u32, u32, u32),
+) -> Raster {
+    Raster::new(alloc, kind, rows, cols, depth).expect(rt, "a raster")
 }
 
 /// Whether the type has the value.
@@ -38,11 +36,22 @@ fn put(rt: &impl Abort, raster: &mut Raster, row: u32, col: u32, d: u32, value: 
     raster.set(row, col, d, value);
 }
 
-/// Makes pixels valid that have these values at a depth.
-fn put_all(rt: &impl Abort, raster: &mut Raster, d: u32, pixels: &[(u32, u32, i64)]) {
-    for (row, col, value) in pixels {
-        put(rt, raster, *row, *col, d, *value);
+/// Values of valid pixels, each behind its row, its column and its depth.
+type Placed = &'static [(u32, u32, u32, i64)];
+
+/// A raster of which these pixels are valid and have these values.
+fn raster_of(
+    rt: &impl Abort,
+    alloc: Global,
+    kind: PixelType,
+    shape: (u32, u32, u32),
+    values: Placed,
+) -> Raster {
+    let mut raster = blank(rt, alloc, kind, shape);
+    for (row, col, d, value) in values {
+        put(rt, &mut raster, *row, *col, *d, *value);
     }
+    raster
 }
 
 /// The pixel has this value at a depth.
@@ -56,22 +65,22 @@ fn expect_value(rt: &impl Abort, raster: &Raster, row: u32, col: u32, d: u32, va
     );
 }
 
-/// The pixels have these values at a depth.
-fn expect_all(rt: &impl Abort, raster: &Raster, d: u32, pixels: &[(u32, u32, i64)]) {
-    for (row, col, value) in pixels {
-        expect_value(rt, raster, *row, *col, d, *value);
+/// The pixels have these values.
+fn expect_all(rt: &impl Abort, raster: &Raster, values: Placed) {
+    for (row, col, d, value) in values {
+        expect_value(rt, raster, *row, *col, *d, *value);
     }
 }
 
 /// The plain symbols of a raster are these.
-fn expect_plain(rt: &impl Abort, raster: &Raster, symbols: &[u8]) {
+fn expect_plain(rt: &impl Abort, at: &str, raster: &Raster, symbols: &[u8]) {
     let mut room = [0u8; 16];
     assert!(rt; raster.kind().bytes() == 1 && symbols.len() <= 16);
     let values = raster.valid_count() as usize * raster.depth() as usize;
     assert!(rt; symbols.len() == values);
     let out = &mut room[..symbols.len()];
     plain_of(raster, out);
-    same(rt, "the plain symbols", &*out, symbols);
+    same(rt, at, &*out, symbols);
 }
 
 /// Gives a raster the values that plain symbols say.
@@ -90,12 +99,12 @@ fn write_deltas(rt: &impl Abort, raster: &Raster, d: u32, out: &mut [u8]) {
 }
 
 /// The symbols of a depth are these.
-fn expect_deltas(rt: &impl Abort, raster: &Raster, d: u32, symbols: &[u8]) {
+fn expect_deltas(rt: &impl Abort, at: &str, raster: &Raster, d: u32, symbols: &[u8]) {
     let mut room = [0u8; 16];
     assert!(rt; symbols.len() <= 16);
     let out = &mut room[..symbols.len()];
     write_deltas(rt, raster, d, out);
-    same(rt, d, &*out, symbols);
+    same(rt, at, &*out, symbols);
 }
 
 /// Gives a depth the values that symbols say.
@@ -105,127 +114,177 @@ fn take_deltas(rt: &impl Abort, symbols: &[u8], raster: &mut Raster, d: u32) {
     undelta(symbols, raster, d);
 }
 
-#[test]
-fn plain_symbols_are_the_values_with_their_bias(rt: HostRuntime) -> Result<(), Fail> {
-    let mut signed = blank(rt.alloc(), PixelType::I8, 1, 2, 1)?;
-    put_all(&rt, &mut signed, 0, &[(0, 0, -128), (0, 1, 127)]);
-    expect_plain(&rt, &signed, &[0, 255]);
-    Ok(())
-}
+/// What a row shows, a type, a shape, values, and the symbols of the raster that has them.
+type Symbols = (
+    &'static str,
+    PixelType,
+    (u32, u32, u32),
+    Placed,
+    &'static [u8],
+);
+
+const PLAIN: &[Symbols] = &[
+    (
+        "a value has its bias",
+        PixelType::I8,
+        (1, 2, 1),
+        &[(0, 0, 0, -128), (0, 1, 0, 127)],
+        &[0, 255],
+    ),
+    (
+        "pixel by pixel, with the depths innermost",
+        PixelType::U8,
+        (2, 2, 2),
+        &[(0, 0, 0, 1), (1, 1, 0, 7), (0, 0, 1, 2), (1, 0, 1, 255)],
+        &[1, 2, 0, 255, 7, 0],
+    ),
+];
 
 #[test]
-fn plain_symbols_go_pixel_by_pixel_with_the_depths_innermost(rt: HostRuntime) -> Result<(), Fail> {
-    let mut bytes = blank(rt.alloc(), PixelType::U8, 2, 2, 2)?;
-    put_all(&rt, &mut bytes, 0, &[(0, 0, 1), (1, 1, 7)]);
-    put_all(&rt, &mut bytes, 1, &[(0, 0, 2), (1, 0, 255)]);
-    expect_plain(&rt, &bytes, &[1, 2, 0, 255, 7, 0]);
-    Ok(())
-}
-
-#[test]
-fn plain_symbols_of_i8_give_the_values_back(rt: HostRuntime) -> Result<(), Fail> {
-    let mut raster = blank(rt.alloc(), PixelType::I8, 1, 3, 2)?;
-    put_all(&rt, &mut raster, 0, &[(0, 0, 0), (0, 2, 0)]);
-    take_plain(&rt, &[0, 128, 127, 255], &mut raster);
-    expect_all(&rt, &raster, 0, &[(0, 0, -128), (0, 1, 0), (0, 2, -1)]);
-    expect_all(&rt, &raster, 1, &[(0, 0, 0), (0, 1, 0), (0, 2, 127)]);
-    Ok(())
-}
-
-#[test]
-fn plain_symbols_of_u8_are_the_values(rt: HostRuntime) -> Result<(), Fail> {
-    let mut raster = blank(rt.alloc(), PixelType::U8, 2, 1, 1)?;
-    put_all(&rt, &mut raster, 0, &[(0, 0, 5), (1, 0, 5)]);
-    take_plain(&rt, &[0, 200], &mut raster);
-    expect_all(&rt, &raster, 0, &[(0, 0, 0), (1, 0, 200)]);
-    Ok(())
-}
-
-#[test]
-fn a_symbol_of_i8_is_128_more(rt: HostRuntime) -> Result<(), Fail> {
-    let mut raster = blank(rt.alloc(), PixelType::I8, 1, 2, 1)?;
-    put_all(&rt, &mut raster, 0, &[(0, 0, -128), (0, 1, 127)]);
-    expect_deltas(&rt, &raster, 0, &[0, 127]);
-    Ok(())
-}
-
-/// A row of four u8 with these values has these symbols.
-fn expect_row(
-    rt: &impl Abort,
-    alloc: Global,
-    values: [i64; 4],
-    symbols: &[u8],
-) -> Result<(), ShapeFault> {
-    let mut raster = blank(alloc, PixelType::U8, 1, 4, 1)?;
-    for (col, value) in values.iter().enumerate() {
-        put(rt, &mut raster, 0, col as u32, 0, *value);
+fn plain_symbols_are_the_values_with_their_bias_pixel_by_pixel(rt: HostRuntime) {
+    for (at, kind, shape, values, symbols) in PLAIN {
+        let raster = raster_of(&rt, rt.alloc(), *kind, *shape, values);
+        expect_plain(&rt, at, &raster, symbols);
     }
-    expect_deltas(rt, &raster, 0, symbols);
-    Ok(())
 }
 
-#[test]
-fn a_row_has_its_differences_modulo_256(rt: HostRuntime) -> Result<(), Fail> {
-    expect_row(&rt, rt.alloc(), [1, 2, 3, 4], &[1, 1, 1, 1])?;
-    expect_row(&rt, rt.alloc(), [1, 0, 0, 1], &[1, 255, 0, 1])?;
-    Ok(())
-}
+/// A type, a shape, the pixels that are valid with values they have first, plain symbols, and the
+/// values that these give.
+const TAKEN: &[(PixelType, (u32, u32, u32), Placed, &[u8], Placed)] = &[
+    (
+        PixelType::I8,
+        (1, 3, 2),
+        &[(0, 0, 0, 0), (0, 2, 0, 0)],
+        &[0, 128, 127, 255],
+        &[
+            (0, 0, 0, -128),
+            (0, 1, 0, 0),
+            (0, 2, 0, -1),
+            (0, 0, 1, 0),
+            (0, 1, 1, 0),
+            (0, 2, 1, 127),
+        ],
+    ),
+    (
+        PixelType::U8,
+        (2, 1, 1),
+        &[(0, 0, 0, 5), (1, 0, 0, 5)],
+        &[0, 200],
+        &[(0, 0, 0, 0), (1, 0, 0, 200)],
+    ),
+];
 
 #[test]
-fn a_row_of_a_full_raster_begins_with_the_difference_from_above(
-    rt: HostRuntime,
-) -> Result<(), Fail> {
-    let mut raster = blank(rt.alloc(), PixelType::I8, 3, 2, 1)?;
-    put_all(&rt, &mut raster, 0, &[(0, 0, -128), (0, 1, 127)]);
-    put_all(&rt, &mut raster, 0, &[(1, 0, 5), (1, 1, 6)]);
-    put_all(&rt, &mut raster, 0, &[(2, 0, 5), (2, 1, -1)]);
-    expect_deltas(&rt, &raster, 0, &[0, 127, 5, 129, 128, 122]);
-    Ok(())
+fn plain_symbols_of_i8_and_u8_give_the_values_back(rt: HostRuntime) {
+    for (kind, shape, before, symbols, values) in TAKEN {
+        let mut raster = raster_of(&rt, rt.alloc(), *kind, *shape, before);
+        take_plain(&rt, symbols, &mut raster);
+        expect_all(&rt, &raster, values);
+    }
 }
 
 /// Three rows and columns of which six pixels are valid. Their predictors are none, the pixel
 /// before in order, the one above, the one to the left, the one above and the one to the left.
-fn masked() -> [(u32, u32, i64); 6] {
-    [
-        (0, 0, 10),
-        (0, 2, 30),
-        (1, 0, 20),
-        (1, 1, 25),
-        (2, 1, 7),
-        (2, 2, 9),
-    ]
-}
+const MASKED: Placed = &[
+    (0, 0, 0, 10),
+    (0, 2, 0, 30),
+    (1, 0, 0, 20),
+    (1, 1, 0, 25),
+    (2, 1, 0, 7),
+    (2, 2, 0, 9),
+];
+
+const DELTAS: &[Symbols] = &[
+    (
+        "a symbol of i8 is 128 more",
+        PixelType::I8,
+        (1, 2, 1),
+        &[(0, 0, 0, -128), (0, 1, 0, 127)],
+        &[0, 127],
+    ),
+    (
+        "a row has its differences",
+        PixelType::U8,
+        (1, 4, 1),
+        &[(0, 0, 0, 1), (0, 1, 0, 2), (0, 2, 0, 3), (0, 3, 0, 4)],
+        &[1, 1, 1, 1],
+    ),
+    (
+        "modulo 256",
+        PixelType::U8,
+        (1, 4, 1),
+        &[(0, 0, 0, 1), (0, 1, 0, 0), (0, 2, 0, 0), (0, 3, 0, 1)],
+        &[1, 255, 0, 1],
+    ),
+    (
+        "a row of a full raster begins with the difference from above",
+        PixelType::I8,
+        (3, 2, 1),
+        &[
+            (0, 0, 0, -128),
+            (0, 1, 0, 127),
+            (1, 0, 0, 5),
+            (1, 1, 0, 6),
+            (2, 0, 0, 5),
+            (2, 1, 0, -1),
+        ],
+        &[0, 127, 5, 129, 128, 122],
+    ),
+    (
+        "left, then above, then before",
+        PixelType::U8,
+        (3, 3, 1),
+        MASKED,
+        &[10, 20, 10, 5, 238, 2],
+    ),
+];
 
 #[test]
-fn predictors_are_left_then_above_then_before(rt: HostRuntime) -> Result<(), Fail> {
-    let mut raster = blank(rt.alloc(), PixelType::U8, 3, 3, 1)?;
-    put_all(&rt, &mut raster, 0, &masked());
-    expect_deltas(&rt, &raster, 0, &[10, 20, 10, 5, 238, 2]);
-    Ok(())
+fn symbols_are_the_differences_from_the_predictors(rt: HostRuntime) {
+    for (at, kind, shape, values, symbols) in DELTAS {
+        let raster = raster_of(&rt, rt.alloc(), *kind, *shape, values);
+        expect_deltas(&rt, at, &raster, 0, symbols);
+    }
 }
 
+/// The valid pixels of `MASKED` with another value.
+const OTHERS: Placed = &[
+    (0, 0, 0, 99),
+    (0, 2, 0, 99),
+    (1, 0, 0, 99),
+    (1, 1, 0, 99),
+    (2, 1, 0, 99),
+    (2, 2, 0, 99),
+];
+
 #[test]
-fn symbols_give_the_values_back(rt: HostRuntime) -> Result<(), Fail> {
-    let mut raster = blank(rt.alloc(), PixelType::U8, 3, 3, 1)?;
-    put_all(&rt, &mut raster, 0, &[(0, 0, 99), (0, 2, 99), (1, 0, 99)]);
-    put_all(&rt, &mut raster, 0, &[(1, 1, 99), (2, 1, 99), (2, 2, 99)]);
+fn symbols_give_the_values_back(rt: HostRuntime) {
+    let mut raster = raster_of(&rt, rt.alloc(), PixelType::U8, (3, 3, 1), OTHERS);
     take_deltas(&rt, &[10, 20, 10, 5, 238, 2], &mut raster, 0);
-    expect_all(&rt, &raster, 0, &masked());
-    expect_all(&rt, &raster, 0, &[(0, 1, 0), (1, 2, 0), (2, 0, 0)]);
-    Ok(())
+    expect_all(&rt, &raster, MASKED);
+    expect_all(&rt, &raster, &[(0, 1, 0, 0), (1, 2, 0, 0), (2, 0, 0, 0)]);
 }
 
+/// A row of three pixels with two depths, of which the second pixel is not valid.
+const TWO_DEPTHS: Placed = &[(0, 0, 0, -128), (0, 2, 0, 127), (0, 0, 1, 5), (0, 2, 1, -3)];
+
+/// The same with other values in the second depth.
+const ONE_CHANGED: Placed = &[
+    (0, 0, 0, -128),
+    (0, 1, 0, 0),
+    (0, 2, 0, 127),
+    (0, 0, 1, -1),
+    (0, 1, 1, 0),
+    (0, 2, 1, 0),
+];
+
 #[test]
-fn a_depth_has_its_own_predictors_and_changes_alone(rt: HostRuntime) -> Result<(), Fail> {
-    let mut raster = blank(rt.alloc(), PixelType::I8, 1, 3, 2)?;
-    put_all(&rt, &mut raster, 0, &[(0, 0, -128), (0, 2, 127)]);
-    put_all(&rt, &mut raster, 1, &[(0, 0, 5), (0, 2, -3)]);
-    expect_deltas(&rt, &raster, 0, &[0, 127]);
-    expect_deltas(&rt, &raster, 1, &[133, 120]);
+fn a_depth_has_its_own_predictors_and_changes_alone(rt: HostRuntime) {
+    let mut raster = raster_of(&rt, rt.alloc(), PixelType::I8, (1, 3, 2), TWO_DEPTHS);
+    expect_deltas(&rt, "the first depth", &raster, 0, &[0, 127]);
+    expect_deltas(&rt, "the second depth", &raster, 1, &[133, 120]);
     take_deltas(&rt, &[127, 129], &mut raster, 1);
-    expect_all(&rt, &raster, 0, &[(0, 0, -128), (0, 1, 0), (0, 2, 127)]);
-    expect_all(&rt, &raster, 1, &[(0, 0, -1), (0, 1, 0), (0, 2, 0)]);
-    Ok(())
+    expect_all(&rt, &raster, ONE_CHANGED);
 }
 
 /// Makes each pixel valid, with this value.
@@ -234,22 +293,51 @@ fn fill(rt: &impl Abort, raster: &mut Raster, value: i64) {
     raster.fill(value);
 }
 
+/// Two rows of 300 pixels of 7, but for the pixels in column 256.
+fn long_rows(rt: &impl Abort, alloc: Global) -> Raster {
+    let mut raster = blank(rt, alloc, PixelType::U8, (2, 300, 1));
+    fill(rt, &mut raster, 7);
+    put(rt, &mut raster, 0, 256, 0, 9);
+    put(rt, &mut raster, 1, 256, 0, 4);
+    raster
+}
+
+/// The symbols of these rows at some of their places.
+const LONG_SYMBOLS: &[(usize, u8)] = &[
+    (0, 7),
+    (1, 0),
+    (255, 0),
+    (256, 2),
+    (257, 254),
+    (258, 0),
+    (300, 0),
+    (555, 0),
+    (556, 253),
+    (557, 3),
+];
+
+/// The symbol at a place is this one.
+fn expect_symbol(rt: &impl Abort, symbols: &[u8; 600], place: usize, symbol: u8) {
+    assert!(rt; place < 600);
+    same(rt, place, symbols[place], symbol);
+}
+
+/// The symbols of the rows are these, and give the values back to rows of zeros.
 #[test]
-fn a_row_of_more_than_256_pixels_goes_on(rt: HostRuntime) -> Result<(), Fail> {
-    let mut raster = blank(rt.alloc(), PixelType::U8, 2, 300, 1)?;
-    fill(&rt, &mut raster, 7);
-    put_all(&rt, &mut raster, 0, &[(0, 256, 9), (1, 256, 4)]);
+fn a_row_of_more_than_256_pixels_goes_on(rt: HostRuntime) {
+    let mut raster = long_rows(&rt, rt.alloc());
     let mut symbols = [0u8; 600];
     write_deltas(&rt, &raster, 0, &mut symbols);
-    let first = [symbols[0], symbols[1], symbols[255], symbols[256]];
-    same(&rt, "up to 256", first, [7, 0, 0, 2]);
-    let next = [symbols[257], symbols[258], symbols[300]];
-    same(&rt, "from 257", next, [254, 0, 0]);
-    let last = [symbols[555], symbols[556], symbols[557]];
-    same(&rt, "from 555", last, [0, 253, 3]);
+    for (place, symbol) in LONG_SYMBOLS {
+        expect_symbol(&rt, &symbols, *place, *symbol);
+    }
     fill(&rt, &mut raster, 0);
     take_deltas(&rt, &symbols, &mut raster, 0);
-    let pixels = [(0, 255, 7), (0, 256, 9), (1, 256, 4), (1, 299, 7)];
-    expect_all(&rt, &raster, 0, &pixels);
-    Ok(())
+    let values = &[
+        (0, 255, 0, 7),
+        (0, 256, 0, 9),
+        (1, 256, 0, 4),
+        (1, 299, 0, 7),
+    ];
+    expect_all(&rt, &raster, values);
 }
