@@ -11,7 +11,8 @@ use outside_io::{Line, Sink, give_line};
 use raster_values::GridReason;
 
 const USAGE: &[u8] =
-    b"usage: PATH encode V E, decode, info, build V E N, put V E N, get R C, get R C raw, list, check, recover, sample START COUNT";
+    b"usage: PATH encode V E, decode, info, build V E N, put V E N, get R C, get R C raw, list, \
+    check, recover, sample START COUNT";
 
 /// The name of a reason that a blob is refused for.
 fn blob_name(reason: BlobReason) -> &'static [u8]
