@@ -1,6 +1,6 @@
 //! Tests of the parts of blobs, each over the public calls of its library: lists and stuffed bits,
-//! mask runs, code words, symbols, lanes and blocks. They stand apart from the libraries so that
-//! each library is proved once.
+//! mask runs, code words, symbols, lanes, blocks and halves. They stand apart from the libraries so
+//! that each library is proved once.
 #![tactic(auto)]
 
 #[cfg(test)]
@@ -9,6 +9,8 @@ mod blocks;
 mod code_words;
 #[cfg(test)]
 mod code_writing;
+#[cfg(test)]
+mod halves;
 #[cfg(test)]
 mod lanes;
 #[cfg(test)]
