@@ -2,7 +2,7 @@
 
 use crate::same::same;
 use crate::stores::{FRESH, last_slot};
-use bundle_index::{BundleHeader, Entry, HeaderFault, Slot, entry_place};
+use bundle_index::{BundleHeader, Entry, Slot, entry_place};
 use std::process::Abort;
 
 #[test]
@@ -46,21 +46,31 @@ fn two_puts_into_the_last_slot(rt: HostRuntime) {
     same(&rt, "fault", second.fault(), None);
 }
 
-/// The header of an empty bundle with another byte at that place is refused there for that number,
-/// or is not refused.
-fn expect_found(rt: &impl Abort, place: usize, value: u8, found: Option<u64>) {
+/// The header of an empty bundle with another byte at that place.
+fn header_with(place: usize, value: u8) -> BundleHeader {
     let mut bytes = FRESH;
     if place < 64 {
         bytes[place] = value;
     }
+    BundleHeader::of(bytes)
+}
+
+/// The place and the number that a header is refused for.
+fn refusal(header: BundleHeader) -> Option<(usize, u64)> {
+    match header.fault() {
+        Some(fault) => Some((fault.place as usize, fault.found)),
+        None => None,
+    }
+}
+
+/// The header of an empty bundle with another byte at that place is refused there for that number,
+/// or is not refused.
+fn expect_found(rt: &impl Abort, place: usize, value: u8, found: Option<u64>) {
     let wanted = match found {
-        Some(found) => Some(HeaderFault {
-            place: place as u64,
-            found,
-        }),
+        Some(found) => Some((place, found)),
         None => None,
     };
-    same(rt, place, BundleHeader::of(bytes).fault(), wanted);
+    same(rt, place, refusal(header_with(place, value)), wanted);
 }
 
 #[test]
@@ -69,13 +79,8 @@ fn the_first_field_that_fails(rt: HostRuntime) {
     expect_found(&rt, 4, 1, Some(16385));
     expect_found(&rt, 12, 0, Some(0));
     expect_found(&rt, 8, 9, None);
-    let zeros = BundleHeader::of([0; 64]).fault();
-    same(
-        &rt,
-        "zeros",
-        zeros,
-        Some(HeaderFault { place: 0, found: 0 }),
-    );
+    let zeros = refusal(BundleHeader::of([0; 64]));
+    same(&rt, "zeros", zeros, Some((0, 0)));
 }
 
 #[test]
@@ -87,11 +92,21 @@ fn slack_ends_at_the_greatest_number(rt: HostRuntime) {
     same(&rt, "slack", after.slack(), 18446744073709551615);
 }
 
+/// That is the slot of this number, or no slot.
+fn expect_slot(rt: &impl Abort, at: &str, slot: Option<Slot>, wanted: Option<u16>) {
+    let number = match slot {
+        Some(slot) => Some(slot.number()),
+        None => None,
+    };
+    same(rt, at, number, wanted);
+}
+
 #[test]
 fn slots_are_the_numbers_below_16384(rt: HostRuntime) {
-    same(&rt, "130", Slot::of(1, 2), Slot::of_number(130));
-    same(&rt, "row 128", Slot::of(128, 0).is_none(), true);
-    same(&rt, "column 128", Slot::of(0, 128).is_none(), true);
-    same(&rt, "16383", Slot::of_number(16383).is_some(), true);
-    same(&rt, "16384", Slot::of_number(16384).is_none(), true);
+    expect_slot(&rt, "row 1 and column 2", Slot::of(1, 2), Some(130));
+    expect_slot(&rt, "130", Slot::of_number(130), Some(130));
+    expect_slot(&rt, "row 128", Slot::of(128, 0), None);
+    expect_slot(&rt, "column 128", Slot::of(0, 128), None);
+    expect_slot(&rt, "16383", Slot::of_number(16383), Some(16383));
+    expect_slot(&rt, "16384", Slot::of_number(16384), None);
 }

@@ -1,5 +1,9 @@
 //! Worked lines and marks, what a crash leaves at each moment of two puts, and objects that fail.
 
+ghost use Rattle.std.specs.Prelude.{◌≡◌, ◌≤◌, [], false, length, IsTrue};
+ghost use Rattle.outside_io.specs.volume.History.{current};
+ghost use Rattle.bundle_store.specs.Session.{IsReadyToPut};
+
 use crate::same::same;
 use crate::stores::{
     FRESH, LARGE, PICKS, SMALL, check_fit, empty_volume, failing_volume, first_slot, image,
@@ -10,15 +14,35 @@ use bundle_lines::{
     BuildStop, LineStop, PutStop, build_all, give_built, give_recovery, give_report, list_all,
     put_all,
 };
-use bundle_store::{CheckReport, Recovery, Session, TileRec, recover};
+use bundle_store::{CheckReport, Recovery, Session, StoreFault, TileRec, recover};
 use outside_io::{Bytes, Marks, MemSink, MemVolume, Pick, Sink, Volume};
 use std::alloc::Global;
+use std::fmt::Display;
 use std::process::Abort;
 
 /// A sink that takes so many bytes.
 fn sink(rt: &impl Abort, alloc: Global, room: usize) -> MemSink {
     let failing = Bytes::of(alloc, b"").expect(rt, "memory");
     MemSink::new(alloc, 100000, failing, room).expect(rt, "memory")
+}
+
+/// A session on the volume, once it is recovered.
+fn open<V: Volume>(rt: &impl Abort, alloc: Global, vol: &mut V) -> Session
+    ensures running { result.stopped ≡ false }
+    ensures ready { IsTrue (V.told vol.new) → IsReadyToPut result (current (V.history vol.new)) }
+{
+    recover(vol).expect(rt, "recover");
+    Session::open(alloc, vol).expect(rt, "open")
+}
+
+/// Marks with room for one of each update.
+fn marks_for(rt: &impl Abort, alloc: Global, updates: &[TileRec]) -> Marks
+    ensures none { result.marks ≡ [] }
+    ensures room { length updates.now ≤ result.spare }
+{
+    let mut marks = Marks::new(alloc);
+    marks.reserve(updates.len()).expect(rt, "memory");
+    marks
 }
 
 /// How puts end, once the volume is recovered; and their marks.
@@ -29,11 +53,9 @@ fn put<V: Volume, K: Sink>(
     out: &mut K,
     updates: &[TileRec],
 ) -> (Result<(), PutStop>, Marks) {
-    let mut marks = Marks::new(alloc);
-    marks.reserve(updates.len()).expect(rt, "memory");
+    let mut marks = marks_for(rt, alloc, updates);
     check_fit(rt, updates);
-    recover(vol).expect(rt, "recover");
-    let mut session = Session::open(alloc, vol).expect(rt, "open");
+    let mut session = open(rt, alloc, vol);
     let end = put_all(&mut session, vol, out, &mut marks, updates);
     (end, marks)
 }
@@ -63,30 +85,50 @@ fn build<V: Volume, K: Sink>(
     out: &mut K,
     updates: &[TileRec],
 ) -> (Result<(), BuildStop>, Marks) {
-    let mut marks = Marks::new(alloc);
-    marks.reserve(updates.len()).expect(rt, "memory");
+    let mut marks = marks_for(rt, alloc, updates);
     check_fit(rt, updates);
-    recover(vol).expect(rt, "recover");
-    let mut session = Session::open(alloc, vol).expect(rt, "open");
+    let mut session = open(rt, alloc, vol);
     let end = build_all(alloc, &mut session, vol, out, &mut marks, updates);
     (end, marks)
 }
 
-/// How a listing ends.
-fn list<V: Volume, K: Sink>(
+/// A build of the two tiles, at an output of so many bytes, ends so and gives this. It answers its
+/// marks.
+fn expect_built<V: Volume>(
     rt: &impl Abort,
     alloc: Global,
     vol: &mut V,
-    out: &mut K,
-) -> Result<(), LineStop> {
+    room: usize,
+    wanted: Result<(), BuildStop>,
+    line: &[u8],
+) -> Marks {
+    let mut out = sink(rt, alloc, room);
+    let (end, marks) = build(rt, alloc, vol, &mut out, &two_tiles(rt, alloc));
+    same(rt, "end", end, wanted);
+    same(rt, "output", out.held(), line);
+    marks
+}
+
+/// A listing at an output of so many bytes ends so, in the case that `at` names. It answers the
+/// output.
+fn expect_list<V: Volume>(
+    rt: &impl Abort,
+    alloc: Global,
+    at: impl Display + Drop,
+    vol: &mut V,
+    room: usize,
+    wanted: Result<(), LineStop>,
+) -> MemSink {
+    let mut out = sink(rt, alloc, room);
     let session = Session::open(alloc, vol).expect(rt, "open");
-    list_all(&session, vol, out)
+    let end = list_all(&session, vol, &mut out);
+    same(rt, at, end, wanted);
+    out
 }
 
 /// The bundle has this listing, of 100 bytes at most.
 fn expect_listing<V: Volume>(rt: &impl Abort, alloc: Global, vol: &mut V, listing: &[u8]) {
-    let mut out = sink(rt, alloc, 100);
-    same(rt, "listing ends", list(rt, alloc, vol, &mut out), Ok(()));
+    let out = expect_list(rt, alloc, "listing ends", vol, 100, Ok(()));
     same(rt, "listing", out.held(), listing);
 }
 
@@ -121,25 +163,13 @@ fn two_puts_have_their_marks_and_lines(rt: HostRuntime) {
 fn a_build_has_one_line_and_its_marks_one_moment(rt: HostRuntime) {
     let alloc = rt.alloc();
     let mut vol = empty_volume(&rt, alloc);
-    let mut out = sink(&rt, alloc, 100);
-    let tiles = two_tiles(&rt, alloc);
-    let (end, marks) = build(&rt, alloc, &mut vol, &mut out, &tiles);
-    same(&rt, "end", end, Ok(()));
-    same(&rt, "line", out.held(), b"built 2 131282\n".as_slice());
-    same(
-        &rt,
-        "marks",
-        two_marks(&rt, &marks),
-        (vol.moment(), vol.moment()),
-    );
-    let (end, marks) = build(&rt, alloc, &mut vol, &mut out, &tiles);
-    same(&rt, "again", end, Err(BuildStop::NotEmpty { len: 131282 }));
-    same(
-        &rt,
-        "marks and bytes",
-        (marks.len(), out.held().len()),
-        (0, 15),
-    );
+    let marks = expect_built(&rt, alloc, &mut vol, 100, Ok(()), b"built 2 131282\n");
+    let (first, second) = two_marks(&rt, &marks);
+    same(&rt, "first mark", first, vol.moment());
+    same(&rt, "second mark", second, vol.moment());
+    let again = Err(BuildStop::NotEmpty { len: 131282 });
+    let marks = expect_built(&rt, alloc, &mut vol, 100, again, b"");
+    same(&rt, "marks again", marks.len(), 0);
 }
 
 const LISTED_ONE: &[u8] = b"0 0 131140 66\n";
@@ -150,11 +180,17 @@ const LISTED_TWO: &[u8] = b"0 0 131140 66\n127 127 131210 72\n";
 fn a_build_whose_line_is_cut_stands(rt: HostRuntime) {
     let alloc = rt.alloc();
     let mut vol = empty_volume(&rt, alloc);
-    let mut out = sink(&rt, alloc, 3);
-    let (end, marks) = build(&rt, alloc, &mut vol, &mut out, &two_tiles(&rt, alloc));
-    same(&rt, "end", (end, marks.len()), (Err(BuildStop::Output), 2));
-    same(&rt, "line", out.held(), b"bui".as_slice());
+    let marks = expect_built(&rt, alloc, &mut vol, 3, Err(BuildStop::Output), b"bui");
+    same(&rt, "marks", marks.len(), 2);
     expect_listing(&rt, alloc, &mut vol, LISTED_TWO);
+}
+
+/// The length of the tile, 0 for none.
+fn len_of(tile: Result<Bytes, StoreFault>) -> usize {
+    match tile {
+        Ok(tile) => tile.len(),
+        Err(_) => 0,
+    }
 }
 
 /// The length of the slot's tile once the image is recovered, 0 for none.
@@ -167,12 +203,8 @@ fn recovered_len(
     slot: Slot,
 ) -> usize {
     let mut image = image(rt, alloc, vol, moment, pick);
-    recover(&mut image).expect(rt, "recover");
-    let session = Session::open(alloc, &mut image).expect(rt, "open");
-    match session.get(&mut image, slot) {
-        Ok(tile) => tile.len(),
-        Err(_) => 0,
-    }
+    let session = open(rt, alloc, &mut image);
+    len_of(session.get(&mut image, slot))
 }
 
 /// An image of a moment, once recovered, has the tiles that have a mark by then, and the second
@@ -288,8 +320,7 @@ fn full_volume(rt: &impl Abort, alloc: Global, failing: &[u64]) -> MemVolume {
 fn a_full_index_is_listed_by_slot(rt: HostRuntime) {
     let alloc = rt.alloc();
     let mut vol = full_volume(&rt, alloc, &[]);
-    let mut out = sink(&rt, alloc, 600000);
-    same(&rt, "end", list(&rt, alloc, &mut vol, &mut out), Ok(()));
+    let out = expect_list(&rt, alloc, "end", &mut vol, 600000, Ok(()));
     same(&rt, "lines", line_count(out.held()), 16384);
     let first = b"0 0 131140 1\n0 1 131140 1\n0 2 131140 1\n".as_slice();
     let last = b"127 126 131140 1\n127 127 131140 1\n".as_slice();
@@ -300,13 +331,7 @@ fn a_full_index_is_listed_by_slot(rt: HostRuntime) {
 /// Where the call of that number fails, the listing of a full index has so many lines.
 fn expect_rows(rt: &impl Abort, alloc: Global, number: u64, lines: u32) {
     let mut vol = full_volume(rt, alloc, &[number]);
-    let mut out = sink(rt, alloc, 600000);
-    same(
-        rt,
-        number,
-        list(rt, alloc, &mut vol, &mut out),
-        Err(LineStop::Volume),
-    );
+    let out = expect_list(rt, alloc, number, &mut vol, 600000, Err(LineStop::Volume));
     same(rt, number, line_count(out.held()), lines);
 }
 
@@ -318,19 +343,9 @@ fn a_listing_that_fails_has_the_rows_before(rt: HostRuntime) {
     expect_rows(&rt, alloc, 3, 128);
     expect_rows(&rt, alloc, 129, 16256);
     let mut vol = full_volume(&rt, alloc, &[]);
-    let mut out = sink(&rt, alloc, 20);
-    same(
-        &rt,
-        "end",
-        list(&rt, alloc, &mut vol, &mut out),
-        Err(LineStop::Output),
-    );
-    same(
-        &rt,
-        "lines",
-        out.held(),
-        b"0 0 131140 1\n0 1 131".as_slice(),
-    );
+    let out = expect_list(&rt, alloc, "end", &mut vol, 20, Err(LineStop::Output));
+    let lines = b"0 0 131140 1\n0 1 131".as_slice();
+    same(&rt, "lines", out.held(), lines);
 }
 
 const OTHER_LINES: &[u8] =

@@ -18,46 +18,50 @@ fn source(rt: &impl Abort, alloc: Global, bytes: &[u8], failing: &[u8]) -> MemSo
     MemSource::new(bytes, 5, failing)
 }
 
+/// What is found where a tile is read: the slot's number and how many pixels the tile's raster has,
+/// or that there is none.
+type Found = Result<Option<(u16, u32)>, TileStop>;
+
 /// The slot's number and how many pixels the tile's raster has.
 fn numbers(tile: &Tile) -> (u16, u32) {
     let pixels = tile.raster.rows().saturating_mul(tile.raster.cols());
     (tile.slot.number(), pixels)
 }
 
-/// What is found where the bytes from the place on are read as the next tile.
-fn found(
-    rt: &impl Abort,
-    alloc: Global,
-    bytes: &[u8],
-    place: usize,
-) -> Result<Option<(u16, u32)>, TileStop> {
-    if place > bytes.len() {
-        panic!(rt; "place {place}");
-    }
-    let mut src = source(rt, alloc, &bytes[place..], &[]);
-    match next_tile(alloc, &mut src, place as u64 % 1000) {
+/// What is found in a source whose first byte is at the place.
+fn next(alloc: Global, mut src: MemSource, place: u32) -> Result<Option<Tile>, TileStop> {
+    next_tile(alloc, &mut src, u64::from(place))
+}
+
+/// The numbers of the tile that was read.
+fn told(answer: Result<Option<Tile>, TileStop>) -> Found {
+    match answer {
         Ok(Some(tile)) => Ok(Some(numbers(&tile))),
         Ok(None) => Ok(None),
         Err(stop) => Err(stop),
     }
 }
 
+/// What is found where the bytes from the place on are read as the next tile.
+fn found(rt: &impl Abort, alloc: Global, bytes: &[u8], place: u32) -> Found {
+    if place as usize > bytes.len() {
+        panic!(rt; "place {place}");
+    }
+    let src = source(rt, alloc, &bytes[place as usize..], &[]);
+    told(next(alloc, src, place))
+}
+
+/// Where the two tiles are read from the place on, this is found.
+fn expect_found(rt: &impl Abort, alloc: Global, place: u32, wanted: Option<(u16, u32)>) {
+    same(rt, place, found(rt, alloc, &TWO, place), Ok(wanted));
+}
+
 #[test]
 fn two_tiles_and_the_end(rt: HostRuntime) {
     let alloc = rt.alloc();
-    same(
-        &rt,
-        "first",
-        found(&rt, alloc, &TWO, 0),
-        Ok(Some((16383, 1))),
-    );
-    same(
-        &rt,
-        "second",
-        found(&rt, alloc, &TWO, 22),
-        Ok(Some((16383, 1))),
-    );
-    same(&rt, "end", found(&rt, alloc, &TWO, 44), Ok(None));
+    expect_found(&rt, alloc, 0, Some((16383, 1)));
+    expect_found(&rt, alloc, 22, Some((16383, 1)));
+    expect_found(&rt, alloc, 44, None);
 }
 
 /// What is wrong first in the second tile, at that place, where this byte stands there.
@@ -106,13 +110,9 @@ fn tiles_that_are_cut(rt: HostRuntime) {
 
 /// A source that fails at its call of that number is told.
 fn expect_source(rt: &impl Abort, alloc: Global, number: u8) {
-    let mut src = source(rt, alloc, &TWO, &[number]);
-    same(
-        rt,
-        number,
-        next_tile(alloc, &mut src, 0).err(),
-        Some(TileStop::Source),
-    );
+    let src = source(rt, alloc, &TWO, &[number]);
+    let answer = told(next(alloc, src, 0));
+    same(rt, number, answer, Err(TileStop::Source));
 }
 
 #[test]

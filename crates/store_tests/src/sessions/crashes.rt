@@ -17,15 +17,17 @@ type Outcomes = [Outcome; 4];
 /// A first moment, the moment behind the last one, and the outcomes of each moment between them.
 type Phase = (u64, u64, Outcomes);
 
+/// The length of a tile, which is one of the two tiles.
+fn known_len(rt: &impl Abort, tile: &[u8]) -> usize {
+    let known = tile == SMALL.as_slice() || tile == LARGE.as_slice();
+    same(rt, "one of the tiles", known, true);
+    tile.len()
+}
+
 /// The length of the slot's tile, 0 for none. It is one of the two tiles.
 fn tile_len<V: Volume>(rt: &impl Abort, alloc: Global, vol: &mut V, slot: Slot) -> usize {
     match get(alloc, vol, slot) {
-        Ok(tile) => {
-            let bytes = tile.as_slice();
-            let known = bytes == SMALL.as_slice() || bytes == LARGE.as_slice();
-            same(rt, "one of the tiles", known, true);
-            bytes.len()
-        }
+        Ok(tile) => known_len(rt, tile.as_slice()),
         Err(fault) => {
             same(rt, "get", fault, StoreFault::NoTile);
             0

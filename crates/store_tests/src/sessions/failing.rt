@@ -9,53 +9,23 @@ use outside_io::{MemVolume, Volume};
 use std::alloc::Global;
 use std::process::Abort;
 
+/// That is what a call of a session that is stopped answers.
+fn is_stopped(rt: &impl Abort, at: &str, fault: Option<StoreFault>) {
+    same(rt, at, fault, Some(StoreFault::Stopped));
+}
+
 /// Each call of a session that is stopped says so.
 fn expect_stopped<V: Volume>(rt: &impl Abort, session: &mut Session, vol: &mut V, slot: Slot)
     requires { session.old.stopped ≡ true }
 {
     let mut row = [Entry { offset: 0, size: 0 }; 128];
-    same(
-        rt,
-        "length",
-        session.length(vol).err(),
-        Some(StoreFault::Stopped),
-    );
-    same(
-        rt,
-        "check",
-        session.check(vol).err(),
-        Some(StoreFault::Stopped),
-    );
-    same(
-        rt,
-        "entry",
-        session.entry(vol, slot).err(),
-        Some(StoreFault::Stopped),
-    );
-    same(
-        rt,
-        "row",
-        session.row_entries(vol, 0, &mut row).err(),
-        Some(StoreFault::Stopped),
-    );
-    same(
-        rt,
-        "get",
-        session.get(vol, slot).err(),
-        Some(StoreFault::Stopped),
-    );
-    same(
-        rt,
-        "put",
-        session.put_blob(vol, slot, &[]).err(),
-        Some(StoreFault::Stopped),
-    );
-    same(
-        rt,
-        "build",
-        session.build(vol, &[]).err(),
-        Some(StoreFault::Stopped),
-    );
+    is_stopped(rt, "length", session.length(vol).err());
+    is_stopped(rt, "check", session.check(vol).err());
+    is_stopped(rt, "entry", session.entry(vol, slot).err());
+    is_stopped(rt, "row", session.row_entries(vol, 0, &mut row).err());
+    is_stopped(rt, "get", session.get(vol, slot).err());
+    is_stopped(rt, "put", session.put_blob(vol, slot, &[]).err());
+    is_stopped(rt, "build", session.build(vol, &[]).err());
 }
 
 /// A put answers Device, and each call of its session Stopped from then on.

@@ -3,7 +3,7 @@ use crate::same::same;
 use crate::stores::{SMALL, empty_volume, first_slot, pair, tile, volume};
 use bundle_index::{BundleHeader, Entry};
 use bundle_store::{Recovery, StoreFault, TileRec, recover};
-use outside_io::{Bytes, MemVolume};
+use outside_io::MemVolume;
 use std::alloc::Global;
 use std::process::Abort;
 
@@ -112,36 +112,40 @@ fn journals_that_are_refused(rt: HostRuntime) {
 }
 
 /// Two tiles for the first slot, of which the second has no bytes.
-fn with_an_empty_tile(rt: &impl Abort, alloc: Global, first: Bytes) -> Vec<TileRec> {
+fn with_an_empty_tile(rt: &impl Abort, alloc: Global, first: &[u8]) -> Vec<TileRec> {
     let slot = first_slot(rt);
+    let first = tile(rt, alloc, slot, first);
     let empty = tile(rt, alloc, slot, &[]);
-    pair(rt, alloc, TileRec { slot, bytes: first }, empty)
+    pair(rt, alloc, first, empty)
+}
+
+/// A put of the one tile, and a build of the other and of one of no bytes, are refused so.
+fn expect_refused(
+    rt: &impl Abort,
+    alloc: Global,
+    put: (&[u8], StoreFault),
+    built: (&[u8], StoreFault),
+) {
+    let mut vol = empty_volume(rt, alloc);
+    expect_put(rt, alloc, &mut vol, first_slot(rt), put.0, Err(put.1));
+    let tiles = with_an_empty_tile(rt, alloc, built.0);
+    expect_build(rt, alloc, &mut vol, &tiles, Err(built.1));
 }
 
 #[test]
 fn tiles_of_no_bytes(rt: HostRuntime) {
-    let alloc = rt.alloc();
-    let mut vol = empty_volume(&rt, alloc);
     let first = StoreFault::EmptyTile { at: 0 };
-    expect_put(&rt, alloc, &mut vol, first_slot(&rt), &[], Err(first));
-    let small = Bytes::of(alloc, &SMALL).expect(&rt, "memory");
-    let tiles = with_an_empty_tile(&rt, alloc, small);
     let second = StoreFault::EmptyTile { at: 1 };
-    expect_build(&rt, alloc, &mut vol, &tiles, Err(second));
+    expect_refused(&rt, rt.alloc(), (&[], first), (&SMALL, second));
 }
 
 #[test]
 fn tiles_of_too_many_bytes(rt: HostRuntime) {
     let alloc = rt.alloc();
     let large = vec![in alloc; 7u8; 16777216].expect(&rt, "memory");
-    let mut vol = empty_volume(&rt, alloc);
-    let fault = StoreFault::TileTooLarge {
-        at: 0,
-        len: 16777216,
-    };
-    expect_put(&rt, alloc, &mut vol, first_slot(&rt), &large, Err(fault));
-    let tiles = with_an_empty_tile(&rt, alloc, Bytes::from_vec(large));
-    expect_build(&rt, alloc, &mut vol, &tiles, Err(fault));
+    let (at, len) = (0, 16777216);
+    let fault = StoreFault::TileTooLarge { at, len };
+    expect_refused(&rt, alloc, (&large, fault), (&large, fault));
 }
 
 #[test]
