@@ -64,7 +64,8 @@ fn expect_open(rt: &impl Abort, alloc: Global, vol: &MemVolume, moment: u64, wan
 
 // The journal of the first put of 66 bytes into the last slot, but for the header, open.
 const FIRST_PUT: [u8; 96] =
-    *b"\x01LBJRNL1\x01\x00\xff\x3f\x00\x00\x00\x00\x44\x00\x02\x00\x00\x42\x00\x00\x86\x00\x02\x00\x00\x00\x00\x00________________________________________________________________";
+    *b"\x01LBJRNL1\x01\x00\xff\x3f\x00\x00\x00\x00\x44\x00\x02\x00\x00\x42\x00\x00\x86\x00\x02\x00\
+    \x00\x00\x00\x00________________________________________________________________";
 
 /// The body of that journal.
 fn first_body(rt: &impl Abort, alloc: Global) -> Body

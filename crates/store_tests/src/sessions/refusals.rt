@@ -69,7 +69,9 @@ fn entries_without_a_whole_tile(rt: HostRuntime) {
 // The open journal of a put of 66 bytes into the last slot of a bundle of no tiles, but for the
 // header.
 const JOURNAL: [u8; 96] =
-    *b"\x01LBJRNL1\x01\x00\xff\x3f\x00\x00\x00\x00\x44\x00\x02\x00\x00\x42\x00\x00\x86\x00\x02\x00\x00\x00\x00\x00\x03\x00\x00\x00\x00\x40\x00\x00________________________________________________________";
+    *b"\x01LBJRNL1\x01\x00\xff\x3f\x00\x00\x00\x00\x44\x00\x02\x00\x00\x42\x00\x00\x86\x00\x02\x00\
+    \x00\x00\x00\x00\x03\x00\x00\x00\x00\x40\x00\x00______________________________________________\
+    __________";
 
 /// Recovery answers so where two bytes of the journal are others.
 fn expect_answer(
