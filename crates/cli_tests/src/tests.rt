@@ -36,7 +36,8 @@ pub(crate) const WIDE: [u8; 66] = [
 ];
 
 pub(crate) const USAGE: &[u8] =
-    b"usage: PATH encode V E, decode, info, build V E N, put V E N, get R C, get R C raw, list, check, recover, sample START COUNT\n";
+    b"usage: PATH encode V E, decode, info, build V E N, put V E N, get R C, get R C raw, list, \
+    check, recover, sample START COUNT\n";
 
 /// A blob of one pixel that is not valid.
 pub(crate) const NONE_VALID: [u8; 66] = [
