@@ -43,7 +43,8 @@ fn raster_with(
     raster
 }
 
-/// A sink that has room for 18 bytes takes these of the raster's grid, three a call, and fails then.
+/// A sink that has room for 18 bytes takes these of the raster's grid, three a call, and fails
+/// then.
 fn fails_behind(rt: &impl Abort, alloc: Global, raster: &Raster) {
     let mut sink = sink(rt, alloc, 3, 18);
     let answer = grid_write(raster, &mut sink);

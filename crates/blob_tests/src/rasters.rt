@@ -352,8 +352,8 @@ fn distances_and_ranges_of_a_depth(rt: HostRuntime) {
     has_range(&rt, &raster, 1, Some((0, 200)));
 }
 
-/// A row of nine pixels: its type and its bytes, the distances of its first block of side 8, that of
-/// its second, and its range.
+/// A row of nine pixels: its type and its bytes, the distances of its first block of side 8, that
+/// of its second, and its range.
 struct Row {
     kind: PixelType,
     bytes: &'static [u8],
