@@ -4,8 +4,8 @@ use crate::encode_tests::TENS;
 use crate::same::same;
 use crate::tests::{GRID, NO_PIXEL, NONE_VALID};
 use crate::volumes::{
-    ENTRY, FRESH, HEADER, Wanted, empty, fails_alone, fed, gives, holds, mark_at, marks_of, over,
-    volume, with_one,
+    ENTRY, FRESH, HEADER, empty, fails_alone, fed, gives, holds, mark_at, marks_of, over, volume,
+    with_one,
 };
 use outside_io::{MemVolume, VolFile, Volume};
 use std::process::Abort;
@@ -32,17 +32,10 @@ const NO_TILES: [(u64, &[u8]); 2] = [(0, &FRESH), (64, &[0; 100])];
 /// What a bundle of the two holds.
 const BUILT: [(u64, &[u8]); 3] = [(0, &HEADER), (64, &ENTRY), (131136, b"\x42\0\0\0")];
 
-const TWO_BUILT: Wanted<'static> = (0, 2, b"built 1 131206\n", b"");
-
-const NONE_BUILT: Wanted<'static> = (0, 0, b"built 0 131136\n", b"");
-
-const NOT_EMPTY: Wanted<'static> = (7, 0, b"", b"store: NotEmpty 131206\n");
-
-const OUTPUT_FAILED: Wanted<'static> = (4, 2, b"", b"output failed\n");
-
 /// Builds a bundle of the two tiles.
 pub(crate) fn build_two(rt: &(impl Abort + AllocGlobal), vol: &mut MemVolume) {
-    fed(rt, vol, &BUILD, &TWO_TILES, &[], TWO_BUILT);
+    let done = (0, 2, b"built 1 131206\n".as_slice(), b"".as_slice());
+    fed(rt, vol, &BUILD, &TWO_TILES, &[], done);
 }
 
 /// The first tile is the last one of the two.
@@ -54,7 +47,8 @@ fn has_the_last(rt: &(impl Abort + AllocGlobal), vol: &mut MemVolume) {
 #[test]
 fn a_bundle_of_no_tiles_is_built(rt: HostRuntime) {
     let mut vol = empty(&rt);
-    fed(&rt, &mut vol, &BUILD, &[], &[], NONE_BUILT);
+    let done = (0, 0, b"built 0 131136\n".as_slice(), b"".as_slice());
+    fed(&rt, &mut vol, &BUILD, &[], &[], done);
     holds(&rt, &mut vol, VolFile::Bundle, 131136, &NO_TILES);
     gives(&rt, &mut vol, &["list"], b"");
 }
@@ -65,7 +59,8 @@ fn a_bundle_of_each_slot_s_last_tile_is_built_once(rt: HostRuntime) {
     build_two(&rt, &mut vol);
     holds(&rt, &mut vol, VolFile::Bundle, 131206, &BUILT);
     has_the_last(&rt, &mut vol);
-    fed(&rt, &mut vol, &BUILD, &TWO_TILES, &[], NOT_EMPTY);
+    let again = (7, 0, b"".as_slice(), b"store: NotEmpty 131206\n".as_slice());
+    fed(&rt, &mut vol, &BUILD, &TWO_TILES, &[], again);
 }
 
 #[test]
@@ -103,7 +98,8 @@ fn a_failing_call_of_a_build_leaves_no_line(rt: HostRuntime) {
 #[test]
 fn an_output_that_fails_leaves_the_bundle_built(rt: HostRuntime) {
     let mut vol = empty(&rt);
-    fed(&rt, &mut vol, &BUILD, &TWO_TILES, &[0], OUTPUT_FAILED);
+    let failed = (4, 2, b"".as_slice(), b"output failed\n".as_slice());
+    fed(&rt, &mut vol, &BUILD, &TWO_TILES, &[0], failed);
     has_the_last(&rt, &mut vol);
 }
 

@@ -3,8 +3,8 @@
 use crate::same::same;
 use crate::tests::{BLOB, GRID, USAGE};
 use crate::volumes::{
-    ENTRY, FRESH, HEADER, LAST, VOLUME_FAILED, Wanted, bundle_of, empty, ends, gives, joined,
-    no_entries, volume, with_entry, with_one,
+    ENTRY, FRESH, HEADER, LAST, VOLUME_FAILED, bundle_of, empty, ends, gives, joined, no_entries,
+    volume, with_entry, with_one,
 };
 use outside_io::{MemVolume, NoVolume, Volume};
 use std::process::Abort;
@@ -151,13 +151,17 @@ fn with_other_format(rt: &(impl Abort + AllocGlobal), size: &[u8; 4]) -> MemVolu
     volume(rt, &bundle, &[], &[])
 }
 
-const NO_BLOB: Wanted<'static> = (2, 0, b"", b"refused: Truncated at 3\n");
-
 /// That tile is passed on, and a check finds this.
 fn passes_on(rt: &(impl Abort + AllocGlobal), size: &[u8; 4], report: &[u8]) {
     let mut vol = with_other_format(rt, size);
     gives(rt, &mut vol, &["get", "0", "0", "raw"], OTHER_FORMAT);
-    ends(rt, &mut vol, &["get", "0", "0"], NO_BLOB);
+    let refused = (
+        2,
+        0,
+        b"".as_slice(),
+        b"refused: Truncated at 3\n".as_slice(),
+    );
+    ends(rt, &mut vol, &["get", "0", "0"], refused);
     gives(rt, &mut vol, &["check"], report);
 }
 
@@ -167,17 +171,17 @@ fn a_tile_of_another_format_is_passed_on(rt: HostRuntime) {
     passes_on(&rt, b"\x04\0\0\0", b"tiles 1\nbytes 3\nbad 1\nfirst 0 0\n");
 }
 
-/// These words are no command, and the volume is not called.
-fn is_no_command(rt: &(impl Abort + AllocGlobal), words: &[&str]) {
-    let mut vol = empty(rt);
-    ends(rt, &mut vol, words, (1, 0, b"", USAGE));
-    same(rt, "calls of the volume", vol.moment(), 0);
-}
-
 #[test]
 fn words_that_are_nearly_a_command_are_refused(rt: HostRuntime) {
-    is_no_command(&rt, &["build", "3", "0", "0"]);
-    is_no_command(&rt, &["get", "128", "0"]);
-    is_no_command(&rt, &["get", "01", "0"]);
-    is_no_command(&rt, &["list", "0"]);
+    let rows = [
+        ["build", "3", "0", "0"].as_slice(),
+        &["get", "128", "0"],
+        &["get", "01", "0"],
+        &["list", "0"],
+    ];
+    for words in rows {
+        let mut vol = empty(&rt);
+        ends(&rt, &mut vol, words, (1, 0, b"", USAGE));
+        same(&rt, "calls of the volume", vol.moment(), 0);
+    }
 }

@@ -18,41 +18,6 @@ const APPLIED: Recovered<'static> = (b"applied\n", &STEPS);
 
 const NEW: Recovered<'static> = (b"closed\n", &STEPS);
 
-const OLD: Recovered<'static> = (b"closed\n", &BLOB);
-
-const NONE: Recovered<'static> = (b"closed\n", b"");
-
-const EMPTIED: Recovered<'static> = (b"emptied\n", b"");
-
-const WHOLE: Recovered<'static> = (b"closed\n", LISTED);
-
-const ALL_APPLIED: [Recovered<'static>; 4] = [APPLIED, APPLIED, APPLIED, APPLIED];
-
-const NEWER_ARE_NEW: [Recovered<'static>; 4] = [APPLIED, NEW, NEW, APPLIED];
-
-const ALL_NEW: [Recovered<'static>; 4] = [NEW, NEW, NEW, NEW];
-
-/// Moments, the last left out, and what the four images of each give.
-type Moments<'a> = ((u64, u64), [Recovered<'a>; 4]);
-
-/// The moments of a put over a tile.
-const PUT_MOMENTS: [Moments<'static>; 5] = [
-    ((0, 18), [OLD, OLD, OLD, OLD]),
-    ((18, 19), [OLD, APPLIED, OLD, APPLIED]),
-    ((19, 23), ALL_APPLIED),
-    ((23, 24), NEWER_ARE_NEW),
-    ((24, 25), ALL_NEW),
-];
-
-/// The moments of a build.
-const BUILD_MOMENTS: [Moments<'static>; 5] = [
-    ((0, 12), [NONE, NONE, NONE, NONE]),
-    ((12, 13), [NONE, EMPTIED, NONE, EMPTIED]),
-    ((13, 33), [EMPTIED, EMPTIED, EMPTIED, EMPTIED]),
-    ((33, 34), [EMPTIED, WHOLE, WHOLE, EMPTIED]),
-    ((34, 35), [WHOLE, WHOLE, WHOLE, WHOLE]),
-];
-
 /// One image of a moment.
 fn image(rt: &(impl Abort + AllocGlobal), vol: &MemVolume, moment: u64, pick: Pick) -> MemVolume {
     assert!(rt; moment <= vol.moment());
@@ -114,8 +79,17 @@ fn put_over(rt: &(impl Abort + AllocGlobal)) -> MemVolume {
 fn a_crash_at_each_moment_of_a_put_leaves_the_old_or_the_new_tile(rt: HostRuntime) {
     let vol = put_over(&rt);
     same(&rt, "the last moment", vol.moment(), 24);
-    for (moments, want) in PUT_MOMENTS {
-        all_recover(&rt, &vol, moments, &LAST, want);
+    let old = (b"closed\n".as_slice(), BLOB.as_slice());
+    let (applied, new) = (APPLIED, NEW);
+    let rows = [
+        (0, 18, [old, old, old, old]),
+        (18, 19, [old, applied, old, applied]),
+        (19, 23, [applied, applied, applied, applied]),
+        (23, 24, [applied, new, new, applied]),
+        (24, 25, [new, new, new, new]),
+    ];
+    for (first, end, want) in rows {
+        all_recover(&rt, &vol, (first, end), &LAST, want);
     }
 }
 
@@ -133,9 +107,11 @@ fn is_recovered_again(rt: &(impl Abort + AllocGlobal), vol: &MemVolume, moment: 
     let mut crashed = image(rt, vol, moment, pick);
     gives(rt, &mut crashed, &["recover"], b"applied\n");
     let end = end_of(rt, &crashed);
-    all_recover(rt, &crashed, (0, end - 1), &LAST, ALL_APPLIED);
-    four_recover(rt, &crashed, end - 1, &LAST, NEWER_ARE_NEW);
-    four_recover(rt, &crashed, end, &LAST, ALL_NEW);
+    let (applied, new) = (APPLIED, NEW);
+    let all = [applied, applied, applied, applied];
+    all_recover(rt, &crashed, (0, end - 1), &LAST, all);
+    four_recover(rt, &crashed, end - 1, &LAST, [applied, new, new, applied]);
+    four_recover(rt, &crashed, end, &LAST, [new, new, new, new]);
 }
 
 // The recovery writes the header and the entry again, syncs them, closes the gate and syncs that.
@@ -155,8 +131,18 @@ fn a_crash_at_each_moment_of_a_build_leaves_all_tiles_or_none(rt: HostRuntime) {
     let mut vol = empty(&rt);
     build_two(&rt, &mut vol);
     same(&rt, "the last moment", vol.moment(), 34);
-    for (moments, want) in BUILD_MOMENTS {
-        all_recover(&rt, &vol, moments, &["list"], want);
+    let none = (b"closed\n".as_slice(), b"".as_slice());
+    let emptied = (b"emptied\n".as_slice(), b"".as_slice());
+    let whole = (b"closed\n".as_slice(), LISTED);
+    let rows = [
+        (0, 12, [none, none, none, none]),
+        (12, 13, [none, emptied, none, emptied]),
+        (13, 33, [emptied, emptied, emptied, emptied]),
+        (33, 34, [emptied, whole, whole, emptied]),
+        (34, 35, [whole, whole, whole, whole]),
+    ];
+    for (first, end, want) in rows {
+        all_recover(&rt, &vol, (first, end), &["list"], want);
     }
 }
 

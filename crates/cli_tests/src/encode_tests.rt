@@ -55,21 +55,20 @@ fn the_greatest_error_leaves_one_value(rt: HostRuntime) {
     gives_image(&rt, &words, &TENS, b"\0\x83\x0a");
 }
 
-/// What is written over the grid, and where, and the line that tells it.
-const WRONG_FIELDS: [(usize, &[u8], &[u8]); 8] = [
-    (0, &[0x6c], b"refused: BadMagic at 0\n"),
-    (4, &[6], b"refused: BadType at 4\n"),
-    (5, &[0], b"refused: BadSize at 5\n"),
-    (9, &[0], b"refused: BadSize at 9\n"),
-    (13, &[0], b"refused: BadSize at 13\n"),
-    (15, &[2], b"refused: TooLarge at 13\n"),
-    (17, &[2], b"refused: BadMark at 17\n"),
-    (17, &[0], b"refused: Leftover at 18\n"),
-];
-
 #[test]
 fn the_first_fault_of_a_grid_is_named(rt: HostRuntime) {
-    for row in WRONG_FIELDS {
+    // What is written over the grid, and where.
+    let rows = [
+        (0, [0x6c].as_slice(), b"refused: BadMagic at 0\n".as_slice()),
+        (4, &[6], b"refused: BadType at 4\n"),
+        (5, &[0], b"refused: BadSize at 5\n"),
+        (9, &[0], b"refused: BadSize at 9\n"),
+        (13, &[0], b"refused: BadSize at 13\n"),
+        (15, &[2], b"refused: TooLarge at 13\n"),
+        (17, &[2], b"refused: BadMark at 17\n"),
+        (17, &[0], b"refused: Leftover at 18\n"),
+    ];
+    for row in rows {
         refuses_with(&rt, &["encode", "4", "0"], &GRID, row);
     }
 }

@@ -5,8 +5,8 @@ use crate::encode_tests::TENS;
 use crate::same::same;
 use crate::tests::{BLOB, GRID};
 use crate::volumes::{
-    ENTRY, FRESH, HEADER, LAST, Wanted, empty, fails_alone, fed, gives, holds, long_bundle,
-    mark_at, marks_of, with_one,
+    ENTRY, FRESH, HEADER, LAST, empty, fails_alone, fed, gives, holds, long_bundle, mark_at,
+    marks_of, with_one,
 };
 use outside_io::{Marks, MemVolume, VolFile, Volume};
 use std::process::Abort;
@@ -29,29 +29,16 @@ const TWO_PIXELS: [&[u8]; 4] = [LAST_SLOT, &GRID, LAST_SLOT, &GRID];
 /// A tile of four numbers for the last slot.
 const FOUR_TENS: [&[u8]; 2] = [LAST_SLOT, &TENS];
 
-const PIXEL_PUT: Wanted<'static> = (0, 1, b"put 127 127 66\n", b"");
-
-const TENS_PUT: Wanted<'static> = (0, 1, b"put 127 127 72\n", b"");
-
-const OUTPUT_FAILED: Wanted<'static> = (4, 1, b"", b"output failed\n");
-
-const NO_ROOM: Wanted<'static> = (7, 0, b"", b"store: Full 1099511627707\n");
-
-const NO_ROOM_BEHIND_ONE: Wanted<'static> = (
-    7,
-    1,
-    b"put 127 127 66\n",
-    b"store: Full 1099511627776\n",
-);
-
 /// Puts a tile of one pixel into the last slot.
 fn put_pixel(rt: &(impl Abort + AllocGlobal), vol: &mut MemVolume) {
-    fed(rt, vol, &PUT, &PIXEL, &[], PIXEL_PUT);
+    let done = (0, 1, b"put 127 127 66\n".as_slice(), b"".as_slice());
+    fed(rt, vol, &PUT, &PIXEL, &[], done);
 }
 
 /// Puts a tile of four numbers into the last slot.
 pub(crate) fn put_tens(rt: &(impl Abort + AllocGlobal), vol: &mut MemVolume) {
-    fed(rt, vol, &PUT_WITHIN_1, &FOUR_TENS, &[], TENS_PUT);
+    let done = (0, 1, b"put 127 127 72\n".as_slice(), b"".as_slice());
+    fed(rt, vol, &PUT_WITHIN_1, &FOUR_TENS, &[], done);
 }
 
 /// The commands give the tile of four numbers, which was put over the first record's.
@@ -152,14 +139,8 @@ fn a_failing_call_of_a_put_leaves_no_line(rt: HostRuntime) {
 #[test]
 fn an_output_that_fails_leaves_the_tile_put(rt: HostRuntime) {
     let mut vol = with_one(&rt, &[]);
-    fed(
-        &rt,
-        &mut vol,
-        &PUT_WITHIN_1,
-        &FOUR_TENS,
-        &[0],
-        OUTPUT_FAILED,
-    );
+    let failed = (4, 1, b"".as_slice(), b"output failed\n".as_slice());
+    fed(&rt, &mut vol, &PUT_WITHIN_1, &FOUR_TENS, &[0], failed);
     gives(&rt, &mut vol, &LAST, &STEPS);
 }
 
@@ -187,7 +168,13 @@ fn an_input_that_is_no_stream_of_tiles_is_refused(rt: HostRuntime) {
 #[test]
 fn a_bundle_without_room_for_a_tile_is_full(rt: HostRuntime) {
     let mut vol = long_bundle(&rt, 1099511627707);
-    fed(&rt, &mut vol, &PUT, &PIXEL, &[], NO_ROOM);
+    let full = (
+        7,
+        0,
+        b"".as_slice(),
+        b"store: Full 1099511627707\n".as_slice(),
+    );
+    fed(&rt, &mut vol, &PUT, &PIXEL, &[], full);
     holds(
         &rt,
         &mut vol,
@@ -200,7 +187,13 @@ fn a_bundle_without_room_for_a_tile_is_full(rt: HostRuntime) {
 #[test]
 fn the_last_tile_that_a_bundle_has_room_for_is_put(rt: HostRuntime) {
     let mut vol = long_bundle(&rt, 1099511627706);
-    fed(&rt, &mut vol, &PUT, &TWO_PIXELS, &[], NO_ROOM_BEHIND_ONE);
+    let full = (
+        7,
+        1,
+        b"put 127 127 66\n".as_slice(),
+        b"store: Full 1099511627776\n".as_slice(),
+    );
+    fed(&rt, &mut vol, &PUT, &TWO_PIXELS, &[], full);
     let entry = b"\xbe\xff\xff\xff\xff\x42\0\0";
     holds(
         &rt,

@@ -438,24 +438,23 @@ fn the_first_fault_is_named(rt: HostRuntime) {
     refuses(&rt, DECODE, &NO_SWEEP, b"refused: PastEnd at 74\n");
 }
 
-/// What is written over the blob, and where, and the line that tells it.
-const WRONG_FIELDS: [(usize, &[u8], &[u8]); 11] = [
-    (0, &[0x6c], b"refused: BadKey at 0\n"),
-    (6, &[6], b"refused: BadVersion at 6\n"),
-    (14, &[0], b"refused: BadRows at 14\n"),
-    (14, &[1, 16, 0, 0, 1, 16], b"refused: TooLarge at 18\n"),
-    (22, &[2], b"refused: BadCount at 22\n"),
-    (26, &[0], b"refused: BadBlockSize at 26\n"),
-    (30, &[65], b"refused: BadBlobSize at 30\n"),
-    (34, &[6], b"refused: FloatPixels at 34\n"),
-    (34, &[8], b"refused: BadType at 34\n"),
-    (44, &[0xd0, 0x3f], b"refused: BadError at 38\n"),
-    (60, &[0x70, 0x40], b"refused: BadRange at 54\n"),
-];
-
 #[test]
 fn a_wrong_field_of_the_header_is_named(rt: HostRuntime) {
-    for row in WRONG_FIELDS {
+    // What is written over the blob, and where.
+    let rows = [
+        (0, [0x6c].as_slice(), b"refused: BadKey at 0\n".as_slice()),
+        (6, &[6], b"refused: BadVersion at 6\n"),
+        (14, &[0], b"refused: BadRows at 14\n"),
+        (14, &[1, 16, 0, 0, 1, 16], b"refused: TooLarge at 18\n"),
+        (22, &[2], b"refused: BadCount at 22\n"),
+        (26, &[0], b"refused: BadBlockSize at 26\n"),
+        (30, &[65], b"refused: BadBlobSize at 30\n"),
+        (34, &[6], b"refused: FloatPixels at 34\n"),
+        (34, &[8], b"refused: BadType at 34\n"),
+        (44, &[0xd0, 0x3f], b"refused: BadError at 38\n"),
+        (60, &[0x70, 0x40], b"refused: BadRange at 54\n"),
+    ];
+    for row in rows {
         refuses_with(&rt, DECODE, &BLOB, row);
     }
 }
