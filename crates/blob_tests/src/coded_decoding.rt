@@ -1,14 +1,14 @@
 //! What a decoder gives of blobs of blocks and of codes that were worked by hand, in pieces of any
 //! length.
 
-use crate::coded_blobs::{
-    DIFFERENCES, DIFFERENCES_DEEP, DIFFERENCES_OF_I8, FOUR, FOUR_DEEP, MANY_BLOCKS, ONES, PAIRS,
-    PLAIN_DEEP, PLAIN_OF_I8, SEVENTEEN, SIGNED, STEPS, STEPS_DEEP, THREE_BLOCKS, WIDE,
-};
 use crate::decoding::{decodes, has_fault};
 use lerc_header::{BlobReason, checksum};
 use std::alloc::Global;
 use std::process::Abort;
+use worked_examples::{
+    DIFFERENCES, DIFFERENCES_DEEP, DIFFERENCES_OF_I8, FOUR, FOUR_DEEP, MANY_BLOCKS, ONES, PAIRS,
+    PLAIN_DEEP, PLAIN_OF_I8, SEVENTEEN, SIGNED, STEPS, STEPS_DEEP, THREE_BLOCKS, WIDE,
+};
 
 /// Puts the checksum right.
 fn sum(rt: &impl Abort, blob: &mut [u8]) {

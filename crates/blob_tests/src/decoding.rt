@@ -4,10 +4,6 @@ ghost use Rattle.std.specs.Prelude.{◌<◌};
 
 use crate::fixtures::{has_grid, source};
 use crate::same::same;
-use crate::worked_blobs::{
-    BAD_RUN, BLOB, EIGHT, GRID, MINUS_ZERO, MISCOUNTED, NO_MASK, NO_PIXEL, NO_SWEEP, NONE_VALID,
-    NONE_VALID_ODD, RANGES, RUNS, RUNS_SPARE, SWEEP, TWO_ENDS, TWO_PAIRS, ZERO,
-};
 use lerc_decode::{DecodeFault, Decoder, Fed, FedState, FromFault, decode_from, decode_sized};
 use lerc_grammar::{ImageForm, MaskForm, outline};
 use lerc_header::{BlobFault, BlobReason};
@@ -15,6 +11,10 @@ use outside_io::{MemSource, Source};
 use raster_values::Raster;
 use std::alloc::Global;
 use std::process::Abort;
+use worked_examples::{
+    BAD_RUN, BLOB, EIGHT, GRID, MINUS_ZERO, MISCOUNTED, NO_MASK, NO_PIXEL, NO_SWEEP, NONE_VALID,
+    NONE_VALID_ODD, RANGES, RUNS, RUNS_SPARE, SWEEP, TWO_ENDS, TWO_PAIRS, ZERO,
+};
 
 /// The lengths of pieces in which each blob is fed.
 const PIECES: [usize; 3] = [1, 7, 1000];

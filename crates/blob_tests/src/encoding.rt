@@ -1,15 +1,17 @@
 //! The blobs that an encoder chooses for grids, and those that it lays over a buffer.
 
-use crate::coded_blobs::{ONES, STEPS, STEPS_DEEP};
 use crate::fixtures::raster_of;
 use crate::same::same;
-use crate::worked_blobs::{BLOB, EIGHT, GRID, NO_PIXEL, NONE_VALID, RUNS, SWEEP, TWO_ENDS};
 use lerc_encode::{EncodeFault, LayFault, encode, encode_over};
 use lerc_header::{Step, Version};
 use outside_io::Bytes;
 use raster_values::Raster;
 use std::alloc::Global;
 use std::process::Abort;
+use worked_examples::{
+    BLOB, EIGHT, GRID, NO_PIXEL, NONE_VALID, ONES, RISING, RUNS, STEPS, STEPS_DEEP, SWEEP, TENS,
+    TENS_DEEP, TWO_ENDS,
+};
 
 /// The blob of a grid.
 fn blob_of(rt: &impl Abort, alloc: Global, grid: &[u8], version: Version, error: u32) -> Bytes {
@@ -31,14 +33,6 @@ pub(crate) fn encodes(
     same(rt, at, found.as_slice(), blob);
 }
 
-/// One row of i16: 10 11 12 13.
-const TENS: [u8; 29] = *b"LGR1\x02\x01\0\0\0\x04\0\0\0\x01\0\0\0\
-\x01\x01\x01\x01\x0a\0\x0b\0\x0c\0\x0d\0";
-
-/// One row of i16 with two depths: 10 11 12 13, and 100 100 100 103.
-const TWO_DEPTHS: [u8; 37] = *b"LGR1\x02\x01\0\0\0\x04\0\0\0\x02\0\0\0\
-\x01\x01\x01\x01\x0a\0\x64\0\x0b\0\x64\0\x0c\0\x64\0\x0d\0\x67\0";
-
 /// What a row shows, a grid, a version, an error, and the blob that is chosen.
 const CHOSEN: &[(&str, &[u8], Version, u32, &[u8])] = &[
     ("all values are one", &GRID, Version::V3, 0, &BLOB),
@@ -47,7 +41,7 @@ const CHOSEN: &[(&str, &[u8], Version, u32, &[u8])] = &[
     ("a block has its steps", &TENS, Version::V3, 1, &STEPS),
     (
         "each depth has its range",
-        &TWO_DEPTHS,
+        &TENS_DEEP,
         Version::V4,
         1,
         &STEPS_DEEP,
@@ -110,7 +104,7 @@ fn needs_v4(alloc: Global, raster: Raster) -> bool {
 
 #[test]
 fn version_3_has_one_depth(rt: HostRuntime) {
-    let raster = raster_of(&rt, rt.alloc(), &TWO_DEPTHS);
+    let raster = raster_of(&rt, rt.alloc(), &TENS_DEEP);
     same(&rt, "two depths", needs_v4(rt.alloc(), raster), true);
 }
 
@@ -134,12 +128,8 @@ fn is_swept(rt: &impl Abort, alloc: Global, grid: &[u8], image: &[u8; 5]) {
     same(rt, "the image", &blob.as_slice()[66..], image);
 }
 
-/// One row of u8: 1 2 3 4.
-const FOUR: [u8; 25] = *b"LGR1\x01\x01\0\0\0\x04\0\0\0\x01\0\0\0\
-\x01\x01\x01\x01\x01\x02\x03\x04";
-
 #[test]
 fn few_small_values_and_two_values_are_swept(rt: HostRuntime) {
-    is_swept(&rt, rt.alloc(), &FOUR, b"\x01\x01\x02\x03\x04");
+    is_swept(&rt, rt.alloc(), &RISING, b"\x01\x01\x02\x03\x04");
     is_swept(&rt, rt.alloc(), &ONES, b"\x01\x01\0\0\x01");
 }

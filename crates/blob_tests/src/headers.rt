@@ -1,13 +1,12 @@
 //! Headers, checksums and steps of blobs that were worked by hand.
 
-use crate::coded_blobs::{STEPS, STEPS_DEEP};
 use crate::same::same;
-use crate::worked_blobs::{BLOB, NONE_VALID, RUNS};
 use lerc_header::{
     BlobFault, BlobReason, Header, Step, Version, checksum, read_header, write_header,
 };
 use raster_values::PixelType;
 use std::process::Abort;
+use worked_examples::{BLOB, NONE_VALID, RUNS, STEPS, STEPS_DEEP};
 
 /// The checksum of the bytes is this.
 fn sums_to(rt: &impl Abort, bytes: &[u8], sum: u32) {

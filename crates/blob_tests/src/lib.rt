@@ -3,8 +3,6 @@
 #![tactic(auto)]
 
 #[cfg(test)]
-mod coded_blobs;
-#[cfg(test)]
 mod coded_decoding;
 #[cfg(test)]
 mod decoding;
@@ -22,5 +20,3 @@ mod rasters;
 mod same;
 #[cfg(test)]
 mod symbol_encoding;
-#[cfg(test)]
-mod worked_blobs;

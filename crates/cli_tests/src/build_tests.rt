@@ -1,14 +1,13 @@
 //! Building bundles: what is given and built, and refusals.
 
-use crate::encode_tests::TENS;
 use crate::same::same;
-use crate::tests::{GRID, NO_PIXEL, NONE_VALID};
 use crate::volumes::{
     ENTRY, FRESH, HEADER, empty, fails_alone, fed, gives, holds, mark_at, marks_of, over, volume,
     with_one,
 };
 use outside_io::{MemVolume, VolFile, Volume};
 use std::process::Abort;
+use worked_examples::{GRID, NO_PIXEL, NONE_VALID, TENS};
 
 const BUILD: [&str; 4] = ["build", "3", "0", "2"];
 

@@ -1,13 +1,14 @@
 //! Bundles: what the commands on them give, and what they say of files that are none.
 
 use crate::same::same;
-use crate::tests::{BLOB, GRID, USAGE};
+use crate::tests::USAGE;
 use crate::volumes::{
     ENTRY, FRESH, HEADER, LAST, VOLUME_FAILED, bundle_of, empty, ends, gives, joined, no_entries,
     volume, with_entry, with_one,
 };
 use outside_io::{MemVolume, NoVolume, Volume};
 use std::process::Abort;
+use worked_examples::{BLOB, GRID};
 
 /// The words that give the grid of the last slot's tile.
 const LAST_GRID: [&str; 3] = ["get", "127", "127"];

@@ -3,13 +3,12 @@
 ghost use Rattle.std.specs.Prelude.{◌<◌};
 
 use crate::build_tests::{LISTED, build_two};
-use crate::coded_tests::STEPS;
 use crate::put_tests::put_tens;
 use crate::same::same;
-use crate::tests::BLOB;
 use crate::volumes::{ENTRY, LAST, empty, gives, gives_at, with_entry, with_one};
 use outside_io::{MemVolume, Pick, Volume};
 use std::process::Abort;
+use worked_examples::{BLOB, STEPS};
 
 /// The line of a recovery, and what a command behind it gives.
 type Recovered<'a> = (&'a [u8], &'a [u8]);

@@ -1,29 +1,19 @@
 //! What `encode` gives, whatever the pieces and whichever call fails. The blobs are worked by hand.
 
-use crate::coded_tests::{ONES, STEPS, STEPS_DEEP};
 use crate::same::same;
 use crate::tests::{
-    BLOB, EIGHT, GRID, NO_PIXEL, NONE_VALID, RUNS, SWEEP, TWO_ENDS, fails_at_output,
-    fails_at_source, gives, is_no_command, left_behind, refuses, refuses_each_cut, refuses_longer,
-    refuses_with,
+    fails_at_output, fails_at_source, gives, is_no_command, left_behind, refuses, refuses_each_cut,
+    refuses_longer, refuses_with,
 };
 use std::process::Abort;
+use worked_examples::{
+    BLOB, EIGHT, GRID, NO_PIXEL, NONE_VALID, ONES, RISING, RUNS, STEPS, STEPS_DEEP, SWEEP, TENS,
+    TENS_DEEP, TWO_ENDS,
+};
 
 const EXACT: &[&str] = &["encode", "3", "0"];
 
 const WITHIN_1: &[&str] = &["encode", "3", "1"];
-
-/// One row of four numbers of two bytes: 10 11 12 13.
-pub(crate) const TENS: [u8; 29] = *b"LGR1\x02\x01\0\0\0\x04\0\0\0\x01\0\0\0\
-\x01\x01\x01\x01\x0a\0\x0b\0\x0c\0\x0d\0";
-
-/// The same with a second depth: 100 100 100 103.
-const TENS_DEEP: [u8; 37] = *b"LGR1\x02\x01\0\0\0\x04\0\0\0\x02\0\0\0\
-\x01\x01\x01\x01\x0a\0\x64\0\x0b\0\x64\0\x0c\0\x64\0\x0d\0\x67\0";
-
-/// One row of four unsigned bytes: 1 2 3 4.
-const RISING: [u8; 25] = *b"LGR1\x01\x01\0\0\0\x04\0\0\0\x01\0\0\0\
-\x01\x01\x01\x01\x01\x02\x03\x04";
 
 #[test]
 fn grids_are_encoded_in_any_pieces(rt: HostRuntime) {

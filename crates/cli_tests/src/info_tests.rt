@@ -2,8 +2,10 @@
 //! from the bytes of the blobs.
 
 use crate::tests::{
-    BAD_RUN, BLOB, MISCOUNTED, NO_SWEEP, NONE_VALID, NONE_VALID_ODD, RANGES, RUNS, SWEEP, WIDE,
-    fails_at_output, fails_at_source, gives, is_no_command, refuses, refuses_longer,
+    WIDE, fails_at_output, fails_at_source, gives, is_no_command, refuses, refuses_longer,
+};
+use worked_examples::{
+    BAD_RUN, BLOB, MISCOUNTED, NO_SWEEP, NONE_VALID, NONE_VALID_ODD, RANGES, RUNS, STEPS, SWEEP,
 };
 
 const INFO: &[&str] = &["info"];
@@ -39,15 +41,6 @@ const WIDE_LINES: &[u8] =
     step 1\nleast -32768\ngreatest -32768\nchecksum 27b70faf\nmask full\n\
     image constant\n";
 
-/// A blob of four pixels in one block: 10, 12, 12, 13, each within 1 of what it was.
-const BLOCKS: [u8; 72] = [
-    0x4c, 0x65, 0x72, 0x63, 0x32, 0x20, 0x03, 0x00, 0x00, 0x00, 0x57, 0xa9, 0xa4, 0x59, 0x01, 0x00,
-    0x00, 0x00, 0x04, 0x00, 0x00, 0x00, 0x04, 0x00, 0x00, 0x00, 0x08, 0x00, 0x00, 0x00, 0x48, 0x00,
-    0x00, 0x00, 0x02, 0x00, 0x00, 0x00, 0x00, 0x00, 0x00, 0x00, 0x00, 0x00, 0xf0, 0x3f, 0x00, 0x00,
-    0x00, 0x00, 0x00, 0x00, 0x24, 0x40, 0x00, 0x00, 0x00, 0x00, 0x00, 0x00, 0x2a, 0x40, 0x00, 0x00,
-    0x00, 0x00, 0x00, 0x81, 0x0a, 0x82, 0x04, 0x94,
-];
-
 const BLOCKS_LINES: &[u8] =
     b"version 3\ntype i16\nrows 1\ncols 4\ndepth 1\nvalid 4\nside 8\nsize 72\nstep 2\n\
     least 10\ngreatest 13\nchecksum 57a9a459\nmask full\nimage blocks\n";
@@ -61,7 +54,7 @@ fn a_blob_is_told_in_any_pieces(rt: HostRuntime) {
     gives(&rt, INFO, &RANGES, RANGES_LINES);
     gives(&rt, INFO, &SWEEP, SWEEP_LINES);
     gives(&rt, INFO, &WIDE, WIDE_LINES);
-    gives(&rt, INFO, &BLOCKS, BLOCKS_LINES);
+    gives(&rt, INFO, &STEPS, BLOCKS_LINES);
 }
 
 #[test]

@@ -1,15 +1,13 @@
 //! Putting tiles: what is given and put, and refusals.
 
-use crate::coded_tests::{FOUR, STEPS};
-use crate::encode_tests::TENS;
 use crate::same::same;
-use crate::tests::{BLOB, GRID};
 use crate::volumes::{
     ENTRY, FRESH, HEADER, LAST, empty, fails_alone, fed, gives, holds, long_bundle, mark_at,
     marks_of, with_one,
 };
 use outside_io::{Marks, MemVolume, VolFile, Volume};
 use std::process::Abort;
+use worked_examples::{BLOB, FOUR, GRID, STEPS, TENS};
 
 /// The words of a put without an error.
 const PUT: [&str; 4] = ["put", "3", "0", "1"];

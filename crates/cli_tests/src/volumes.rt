@@ -3,9 +3,10 @@
 ghost use Rattle.std.specs.Prelude.{◌≤◌, length};
 
 use crate::same::same;
-use crate::tests::{BLOB, Left, left_over, told_over};
+use crate::tests::{Left, left_over, told_over};
 use outside_io::{Bytes, Marks, MemVolume, Piece, Start, VolFile, Volume};
 use std::process::Abort;
+use worked_examples::BLOB;
 
 /// The header of a bundle of 131,206 bytes that has one record.
 pub(crate) const HEADER: [u8; 64] =
