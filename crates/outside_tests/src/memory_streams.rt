@@ -84,18 +84,20 @@ fn five_calls(rt: &impl Abort, alloc: Global, piece: usize, failing: &[u8]) -> [
     counts
 }
 
+/// The greatest piece, the numbers of the calls that fail, and what five calls take.
+const CALLS: &[(usize, &[u8], [i64; 5])] = &[
+    (1, &[], [1, 1, 1, 1, 1]),
+    (4, &[], [4, 4, 1, 0, 0]),
+    (7, &[], [5, 4, 0, 0, 0]),
+    (7, &[0], [-1, 5, 4, 0, 0]),
+    (7, &[3, 1], [5, -1, 4, -1, 0]),
+];
+
 #[test]
 fn pieces_and_failing_calls(rt: HostRuntime) {
-    let rows = [
-        (1, b"".as_slice(), [1, 1, 1, 1, 1]),
-        (4, b"".as_slice(), [4, 4, 1, 0, 0]),
-        (7, b"".as_slice(), [5, 4, 0, 0, 0]),
-        (7, b"\x00".as_slice(), [-1, 5, 4, 0, 0]),
-        (7, b"\x03\x01".as_slice(), [5, -1, 4, -1, 0]),
-    ];
-    for (piece, failing, want) in rows {
-        let counts = five_calls(&rt, rt.alloc(), piece, failing);
-        same(&rt, piece, counts, want);
+    for (piece, failing, wanted) in CALLS {
+        let counts = five_calls(&rt, rt.alloc(), *piece, failing);
+        same(&rt, piece, counts, *wanted);
     }
 }
 

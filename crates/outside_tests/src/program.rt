@@ -11,28 +11,31 @@ fn reads(rt: &impl Abort, alloc: Global, text: &str, wanted: Option<u64>) {
     same(rt, text, word.number(), wanted);
 }
 
+const WORDS: &[(&str, Option<u64>)] = &[
+    ("0", Some(0)),
+    ("7", Some(7)),
+    ("128", Some(128)),
+    ("4294967295", Some(4_294_967_295)),
+    ("9999999999", Some(9_999_999_999)),
+    ("10000000000", None),
+    ("", None),
+    ("00", None),
+    ("01", None),
+    ("1a", None),
+    ("-1", None),
+    ("+1", None),
+    ("raw", None),
+];
+
 #[test]
 fn numbers(rt: HostRuntime) {
-    let rows = [
-        ("0", Some(0)),
-        ("7", Some(7)),
-        ("128", Some(128)),
-        ("4294967295", Some(4_294_967_295)),
-        ("9999999999", Some(9_999_999_999)),
-        ("10000000000", None),
-        ("", None),
-        ("00", None),
-        ("01", None),
-        ("1a", None),
-        ("-1", None),
-        ("+1", None),
-        ("raw", None),
-    ];
-    for (text, wanted) in rows {
-        reads(&rt, rt.alloc(), text, wanted);
+    for (text, wanted) in WORDS {
+        reads(&rt, rt.alloc(), text, *wanted);
     }
+}
 
-    // A word need be no text.
+#[test]
+fn a_word_need_be_no_text(rt: HostRuntime) {
     let bytes = vec![in rt.alloc(); 0xff, b'1'].expect(&rt, "memory");
     let word = Word::new(bytes);
     same(&rt, "no text", word.as_slice(), [0xff, b'1'].as_slice());

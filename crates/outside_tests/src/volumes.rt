@@ -63,22 +63,25 @@ fn crash_leaves(
     same(rt, moment, held(&mut left), Some(wanted));
 }
 
+/// A moment and a pick, and the length and the first bytes of the bundle that they leave.
+const LEFT: &[(u64, Pick, (u64, [u8; 6]))] = &[
+    (1, Pick::Newest, (4, *b"abcd\x09\x09")),
+    (2, Pick::Oldest, (4, *b"abcd\x09\x09")),
+    (2, Pick::Newest, (5, *b"abcXY\x09")),
+    (2, Pick::Torn(0), (5, *b"abc\x00\x00\x09")),
+    (2, Pick::Torn(255), (5, *b"abc\xff\xff\x09")),
+    (3, Pick::Oldest, (5, *b"abcXY\x09")),
+    (3, Pick::Newest, (5, *b"abcXY\x09")),
+    (3, Pick::Torn(0), (5, *b"abcXY\x09")),
+    (3, Pick::Torn(255), (5, *b"abcXY\x09")),
+];
+
 #[test]
 fn a_crash_leaves_what_its_pick_names(rt: HostRuntime) {
     let mut vol = volume_of(&rt, rt.alloc(), 4, 0, b"abcd");
     write_and_sync(&rt, &mut vol);
-    for (moment, pick, len, bytes) in [
-        (1, Pick::Newest, 4, *b"abcd\x09\x09"),
-        (2, Pick::Oldest, 4, *b"abcd\x09\x09"),
-        (2, Pick::Newest, 5, *b"abcXY\x09"),
-        (2, Pick::Torn(0), 5, *b"abc\x00\x00\x09"),
-        (2, Pick::Torn(255), 5, *b"abc\xff\xff\x09"),
-        (3, Pick::Oldest, 5, *b"abcXY\x09"),
-        (3, Pick::Newest, 5, *b"abcXY\x09"),
-        (3, Pick::Torn(0), 5, *b"abcXY\x09"),
-        (3, Pick::Torn(255), 5, *b"abcXY\x09"),
-    ] {
-        crash_leaves(&rt, rt.alloc(), &vol, moment, pick, (len, bytes));
+    for (moment, pick, wanted) in LEFT {
+        crash_leaves(&rt, rt.alloc(), &vol, *moment, *pick, *wanted);
     }
 }
 

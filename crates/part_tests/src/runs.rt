@@ -83,28 +83,49 @@ fn each_fault_is_told_at_its_place(rt: HostRuntime) {
     }
 }
 
+/// Masks and their chosen runs.
+const CHOSEN: &[(&[u8], &[u8])] = &[
+    (&[], &[0x00, 0x80]),
+    (&[0xef, 0x80], &[0x02, 0x00, 0xef, 0x80, 0x00, 0x80]),
+    (&[7, 7, 7, 7], &[0x04, 0x00, 7, 7, 7, 7, 0x00, 0x80]),
+    (&[7, 7, 7, 7, 7], &[0xfb, 0xff, 7, 0x00, 0x80]),
+    // a repeat between two literals, two repeats side by side, a repeat behind four equal bytes
+    (
+        &[1, 2, 7, 7, 7, 7, 7, 3],
+        &[0x02, 0x00, 1, 2, 0xfb, 0xff, 7, 0x01, 0x00, 3, 0x00, 0x80],
+    ),
+    (
+        &[7, 7, 7, 7, 7, 7, 8, 8, 8, 8, 8],
+        &[0xfa, 0xff, 7, 0xfb, 0xff, 8, 0x00, 0x80],
+    ),
+    (
+        &[1, 7, 7, 7, 7, 8, 8, 8, 8, 8],
+        &[0x05, 0x00, 1, 7, 7, 7, 7, 0xfb, 0xff, 8, 0x00, 0x80],
+    ),
+];
+
 #[test]
 fn the_chosen_runs_are_written_and_read(rt: HostRuntime) {
-    expect_chosen(&rt, &[], &[0x00, 0x80]);
-    expect_chosen(&rt, &[0xef, 0x80], &[0x02, 0x00, 0xef, 0x80, 0x00, 0x80]);
-    expect_chosen(&rt, &[7, 7, 7, 7], &[0x04, 0x00, 7, 7, 7, 7, 0x00, 0x80]);
-    expect_chosen(&rt, &[7, 7, 7, 7, 7], &[0xfb, 0xff, 7, 0x00, 0x80]);
-    let between = [0x02, 0x00, 1, 2, 0xfb, 0xff, 7, 0x01, 0x00, 3, 0x00, 0x80];
-    expect_chosen(&rt, &[1, 2, 7, 7, 7, 7, 7, 3], &between);
-    let side_by_side = [0xfa, 0xff, 7, 0xfb, 0xff, 8, 0x00, 0x80];
-    expect_chosen(&rt, &[7, 7, 7, 7, 7, 7, 8, 8, 8, 8, 8], &side_by_side);
-    let behind_four = [0x05, 0x00, 1, 7, 7, 7, 7, 0xfb, 0xff, 8, 0x00, 0x80];
-    expect_chosen(&rt, &[1, 7, 7, 7, 7, 8, 8, 8, 8, 8], &behind_four);
+    for (mask, runs) in CHOSEN {
+        expect_chosen(&rt, mask, runs);
+    }
 }
 
-// Lawful runs of a mask that are not the chosen ones.
+/// Lawful runs of masks that are not the chosen ones, and the masks.
+const OTHERS: &[(&[u8], &[u8])] = &[
+    (&[0xff, 0xff, 9, 0x00, 0x80], &[9]),
+    (&[0x05, 0x00, 7, 7, 7, 7, 7, 0x00, 0x80], &[7, 7, 7, 7, 7]),
+    (
+        &[0xfd, 0xff, 7, 0x01, 0x00, 1, 0x01, 0x00, 2, 0x00, 0x80],
+        &[7, 7, 7, 1, 2],
+    ),
+];
+
 #[test]
 fn other_runs_are_read_too(rt: HostRuntime) {
-    expect_read(&rt, &[0xff, 0xff, 9, 0x00, 0x80], &[9]);
-    let literal = [0x05, 0x00, 7, 7, 7, 7, 7, 0x00, 0x80];
-    expect_read(&rt, &literal, &[7, 7, 7, 7, 7]);
-    let three = [0xfd, 0xff, 7, 0x01, 0x00, 1, 0x01, 0x00, 2, 0x00, 0x80];
-    expect_read(&rt, &three, &[7, 7, 7, 1, 2]);
+    for (runs, mask) in OTHERS {
+        expect_read(&rt, runs, mask);
+    }
 }
 
 #[test]

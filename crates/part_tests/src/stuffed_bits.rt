@@ -223,54 +223,60 @@ fn expect_chosen(rt: &impl Abort, values: &[u32], want: &[u8]) {
     same(rt, "the bytes", &*out, want);
 }
 
+/// Values and their chosen simple lists.
+const CHOSEN: &[(&[u32], &[u8])] = &[
+    (&[1, 2, 3], &[0x82, 0x03, 0x39]),
+    (&[0, 5, 5, 0], &[0x83, 0x04, 0x68, 0x01]),
+    (&[], &[0x80, 0x00]),
+    (&[0; 256], &[0x40, 0x00, 0x01]),
+    (&[0; 255], &[0x80, 0xff]),
+];
+
 #[test]
 fn chosen_simple_lists(rt: HostRuntime) {
-    expect_chosen(&rt, &[1, 2, 3], &[0x82, 0x03, 0x39]);
-    expect_chosen(&rt, &[0, 5, 5, 0], &[0x83, 0x04, 0x68, 0x01]);
-    expect_chosen(&rt, &[], &[0x80, 0x00]);
-    expect_chosen(&rt, &[0; 256], &[0x40, 0x00, 0x01]);
-    expect_chosen(&rt, &[0; 255], &[0x80, 0xff]);
+    for (values, list) in CHOSEN {
+        expect_chosen(&rt, values, list);
+    }
 }
 
-/// Reading the head of a list of `want` numbers meets this fault.
-fn expect_fault(rt: &impl Abort, bytes: &[u8], want: u32, reason: ListReason, at: usize) {
-    same(
-        rt,
-        at,
-        read_head(bytes, want),
-        Err(ListFault { reason, at }),
-    );
+/// Reading the head of a list of four numbers meets this fault.
+fn expect_fault(rt: &impl Abort, bytes: &[u8], reason: ListReason, at: usize) {
+    same(rt, at, read_head(bytes, 4), Err(ListFault { reason, at }));
 }
 
-/// The bytes begin with this head, which takes `used` of them.
-fn expect_head(rt: &impl Abort, bytes: &[u8], head: ListHead, used: usize) {
-    same(rt, used, read_head(bytes, head.count), Ok((head, used)));
-}
+/// Bytes, and the reason and the place of the fault of their head.
+const FAULTS: &[(&[u8], ListReason, usize)] = &[
+    (&[], ListReason::Cut, 0),
+    (&[0xc2], ListReason::BadHead, 0),
+    (&[0xe0, 4], ListReason::BadHead, 0),
+    (&[0xa0], ListReason::BadTable, 0),
+    (&[0x42, 4], ListReason::Cut, 1),
+    (&[0x82, 0x03, 0x39], ListReason::BadCount, 1),
+];
 
 #[test]
-fn heads_and_their_faults(rt: HostRuntime) {
-    expect_fault(&rt, &[], 4, ListReason::Cut, 0);
-    expect_fault(&rt, &[0xc2], 4, ListReason::BadHead, 0);
-    expect_fault(&rt, &[0xe0, 4], 4, ListReason::BadHead, 0);
-    expect_fault(&rt, &[0xa0], 4, ListReason::BadTable, 0);
-    expect_fault(&rt, &[0x42, 4], 4, ListReason::Cut, 1);
-    expect_fault(&rt, &[0x82, 0x03, 0x39], 4, ListReason::BadCount, 1);
-    let simple = ListHead {
-        width: 2,
-        table: false,
-        count: 3,
-    };
-    expect_head(&rt, &[0x82, 0x03, 0x39], simple, 2);
-    let table = ListHead {
-        width: 31,
-        table: true,
-        count: 1024,
-    };
-    expect_head(&rt, &[0x7f, 0x00, 0x04], table, 3);
-    let wide = ListHead {
-        width: 0,
-        table: false,
-        count: 16909060,
-    };
-    expect_head(&rt, &[0x00, 4, 3, 2, 1, 9], wide, 5);
+fn a_fault_of_a_head_is_told_at_its_place(rt: HostRuntime) {
+    for (bytes, reason, at) in FAULTS {
+        expect_fault(&rt, bytes, *reason, *at);
+    }
+}
+
+/// Bytes, the width, whether there is a table and the count that their head says, and how many of
+/// them it takes.
+const HEADS: &[(&[u8], u32, bool, u32, usize)] = &[
+    (&[0x82, 0x03, 0x39], 2, false, 3, 2),
+    (&[0x7f, 0x00, 0x04], 31, true, 1024, 3),
+    (&[0x00, 4, 3, 2, 1, 9], 0, false, 16909060, 5),
+];
+
+#[test]
+fn heads_are_read(rt: HostRuntime) {
+    for (bytes, width, table, count, used) in HEADS {
+        let head = ListHead {
+            width: *width,
+            table: *table,
+            count: *count,
+        };
+        same(&rt, used, read_head(bytes, *count), Ok((head, *used)));
+    }
 }

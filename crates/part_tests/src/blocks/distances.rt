@@ -2,7 +2,7 @@ ghost use Rattle.std.specs.Prelude.{◌≡◌, ◌≤ℤ◌, All, map, true};
 ghost use Rattle.raster_values.specs.Distance.{IsDistance, value_above};
 ghost use Rattle.micro_block.specs.Frame.{IsBlockCtx};
 
-use super::{expect_bytes, whole};
+use super::{I8S, I32S, U16S, Under, context, expect_bytes};
 use crate::same::same;
 use micro_block::{BlockCtx, BlockSize, block_size, write_distances};
 use raster_values::PixelType;
@@ -26,65 +26,90 @@ fn suit(distances: &[u32], ctx: &BlockCtx) -> bool
     none_above(distances, ctx.kind, ctx.top)
 }
 
+/// What a block stands under, how far its values are above the least of the type, whether it has a
+/// table, and its bytes.
+type Written = (Under, &'static [u32], bool, &'static [u8]);
+
 /// The chosen block has these bytes, it has a table or not, and nothing behind it is touched.
-fn expect_written(rt: &impl Abort, distances: &[u32], ctx: &BlockCtx, table: bool, bytes: &[u8])
-    requires { IsBlockCtx ctx.now }
-{
+fn expect_written(rt: &impl Abort, (under, distances, table, bytes): &Written) {
+    let ctx = context(rt, *under);
     let mut out = [0xee; 80];
-    assert!(rt; distances.len() <= 256 && suit(distances, ctx));
-    let size = block_size(distances, ctx);
+    assert!(rt; distances.len() <= 256 && suit(distances, &ctx));
+    let size = block_size(distances, &ctx);
     let wanted = BlockSize {
         len: bytes.len(),
-        has_table: table,
+        has_table: *table,
     };
     same(rt, "the size", size, wanted);
     assert!(rt; size.len < 80);
-    let len = write_distances(distances, ctx, size.has_table, &mut out);
+    let len = write_distances(distances, &ctx, size.has_table, &mut out);
     same(rt, "the answer", len, size.len);
     expect_bytes(rt, &out, bytes);
 }
 
+const FORMS: &[Written] = &[
+    (I8S, &[], false, &[0x02]),
+    (I8S, &[128, 128], false, &[0x02]),
+    (I8S, &[127], false, &[0x03, 0xff]),
+    (U16S, &[0, 1], false, &[0x00, 0, 0, 1, 0]),
+    (
+        I32S,
+        &[0, 4294967295],
+        false,
+        &[0, 0, 0, 0, 0x80, 255, 255, 255, 0x7f],
+    ),
+    (
+        (PixelType::I16, 8, 1, 32767),
+        &[32773, 33773, 33773, 32773, 33773, 32773, 32773, 32773],
+        true,
+        &[0x85, 0x05, 0xaa, 0x08, 0x02, 0xe8, 0x03, 0x16],
+    ),
+];
+
 #[test]
 fn each_form_is_written_from_distances(rt: HostRuntime) {
-    let i8s = whole(PixelType::I8, 0, 1);
-    expect_written(&rt, &[], &i8s, false, &[0x02]);
-    expect_written(&rt, &[128, 128], &i8s, false, &[0x02]);
-    expect_written(&rt, &[127], &i8s, false, &[0x03, 0xff]);
-    let u16s = whole(PixelType::U16, 0, 1);
-    expect_written(&rt, &[0, 1], &u16s, false, &[0x00, 0, 0, 1, 0]);
-    let i32s = whole(PixelType::I32, 0, 1);
-    let ends = [0, 0, 0, 0, 0x80, 255, 255, 255, 0x7f];
-    expect_written(&rt, &[0, 4294967295], &i32s, false, &ends);
-    let eighth = whole(PixelType::I16, 8, 1);
-    let (low, high) = (32773, 33773);
-    let row = [0x85, 0x05, 0xaa, 0x08, 0x02, 0xe8, 0x03, 0x16];
-    let values = [low, high, high, low, high, low, low, low];
-    expect_written(&rt, &values, &eighth, true, &row);
+    for row in FORMS {
+        expect_written(&rt, row);
+    }
 }
 
 /// By a shift; by a product of either kind and by a division, of steps that are no power of 2.
+const RULES: &[Written] = &[
+    (
+        (PixelType::I16, 0, 4, 32767),
+        &[32768, 32769, 32770, 32771, 32772, 32773],
+        false,
+        &[0x81, 0x00, 0x81, 0x06, 0x3c],
+    ),
+    (
+        (PixelType::U8, 0, 6, 255),
+        &[0, 2, 3, 4, 8, 9],
+        false,
+        &[0x01, 0x00, 0x82, 0x06, 0x50, 0x09],
+    ),
+    (
+        (PixelType::U32, 0, 6, 4294967295),
+        &[0, 1000, 0, 1000, 0, 1000, 0, 1000],
+        true,
+        &[0x81, 0x00, 0xa8, 0x08, 0x02, 0xa7, 0xaa],
+    ),
+    (
+        (PixelType::U32, 0, 6, 4294967295),
+        &[0, 1000000000, 0, 1000000000, 0, 1000000000, 0, 1000000000],
+        true,
+        &[0x81, 0x00, 0xbc, 0x08, 0x02, 0xab, 0x21, 0xef, 0x09, 0xaa],
+    ),
+    (
+        (PixelType::U32, 0, 6, 4294967295),
+        &[0, 4000000000, 0, 4000000000, 0, 4000000000, 0, 4000000000],
+        true,
+        &[0x81, 0x00, 0xbe, 0x08, 0x02, 0xab, 0x86, 0xbc, 0x27, 0xaa],
+    ),
+];
+
 #[test]
 fn each_rule_counts_the_steps(rt: HostRuntime) {
-    let steps = whole(PixelType::I16, 0, 4);
-    let row = [0x81, 0x00, 0x81, 0x06, 0x3c];
-    expect_written(
-        &rt,
-        &[32768, 32769, 32770, 32771, 32772, 32773],
-        &steps,
-        false,
-        &row,
-    );
-    let bytes = whole(PixelType::U8, 0, 6);
-    let row = [0x01, 0x00, 0x82, 0x06, 0x50, 0x09];
-    expect_written(&rt, &[0, 2, 3, 4, 8, 9], &bytes, false, &row);
-    let words = whole(PixelType::U32, 0, 6);
-    let near = [0, 1000, 0, 1000, 0, 1000, 0, 1000];
-    let row = [0x81, 0x00, 0xa8, 0x08, 0x02, 0xa7, 0xaa];
-    expect_written(&rt, &near, &words, true, &row);
-    let far = [0, 1000000000, 0, 1000000000, 0, 1000000000, 0, 1000000000];
-    let row = [0x81, 0x00, 0xbc, 0x08, 0x02, 0xab, 0x21, 0xef, 0x09, 0xaa];
-    expect_written(&rt, &far, &words, true, &row);
-    let farther = [0, 4000000000, 0, 4000000000, 0, 4000000000, 0, 4000000000];
-    let row = [0x81, 0x00, 0xbe, 0x08, 0x02, 0xab, 0x86, 0xbc, 0x27, 0xaa];
-    expect_written(&rt, &farther, &words, true, &row);
+    for row in RULES {
+        expect_written(&rt, row);
+    }
 }
