@@ -113,7 +113,9 @@ refusal_text TooManyTiles = codes "TooManyTiles"
 refusal_text (KeptTooMuch at) = codes "KeptTooMuch" ++ and_number at
 
 abbrev pub usage_text : List ℕ
-usage_text = codes "usage: PATH encode V E, decode, info, build V E N, put V E N, get R C, get R C raw, list, check, recover, sample START COUNT"
+usage_text =
+    codes "usage: PATH encode V E, decode, info, build V E N, put V E N, get R C, get R C raw, "
+    ++ codes "list, check, recover, sample START COUNT"
 
 -- the text of the one line that is given to the error output
 abbrev pub text_of : Stop → List ℕ
