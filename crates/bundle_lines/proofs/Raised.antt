@@ -1,11 +1,12 @@
 -- What a crash leaves of a build of all updates, and its marks.
-use Rattle.std.proofs.Common.{◌≡◌, ℕ, ◌+◌, ◌*◌, ◌<◌, ◌≤◌, List, [], ◌∷◌, length, replicate, take, slice_index, cond, Bool, false, refl, sym, ap, subst, ◌∙◌, inl, inr, arith, nat_le}
+use Rattle.std.proofs.Common.{◌≡◌, ℕ, ◌*◌, ◌<◌, ◌≤◌, List, [], ◌∷◌, length, replicate, take, slice_index, cond, Option, Bool, false, Err, IsTrue, refl, sym, ap, subst, ◌∙◌, inl, inr, arith, nat_le}
 use Rattle.std.proofs.lemmas.Bool.{cases_lt}
 use Rattle.std.proofs.lemmas.Bool.Decides.{nat_tests}
 use Rattle.std.proofs.lemmas.List.{get_or-replicate, length-replicate, take_all}
 use Rattle.std.proofs.lemmas.List.Folds.{sum_by-replicate}
 use Rattle.outside_io.specs.declared.volume.VolFile.TheVariants.{Bundle}
-use Rattle.outside_io.specs.volume.Disk.{Disk, File, IsQuiet, IsSettled}
+use Rattle.outside_io.specs.streams.Faults.{IsCause}
+use Rattle.outside_io.specs.volume.Disk.{Disk, IsQuiet, IsSettled}
 use Rattle.outside_io.specs.volume.History.{History, During, contents, current}
 use Rattle.outside_io.proofs.VolumeLemmas.Moments.{during_map_at, started_at}
 use Rattle.bundle_store.specs.declared.tile_rec.TileRec.{TileRec}
@@ -15,9 +16,11 @@ use Rattle.bundle_store.specs.Session.{IsReadyToPut, SessionState}
 use Rattle.bundle_store.specs.Tiles.{IsReadable, TileMap, tiles}
 use Rattle.bundle_store.proofs.Recovering.{tiles_empty}
 use Rattle.bundle_store.proofs.Standing.{still_good, weaker}
-use Rattle.bundle_lines.specs.Builds.{BuildKeeps, IsAllOrNone}
+use Rattle.bundle_lines.specs.declared.stop.BuildStop.{BuildStop}
+use Rattle.bundle_lines.specs.declared.stop.BuildStop.TheVariants.{Output, Volume, NotEmpty, OutOfMemory}
+use Rattle.bundle_lines.specs.Builds.{BuildEnd, BuildGave, BuildKeeps, BuildMarks, BuildReads, IsAllOrNone, KeepsSomeLength}
 use Rattle.bundle_lines.specs.Puts.{AreMarks, marked}
-use Rattle.bundle_lines.specs.inside.Raising.{IsRaised}
+use Rattle.bundle_lines.specs.inside.Raising.{IsRaised, Raises}
 use Rattle.bundle_lines.proofs.Marked.{marked_none}
 
 -- ---- marks that are all one moment
@@ -130,3 +133,51 @@ builds_join start us marks old mid new are during kept = record {
     | inr after ↦ kept.each t after le
   ];
 }
+
+-- ---- a build that the store refused
+
+module _ (us : List TileRec) (told : Bool) (old new : History) where
+  pub refused_gave : (stop : BuildStop) (same : Type 0) (held : Option (List ℕ))
+      → Raises (Err stop) us told old new → same → BuildGave (Err stop) us same held held
+  refused_gave Output same held raises is = absurd raises
+  refused_gave Volume same held raises is = is
+  refused_gave (NotEmpty len) same held raises is = is
+  refused_gave OutOfMemory same held raises is = is
+
+  pub refused_marks : (stop : BuildStop) (marks : List ℕ) (moment : ℕ)
+      → Raises (Err stop) us told old new → marks ≡ [] → BuildMarks (Err stop) us marks moment
+  refused_marks Output marks moment raises none = absurd raises
+  refused_marks Volume marks moment raises none = none
+  refused_marks (NotEmpty len) marks moment raises none = none
+  refused_marks OutOfMemory marks moment raises none = none
+
+  pub refused_reads : (stop : BuildStop) → Raises (Err stop) us told old new
+      → IsTrue told → BuildReads (Err stop) us (contents Bundle old) (contents Bundle new)
+  refused_reads Output raises yes_ = absurd raises
+  refused_reads Volume raises yes_ = tt
+  refused_reads (NotEmpty len) raises yes_ =
+      let kept = raises.1 yes_ in
+      (kept.len_is, kept.same)
+  refused_reads OutOfMemory raises yes_ = raises yes_
+
+  pub refused_length : (stop : BuildStop) → Raises (Err stop) us told old new
+      → KeepsSomeLength (Err stop)
+  refused_length Output raises = tt
+  refused_length Volume raises = tt
+  refused_length (NotEmpty len) raises = raises.0
+  refused_length OutOfMemory raises = tt
+
+  not_output : (stop : BuildStop) (end : BuildEnd) → end ≡ Err stop
+      → Raises (Err stop) us told old new → end ≡ Err Output → ⊥
+  not_output Output end is raises same = raises
+  not_output Volume end is raises same = cc
+  not_output (NotEmpty len) end is raises same = cc
+  not_output OutOfMemory end is raises same = cc
+
+  pub refused_output : (stop : BuildStop) (end : BuildEnd) (faults : ℕ) → end ≡ Err stop
+      → Raises (Err stop) us told old new → IsCause (end ≡ Err Output) faults faults
+  refused_output stop end faults is raises = record {
+    counts = omega arith;
+    failed = λ same. absurd (not_output stop end is raises same);
+    rose = λ less. absurd (omega (arith, less));
+  }

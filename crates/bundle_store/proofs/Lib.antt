@@ -3,6 +3,7 @@ mod Counting
 mod Filling
 mod Fresh
 mod Fronts
+mod Keeping
 pub mod PutLaws
 mod Layouts
 mod Numbering

@@ -24,7 +24,7 @@ module _ (b tile : List ℕ) (slot : ℕ) where
   on_nothing : length b ≡ 0 → bundle_after_put b slot tile ≡ bundle_with_tile (layout no_tiles) slot tile
   on_nothing zero = ap (λ (t : Bool). if t then bundle_with_tile (layout no_tiles) slot tile else bundle_with_tile b slot tile) (test_same (length b) 0 zero)
 
-  on_bundle : length b ≢ 0 → bundle_after_put b slot tile ≡ bundle_with_tile b slot tile
+  pub on_bundle : length b ≢ 0 → bundle_after_put b slot tile ≡ bundle_with_tile b slot tile
   on_bundle some = ap (λ (t : Bool). if t then bundle_with_tile (layout no_tiles) slot tile else bundle_with_tile b slot tile) (test_differ (length b) 0 some)
 
   module _ (readable : IsReadable b) (below : slot < 16384) (some : 0 < length tile) (small : length tile < 2 ^ 24) (room : length b + 4 + length tile ≤ 2 ^ 40) where

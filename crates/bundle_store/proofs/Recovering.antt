@@ -154,6 +154,16 @@ keeps_emptying s old next last is says quiet reading emptying =
     let build : Says j (Open Build) = subst (Says j) is says in
     during_join _ old next last (keeps_reading old next quiet reading) (during_map _ _ next last (λ d each. keeps_empty b j d build.0 build.1 each) emptying)
 
+-- the journal is read, and the tile that it says is put
+pub keeps_finishing : (old next last : History) → IsQuiet (current old)
+    → During (λ d. d ≡ current old) old next
+    → During (EachKeeps (current next).bundle.now (current next).journal.now) next last
+    → During (EachKeeps (current old).bundle.now (current old).journal.now) old last
+keeps_finishing old next last quiet reading finishing =
+    let still : current next ≡ current old = during_end (λ d. d ≡ current old) old next reading in
+    during_join _ old next last (keeps_reading old next quiet reading)
+    (subst (λ (x : Disk). During (EachKeeps x.bundle.now x.journal.now) next last) still finishing)
+
 pub emptied : (s : JournalState) (old next last : History) → s ≡ Open Build → Says (current old).journal.now s → During (λ d. d ≡ current old) old next
     → current last ≡ (let x : Disk = record { bundle = settled []; journal = settled (0 ∷ drop 1 (current next).journal.now) } in x)
     → IsRecovered (current old).bundle.now (current old).journal.now (current last)

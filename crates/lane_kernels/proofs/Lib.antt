@@ -1,4 +1,5 @@
 pub mod Bounds
 mod Caps
+pub mod Mapped
 mod MinMax
 mod Within

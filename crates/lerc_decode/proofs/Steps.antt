@@ -85,6 +85,18 @@ taken_body a h is inside =
 pub body_head : (a : Inside) (h : Header) (new more : List ℕ) → a.progress ≡ AtBody h → IsInside a → new ≡ a.blob.items ++ more → HeadAt new h
 body_head a h new more is inside e = subst (λ (u : List ℕ). HeadAt u h) (sym e) (head_more a.blob.items more h (taken_body a h is inside).0)
 
+-- the bytes taken with more of the blob's
+pub body_taken : (a b : Inside) (h : Header) (more : List ℕ) → a.progress ≡ AtBody h → IsInside a
+    → b.blob.items ≡ a.blob.items ++ more
+    → (taken_of b ≡ b.blob.items) × (taken_of b ≡ taken_of a ++ more)
+body_taken a b h more is inside e =
+    let kept : 0 < length a.blob.items = subst (IsKept a) is inside.kept in
+    let some : 0 < length b.blob.items =
+    omega (arith, ap length e, length-append a.blob.items more, kept) in
+    let new = some_items b.blob.items (take b.have b.head) some in
+    let old = some_items a.blob.items (take a.have a.head) kept in
+    (new, new ∙ e ∙ ap (λ (u : List ℕ). u ++ more) (sym old))
+
 -- more bytes of the blob, and not all
 pub body_goes_on : (a b : Inside) (h : Header) (more : List ℕ) → a.progress ≡ AtBody h → IsInside a → b.progress ≡ AtBody h → b.have ≡ a.have → b.head ≡ a.head → b.blob.items ≡ a.blob.items ++ more → length b.blob.items < h.size → IsInside b
 body_goes_on a b h more is inside same have head e short =

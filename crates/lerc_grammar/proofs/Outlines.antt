@@ -1,9 +1,9 @@
 -- The outline of bytes: one at most, and none where there is a fault.
-use Rattle.std.proofs.Common.{◌≡◌, ℕ, pos, ◌+◌, ◌*◌, ◌<◌, ◌≤◌, List, length, take, drop, refl, sym, ap, ◌∙◌, subst, arith, ◌⊎◌, inl, inr, Ok, Err}
+use Rattle.std.proofs.Common.{◌≡◌, ◌≢◌, ℕ, pos, ◌+◌, ◌-◌, ◌*◌, ◌<◌, ◌≤◌, List, length, take, drop, refl, sym, ap, ◌∙◌, subst, arith, inl, inr, Ok, Err}
 use Rattle.std.specs.Prelude.{Result, IfErr}
 use Rattle.std.proofs.lemmas.Int.{ints}
-use Rattle.std.proofs.lemmas.List.{length-drop, length-take-le}
-use Rattle.first_fault.specs.Faults.{Faults, none, wrong, moved}
+use Rattle.std.proofs.lemmas.List.{length-drop, length-take-le, take_rest}
+use Rattle.first_fault.specs.Faults.{none, wrong}
 use Rattle.first_fault.specs.Parts.{IsSingle, IsEmpty}
 use Rattle.first_fault.proofs.Parts.{single-unless, single-moved, empty-choice, empty-moved}
 use Rattle.lerc_header.specs.declared.header.Header.{Header}
@@ -22,6 +22,7 @@ use Rattle.lerc_grammar.specs.declared.parts.Outline.{Outline}
 use Rattle.lerc_grammar.specs.Mask.{IsAlike, mask_faults_of}
 use Rattle.lerc_grammar.specs.Outline.{HasMaskLength, IsMaskForm, mask_part_faults, IsImageForm, image_part_faults}
 use Rattle.lerc_grammar.specs.Outlines.{AreForms, IsOutline, form_faults, part_faults, behind_header, outline_faults}
+use Rattle.lerc_grammar.specs.inside.Spans.{IsMaskSpan}
 use Rattle.lerc_grammar.proofs.Blobs.{some_pixels}
 use Rattle.lerc_grammar.proofs.Exact.{IsOne}
 use Rattle.lerc_grammar.proofs.Forms.{one_form}
@@ -75,6 +76,50 @@ single-mask h blob some =
     let pixels = h.rows * h.cols in
     single-moved k (mask_faults_of (λ runs. none) pixels h.valid rest)
     (λ p q a b x y. (mask_part pixels h.valid some).single rest p q a b (mask_outside pixels h.valid rest p a x) (mask_outside pixels h.valid rest q b y))
+
+pub one_mask : (h : Header) (blob : List ℕ) → 0 < h.rows * h.cols
+    → IsOne (IsMaskForm h blob) (λ (f : BlobFault). mask_part_faults h blob f.place f.reason)
+one_mask h blob some = record {
+  once = mask_form_once h blob;
+  single = λ e f x y.
+      let same = single-mask h blob some e.place f.place e.reason f.reason x y in
+      λ i. record { reason = same.1 i; place = same.0 i };
+  either = λ form f x y. empty-mask h blob form x f.place f.reason y;
+}
+
+-- what the reader finds of it
+mask_rest : (h : Header) (blob : List ℕ) (head : ℕ) → head ≡ head_length h.version → take (length blob - head) (drop head blob) ≡ drop (head_length h.version) blob
+mask_rest h blob head is = take_rest blob head ∙ ap (λ (k : ℕ). drop k blob) is
+
+mask_length : (h : Header) (blob : List ℕ) (head pixels valid n : ℕ) → head ≡ head_length h.version → head_length h.version ≤ length blob
+    → IsMaskSpan pixels valid (take (length blob - head) (drop head blob)) n → HasMaskLength h blob n
+mask_length h blob head pixels valid n is long s =
+    let rest = mask_rest h blob head is in
+    record {
+      number = ap (λ (u : List ℕ). i32_at u 0) (sym rest) ∙ s.number;
+      there = omega (arith, long, s.there, ap length rest, length-drop (head_length h.version) blob);
+    }
+
+pub runs_found : (h : Header) (blob : List ℕ) (head pixels valid n : ℕ) → pixels ≡ h.rows * h.cols → valid ≡ h.valid
+    → head ≡ head_length h.version → head_length h.version ≤ length blob → h.valid ≢ 0 → valid ≢ pixels
+    → IsMaskSpan pixels valid (take (length blob - head) (drop head blob)) n → IsMaskForm h blob (Runs (head + 4) n)
+runs_found h blob head pixels valid n all same is long some other s =
+    let mixed : ¬ IsAlike pixels valid = λ alike. elim alike [ inl zero_ ↦ some (sym same ∙ zero_) | inr full ↦ other full ] in
+    let unlike : ¬ IsAlike (h.rows * h.cols) h.valid =
+    λ alike. elim alike [ inl zero_ ↦ some zero_ | inr full ↦ other (same ∙ full ∙ sym all) ] in
+    (unlike, (ap (λ (k : ℕ). k + 4) is, (s.mixed mixed, mask_length h blob head pixels valid n is long s)))
+
+pub mask_fault : (h : Header) (blob : List ℕ) (head pixels valid : ℕ) (f g : BlobFault) → pixels ≡ h.rows * h.cols → valid ≡ h.valid
+    → head ≡ head_length h.version → g ≡ record { reason = f.reason; place = head + f.place }
+    → mask_faults_of (λ runs. none) pixels valid (take (length blob - head) (drop head blob)) f.place f.reason
+    → mask_part_faults h blob g.place g.reason
+mask_fault h blob head pixels valid f g all same is e w =
+    let rest = drop (head_length h.version) blob in
+    let at = subst (λ (u : List ℕ). mask_faults_of (λ runs. none) pixels valid u f.place f.reason) (mask_rest h blob head is) w in
+    let of = subst (λ (v : ℕ). mask_faults_of (λ runs. none) pixels v rest f.place f.reason) same at in
+    let there = subst (λ (n : ℕ). mask_faults_of (λ runs. none) n h.valid rest f.place f.reason) all of in
+    let place = ap (λ (k : ℕ). k + f.place) is in
+    subst (λ (x : BlobFault). mask_part_faults h blob x.place x.reason) (sym e) (f.place, (place, there))
 
 -- ---- mask and image
 

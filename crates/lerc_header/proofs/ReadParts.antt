@@ -122,6 +122,11 @@ pub handed_on : {A E : Type 0} (P : E → Type 0) (r : Result A E) (e : E) → I
 handed_on P (Ok x) e is w = tt
 handed_on P (Err f) e is w = subst P (sym is) w
 
+-- it is no answer of another kind
+pub no_answer : {A E : Type 0} (P : A → Type 0) (r : Result A E) (e : E) → IsErrAnd r (λ f. f ≡ e) → IfOk r P
+no_answer P (Ok x) e is = absurd is
+no_answer P (Err f) e is = tt
+
 pub if_err : {A E : Type 0} (P Q : E → Type 0) (r : Result A E) → ((e : E) → P e → Q e) → IfErr r P → IfErr r Q
 if_err P Q (Ok x) gives w = tt
 if_err P Q (Err e) gives w = gives e w

@@ -1,8 +1,8 @@
 -- Steps of quantising without a division.
-use Rattle.std.proofs.Common.{◌≡◌, ℕ, ◌+◌, ◌-◌, ◌*◌, ◌/◌, ◌%◌, ◌^◌, ◌<◌, ◌≤◌, ℤ, ◌-ℤ◌, ◌≤ℤ◌, sym, ap, subst, ◌∙◌, arith}
+use Rattle.std.proofs.Common.{◌≡◌, ℕ, ◌+◌, ◌-◌, ◌*◌, ◌/◌, ◌%◌, ◌^◌, ◌<◌, ◌≤◌, ℤ, pos, ◌-ℤ◌, ◌≤ℤ◌, sym, ap, subst, ◌∙◌, arith}
 use Rattle.std.specs.Prelude.{unsigned_abs}
 use Rattle.std.proofs.lemmas.Int.{ints, to_z-of_z}
-use Rattle.std.proofs.Math.Nat.{pow-le-pow_right}
+use Rattle.std.proofs.Math.Nat.{pow-le-pow_right, div-le_self}
 use mir.Syntax.{w64}
 use mir.Val.{of_z, to_z}
 use Rattle.lane_kernels.specs.Kernels.{IsSmall}
@@ -20,6 +20,20 @@ pub distance_read : (v m : ℤ) → IsSmall v → IsSmall m → to_z w64 (of_z w
 distance_read v m h k =
     let e : to_z w64 (of_z w64 v) -ℤ to_z w64 (of_z w64 m) ≡ v -ℤ m = λ i. small_again v h i -ℤ small_again m k i in
     ap (λ (z : ℤ). to_z w64 (of_z w64 z)) e ∙ to_z-of_z w64 (v -ℤ m) (omega (arith, ints, h, k))
+
+-- a number of steps as the code has it
+pub count_fits : (v m : ℤ) (step n : ℕ) → IsSmall v → IsSmall m → step ≤ 2 ^ 62 → n ≡ quantised step (to_z w64 (of_z w64 m)) (to_z w64 (of_z w64 v)) → n < 2 ^ 63
+count_fits v m step n h k few e =
+    let d = unsigned_abs (to_z w64 (of_z w64 v) -ℤ to_z w64 (of_z w64 m)) in
+    let near : d ≤ 2 ^ 33 = omega (arith, ints, h, k, small_again v h, small_again m k) in
+    let below = div-le_self (2 * d + step) (2 * step) in
+    omega (arith, e, below, near, few)
+
+pub count_read : (v m : ℤ) (step n : ℕ) → IsSmall v → IsSmall m → step ≤ 2 ^ 62 → n ≡ quantised step (to_z w64 (of_z w64 m)) (to_z w64 (of_z w64 v)) → to_z w64 n ≡ pos (quantised step (to_z w64 (of_z w64 m)) v)
+count_read v m step n h k few e =
+    let fits = count_fits v m step n h k few e in
+    let same : to_z w64 n ≡ pos n = omega (arith, ints, fits) in
+    same ∙ ap pos (e ∙ ap (quantised step (to_z w64 (of_z w64 m))) (small_again v h))
 
 -- the product for a step
 pub is_product : (s d : ℕ) → 0 < s → d ≤ 31 → s ≤ 1 * 2 ^ d % 18446744073709551616 → (1 * 2 ^ (31 + d) % 18446744073709551616 + s - 1) / s ≤ 4294967295

@@ -47,6 +47,27 @@ pixels_more depth d first n input old vs x below within is h = record {
       ∙ h.rest k e less (λ lo hi depth_is. out lo (omega arith) depth_is);
 }
 
+-- a run of values is put pixel by pixel where a pixel has one value
+pub run_puts : (d first : ℕ) (run vs : List ℤ) → d < 1 → first + length run ≤ length vs
+    → PutsPixels 1 d first (length run) run vs (with_run vs first run)
+run_puts d first run vs deep within =
+    let new = with_run vs first run in
+    record {
+      put = λ i less.
+          ap (λ j. get_or new j (pos 0)) (let e : (first + i) * 1 + d ≡ first + i = omega arith in e)
+          ∙ with_run_at vs run first i within less;
+      rest = λ k e small out.
+          ⊎_elim
+          (λ (lt : k * 1 + e < first). with_run_before vs run first (k * 1 + e) within lt)
+          (λ (ge : first ≤ k * 1 + e). ⊎_elim
+          (λ (in_run : k * 1 + e < first + length run).
+          absurd (out (omega arith) (omega arith) (omega arith)))
+          (λ (past : first + length run ≤ k * 1 + e).
+          with_run_after vs run first (k * 1 + e) within past)
+          (cases_lt (k * 1 + e) (first + length run)))
+          (cases_lt (k * 1 + e) first);
+    }
+
 pub fills_one_more : (first n : ℕ) (pixel old vs : List ℤ) → (first + n) * length pixel + length pixel ≤ length vs
     → FillsPixels first n pixel old vs → FillsPixels first (n + 1) pixel old (with_run vs ((first + n) * length pixel) pixel)
 fills_one_more first n pixel old vs within h =

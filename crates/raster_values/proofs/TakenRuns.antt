@@ -40,3 +40,14 @@ run_few kind depth at start end size marks runs full few =
     let b : bytes_of kind ≤ 4 = few_bytes kind in
     let c : (end - start) * depth * bytes_of kind ≤ 16777216 * 4 = mul-le-mul a b in
     omega (arith, c)
+
+-- the bytes of a run and those of all values are few
+pub taken_few : {at start end s : ℕ} (kind : PixelType) (depth : ℕ) (marks : List Bool)
+    (old : List ℤ) → AreRuns marks at start end → length old ≡ length marks * depth
+    → length old ≤ 16777216 → s ≡ bytes_of kind
+    → ((end - start) * depth * s ≤ 67108864)
+    × (length (values_of (pixels_of depth marks old)) * bytes_of kind ≤ 67108864)
+taken_few {at} {start} {end} {s} kind depth marks old runs full few is =
+    let run = run_few kind depth at start end (length old) marks runs full few in
+    let same = ap (λ n. (end - start) * depth * n) is in
+    (omega (arith, run, same), size_few kind depth marks old few)

@@ -87,3 +87,63 @@ pub returns-clause-tiles : goal.returns-clause-tiles
 returns-clause-tiles g c =
     let ended = ended_well c.args.updates.now _ _ _ _ _ _ _ _ _ c.loop-update.invariant.so_far (omega (arith, c.loop-update.auto.update-index-end, c.loop-update-test.false)) in
     λ told. (ended.told_end told).tiles_are
+
+pub put_one-requires-clause-some : goal.put_one-requires-clause-some
+put_one-requires-clause-some g c =
+    let fits = fits_here c.args.updates.now c.loop-update.update-index c.update-item.result
+    c.loop-update-test.true (sym c.update-item.is) c.requires.fit in
+    fits.0
+
+pub put_one-requires-clause-small : goal.put_one-requires-clause-small
+put_one-requires-clause-small g c =
+    let fits = fits_here c.args.updates.now c.loop-update.update-index c.update-item.result
+    c.loop-update-test.true (sym c.update-item.is) c.requires.fit in
+    fits.1
+
+pub returns-clause-gave : goal.returns-clause-gave
+returns-clause-gave g c =
+    let ended = ended_well c.args.updates.now _ _ _ _ _ _ _ _ _ c.loop-update.invariant.so_far
+    (omega (arith, c.loop-update.auto.update-index-end, c.loop-update-test.false)) in
+    ended.gave
+
+pub returns-clause-reads : goal.returns-clause-reads
+returns-clause-reads g c =
+    let ended = ended_well c.args.updates.now _ _ _ _ _ _ _ _ _ c.loop-update.invariant.so_far
+    (omega (arith, c.loop-update.auto.update-index-end, c.loop-update-test.false)) in
+    λ told. (ended.told_end told).reads
+
+pub returns-clause-room : goal.returns-clause-room
+returns-clause-room g c =
+    let ended = ended_well c.args.updates.now _ _ _ _ _ _ _ _ _ c.loop-update.invariant.so_far
+    (omega (arith, c.loop-update.auto.update-index-end, c.loop-update-test.false)) in
+    λ told. (ended.told_end told).room
+
+pub returns-clause-images : goal.returns-clause-images
+returns-clause-images g c =
+    let ended = ended_well c.args.updates.now _ _ _ _ _ _ _ _ _ c.loop-update.invariant.so_far
+    (omega (arith, c.loop-update.auto.update-index-end, c.loop-update-test.false)) in
+    λ told. (ended.told_end told).images
+
+pub returns-clause-marks : goal.returns-clause-marks
+returns-clause-marks g c =
+    let ended = ended_well c.args.updates.now _ _ _ _ _ _ _ _ _ c.loop-update.invariant.so_far
+    (omega (arith, c.loop-update.auto.update-index-end, c.loop-update-test.false)) in
+    λ told. (ended.told_end told).marks_are
+
+pub returns-clause-later : goal.returns-clause-later
+returns-clause-later g c =
+    let ended = ended_well c.args.updates.now _ _ _ _ _ _ _ _ _ c.loop-update.invariant.so_far
+    (omega (arith, c.loop-update.auto.update-index-end, c.loop-update-test.false)) in
+    λ told. (ended.told_end told).later
+
+pub returns-clause-ready : goal.returns-clause-ready
+returns-clause-ready g c =
+    let ended = ended_well c.args.updates.now _ _ _ _ _ _ _ _ _ c.loop-update.invariant.so_far
+    (omega (arith, c.loop-update.auto.update-index-end, c.loop-update-test.false)) in
+    λ told. (ended.told_end told).ready
+
+pub returns-clause-stops : goal.returns-clause-stops
+returns-clause-stops g c =
+    let ended = ended_well c.args.updates.now _ _ _ _ _ _ _ _ _ c.loop-update.invariant.so_far
+    (omega (arith, c.loop-update.auto.update-index-end, c.loop-update-test.false)) in
+    ended.stops

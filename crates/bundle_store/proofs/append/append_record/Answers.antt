@@ -1,4 +1,4 @@
-use Rattle.std.proofs.Common.{◌≡◌, inl, ℕ, ◌+◌, ◌<◌, ◌≤◌, List, ◌++◌, Result, length, length-append, append_assoc, ap, ◌∙◌, subst, arith, rules}
+use Rattle.std.proofs.Common.{◌≡◌, inl, ℕ, ◌+◌, ◌<◌, ◌≤◌, List, ◌++◌, Result, length, length-append, append_assoc, sym, ap, ◌∙◌, subst, arith, rules}
 use Rattle.std.specs.Prelude.{OnOk}
 use Rattle.byteorder.specs.Endian.{little_bytes}
 use Rattle.outside_io.specs.volume.Disk.{Disk, File, change, laid, settled, synced, wrote}
@@ -68,3 +68,9 @@ returns-clause-done g c = λ told.
     let size : c.to_le_bytes-size.result ≡ little_bytes 4 (length c.args.tile.now) = search rules in
     subst (λ (word : List ℕ). OnOk c.sync.result (current (g.V.Volume.history c.sync.new.self) ≡ change Bundle (λ f. settled (f.now ++ (word ++ c.args.tile.now))) (current (g.V.Volume.history c.args.vol.now)))) size
     (written c.sync.result c.to_le_bytes-size.result c.args.tile.now c.args.end _ _ _ _ (c.requires.end told) (ap length size) (c.in_ok-write.ensures.ok told) (c.in_ok-write-2.ensures.ok told_one) (c.sync.ensures.ok (c.write-2.ensures.told ∙ told_one)))
+
+pub write-requires-2-clause-within : goal.write-requires-2-clause-within
+write-requires-2-clause-within g c = λ told_1.
+    let told = sym c.write.ensures.told ∙ told_1 in
+    let next = length_end _ _ _ _ (c.requires.end told) (c.in_ok-write.ensures.ok told) in
+    omega arith

@@ -1,8 +1,8 @@
 use Rattle.std.proofs.Common.{◌≡◌, inl, refl, ℕ, suc, List, [], ◌∷◌, drop, get_or, length, sym, ap, ◌∙◌, subst, arith}
-use Rattle.std.proofs.lemmas.Result.{on_ok_weaker}
+use Rattle.std.proofs.lemmas.Result.{IfOk-from_err, on_ok_weaker}
 use Rattle.outside_io.specs.volume.Disk.{Disk, File, settled}
 use Rattle.outside_io.specs.volume.History.{current}
-use Rattle.outside_io.proofs.VolumeLemmas.Moments.{during_join, during_map}
+use Rattle.outside_io.proofs.VolumeLemmas.Moments.{during_end, during_join, during_map}
 use Rattle.side_journal.specs.declared.body.Body.TheVariants.{Build}
 use Rattle.side_journal.specs.Says.{SaysBuild}
 use Rattle.side_journal.specs.Bodies.{build_bytes}
@@ -31,6 +31,18 @@ returns-in_err-arm-clause-images g c = λ told.
     let bundle_1 = c.prepare.ensures.bundle told ∙ bundle in
     let arming = during_join Pass _ _ _ preparing (during_map _ Pass _ _ (λ d. in_closed [] (λ map. map ≡ no_tiles) (current (g.V.Volume.history c.prepare.new.vol)) d (inl refl) tiles_empty bundle_1) (c.arm.ensures.during told_1)) in
     arming
+
+pub returns-in_err-arm-clause-bundle : goal.returns-in_err-arm-clause-bundle
+returns-in_err-arm-clause-bundle g c = λ told.
+    let arming = c.arm.ensures.during (c.prepare.ensures.told ∙ told) in
+    (during_end _ _ _ arming).bundle ∙ c.prepare.ensures.bundle told
+
+pub returns-clause-bundle : goal.returns-clause-bundle
+returns-clause-bundle g c = λ told.
+    let told_1 = c.prepare.ensures.told ∙ told in
+    let opening = c.open_gate.ensures.during (c.arm.ensures.told ∙ told_1) in
+    let armed = ap (λ (d : Disk). d.bundle) (c.in_ok-arm.ensures.done told_1) in
+    (during_end _ _ _ opening).bundle ∙ armed ∙ c.prepare.ensures.bundle told
 
 pub open_gate-requires-clause-whole : goal.open_gate-requires-clause-whole
 open_gate-requires-clause-whole g c = λ told.
@@ -70,3 +82,22 @@ returns-clause-images g c = λ told.
     let bundle_2 = ap (λ (d : Disk). d.bundle) done ∙ bundle_1 in
     let opening = during_map _ Pass _ _ (λ d. in_gate [] next.journal.now Build no_tiles (λ map. map ≡ no_tiles) next d says.whole says (inl refl) tiles_empty refl refl bundle_2 refl) (c.open_gate.ensures.during (c.arm.ensures.told ∙ told_1)) in
     during_join Pass _ _ _ arming opening
+
+pub returns-in_err-prepare-clause-journal : goal.returns-in_err-prepare-clause-journal
+returns-in_err-prepare-clause-journal g c = λ told.
+    IfOk-from_err c.from_residual.result _ c.from_residual.ensures.0
+
+pub returns-in_err-arm-clause-journal : goal.returns-in_err-arm-clause-journal
+returns-in_err-arm-clause-journal g c = λ told.
+    IfOk-from_err c.from_residual-in_err-arm.result _ c.from_residual-in_err-arm.ensures.0
+
+pub arm-requires-clause-ready : goal.arm-requires-clause-ready
+arm-requires-clause-ready g c = λ told_1.
+    let told = sym c.prepare.ensures.told ∙ told_1 in
+    c.in_ok-prepare.ensures.ready told
+
+pub open_gate-requires-clause-settled : goal.open_gate-requires-clause-settled
+open_gate-requires-clause-settled g c = λ told_2.
+    let told_1 = sym c.arm.ensures.told ∙ told_2 in
+    let now = ap (λ (d : Disk). d.journal) (c.in_ok-arm.ensures.done told_1) in
+    now ∙ ap (λ (f : File). settled f.now) (sym now)

@@ -1,5 +1,6 @@
-use Rattle.std.proofs.Common.{◌≡◌, inl, inr, refl, ap, ◌∙◌}
-use Rattle.outside_io.specs.volume.Disk.{File}
+use Rattle.std.proofs.Common.{◌≡◌, inl, inr, refl, get_or, length, sym, ap, ◌∙◌, subst}
+use Rattle.std.proofs.lemmas.Result.{on_ok_weaker}
+use Rattle.outside_io.specs.volume.Disk.{Disk, File, IsSettled, settled}
 use Rattle.outside_io.specs.volume.History.{current}
 use Rattle.outside_io.proofs.VolumeLemmas.Moments.{during_end, during_join, during_map}
 use Rattle.side_journal.specs.declared.body.Body.TheVariants.{Build}
@@ -49,3 +50,29 @@ returns-clause-images g c = λ told.
     let journal = ap (λ (f : File). f.now) kept.journal in
     let closing = during_map _ Pass _ _ (λ d. in_gate (layout map) next.journal.now Build no_tiles (EmptyOr map) last d begun.says.whole begun.says (inr (layout_bundle map c.requires.tiles)) (inr (layout_tiles map c.requires.tiles)) refl (inl refl) bundle journal) (c.close_gate.ensures.during (c.lay_out.ensures.told ∙ told_1)) in
     during_join Pass _ _ _ laying closing
+
+pub close_gate-requires-clause-whole : goal.close_gate-requires-clause-whole
+close_gate-requires-clause-whole g c = λ told_2.
+    let told_1 = sym c.lay_out.ensures.told ∙ told_2 in
+    let begun = c.in_ok-begin.ensures.journal (sym c.begin.ensures.told ∙ told_1) in
+    let kept = during_end _ _ _ (c.lay_out.ensures.during told_1) in
+    ap (λ (f : File). length f.now) kept.journal ∙ begun.opened.whole
+
+pub close_gate-requires-clause-settled : goal.close_gate-requires-clause-settled
+close_gate-requires-clause-settled g c = λ told_2.
+    let told_1 = sym c.lay_out.ensures.told ∙ told_2 in
+    let begun = c.in_ok-begin.ensures.journal (sym c.begin.ensures.told ∙ told_1) in
+    let kept = during_end _ _ _ (c.lay_out.ensures.during told_1) in
+    subst IsSettled (sym kept.journal) begun.journal
+
+pub returns-clause-done : goal.returns-clause-done
+returns-clause-done g c = λ told.
+    let told_1 = c.begin.ensures.told ∙ told in
+    let laid_out = c.in_ok-lay_out.ensures.bundle told_1 in
+    on_ok_weaker c.close_gate.result (λ is.
+    let now = ap (λ (d : Disk). d.journal) is in
+    record {
+      bundle_is = ap (λ (d : Disk). d.bundle) is ∙ laid_out;
+      journal = now ∙ ap (λ (f : File). settled f.now) (sym now);
+      closed = λ opened. opened.gate (ap (λ (f : File). get_or f.now 0 0) now);
+    }) (c.close_gate.ensures.done (c.lay_out.ensures.told ∙ told_1))

@@ -10,6 +10,7 @@ use Rattle.outside_io.proofs.VolumeLemmas.Moments.{goes_on, started}
 use Rattle.std.proofs.Common.{length-append}
 use Rattle.bundle_store.proofs.Layouts.{length-entries}
 use Rattle.bundle_store.proofs.Building.{laid_end}
+use Rattle.bundle_store.proofs.Keeping.{journal_stays}
 use Rattle.bundle_store.proofs.laying.write_index.Goals as goal
 
 pub loop-number-init : goal.loop-number-init
@@ -57,3 +58,9 @@ loop-number-preserved g c =
       told = c.write.ensures.told ∙ inv.told;
       counted = c.in_ok-write.ensures.counted ∙ inv.counted;
     }
+
+pub returns-in_err-write-clause-during : goal.returns-in_err-write-clause-during
+returns-in_err-write-clause-during g c = λ told.
+    let inv = c.loop-number.invariant in
+    let crash = c.write.ensures.crash (inv.told ∙ told) in
+    journal_stays _ _ _ _ (inv.during told) c.write.ensures.time crash.other

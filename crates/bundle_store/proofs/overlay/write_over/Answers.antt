@@ -1,4 +1,5 @@
 use Rattle.std.proofs.Common.{◌≡◌, length, ◌∙◌, rules}
+use Rattle.std.proofs.lemmas.Result.{IfOk-from_err}
 use Rattle.bundle_store.proofs.Unders.{header_during, header_over, entry_during, sync_during}
 use Rattle.bundle_store.proofs.overlay.write_over.Goals as goal
 
@@ -28,3 +29,11 @@ returns-clause-during g c = λ told.
     rw (← c.bytes-front.ensures) (sync_during c.bytes-front.result c.args.slot c.args.entry front c.entry_place-place.ensures.slot (g.V.Volume.history c.args.vol.now) (c.requires.settled told) (c.requires.long told)
     c.spelled-word.result c.entry_place-place.result c.entry_place-place.ensures.value word _ _ _ _ _ over c.write-2.ensures.time (c.write-2.ensures.crash told_1) (c.in_ok-write-2.ensures.ok told_1)
     c.sync.ensures.time (c.sync.ensures.crash (c.write-2.ensures.told ∙ told_1)))
+
+pub returns-in_err-write-clause-done : goal.returns-in_err-write-clause-done
+returns-in_err-write-clause-done g c = λ told.
+    IfOk-from_err c.from_residual.result _ c.from_residual.ensures.0
+
+pub returns-in_err-write-2-clause-done : goal.returns-in_err-write-2-clause-done
+returns-in_err-write-2-clause-done g c = λ told.
+    IfOk-from_err c.from_residual-in_err-write-2.result _ c.from_residual-in_err-write-2.ensures.0

@@ -1,5 +1,7 @@
-use Rattle.std.proofs.Common.{◌≡◌, ◌⊎◌, inl, inr, refl, ℕ, List, ap, ◌∙◌}
-use Rattle.outside_io.specs.volume.Disk.{Disk}
+use Rattle.std.proofs.Common.{◌≡◌, ◌⊎◌, inl, inr, refl, ℕ, List, sym, ap, ◌∙◌}
+use Rattle.std.proofs.Common.{◌∷◌, drop}
+use Rattle.std.proofs.lemmas.Result.{IfOk-from_err, on_ok_weaker}
+use Rattle.outside_io.specs.volume.Disk.{Disk, File, settled}
 use Rattle.outside_io.specs.volume.History.{current}
 use Rattle.outside_io.proofs.VolumeLemmas.Moments.{during_join, during_map}
 use Rattle.bundle_store.specs.Appended.{with_entry}
@@ -37,3 +39,23 @@ returns-clause-images g c = λ told.
     let journal = ap (λ (x : Disk). x.journal.now) done in
     let redoing = during_map _ Pass _ _ (λ d each is way. weaker (λ map. map ≡ tiles (with_entry c.args.header.now c.args.slot c.args.entry next.bundle.now)) Either d (λ map same. inr (same ∙ ap (λ (l : List ℕ). tiles (with_entry c.args.header.now c.args.slot c.args.entry l)) bundle)) (each (way_gated b next.bundle.now j next.journal.now 1 c.args.slot c.args.entry c.args.header.now bundle journal way))) (c.redo.ensures.images told_1) in
     during_join Pass _ _ _ opening redoing
+
+pub returns-clause-done : goal.returns-clause-done
+returns-clause-done g c = λ told.
+    let over = with_entry c.args.header.now c.args.slot c.args.entry in
+    let Done : Disk → Disk = λ d. record {
+      bundle = settled (over d.bundle.now);
+      journal = settled (0 ∷ drop 1 d.journal.now);
+    } in
+    on_ok_weaker c.redo.result (λ is. is ∙ ap Done (c.in_ok-open_gate.ensures.done told))
+    (c.redo.ensures.done (c.open_gate.ensures.told ∙ told))
+
+pub returns-in_err-open_gate-clause-done : goal.returns-in_err-open_gate-clause-done
+returns-in_err-open_gate-clause-done g c = λ told.
+    IfOk-from_err c.from_residual.result _ c.from_residual.ensures.0
+
+pub redo-requires-clause-journal : goal.redo-requires-clause-journal
+redo-requires-clause-journal g c = λ told_1.
+    let told = sym c.open_gate.ensures.told ∙ told_1 in
+    let now = ap (λ (d : Disk). d.journal) (c.in_ok-open_gate.ensures.done told) in
+    now ∙ ap (λ (f : File). settled f.now) (sym now)

@@ -64,3 +64,11 @@ returns-clause-images g c = λ told.
       | inr put ↦ inr (put ∙ ap (λ (l : List ℕ). tiles (over l)) bundle)
     ]) (each (front is) (way_next readable))) (c.apply.ensures.images told_1) in
     during_join Pass _ _ _ staging applying
+
+pub apply-requires-clause-long : goal.apply-requires-clause-long
+apply-requires-clause-long g c = λ told_1.
+    let told = sym c.stage.ensures.told ∙ told_1 in
+    let b = (current (g.V.Volume.history c.args.vol.now)).bundle.now in
+    let size = ap (λ (d : Disk). length d.bundle.now) (c.in_ok-stage.ensures.done told) in
+    let both = length-append b (record_bytes c.args.tile.now) in
+    omega (arith, size, both, c.requires.least told, c.requires.end told)

@@ -1,20 +1,21 @@
-use Rattle.std.proofs.Common.{◌≡◌, inl, refl, ℕ, List, Result, length, sym, ap, ◌∙◌, subst, arith}
+use Rattle.std.proofs.Common.{◌≡◌, ◌≢◌, inl, inr, refl, ℕ, List, Result, length, sym, ap, ◌∙◌, subst, arith}
 use Rattle.outside_io.specs.volume.Disk.{Disk, IsQuiet}
 use Rattle.outside_io.specs.volume.History.{During, History, Ticks, current}
 use Rattle.side_journal.specs.Says.{IsOpen}
 use Rattle.outside_io.proofs.VolumeLemmas.Moments.{during_join, during_map}
 use Rattle.bundle_store.specs.Appended.{bundle_with_tile}
-use Rattle.bundle_store.specs.Images.{EachImage, WithOrWithout}
+use Rattle.bundle_store.specs.Images.{EachImage, HoldsClosed, WithOrWithout}
 use Rattle.bundle_store.specs.Tiles.{TileMap, tiles}
 use Rattle.bundle_store.proofs.Standing.{still_good}
 use Rattle.std.proofs.lemmas.List.{nil_from_length}
 use Rattle.outside_io.proofs.VolumeLemmas.Moments.{started, stays_on}
-use Rattle.bundle_store.specs.Tiles.{IsReadable, no_tiles}
+use Rattle.bundle_store.specs.Tiles.{IsBundle, IsReadable, no_tiles}
 use Rattle.bundle_store.proofs.Recovering.{tiles_empty}
 use Rattle.bundle_store.specs.inside.Parts.{IsAtRest}
 use Rattle.bundle_store.specs.Tiles.{Opens}
 use Rattle.bundle_store.specs.Appended.{bundle_with_tile}
 use Rattle.bundle_store.specs.Layout.{layout}
+use Rattle.bundle_store.proofs.PutLaws.{on_bundle}
 use Rattle.bundle_store.proofs.Rests.{holds_rest, opens_nothing, opens_put}
 use Rattle.bundle_store.proofs.put.put_tile.Goals as goal
 
@@ -36,6 +37,24 @@ put_first slot tile old next last r quiet closed tick same zero during =
     during_join _ old next last (measured slot tile old next r quiet closed tick same)
     (during_map _ _ next last (λ d each readable. subst (λ (m : TileMap). EachImage (WithOrWithout slot tile m) d) (sym none) each) during)
 
+-- the bundle is measured, which is not empty, and the tile is put
+put_more : {T E : Type 0} (slot : ℕ) (tile : List ℕ) (old next last : History) (r : Result T E)
+    → IsQuiet (current old) → ¬ IsOpen (current old).journal.now
+    → Ticks old next r → current next ≡ current old
+    → length (current old).bundle.now ≢ 0
+    → During (λ d. IsBundle (current next).bundle.now
+    → EachImage (WithOrWithout slot tile (tiles (current next).bundle.now)) d) next last
+    → During (λ d. IsReadable (current old).bundle.now
+    → EachImage (WithOrWithout slot tile (tiles (current old).bundle.now)) d) old last
+put_more slot tile old next last r quiet closed tick same more during =
+    let bundle = ap (λ (d : Disk). d.bundle.now) same in
+    let Either : List ℕ → Disk → Type 0 = λ b. EachImage (WithOrWithout slot tile (tiles b)) in
+    during_join _ old next last (measured slot tile old next r quiet closed tick same)
+    (during_map _ _ next last (λ d each readable. elim readable [
+      | inl zero ↦ absurd (more zero)
+      | inr is ↦ subst (λ (b : List ℕ). Either b d) bundle (each (subst IsBundle (sym bundle) is))
+    ]) during)
+
 pub returns-in_err-len-clause-images : goal.returns-in_err-len-clause-images
 returns-in_err-len-clause-images g c = λ told.
     measured c.args.slot c.args.tile.now _ _ _ (c.requires.quiet told) (c.requires.closed told) c.len.ensures.time (c.len.ensures.disk told)
@@ -53,6 +72,38 @@ pub returns-in_ok-put_on_nothing-clause-images : goal.returns-in_ok-put_on_nothi
 returns-in_ok-put_on_nothing-clause-images g c = λ told.
     put_first c.args.slot c.args.tile.now _ _ _ _ (c.requires.quiet told) (c.requires.closed told) c.len.ensures.time (c.len.ensures.disk told)
     (omega (arith, c.in_ok-len.ensures.answer told)) (c.put_on_nothing.ensures.images (c.len.ensures.told ∙ told))
+
+pub returns-in_err-put_on_bundle-clause-images : goal.returns-in_err-put_on_bundle-clause-images
+returns-in_err-put_on_bundle-clause-images g c = λ told.
+    put_more c.args.slot c.args.tile.now _ _ _ _ (c.requires.quiet told) (c.requires.closed told)
+    c.len.ensures.time (c.len.ensures.disk told)
+    (λ zero. c.if-len-eq0.false (c.in_ok-len.ensures.answer told ∙ zero))
+    (c.put_on_bundle.ensures.images (c.len.ensures.told ∙ told))
+
+pub returns-in_ok-put_on_bundle-clause-images : goal.returns-in_ok-put_on_bundle-clause-images
+returns-in_ok-put_on_bundle-clause-images g c = λ told.
+    put_more c.args.slot c.args.tile.now _ _ _ _ (c.requires.quiet told) (c.requires.closed told)
+    c.len.ensures.time (c.len.ensures.disk told)
+    (λ zero. c.if-len-eq0.false (c.in_ok-len.ensures.answer told ∙ zero))
+    (c.put_on_bundle.ensures.images (c.len.ensures.told ∙ told))
+
+pub put_on_nothing-requires-clause-empty : goal.put_on_nothing-requires-clause-empty
+put_on_nothing-requires-clause-empty g c = λ told_1.
+    let told = sym c.len.ensures.told ∙ told_1 in
+    let zero = sym (c.in_ok-len.ensures.answer told) ∙ c.if-len-eq0.true in
+    ap (λ (d : Disk). d.bundle.now) (c.len.ensures.disk told) ∙ nil_from_length _ zero
+
+pub returns-in_ok-put_on_bundle-clause-done : goal.returns-in_ok-put_on_bundle-clause-done
+returns-in_ok-put_on_bundle-clause-done g c = λ told.
+    let b = (current (g.V.Volume.history c.args.vol.now)).bundle.now in
+    let last = current (g.V.Volume.history c.put_on_bundle.new.vol) in
+    let tile = c.args.tile.now in
+    let some = λ (zero : length b ≡ 0).
+    c.if-len-eq0.false (c.in_ok-len.ensures.answer told ∙ zero) in
+    let still = ap (λ (d : Disk). bundle_with_tile d.bundle.now c.args.slot tile)
+    (c.len.ensures.disk told) in
+    subst (λ (l : List ℕ). HoldsClosed l last) (still ∙ sym (on_bundle b tile c.args.slot some))
+    (c.in_ok-put_on_bundle.ensures.done (c.len.ensures.told ∙ told))
 
 pub returns-then-len-tile-clause-kept : goal.returns-then-len-tile-clause-kept
 returns-then-len-tile-clause-kept g c = λ told.

@@ -1,5 +1,8 @@
-use Rattle.std.proofs.Common.{◌≡◌, inr, refl, ◌++◌, ap, ◌∙◌}
-use Rattle.outside_io.specs.volume.Disk.{Disk}
+use Rattle.std.proofs.Common.{◌≡◌, inr, refl, ◌∷◌, ◌++◌, sym, ap, ◌∙◌, subst}
+use Rattle.std.proofs.lemmas.Result.{IfOk-from_err, on_ok_weaker}
+use Rattle.outside_io.specs.volume.Disk.{Disk, File, IsSettled, settled}
+use Rattle.side_journal.specs.Bodies.{body_bytes}
+use Rattle.side_journal.specs.Says.{IsOpen}
 use Rattle.outside_io.specs.volume.History.{current}
 use Rattle.outside_io.proofs.VolumeLemmas.Moments.{during_join, during_map}
 use Rattle.bundle_store.specs.Images.{EachImage}
@@ -44,3 +47,43 @@ returns-clause-images g c = λ told.
     let told_2 = c.prepare.ensures.told ∙ told_1 in
     let bundle_2 = c.prepare.ensures.bundle told_1 ∙ bundle_1 in
     during_join Pass _ _ _ preparing (during_map _ Pass _ _ (λ d keeps is. in_closed whole (λ map. map ≡ tiles b) (current (g.V.Volume.history c.prepare.new.vol)) d (inr (front_bundle b more is)) (front_tiles b more is) bundle_2 keeps) (c.arm.ensures.during told_2))
+
+pub prepare-requires-clause-settled : goal.prepare-requires-clause-settled
+prepare-requires-clause-settled g c = λ told_1.
+    let told = sym c.append_record.ensures.told ∙ told_1 in
+    let journal = ap (λ (d : Disk). d.journal) (c.in_ok-append_record.ensures.done told) in
+    subst IsSettled (sym journal) (c.requires.journal told)
+
+pub prepare-requires-clause-closed : goal.prepare-requires-clause-closed
+prepare-requires-clause-closed g c = λ told_1.
+    let told = sym c.append_record.ensures.told ∙ told_1 in
+    let journal = ap (λ (d : Disk). d.journal) (c.in_ok-append_record.ensures.done told) in
+    subst (λ (f : File). ¬ IsOpen f.now) (sym journal) (c.requires.closed told)
+
+pub returns-clause-done : goal.returns-clause-done
+returns-clause-done g c = λ told.
+    let told_1 = c.append_record.ensures.told ∙ told in
+    let appended = ap (λ (d : Disk). d.bundle) (c.in_ok-append_record.ensures.done told) in
+    let journal = settled (0 ∷ body_bytes c.args.body.now) in
+    let Armed : File → Disk = λ f. record { bundle = f; journal = journal } in
+    let still = ap Armed (c.prepare.ensures.bundle told_1 ∙ appended) in
+    on_ok_weaker c.arm.result (λ is. is ∙ still)
+    (c.arm.ensures.done (c.prepare.ensures.told ∙ told_1))
+
+pub arm-requires-clause-settled : goal.arm-requires-clause-settled
+arm-requires-clause-settled g c = λ told_2.
+    let told_1 = sym c.prepare.ensures.told ∙ told_2 in
+    c.in_ok-prepare.ensures.settled told_1
+
+pub arm-requires-clause-ready : goal.arm-requires-clause-ready
+arm-requires-clause-ready g c = λ told_2.
+    let told_1 = sym c.prepare.ensures.told ∙ told_2 in
+    c.in_ok-prepare.ensures.ready told_1
+
+pub returns-in_err-append_record-clause-done : goal.returns-in_err-append_record-clause-done
+returns-in_err-append_record-clause-done g c = λ told.
+    IfOk-from_err c.from_residual.result _ c.from_residual.ensures.0
+
+pub returns-in_err-prepare-clause-done : goal.returns-in_err-prepare-clause-done
+returns-in_err-prepare-clause-done g c = λ told.
+    IfOk-from_err c.from_residual-in_err-prepare.result _ c.from_residual-in_err-prepare.ensures.0

@@ -1,12 +1,12 @@
-use Rattle.std.proofs.Common.{ℕ, List, ap, ◌∙◌, subst}
+use Rattle.std.proofs.Common.{◌≡◌, ℕ, List, IfOk, OnOk, sym, ap, ◌∙◌, subst}
 use Rattle.outside_io.specs.volume.Disk.{Disk}
 use Rattle.outside_io.specs.volume.History.{current}
 use Rattle.outside_io.proofs.VolumeLemmas.Images.{present_of}
 use Rattle.outside_io.specs.declared.volume.VolFile.TheVariants.{Bundle, Journal}
 use Rattle.outside_io.proofs.VolumeLemmas.Moments.{during_join, during_map}
 use Rattle.bundle_store.specs.inside.Parts.{EachKeeps}
-use Rattle.bundle_store.specs.Recover.{EachStandsForOneOf}
-use Rattle.bundle_store.proofs.Recovering.{one_of}
+use Rattle.bundle_store.specs.Recover.{EachStandsForOneOf, IsRecovered, Leaves, OnBadJournal, RecoverySays}
+use Rattle.bundle_store.proofs.Recovering.{both_settled, one_of}
 use Rattle.bundle_store.proofs.recovery.recover.Goals as goal
 
 pub returns-clause-images : goal.returns-clause-images
@@ -23,3 +23,41 @@ returns-clause-images g c = λ told.
     (subst (λ (l : List ℕ). EachKeeps l j d) (ap (λ (x : Disk). x.bundle.now) done) (subst (λ (l : List ℕ). EachKeeps (current next).bundle.now l d) (ap (λ (x : Disk). x.journal.now) done) keeps)))
     (c.finish.ensures.images (c.sync_both.ensures.told ∙ told)) in
     during_join Pass _ _ _ syncing finishing
+
+pub finish-requires : goal.finish-requires
+finish-requires g c = record {
+  quiet = λ told_1.
+      let told = sym c.sync_both.ensures.told ∙ told_1 in
+      both_settled _ _ _ (c.in_ok-sync_both.ensures.done told);
+}
+
+pub returns-clause-says : goal.returns-clause-says
+returns-clause-says g c = λ told.
+    let done = c.in_ok-sync_both.ensures.done told in
+    subst (λ (d : Disk). RecoverySays d.bundle.now d.journal.now c.finish.result) done
+    (c.finish.ensures.says (c.sync_both.ensures.told ∙ told))
+
+pub returns-clause-done : goal.returns-clause-done
+returns-clause-done g c = λ told.
+    let done = c.in_ok-sync_both.ensures.done told in
+    let last = current (g.V.Volume.history c.finish.new.vol) in
+    let Done : Disk → Type 0 = λ d.
+    OnOk c.finish.result (IsRecovered d.bundle.now d.journal.now last) in
+    subst Done done
+    (c.finish.ensures.done (c.sync_both.ensures.told ∙ told))
+
+pub returns-clause-leaves : goal.returns-clause-leaves
+returns-clause-leaves g c = λ told.
+    let done = c.in_ok-sync_both.ensures.done told in
+    let last = current (g.V.Volume.history c.finish.new.vol) in
+    let Left : Disk → Type 0 = λ d.
+    IfOk c.finish.result (λ r. Leaves d.bundle.now d.journal.now r last.bundle.now) in
+    subst Left done
+    (c.finish.ensures.leaves (c.sync_both.ensures.told ∙ told))
+
+pub returns-clause-refused : goal.returns-clause-refused
+returns-clause-refused g c = λ told.
+    let done = c.in_ok-sync_both.ensures.done told in
+    let last = current (g.V.Volume.history c.finish.new.vol) in
+    subst (λ (d : Disk). OnBadJournal c.finish.result (last ≡ d)) done
+    (c.finish.ensures.refused (c.sync_both.ensures.told ∙ told))

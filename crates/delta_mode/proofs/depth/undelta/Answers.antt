@@ -120,3 +120,53 @@ returns c =
           ∙ deltas_as r s d c.cols-cols.ensures.sound c.rows.ensures.sound inv.same;
       rest = inv.rest;
     }
+
+pub take_piece-walk-requires-clause-up : goal.take_piece-walk-requires-clause-up
+take_piece-walk-requires-clause-up c =
+    let count = c.min-count.result in
+    let long : length (take count c.loop-place.up) ≡ count =
+    length-take-le count c.loop-place.up (omega (arith, c.min-count.ensures)) in
+    let marks : length (take count c.loop-place.marks) ≡ count =
+    length-take-le count c.loop-place.marks (omega (arith, c.loop-place.invariant.wide, c.min-count.ensures)) in
+    long ∙ sym marks
+
+pub take_piece-walk-requires-clause-above : goal.take_piece-walk-requires-clause-above
+take_piece-walk-requires-clause-above c =
+    let count = c.min-count.result in
+    let long : length (take count c.loop-place.above) ≡ count =
+    length-take-le count c.loop-place.above (omega (arith, c.min-count.ensures)) in
+    let marks : length (take count c.loop-place.marks) ≡ count =
+    length-take-le count c.loop-place.marks (omega (arith, c.loop-place.invariant.wide, c.min-count.ensures)) in
+    long ∙ sym marks
+
+pub take_piece-walk-requires-clause-values : goal.take_piece-walk-requires-clause-values
+take_piece-walk-requires-clause-values c =
+    let count = c.min-count.result in
+    let long : length (take count c.loop-place.values) ≡ count =
+    length-take-le count c.loop-place.values (omega (arith, c.min-count.ensures)) in
+    let marks : length (take count c.loop-place.marks) ≡ count =
+    length-take-le count c.loop-place.marks (omega (arith, c.loop-place.invariant.wide, c.min-count.ensures)) in
+    long ∙ sym marks
+
+pub slice_bounds-take_piece-end : goal.slice_bounds-take_piece-end
+slice_bounds-take_piece-end c =
+    let short : c.min-count.result ≤ length c.loop-place.marks =
+    omega (arith, c.loop-place.invariant.wide, c.min-count.ensures) in
+    sym (length-take-le c.min-count.result c.loop-place.marks short)
+
+pub slice_bounds-take_piece-end-in-loop-place : goal.slice_bounds-take_piece-end-in-loop-place
+slice_bounds-take_piece-end-in-loop-place c =
+    let short : c.min-count.result ≤ length c.loop-place.up = omega (arith, c.min-count.ensures) in
+    sym (length-take-le c.min-count.result c.loop-place.up short)
+
+pub slice_bounds-take_piece-end-in-loop-place-2 : goal.slice_bounds-take_piece-end-in-loop-place-2
+slice_bounds-take_piece-end-in-loop-place-2 c =
+    let short : c.min-count.result ≤ length c.loop-place.above =
+    omega (arith, c.min-count.ensures) in
+    sym (length-take-le c.min-count.result c.loop-place.above short)
+
+pub slice_bounds-take_piece-end-in-loop-place-3 : goal.slice_bounds-take_piece-end-in-loop-place-3
+slice_bounds-take_piece-end-in-loop-place-3 c =
+    let short : c.min-count.result ≤ length c.loop-place.values =
+    omega (arith, c.min-count.ensures) in
+    sym (length-take-le c.min-count.result c.loop-place.values short)

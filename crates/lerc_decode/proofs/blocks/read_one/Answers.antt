@@ -5,7 +5,7 @@ use Rattle.raster_values.specs.Flat.{marks_of}
 use Rattle.lerc_grammar.specs.Blocks.{first_block_faults}
 use Rattle.lerc_decode.specs.inside.Blocks.{top_in}
 use Rattle.lerc_decode.proofs.Filling.{keeps}
-use Rattle.lerc_decode.proofs.BlockReading.{one_read, one_fault}
+use Rattle.lerc_decode.proofs.BlockReading.{row_begins, col_begins, one_read, one_fault}
 use Rattle.lerc_decode.proofs.blocks.read_one.Goals as goal
 
 pub returns-in-Ok-clause-marks : goal.returns-in-Ok-clause-marks
@@ -21,3 +21,11 @@ returns-in-Err-clause-fault c =
     subst (λ r. IfErr r (λ f. first_block_faults c.args.header.now (marks_of c.args.raster.now) (top_in c.args.tops.now) c.args.rest.now f.place f.reason)) (sym c.refused.ensures)
     (one_fault c.args.header.now c.args.raster.now c.args.tops.now c.args.rest.now _ c.args.a c.args.b c.args.d c.args.at (length c.args.values.now) c.in-Err.fault
     c.requires.square c.requires.depth c.requires.shape (same_bits c.args.header.now.kind (get_or c.args.tops.now c.args.d (pos 0)) (c.requires.tops.fit c.args.d (pos 0) (omega (arith, c.requires.tops.long, c.requires.depth)))) c.requires.count c.requires.read ((c.read_block.ensures.fault c.in-Err.fault).0 c.in-Err.is))
+
+pub overflow_mul-row : goal.overflow_mul-row
+overflow_mul-row c =
+    omega (arith, row_begins c.args.header.now c.args.a c.requires.head c.requires.square.down)
+
+pub overflow_mul-col : goal.overflow_mul-col
+overflow_mul-col c =
+    omega (arith, col_begins c.args.header.now c.args.b c.requires.head c.requires.square.across)

@@ -1,10 +1,21 @@
-use Rattle.std.proofs.Common.{List, ℕ, drop, ◌∙◌, refl, ap, subst, arith}
+use Rattle.std.proofs.Common.{List, ℕ, drop, ◌∙◌, refl, sym, ap, subst, arith}
 use Rattle.std.proofs.lemmas.List.{take_rest}
 use Rattle.raster_values.specs.Flat.{marks_of}
 use Rattle.lerc_grammar.specs.declared.parts.ImageForm.TheVariants.{Blocks}
-use Rattle.lerc_decode.specs.inside.Blocks.{AreTopsOf}
-use Rattle.lerc_decode.proofs.Bodies.{blocks_fault, coded_there, err_map, image_blocks, ok_map}
+use Rattle.lerc_decode.specs.inside.Blocks.{AreTopsOf, HasBoth}
+use Rattle.lerc_decode.proofs.Bodies.{blocks_fault, both_there, coded_there, err_map, image_blocks, ok_map}
 use Rattle.lerc_decode.proofs.body.pour_topped.Goals as goal
+
+pub read_tops-requires-clause-lists : goal.read_tops-requires-clause-lists
+read_tops-requires-clause-lists c =
+    let h = c.args.header.now in
+    let blob = c.args.blob.now in
+    let form = Blocks c.args.place in
+    let there = coded_there h blob c.args.mask.now form c.args.place refl
+    c.requires.mask c.requires.form in
+    let start = take_rest blob c.place_behind-start.result
+    ∙ ap (λ n. drop n blob) c.place_behind-start.ensures.value in
+    subst (HasBoth h) (sym start) (both_there h blob c.args.mask.now form c.args.place there)
 
 pub returns-clause-ok : goal.returns-clause-ok
 returns-clause-ok c =

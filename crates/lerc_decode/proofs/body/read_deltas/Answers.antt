@@ -1,8 +1,14 @@
 use Rattle.std.proofs.Common.{refl}
 use Rattle.raster_values.specs.Flat.{marks_of}
 use Rattle.lerc_grammar.specs.declared.parts.ImageForm.TheVariants.{Delta}
-use Rattle.lerc_decode.proofs.Bodies.{coded_there, deltas_fault, err_map, image_deltas, ok_map}
+use Rattle.lerc_decode.proofs.Bodies.{coded_there, deltas_fault, err_map, few_values, image_deltas, ok_map}
 use Rattle.lerc_decode.proofs.body.read_deltas.Goals as goal
+
+pub value_len-requires : goal.value_len-requires
+value_len-requires c = few_values c.args.blob.now c.args.header.now c.requires.head
+
+pub pour_deltas-requires-clause-values : goal.pour_deltas-requires-clause-values
+pour_deltas-requires-clause-values c = few_values c.args.blob.now c.args.header.now c.requires.head
 
 pub returns-clause-ok : goal.returns-clause-ok
 returns-clause-ok c =

@@ -1,7 +1,42 @@
-use Rattle.std.proofs.Common.{◌*◌, ◌-◌, length, refl, ap, arith}
+use Rattle.std.proofs.Common.{◌≡◌, ◌≤◌, ℕ, List, ◌*◌, ◌-◌, length, refl, ap, arith}
+use Rattle.raster_values.specs.PixelType.{bytes_of}
 use Rattle.raster_values.specs.Flat.{marks_of}
-use Rattle.lerc_decode.proofs.Bodies.{image_empty, ranges_there, image_ranges, sweep_there, image_sweep, sweep_fault, ok_map, err_map}
+use Rattle.lerc_header.specs.declared.header.Header.{Header}
+use Rattle.lerc_grammar.specs.declared.parts.MaskForm.{MaskForm}
+use Rattle.lerc_grammar.specs.declared.parts.ImageForm.{ImageForm}
+use Rattle.lerc_grammar.specs.declared.parts.ImageForm.TheVariants.{Ranges}
+use Rattle.lerc_grammar.specs.Outline.{IsMaskForm, IsImageForm}
+use Rattle.lerc_decode.proofs.Bodies.{image_empty, ranges_there, image_ranges, sweep_there, image_sweep, sweep_fault, few_values, ok_map, err_map}
 use Rattle.lerc_decode.proofs.body.read_image.Goals as goal
+
+-- both lists stand in the blob
+both_within : (h : Header) (blob : List ℕ) (mask : MaskForm) (form : ImageForm) (n : ℕ)
+    → form ≡ Ranges → IsMaskForm h blob mask → IsImageForm h blob mask form → n ≡ bytes_of h.kind
+    → 2 * (h.depth * n) ≤ length blob
+both_within h blob mask form n is mm m n_is =
+    let size_is = ap (λ k. h.depth * k) n_is in
+    omega (arith, (ranges_there h blob mask form (h.depth * n) is mm m size_is).room)
+
+pub overflow_sub-place : goal.overflow_sub-place
+overflow_sub-place c =
+    both_within c.args.header.now c.args.blob.now c.args.mask.now c.args.form.now c.bytes.result
+    c.in-Ranges.is c.requires.mask c.requires.form c.bytes.ensures
+
+pub overflow_add-place : goal.overflow_add-place
+overflow_add-place c =
+    let both = both_within c.args.header.now c.args.blob.now c.args.mask.now c.args.form.now
+    c.bytes.result c.in-Ranges.is c.requires.mask c.requires.form c.bytes.ensures in
+    omega (arith, both, c.requires.size, c.requires.head.size_below)
+
+pub slice_bounds-fill_list-end : goal.slice_bounds-fill_list-end
+slice_bounds-fill_list-end c =
+    let both = both_within c.args.header.now c.args.blob.now c.args.mask.now c.args.form.now
+    c.bytes.result c.in-Ranges.is c.requires.mask c.requires.form c.bytes.ensures in
+    omega (arith, both)
+
+pub pour_sweep-requires-clause-values : goal.pour_sweep-requires-clause-values
+pour_sweep-requires-clause-values c =
+    few_values c.args.blob.now c.args.header.now c.requires.head
 
 pub returns-in-Empty-clause-ok : goal.returns-in-Empty-clause-ok
 returns-in-Empty-clause-ok c = image_empty c.args.header.now c.args.blob.now c.args.mask.now c.args.form.now c.args.raster.now c.in-Empty.is c.requires.form c.requires.valid

@@ -1,10 +1,15 @@
 use Rattle.std.proofs.Common.{ap, ◌∙◌, ◌*◌, ◌+◌, replicate, true}
 use Rattle.std.specs.Prelude.{pos}
-use Rattle.raster_values.specs.Raster.{Pixels}
+use Rattle.raster_values.specs.Raster.{Pixels, valid_count}
 use Rattle.raster_values.specs.Flat.{marks_of}
-use Rattle.lerc_decode.proofs.Marks.{blank_marks, filled_marks}
+use Rattle.lerc_decode.proofs.Marks.{blank_count, blank_marks, filled_marks}
 use Rattle.lerc_decode.proofs.Bodies.{empty_mask, full_mask, runs_mask, runs_fault, ok_map, err_map}
 use Rattle.lerc_decode.proofs.body.read_mask.Goals as goal
+
+pub mark_all-requires : goal.mark_all-requires
+mark_all-requires c =
+    let h = c.args.header.now in
+    ap valid_count c.requires.blank ∙ blank_count h.kind h.rows h.cols h.depth
 
 pub returns-in-Empty-clause-ok : goal.returns-in-Empty-clause-ok
 returns-in-Empty-clause-ok c =

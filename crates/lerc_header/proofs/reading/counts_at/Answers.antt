@@ -1,4 +1,4 @@
-use Rattle.std.proofs.Common.{◌≡◌, pos, ◌+◌, sym, ap, ◌∙◌, arith}
+use Rattle.std.proofs.Common.{◌≡◌, pos, ◌+◌, sym, ap, ◌∙◌, arith, rules}
 use Rattle.std.specs.Prelude.{unsigned_abs}
 use Rattle.std.proofs.lemmas.Int.{ints}
 use mir.Syntax.{w32}
@@ -24,3 +24,33 @@ returns-clause-ok c =
       size_above = omega (arith, ints, size, c.if-size-shift.false, at, few);
       size_below = omega (arith, ints, size, c.if-size-gt-GREATEST_SIZE.false);
     }
+
+pub returns-then-valid-lt0-clause-fault : goal.returns-then-valid-lt0-clause-fault
+returns-then-valid-lt0-clause-fault c = search rules
+
+pub returns-then-side-lt1-clause-fault : goal.returns-then-side-lt1-clause-fault
+returns-then-side-lt1-clause-fault c = search rules
+
+pub returns-then-size-shift-clause-fault : goal.returns-then-size-shift-clause-fault
+returns-then-size-shift-clause-fault c = search rules
+
+pub returns-clause-fault : goal.returns-clause-fault
+returns-clause-fault c = search rules
+
+pub overflow_cast-result : goal.overflow_cast-result
+overflow_cast-result c = omega (arith, ints, c.signed_at-valid.type_inv, c.if-valid-lt0.false)
+
+pub overflow_cast-result-2 : goal.overflow_cast-result-2
+overflow_cast-result-2 c = omega (arith, ints, c.signed_at-side.type_inv, c.if-side-lt1.false)
+
+pub overflow_cast-result-3 : goal.overflow_cast-result-3
+overflow_cast-result-3 c =
+    let few = shift_below c.args.version in
+    omega (
+      arith,
+      ints,
+      c.signed_at-size.type_inv,
+      c.if-size-shift.false,
+      c.shift-shift.ensures,
+      few,
+    )

@@ -22,6 +22,18 @@ bits_of-requires-3 c =
     let small = ends_small h.kind h.valid h.least h.greatest c.requires.header.ends in
     subst (λ z. unsigned_abs z < 2 ^ 34) (sym (same_twice h.greatest small.greatest_small)) (twice_small h.greatest small.greatest_small)
 
+pub overflow_mul-header : goal.overflow_mul-header
+overflow_mul-header c =
+    let h = c.args.header.now in
+    let small = ends_small h.kind h.valid h.least h.greatest c.requires.header.ends in
+    omega (arith, ints, small.least_small)
+
+pub overflow_mul-header-2 : goal.overflow_mul-header-2
+overflow_mul-header-2 c =
+    let h = c.args.header.now in
+    let small = ends_small h.kind h.valid h.least h.greatest c.requires.header.ends in
+    omega (arith, ints, small.greatest_small)
+
 pub returns-clause-laid : goal.returns-clause-laid
 returns-clause-laid c =
     let h = c.args.header.now in

@@ -17,6 +17,17 @@ write_offset-used-requires-clause-room c =
     let size = table_above_len ctx.kind ctx.col ctx.step ds s (to_z w64 (of_z w64 c.value_of.result)) c.requires.spread (least_again ctx.kind ctx.step ds s c.value_of.result c.requires.spread c.value_of.ensures) in
     omega (arith, c.requires.room, size)
 
+pub overflow_add-result : goal.overflow_add-result
+overflow_add-result c =
+    let ctx = c.args.ctx.now in
+    let ds = c.args.distances.now in
+    let s = c.args.spread in
+    let least = to_z w64 (of_z w64 c.value_of.result) in
+    let same = least_again ctx.kind ctx.step ds s c.value_of.result c.requires.spread c.value_of.ensures in
+    let size = table_above_len ctx.kind ctx.col ctx.step ds s least c.requires.spread same in
+    let used = c.write_offset-used.ensures.used in
+    omega (arith, c.requires.room, size, used, c.write_table_list.ensures.count)
+
 pub slice_bounds-write_table_list-count : goal.slice_bounds-write_table_list-count
 slice_bounds-write_table_list-count c =
     let ctx = c.args.ctx.now in

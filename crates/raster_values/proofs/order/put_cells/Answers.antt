@@ -1,5 +1,6 @@
 use Rattle.std.proofs.Common.{◌≡◌, ◌≤◌, ◌+◌, ◌-◌, ◌*◌, ap, ◌∙◌, sym, subst, length, take, drop, arith, rules}
 use Rattle.std.specs.Prelude.{All}
+use Rattle.std.proofs.lemmas.List.{length-take-le, length-drop}
 use Rattle.std.proofs.Math.Nat.{mul-le-mul_right}
 use Rattle.raster_values.specs.declared.kind.PixelType.{PixelType}
 use Rattle.raster_values.specs.PixelType.{bytes_of, InRange}
@@ -81,3 +82,16 @@ loop-at-preserved c =
           (puts_more kind depth c.args.marks.now c.args.bytes.now old vs c.loop-at.at start end count piece are full
           (c.requires.bytes ∙ ap (λ n. n * bytes_of kind) (sym c.loop-at.invariant.size)) runs (omega arith) cut c.loop-at.invariant.put);
     }
+
+pub put_bytes-requires-clause-size : goal.put_bytes-requires-clause-size
+put_bytes-requires-clause-size c =
+    let h = run_cut c.args.values.now.kind c.args.depth c.next_run-run.ensures.runs c.requires.size c.requires.few (c.bytes-size.ensures ∙ ap bytes_of c.kind.ensures) c.requires.bytes in
+    let s = c.bytes-size.result in
+    let from = c.next_run-run.result.start * c.args.depth in
+    let end = c.next_run-run.result.end * c.args.depth in
+    let rest = drop (from * s) c.args.bytes.now in
+    let size : s ≡ bytes_of c.loop-at.values.kind =
+    c.bytes-size.ensures ∙ ap bytes_of (c.kind.ensures ∙ sym c.loop-at.invariant.kind) in
+    length-take-le (end * s - from * s) rest
+    (omega (arith, length-drop (from * s) c.args.bytes.now, h.bytes_within))
+    ∙ sym (apart from end s h.order) ∙ ap (λ n. (end - from) * n) size

@@ -37,3 +37,13 @@ loop-done-preserved g c =
 
 pub returns-clause-ok : goal.returns-clause-ok
 returns-clause-ok g c = marks_all_taken _ _ c.loop-done.marks c.loop-done.done (length c.args.marks.now) c.loop-done.invariant.taken c.loop-done.invariant.size (omega (arith, c.loop-done-test.false, c.loop-done.invariant.size)) (omega (arith, c.loop-done.invariant.within, c.loop-done.invariant.size))
+
+pub loop-done-smaller : goal.loop-done-smaller
+loop-done-smaller g c =
+    let want = c.min-want.result in
+    let below : c.loop-done.done < length c.loop-done.marks = (let e : c.loop-done.done < length c.loop-done.marks = omega (arith, c.len.ensures.value) in e) in
+    let size : length c.take_piece.new.buffer ≡ want = c.take_piece.auto.buffer ∙ length-take-le want c.loop-done.buffer (omega (arith, c.min-want.ensures, c.loop-done.invariant.buffer)) in
+    let inside : c.loop-done.done + length c.take_piece.new.buffer ≤ length c.loop-done.marks =
+    omega (arith, below, size, c.min-want.ensures) in
+    let same : length c.set_run.new.self ≡ length c.loop-done.marks = ap length c.set_run.ensures ∙ length_run c.loop-done.marks c.take_piece.new.buffer c.loop-done.done inside in
+    omega (arith, same, below, c.min-want.ensures)

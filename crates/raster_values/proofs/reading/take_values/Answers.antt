@@ -1,5 +1,6 @@
 use Rattle.std.proofs.Common.{◌≡◌, ◌≤◌, ◌<◌, ◌+◌, ◌-◌, ◌*◌, ◌^◌, ◌++◌, ℕ, [], take, length, ap, ◌∙◌, sym, subst, arith, refl}
 use Rattle.std.proofs.lemmas.List.{length-take-le, length-append, take_all}
+use Rattle.std.proofs.lemmas.Result.{err_from_is_err_and}
 use Rattle.raster_values.specs.declared.kind.PixelType.{PixelType}
 use Rattle.raster_values.specs.declared.reading.GridReason.{GridReason}
 use Rattle.raster_values.specs.declared.reading.GridStop.{GridStop}
@@ -12,7 +13,7 @@ use Rattle.raster_values.proofs.Pack.{on_err}
 use Rattle.raster_values.specs.inside.Runs.{AreRuns}
 use Rattle.raster_values.proofs.MarkedRuns.{fits_more}
 use Rattle.raster_values.proofs.Poured.{Kept, fills_start, run_within, filled_all}
-use Rattle.raster_values.proofs.TakenRuns.{kept_put, fills_put, size_few, run_few}
+use Rattle.raster_values.proofs.TakenRuns.{kept_put, fills_put, size_few, run_few, taken_few}
 use Rattle.raster_values.proofs.Taken.{took_none, took_join, took_front, took_some, took_more, told, ended, values_cut}
 use Rattle.raster_values.proofs.reading.take_values.Goals as goal
 
@@ -94,28 +95,20 @@ returns-in_err-n-clause-some g c =
 
 pub overflow_mul-count-in-loop-done : goal.overflow_mul-count-in-loop-done
 overflow_mul-count-in-loop-done g c =
-    let start = c.next_run-run.result.start in
-    let end = c.next_run-run.result.end in
-    let runs : AreRuns c.args.marks.now c.loop-done.done start end = c.next_run-run.ensures.runs in
-    let kind = c.args.values.now.kind in
-    let same : (end - start) * c.args.depth * c.bytes-size.result ≡ (end - start) * c.args.depth * bytes_of kind = ap (λ n. (end - start) * c.args.depth * n) (c.bytes-size.ensures ∙ ap bytes_of c.kind.ensures) in
-    let run : (end - start) * c.args.depth * bytes_of kind ≤ 67108864 = run_few kind c.args.depth c.loop-done.done start end (length c.args.values.now.values) c.args.marks.now runs c.requires.size c.requires.few in
-    let all : length (values_of (pixels_of c.args.depth c.args.marks.now c.args.values.now.values)) * bytes_of kind ≤ 67108864 = size_few kind c.args.depth c.args.marks.now c.args.values.now.values c.requires.few in
-    let done : c.loop-done.from ≤ 67108864 = omega (arith, c.loop-done.invariant.fills.fits, c.loop-done.invariant.from) in
-    omega arith
+    let few =
+    taken_few c.args.values.now.kind c.args.depth c.args.marks.now c.args.values.now.values
+    c.next_run-run.ensures.runs c.requires.size c.requires.few
+    (c.bytes-size.ensures ∙ ap bytes_of c.kind.ensures) in
+    omega (arith, few.0)
 
 pub overflow_add-from : goal.overflow_add-from
 overflow_add-from g c =
-    let start = c.next_run-run.result.start in
-    let end = c.next_run-run.result.end in
-    let runs : AreRuns c.args.marks.now c.loop-done.done start end = c.next_run-run.ensures.runs in
-    let kind = c.args.values.now.kind in
-    let same : (end - start) * c.args.depth * c.bytes-size.result ≡ (end - start) * c.args.depth * bytes_of kind = ap (λ n. (end - start) * c.args.depth * n) (c.bytes-size.ensures ∙ ap bytes_of c.kind.ensures) in
-    let run : (end - start) * c.args.depth * bytes_of kind ≤ 67108864 = run_few kind c.args.depth c.loop-done.done start end (length c.args.values.now.values) c.args.marks.now runs c.requires.size c.requires.few in
-    let all : length (values_of (pixels_of c.args.depth c.args.marks.now c.args.values.now.values)) * bytes_of kind ≤ 67108864 = size_few kind c.args.depth c.args.marks.now c.args.values.now.values c.requires.few in
-    let done : c.loop-done.from ≤ 67108864 = omega (arith, c.loop-done.invariant.fills.fits, c.loop-done.invariant.from) in
-    let less : c.in_ok-n.n < (end - start) * c.args.depth * c.bytes-size.result = c.if-n-count.true in
-    omega arith
+    let few =
+    taken_few c.args.values.now.kind c.args.depth c.args.marks.now c.args.values.now.values
+    c.next_run-run.ensures.runs c.requires.size c.requires.few
+    (c.bytes-size.ensures ∙ ap bytes_of c.kind.ensures) in
+    let fills = c.loop-done.invariant.fills in
+    omega (arith, few, c.if-n-count.true, fills.fits, c.loop-done.invariant.from)
 
 pub stop_at-requires : goal.stop_at-requires
 stop_at-requires g c =
@@ -170,17 +163,14 @@ returns-then-n-count-clause-some g c =
 
 pub overflow_add-from-in-loop-done : goal.overflow_add-from-in-loop-done
 overflow_add-from-in-loop-done g c =
-    let start = c.next_run-run.result.start in
-    let end = c.next_run-run.result.end in
-    let runs : AreRuns c.args.marks.now c.loop-done.done start end = c.next_run-run.ensures.runs in
-    let kind = c.args.values.now.kind in
-    let same : (end - start) * c.args.depth * c.bytes-size.result ≡ (end - start) * c.args.depth * bytes_of kind = ap (λ n. (end - start) * c.args.depth * n) (c.bytes-size.ensures ∙ ap bytes_of c.kind.ensures) in
-    let run : (end - start) * c.args.depth * bytes_of kind ≤ 67108864 = run_few kind c.args.depth c.loop-done.done start end (length c.args.values.now.values) c.args.marks.now runs c.requires.size c.requires.few in
-    let all : length (values_of (pixels_of c.args.depth c.args.marks.now c.args.values.now.values)) * bytes_of kind ≤ 67108864 = size_few kind c.args.depth c.args.marks.now c.args.values.now.values c.requires.few in
-    let done : c.loop-done.from ≤ 67108864 = omega (arith, c.loop-done.invariant.fills.fits, c.loop-done.invariant.from) in
-    let size : length c.in_ok-n.ensures.put.run ≡ (end - start) * c.args.depth * bytes_of kind = c.in_ok-n.ensures.put.size ∙ ap (λ (k : PixelType). (end - start) * c.args.depth * bytes_of k) c.loop-done.invariant.kind in
-    let within : c.in_ok-n.n ≤ length c.in_ok-n.ensures.put.run = c.in_ok-n.ensures.put.of_run.0 in
-    omega arith
+    let few =
+    taken_few c.args.values.now.kind c.args.depth c.args.marks.now c.args.values.now.values
+    c.next_run-run.ensures.runs c.requires.size c.requires.few refl in
+    let put = c.in_ok-n.ensures.put in
+    let count = (c.next_run-run.result.end - c.next_run-run.result.start) * c.args.depth in
+    let size = put.size ∙ ap (λ (k : PixelType). count * bytes_of k) c.loop-done.invariant.kind in
+    let fills = c.loop-done.invariant.fills in
+    omega (arith, few, size, put.of_run.0, fills.fits, c.loop-done.invariant.from)
 
 pub loop-done-preserved : goal.loop-done-preserved
 loop-done-preserved g c =
@@ -216,3 +206,32 @@ returns-clause-ok g c =
     subst (TookBytes (g.S.Source.left c.args.src.now) (g.S.Source.left c.loop-done.src))
     (sym (filled_all kind c.args.depth c.args.marks.now _ c.loop-done.invariant.read c.args.values.now.values c.loop-done.values.values c.loop-done.done (let e : length c.args.marks.now ≤ c.loop-done.done = omega (arith, c.len.ensures.value, c.loop-done-test.false) in e) c.loop-done.invariant.fills))
     c.loop-done.invariant.took
+
+pub overflow_mul-count : goal.overflow_mul-count
+overflow_mul-count g c =
+    let start = c.next_run-run.result.start in
+    let end = c.next_run-run.result.end in
+    let size = c.loop-done.invariant.fills.kept.size in
+    let within =
+    run_within c.args.depth c.loop-done.done start end (length c.loop-done.values.values)
+    c.args.marks.now c.next_run-run.ensures.runs (size ∙ c.requires.size) in
+    omega (arith, within, size, c.requires.few)
+
+pub overflow_mul-run : goal.overflow_mul-run
+overflow_mul-run g c =
+    let start = c.next_run-run.result.start in
+    let end = c.next_run-run.result.end in
+    let size = c.loop-done.invariant.fills.kept.size in
+    let within =
+    run_within c.args.depth c.loop-done.done start end (length c.loop-done.values.values)
+    c.args.marks.now c.next_run-run.ensures.runs (size ∙ c.requires.size) in
+    omega (arith, within, size, c.requires.few)
+
+pub loop-done-smaller : goal.loop-done-smaller
+loop-done-smaller g c =
+    omega (arith, c.next_run-run.ensures.runs.within, c.next_run-run.ensures.forth)
+
+pub returns-in_err-n-clause-ok : goal.returns-in_err-n-clause-ok
+returns-in_err-n-clause-ok g c =
+    let p = err_from_is_err_and c.from_residual.result c.from_residual.ensures.1 in
+    rw p.1 tt

@@ -1,9 +1,10 @@
-use Rattle.std.proofs.Common.{◌+◌, take, refl, sym, subst}
-use Rattle.raster_values.proofs.Taken.{took_front, took_more, took_some}
+use Rattle.std.proofs.Common.{◌≡◌, ◌+◌, length, take, refl, sym, subst, arith}
+use Rattle.std.proofs.lemmas.List.{length-take-le}
+use Rattle.raster_values.proofs.Taken.{ended, took_front, took_more, took_some}
 use Rattle.tile_stream.specs.declared.tile.Tile.{Tile}
 use Rattle.tile_stream.specs.declared.tile.TileStop.{TileStop}
 use Rattle.tile_stream.specs.Tile.{IsToldStop}
-use Rattle.tile_stream.proofs.Tiles.{grid_told, tile_taken}
+use Rattle.tile_stream.proofs.Tiles.{grid_told, head_told, none_left, tile_taken}
 use Rattle.tile_stream.proofs.tile.next_tile.Goals as goal
 
 pub returns-in-Err-clause-some : goal.returns-in-Err-clause-some
@@ -27,3 +28,25 @@ returns-in-Err-grid_read-clause-fault g c =
 pub returns-in-Err-grid_read-clause-some : goal.returns-in-Err-grid_read-clause-some
 returns-in-Err-grid_read-clause-some g c =
     took_more _ _ _ (take c.in-Ok.taken c.take_all.new.buf) (took_front _ _ c.in-Ok.taken c.take_all.new.buf c.in-Ok.ensures.bytes) c.in-Err-grid_read.ensures.some
+
+pub returns-then-taken-eq0-clause-ok : goal.returns-then-taken-eq0-clause-ok
+returns-then-taken-eq0-clause-ok g c =
+    let none = c.if-taken-eq0.true in
+    let three : length c.take_all.new.buf ≡ 3 = c.take_all.auto.buf in
+    none_left _ _ c.in-Ok.taken c.take_all.new.buf none
+    (c.in-Ok.ensures.end (omega (arith, none, three))) c.in-Ok.ensures.bytes
+
+pub returns-in-Err-slot_of-clause-fault : goal.returns-in-Err-slot_of-clause-fault
+returns-in-Err-slot_of-clause-fault g c =
+    let n = c.in-Ok.taken in
+    let buf = c.take_all.new.buf in
+    let fault = c.in-Err-slot_of.fault in
+    let within = c.in-Ok.ensures.within in
+    let some = c.if-taken-eq0.false in
+    let three : length buf ≡ 3 = c.take_all.auto.buf in
+    let size : length (take n buf) ≡ n = length-take-le n buf within in
+    head_told _ _ c.args.at fault.place _ fault.reason (take n buf)
+    (took_front _ _ n buf c.in-Ok.ensures.bytes)
+    (omega (arith, size, some)) (omega (arith, size, within, three)) refl
+    (λ rest is fewer. ended _ rest (c.in-Ok.ensures.end (omega (arith, size, fewer, three))) is)
+    c.in-Err-slot_of.ensures.0

@@ -1,7 +1,10 @@
-use Rattle.std.proofs.Common.{◌≡◌, sym, ap, ◌∙◌, arith}
-use Rattle.std.proofs.lemmas.Grind.{common_steps}
+use Rattle.std.proofs.Common.{◌≡◌, ◌≢◌, ℕ, ◌≤◌, List, [], ◌++◌, length, drop, take, sym, subst, ap, ◌∙◌, arith}
+use Rattle.std.proofs.lemmas.List.{append-nil, drop_all, length-drop, length-take-le}
+use Rattle.std.proofs.Math.Seq.{take-append_seam}
 use Rattle.outside_io.specs.declared.volume.VolFile.TheVariants.{Bundle}
-use Rattle.outside_io.specs.volume.History.{contents}
+use Rattle.outside_io.specs.volume.Disk.{Disk}
+use Rattle.outside_io.specs.volume.History.{ReadsAt, contents, current}
+use Rattle.outside_io.proofs.VolumeLemmas.Moments.{during_end}
 use Rattle.bundle_index.specs.Entry.{entry_at}
 use Rattle.bundle_index.specs.declared.entry.Entry.{Entry}
 use Rattle.bundle_store.specs.Session.{GetGives}
@@ -14,8 +17,56 @@ returns-then-entry-eq0-clause-none g c = λ told none.
     let size : (entry_at b c.args.slot).size ≡ 0 = ap (λ (e : Entry). e.size) (sym (c.in_ok-entry.ensures.value told)) ∙ c.if-entry-eq0.true in
     tiles_at b c.args.slot c.read_entry.ensures.slot ∙ tile_none b (entry_at b c.args.slot) size
 
+-- a read of as many bytes as the entry names
+read_gives : (b : List ℕ) (slot got : ℕ) (e : Entry) (old buf : List ℕ) → e ≡ entry_at b slot
+    → e.size ≢ 0 → ReadsAt b e.offset got old buf → length old ≡ e.size → e.size ≤ got
+    → GetGives b slot buf
+read_gives b slot got e old buf is some read size all =
+    let size_is = ap (λ (x : Entry). x.size) is in
+    let offset_is = ap (λ (x : Entry). x.offset) is in
+    let count : got ≡ e.size = omega (arith, read.count, size, all) in
+    let nothing : drop got old ≡ [] = drop_all got old (omega (arith, count, size)) in
+    let front = take got (drop e.offset b) in
+    record {
+      some = omega (arith, size_is, some);
+      within = omega (arith, size_is, offset_is, read.count, size, all, some);
+      bytes = read.bytes ∙ ap (λ (l : List ℕ). front ++ l) nothing ∙ append-nil front
+          ∙ ap (λ (n : ℕ). take n (drop e.offset b)) count
+          ∙ ap (λ (x : Entry). take x.size (drop x.offset b)) is;
+    }
+
+given_size : (b : List ℕ) (slot : ℕ) (tile : List ℕ) → GetGives b slot tile
+    → length tile ≡ (entry_at b slot).size
+given_size b slot tile gives =
+    let e = entry_at b slot in
+    let left = drop e.offset b in
+    let room : e.size ≤ length left = omega (arith, length-drop e.offset b, gives.within) in
+    ap length gives.bytes ∙ length-take-le e.size left room
+
+pub returns-clause-ok : goal.returns-clause-ok
+returns-clause-ok g c = λ told.
+    let old = g.V.Volume.history c.args.vol.now in
+    let e = c.in_ok-entry.entry in
+    let buf = c.read.new.buf in
+    let still = during_end (λ d. d ≡ current old) old _ (c.read_entry.ensures.during told) in
+    let got = c.in_ok-got.got in
+    let zeros = c.deref_mut.result.now in
+    let read = subst (λ (d : Disk). ReadsAt d.bundle.now e.offset got zeros buf)
+    still (c.in_ok-got.ensures.answer (c.read_entry.ensures.told ∙ told)) in
+    let size : length zeros ≡ e.size =
+    c.deref_mut.ensures.len ∙ c.in_ok-resize.ensures.len in
+    let gives = read_gives (current old).bundle.now c.args.slot got e zeros buf
+    (c.in_ok-entry.ensures.value told) c.if-entry-eq0.false read size c.if-got-size.false in
+    let rest = drop (length buf) c.resize.new.self.items in
+    let size_is = ap (λ (x : Entry). x.size) (c.in_ok-entry.ensures.value told) in
+    let long = sym (given_size (current old).bundle.now c.args.slot buf gives) in
+    let len : c.resize.new.self.len ≡ length buf = c.in_ok-resize.ensures.len ∙ size_is ∙ long in
+    let whole : c.from_vec.result ≡ buf =
+    c.from_vec.ensures ∙ ap (λ (n : ℕ). take n (buf ++ rest)) len ∙ take-append_seam buf rest in
+    subst (GetGives (current old).bundle.now c.args.slot) (sym whole) gives
+
 pub returns-clause-tile : goal.returns-clause-tile
 returns-clause-tile g c = λ told.
     let b = contents Bundle (g.V.Volume.history c.args.vol.now) in
-    let gives : GetGives b c.args.slot c.from_vec.result = grind (arith, common_steps) in
+    let gives = returns-clause-ok g c told in
     gives_tile b c.args.slot c.from_vec.result c.read_entry.ensures.slot gives

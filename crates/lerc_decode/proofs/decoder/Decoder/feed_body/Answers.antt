@@ -1,7 +1,16 @@
-use Rattle.std.proofs.Common.{◌<◌, ◌∙◌, length, take, refl, ap, arith}
+use Rattle.std.proofs.Common.{◌≡◌, ℕ, ◌<◌, ◌∙◌, List, ◌++◌, length, take, refl, sym, ap, subst, arith}
 use Rattle.std.proofs.lemmas.List.{length-append, length-take-le}
-use Rattle.lerc_decode.proofs.Steps.{body_head, body_goes_on, taken_body}
+use Rattle.lerc_header.specs.declared.header.Header.{Header}
+use Rattle.lerc_decode.specs.Decoding.{Decoding, IsStageOf}
+use Rattle.lerc_decode.specs.declared.decoder.Decoder.TheInside.{Inside}
+use Rattle.lerc_decode.specs.declared.decoder.Progress.{Progress}
+use Rattle.lerc_decode.specs.declared.decoder.Progress.TheVariants.{Body as AtBody}
+use Rattle.lerc_decode.specs.inside.Inside.{seen, taken_of}
+use Rattle.lerc_decode.specs.inside.Stages.{stage_of}
+use Rattle.lerc_decode.specs.inside.Steps.{StepsBody}
+use Rattle.lerc_decode.proofs.Steps.{body_head, body_goes_on, body_taken, taken_body}
 use Rattle.lerc_decode.proofs.decoder.Decoder.feed_body.Goals as goal
+use Rattle.lerc_decode.proofs.decoder.Decoder.feed_body.Goals.{in-Done-2, in-Key-2}
 
 pub after_body-requires-clause-head : goal.after_body-requires-clause-head
 after_body-requires-clause-head c =
@@ -16,3 +25,63 @@ invariant_of-self-else-len-size c =
 
 pub returns-else-len-size-clause-sound : goal.returns-else-len-size-clause-sound
 returns-else-len-size-clause-sound c = (invariant_of-self-else-len-size c).stands
+
+pub returns-then-len-size-clause-taken : goal.returns-then-len-size-clause-taken
+returns-then-len-size-clause-taken c =
+    let more = take c.min-used.result c.args.piece.now in
+    let b : Inside =
+    record c.self.inside { blob = c.grow.new.blob; progress = c.after_body.result } in
+    let new : c.match-self-after_body.self ≡ seen b = elim c.match-self-after_body.branch [
+      | in-Done-2 w ↦ w.self-is
+      | in-Key-2 w ↦ w.self-is
+    ] in
+    let taken = body_taken c.self.inside b c.in-Body.header more c.in-Body.is c.self.invariant
+    c.if-not-grow.ensures in
+    record {
+      within = omega (arith, c.min-used.ensures);
+      taken = ap (λ (d : Decoding). d.taken) new ∙ taken.1
+          ∙ ap (λ (d : Decoding). d.taken ++ more) c.self.view_is;
+    }
+
+pub returns-then-len-size-clause-sound : goal.returns-then-len-size-clause-sound
+returns-then-len-size-clause-sound c =
+    let more = take c.min-used.result c.args.piece.now in
+    let b : Inside =
+    record c.self.inside { blob = c.grow.new.blob; progress = c.after_body.result } in
+    let new : c.match-self-after_body.self ≡ seen b = elim c.match-self-after_body.branch [
+      | in-Done-2 w ↦ w.self-is
+      | in-Key-2 w ↦ w.self-is
+    ] in
+    let taken = body_taken c.self.inside b c.in-Body.header more c.in-Body.is c.self.invariant
+    c.if-not-grow.ensures in
+    subst (λ (d : Decoding). IsStageOf d.taken d.stage) (sym new)
+    (subst (λ (u : List ℕ). IsStageOf u (stage_of b.progress))
+    (c.deref.ensures.value ∙ sym taken.0) c.after_body.ensures.sound)
+
+at_body : (p : Progress) (h : Header) (old : Decoding) (taken piece : List ℕ) (used : ℕ)
+    → p ≡ AtBody h → used ≡ length piece
+    → StepsBody (stage_of p) old (record { taken = taken; stage = stage_of p }) piece used
+at_body p h old taken piece used is all =
+    subst (λ (q : Progress).
+    StepsBody (stage_of q) old (record { taken = taken; stage = stage_of q }) piece used)
+    (sym is) all
+
+pub returns-else-len-size-clause-steps : goal.returns-else-len-size-clause-steps
+returns-else-len-size-clause-steps c =
+    let piece = c.args.piece.now in
+    let used = c.min-used.result in
+    let a = c.self.inside in
+    let b : Inside = record a { blob = c.grow.new.blob } in
+    let before = taken_body a c.in-Body.header c.in-Body.is c.self.invariant in
+    let joined = length-append a.blob.items (take used piece) in
+    let within = length-take-le used piece (omega (arith, c.min-used.ensures)) in
+    let all : used ≡ length piece = omega (
+      arith,
+      c.min-used.ensures,
+      before.1,
+      joined,
+      within,
+      ap length c.if-not-grow.ensures,
+    ) in
+    subst (λ (d : Decoding). StepsBody d.stage d (seen b) piece used) c.self.view_is
+    (at_body a.progress c.in-Body.header (seen a) (taken_of b) piece used c.in-Body.is all)

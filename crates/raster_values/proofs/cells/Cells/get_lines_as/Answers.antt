@@ -49,3 +49,6 @@ loop-i-preserved c =
           (c.get_distances_as.ensures ∙ ap (λ n. map (λ k. g (get_or c.args.self.now.values (k * c.args.depth + c.args.d) (pos 0))) (range_with_len ((c.args.row + c.loop-i.i) * c.args.cols + c.args.col) n)) wide) c.loop-i.invariant.gathered;
       counted = omega (arith, c.loop-i.invariant.counted);
     }
+
+pub overflow_add-next : goal.overflow_add-next
+overflow_add-next c = let h = room c in search rules

@@ -30,3 +30,23 @@ returns c =
     ext_get_or 0 _ _ (c.loop-i.auto.out ∙ sym (length-map-range_with_len f c.args.first n)) (λ i below.
     let less : i < n = omega (arith, c.loop-i.auto.out) in
     c.loop-i.invariant i (omega arith) ∙ sym (get_or-map-range_with_len f c.args.first n i (c.args.first + i) 0 less refl))
+
+pub overflow_mul-first : goal.overflow_mul-first
+overflow_mul-first c =
+    let room = pixel_room c.args.first c.loop-i.i (length c.args.out.now) c.args.depth c.args.d (length c.args.self.now.values) (omega arith) c.requires.depth c.requires.within in
+    omega (arith, room.0, c.requires.few)
+
+pub overflow_add-first : goal.overflow_add-first
+overflow_add-first c =
+    let room = pixel_room c.args.first c.loop-i.i (length c.args.out.now) c.args.depth c.args.d (length c.args.self.now.values) (omega arith) c.requires.depth c.requires.within in
+    omega (arith, room.1, c.requires.few)
+
+pub overflow_add-first-in-loop-i : goal.overflow_add-first-in-loop-i
+overflow_add-first-in-loop-i c =
+    let room = pixel_room c.args.first c.loop-i.i (length c.args.out.now) c.args.depth c.args.d (length c.args.self.now.values) (omega arith) c.requires.depth c.requires.within in
+    omega (arith, room.0, c.requires.few)
+
+pub distance_at-requires-clause-few : goal.distance_at-requires-clause-few
+distance_at-requires-clause-few c =
+    let room = pixel_room c.args.first c.loop-i.i (length c.args.out.now) c.args.depth c.args.d (length c.args.self.now.values) (omega arith) c.requires.depth c.requires.within in
+    omega (arith, room.0, c.requires.few)

@@ -32,3 +32,31 @@ loop-i-preserved c =
       put = subst (PutsPixels c.args.depth c.args.d c.args.first (i + 1) input c.args.self.now.values) (sym is)
           (pixels_more c.args.depth c.args.d c.args.first i input c.args.self.now.values old x c.requires.depth inside same c.loop-i.invariant.put);
     }
+
+pub overflow_mul-first : goal.overflow_mul-first
+overflow_mul-first c =
+    let room =
+    pixel_room c.args.first c.loop-i.i (length c.args.values.now) c.args.depth c.args.d
+    (length c.args.self.now.values) c.loop-i-test.true c.requires.depth c.requires.within in
+    omega (arith, room.0, c.requires.few)
+
+pub overflow_add-first : goal.overflow_add-first
+overflow_add-first c =
+    let room =
+    pixel_room c.args.first c.loop-i.i (length c.args.values.now) c.args.depth c.args.d
+    (length c.args.self.now.values) c.loop-i-test.true c.requires.depth c.requires.within in
+    omega (arith, room.1, c.requires.few)
+
+pub overflow_add-first-in-loop-i : goal.overflow_add-first-in-loop-i
+overflow_add-first-in-loop-i c =
+    let room =
+    pixel_room c.args.first c.loop-i.i (length c.args.values.now) c.args.depth c.args.d
+    (length c.args.self.now.values) c.loop-i-test.true c.requires.depth c.requires.within in
+    omega (arith, room.0, c.requires.few)
+
+pub put_run_as-requires-clause-within : goal.put_run_as-requires-clause-within
+put_run_as-requires-clause-within c =
+    let room =
+    pixel_room c.args.first c.loop-i.i (length c.args.values.now) c.args.depth c.args.d
+    (length c.args.self.now.values) c.loop-i-test.true c.requires.depth c.requires.within in
+    omega (arith, room.0, c.loop-i.invariant.size)

@@ -72,3 +72,8 @@ returns c =
     let f : ℕ → ℤ = λ k. get_or c.args.self.now.values (k * c.args.depth + c.args.d) (pos 0) in
     let whole : c.loop-i.i ≡ c.args.count = omega arith in
     subst (λ n. AreEnds c.args.self.now.kind (map f (range_with_len c.args.first n)) c.loop-i.near c.loop-i.far) whole c.loop-i.invariant
+
+pub overflow_add-first-in-loop-i : goal.overflow_add-first-in-loop-i
+overflow_add-first-in-loop-i c =
+    let room = pixel_room c.args.first c.loop-i.i c.args.count c.args.depth c.args.d (length c.args.self.now.values) (omega arith) c.requires.depth c.requires.within in
+    omega (arith, room.1, c.requires.few)

@@ -1,4 +1,5 @@
-use Rattle.std.proofs.Common.{◌≡◌, ◌*◌, ◌∙◌, ap, length, replicate, true, false, arith}
+use Rattle.std.proofs.Common.{◌≡◌, ◌*◌, ◌∙◌, ap, length, replicate, true, false, ◌≤◌, arith}
+use Rattle.std.proofs.Math.Nat.{mul-le-mul_left}
 use Rattle.std.proofs.lemmas.List.{length-replicate}
 use Rattle.raster_values.specs.declared.raster.Raster.TheInside.{Inside}
 use Rattle.raster_values.specs.inside.CellList.{values_in}
@@ -28,3 +29,10 @@ invariant_of-result c = inside c
 
 pub returns-clause-ok : goal.returns-clause-ok
 returns-clause-ok c = (sound (made c) (inside c), whole_puts (made c) c.args.kind c.args.bytes.now (inside c) (marked c) (valued c))
+
+pub new-requires : goal.new-requires
+new-requires c =
+    let shape = c.in_ok-places.ensures.ok.1 in
+    let deep : c.args.rows * c.args.cols * 1 ≤ c.args.rows * c.args.cols * c.args.depth =
+    mul-le-mul_left (c.args.rows * c.args.cols) shape.depth_above in
+    omega (arith, deep, shape, c.in_ok-places.ensures.ok.0)

@@ -1,4 +1,5 @@
-use Rattle.std.proofs.Common.{◌≡◌, ◌<◌, ap, ◌∙◌, subst, min, ◌-◌, ◌++◌, drop, map, ℕ}
+use Rattle.std.proofs.Common.{◌≡◌, ◌<◌, ap, ◌∙◌, subst, min, ◌-◌, ◌++◌, ◌≤◌, ◌+◌, ◌*◌, drop, map, ℕ, arith}
+use Rattle.std.proofs.Math.Nat.{mul-le-mul, mul-le-mul_right}
 use Rattle.std.specs.Prelude.{ℤ}
 use Rattle.raster_values.specs.Raster.{Pixels}
 use Rattle.raster_values.specs.Block.{block_count, block_values}
@@ -29,3 +30,29 @@ returns-clause-count c = (both c).0
 
 pub returns-clause-distances : goal.returns-clause-distances
 returns-clause-distances c = (both c).1
+
+pub gather_rows-requires-clause-within : goal.gather_rows-requires-clause-within
+gather_rows-requires-clause-within c =
+    let a = c.self.inside in
+    let low : c.args.row + c.edge-high.result ≤ a.rows =
+    omega
+    (arith, c.edge-high.ensures, c.requires.place, ap (λ (r : Pixels). r.rows) c.self.view_is) in
+    let up : (c.args.row + c.edge-high.result) * a.cols ≤ a.rows * a.cols =
+    mul-le-mul_right a.cols low in
+    omega (arith, up, c.self.invariant.marks)
+
+pub gather_rows-requires-clause-room : goal.gather_rows-requires-clause-room
+gather_rows-requires-clause-room c =
+    let high : c.edge-high.result ≤ c.args.side = omega (arith, c.edge-high.ensures) in
+    let wide : c.edge-wide.result ≤ c.args.side = omega (arith, c.edge-wide.ensures) in
+    let area : c.edge-high.result * c.edge-wide.result ≤ c.args.side * c.args.side =
+    mul-le-mul high wide in
+    omega (arith, area, c.requires.room)
+
+pub returns-clause-within : goal.returns-clause-within
+returns-clause-within c =
+    let high : c.edge-high.result ≤ c.args.side = omega (arith, c.edge-high.ensures) in
+    let wide : c.edge-wide.result ≤ c.args.side = omega (arith, c.edge-wide.ensures) in
+    let area : c.edge-high.result * c.edge-wide.result ≤ c.args.side * c.args.side =
+    mul-le-mul high wide in
+    omega (arith, area, c.gather_rows.ensures.within)

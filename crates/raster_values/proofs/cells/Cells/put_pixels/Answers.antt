@@ -1,0 +1,105 @@
+use Rattle.std.proofs.Common.{◌≡◌, ◌≤◌, ◌+◌, ◌*◌, ap, ◌∙◌, sym, subst, length, arith}
+use Rattle.std.specs.Prelude.{All}
+use Rattle.raster_values.specs.PixelType.{InRange}
+use Rattle.raster_values.specs.inside.CellList.{CellList}
+use Rattle.raster_values.specs.inside.Ordered.{PutsPixels}
+use Rattle.raster_values.proofs.CellBytes.{with_run, length-with_run, with_run_in_range}
+use Rattle.raster_values.proofs.PixelSteps.{run_puts}
+use Rattle.raster_values.proofs.cells.Cells.put_pixels.Goals as goal
+
+pub put_pixels_as-requires : goal.put_pixels_as-requires
+put_pixels_as-requires c = record {
+  kind = sym c.in-I8.is ∙ ap (λ (l : CellList). l.kind) c.self.view_is;
+  few = c.requires.few;
+  depth = c.requires.depth;
+  within = c.requires.within;
+  in_range = c.requires.in_range;
+}
+
+pub returns-in-I8 : goal.returns-in-I8
+returns-in-I8 c = c.put_pixels_as.ensures
+
+pub put_pixels_as-requires-in-U8 : goal.put_pixels_as-requires-in-U8
+put_pixels_as-requires-in-U8 c = record {
+  kind = sym c.in-U8.is ∙ ap (λ (l : CellList). l.kind) c.self.view_is;
+  few = c.requires.few;
+  depth = c.requires.depth;
+  within = c.requires.within;
+  in_range = c.requires.in_range;
+}
+
+pub returns-in-U8 : goal.returns-in-U8
+returns-in-U8 c = c.put_pixels_as-in-U8.ensures
+
+pub put_pixels_as-requires-in-I16 : goal.put_pixels_as-requires-in-I16
+put_pixels_as-requires-in-I16 c = record {
+  kind = sym c.in-I16.is ∙ ap (λ (l : CellList). l.kind) c.self.view_is;
+  few = c.requires.few;
+  depth = c.requires.depth;
+  within = c.requires.within;
+  in_range = c.requires.in_range;
+}
+
+pub returns-in-I16 : goal.returns-in-I16
+returns-in-I16 c = c.put_pixels_as-in-I16.ensures
+
+pub put_pixels_as-requires-in-U16 : goal.put_pixels_as-requires-in-U16
+put_pixels_as-requires-in-U16 c = record {
+  kind = sym c.in-U16.is ∙ ap (λ (l : CellList). l.kind) c.self.view_is;
+  few = c.requires.few;
+  depth = c.requires.depth;
+  within = c.requires.within;
+  in_range = c.requires.in_range;
+}
+
+pub returns-in-U16 : goal.returns-in-U16
+returns-in-U16 c = c.put_pixels_as-in-U16.ensures
+
+pub put_pixels_as-requires-in-I32 : goal.put_pixels_as-requires-in-I32
+put_pixels_as-requires-in-I32 c = record {
+  kind = sym c.in-I32.is ∙ ap (λ (l : CellList). l.kind) c.self.view_is;
+  few = c.requires.few;
+  depth = c.requires.depth;
+  within = c.requires.within;
+  in_range = c.requires.in_range;
+}
+
+pub returns-in-I32 : goal.returns-in-I32
+returns-in-I32 c = c.put_pixels_as-in-I32.ensures
+
+pub put_pixels_as-requires-in-U32 : goal.put_pixels_as-requires-in-U32
+put_pixels_as-requires-in-U32 c = record {
+  kind = sym c.in-U32.is ∙ ap (λ (l : CellList). l.kind) c.self.view_is;
+  few = c.requires.few;
+  depth = c.requires.depth;
+  within = c.requires.within;
+  in_range = c.requires.in_range;
+}
+
+pub returns-in-U32 : goal.returns-in-U32
+returns-in-U32 c = c.put_pixels_as-in-U32.ensures
+
+pub returns-then-depth-eq1 : goal.returns-then-depth-eq1
+returns-then-depth-eq1 c =
+    let kind = c.args.self.now.kind in
+    let vs = c.args.self.now.values in
+    let run = c.args.values.now in
+    let d = c.args.d in
+    let one = c.if-depth-eq1.true in
+    let all : (c.args.first + length run) * c.args.depth ≡ (c.args.first + length run) * 1 =
+    ap (λ n. (c.args.first + length run) * n) one in
+    let within : c.args.first + length run ≤ length vs = omega (arith, all, c.requires.within) in
+    let is : c.put_run.new.self.values ≡ with_run vs c.args.first run =
+    ap (λ (l : CellList). l.values) c.put_run.ensures in
+    record {
+      kind = ap (λ (l : CellList). l.kind) c.put_run.ensures;
+      in_range = λ before.
+          subst (All (InRange kind)) (sym is)
+          (with_run_in_range kind vs run c.args.first before c.requires.in_range);
+      size = ap length is ∙ length-with_run vs run c.args.first within;
+      put =
+          subst (λ n. PutsPixels n d c.args.first (length run) run vs c.put_run.new.self.values)
+          (sym one)
+          (subst (PutsPixels 1 d c.args.first (length run) run vs) (sym is)
+          (run_puts d c.args.first run vs (omega (arith, one, c.requires.depth)) within));
+    }
