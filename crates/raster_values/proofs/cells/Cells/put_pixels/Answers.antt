@@ -1,4 +1,4 @@
-use Rattle.std.proofs.Common.{◌≡◌, ◌≤◌, ◌+◌, ◌*◌, ap, ◌∙◌, sym, subst, length, arith}
+use Rattle.std.proofs.Common.{◌≡◌, ◌≤◌, ◌+◌, ◌*◌, ap, sym, subst, length, arith}
 use Rattle.std.specs.Prelude.{All}
 use Rattle.raster_values.specs.PixelType.{InRange}
 use Rattle.raster_values.specs.inside.CellList.{CellList}
@@ -6,78 +6,6 @@ use Rattle.raster_values.specs.inside.Ordered.{PutsPixels}
 use Rattle.raster_values.proofs.CellBytes.{with_run, length-with_run, with_run_in_range}
 use Rattle.raster_values.proofs.PixelSteps.{run_puts}
 use Rattle.raster_values.proofs.cells.Cells.put_pixels.Goals as goal
-
-pub put_pixels_as-requires : goal.put_pixels_as-requires
-put_pixels_as-requires c = record {
-  kind = sym c.in-I8.is ∙ ap (λ (l : CellList). l.kind) c.self.view_is;
-  few = c.requires.few;
-  depth = c.requires.depth;
-  within = c.requires.within;
-  in_range = c.requires.in_range;
-}
-
-pub returns-in-I8 : goal.returns-in-I8
-returns-in-I8 c = c.put_pixels_as.ensures
-
-pub put_pixels_as-requires-in-U8 : goal.put_pixels_as-requires-in-U8
-put_pixels_as-requires-in-U8 c = record {
-  kind = sym c.in-U8.is ∙ ap (λ (l : CellList). l.kind) c.self.view_is;
-  few = c.requires.few;
-  depth = c.requires.depth;
-  within = c.requires.within;
-  in_range = c.requires.in_range;
-}
-
-pub returns-in-U8 : goal.returns-in-U8
-returns-in-U8 c = c.put_pixels_as-in-U8.ensures
-
-pub put_pixels_as-requires-in-I16 : goal.put_pixels_as-requires-in-I16
-put_pixels_as-requires-in-I16 c = record {
-  kind = sym c.in-I16.is ∙ ap (λ (l : CellList). l.kind) c.self.view_is;
-  few = c.requires.few;
-  depth = c.requires.depth;
-  within = c.requires.within;
-  in_range = c.requires.in_range;
-}
-
-pub returns-in-I16 : goal.returns-in-I16
-returns-in-I16 c = c.put_pixels_as-in-I16.ensures
-
-pub put_pixels_as-requires-in-U16 : goal.put_pixels_as-requires-in-U16
-put_pixels_as-requires-in-U16 c = record {
-  kind = sym c.in-U16.is ∙ ap (λ (l : CellList). l.kind) c.self.view_is;
-  few = c.requires.few;
-  depth = c.requires.depth;
-  within = c.requires.within;
-  in_range = c.requires.in_range;
-}
-
-pub returns-in-U16 : goal.returns-in-U16
-returns-in-U16 c = c.put_pixels_as-in-U16.ensures
-
-pub put_pixels_as-requires-in-I32 : goal.put_pixels_as-requires-in-I32
-put_pixels_as-requires-in-I32 c = record {
-  kind = sym c.in-I32.is ∙ ap (λ (l : CellList). l.kind) c.self.view_is;
-  few = c.requires.few;
-  depth = c.requires.depth;
-  within = c.requires.within;
-  in_range = c.requires.in_range;
-}
-
-pub returns-in-I32 : goal.returns-in-I32
-returns-in-I32 c = c.put_pixels_as-in-I32.ensures
-
-pub put_pixels_as-requires-in-U32 : goal.put_pixels_as-requires-in-U32
-put_pixels_as-requires-in-U32 c = record {
-  kind = sym c.in-U32.is ∙ ap (λ (l : CellList). l.kind) c.self.view_is;
-  few = c.requires.few;
-  depth = c.requires.depth;
-  within = c.requires.within;
-  in_range = c.requires.in_range;
-}
-
-pub returns-in-U32 : goal.returns-in-U32
-returns-in-U32 c = c.put_pixels_as-in-U32.ensures
 
 pub returns-then-depth-eq1 : goal.returns-then-depth-eq1
 returns-then-depth-eq1 c =
