@@ -1,4 +1,4 @@
-use Rattle.std.proofs.Common.{◌≡◌, ◌≤◌, ◌+◌, ◌*◌, ap, sym, subst, length, arith}
+use Rattle.std.proofs.Common.{◌≡◌, ◌≤◌, ◌+◌, ◌*◌, ap, ◌∙◌, sym, subst, length, arith}
 use Rattle.std.specs.Prelude.{All}
 use Rattle.raster_values.specs.PixelType.{InRange}
 use Rattle.raster_values.specs.inside.CellList.{CellList}
