@@ -194,7 +194,8 @@ puts_more kind depth marks bytes old vs at start end count piece are full size r
 
 pub puts_keep_marks : (a : Inside) (bytes : List ℕ) (vs : List ℤ) → IsInside a → length vs ≡ length a.values.values → All (InRange a.values.kind) vs
     → PutsMarkedBytes a.values.kind a.depth (length a.marks) a.marks bytes a.values.values vs → KeepsValues a a.marks vs
-puts_keep_marks a bytes vs h size fits puts = pours_keep a vs h size fits (record { rest = λ k d less off. puts.rest k d less (λ _. off) })
+puts_keep_marks a bytes vs h size fits puts =
+    pours_keep a vs h (record { size = size; in_range = λ _. fits; rest = record { rest = λ k d less off. puts.rest k d less (λ _. off) } })
 
 pub puts_all : (a : Inside) (bytes : List ℕ) (vs : List ℤ) → IsInside a → KeepsValues a a.marks vs
     → PutsMarkedBytes a.values.kind a.depth (length a.marks) a.marks bytes a.values.values vs → PutsAll (seen a) (with_values a vs) bytes

@@ -13,7 +13,7 @@ use Rattle.raster_values.specs.Block.{SameMask}
 use Rattle.raster_values.specs.Order.{FillsValid, PoursBytes, IsMaskOf, mask_bit}
 use Rattle.raster_values.specs.Flat.{PutsFrom, value_in}
 use Rattle.raster_values.specs.inside.View.{seen, IsInside, pixels_of}
-use Rattle.raster_values.specs.inside.Ordered.{FillsMarked, KeepsUnmarked, PutsMarked}
+use Rattle.raster_values.specs.inside.Ordered.{ChangesMarked, FillsMarked, PutsMarked}
 use Rattle.raster_values.proofs.Views.{get_or-pixels_of, valid-pixels_of, value-pixel_of, KeepsValues, sound}
 use Rattle.raster_values.proofs.BlockViews.{value_there}
 use Rattle.raster_values.proofs.Deep.{length-values_of, raster_deep, values_in_range}
@@ -80,11 +80,11 @@ fills_valid a pixel vs h deep keeps fills = record {
       ∙ fills.each k d below (omega (arith, deep)) (sym (mark_flat a k) ∙ valid);
 }
 
-pub pours_keep : (a : Inside) (vs : List ℤ) → IsInside a → length vs ≡ length a.values.values → All (InRange a.values.kind) vs → KeepsUnmarked a.depth a.marks a.values.values vs → KeepsValues a a.marks vs
-pours_keep a vs h size fits kept = record {
-  values = size ∙ h.values;
-  in_range = fits;
-  zeros = λ k e below less off. kept.rest k e less off ∙ h.zeros k e below less off;
+pub pours_keep : (a : Inside) (vs : List ℤ) → IsInside a → ChangesMarked a.values.kind a.depth a.marks a.values.values vs → KeepsValues a a.marks vs
+pours_keep a vs h changed = record {
+  values = changed.size ∙ h.values;
+  in_range = changed.in_range h.in_range;
+  zeros = λ k e below less off. changed.rest.rest k e less off ∙ h.zeros k e below less off;
 }
 
 pub keeps_inside : (a : Inside) (vs : List ℤ) → IsInside a → KeepsValues a a.marks vs → IsRaster (with_values a vs)

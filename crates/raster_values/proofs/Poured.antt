@@ -1,7 +1,7 @@
 -- The loops that take the bytes of marked pixels' values, or give them, run by run.
 use Rattle.std.proofs.Common.{◌≡◌, ℕ, ◌+◌, ◌-◌, ◌*◌, ◌<◌, ◌≤◌, Bool, List, [], ◌++◌, length, get_or, take, drop, refl, sym, ap, ◌∙◌, subst, arith, ⊎_elim, append_assoc}
-use Rattle.std.specs.Prelude.{ℤ, All}
-use Rattle.std.proofs.lemmas.List.{length-append, take_all, take-append-drop, length-take-le, length-drop, length-take, get_or-take, get_or-drop, get_or_past, drop-drop}
+use Rattle.std.specs.Prelude.{ℤ}
+use Rattle.std.proofs.lemmas.List.{length-append, take_all, take-append-drop, length-take-le, length-drop, length-take, get_or-take, get_or-drop, get_or_past}
 use Rattle.std.proofs.lemmas.Slice.{take-put_mid, drop-put_mid}
 use Rattle.std.proofs.lemmas.Bool.{cases_lt}
 use Rattle.std.proofs.lemmas.Grind.{flat_map-append}
@@ -9,25 +9,25 @@ use Rattle.std.proofs.Math.Seq.{take-add}
 use Rattle.std.proofs.Math.Nat.{mul-le-mul_right}
 use borrow.Rule.Slice.PartMut.{put_mid}
 use Rattle.raster_values.specs.declared.kind.PixelType.{PixelType}
-use Rattle.raster_values.specs.PixelType.{bytes_of, value_bytes, InRange}
+use Rattle.raster_values.specs.PixelType.{bytes_of, value_bytes}
 use Rattle.raster_values.specs.Raster.{values_of}
 use Rattle.raster_values.specs.Grid.{values_bytes}
 use Rattle.raster_values.specs.inside.View.{pixels_of}
 use Rattle.raster_values.specs.inside.CellList.{values_in}
-use Rattle.raster_values.specs.inside.Ordered.{KeepsUnmarked}
+use Rattle.raster_values.specs.inside.Ordered.{KeepsUnmarked, ChangesMarked}
 use Rattle.raster_values.proofs.Pack.{apart, length-values_bytes}
-use Rattle.raster_values.proofs.CellBytes.{with_run, length-values_in}
+use Rattle.raster_values.proofs.CellBytes.{length-values_in}
 use Rattle.raster_values.proofs.Spelled.{AreBytes, bytes_of_values, bytes_put, put_as_run, length-bytes_put, bytes_put_in_range}
 use Rattle.raster_values.specs.inside.Runs.{AreRuns}
-use Rattle.raster_values.proofs.MarkedRuns.{front_values, back_values, none_before, none_behind, all_before, front_more, fits_more, put_front, put_behind, put_rest}
+use Rattle.raster_values.proofs.MarkedRuns.{front_values, back_values, none_before, none_behind, all_before, front_more, fits_more, put_front, put_rest}
 
 -- all of the values stand behind the first 0
 pub back_all : (depth : ℕ) (marks : List Bool) (vs : List ℤ) → back_values depth 0 marks vs ≡ values_of (pixels_of depth marks vs)
 back_all depth marks vs = ap (λ n. values_of (pixels_of depth marks (drop n vs))) (let e : 0 * depth ≡ 0 = omega arith in e)
 
 -- a run of pixels lies within the vector
-pub run_within : (depth at start end size : ℕ) (marks : List Bool) → AreRuns marks at start end → size ≡ length marks * depth → start * depth + (end - start) * depth ≤ size
-run_within depth at start end size marks h full =
+pub run_within : {at start end size : ℕ} {marks : List Bool} (depth : ℕ) → AreRuns marks at start end → size ≡ length marks * depth → start * depth + (end - start) * depth ≤ size
+run_within {start} {end} {size} {marks} depth h full =
     let cut : (end - start) * depth ≡ end * depth - start * depth = apart start end depth h.second in
     let up : start * depth ≤ end * depth = mul-le-mul_right depth h.second in
     let whole : end * depth ≤ length marks * depth = mul-le-mul_right depth h.within in
@@ -40,150 +40,17 @@ piece_are n k bytes are i =
     (λ (ge : n ≤ i). let none : get_or (take n (drop k bytes)) i 0 ≡ 0 = get_or_past (take n (drop k bytes)) i 0 (omega (arith, length-take n (drop k bytes))) in omega arith)
     (cases_lt i n)
 
--- ---- bytes taken
-
-pub record Pours (kind : PixelType) (depth : ℕ) (marks : List Bool) (bytes : List ℕ) (old vs : List ℤ) (at from : ℕ) : Type 0 where
-  pub within : at ≤ length marks
-  pub size : length vs ≡ length old
-  pub in_range : All (InRange kind) old → All (InRange kind) vs
-  pub behind : drop (at * depth) vs ≡ drop (at * depth) old
-  pub fits : from + length (back_values depth at marks old) * bytes_of kind ≡ length bytes
-  pub front : values_bytes kind (front_values depth at marks vs) ≡ take from bytes
-  pub rest : KeepsUnmarked depth marks old vs
-
-pub pours_none : (kind : PixelType) (depth : ℕ) (marks : List Bool) (bytes : List ℕ) (old : List ℤ) → length bytes ≡ length (values_of (pixels_of depth marks old)) * bytes_of kind → Pours kind depth marks bytes old old 0 0
-pours_none kind depth marks bytes old size = record {
-  within = omega arith;
-  size = refl;
-  in_range = λ h. h;
-  behind = refl;
-  fits = let e : length (back_values depth 0 marks old) * bytes_of kind ≡ length bytes = ap (λ vs. length vs * bytes_of kind) (back_all depth marks old) ∙ sym size in omega arith;
-  front = ap (values_bytes kind) (none_before depth marks old);
-  rest = record { rest = λ k d below off. refl };
-}
-
-pub pours_within : (kind : PixelType) (depth : ℕ) (marks : List Bool) (bytes : List ℕ) (old vs : List ℤ) (at from start end : ℕ) → length old ≡ length marks * depth → AreRuns marks at start end
-    → Pours kind depth marks bytes old vs at from → from + (end - start) * depth * bytes_of kind ≤ length bytes
-pours_within kind depth marks bytes old vs at from start end full runs h = omega (arith, fits_more kind depth at start end from (length bytes) marks old runs full h.fits)
-
-pub pours_more : (kind : PixelType) (depth : ℕ) (marks : List Bool) (bytes : List ℕ) (old vs : List ℤ) (at from start end next : ℕ) → length old ≡ length marks * depth → AreBytes bytes → AreRuns marks at start end
-    → next ≡ from + (end - start) * depth * bytes_of kind
-    → Pours kind depth marks bytes old vs at from
-    → Pours kind depth marks bytes old (bytes_put kind vs (start * depth) ((end - start) * depth) (take (next - from) (drop from bytes))) end next
-pours_more kind depth marks bytes old vs at from start end next full are runs is h =
-    let count = (end - start) * depth in
-    let piece = take (next - from) (drop from bytes) in
-    let run = values_in kind count piece in
-    let s = bytes_of kind in
-    let room : from + count * s ≤ length bytes = pours_within kind depth marks bytes old vs at from start end full runs h in
-    let cut : next - from ≡ count * s = omega arith in
-    let piece_is : piece ≡ take (count * s) (drop from bytes) = ap (λ n. take n (drop from bytes)) cut in
-    let long : length piece ≡ count * s = ap length piece_is ∙ length-take-le (count * s) (drop from bytes) (omega (arith, length-drop from bytes)) in
-    let bytes_are : AreBytes piece = piece_are (next - from) from bytes are in
-    let full_now : length vs ≡ length marks * depth = h.size ∙ full in
-    let run_long : length run ≡ count = length-values_in kind count piece in
-    let in_ : start * depth + count ≤ length vs = run_within depth at start end (length vs) marks runs full_now in
-    let put : bytes_put kind vs (start * depth) count piece ≡ with_run vs (start * depth) run = put_as_run kind vs (start * depth) count piece in
-    let up : end * depth ≤ length marks * depth = mul-le-mul_right depth runs.within in
-    let low : at * depth ≤ end * depth = mul-le-mul_right depth (let e : at ≤ end = omega (arith, runs.first, runs.second) in e) in
-    record {
-      within = runs.within;
-      size = length-bytes_put kind vs (start * depth) count piece in_ ∙ h.size;
-      in_range = λ before. bytes_put_in_range kind vs (start * depth) count piece (h.in_range before) bytes_are;
-      behind = ap (drop (end * depth)) put ∙ put_behind depth start end vs run runs.second (omega arith) run_long ∙ later (at * depth) (end * depth) vs old low h.behind;
-      fits = ap (λ n. n + length (back_values depth end marks old) * s) is ∙ fits_more kind depth at start end from (length bytes) marks old runs full h.fits;
-      front = ap (λ ws. values_bytes kind (front_values depth end marks ws)) put ∙ ap (values_bytes kind) (put_front depth at start end marks vs run runs full_now run_long)
-          ∙ flat_map-append (value_bytes kind) (front_values depth at marks vs) run
-          ∙ ap (λ xs. xs ++ values_bytes kind run) h.front
-          ∙ ap (λ xs. take from bytes ++ xs) (bytes_of_values kind count piece bytes_are long ∙ piece_is)
-          ∙ sym (take-add from (count * s) bytes) ∙ ap (λ n. take n bytes) (sym is);
-      rest = subst (KeepsUnmarked depth marks old) (sym put) (put_rest depth at start end marks old vs run runs full_now run_long h.rest);
-    }
-  where
-    later : (a b : ℕ) (xs ys : List ℤ) → a ≤ b → drop a xs ≡ drop a ys → drop b xs ≡ drop b ys
-    later a b xs ys le e =
-        ap (λ n. drop n xs) (let s : b ≡ a + (b - a) = omega arith in s) ∙ sym (drop-drop (b - a) a xs) ∙ ap (drop (b - a)) e ∙ drop-drop (b - a) a ys
-        ∙ ap (λ n. drop n ys) (let s : a + (b - a) ≡ b = omega arith in s)
-
-pub poured_all : (kind : PixelType) (depth : ℕ) (marks : List Bool) (bytes : List ℕ) (old vs : List ℤ) (at from : ℕ) → length marks ≤ at → Pours kind depth marks bytes old vs at from
-    → values_bytes kind (values_of (pixels_of depth marks vs)) ≡ bytes
-poured_all kind depth marks bytes old vs at from past h =
-    let none : length (back_values depth at marks old) ≡ 0 = ap length (none_behind depth at marks old past) in
-    let end : from ≡ length bytes = omega (arith, h.fits, ap (λ n. n * bytes_of kind) none) in
-    ap (values_bytes kind) (sym (all_before depth at marks vs past)) ∙ h.front ∙ take_all from bytes (omega arith)
-
--- ---- bytes given
-
-pub record Writes (kind : PixelType) (depth : ℕ) (marks : List Bool) (vs : List ℤ) (size : ℕ) (out : List ℕ) (at from : ℕ) : Type 0 where
-  pub within : at ≤ length marks
-  pub fits : from + length (back_values depth at marks vs) * bytes_of kind ≡ size
-  pub front : take from out ≡ values_bytes kind (front_values depth at marks vs)
-
-pub writes_none : (kind : PixelType) (depth : ℕ) (marks : List Bool) (vs : List ℤ) (size : ℕ) (out : List ℕ) → size ≡ length (values_of (pixels_of depth marks vs)) * bytes_of kind → Writes kind depth marks vs size out 0 0
-writes_none kind depth marks vs size out room = record {
-  within = omega arith;
-  fits = let e : length (back_values depth 0 marks vs) * bytes_of kind ≡ size = ap (λ ws. length ws * bytes_of kind) (back_all depth marks vs) ∙ sym room in omega arith;
-  front = sym (ap (values_bytes kind) (none_before depth marks vs));
-}
-
-pub writes_within : (kind : PixelType) (depth : ℕ) (marks : List Bool) (vs : List ℤ) (size : ℕ) (out : List ℕ) (at from start end : ℕ) → length vs ≡ length marks * depth → AreRuns marks at start end
-    → Writes kind depth marks vs size out at from → from + (end - start) * depth * bytes_of kind ≤ size
-writes_within kind depth marks vs size out at from start end full runs h = omega (arith, fits_more kind depth at start end from size marks vs runs full h.fits)
-
-pub run_bytes : (kind : PixelType) (depth at start end : ℕ) (marks : List Bool) (vs : List ℤ) → length vs ≡ length marks * depth → AreRuns marks at start end
-    → length (values_bytes kind (take ((end - start) * depth) (drop (start * depth) vs))) ≡ (end - start) * depth * bytes_of kind
-run_bytes kind depth at start end marks vs full runs =
-    let count = (end - start) * depth in
-    let run = take count (drop (start * depth) vs) in
-    let in_ : start * depth + count ≤ length vs = run_within depth at start end (length vs) marks runs full in
-    length-values_bytes kind run ∙ ap (λ n. n * bytes_of kind) (length-take-le count (drop (start * depth) vs) (omega (arith, length-drop (start * depth) vs)))
-
-pub writes_more : (kind : PixelType) (depth : ℕ) (marks : List Bool) (vs : List ℤ) (size : ℕ) (out piece : List ℕ) (at from start end next : ℕ) → length vs ≡ length marks * depth → AreRuns marks at start end
-    → length out ≡ size → next ≡ from + (end - start) * depth * bytes_of kind → piece ≡ values_bytes kind (take ((end - start) * depth) (drop (start * depth) vs))
-    → Writes kind depth marks vs size out at from → Writes kind depth marks vs size (put_mid from (next - from) out piece) end next
-writes_more kind depth marks vs size out piece at from start end next full runs all is laid h =
-    let count = (end - start) * depth in
-    let s = bytes_of kind in
-    let room : from + count * s ≤ size = writes_within kind depth marks vs size out at from start end full runs h in
-    let run = take count (drop (start * depth) vs) in
-    let long : length piece ≡ count * s = ap length laid ∙ run_bytes kind depth at start end marks vs full runs in
-    record {
-      within = runs.within;
-      fits = ap (λ n. n + length (back_values depth end marks vs) * s) is ∙ fits_more kind depth at start end from size marks vs runs full h.fits;
-      front = take-put_mid from (next - from) out piece next (omega arith) (omega arith)
-          ∙ ap (λ xs. xs ++ piece) h.front ∙ ap (λ xs. values_bytes kind (front_values depth at marks vs) ++ xs) laid
-          ∙ sym (flat_map-append (value_bytes kind) (front_values depth at marks vs) run)
-          ∙ ap (values_bytes kind) (sym (front_more depth at start end marks vs runs));
-    }
-
-pub written_all : (kind : PixelType) (depth : ℕ) (marks : List Bool) (vs : List ℤ) (size : ℕ) (out : List ℕ) (at from : ℕ) → length marks ≤ at → length out ≡ size → Writes kind depth marks vs size out at from
-    → out ≡ values_bytes kind (values_of (pixels_of depth marks vs))
-written_all kind depth marks vs size out at from past all h =
-    let none : length (back_values depth at marks vs) ≡ 0 = ap length (none_behind depth at marks vs past) in
-    let end : from ≡ size = omega (arith, h.fits, ap (λ n. n * bytes_of kind) none) in
-    sym (take_all from out (omega arith)) ∙ h.front ∙ ap (values_bytes kind) (all_before depth at marks vs past)
-
-pub piece_long : (from m : ℕ) (bytes : List ℕ) → from + m ≤ length bytes → length (take (from + m - from) (drop from bytes)) ≡ m
-piece_long from m bytes within =
-    length-take-le (from + m - from) (drop from bytes) (omega (arith, length-drop from bytes)) ∙ (let e : from + m - from ≡ m = omega arith in e)
-
 -- ---- runs put one behind the other
 
--- what stays the same
-pub record Kept (kind : PixelType) (depth : ℕ) (marks : List Bool) (old vs : List ℤ) : Type 0 where
-  pub size : length vs ≡ length old
-  pub in_range : All (InRange kind) old → All (InRange kind) vs
-  pub rest : KeepsUnmarked depth marks old vs
-
-pub kept_itself : (kind : PixelType) (depth : ℕ) (marks : List Bool) (old : List ℤ) → Kept kind depth marks old old
+pub kept_itself : (kind : PixelType) (depth : ℕ) (marks : List Bool) (old : List ℤ) → ChangesMarked kind depth marks old old
 kept_itself kind depth marks old = record { size = refl; in_range = λ h. h; rest = record { rest = λ k d below off. refl } }
 
 pub kept_run : (kind : PixelType) (depth at start end : ℕ) (marks : List Bool) (old vs : List ℤ) (run : List ℕ) → length old ≡ length marks * depth → AreRuns marks at start end → AreBytes run
-    → Kept kind depth marks old vs → Kept kind depth marks old (bytes_put kind vs (start * depth) ((end - start) * depth) run)
+    → ChangesMarked kind depth marks old vs → ChangesMarked kind depth marks old (bytes_put kind vs (start * depth) ((end - start) * depth) run)
 kept_run kind depth at start end marks old vs run full runs are h =
     let count = (end - start) * depth in
     let full_now : length vs ≡ length marks * depth = h.size ∙ full in
-    let in_ : start * depth + count ≤ length vs = run_within depth at start end (length vs) marks runs full_now in
+    let in_ : start * depth + count ≤ length vs = run_within depth runs full_now in
     record {
       size = length-bytes_put kind vs (start * depth) count run in_ ∙ h.size;
       in_range = λ before. bytes_put_in_range kind vs (start * depth) count run (h.in_range before) are;
@@ -193,7 +60,7 @@ kept_run kind depth at start end marks old vs run full runs are h =
 -- the first runs have the values that were read
 pub record Fills (kind : PixelType) (depth : ℕ) (marks : List Bool) (size : ℕ) (read : List ℕ) (old vs : List ℤ) (at : ℕ) : Type 0 where
   pub within : at ≤ length marks
-  pub kept : Kept kind depth marks old vs
+  pub kept : ChangesMarked kind depth marks old vs
   pub fits : length read + length (back_values depth at marks old) * bytes_of kind ≡ size
   pub front : values_bytes kind (front_values depth at marks vs) ≡ read
 
@@ -225,6 +92,110 @@ fills_next kind depth marks size read old vs at start end run full runs are long
 pub filled_all : (kind : PixelType) (depth : ℕ) (marks : List Bool) (size : ℕ) (read : List ℕ) (old vs : List ℤ) (at : ℕ) → length marks ≤ at → Fills kind depth marks size read old vs at
     → values_bytes kind (values_of (pixels_of depth marks vs)) ≡ read
 filled_all kind depth marks size read old vs at past h = ap (values_bytes kind) (sym (all_before depth at marks vs past)) ∙ h.front
+
+-- ---- bytes poured
+
+-- the first `from` of the bytes are the values of the first runs
+pub record Pours (kind : PixelType) (depth : ℕ) (marks : List Bool) (bytes : List ℕ) (old vs : List ℤ) (at from : ℕ) : Type 0 where
+  pub there : from ≤ length bytes
+  pub fills : Fills kind depth marks (length bytes) (take from bytes) old vs at
+
+pub pours_none : (kind : PixelType) (depth : ℕ) (marks : List Bool) (bytes : List ℕ) (old : List ℤ) → length bytes ≡ length (values_of (pixels_of depth marks old)) * bytes_of kind → Pours kind depth marks bytes old old 0 0
+pours_none kind depth marks bytes old size = record {
+  there = omega arith;
+  fills = subst (λ n. Fills kind depth marks n [] old old 0) (sym size) (fills_start kind depth marks old);
+}
+
+pours_fit : (kind : PixelType) (depth : ℕ) (marks : List Bool) (bytes : List ℕ) (old vs : List ℤ) (at from start end : ℕ) → length old ≡ length marks * depth → AreRuns marks at start end
+    → Pours kind depth marks bytes old vs at from → from + (end - start) * depth * bytes_of kind ≤ length bytes
+pours_fit kind depth marks bytes old vs at from start end full runs h =
+    omega (arith, fits_more kind depth at start end (length (take from bytes)) (length bytes) marks old runs full h.fills.fits, length-take-le from bytes h.there)
+
+-- the bytes of the next run are there
+pub pours_within : {kind : PixelType} {depth at from start end s : ℕ} {marks : List Bool} {bytes : List ℕ} {old vs : List ℤ} → AreRuns marks at start end → Pours kind depth marks bytes old vs at from
+    → length old ≡ length marks * depth → s ≡ bytes_of kind → from + (end - start) * depth * s ≤ length bytes
+pours_within {kind} {depth} {at} {from} {start} {end} {marks} {bytes} {old} {vs} runs h full is =
+    omega (arith, pours_fit kind depth marks bytes old vs at from start end full runs h, ap (λ n. (end - start) * depth * n) is)
+
+pub pours_more : {kind : PixelType} {depth at from start end next : ℕ} {marks : List Bool} {bytes : List ℕ} {old vs new : List ℤ} → AreRuns marks at start end → Pours kind depth marks bytes old vs at from
+    → length old ≡ length marks * depth → AreBytes bytes → next ≡ from + (end - start) * depth * bytes_of kind
+    → new ≡ bytes_put kind vs (start * depth) ((end - start) * depth) (take (next - from) (drop from bytes))
+    → Pours kind depth marks bytes old new end next
+pours_more {kind} {depth} {at} {from} {start} {end} {next} {marks} {bytes} {old} {vs} {new} runs h full are is put =
+    let piece = take (next - from) (drop from bytes) in
+    let room = pours_fit kind depth marks bytes old vs at from start end full runs h in
+    let long : length piece ≡ (end - start) * depth * bytes_of kind = length-take-le (next - from) (drop from bytes) (omega (arith, length-drop from bytes)) ∙ omega arith in
+    let joined : take from bytes ++ piece ≡ take next bytes = sym (take-add from (next - from) bytes) ∙ ap (λ n. take n bytes) (omega arith) in
+    let filled = fills_next kind depth marks (length bytes) (take from bytes) old vs at start end piece full runs (piece_are (next - from) from bytes are) long h.fills in
+    record {
+      there = omega arith;
+      fills = subst (λ ws. Fills kind depth marks (length bytes) (take next bytes) old ws end) (sym put)
+          (subst (λ xs. Fills kind depth marks (length bytes) xs old (bytes_put kind vs (start * depth) ((end - start) * depth) piece) end) joined filled);
+    }
+
+pub poured_all : {kind : PixelType} {depth at from : ℕ} {marks : List Bool} {bytes : List ℕ} {old vs : List ℤ} → length marks ≤ at → Pours kind depth marks bytes old vs at from
+    → values_bytes kind (values_of (pixels_of depth marks vs)) ≡ bytes
+poured_all {kind} {depth} {at} {from} {marks} {bytes} {old} {vs} past h =
+    let none : length (back_values depth at marks old) ≡ 0 = ap length (none_behind depth at marks old past) in
+    let end : from ≡ length bytes = omega (arith, h.fills.fits, length-take-le from bytes h.there, ap (λ n. n * bytes_of kind) none) in
+    filled_all kind depth marks (length bytes) (take from bytes) old vs at past h.fills ∙ take_all from bytes (omega arith)
+
+-- ---- bytes given
+
+pub record Writes (kind : PixelType) (depth : ℕ) (marks : List Bool) (vs : List ℤ) (size : ℕ) (out : List ℕ) (at from : ℕ) : Type 0 where
+  pub within : at ≤ length marks
+  pub fits : from + length (back_values depth at marks vs) * bytes_of kind ≡ size
+  pub front : take from out ≡ values_bytes kind (front_values depth at marks vs)
+
+pub writes_none : (kind : PixelType) (depth : ℕ) (marks : List Bool) (vs : List ℤ) (size : ℕ) (out : List ℕ) → size ≡ length (values_of (pixels_of depth marks vs)) * bytes_of kind → Writes kind depth marks vs size out 0 0
+writes_none kind depth marks vs size out room = record {
+  within = omega arith;
+  fits = let e : length (back_values depth 0 marks vs) * bytes_of kind ≡ size = ap (λ ws. length ws * bytes_of kind) (back_all depth marks vs) ∙ sym room in omega arith;
+  front = sym (ap (values_bytes kind) (none_before depth marks vs));
+}
+
+-- there is room for the bytes of the next run
+pub writes_within : {kind : PixelType} {depth size at from start end s : ℕ} {marks : List Bool} {vs : List ℤ} {out : List ℕ} → AreRuns marks at start end → Writes kind depth marks vs size out at from
+    → length vs ≡ length marks * depth → s ≡ bytes_of kind → from + (end - start) * depth * s ≤ size
+writes_within {kind} {depth} {size} {at} {from} {start} {end} {marks} {vs} runs h full is =
+    omega (arith, fits_more kind depth at start end from size marks vs runs full h.fits, ap (λ n. (end - start) * depth * n) is)
+
+pub run_bytes : {at start end : ℕ} {marks : List Bool} (kind : PixelType) (depth : ℕ) (vs : List ℤ) → AreRuns marks at start end → length vs ≡ length marks * depth
+    → length (values_bytes kind (take ((end - start) * depth) (drop (start * depth) vs))) ≡ (end - start) * depth * bytes_of kind
+run_bytes {start} {end} kind depth vs runs full =
+    let count = (end - start) * depth in
+    let run = take count (drop (start * depth) vs) in
+    let in_ : start * depth + count ≤ length vs = run_within depth runs full in
+    length-values_bytes kind run ∙ ap (λ n. n * bytes_of kind) (length-take-le count (drop (start * depth) vs) (omega (arith, length-drop (start * depth) vs)))
+
+pub writes_more : {kind : PixelType} {depth size at from start end next : ℕ} {marks : List Bool} {vs : List ℤ} {out piece : List ℕ} → AreRuns marks at start end → Writes kind depth marks vs size out at from
+    → length vs ≡ length marks * depth → length out ≡ size → next ≡ from + (end - start) * depth * bytes_of kind
+    → piece ≡ values_bytes kind (take ((end - start) * depth) (drop (start * depth) vs)) → Writes kind depth marks vs size (put_mid from (next - from) out piece) end next
+writes_more {kind} {depth} {size} {at} {from} {start} {end} {next} {marks} {vs} {out} {piece} runs h full all is laid =
+    let count = (end - start) * depth in
+    let s = bytes_of kind in
+    let room : from + count * s ≤ size = writes_within runs h full refl in
+    let run = take count (drop (start * depth) vs) in
+    let long : length piece ≡ count * s = ap length laid ∙ run_bytes kind depth vs runs full in
+    record {
+      within = runs.within;
+      fits = ap (λ n. n + length (back_values depth end marks vs) * s) is ∙ fits_more kind depth at start end from size marks vs runs full h.fits;
+      front = take-put_mid from (next - from) out piece next (omega arith) (omega arith)
+          ∙ ap (λ xs. xs ++ piece) h.front ∙ ap (λ xs. values_bytes kind (front_values depth at marks vs) ++ xs) laid
+          ∙ sym (flat_map-append (value_bytes kind) (front_values depth at marks vs) run)
+          ∙ ap (values_bytes kind) (sym (front_more depth at start end marks vs runs));
+    }
+
+pub written_all : {kind : PixelType} {depth size at from : ℕ} {marks : List Bool} {vs : List ℤ} {out : List ℕ} → length marks ≤ at → length out ≡ size → Writes kind depth marks vs size out at from
+    → out ≡ values_bytes kind (values_of (pixels_of depth marks vs))
+written_all {kind} {depth} {size} {at} {from} {marks} {vs} {out} past all h =
+    let none : length (back_values depth at marks vs) ≡ 0 = ap length (none_behind depth at marks vs past) in
+    let end : from ≡ size = omega (arith, h.fits, ap (λ n. n * bytes_of kind) none) in
+    sym (take_all from out (omega arith)) ∙ h.front ∙ ap (values_bytes kind) (all_before depth at marks vs past)
+
+pub piece_long : (from m : ℕ) (bytes : List ℕ) → from + m ≤ length bytes → length (take (from + m - from) (drop from bytes)) ≡ m
+piece_long from m bytes within =
+    length-take-le (from + m - from) (drop from bytes) (omega (arith, length-drop from bytes)) ∙ (let e : from + m - from ≡ m = omega arith in e)
 
 -- a vector's bytes with some of them replaced
 pub put_whole : {X : Type 0} (a e : ℕ) (xs ys : List X) → a ≤ e → e ≤ length xs → length ys ≡ e - a → put_mid a (e - a) xs ys ≡ take a xs ++ (ys ++ drop e xs)

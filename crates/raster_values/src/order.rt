@@ -6,7 +6,7 @@ ghost use Rattle.raster_values.specs.Raster.{values_of};
 ghost use Rattle.raster_values.specs.Order.{mask_bit};
 ghost use Rattle.raster_values.specs.inside.View.{pixels_of};
 ghost use Rattle.raster_values.specs.Grid.{values_bytes};
-ghost use Rattle.raster_values.specs.inside.Ordered.{FillsMarked, KeepsUnmarked, PutsMarked, PutsMarkedBytes};
+ghost use Rattle.raster_values.specs.inside.Ordered.{ChangesMarked, FillsMarked, PutsMarked, PutsMarkedBytes};
 
 use super::cells::Cells;
 use super::mask::Mask;
@@ -39,12 +39,10 @@ pub(super) fn pour_bytes(marks: &Mask, depth: usize, bytes: &[u8], values: &mut 
     requires count { length bytes.now ≡ length (values_of
         (pixels_of depth marks.now values.old.values)) * bytes_of values.old.kind }
     ensures kind { values.new.kind ≡ values.old.kind }
-    ensures in_range { All (InRange values.old.kind) values.old.values
-        → All (InRange values.old.kind) values.new.values }
-    ensures size { length values.new.values ≡ length values.old.values }
+    ensures changed { ChangesMarked values.old.kind depth marks.now
+        values.old.values values.new.values }
     ensures poured { values_bytes values.old.kind
         (values_of (pixels_of depth marks.now values.new.values)) ≡ bytes.now }
-    ensures rest { KeepsUnmarked depth marks.now values.old.values values.new.values }
 {
     let size = values.kind().bytes();
     let mut at = 0;

@@ -1,10 +1,10 @@
 //! Grid files read.
 
-ghost use Rattle.std.specs.Prelude.{◌≡◌, ℕ, ◌+◌, ◌-◌, ◌*◌, ◌^◌, ◌<◌, ◌≤◌, ◌↔◌, ◌++◌, List, IfOk, IfErr, OnOk, OnErr, IsTrue, MatchResult, length, get_or, take, drop, map, nat_eq, All};
-ghost use Rattle.raster_values.specs.PixelType.{InRange, bytes_of};
+ghost use Rattle.std.specs.Prelude.{◌≡◌, ℕ, ◌+◌, ◌-◌, ◌*◌, ◌^◌, ◌<◌, ◌≤◌, ◌↔◌, ◌++◌, List, IfOk, IfErr, OnOk, OnErr, IsTrue, MatchResult, length, get_or, take, drop, map, nat_eq};
+ghost use Rattle.raster_values.specs.PixelType.{bytes_of};
 ghost use Rattle.raster_values.specs.Raster.{blank, values_of};
 ghost use Rattle.raster_values.specs.inside.View.{pixels_of};
-ghost use Rattle.raster_values.specs.inside.Ordered.{KeepsUnmarked};
+ghost use Rattle.raster_values.specs.inside.Ordered.{ChangesMarked};
 ghost use Rattle.raster_values.specs.inside.Heads.{IsSizeFault};
 ghost use Rattle.raster_values.specs.Grid.{values_bytes};
 ghost use Rattle.raster_values.specs.ReadGrid.{IsHead, AreMarks, AreLawful, TookBytes, TookGrid, TookSome, IsToldFault, CountsGridStop, number_at, magic_faults, head_faults, mark_faults, value_faults, grid_faults};
@@ -256,10 +256,8 @@ pub(super) fn take_values<S: Source>(
     requires size { length values.old.values ≡ length marks.now * depth }
     requires few { length values.old.values ≤ 16777216 }
     ensures kind { values.new.kind ≡ values.old.kind }
-    ensures in_range { All (InRange values.old.kind) values.old.values
-        → All (InRange values.old.kind) values.new.values }
-    ensures size { length values.new.values ≡ length values.old.values }
-    ensures rest { KeepsUnmarked depth marks.now values.old.values values.new.values }
+    ensures changed { ChangesMarked values.old.kind depth marks.now
+        values.old.values values.new.values }
     ensures ok { OnOk result (TookBytes (S.left src.old) (S.left src.new)
         (values_bytes values.old.kind (values_of (pixels_of depth marks.now values.new.values)))) }
     ensures err { IfErr result (λ stop. IsToldFault (value_faults

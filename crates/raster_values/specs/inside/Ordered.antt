@@ -1,7 +1,7 @@
 -- Values of the marked pixels in the flat vector.
-use Rattle.std.specs.Prelude.{◌≡◌, ℕ, ℤ, pos, ◌+◌, ◌*◌, ◌<◌, ◌≤◌, Bool, true, false, List, length, get_or, drop}
+use Rattle.std.specs.Prelude.{◌≡◌, ℕ, ℤ, pos, ◌+◌, ◌*◌, ◌<◌, ◌≤◌, Bool, true, false, List, length, get_or, drop, All}
 use Rattle.raster_values.specs.declared.kind.PixelType.{PixelType}
-use Rattle.raster_values.specs.PixelType.{Spells, bytes_of}
+use Rattle.raster_values.specs.PixelType.{InRange, Spells, bytes_of}
 
 -- each of the first n pixels has this list of values, where it is marked, and no other value was
 -- changed
@@ -15,6 +15,13 @@ pub record FillsMarked (n : ℕ) (marks : List Bool) (pixel old new : List ℤ) 
 pub record KeepsUnmarked (depth : ℕ) (marks : List Bool) (old new : List ℤ) : Type 0 where
   pub rest : (k d : ℕ) → d < depth → get_or marks k false ≡ false
       → get_or new (k * depth + d) (pos 0) ≡ get_or old (k * depth + d) (pos 0)
+
+-- no other values than those of marked pixels were changed, and all stay values of the type
+pub record ChangesMarked (kind : PixelType) (depth : ℕ) (marks : List Bool)
+    (old new : List ℤ) : Type 0 where
+  pub size : length new ≡ length old
+  pub in_range : All (InRange kind) old → All (InRange kind) new
+  pub rest : KeepsUnmarked depth marks old new
 
 -- at depth d the first n pixels from `place` on have these values, where they are marked, and no
 -- other value was changed

@@ -4,7 +4,6 @@ use Rattle.raster_values.specs.Grid.{values_bytes}
 use Rattle.raster_values.specs.Raster.{Pixels, values_of, valid_count}
 use Rattle.raster_values.specs.Order.{PoursBytes}
 use Rattle.raster_values.specs.inside.CellList.{CellList}
-use Rattle.raster_values.specs.inside.Ordered.{KeepsUnmarked}
 use Rattle.raster_values.specs.inside.View.{seen, pixels_of}
 use Rattle.raster_values.proofs.Views.{sound}
 use Rattle.raster_values.proofs.FlatViews.{pours_keep, pours_bytes, count_values, with_values}
@@ -21,9 +20,8 @@ returns c =
     let a = c.self.inside in
     let vs = c.pour_bytes.new.values.values in
     let cells : c.pour_bytes.new.values ≡ record a.values { values = vs } = λ i. record { kind = c.pour_bytes.ensures.kind i; values = vs } in
-    let kept : KeepsUnmarked a.depth a.marks a.values.values vs = c.pour_bytes.ensures.rest in
     let poured : values_bytes a.values.kind (values_of (pixels_of a.depth a.marks vs)) ≡ c.args.bytes.now =
     c.pour_bytes.ensures.poured in
     subst (λ (l : CellList). PoursBytes c.args.self.now (record { kind = l.kind; rows = a.rows; cols = a.cols; depth = a.depth; pixels = pixels_of a.depth a.marks l.values }) c.args.bytes.now) (sym cells)
     (subst (λ (r : Pixels). PoursBytes r (with_values a vs) c.args.bytes.now) c.self.view_is
-    (pours_bytes a c.args.bytes.now vs c.self.invariant (pours_keep a vs c.self.invariant c.pour_bytes.ensures.size (c.pour_bytes.ensures.in_range c.self.invariant.in_range) kept) poured))
+    (pours_bytes a c.args.bytes.now vs c.self.invariant (pours_keep a vs c.self.invariant c.pour_bytes.ensures.changed) poured))

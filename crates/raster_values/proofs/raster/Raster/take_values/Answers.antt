@@ -9,7 +9,6 @@ use Rattle.raster_values.specs.Block.{SameMask}
 use Rattle.raster_values.specs.Flat.{marks_of}
 use Rattle.raster_values.specs.ReadGrid.{TookBytes, IsToldFault, value_faults}
 use Rattle.raster_values.specs.inside.CellList.{CellList}
-use Rattle.raster_values.specs.inside.Ordered.{KeepsUnmarked}
 use Rattle.raster_values.specs.inside.View.{seen, pixels_of}
 use Rattle.raster_values.proofs.Views.{sound, KeepsValues}
 use Rattle.raster_values.proofs.FlatViews.{pours_keep, same_mask, keeps_inside, with_values, marks_of-pixels_of, count_values, values_stand}
@@ -20,8 +19,7 @@ returns-clause-sound g c =
     let a = c.self.inside in
     let vs = c.take_values.new.values.values in
     let cells : c.take_values.new.values ≡ record a.values { values = vs } = λ i. record { kind = c.take_values.ensures.kind i; values = vs } in
-    let kept : KeepsUnmarked a.depth a.marks a.values.values vs = c.take_values.ensures.rest in
-    let keeps : KeepsValues a a.marks vs = pours_keep a vs c.self.invariant c.take_values.ensures.size (c.take_values.ensures.in_range c.self.invariant.in_range) kept in
+    let keeps : KeepsValues a a.marks vs = pours_keep a vs c.self.invariant c.take_values.ensures.changed in
     subst (λ (l : CellList). IsRaster (record { kind = l.kind; rows = a.rows; cols = a.cols; depth = a.depth; pixels = pixels_of a.depth a.marks l.values })) (sym cells) (keeps_inside a vs c.self.invariant keeps)
 
 pub returns-clause-mask : goal.returns-clause-mask
@@ -41,8 +39,7 @@ pub returns-clause-ok : goal.returns-clause-ok
 returns-clause-ok g c =
     let a = c.self.inside in
     let vs = c.take_values.new.values.values in
-    let kept : KeepsUnmarked a.depth a.marks a.values.values vs = c.take_values.ensures.rest in
-    let keeps : KeepsValues a a.marks vs = pours_keep a vs c.self.invariant c.take_values.ensures.size (c.take_values.ensures.in_range c.self.invariant.in_range) kept in
+    let keeps : KeepsValues a a.marks vs = pours_keep a vs c.self.invariant c.take_values.ensures.changed in
     let bytes = values_bytes a.values.kind (values_of (pixels_of a.depth a.marks vs)) in
     let stand : AreValues c.args.self.now.kind bytes (values_of (pixels_of a.depth a.marks vs)) =
     subst (λ (r : Pixels). AreValues r.kind bytes (values_of (pixels_of a.depth a.marks vs))) c.self.view_is (values_stand a vs c.self.invariant keeps) in
