@@ -1,5 +1,5 @@
 -- Pixels filled by copies of those that were filled before.
-use Rattle.std.proofs.Common.{◌≡◌, ℕ, ◌+◌, ◌-◌, ◌*◌, ◌<◌, ◌≤◌, suc, List, ◌++◌, length, get_or, take, drop, refl, sym, ap, ◌∙◌, subst, arith, ⊎_elim}
+use Rattle.std.proofs.Common.{◌≡◌, ℕ, ◌+◌, ◌-◌, ◌*◌, ◌<◌, ◌≤◌, suc, List, ◌++◌, length, get_or, take, drop, min, refl, sym, ap, ◌∙◌, subst, arith, ⊎_elim}
 use Rattle.std.specs.Prelude.{ℤ, pos, All}
 use Rattle.std.proofs.lemmas.List.{length-take-le, length-drop, get_or-take, get_or-drop}
 use Rattle.std.proofs.lemmas.List.Elements.{All-take, All-drop}
@@ -106,3 +106,19 @@ fills_copied first n more at to pixel old vs few start there within h =
           (cases_lt k (first + (n + more))))
           (cases_lt k (first + n));
     })
+
+-- where the values that are laid down next come from, and where they go
+pub record Behind (first done more count deep size : ℕ) : Type 0 where
+  pub few : more ≤ done
+  pub less : done + more ≤ count
+  pub order : first * deep + more * deep ≤ first * deep + done * deep
+  pub within : first * deep + done * deep + more * deep ≤ size
+
+pub behind : {done count size some more : ℕ} (first deep span : ℕ) → some ≡ min done (count - done) → more ≡ min some span → done ≤ count → (first + count) * deep ≤ size
+    → Behind first done more count deep size
+behind {done} {count} {more} first deep span some least in_ within =
+    let few : more ≤ done = omega arith in
+    let less : done + more ≤ count = omega arith in
+    let up : more * deep ≤ done * deep = mul-le-mul_right deep few in
+    let all : (first + (done + more)) * deep ≤ (first + count) * deep = mul-le-mul_right deep (omega arith) in
+    record { few = few; less = less; order = omega (arith, up); within = omega (arith, all, within) }

@@ -1,12 +1,11 @@
-use Rattle.std.proofs.Common.{◌≡◌, ◌≤◌, ◌+◌, ◌*◌, ℕ, ap, sym, ◌∙◌, subst, length, refl, arith}
+use Rattle.std.proofs.Common.{◌≡◌, ◌≤◌, ◌+◌, ◌*◌, ap, sym, ◌∙◌, subst, length, refl, arith}
 use Rattle.std.specs.Prelude.{All}
-use Rattle.std.proofs.Math.Nat.{mul-le-mul_right}
 use Rattle.raster_values.specs.PixelType.{InRange}
 use Rattle.raster_values.specs.inside.CellList.{CellList}
 use Rattle.raster_values.specs.inside.Ordered.{FillsPixels}
 use Rattle.raster_values.proofs.Views.{pixel_fits}
 use Rattle.raster_values.proofs.CellBytes.{with_run, length-with_run, with_run_in_range}
-use Rattle.raster_values.proofs.Repeats.{repeated, length-repeated, repeated_in_range, fills_one, fills_copied}
+use Rattle.raster_values.proofs.Repeats.{repeated, length-repeated, repeated_in_range, behind, fills_one, fills_copied}
 use Rattle.raster_values.proofs.cells.Cells.fill_pixels.Goals as goal
 
 pub overflow_mul-at : goal.overflow_mul-at
@@ -37,47 +36,30 @@ loop-done-init c =
       filled = subst (FillsPixels c.args.first 1 pixel old) (sym is) (fills_one c.args.first at pixel old refl within);
     }
 
-behind : (first n more count deep size : ℕ) → more ≤ n → n + more ≤ count → (first + count) * deep ≤ size
-    → (first * deep + more * deep ≤ first * deep + n * deep) × (first * deep + n * deep + more * deep ≤ size)
-behind first n more count deep size few less within =
-    let up : more * deep ≤ n * deep = mul-le-mul_right deep few in
-    let all : (first + (n + more)) * deep ≤ (first + count) * deep = mul-le-mul_right deep (omega arith) in
-    (omega arith, omega arith)
-
 pub overflow_mul-done : goal.overflow_mul-done
 overflow_mul-done c =
-    let some : c.min-more.result ≤ c.loop-done.done = omega (arith, c.min.ensures, c.min-more.ensures) in
-    let less : c.loop-done.done + c.min-more.result ≤ c.args.count = omega (arith, c.min.ensures, c.min-more.ensures, c.loop-done.invariant.within) in
-    let room = behind c.args.first c.loop-done.done c.min-more.result c.args.count (length c.args.pixel.now) (length c.args.self.now.values) some less c.requires.within in
-    omega (arith, room.0, room.1, c.requires.few)
+    let room = behind c.args.first (length c.args.pixel.now) c.max-span.result c.min.ensures c.min-more.ensures c.loop-done.invariant.within c.requires.within in
+    omega (arith, room.order, room.within, c.requires.few)
 
 pub overflow_add-at : goal.overflow_add-at
 overflow_add-at c =
-    let some : c.min-more.result ≤ c.loop-done.done = omega (arith, c.min.ensures, c.min-more.ensures) in
-    let less : c.loop-done.done + c.min-more.result ≤ c.args.count = omega (arith, c.min.ensures, c.min-more.ensures, c.loop-done.invariant.within) in
-    let room = behind c.args.first c.loop-done.done c.min-more.result c.args.count (length c.args.pixel.now) (length c.args.self.now.values) some less c.requires.within in
-    omega (arith, room.0, room.1, c.requires.few)
+    let room = behind c.args.first (length c.args.pixel.now) c.max-span.result c.min.ensures c.min-more.ensures c.loop-done.invariant.within c.requires.within in
+    omega (arith, room.order, room.within, c.requires.few)
 
 pub overflow_mul-more : goal.overflow_mul-more
 overflow_mul-more c =
-    let some : c.min-more.result ≤ c.loop-done.done = omega (arith, c.min.ensures, c.min-more.ensures) in
-    let less : c.loop-done.done + c.min-more.result ≤ c.args.count = omega (arith, c.min.ensures, c.min-more.ensures, c.loop-done.invariant.within) in
-    let room = behind c.args.first c.loop-done.done c.min-more.result c.args.count (length c.args.pixel.now) (length c.args.self.now.values) some less c.requires.within in
-    omega (arith, room.0, room.1, c.requires.few)
+    let room = behind c.args.first (length c.args.pixel.now) c.max-span.result c.min.ensures c.min-more.ensures c.loop-done.invariant.within c.requires.within in
+    omega (arith, room.order, room.within, c.requires.few)
 
 pub repeat_run-requires-clause-behind : goal.repeat_run-requires-clause-behind
 repeat_run-requires-clause-behind c =
-    let some : c.min-more.result ≤ c.loop-done.done = omega (arith, c.min.ensures, c.min-more.ensures) in
-    let less : c.loop-done.done + c.min-more.result ≤ c.args.count = omega (arith, c.min.ensures, c.min-more.ensures, c.loop-done.invariant.within) in
-    let room = behind c.args.first c.loop-done.done c.min-more.result c.args.count (length c.args.pixel.now) (length c.args.self.now.values) some less c.requires.within in
-    omega (arith, room.0, room.1, c.requires.few)
+    let room = behind c.args.first (length c.args.pixel.now) c.max-span.result c.min.ensures c.min-more.ensures c.loop-done.invariant.within c.requires.within in
+    omega (arith, room.order, room.within, c.requires.few)
 
 pub repeat_run-requires-clause-within : goal.repeat_run-requires-clause-within
 repeat_run-requires-clause-within c =
-    let some : c.min-more.result ≤ c.loop-done.done = omega (arith, c.min.ensures, c.min-more.ensures) in
-    let less : c.loop-done.done + c.min-more.result ≤ c.args.count = omega (arith, c.min.ensures, c.min-more.ensures, c.loop-done.invariant.within) in
-    let room = behind c.args.first c.loop-done.done c.min-more.result c.args.count (length c.args.pixel.now) (length c.args.self.now.values) some less c.requires.within in
-    omega (arith, room.1, c.loop-done.invariant.size)
+    let room = behind c.args.first (length c.args.pixel.now) c.max-span.result c.min.ensures c.min-more.ensures c.loop-done.invariant.within c.requires.within in
+    omega (arith, room.within, c.loop-done.invariant.size)
 
 pub loop-done-preserved : goal.loop-done-preserved
 loop-done-preserved c =
@@ -91,17 +73,15 @@ loop-done-preserved c =
     let old = c.args.self.now.values in
     let vs = c.loop-done.self.values in
     let new = c.repeat_run.new.self.values in
-    let some : more ≤ n = omega (arith, c.min.ensures, c.min-more.ensures) in
-    let less : n + more ≤ c.args.count = omega (arith, c.min.ensures, c.min-more.ensures, c.loop-done.invariant.within) in
-    let room = behind c.args.first n more c.args.count (length pixel) (length old) some less c.requires.within in
-    let before : at + count ≤ to = room.0 in
-    let within : to + count ≤ length vs = omega (arith, room.1, c.loop-done.invariant.size) in
+    let room = behind c.args.first (length pixel) c.max-span.result c.min.ensures c.min-more.ensures c.loop-done.invariant.within c.requires.within in
+    let before : at + count ≤ to = room.order in
+    let within : to + count ≤ length vs = omega (arith, room.within, c.loop-done.invariant.size) in
     let is : new ≡ repeated vs at to count = ap (λ (l : CellList). l.values) c.repeat_run.ensures in
     record {
       some = omega (arith, c.loop-done.invariant.some);
-      within = less;
+      within = room.less;
       kind = ap (λ (l : CellList). l.kind) c.repeat_run.ensures ∙ c.loop-done.invariant.kind;
       in_range = λ first. subst (All (InRange kind)) (sym is) (repeated_in_range kind vs at to count before within (c.loop-done.invariant.in_range first));
       size = ap length is ∙ length-repeated vs at to count before within ∙ c.loop-done.invariant.size;
-      filled = subst (FillsPixels c.args.first (n + more) pixel old) (sym is) (fills_copied c.args.first n more at to pixel old vs some refl refl within c.loop-done.invariant.filled);
+      filled = subst (FillsPixels c.args.first (n + more) pixel old) (sym is) (fills_copied c.args.first n more at to pixel old vs room.few refl refl within c.loop-done.invariant.filled);
     }
