@@ -27,8 +27,8 @@ use Rattle.raster_values.proofs.CellBytes.{value_there}
 use Rattle.raster_values.proofs.Distances.{value_back}
 use Rattle.raster_values.proofs.Ranges.{least_of_one, greatest_of_one, least_pushed, greatest_pushed}
 
-pub place_below : (first count depth d size : ℕ) → 0 < count → d < depth → (first + count) * depth ≤ size → first * depth + d < size
-place_below first count depth d size some deep within =
+pub place_below : {count depth d size : ℕ} (first : ℕ) → 0 < count → d < depth → (first + count) * depth ≤ size → first * depth + d < size
+place_below {count} {depth} first some deep within =
     let up : suc first * depth ≤ (first + count) * depth = mul-le-mul_right depth (omega arith) in
     omega (arith, up)
 

@@ -21,8 +21,8 @@ use Rattle.raster_values.proofs.RunSteps.{run_same, places_rise, gathers_join}
 -- ---- pixel by pixel
 
 -- the values of the first pixels lie within the list
-pub pixel_room : (first i n depth d size : ℕ) → i < n → d < depth → (first + n) * depth ≤ size → ((first + i) * depth + d < size) × (first + i ≤ size)
-pixel_room first i n depth d size below less within =
+pub pixel_room : {i n depth d size : ℕ} (first : ℕ) → i < n → d < depth → (first + n) * depth ≤ size → ((first + i) * depth + d < size) × (first + i ≤ size)
+pixel_room {i} {n} {depth} first below less within =
     let up : suc (first + i) * depth ≤ (first + n) * depth = mul-le-mul_right depth (omega arith) in
     let wide : (first + n) * 1 ≤ (first + n) * depth = mul-le-mul_left (first + n) (omega arith) in
     (omega (arith, up), omega (arith, wide))

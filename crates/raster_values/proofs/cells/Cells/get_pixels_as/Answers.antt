@@ -8,17 +8,17 @@ use Rattle.raster_values.proofs.cells.Cells.get_pixels_as.Goals as goal
 
 pub overflow_mul-first : goal.overflow_mul-first
 overflow_mul-first c =
-    let room = pixel_room c.args.first c.loop-i.i (length c.args.out.now) c.args.depth c.args.d (length c.args.self.now.values) (omega arith) c.requires.depth c.requires.within in
+    let room = pixel_room {i = c.loop-i.i} {n = length c.args.out.now} c.args.first (omega arith) c.requires.depth c.requires.within in
     omega arith
 
 pub overflow_add-first-in-loop-i : goal.overflow_add-first-in-loop-i
 overflow_add-first-in-loop-i c =
-    let room = pixel_room c.args.first c.loop-i.i (length c.args.out.now) c.args.depth c.args.d (length c.args.self.now.values) (omega arith) c.requires.depth c.requires.within in
+    let room = pixel_room {i = c.loop-i.i} {n = length c.args.out.now} c.args.first (omega arith) c.requires.depth c.requires.within in
     omega arith
 
 pub get_as-requires-clause-within : goal.get_as-requires-clause-within
 get_as-requires-clause-within c =
-    let room = pixel_room c.args.first c.loop-i.i (length c.args.out.now) c.args.depth c.args.d (length c.args.self.now.values) (omega arith) c.requires.depth c.requires.within in
+    let room = pixel_room {i = c.loop-i.i} {n = length c.args.out.now} c.args.first (omega arith) c.requires.depth c.requires.within in
     omega arith
 
 pub returns : goal.returns
@@ -31,7 +31,7 @@ returns c =
 
 pub overflow_add-first : goal.overflow_add-first
 overflow_add-first c =
-    let room = pixel_room c.args.first c.loop-i.i (length c.args.out.now) c.args.depth c.args.d (length c.args.self.now.values) (omega arith) c.requires.depth c.requires.within in
+    let room = pixel_room {i = c.loop-i.i} {n = length c.args.out.now} c.args.first (omega arith) c.requires.depth c.requires.within in
     omega (arith, room.1, c.requires.few)
 
 pub loop-i-preserved : goal.loop-i-preserved

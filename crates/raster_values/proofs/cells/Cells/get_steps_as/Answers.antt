@@ -10,13 +10,13 @@ use Rattle.raster_values.proofs.cells.Cells.get_steps_as.Goals as goal
 pub distance_at-requires-clause-within : goal.distance_at-requires-clause-within
 distance_at-requires-clause-within c =
     let at = (c.args.first + c.loop-i.i) * c.args.depth + c.args.d in
-    let room = pixel_room c.args.first c.loop-i.i (length c.args.out.now) c.args.depth c.args.d (length c.args.self.now.values) (omega arith) c.requires.depth c.requires.within in
+    let room = pixel_room {i = c.loop-i.i} {n = length c.args.out.now} c.args.first (omega arith) c.requires.depth c.requires.within in
     bytes_within c.self.inside c.args.self.now c.args.kind at c.as_slice-bytes.result.now c.self.invariant c.self.view_is c.requires.kind c.as_slice-bytes.ensures.value room.0
 
 pub loop-i-preserved : goal.loop-i-preserved
 loop-i-preserved c =
     let at = (c.args.first + c.loop-i.i) * c.args.depth + c.args.d in
-    let room = pixel_room c.args.first c.loop-i.i (length c.args.out.now) c.args.depth c.args.d (length c.args.self.now.values) (omega arith) c.requires.depth c.requires.within in
+    let room = pixel_room {i = c.loop-i.i} {n = length c.args.out.now} c.args.first (omega arith) c.requires.depth c.requires.within in
     let here : c.distance_at.result ≡ distance_of c.args.self.now.kind (get_or c.args.self.now.values at (pos 0)) =
     c.distance_at.ensures ∙ distance_there c.self.inside c.args.self.now c.args.kind at c.as_slice-bytes.result.now c.self.invariant c.self.view_is c.requires.kind c.as_slice-bytes.ensures.value room.0 in
     below_more _ _
@@ -33,20 +33,20 @@ returns c =
 
 pub overflow_mul-first : goal.overflow_mul-first
 overflow_mul-first c =
-    let room = pixel_room c.args.first c.loop-i.i (length c.args.out.now) c.args.depth c.args.d (length c.args.self.now.values) (omega arith) c.requires.depth c.requires.within in
+    let room = pixel_room {i = c.loop-i.i} {n = length c.args.out.now} c.args.first (omega arith) c.requires.depth c.requires.within in
     omega (arith, room.0, c.requires.few)
 
 pub overflow_add-first : goal.overflow_add-first
 overflow_add-first c =
-    let room = pixel_room c.args.first c.loop-i.i (length c.args.out.now) c.args.depth c.args.d (length c.args.self.now.values) (omega arith) c.requires.depth c.requires.within in
+    let room = pixel_room {i = c.loop-i.i} {n = length c.args.out.now} c.args.first (omega arith) c.requires.depth c.requires.within in
     omega (arith, room.1, c.requires.few)
 
 pub overflow_add-first-in-loop-i : goal.overflow_add-first-in-loop-i
 overflow_add-first-in-loop-i c =
-    let room = pixel_room c.args.first c.loop-i.i (length c.args.out.now) c.args.depth c.args.d (length c.args.self.now.values) (omega arith) c.requires.depth c.requires.within in
+    let room = pixel_room {i = c.loop-i.i} {n = length c.args.out.now} c.args.first (omega arith) c.requires.depth c.requires.within in
     omega (arith, room.0, c.requires.few)
 
 pub distance_at-requires-clause-few : goal.distance_at-requires-clause-few
 distance_at-requires-clause-few c =
-    let room = pixel_room c.args.first c.loop-i.i (length c.args.out.now) c.args.depth c.args.d (length c.args.self.now.values) (omega arith) c.requires.depth c.requires.within in
+    let room = pixel_room {i = c.loop-i.i} {n = length c.args.out.now} c.args.first (omega arith) c.requires.depth c.requires.within in
     omega (arith, room.0, c.requires.few)

@@ -23,7 +23,7 @@ loop-i-preserved c =
     let x = to_z w64 (of_z w64 (get_or input i (pos 0))) in
     let fits : InRange kind (get_or input i (pos 0)) = c.requires.in_range i (pos 0) c.loop-i-test.true in
     let same : x ≡ get_or input i (pos 0) = same_bits kind (get_or input i (pos 0)) fits in
-    let inside : at < length old = omega (arith, (pixel_room c.args.first i (length input) c.args.depth c.args.d (length c.args.self.now.values) c.loop-i-test.true c.requires.depth c.requires.within).0, c.loop-i.invariant.size) in
+    let inside : at < length old = omega (arith, (pixel_room c.args.first c.loop-i-test.true c.requires.depth c.requires.within).0, c.loop-i.invariant.size) in
     let is : new ≡ set old at x = ap (λ (l : CellList). l.values) c.put_run_as.ensures ∙ one_put old at x inside in
     record {
       kind = ap (λ (l : CellList). l.kind) c.put_run_as.ensures ∙ c.loop-i.invariant.kind;
@@ -35,28 +35,20 @@ loop-i-preserved c =
 
 pub overflow_mul-first : goal.overflow_mul-first
 overflow_mul-first c =
-    let room =
-    pixel_room c.args.first c.loop-i.i (length c.args.values.now) c.args.depth c.args.d
-    (length c.args.self.now.values) c.loop-i-test.true c.requires.depth c.requires.within in
+    let room = pixel_room c.args.first c.loop-i-test.true c.requires.depth c.requires.within in
     omega (arith, room.0, c.requires.few)
 
 pub overflow_add-first : goal.overflow_add-first
 overflow_add-first c =
-    let room =
-    pixel_room c.args.first c.loop-i.i (length c.args.values.now) c.args.depth c.args.d
-    (length c.args.self.now.values) c.loop-i-test.true c.requires.depth c.requires.within in
+    let room = pixel_room c.args.first c.loop-i-test.true c.requires.depth c.requires.within in
     omega (arith, room.1, c.requires.few)
 
 pub overflow_add-first-in-loop-i : goal.overflow_add-first-in-loop-i
 overflow_add-first-in-loop-i c =
-    let room =
-    pixel_room c.args.first c.loop-i.i (length c.args.values.now) c.args.depth c.args.d
-    (length c.args.self.now.values) c.loop-i-test.true c.requires.depth c.requires.within in
+    let room = pixel_room c.args.first c.loop-i-test.true c.requires.depth c.requires.within in
     omega (arith, room.0, c.requires.few)
 
 pub put_run_as-requires-clause-within : goal.put_run_as-requires-clause-within
 put_run_as-requires-clause-within c =
-    let room =
-    pixel_room c.args.first c.loop-i.i (length c.args.values.now) c.args.depth c.args.d
-    (length c.args.self.now.values) c.loop-i-test.true c.requires.depth c.requires.within in
+    let room = pixel_room c.args.first c.loop-i-test.true c.requires.depth c.requires.within in
     omega (arith, room.0, c.loop-i.invariant.size)

@@ -1,4 +1,4 @@
-use Rattle.std.proofs.Common.{◌≡◌, ◌<◌, ◌+◌, ◌*◌, ◌∙◌, ℕ, length, map, get_or, subst, arith}
+use Rattle.std.proofs.Common.{◌≡◌, ◌+◌, ◌*◌, ◌∙◌, ℕ, map, get_or, subst, arith}
 use Rattle.std.specs.Prelude.{ℤ, pos}
 use Rattle.std.specs.List.{range_with_len}
 use Rattle.raster_values.specs.Distance.{distance_of}
@@ -9,51 +9,51 @@ use Rattle.raster_values.proofs.cells.Cells.step_ends_as.Goals as goal
 
 pub overflow_mul-first : goal.overflow_mul-first
 overflow_mul-first c =
-    let below : c.args.first * c.args.depth + c.args.d < length c.args.self.now.values = place_below c.args.first c.args.count c.args.depth c.args.d (length c.args.self.now.values) c.requires.some c.requires.depth c.requires.within in
+    let below = place_below c.args.first c.requires.some c.requires.depth c.requires.within in
     omega arith
 
 pub overflow_add-first : goal.overflow_add-first
 overflow_add-first c =
-    let below : c.args.first * c.args.depth + c.args.d < length c.args.self.now.values = place_below c.args.first c.args.count c.args.depth c.args.d (length c.args.self.now.values) c.requires.some c.requires.depth c.requires.within in
+    let below = place_below c.args.first c.requires.some c.requires.depth c.requires.within in
     omega arith
 
 pub distance_at-begin-requires-clause-few : goal.distance_at-begin-requires-clause-few
 distance_at-begin-requires-clause-few c =
-    let below : c.args.first * c.args.depth + c.args.d < length c.args.self.now.values = place_below c.args.first c.args.count c.args.depth c.args.d (length c.args.self.now.values) c.requires.some c.requires.depth c.requires.within in
+    let below = place_below c.args.first c.requires.some c.requires.depth c.requires.within in
     omega arith
 
 pub overflow_mul-first-in-loop-i : goal.overflow_mul-first-in-loop-i
 overflow_mul-first-in-loop-i c =
-    let room = pixel_room c.args.first c.loop-i.i c.args.count c.args.depth c.args.d (length c.args.self.now.values) (omega arith) c.requires.depth c.requires.within in
+    let room = pixel_room c.args.first c.loop-i-test.true c.requires.depth c.requires.within in
     omega arith
 
 pub overflow_add-first-in-loop-i-2 : goal.overflow_add-first-in-loop-i-2
 overflow_add-first-in-loop-i-2 c =
-    let room = pixel_room c.args.first c.loop-i.i c.args.count c.args.depth c.args.d (length c.args.self.now.values) (omega arith) c.requires.depth c.requires.within in
+    let room = pixel_room c.args.first c.loop-i-test.true c.requires.depth c.requires.within in
     omega arith
 
 pub distance_at-here-requires-clause-few : goal.distance_at-here-requires-clause-few
 distance_at-here-requires-clause-few c =
-    let room = pixel_room c.args.first c.loop-i.i c.args.count c.args.depth c.args.d (length c.args.self.now.values) (omega arith) c.requires.depth c.requires.within in
+    let room = pixel_room c.args.first c.loop-i-test.true c.requires.depth c.requires.within in
     omega arith
 
 pub distance_at-begin-requires-clause-within : goal.distance_at-begin-requires-clause-within
 distance_at-begin-requires-clause-within c =
     let at = c.args.first * c.args.depth + c.args.d in
-    let below : at < length c.args.self.now.values = place_below c.args.first c.args.count c.args.depth c.args.d (length c.args.self.now.values) c.requires.some c.requires.depth c.requires.within in
+    let below = place_below c.args.first c.requires.some c.requires.depth c.requires.within in
     bytes_within c.self.inside c.args.self.now c.args.kind at c.as_slice-bytes.result.now c.self.invariant c.self.view_is c.requires.kind c.as_slice-bytes.ensures.value below
 
 pub distance_at-here-requires-clause-within : goal.distance_at-here-requires-clause-within
 distance_at-here-requires-clause-within c =
     let at = (c.args.first + c.loop-i.i) * c.args.depth + c.args.d in
-    let room = pixel_room c.args.first c.loop-i.i c.args.count c.args.depth c.args.d (length c.args.self.now.values) (omega arith) c.requires.depth c.requires.within in
+    let room = pixel_room c.args.first c.loop-i-test.true c.requires.depth c.requires.within in
     bytes_within c.self.inside c.args.self.now c.args.kind at c.as_slice-bytes.result.now c.self.invariant c.self.view_is c.requires.kind c.as_slice-bytes.ensures.value room.0
 
 pub loop-i-init : goal.loop-i-init
 loop-i-init c =
     let at = c.args.first * c.args.depth + c.args.d in
     let v = get_or c.args.self.now.values at (pos 0) in
-    let below : at < length c.args.self.now.values = place_below c.args.first c.args.count c.args.depth c.args.d (length c.args.self.now.values) c.requires.some c.requires.depth c.requires.within in
+    let below = place_below c.args.first c.requires.some c.requires.depth c.requires.within in
     ends_of_one c.args.self.now.kind v c.distance_at-begin.result (value_fits c.self.inside c.args.self.now at c.self.invariant c.self.view_is below)
     (c.distance_at-begin.ensures ∙ distance_there c.self.inside c.args.self.now c.args.kind at c.as_slice-bytes.result.now c.self.invariant c.self.view_is c.requires.kind c.as_slice-bytes.ensures.value below)
 
@@ -61,7 +61,7 @@ pub loop-i-preserved : goal.loop-i-preserved
 loop-i-preserved c =
     let f : ℕ → ℤ = λ k. get_or c.args.self.now.values (k * c.args.depth + c.args.d) (pos 0) in
     let at = (c.args.first + c.loop-i.i) * c.args.depth + c.args.d in
-    let room = pixel_room c.args.first c.loop-i.i c.args.count c.args.depth c.args.d (length c.args.self.now.values) (omega arith) c.requires.depth c.requires.within in
+    let room = pixel_room c.args.first c.loop-i-test.true c.requires.depth c.requires.within in
     let here : c.distance_at-here.result ≡ distance_of c.args.self.now.kind (f (c.args.first + c.loop-i.i)) =
     c.distance_at-here.ensures ∙ distance_there c.self.inside c.args.self.now c.args.kind at c.as_slice-bytes.result.now c.self.invariant c.self.view_is c.requires.kind c.as_slice-bytes.ensures.value room.0 in
     ends_pushed c.args.self.now.kind f c.args.first c.loop-i.i c.loop-i.near c.loop-i.far c.distance_at-here.result c.min-near.result c.max-far.result
@@ -75,5 +75,5 @@ returns c =
 
 pub overflow_add-first-in-loop-i : goal.overflow_add-first-in-loop-i
 overflow_add-first-in-loop-i c =
-    let room = pixel_room c.args.first c.loop-i.i c.args.count c.args.depth c.args.d (length c.args.self.now.values) (omega arith) c.requires.depth c.requires.within in
+    let room = pixel_room c.args.first c.loop-i-test.true c.requires.depth c.requires.within in
     omega (arith, room.1, c.requires.few)
