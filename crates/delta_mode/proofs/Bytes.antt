@@ -5,11 +5,11 @@ use Rattle.std.proofs.lemmas.Int.{ints}
 use Rattle.std.proofs.lemmas.List.Concat.{flat_map-cons}
 use Rattle.std.proofs.lemmas.List.Elements.{All-head, All-tail}
 use Rattle.raster_values.specs.declared.kind.PixelType.{PixelType}
-use Rattle.raster_values.specs.declared.kind.PixelType.TheVariants.{I8, U8, I16, U16, I32, U32}
+use Rattle.raster_values.specs.declared.kind.PixelType.TheVariants.{I8, U8}
 use Rattle.raster_values.specs.PixelType.{InRange, bytes_of, value_bytes, complement_of}
 use Rattle.raster_values.specs.Grid.{values_bytes}
 use Rattle.delta_mode.specs.Symbols.{IsByteType, symbol_of}
-use Rattle.delta_mode.proofs.Numbers.{symbol-is}
+use Rattle.delta_mode.proofs.Numbers.{by_byte, symbol-is}
 
 -- the symbol of an i8 value is its byte with 128 added, modulo 256
 i8_symbol : (v : ℤ) → InRange I8 v → (complement_of 1 v % 256 + 128) % 256 ≡ symbol_of I8 v
@@ -50,12 +50,8 @@ pub plain_signed : (kind : PixelType) (vs : List ℤ) → kind ≡ I8 → All (I
 plain_signed kind vs e = subst (λ (k : PixelType). All (InRange k) vs → map (λ b. (b + 128) % 256) (values_bytes k vs) ≡ map (symbol_of k) vs) (sym e) (i8_symbols vs)
 
 pub plain_unsigned : (kind : PixelType) (vs : List ℤ) → IsByteType kind → (kind ≡ I8 → ⊥) → All (InRange kind) vs → values_bytes kind vs ≡ map (symbol_of kind) vs
-plain_unsigned I8 vs byte not_i8 h = absurd (not_i8 refl)
-plain_unsigned U8 vs byte not_i8 h = u8_symbols vs h
-plain_unsigned I16 vs byte not_i8 h = absurd (omega arith)
-plain_unsigned U16 vs byte not_i8 h = absurd (omega arith)
-plain_unsigned I32 vs byte not_i8 h = absurd (omega arith)
-plain_unsigned U32 vs byte not_i8 h = absurd (omega arith)
+plain_unsigned kind vs byte not_i8 h =
+    by_byte (λ k. (k ≡ I8 → ⊥) → All (InRange k) vs → values_bytes k vs ≡ map (symbol_of k) vs) (λ no h. absurd (no refl)) (λ no. u8_symbols vs) kind byte not_i8 h
 
 -- as many bytes as values
 pub one_each : (kind : PixelType) (n m : ℕ) → IsByteType kind → n ≡ m → n ≡ m * bytes_of kind

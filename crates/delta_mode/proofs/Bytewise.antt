@@ -9,7 +9,7 @@ use Rattle.std.proofs.lemmas.List.Concat.{flat_map-cons}
 use Rattle.std.proofs.lemmas.List.Sums.{count_by-le-length}
 use Rattle.std.proofs.Math.Nat.{mod-add-mod, mod-eq_of_lt, mul-le-mul, mul-le-mul_left, mul-mod_left, add-mod_right}
 use Rattle.raster_values.specs.declared.kind.PixelType.{PixelType}
-use Rattle.raster_values.specs.declared.kind.PixelType.TheVariants.{I8, U8, I16, U16, I32, U32}
+use Rattle.raster_values.specs.declared.kind.PixelType.TheVariants.{I8, U8}
 use Rattle.raster_values.specs.PixelType.{InRange, bytes_of, value_bytes}
 use Rattle.raster_values.specs.Raster.{Pixels, IsRaster, valid_count}
 use Rattle.raster_values.specs.Flat.{AllStand, all_values, value_in}
@@ -19,7 +19,7 @@ use Rattle.delta_mode.specs.Deltas.{deltas, is_valid, last_value, predictor}
 use Rattle.delta_mode.specs.inside.Pieces.{rank, AreCoded}
 use Rattle.delta_mode.specs.inside.Bytewise.{byte_of, wrapped, byte_above, byte_before}
 use Rattle.delta_mode.proofs.Marks.{value_in_range, zero_in_range}
-use Rattle.delta_mode.proofs.Numbers.{symbol-is, lifted}
+use Rattle.delta_mode.proofs.Numbers.{by_byte, low_bias, symbol-is, lifted}
 use Rattle.delta_mode.proofs.Predictors.{last-zero, predictor-is, predictor_has}
 use Rattle.delta_mode.proofs.Pieces.{rank_on}
 use Rattle.delta_mode.proofs.WholeDepth.{rank_all, coded_all}
@@ -30,93 +30,49 @@ record IsByte (v : ℤ) (n : ℕ) : Type 0 where
   low : n < 256
   is : (v ≡ pos n) ⊎ (v +ℤ pos 256 ≡ pos n)
 
-byte_is : (kind : PixelType) (v : ℤ) → IsByteType kind → InRange kind v → IsByte v (byte_of v)
-byte_is I8 (pos m) byte h =
+i8_is : (v : ℤ) → InRange I8 v → IsByte v (byte_of v)
+i8_is (pos m) h =
     let low : m ≤ 127 = omega (arith, ints, h.1) in
     let same : m ≡ m % 256 = omega (arith, low) in
     record { low = omega arith; is = inl (ap pos same) }
-byte_is I8 (negsuc m) byte h =
+i8_is (negsuc m) h =
     let low : m ≤ 127 = omega (arith, ints, h.0) in
     let same : 255 - m ≡ (256 - suc m) % 256 = omega (arith, low) in
     let e : negsuc m +ℤ pos 256 ≡ pos (255 - m) = omega (arith, ints, low) in
     record { low = omega arith; is = inr (e ∙ ap pos same) }
-byte_is U8 (pos m) byte h =
-    let low : m ≤ 255 = omega (arith, ints, h.1) in
-    let same : m ≡ m % 256 = omega (arith, low) in
-    record { low = omega arith; is = inl (ap pos same) }
-byte_is U8 (negsuc m) byte h = absurd (omega (arith, ints, h.0))
-byte_is I16 v byte h = absurd (omega arith)
-byte_is U16 v byte h = absurd (omega arith)
-byte_is I32 v byte h = absurd (omega arith)
-byte_is U32 v byte h = absurd (omega arith)
+
+u8_is : (v : ℤ) → InRange U8 v → IsByte v (byte_of v)
+u8_is (pos m) h = record { low = omega arith; is = inl (ap pos (let same : m ≡ m % 256 = omega (arith, ints, h.1) in same)) }
+u8_is (negsuc m) h = absurd (omega (arith, ints, h.0))
+
+byte_is : (kind : PixelType) (v : ℤ) → IsByteType kind → InRange kind v → IsByte v (byte_of v)
+byte_is kind v byte = by_byte (λ k. InRange k v → IsByte v (byte_of v)) (i8_is v) (u8_is v) kind byte
 
 by_bytes : (b : ℕ) (v p : ℤ) (x y m : ℕ) → b < 256 → IsByte v x → IsByte p y → ((v -ℤ p) +ℤ pos b) +ℤ pos (2 * 256) ≡ pos m → m % 256 ≡ wrapped b x y
 by_bytes b v p x y m low hv hp e = by hv.is hp.is
   where
-    x_low : x < 256
-    x_low = hv.low
-
-    y_low : y < 256
-    y_low = hp.low
+    -- a byte less another, up to a multiple of 256
+    turns : (k : ℕ) → m + y ≡ x + b + k * 256 → m % 256 ≡ wrapped b x y
+    turns k n = let x_low = hv.low in let y_low = hp.low in omega (arith, n, x_low, y_low, low)
 
     by : (v ≡ pos x) ⊎ (v +ℤ pos 256 ≡ pos x) → (p ≡ pos y) ⊎ (p +ℤ pos 256 ≡ pos y) → m % 256 ≡ wrapped b x y
-    by (inl f) (inl g) =
-        let n : m + y ≡ x + b + 512 = omega (arith, ints, e, f, g) in
-        plain n
-      where
-        plain : m + y ≡ x + b + 512 → m % 256 ≡ wrapped b x y
-        plain n = omega (arith, n, x_low, y_low, low)
-    by (inl f) (inr g) =
-        let n : m + y ≡ x + b + 768 = omega (arith, ints, e, f, g) in
-        plain n
-      where
-        plain : m + y ≡ x + b + 768 → m % 256 ≡ wrapped b x y
-        plain n = omega (arith, n, x_low, y_low, low)
-    by (inr f) (inl g) =
-        let n : m + y ≡ x + b + 256 = omega (arith, ints, e, f, g) in
-        plain n
-      where
-        plain : m + y ≡ x + b + 256 → m % 256 ≡ wrapped b x y
-        plain n = omega (arith, n, x_low, y_low, low)
-    by (inr f) (inr g) =
-        let n : m + y ≡ x + b + 512 = omega (arith, ints, e, f, g) in
-        plain n
-      where
-        plain : m + y ≡ x + b + 512 → m % 256 ≡ wrapped b x y
-        plain n = omega (arith, n, x_low, y_low, low)
+    by (inl f) (inl g) = turns 2 (omega (arith, ints, e, f, g))
+    by (inl f) (inr g) = turns 3 (omega (arith, ints, e, f, g))
+    by (inr f) (inl g) = turns 1 (omega (arith, ints, e, f, g))
+    by (inr f) (inr g) = turns 2 (omega (arith, ints, e, f, g))
 
 -- the symbol of a difference, by bytes
 wrapped_symbol : (kind : PixelType) (v p : ℤ) → IsByteType kind → InRange kind v → InRange kind p → symbol_of kind (v -ℤ p) ≡ wrapped (bias kind) (byte_of v) (byte_of p)
 wrapped_symbol kind v p byte hv hp =
     let m = unsigned_abs ((v -ℤ p) +ℤ pos (bias kind + 512)) in
-    let e : ((v -ℤ p) +ℤ pos (bias kind)) +ℤ pos (2 * 256) ≡ pos m = lifted (v -ℤ p) (bias kind) (near kind v p byte hv hp) in
+    let near = by_byte (λ k. InRange k v → InRange k p → negsuc 511 ≤ℤ (v -ℤ p)) (λ hv hp. omega (arith, ints, hv.0, hp.1)) (λ hv hp. omega (arith, ints, hv.0, hp.1)) kind byte hv hp in
+    let e : ((v -ℤ p) +ℤ pos (bias kind)) +ℤ pos (2 * 256) ≡ pos m = lifted (v -ℤ p) (bias kind) near in
     symbol-is kind (v -ℤ p) m e ∙ by_bytes (bias kind) v p (byte_of v) (byte_of p) m (low_bias kind) (byte_is kind v byte hv) (byte_is kind p byte hp) e
-  where
-    low_bias : (kind : PixelType) → bias kind < 256
-    low_bias I8 = omega arith
-    low_bias U8 = omega arith
-    low_bias I16 = omega arith
-    low_bias U16 = omega arith
-    low_bias I32 = omega arith
-    low_bias U32 = omega arith
-
-    near : (kind : PixelType) (v p : ℤ) → IsByteType kind → InRange kind v → InRange kind p → negsuc 511 ≤ℤ (v -ℤ p)
-    near I8 v p byte hv hp = omega (arith, ints, hv.0, hv.1, hp.0, hp.1)
-    near U8 v p byte hv hp = omega (arith, ints, hv.0, hv.1, hp.0, hp.1)
-    near I16 v p byte hv hp = absurd (omega arith)
-    near U16 v p byte hv hp = absurd (omega arith)
-    near I32 v p byte hv hp = absurd (omega arith)
-    near U32 v p byte hv hp = absurd (omega arith)
 
 -- ---- the bytes of a raster
 
 one_byte : (kind : PixelType) (v : ℤ) → IsByteType kind → value_bytes kind v ≡ byte_of v ∷ []
-one_byte I8 v byte = refl
-one_byte U8 v byte = refl
-one_byte I16 v byte = absurd (omega arith)
-one_byte U16 v byte = absurd (omega arith)
-one_byte I32 v byte = absurd (omega arith)
-one_byte U32 v byte = absurd (omega arith)
+one_byte kind v byte = by_byte (λ k. value_bytes k v ≡ byte_of v ∷ []) refl refl kind byte
 
 bytes_map : (kind : PixelType) (vs : List ℤ) → IsByteType kind → values_bytes kind vs ≡ map byte_of vs
 bytes_map kind [] byte = refl

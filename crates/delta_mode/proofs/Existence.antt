@@ -10,7 +10,6 @@ use Rattle.std.proofs.lemmas.List.{length-map, get_or-map, get_or_past, get_or_a
 use Rattle.std.proofs.lemmas.List.Elements.{filter-append, All-from_get_or, All-get_or}
 use Rattle.std.proofs.lemmas.List.Sums.{sum_by-cons}
 use Rattle.raster_values.specs.declared.kind.PixelType.{PixelType}
-use Rattle.raster_values.specs.declared.kind.PixelType.TheVariants.{I8, U8, I16, U16, I32, U32}
 use Rattle.raster_values.specs.PixelType.{InRange}
 use Rattle.raster_values.specs.Raster.{Pixels, IsRaster, values_of, valid_count}
 use Rattle.raster_values.specs.Places.{SameShape}
@@ -23,12 +22,11 @@ use Rattle.delta_mode.specs.Deltas.{predictor, delta, is_valid, AreDeltas}
 use Rattle.delta_mode.specs.Laws.{AreSymbols, DepthIsThere, RasterIsThere, PlainIsThere, DeltasAreSymbols, PlainAreSymbols}
 use Rattle.delta_mode.specs.inside.Pieces.{rank, value_of_place, AreCoded}
 use Rattle.delta_mode.proofs.Predictors.{predictor_has, predictor_same, range_more, from-is}
-use Rattle.delta_mode.proofs.Marks.{zero_in_range, value_in_range}
+use Rattle.delta_mode.proofs.Marks.{zero_in_range, value_in_range, place_below, same_mark}
 use Rattle.delta_mode.proofs.Kernels.{small, small_bias, symbol-by, value_symbol}
 use Rattle.delta_mode.proofs.Pieces.{rank_below}
-use Rattle.delta_mode.proofs.WholeDepth.{rank_all, coded_all}
-use Rattle.delta_mode.proofs.Numbers.{symbol-is}
-use Rattle.delta_mode.proofs.Turning.{same_mark}
+use Rattle.delta_mode.proofs.WholeDepth.{rank_all, coded_same, coded_all}
+use Rattle.delta_mode.proofs.Numbers.{by_byte, symbol-is}
 use Rattle.delta_mode.proofs.SymbolLaws.{deltas_as, none_value}
 
 -- ---- one value by its symbol
@@ -44,12 +42,7 @@ for_symbol kind s p byte lt h =
     ∙ value_symbol (pos (bias kind)) p (int_rem_euclid (pos s +ℤ p) (pos 256)) s lt (small_bias kind) (small kind p byte h) refl
 
 in_type : (kind : PixelType) (z : ℤ) (m : ℕ) → IsByteType kind → z ≡ pos (m % 256) → InRange kind (z -ℤ pos (bias kind))
-in_type I8 z m byte e = (omega (arith, ints, e), omega (arith, ints, e))
-in_type U8 z m byte e = (omega (arith, ints, e), omega (arith, ints, e))
-in_type I16 z m byte e = absurd (omega arith)
-in_type U16 z m byte e = absurd (omega arith)
-in_type I32 z m byte e = absurd (omega arith)
-in_type U32 z m byte e = absurd (omega arith)
+in_type kind z m byte = by_byte (λ k. z ≡ pos (m % 256) → InRange k (z -ℤ pos (bias k))) (λ e. (omega (arith, ints, e), omega (arith, ints, e))) (λ e. (omega (arith, ints, e), omega (arith, ints, e))) kind byte
 
 for_range : (kind : PixelType) (s : ℕ) (p : ℤ) → IsByteType kind → InRange kind p → InRange kind (value_for kind s p)
 unfolding value_for
@@ -125,27 +118,16 @@ solved_coded kind cols valid symbols n byte some long low = record {
       (predictor_has (InRange kind) cols valid w k some (zero_in_range kind) (λ j below. solved_fits kind cols valid symbols k j byte some));
 }
 
--- the values of the valid pixels alone count
-coded_as : (kind : PixelType) (cols : ℕ) (valid : ℕ → Bool) (v w : ℕ → ℤ) (m : ℕ) (symbols : List ℕ) → 0 < cols → ((j : ℕ) → j < m → valid j ≡ true → w j ≡ v j)
-    → AreCoded kind cols valid v 0 m symbols → AreCoded kind cols valid w 0 m symbols
-coded_as kind cols valid v w m symbols some same a = record {
-  each = λ k from lt on.
-      (λ i. symbol_of kind (same k lt on i -ℤ predictor_same cols valid w v k some (λ j below yes_. same j (omega (arith, below, lt)) yes_) i)) ∙ a.each k from lt on;
-}
-
 -- ---- rasters with other values
 
 valid_of : (r : Pixels) (k : ℕ) → k < length r.pixels → get_or (marks_of r) k false ≡ is_valid r k
 valid_of r k lt = get_or-map is_some r.pixels k None false lt
 
-place_low : (row col rows cols : ℕ) → row < rows → col < cols → row * cols + col < rows * cols
-place_low row col rows cols r c = grind arith
-
 mask_from_marks : (r s : Pixels) → IsRaster r → IsRaster s → SameShape r s → marks_of s ≡ marks_of r → SameMask r s
 mask_from_marks r s hr hs shape marks = record {
   shape = shape;
   places = λ i j h.
-      let low = place_low i j r.rows r.cols h.0 h.1 in
+      let low = place_below i j r.rows r.cols h.0 h.1 in
       let size : r.rows * r.cols ≡ s.rows * s.cols = λ t. shape.rows t * shape.cols t in
       ap (λ c. is_valid s (i * c + j)) (sym shape.cols) ∙ sym (valid_of s (i * r.cols + j) (omega (arith, low, hs.places, size)))
       ∙ ap (λ (ms : List Bool). get_or ms (i * r.cols + j) false) marks ∙ valid_of r (i * r.cols + j) (omega (arith, low, hr.places));
@@ -159,7 +141,7 @@ has_depth r s d symbols hr hs byte same h values =
     let some = hr.shape.cols_above in
     let long : length symbols ≡ rank (is_valid r) n = h.0 ∙ sym (rank_all r hr) in
     let coded = solved_coded r.kind r.cols (is_valid r) symbols n byte some long h.1 in
-    coded_all r.kind r.cols (is_valid r) (value_in s d) symbols n long (coded_as r.kind r.cols (is_valid r) (value_of_place (solved r.kind r.cols (is_valid r) symbols n)) (value_in s d) n symbols some values coded)
+    coded_all r.kind r.cols (is_valid r) (value_in s d) symbols n long (coded_same r.kind r.cols (is_valid r) (value_of_place (solved r.kind r.cols (is_valid r) symbols n)) (value_in s d) n symbols some values coded)
     ∙ deltas_as r s d hr hs same
 
 pub raster_there : RasterIsThere

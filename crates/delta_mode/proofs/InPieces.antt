@@ -1,5 +1,5 @@
 -- What a piece of a row is of the whole depth.
-use Rattle.std.proofs.Common.{◌≡◌, ℕ, zero, suc, ℤ, ◌-ℤ◌, ◌+◌, ◌-◌, ◌%◌, ◌<◌, ◌≤◌, Bool, true, false, cond, ◌&&◌, nat_lt, List, get_or, sym, ap, ◌∙◌, arith, inl, inr}
+use Rattle.std.proofs.Common.{◌≡◌, ℕ, zero, suc, ℤ, ◌-ℤ◌, ◌+◌, ◌-◌, ◌%◌, ◌<◌, ◌≤◌, Bool, true, false, cond, ◌&&◌, nat_lt, List, get_or, sym, ap, ◌∙◌, arith, subst, inl, inr}
 use Rattle.std.proofs.lemmas.Bool.{cases_Bool, cases_lt}
 use Rattle.std.proofs.lemmas.Bool.Decides.{nat_tests}
 use Rattle.raster_values.specs.declared.kind.PixelType.{PixelType}
@@ -7,9 +7,9 @@ use Rattle.raster_values.specs.PixelType.{InRange}
 use Rattle.raster_values.specs.Raster.{Pixels, IsRaster}
 use Rattle.raster_values.specs.Flat.{value_in}
 use Rattle.delta_mode.specs.Symbols.{symbol_of}
-use Rattle.delta_mode.specs.Deltas.{has_left, has_upper, last_value, predictor, delta}
-use Rattle.delta_mode.specs.inside.Pieces.{rank, last_from, left_of, guess, IsAt, AreCoded}
-use Rattle.delta_mode.proofs.Predictors.{last-suc, last_has, predictor-is, left_before}
+use Rattle.delta_mode.specs.Deltas.{has_left, has_upper, last_value, predictor, delta, is_valid}
+use Rattle.delta_mode.specs.inside.Pieces.{rank, last_from, left_of, guess, mark_at, value_of_place, IsAt, AreCoded}
+use Rattle.delta_mode.proofs.Predictors.{last-suc, last_has, last_same, predictor-is, mod_positive, left_before, upper_before}
 use Rattle.delta_mode.proofs.Marks.{zero_in_range, value_in_range}
 use Rattle.delta_mode.proofs.Pieces.{rank_split, rank_same}
 
@@ -84,29 +84,29 @@ module _ {cols place n : ℕ} {valid : ℕ → Bool} {value : ℕ → ℤ} {left
             ∙ sym (ap (λ b. cond b (last_from before mark now i) (cond (up i) (above i) (last_from before mark now i))) (sym (piece_left i lt) ∙ no_))
       ]
 
-  -- the symbols of the piece are those of its pixels
-  pub piece_coded : (kind : PixelType) (start : ℕ) (symbols : List ℕ) → start ≡ rank valid place
-      → ((i : ℕ) → i < n → mark i ≡ true → symbol_of kind (now i -ℤ guess left before mark up above now i) ≡ get_or symbols (start + rank mark i) 0)
+  -- the symbols of the piece, of its marks' number m, are those of its pixels
+  pub piece_coded : {kind k : PixelType} {m start : ℕ} {symbols : List ℕ} → k ≡ kind → m ≡ n → start ≡ rank valid place
+      → ((i : ℕ) → i < m → mark i ≡ true → symbol_of k (now i -ℤ guess left before mark up above now i) ≡ get_or symbols (start + rank mark i) 0)
       → AreCoded kind cols valid value place (place + n) symbols
-  piece_coded kind start symbols e each = record {
-    each = λ k from lt on.
-        let i = k - place in
-        let is : place + i ≡ k = omega (arith, from) in
+  piece_coded {kind} {k} {m} {start} {symbols} ek em e each = record {
+    each = λ j from lt on.
+        let i = j - place in
+        let is : place + i ≡ j = omega (arith, from) in
         let below : i < n = omega (arith, from, lt) in
         let marked : mark i ≡ true = h.marks i below ∙ ap valid is ∙ on in
         ap (delta kind cols valid value) (sym is)
-        ∙ (λ j. symbol_of kind (sym (h.nows i below marked) j -ℤ piece_guess i below j))
-        ∙ each i below marked
-        ∙ ap (λ m. get_or symbols m 0) (ap (λ m. m + rank mark i) e ∙ sym (piece_rank i (omega (arith, below))) ∙ ap (rank valid) is);
+        ∙ (λ t. symbol_of (sym ek t) (sym (h.nows i below marked) t -ℤ piece_guess i below t))
+        ∙ each i (omega (arith, below, em)) marked
+        ∙ ap (λ q. get_or symbols q 0) (ap (λ q. q + rank mark i) e ∙ sym (piece_rank i (omega (arith, below))) ∙ ap (rank valid) is);
   }
 
   -- and what is kept behind it
-  pub piece_at : (l : Bool) (z : ℤ) (start count : ℕ) → 0 < n → start ≡ rank valid place → l ≡ left_of left mark n → z ≡ last_from before mark now n → count ≡ start + rank mark n
+  pub piece_at : {l : Bool} {z : ℤ} {m start count : ℕ} → 0 < n → m ≡ n → start ≡ rank valid place → l ≡ left_of left mark m → z ≡ last_from before mark now m → count ≡ start + rank mark m
       → IsAt valid value (place + n) l z count
-  piece_at l z start count some es el ez ec = record {
-    left_is = λ _. el ∙ last_mark n some (omega arith);
-    last_is = ez ∙ sym (piece_last n (omega arith));
-    count_is = ec ∙ ap (λ m. m + rank mark n) es ∙ sym (piece_rank n (omega arith));
+  piece_at some em es el ez ec = record {
+    left_is = λ _. el ∙ ap (left_of left mark) em ∙ last_mark n some (omega arith);
+    last_is = ez ∙ ap (last_from before mark now) em ∙ sym (piece_last n (omega arith));
+    count_is = ec ∙ (λ t. es t + rank mark (em t)) ∙ sym (piece_rank n (omega arith));
   }
     where
       last_mark : (m : ℕ) → 0 < m → m ≤ n → left_of left mark m ≡ valid (place + m - 1)
@@ -116,19 +116,45 @@ module _ {cols place n : ℕ} {valid : ℕ → Bool} {value : ℕ → ℤ} {left
 -- what is kept tells whether the pixel to the left is valid
 pub kept_left : (cols place : ℕ) (valid : ℕ → Bool) (left : Bool) → 0 < cols → (0 < place → left ≡ valid (place - 1)) → nat_lt 0 (place % cols) && left ≡ has_left cols valid place
 kept_left cols place valid left some kept = elim (cases_lt 0 (place % cols)) [
-  | inl lt ↦ ap (λ b. nat_lt 0 (place % cols) && b) (kept (positive place lt))
+  | inl lt ↦ ap (λ b. nat_lt 0 (place % cols) && b) (kept (mod_positive place cols lt))
   | inr ge ↦
       let none : nat_lt 0 (place % cols) ≡ false = nat_lt_false (place % cols) (omega (arith, ge)) in
       ap (λ b. b && left) none ∙ sym (ap (λ b. b && valid (place - 1)) none)
 ]
+
+-- a piece by what is read of a raster: marks, the marks and the values above, and values that are the raster's in front of it
+pub read_piece : (r : Pixels) (value : ℕ → ℤ) (d place n : ℕ) (marks up : List Bool) (above now : List ℤ) {w m count : ℕ} {kept left : Bool} {last before : ℤ} → IsRaster r → w ≡ r.cols → place % r.cols + n ≤ r.cols
+    → IsAt (is_valid r) (value_in r d) place kept last count → left ≡ (nat_lt 0 (place % w) && kept) → before ≡ last → ((i : ℕ) → i < n → mark_at marks i ≡ is_valid r (place + i)) → m ≡ n
+    → ((i : ℕ) → i < m → mark_at up i ≡ has_upper r.cols (is_valid r) (place + i)) → ((i : ℕ) → i < m → mark_at up i ≡ true → value_of_place above i ≡ value_in r d (place + i - r.cols))
+    → ((j : ℕ) → j < place → value_in r d j ≡ value j) → ((i : ℕ) → i < n → mark_at marks i ≡ true → value_of_place now i ≡ value (place + i))
+    → InPiece r.cols place n (is_valid r) value left before (mark_at marks) (mark_at up) (value_of_place above) (value_of_place now)
+read_piece r value d place n marks up above now {w} {m} {count} {kept} {left} {last} {before} sound ew across at el ez is_mark em ups aboves same nows = record {
+  some = some;
+  within = across;
+  left_is = el ∙ ap (λ q. nat_lt 0 (place % q) && kept) ew ∙ kept_left r.cols place (is_valid r) kept some at.left_is;
+  before_is = ez ∙ at.last_is ∙ last_same (is_valid r) (value_in r d) value place (λ j lt _. same j lt);
+  marks = is_mark;
+  ups = λ i lt. ups i (omega (arith, lt, em));
+  aboves = λ i lt on.
+      let low : i < m = omega (arith, lt, em) in
+      let first = upper_before r.cols (is_valid r) (place + i) some (sym (ups i low) ∙ on) in
+      aboves i low on ∙ same (place + i - r.cols) (omega (arith, lt, across, first.0));
+  nows = nows;
+}
   where
-    positive : (k : ℕ) → 0 < k % cols → 0 < k
-    positive zero lt = absurd (omega (arith, lt, zero_mod cols))
-      where
-        zero_mod : (c : ℕ) → 0 % c ≡ 0
-        zero_mod c = omega arith
-    positive (suc k) lt = omega arith
+    some : 0 < r.cols
+    some = sound.shape.cols_above
+
+-- the symbols of a piece have room where those up to its end have
+pub piece_room : (valid : ℕ → Bool) (place : ℕ) (marks : List Bool) {n m start count room : ℕ} → ((i : ℕ) → i < n → mark_at marks i ≡ valid (place + i)) → m ≡ n → start ≡ count → count ≡ rank valid place
+    → rank valid (place + n) ≤ room → start + rank (mark_at marks) m ≤ room
+piece_room valid place marks {n} {m} {start} {count} {room} is_mark em e is fits =
+    let ranks = rank_split valid place n in
+    let same = rank_same (mark_at marks) (λ j. valid (place + j)) n is_mark in
+    subst (λ q. start + rank (mark_at marks) q ≤ room) (sym em) (omega (arith, ranks, same, e, is, fits))
 
 -- the value kept is one of the type
-pub last_fits : (r : Pixels) (d k : ℕ) (valid : ℕ → Bool) → IsRaster r → InRange r.kind (last_value valid (value_in r d) k)
-last_fits r d k valid h = last_has (InRange r.kind) valid (value_in r d) k (zero_in_range r.kind) (λ j lt. value_in_range r d j h)
+pub kept_fits : (r : Pixels) (d : ℕ) {kind : PixelType} {place count : ℕ} {left : Bool} {last before : ℤ} → IsRaster r → kind ≡ r.kind → IsAt (is_valid r) (value_in r d) place left last count → before ≡ last → InRange kind before
+kept_fits r d {kind} {place} {count} {left} {last} {before} sound ek at e =
+    subst (λ (k : PixelType). InRange k before) (sym ek)
+    (subst (InRange r.kind) (sym (e ∙ at.last_is)) (last_has (InRange r.kind) (is_valid r) (value_in r d) place (zero_in_range r.kind) (λ j lt. value_in_range r d j sound)))

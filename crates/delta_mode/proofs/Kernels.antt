@@ -8,11 +8,11 @@ use Rattle.std.proofs.lemmas.List.{get_or-set_same, get_or-set_other, get_or_pas
 use mir.Syntax.{w64}
 use mir.Val.{to_z, of_z}
 use Rattle.raster_values.specs.declared.kind.PixelType.{PixelType}
-use Rattle.raster_values.specs.declared.kind.PixelType.TheVariants.{I8, U8, I16, U16, I32, U32}
 use Rattle.raster_values.specs.PixelType.{InRange}
 use Rattle.delta_mode.specs.Symbols.{IsByteType, bias, symbol_of}
 use Rattle.delta_mode.specs.inside.Pieces.{rank, last_from, left_of, predicted_by, guess, biased, IsSmall, value_of_place}
 use Rattle.delta_mode.proofs.Marks.{zero_in_range}
+use Rattle.delta_mode.proofs.Numbers.{by_byte, low_bias}
 use Rattle.delta_mode.proofs.Pieces.{last_on, last_off, rank_below, last_from_same, guess_same, guess_has}
 
 -- a small number keeps its bits
@@ -20,12 +20,7 @@ pub kept : (z : ℤ) → negsuc 1023 ≤ℤ z → z ≤ℤ pos 1023 → to_z w64
 kept z low high = to_z-of_z w64 z (omega (arith, ints, low, high))
 
 pub small : (kind : PixelType) (z : ℤ) → IsByteType kind → InRange kind z → IsSmall z
-small I8 z byte h = (omega (arith, ints, h.0), omega (arith, ints, h.1))
-small U8 z byte h = (omega (arith, ints, h.0), omega (arith, ints, h.1))
-small I16 z byte h = absurd (omega arith)
-small U16 z byte h = absurd (omega arith)
-small I32 z byte h = absurd (omega arith)
-small U32 z byte h = absurd (omega arith)
+small kind z byte = by_byte (λ k. InRange k z → IsSmall z) (λ h. (omega (arith, ints, h.0), omega (arith, ints, h.1))) (λ h. (omega (arith, ints, h.0), omega (arith, ints, h.1))) kind byte
 
 pub stays : (z : ℤ) → IsSmall z → to_z w64 (of_z w64 z) ≡ z
 stays z h = kept z (omega (arith, ints, h.0)) (omega (arith, ints, h.1))
@@ -37,12 +32,7 @@ pub small_bits : (kind : PixelType) (z : ℤ) → IsByteType kind → InRange ki
 small_bits kind z byte h = subst IsSmall (sym (same kind z byte h)) (small kind z byte h)
 
 pub small_bias : (kind : PixelType) → IsSmall (pos (bias kind))
-small_bias I8 = (omega arith, omega arith)
-small_bias U8 = (omega arith, omega arith)
-small_bias I16 = (omega arith, omega arith)
-small_bias U16 = (omega arith, omega arith)
-small_bias I32 = (omega arith, omega arith)
-small_bias U32 = (omega arith, omega arith)
+small_bias kind = (omega (arith, ints), omega (arith, ints, low_bias kind))
 
 pub symbol-by : (kind : PixelType) (z : ℤ) → symbol_of kind z ≡ biased (pos (bias kind)) z
 unfolding symbol_of
@@ -93,15 +83,8 @@ value_here kind v p q b s byte hq ep eb e =
 pub value_fits : (kind : PixelType) (v b : ℤ) → IsByteType kind → b ≡ pos (bias kind) → pos 0 ≤ℤ (v +ℤ to_z w64 (of_z w64 b)) → (v +ℤ to_z w64 (of_z w64 b)) ≤ℤ pos 255 → InRange kind v
 value_fits kind v b byte eb low high =
     let is : to_z w64 (of_z w64 b) ≡ pos (bias kind) = ap bits eb ∙ stays (pos (bias kind)) (small_bias kind) in
-    by_type kind v byte (subst (λ t. pos 0 ≤ℤ (v +ℤ t)) is low) (subst (λ t. (v +ℤ t) ≤ℤ pos 255) is high)
-  where
-    by_type : (kind : PixelType) (v : ℤ) → IsByteType kind → pos 0 ≤ℤ (v +ℤ pos (bias kind)) → (v +ℤ pos (bias kind)) ≤ℤ pos 255 → InRange kind v
-    by_type I8 v byte low high = (omega (arith, ints, low), omega (arith, ints, high))
-    by_type U8 v byte low high = (omega (arith, ints, low), omega (arith, ints, high))
-    by_type I16 v byte low high = absurd (omega arith)
-    by_type U16 v byte low high = absurd (omega arith)
-    by_type I32 v byte low high = absurd (omega arith)
-    by_type U32 v byte low high = absurd (omega arith)
+    by_byte (λ k. pos 0 ≤ℤ (v +ℤ pos (bias k)) → (v +ℤ pos (bias k)) ≤ℤ pos 255 → InRange k v) (λ low high. (omega (arith, ints, low), omega (arith, ints, high))) (λ low high. (omega (arith, ints, low), omega (arith, ints, high)))
+    kind byte (subst (λ t. pos 0 ≤ℤ (v +ℤ t)) is low) (subst (λ t. (v +ℤ t) ≤ℤ pos 255) is high)
 
 -- one symbol more is written
 pub written_more : (E : ℕ → ℕ) (mark : ℕ → Bool) (out : List ℕ) (start count i s : ℕ) → count ≡ start + rank mark i → count < length out
@@ -153,6 +136,13 @@ has_room mark start count i n room is lt on fits = let below = rank_below mark i
 pub guess_fits : (kind : PixelType) (left : Bool) (before : ℤ) (mark up : ℕ → Bool) (above now : ℕ → ℤ) (i : ℕ) → InRange kind before → InRange kind (above i)
     → ((j : ℕ) → j < i → InRange kind (now j)) → InRange kind (guess left before mark up above now i)
 guess_fits kind left before mark up above now i = guess_has (InRange kind) left before mark up above now i
+
+-- so the predictor that the code finds is small
+pub pred_small : (kind : PixelType) (left : Bool) (before : ℤ) (mark up : ℕ → Bool) (above now : ℕ → ℤ) (i : ℕ) (l : Bool) (z p : ℤ) → IsByteType kind → InRange kind before → InRange kind (above i)
+    → ((j : ℕ) → j < i → InRange kind (now j)) → l ≡ left_of left mark i → z ≡ last_from before mark now i → p ≡ predicted_by l (up i) (to_z w64 (of_z w64 (above i))) z → IsSmall (to_z w64 (of_z w64 p))
+pred_small kind left before mark up above now i l z p byte fits_before fits_above fits el ez e =
+    let is = pred_is kind left before mark up above now i l z p byte fits_above el ez e in
+    small_bits kind p byte (subst (InRange kind) (sym is) (guess_fits kind left before mark up above now i fits_before fits_above fits))
 
 pub all_fit : (kind : PixelType) (out : List ℤ) (n : ℕ) → length out ≤ n → ((k : ℕ) → k < n → InRange kind (value_of_place out k)) → (k : ℕ) → InRange kind (value_of_place out k)
 all_fit kind out n le each k = elim (cases_lt k n) [

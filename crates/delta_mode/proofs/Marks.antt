@@ -37,16 +37,22 @@ value_in_range r d k h = elim (cases_lt k (length r.pixels)) [
 pub row_and_col : (k rows cols : ℕ) → k < rows * cols → (k / cols < rows) × ((k % cols < cols) × (k / cols * cols + k % cols ≡ k))
 row_and_col k rows cols lt = grind arith
 
+pub place_below : (row col rows cols : ℕ) → row < rows → col < cols → row * cols + col < rows * cols
+place_below row col rows cols r c = grind arith
+
+pub same_mark : (r s : Pixels) (k : ℕ) → SameMask r s → k < r.rows * r.cols → is_valid s k ≡ is_valid r k
+same_mark r s k same lt =
+    let at = row_and_col k r.rows r.cols lt in
+    ap (λ n. is_some (get_or s.pixels n None)) (sym at.1.1 ∙ ap (λ c. k / r.cols * c + k % r.cols) same.shape.cols) ∙ same.places (k / r.cols) (k % r.cols) (at.0, at.1.0)
+    ∙ ap (λ n. is_some (get_or r.pixels n None)) at.1.1
+
+pub same_size : (r s : Pixels) → SameMask r s → r.rows * r.cols ≡ s.rows * s.cols
+same_size r s same = λ i. same.shape.rows i * same.shape.cols i
+
 pub same_marks : (r s : Pixels) → IsRaster r → IsRaster s → SameMask r s → (k : ℕ) → is_valid s k ≡ is_valid r k
 same_marks r s hr hs same k = elim (cases_lt k (r.rows * r.cols)) [
-  | inl lt ↦
-      let at = row_and_col k r.rows r.cols lt in
-      let here = same.places (k / r.cols) (k % r.cols) (at.0, at.1.0) in
-      ap (λ n. is_some (get_or s.pixels n None)) (sym at.1.1 ∙ ap (λ c. k / r.cols * c + k % r.cols) same.shape.cols) ∙ here
-      ∙ ap (λ n. is_some (get_or r.pixels n None)) at.1.1
-  | inr ge ↦
-      let sizes : s.rows * s.cols ≡ r.rows * r.cols = ap (λ n. n * s.cols) (sym same.shape.rows) ∙ ap (λ n. r.rows * n) (sym same.shape.cols) in
-      ap is_some (get_or_past s.pixels k None (omega (arith, hs.places, sizes))) ∙ sym (ap is_some (get_or_past r.pixels k None (omega (arith, hr.places))))
+  | inl lt ↦ same_mark r s k same lt
+  | inr ge ↦ ap is_some (get_or_past s.pixels k None (omega (arith, ge, hs.places, same_size r s same))) ∙ sym (ap is_some (get_or_past r.pixels k None (omega (arith, ge, hr.places))))
 ]
 
 -- a raster has its own mask, and masks that are the same as one are the same
@@ -61,6 +67,3 @@ mask_through r s t a b = record {
 
 pub all_marks : (r s : Pixels) → IsRaster r → IsRaster s → SameMask r s → is_valid s ≡ is_valid r
 all_marks r s hr hs same = λ i k. same_marks r s hr hs same k i
-
-pub same_size : (r s : Pixels) → SameMask r s → r.rows * r.cols ≡ s.rows * s.cols
-same_size r s same = λ i. same.shape.rows i * same.shape.cols i

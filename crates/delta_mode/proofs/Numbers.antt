@@ -1,9 +1,26 @@
 -- Symbols as numbers modulo 256.
-use Rattle.std.proofs.Common.{◌≡◌, ℕ, ℤ, pos, negsuc, ◌+ℤ◌, ◌-ℤ◌, ◌≤ℤ◌, ◌+◌, ◌*◌, ◌%◌, refl, ap, arith}
+use Rattle.std.proofs.Common.{◌≡◌, ℕ, ℤ, pos, negsuc, ◌+ℤ◌, ◌-ℤ◌, ◌≤ℤ◌, ◌+◌, ◌*◌, ◌%◌, ◌<◌, true, false, cond, refl, ap, arith}
 use Rattle.std.specs.Prelude.{unsigned_abs}
 use Rattle.std.proofs.lemmas.Int.{ints, int_rem_euclid_is}
 use Rattle.raster_values.specs.declared.kind.PixelType.{PixelType}
-use Rattle.delta_mode.specs.Symbols.{bias, symbol_of}
+use Rattle.raster_values.specs.declared.kind.PixelType.TheVariants.{I8, U8, I16, U16, I32, U32}
+use Rattle.raster_values.specs.PixelType.{is_signed}
+use Rattle.delta_mode.specs.Symbols.{IsByteType, bias, symbol_of}
+
+-- what holds for i8 and for u8 holds for each type of bytes
+pub by_byte : (P : PixelType → Type 0) → P I8 → P U8 → (kind : PixelType) → IsByteType kind → P kind
+by_byte P i8 u8 I8 byte = i8
+by_byte P i8 u8 U8 byte = u8
+by_byte P i8 u8 I16 byte = absurd (omega arith)
+by_byte P i8 u8 U16 byte = absurd (omega arith)
+by_byte P i8 u8 I32 byte = absurd (omega arith)
+by_byte P i8 u8 U32 byte = absurd (omega arith)
+
+pub low_bias : (kind : PixelType) → bias kind < 256
+low_bias kind = elim (is_signed kind) as (λ b. cond b 128 0 < 256) [
+  | true ↦ omega arith
+  | false ↦ omega arith
+]
 
 -- a symbol by a natural number, where the number is not far below 0
 pub symbol-is : (kind : PixelType) (z : ℤ) (m : ℕ) → (z +ℤ pos (bias kind)) +ℤ pos (2 * 256) ≡ pos m → symbol_of kind z ≡ m % 256

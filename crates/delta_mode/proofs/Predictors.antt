@@ -29,17 +29,17 @@ last_has P valid value (suc k) none each = subst P (sym (last-suc valid value k)
   | inr no_ ↦ subst (λ b. P (cond b (value k) (last_value valid value k))) (sym no_) (last_has P valid value k none (λ j lt. each j (omega arith)))
 ])
 
+pub mod_positive : (k cols : ℕ) → 0 < k % cols → 0 < k
+mod_positive zero cols lt = absurd (omega (arith, lt, zero_mod cols))
+  where
+    zero_mod : (c : ℕ) → 0 % c ≡ 0
+    zero_mod c = omega arith
+mod_positive (suc k) cols lt = omega arith
+
 pub left_before : (cols : ℕ) (valid : ℕ → Bool) (k : ℕ) → has_left cols valid k ≡ true → (0 < k) × (valid (k - 1) ≡ true)
 left_before cols valid k h =
     let parts = and_parts (nat_lt 0 (k % cols)) (valid (k - 1)) h in
-    (positive k cols (ltb-true 0 (k % cols) parts.0), parts.1)
-  where
-    positive : (k cols : ℕ) → 0 < k % cols → 0 < k
-    positive zero cols lt = absurd (omega (arith, lt, zero_mod cols))
-      where
-        zero_mod : (c : ℕ) → 0 % c ≡ 0
-        zero_mod c = omega arith
-    positive (suc k) cols lt = omega arith
+    (mod_positive k cols (ltb-true 0 (k % cols) parts.0), parts.1)
 
 pub upper_before : (cols : ℕ) (valid : ℕ → Bool) (k : ℕ) → 0 < cols → has_upper cols valid k ≡ true → (cols ≤ k) × (valid (k - cols) ≡ true)
 upper_before cols valid k some h =

@@ -6,7 +6,7 @@ use Rattle.std.proofs.lemmas.Bool.{cases_lt, cases_Bool}
 use Rattle.std.proofs.lemmas.Int.{ints}
 use Rattle.std.proofs.lemmas.List.{ext_get_or, length-map, get_or-map}
 use Rattle.raster_values.specs.declared.kind.PixelType.{PixelType}
-use Rattle.raster_values.specs.declared.kind.PixelType.TheVariants.{I8, U8, I16, U16, I32, U32}
+use Rattle.raster_values.specs.declared.kind.PixelType.TheVariants.{I8, U8}
 use Rattle.raster_values.specs.PixelType.{InRange}
 use Rattle.raster_values.specs.Raster.{Pixels, IsRaster, values_of}
 use Rattle.raster_values.specs.Block.{SameMask}
@@ -14,12 +14,12 @@ use Rattle.raster_values.specs.Flat.{value_in}
 use Rattle.raster_values.proofs.Every.{Every, map_same, filter_every, range_every}
 use Rattle.raster_values.proofs.Same.{same_raster}
 use Rattle.raster_values.proofs.Deep.{AreDeep, raster_deep, pixels_once, values_in_range}
-use Rattle.delta_mode.specs.Symbols.{IsByteType, symbol_of}
+use Rattle.delta_mode.specs.Symbols.{IsByteType, bias, symbol_of}
 use Rattle.delta_mode.specs.Deltas.{predictor, delta, deltas_from, is_valid}
 use Rattle.delta_mode.specs.Laws.{OneDepth, OneRaster, OnePlain}
-use Rattle.delta_mode.proofs.Numbers.{symbol-is, lifted, same_residue}
+use Rattle.delta_mode.proofs.Numbers.{by_byte, symbol-is, lifted, same_residue}
 use Rattle.delta_mode.proofs.Predictors.{predictor_has, predictor_same, from-is}
-use Rattle.delta_mode.proofs.Marks.{value_in_range, zero_in_range, same_marks}
+use Rattle.delta_mode.proofs.Marks.{value_in_range, zero_in_range, place_below, same_marks}
 
 far : (a p least greatest : ℤ) → negsuc 127 ≤ℤ least → greatest ≤ℤ pos 255 → least ≤ℤ a → p ≤ℤ greatest → negsuc 511 ≤ℤ (a -ℤ p)
 far a p least greatest l g la gp = omega (arith, ints)
@@ -27,30 +27,22 @@ far a p least greatest l g la gp = omega (arith, ints)
 joined : (z : ℤ) (b m : ℕ) → (z +ℤ pos b) +ℤ pos (2 * 256) ≡ pos m → z +ℤ pos (b + 512) ≡ pos m
 joined z b m e = omega (arith, ints)
 
--- numbers of a type of bytes that have one symbol, less one predictor, are equal
+-- numbers of one range of 256 that have one symbol, less a predictor of the range, are equal
+once : (kind : PixelType) (a b p least : ℤ) → negsuc 127 ≤ℤ least → (least +ℤ pos 255) ≤ℤ pos 255 → (least ≤ℤ a) × (a ≤ℤ (least +ℤ pos 255)) → (least ≤ℤ b) × (b ≤ℤ (least +ℤ pos 255)) → p ≤ℤ (least +ℤ pos 255)
+    → symbol_of kind (a -ℤ p) ≡ symbol_of kind (b -ℤ p) → a ≡ b
+once kind a b p least low high ra rb rp e =
+    let k = bias kind in
+    let m = unsigned_abs ((a -ℤ p) +ℤ pos (k + 512)) in
+    let n = unsigned_abs ((b -ℤ p) +ℤ pos (k + 512)) in
+    let ea = lifted (a -ℤ p) k (far a p least (least +ℤ pos 255) low high ra.0 rp) in
+    let eb = lifted (b -ℤ p) k (far b p least (least +ℤ pos 255) low high rb.0 rp) in
+    same_residue a b p (k + 512) m n least (joined (a -ℤ p) k m ea) (joined (b -ℤ p) k n eb) (sym (symbol-is kind (a -ℤ p) m ea) ∙ e ∙ symbol-is kind (b -ℤ p) n eb)
+    ra.0 ra.1 rb.0 rb.1
+
+-- so are those of a type of bytes
 pub value_once : (kind : PixelType) (a b p : ℤ) → IsByteType kind → InRange kind a → InRange kind b → InRange kind p → symbol_of kind (a -ℤ p) ≡ symbol_of kind (b -ℤ p) → a ≡ b
-value_once I8 a b p byte ra rb rp e =
-    let m = unsigned_abs ((a -ℤ p) +ℤ pos (128 + 512)) in
-    let n = unsigned_abs ((b -ℤ p) +ℤ pos (128 + 512)) in
-    let al : negsuc 511 ≤ℤ (a -ℤ p) = far a p (negsuc 127) (pos 127) (omega arith) (omega arith) ra.0 rp.1 in
-    let bl : negsuc 511 ≤ℤ (b -ℤ p) = far b p (negsuc 127) (pos 127) (omega arith) (omega arith) rb.0 rp.1 in
-    let ea : ((a -ℤ p) +ℤ pos 128) +ℤ pos (2 * 256) ≡ pos m = lifted (a -ℤ p) 128 al in
-    let eb : ((b -ℤ p) +ℤ pos 128) +ℤ pos (2 * 256) ≡ pos n = lifted (b -ℤ p) 128 bl in
-    same_residue a b p 640 m n (negsuc 127) (joined (a -ℤ p) 128 m ea) (joined (b -ℤ p) 128 n eb) (sym (symbol-is I8 (a -ℤ p) m ea) ∙ e ∙ symbol-is I8 (b -ℤ p) n eb)
-    ra.0 ra.1 rb.0 rb.1
-value_once U8 a b p byte ra rb rp e =
-    let m = unsigned_abs ((a -ℤ p) +ℤ pos (0 + 512)) in
-    let n = unsigned_abs ((b -ℤ p) +ℤ pos (0 + 512)) in
-    let al : negsuc 511 ≤ℤ (a -ℤ p) = far a p (pos 0) (pos 255) (omega arith) (omega arith) ra.0 rp.1 in
-    let bl : negsuc 511 ≤ℤ (b -ℤ p) = far b p (pos 0) (pos 255) (omega arith) (omega arith) rb.0 rp.1 in
-    let ea : ((a -ℤ p) +ℤ pos 0) +ℤ pos (2 * 256) ≡ pos m = lifted (a -ℤ p) 0 al in
-    let eb : ((b -ℤ p) +ℤ pos 0) +ℤ pos (2 * 256) ≡ pos n = lifted (b -ℤ p) 0 bl in
-    same_residue a b p 512 m n (pos 0) (joined (a -ℤ p) 0 m ea) (joined (b -ℤ p) 0 n eb) (sym (symbol-is U8 (a -ℤ p) m ea) ∙ e ∙ symbol-is U8 (b -ℤ p) n eb)
-    ra.0 ra.1 rb.0 rb.1
-value_once I16 a b p byte ra rb rp e = absurd (omega arith)
-value_once U16 a b p byte ra rb rp e = absurd (omega arith)
-value_once I32 a b p byte ra rb rp e = absurd (omega arith)
-value_once U32 a b p byte ra rb rp e = absurd (omega arith)
+value_once kind a b p byte = by_byte (λ k. InRange k a → InRange k b → InRange k p → symbol_of k (a -ℤ p) ≡ symbol_of k (b -ℤ p) → a ≡ b)
+    (λ ra rb rp. once I8 a b p (negsuc 127) (omega arith) (omega arith) ra rb rp.1) (λ ra rb rp. once U8 a b p (pos 0) (omega arith) (omega arith) ra rb rp.1) kind byte
 
 -- ---- one depth
 
@@ -95,9 +87,6 @@ one_depth r s d symbols hr hs byte same lt dr ds k k_lt =
     ]
 
 -- ---- one raster
-
-place_below : (row col rows cols : ℕ) → row < rows → col < cols → row * cols + col < rows * cols
-place_below row col rows cols r c = grind arith
 
 pub one_raster : OneRaster
 one_raster r s symbols hr hs byte same dr ds = same_raster r s hr hs (record {

@@ -1,5 +1,5 @@
 -- Values with 128 added, pixel by pixel and depth by depth.
-use Rattle.std.proofs.Common.{◌≡◌, ℕ, suc, ℤ, pos, negsuc, ◌+ℤ◌, ◌-ℤ◌, ◌+◌, ◌-◌, ◌*◌, ◌/◌, ◌%◌, ◌<◌, ◌≤◌, true, false, List, [], ◌∷◌, ◌++◌, length, get_or, map, refl, sym, ap, ◌∙◌, subst, arith, inl, inr}
+use Rattle.std.proofs.Common.{◌≡◌, ℕ, suc, ℤ, pos, negsuc, ◌+ℤ◌, ◌-ℤ◌, ◌+◌, ◌-◌, ◌*◌, ◌%◌, ◌<◌, ◌≤◌, true, false, List, [], ◌∷◌, ◌++◌, length, get_or, map, refl, sym, ap, ◌∙◌, subst, arith, inl, inr}
 use Rattle.std.specs.Prelude.{is_some, None, Some, Option, unwrap_or, All}
 use Rattle.std.proofs.lemmas.Bool.{cases_Bool, cases_lt, cases_eq}
 use Rattle.std.proofs.lemmas.Int.{ints}
@@ -10,23 +10,15 @@ use Rattle.raster_values.specs.declared.kind.PixelType.{PixelType}
 use Rattle.raster_values.specs.declared.kind.PixelType.TheVariants.{I8}
 use Rattle.raster_values.specs.PixelType.{InRange, complement_of, value_bytes}
 use Rattle.raster_values.specs.Raster.{Pixels, IsRaster, IsPixel, values_of}
-use Rattle.raster_values.specs.Block.{SameMask}
 use Rattle.raster_values.specs.Flat.{value_in}
 use Rattle.raster_values.specs.Grid.{values_bytes}
 use Rattle.raster_values.specs.Values.{AreValues}
 use Rattle.raster_values.proofs.Spelled.{values_once, values_there}
 use Rattle.raster_values.proofs.Deep.{values_next}
 use Rattle.delta_mode.specs.Symbols.{symbol_of}
-use Rattle.delta_mode.specs.Deltas.{is_valid}
 use Rattle.delta_mode.specs.inside.Turned.{turned, TurnsPixels, TurnsDepths}
 use Rattle.delta_mode.proofs.Numbers.{symbol-is}
-use Rattle.delta_mode.proofs.Marks.{row_and_col, mask_itself, mask_through, same_size}
-
-pub same_mark : (r s : Pixels) (k : ℕ) → SameMask r s → k < r.rows * r.cols → is_valid s k ≡ is_valid r k
-same_mark r s k same lt =
-    let at = row_and_col k r.rows r.cols lt in
-    ap (λ n. is_some (get_or s.pixels n None)) (sym at.1.1 ∙ ap (λ c. k / r.cols * c + k % r.cols) same.shape.cols) ∙ same.places (k / r.cols) (k % r.cols) (at.0, at.1.0)
-    ∙ ap (λ n. is_some (get_or r.pixels n None)) at.1.1
+use Rattle.delta_mode.proofs.Marks.{same_mark, mask_itself, mask_through, same_size}
 
 pub turns_none : (r : Pixels) (d : ℕ) → TurnsPixels r r d 0 0
 turns_none r d = record { same = mask_itself r; turned_values = λ k from lt on. absurd (omega (arith, lt)); rest = λ k e lt below other. refl }

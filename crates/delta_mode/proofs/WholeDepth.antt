@@ -1,20 +1,22 @@
 -- From pieces to a whole depth.
-use Rattle.std.proofs.Common.{◌≡◌, ℕ, zero, suc, ℤ, pos, ◌-ℤ◌, ◌+◌, ◌-◌, ◌*◌, ◌/◌, ◌%◌, ◌<◌, ◌≤◌, Bool, false, cond, List, [], ◌∷◌, ◌++◌, length, get_or, take, map, refl, sym, ap, ◌∙◌, arith, inl, inr, add-one}
+use Rattle.std.proofs.Common.{◌≡◌, ℕ, zero, suc, ℤ, pos, ◌-ℤ◌, ◌+◌, ◌-◌, ◌*◌, ◌/◌, ◌%◌, ◌<◌, ◌≤◌, Bool, true, false, cond, List, [], ◌∷◌, ◌++◌, length, get_or, take, map, refl, sym, ap, ◌∙◌, subst, arith, inl, inr, add-one}
 use Rattle.std.specs.Prelude.{is_some, None, Option}
 use Rattle.std.specs.List.{filter, range_with_len, count_by}
 use Rattle.std.proofs.lemmas.Bool.{cases_Bool, cases_lt}
-use Rattle.std.proofs.lemmas.List.{map-append, take_more, take_all, append-nil}
+use Rattle.std.proofs.lemmas.List.{length-take-le, map-append, take_more, take_all, append-nil}
 use Rattle.std.proofs.lemmas.List.Elements.{filter-append}
 use Rattle.std.proofs.lemmas.List.Sums.{sum_by-cons}
 use Rattle.std.proofs.Math.Nat.{mul-le-mul_right}
+use Rattle.std.proofs.Math.Path.{transport}
 use Rattle.raster_values.specs.declared.kind.PixelType.{PixelType}
 use Rattle.raster_values.specs.Raster.{Pixels, IsRaster, valid_count}
+use Rattle.raster_values.specs.Block.{SameMask}
 use Rattle.delta_mode.specs.Symbols.{symbol_of}
 use Rattle.delta_mode.specs.Deltas.{delta, deltas_from, is_valid}
 use Rattle.delta_mode.specs.inside.Pieces.{rank, IsAt, AreCoded}
 use Rattle.delta_mode.proofs.Predictors.{predictor_same, range_more, from-is, last-zero}
-use Rattle.delta_mode.proofs.Pieces.{rank_on, rank_off, rank_below, rank_same, rank_split}
-use Rattle.delta_mode.proofs.Marks.{row_and_col}
+use Rattle.delta_mode.proofs.Pieces.{rank_on, rank_off, rank_below, rank_grows, rank_same, rank_split}
+use Rattle.delta_mode.proofs.Marks.{row_and_col, all_marks}
 
 -- ---- as many symbols as valid pixels
 
@@ -47,6 +49,31 @@ piece_across place count cols le some = grind arith
 pub piece_some : (place cols : ℕ) → 0 < cols → 0 < cols - place % cols
 piece_some place cols some = grind arith
 
+-- a piece of a row that begins within the raster: it ends there, and as many marks are the first of a list
+pub record IsNext (r : Pixels) (place count : ℕ) (marks : List Bool) : Type 0 where
+  pub within : place + count ≤ r.rows * r.cols
+  pub long : length (take count marks) ≡ count
+  pub to : place + length (take count marks) ≡ place + count
+
+pub next_piece : (r : Pixels) (place count : ℕ) {rows cols : ℕ} (marks : List Bool) → IsRaster r → rows ≡ r.rows → cols ≡ r.cols → place < rows * cols → count ≤ cols - place % cols → count ≤ length marks → IsNext r place count marks
+next_piece r place count {rows} {cols} marks sound er ec lt short wide =
+    let long = length-take-le count marks wide in
+    record {
+      within = piece_within place count r.rows r.cols (subst (λ n. place < n) (λ i. er i * ec i) lt) (subst (λ n. count ≤ n - place % n) ec short) sound.shape.cols_above;
+      long = long;
+      to = ap (λ n. place + n) long;
+    }
+
+-- the symbols up to its end are there
+pub next_room : {r : Pixels} {place count room : ℕ} {marks : List Bool} → IsRaster r → IsNext r place count marks → room ≡ valid_count r → rank (is_valid r) (place + length (take count marks)) ≤ room
+next_room {r} {place} {count} {room} {marks} sound next e =
+    let grows = rank_grows (is_valid r) (place + count) (r.rows * r.cols) next.within in
+    subst (λ n. rank (is_valid r) n ≤ room) (sym next.to) (omega (arith, grows, rank_all r sound, e))
+
+-- the first of two lists are as many
+pub both_taken : {A B : Type 0} (count : ℕ) (xs : List A) (ys : List B) → count ≤ length xs → count ≤ length ys → length (take count xs) ≡ length (take count ys)
+both_taken count xs ys few_xs few_ys = length-take-le count xs few_xs ∙ sym (length-take-le count ys few_ys)
+
 -- ---- the symbols of all pieces
 
 pub coded_none : (kind : PixelType) (cols : ℕ) (valid : ℕ → Bool) (value : ℕ → ℤ) (symbols : List ℕ) → AreCoded kind cols valid value 0 0 symbols
@@ -69,13 +96,19 @@ pub coded_kept : (kind : PixelType) (cols : ℕ) (valid : ℕ → Bool) (value :
     → AreCoded kind cols valid value 0 m old → AreCoded kind cols valid value 0 m new
 coded_kept kind cols valid value m old new same a = record { each = λ k from lt on. a.each k from lt on ∙ sym (same (rank valid k) (rank_below valid k m lt on)) }
 
--- and so do values that are written behind them
-pub coded_same : (kind : PixelType) (cols : ℕ) (valid : ℕ → Bool) (v w : ℕ → ℤ) (m : ℕ) (symbols : List ℕ) → 0 < cols → ((j : ℕ) → j < m → w j ≡ v j)
+-- and so do values that are written behind them, or to pixels that are not valid
+pub coded_same : (kind : PixelType) (cols : ℕ) (valid : ℕ → Bool) (v w : ℕ → ℤ) (m : ℕ) (symbols : List ℕ) → 0 < cols → ((j : ℕ) → j < m → valid j ≡ true → w j ≡ v j)
     → AreCoded kind cols valid v 0 m symbols → AreCoded kind cols valid w 0 m symbols
 coded_same kind cols valid v w m symbols some same a = record {
   each = λ k from lt on.
-      (λ i. symbol_of kind (same k lt i -ℤ predictor_same cols valid w v k some (λ j below _. same j (omega (arith, below, lt))) i)) ∙ a.each k from lt on;
+      (λ i. symbol_of kind (same k lt on i -ℤ predictor_same cols valid w v k some (λ j below yes_. same j (omega (arith, below, lt)) yes_) i)) ∙ a.each k from lt on;
 }
+
+-- in the words of another raster of one mask
+pub coded_as : (r s : Pixels) (value : ℕ → ℤ) {from to end : ℕ} {symbols : List ℕ} → IsRaster r → IsRaster s → SameMask r s → to ≡ end
+    → AreCoded s.kind s.cols (is_valid s) value from to symbols → AreCoded r.kind r.cols (is_valid r) value from end symbols
+coded_as r s value {from} {to} {end} {symbols} hr hs same e =
+    transport (λ i. AreCoded (sym same.shape.kind i) (sym same.shape.cols i) (all_marks r s hr hs same i) value from (e i) symbols)
 
 -- the symbols of the valid pixels, one by one, are those of the depth
 pub coded_first : (kind : PixelType) (cols : ℕ) (valid : ℕ → Bool) (value : ℕ → ℤ) (symbols : List ℕ) (m n : ℕ) → m ≤ n → rank valid n ≤ length symbols → AreCoded kind cols valid value 0 n symbols
@@ -109,3 +142,11 @@ pub coded_all : (kind : PixelType) (cols : ℕ) (valid : ℕ → Bool) (value : 
     → symbols ≡ deltas_from kind cols valid value 0 n
 coded_all kind cols valid value symbols n long a =
     sym (coded_first kind cols valid value symbols n n (omega arith) (omega (arith, long)) a ∙ ap (λ k. take k symbols) (sym long) ∙ take_all (length symbols) symbols (omega arith))
+
+-- the symbols of the pixels below the end of a raster
+pub coded_whole : (r : Pixels) (value : ℕ → ℤ) (place : ℕ) {rows cols : ℕ} {symbols : List ℕ} → IsRaster r → rows ≡ r.rows → cols ≡ r.cols → place ≤ r.rows * r.cols → rows * cols ≤ place → length symbols ≡ valid_count r
+    → AreCoded r.kind r.cols (is_valid r) value 0 place symbols → symbols ≡ deltas_from r.kind r.cols (is_valid r) value 0 (r.rows * r.cols)
+coded_whole r value place {rows} {cols} {symbols} sound er ec within over count coded =
+    let size : rows * cols ≡ r.rows * r.cols = λ i. er i * ec i in
+    let end : place ≡ r.rows * r.cols = omega (arith, size, within, over) in
+    coded_all r.kind r.cols (is_valid r) value symbols (r.rows * r.cols) (count ∙ sym (rank_all r sound)) (subst (λ n. AreCoded r.kind r.cols (is_valid r) value 0 n symbols) end coded)

@@ -6,7 +6,7 @@ use Rattle.delta_mode.specs.Symbols.{symbol_of}
 use Rattle.delta_mode.specs.inside.Pieces.{rank, last_from, guess, mark_at, value_of_place}
 use Rattle.delta_mode.proofs.Marks.{zero_in_range}
 use Rattle.delta_mode.proofs.Pieces.{rank_on, rank_off, left_next}
-use Rattle.delta_mode.proofs.Kernels.{has_room, same, small_bits, pred_is, value_here, value_fits, found_more, fits_more, last_more, last_kept, guess_fits, all_fit, kept}
+use Rattle.delta_mode.proofs.Kernels.{has_room, same, pred_is, pred_small, value_here, value_fits, found_more, fits_more, last_more, last_kept, guess_fits, all_fit, kept}
 use Rattle.delta_mode.proofs.walk.find_values.Goals.{then-marks-i, else-marks-i}
 use Rattle.delta_mode.proofs.walk.find_values.Goals as goal
 
@@ -20,14 +20,9 @@ overflow_add-count c =
 
 pub value-last-requires-clause-predictor : goal.value-last-requires-clause-predictor
 value-last-requires-clause-predictor c =
-    let kind = c.args.kind in
-    let mark = mark_at c.args.marks.now in
-    let up = mark_at c.args.up.now in
-    let above = value_of_place c.args.above.now in
-    let now = value_of_place c.loop-i.out in
-    let i = c.loop-i.i in
-    let p = pred_is kind c.args.walk.left c.args.walk.last mark up above now i c.loop-i.left _ c.predicted.result c.requires.kind (c.requires.above_in_range i) c.loop-i.invariant.left c.loop-i.invariant.last c.predicted.ensures in
-    small_bits kind c.predicted.result c.requires.kind (subst (InRange kind) (sym p) (guess_fits kind c.args.walk.left c.args.walk.last mark up above now i c.requires.last_in_range (c.requires.above_in_range i) c.loop-i.invariant.in_range))
+    let inv = c.loop-i.invariant in
+    pred_small c.args.kind c.args.walk.left c.args.walk.last (mark_at c.args.marks.now) (mark_at c.args.up.now) (value_of_place c.args.above.now) (value_of_place c.loop-i.out) c.loop-i.i _ _ c.predicted.result c.requires.kind
+    c.requires.last_in_range (c.requires.above_in_range c.loop-i.i) inv.in_range inv.left inv.last c.predicted.ensures
 
 pub loop-i-preserved : goal.loop-i-preserved
 loop-i-preserved c =

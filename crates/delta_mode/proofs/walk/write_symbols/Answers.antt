@@ -1,10 +1,9 @@
 use Rattle.std.proofs.Common.{rules, ◌≡◌, ℕ, ◌+◌, ◌<◌, ◌-ℤ◌, sym, ap, ◌∙◌, arith, length, get_or, subst, true, List, ◌≢◌}
 use Rattle.std.proofs.lemmas.List.{get_or-set_other}
-use Rattle.raster_values.specs.PixelType.{InRange}
 use Rattle.delta_mode.specs.Symbols.{symbol_of}
 use Rattle.delta_mode.specs.inside.Pieces.{rank, guess, mark_at, value_of_place}
 use Rattle.delta_mode.proofs.Pieces.{rank_on, rank_off, left_next, last_on, last_off}
-use Rattle.delta_mode.proofs.Kernels.{has_room, same, small_bits, pred_is, symbol_here, written_more, skipped_more, guess_fits}
+use Rattle.delta_mode.proofs.Kernels.{has_room, same, small_bits, pred_is, pred_small, symbol_here, written_more, skipped_more, guess_fits}
 use Rattle.delta_mode.proofs.walk.write_symbols.Goals.{then-marks-i, else-marks-i}
 use Rattle.delta_mode.proofs.walk.write_symbols.Goals as goal
 
@@ -13,14 +12,9 @@ symbol-requires-clause-value c = small_bits c.args.kind _ c.requires.kind (c.req
 
 pub symbol-requires-clause-predictor : goal.symbol-requires-clause-predictor
 symbol-requires-clause-predictor c =
-    let kind = c.args.kind in
-    let mark = mark_at c.args.marks.now in
-    let up = mark_at c.args.up.now in
-    let above = value_of_place c.args.above.now in
-    let now = value_of_place c.args.values.now in
-    let i = c.loop-i.i in
-    let p = pred_is kind c.args.walk.left c.args.walk.last mark up above now i c.loop-i.left _ c.predicted.result c.requires.kind (c.requires.above_in_range i) c.loop-i.invariant.left c.loop-i.invariant.last c.predicted.ensures in
-    small_bits kind c.predicted.result c.requires.kind (subst (InRange kind) (sym p) (guess_fits kind c.args.walk.left c.args.walk.last mark up above now i c.requires.last_in_range (c.requires.above_in_range i) (λ j _. c.requires.values_in_range j)))
+    let inv = c.loop-i.invariant in
+    pred_small c.args.kind c.args.walk.left c.args.walk.last (mark_at c.args.marks.now) (mark_at c.args.up.now) (value_of_place c.args.above.now) (value_of_place c.args.values.now) c.loop-i.i _ _ c.predicted.result c.requires.kind
+    c.requires.last_in_range (c.requires.above_in_range c.loop-i.i) (λ j _. c.requires.values_in_range j) inv.left inv.last c.predicted.ensures
 
 pub bounds-out-count : goal.bounds-out-count
 bounds-out-count c =
