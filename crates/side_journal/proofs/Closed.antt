@@ -4,7 +4,7 @@ use Rattle.std.proofs.lemmas.List.{drop_all, append-nil}
 use Rattle.outside_io.specs.declared.volume.VolFile.TheVariants.{Journal}
 use Rattle.outside_io.specs.volume.Disk.{Disk, File, IsImage, IsSettled, Struck, change, laid, shortened, wrote}
 use Rattle.outside_io.specs.volume.History.{During, History, Ticks, contents, current}
-use Rattle.outside_io.proofs.VolumeLemmas.Moments.{goes_on, started, stays_on}
+use Rattle.outside_io.proofs.VolumeLemmas.Moments.{during_end, goes_on, started, stays_on}
 use Rattle.outside_io.proofs.VolumeLemmas.Images.{only_image}
 use Rattle.side_journal.specs.Says.{IsOpen}
 use Rattle.side_journal.specs.Steps.{IsReady, KeepsClosed}
@@ -74,6 +74,25 @@ during_cut old now next r s still other tick same later struck =
     let measured = stays_on (KeepsClosed here) old old now r start tick same in
     let cut = rw same at struck in
     goes_on (KeepsClosed here) old now next s measured later (closed_by_cut here (current next) still other cut)
+
+-- and on which a byte is then written
+pub during_begun : {T U W E : Type 0} (old now cut next : History) (r : Result T E) (s : Result U E) (w : Result W E)
+    → IsSettled (current old).journal → length (contents Journal old) ≢ 96 → Ticks old now r → current now ≡ current old
+    → Ticks now cut s → Struck Journal (shortened 0) (current now) (current cut) → current cut ≡ change Journal (shortened 0) (current now)
+    → Ticks cut next w → Struck Journal (wrote 0 (0 ∷ [])) (current cut) (current next) → During (KeepsClosed (current old)) old next
+during_begun old now cut next r s w still other tick same later struck is last written =
+    let here = current old in
+    let begun = rw (is, same) at written in
+    goes_on (KeepsClosed here) old cut next w (during_cut old now cut r s still other tick same later struck) last
+    (closed_by_start here (current next) still other begun)
+
+-- a sync more
+pub during_synced : {T E : Type 0} (old mid next : History) (r : Result T E) → During (KeepsClosed (current old)) old mid
+    → Ticks mid next r → Struck Journal (λ f. f) (current mid) (current next) → During (KeepsClosed (current old)) old next
+during_synced old mid next r before tick struck =
+    let here = current old in
+    goes_on (KeepsClosed here) old mid next r before tick
+    (closed_by_sync here (current mid) (current next) (during_end (KeepsClosed here) old mid before) struck)
 
 -- a body written behind a closed gate
 pub armed : (body old : List ℕ) → length body ≡ 95 → IsReady old → laid 1 body old ≡ 0 ∷ body

@@ -1,10 +1,10 @@
-use Rattle.std.proofs.Common.{◌≢◌, ◌∷◌, ◌∙◌, [], ap, inl, length, refl, subst, sym}
+use Rattle.std.proofs.Common.{◌∷◌, ◌∙◌, [], ap, inl, refl, subst, sym}
 use Rattle.outside_io.specs.declared.volume.VolFile.TheVariants.{Journal}
 use Rattle.outside_io.specs.volume.Disk.{Disk, change, shortened, synced, wrote}
 use Rattle.outside_io.specs.volume.History.{current}
-use Rattle.outside_io.proofs.VolumeLemmas.Moments.{goes_on, started, stays_on}
+use Rattle.outside_io.proofs.VolumeLemmas.Moments.{started, stays_on}
 use Rattle.side_journal.specs.Steps.{IsReady, KeepsClosed}
-use Rattle.side_journal.proofs.Closed.{closed_by_start, closed_by_sync, during_cut, still_closed}
+use Rattle.side_journal.proofs.Closed.{during_begun, during_cut, during_synced, still_closed}
 use Rattle.side_journal.proofs.steps.prepare.Goals as goal
 
 pub returns-in_err-len-clause-during : goal.returns-in_err-len-clause-during
@@ -15,72 +15,36 @@ returns-in_err-len-clause-during g c = λ told.
 
 pub returns-in_err-cut-clause-during : goal.returns-in_err-cut-clause-during
 returns-in_err-cut-clause-during g c = λ told.
-    let old = g.V.Volume.history c.args.vol.now in
-    let still = c.requires.settled told in
-    let size = c.in_ok-len.ensures.answer told in
-    let other : length (current old).journal.now ≢ 96 =
-    λ whole. c.if-branch-ne96.true (size ∙ whole) in
-    let same = c.len.ensures.disk told in
-    let told-cut = c.len.ensures.told ∙ told in
-    let struck = c.cut.ensures.crash told-cut in
-    during_cut _ _ _ _ _ still other c.len.ensures.time same c.cut.ensures.time struck
+    during_cut _ _ _ _ _ (c.requires.settled told) (λ whole. c.if-branch-ne96.true (c.in_ok-len.ensures.answer told ∙ whole))
+    c.len.ensures.time (c.len.ensures.disk told) c.cut.ensures.time (c.cut.ensures.crash (c.len.ensures.told ∙ told))
 
 pub returns-in_err-write-clause-during : goal.returns-in_err-write-clause-during
 returns-in_err-write-clause-during g c = λ told.
-    let old = g.V.Volume.history c.args.vol.now in
-    let still = c.requires.settled told in
-    let size = c.in_ok-len.ensures.answer told in
-    let other : length (current old).journal.now ≢ 96 =
-    λ whole. c.if-branch-ne96.true (size ∙ whole) in
-    let same = c.len.ensures.disk told in
     let told-cut = c.len.ensures.told ∙ told in
-    let struck = c.cut.ensures.crash told-cut in
-    let cut = during_cut _ _ _ _ _ still other c.len.ensures.time same c.cut.ensures.time struck in
     let told-write = c.cut.ensures.told ∙ told-cut in
-    let is = c.in_ok-cut.ensures.ok told-cut in
-    let begun = rw (is, same) at (c.write.ensures.crash told-write) in
-    let kept = closed_by_start (current old) _ still other begun in
-    goes_on (KeepsClosed (current old)) _ _ _ _ cut c.write.ensures.time kept
+    during_begun _ _ _ _ _ _ _ (c.requires.settled told) (λ whole. c.if-branch-ne96.true (c.in_ok-len.ensures.answer told ∙ whole))
+    c.len.ensures.time (c.len.ensures.disk told) c.cut.ensures.time (c.cut.ensures.crash told-cut) (c.in_ok-cut.ensures.ok told-cut)
+    c.write.ensures.time (c.write.ensures.crash told-write)
 
 pub returns-in_err-sync-clause-during : goal.returns-in_err-sync-clause-during
 returns-in_err-sync-clause-during g c = λ told.
-    let old = g.V.Volume.history c.args.vol.now in
-    let still = c.requires.settled told in
-    let size = c.in_ok-len.ensures.answer told in
-    let other : length (current old).journal.now ≢ 96 =
-    λ whole. c.if-branch-ne96.true (size ∙ whole) in
-    let same = c.len.ensures.disk told in
     let told-cut = c.len.ensures.told ∙ told in
-    let struck = c.cut.ensures.crash told-cut in
-    let cut = during_cut _ _ _ _ _ still other c.len.ensures.time same c.cut.ensures.time struck in
     let told-write = c.cut.ensures.told ∙ told-cut in
-    let is = c.in_ok-cut.ensures.ok told-cut in
-    let begun = rw (is, same) at (c.write.ensures.crash told-write) in
-    let kept = closed_by_start (current old) _ still other begun in
-    let written = goes_on (KeepsClosed (current old)) _ _ _ _ cut c.write.ensures.time kept in
-    let synced =
-    closed_by_sync (current old) _ _ kept (c.sync.ensures.crash (c.write.ensures.told ∙ told-write)) in
-    goes_on (KeepsClosed (current old)) _ _ _ _ written c.sync.ensures.time synced
+    let begun =
+    during_begun _ _ _ _ _ _ _ (c.requires.settled told) (λ whole. c.if-branch-ne96.true (c.in_ok-len.ensures.answer told ∙ whole))
+    c.len.ensures.time (c.len.ensures.disk told) c.cut.ensures.time (c.cut.ensures.crash told-cut) (c.in_ok-cut.ensures.ok told-cut)
+    c.write.ensures.time (c.write.ensures.crash told-write) in
+    during_synced _ _ _ _ begun c.sync.ensures.time (c.sync.ensures.crash (c.write.ensures.told ∙ told-write))
 
 pub returns-in_ok-sync-clause-during : goal.returns-in_ok-sync-clause-during
 returns-in_ok-sync-clause-during g c = λ told.
-    let old = g.V.Volume.history c.args.vol.now in
-    let still = c.requires.settled told in
-    let size = c.in_ok-len.ensures.answer told in
-    let other : length (current old).journal.now ≢ 96 =
-    λ whole. c.if-branch-ne96.true (size ∙ whole) in
-    let same = c.len.ensures.disk told in
     let told-cut = c.len.ensures.told ∙ told in
-    let struck = c.cut.ensures.crash told-cut in
-    let cut = during_cut _ _ _ _ _ still other c.len.ensures.time same c.cut.ensures.time struck in
     let told-write = c.cut.ensures.told ∙ told-cut in
-    let is = c.in_ok-cut.ensures.ok told-cut in
-    let begun = rw (is, same) at (c.write.ensures.crash told-write) in
-    let kept = closed_by_start (current old) _ still other begun in
-    let written = goes_on (KeepsClosed (current old)) _ _ _ _ cut c.write.ensures.time kept in
-    let synced =
-    closed_by_sync (current old) _ _ kept (c.sync.ensures.crash (c.write.ensures.told ∙ told-write)) in
-    goes_on (KeepsClosed (current old)) _ _ _ _ written c.sync.ensures.time synced
+    let begun =
+    during_begun _ _ _ _ _ _ _ (c.requires.settled told) (λ whole. c.if-branch-ne96.true (c.in_ok-len.ensures.answer told ∙ whole))
+    c.len.ensures.time (c.len.ensures.disk told) c.cut.ensures.time (c.cut.ensures.crash told-cut) (c.in_ok-cut.ensures.ok told-cut)
+    c.write.ensures.time (c.write.ensures.crash told-write) in
+    during_synced _ _ _ _ begun c.sync.ensures.time (c.sync.ensures.crash (c.write.ensures.told ∙ told-write))
 
 pub returns-in_ok-sync-clause-ready : goal.returns-in_ok-sync-clause-ready
 returns-in_ok-sync-clause-ready g c = λ told.
