@@ -1,6 +1,6 @@
 -- How puts end.
-use Rattle.std.proofs.Common.{◌≡◌, ◌↔◌, ℕ, ◌+◌, ◌^◌, ◌<◌, ◌≤◌, List, [], ◌∷◌, ◌++◌, length, take, get_or, Option, Bool, true, false, Ok, Err, refl, sym, ap, subst, ◌∙◌, inl, inr, arith, length-append}
-use Rattle.std.specs.Prelude.{IsTrue, IsErrOf}
+use Rattle.std.proofs.Common.{◌≡◌, ℕ, ◌+◌, ◌^◌, ◌<◌, List, [], ◌∷◌, ◌++◌, length, take, get_or, Option, Bool, true, false, Ok, Err, refl, sym, ap, subst, ◌∙◌, inl, inr, arith, length-append}
+use Rattle.std.specs.Prelude.{IsTrue}
 use Rattle.std.proofs.lemmas.Bool.{cases_lt}
 use Rattle.std.proofs.lemmas.List.{take_all}
 use Rattle.outside_io.specs.declared.volume.VolFile.TheVariants.{Bundle}
@@ -12,32 +12,15 @@ use Rattle.outside_io.proofs.StreamLemmas.Gives.{HoldsPrefix_join, Holds_join}
 use Rattle.bundle_store.specs.declared.tile_rec.TileRec.{TileRec}
 use Rattle.bundle_store.specs.Build.{EachFits, bytes_at, map_after}
 use Rattle.bundle_store.specs.Images.{EachImage, HoldsClosed, WithOrWithout}
-use Rattle.bundle_store.specs.Session.{IsReadyToPut, SessionState}
+use Rattle.bundle_store.specs.Session.{SessionState}
 use Rattle.bundle_store.specs.Tiles.{IsReadable, tiles}
 use Rattle.bundle_store.proofs.Standing.{still_good}
 use Rattle.bundle_lines.specs.declared.stop.PutStop.{PutStop}
 use Rattle.bundle_lines.specs.declared.stop.PutStop.TheVariants.{Output, Volume, Full}
-use Rattle.bundle_lines.specs.Ends.{PutEnd, PutGave, UnlessVolume}
 use Rattle.bundle_lines.specs.Lines.{put_line, put_lines}
-use Rattle.bundle_lines.specs.Puts.{AreMarks, EndsByRoom, HaveRoom, KeepsFullLength, PutsKeep, bundle_after_puts}
+use Rattle.bundle_lines.specs.Puts.{AreMarks, HaveRoom, PutsEnd, PutsKeep, bundle_after_puts}
 use Rattle.bundle_lines.specs.inside.Turns.{IsPut, PutsSoFar, PutsStand, Turns}
 use Rattle.bundle_lines.proofs.Stepping.{bytes_next, images_so, lines_next, marks_so, stand_next, stand_same}
-
--- where the volume tells its files
-pub record ToldEnd (end : PutEnd) (us : List TileRec) (marks : List ℕ) (s : SessionState) (old new : History) : Type 0 where
-  pub reads : UnlessVolume end (HoldsClosed (bundle_after_puts (contents Bundle old) (take (length marks) us)) (current new))
-  pub room : EndsByRoom end (contents Bundle old) us (length marks)
-  pub images : IsReadable (contents Bundle old) → PutsKeep (tiles (contents Bundle old)) us marks old new
-  pub tiles_are : IsReadable (contents Bundle old) → UnlessVolume end (EachImage (λ map. map ≡ map_after (tiles (contents Bundle old)) (take (length marks) us)) (current new))
-  pub later : old.moment ≤ new.moment
-  pub marks_are : AreMarks marks old.moment new.moment
-  pub ready : UnlessVolume end (IsReadyToPut s (current new))
-
-pub record EndsSo (end : PutEnd) (us : List TileRec) (marks : List ℕ) (s : SessionState) (told : Bool) (old new : History) (held_old held_new : Option (List ℕ)) : Type 0 where
-  pub gave : PutGave end us (length marks) held_old held_new
-  pub full : KeepsFullLength end us (length marks)
-  pub stops : (s.stopped ≡ true) ↔ IsErrOf end Volume
-  pub told_end : IsTrue told → ToldEnd end us marks s old new
 
 -- where an object has no failure to answer for, its count stays
 pub uncaused : (P : Type 0) (old new : ℕ) → (P → ⊥) → IsCause P old new → new ≡ old
@@ -73,12 +56,12 @@ no_stop s running stopped = cc
 
 -- all were put
 pub ended_well : (us : List TileRec) (k : ℕ) (marks : List ℕ) (s : SessionState) (told told_new : Bool) (old new : History) (held held_new : Option (List ℕ))
-    → PutsSoFar us k marks s told told_new old new held held_new → k ≡ length us → EndsSo (Ok tt) us marks s told old new held held_new
+    → PutsSoFar us k marks s told told_new old new held held_new → k ≡ length us → PutsEnd (Ok tt) us marks s told old new held held_new
 ended_well us k marks s told told_new old new held held_new so all = record {
   gave = (so.count ∙ all, subst (λ (xs : List TileRec). Holds held held_new (put_lines xs)) (take_all k us (omega (arith, all))) so.lines);
   full = tt;
   stops = (λ stopped. absurd (no_stop s so.running stopped), λ is. absurd (cc));
-  told_end = λ tells_. let stand = so.stands tells_ in record {
+  leaves = λ tells_. let stand = so.stands tells_ in record {
     reads = holds_by us k marks s old new stand so.count;
     room = room_by us k marks s old new stand so.count;
     images = stand.images;
@@ -114,7 +97,7 @@ module _ (us : List TileRec) (k : ℕ) (u : TileRec) (marks marks_new : List ℕ
   }
 
   -- its line was cut short
-  cut_short : Turns (Err Output) u.slot u.bytes s_new marks marks_new told_mid mid new held_mid held_new → EndsSo (Err Output) us marks_new s_new told old new held held_new
+  cut_short : Turns (Err Output) u.slot u.bytes s_new marks marks_new told_mid mid new held_mid held_new → PutsEnd (Err Output) us marks_new s_new told old new held held_new
   cut_short turned =
       let count : length marks_new ≡ k + 1 = count_put turned.1 in
       record {
@@ -126,7 +109,7 @@ module _ (us : List TileRec) (k : ℕ) (u : TileRec) (marks marks_new : List ℕ
         );
         full = tt;
         stops = (λ stopped. absurd (no_stop s_new turned.2.running stopped), λ e. absurd (cc));
-        told_end = λ yes_. let stand = stand_put turned.0 turned.1 turned.2 yes_ in record {
+        leaves = λ yes_. let stand = stand_put turned.0 turned.1 turned.2 yes_ in record {
           reads = holds_by us (k + 1) marks_new s_new old new stand count;
           room = room_by us (k + 1) marks_new s_new old new stand count;
           images = stand.images;
@@ -138,7 +121,7 @@ module _ (us : List TileRec) (k : ℕ) (u : TileRec) (marks marks_new : List ℕ
       }
 
   -- the volume failed
-  failed : Turns (Err Volume) u.slot u.bytes s_new marks marks_new told_mid mid new held_mid held_new → EndsSo (Err Volume) us marks_new s_new told old new held held_new
+  failed : Turns (Err Volume) u.slot u.bytes s_new marks marks_new told_mid mid new held_mid held_new → PutsEnd (Err Volume) us marks_new s_new told old new held held_new
   failed turned =
       let count : length marks_new ≡ k = ap length turned.0 ∙ so.count in
       record {
@@ -148,7 +131,7 @@ module _ (us : List TileRec) (k : ℕ) (u : TileRec) (marks marks_new : List ℕ
         );
         full = tt;
         stops = (λ stopped. refl, λ e. turned.2);
-        told_end = λ yes_.
+        leaves = λ yes_.
             let t : IsTrue told_mid = tells told told_mid so.told yes_ in
             let stand = so.stands yes_ in
             record {
@@ -163,7 +146,7 @@ module _ (us : List TileRec) (k : ℕ) (u : TileRec) (marks marks_new : List ℕ
       }
 
   -- there was no room
-  too_full : (len : ℕ) → Turns (Err (Full len)) u.slot u.bytes s_new marks marks_new told_mid mid new held_mid held_new → EndsSo (Err (Full len)) us marks_new s_new told old new held held_new
+  too_full : (len : ℕ) → Turns (Err (Full len)) u.slot u.bytes s_new marks marks_new told_mid mid new held_mid held_new → PutsEnd (Err (Full len)) us marks_new s_new told old new held held_new
   too_full len turned =
       let count : length marks_new ≡ k = ap length turned.0 ∙ so.count in
       let no_room : 2 ^ 40 < len + 4 + length (bytes_at us (length marks_new)) =
@@ -175,7 +158,7 @@ module _ (us : List TileRec) (k : ℕ) (u : TileRec) (marks marks_new : List ℕ
         );
         full = no_room;
         stops = (λ stopped. absurd (no_stop s_new turned.2.running stopped), λ e. absurd (cc));
-        told_end = λ yes_.
+        leaves = λ yes_.
             let t : IsTrue told_mid = tells told told_mid so.told yes_ in
             let before = so.stands yes_ in
             let stand : PutsStand us k marks_new s_new old new = subst (λ (x : List ℕ). PutsStand us k x s_new old new) (sym turned.0)
@@ -195,7 +178,7 @@ module _ (us : List TileRec) (k : ℕ) (u : TileRec) (marks marks_new : List ℕ
             };
       }
 
-  pub ended_by : (stop : PutStop) → Turns (Err stop) u.slot u.bytes s_new marks marks_new told_mid mid new held_mid held_new → EndsSo (Err stop) us marks_new s_new told old new held held_new
+  pub ended_by : (stop : PutStop) → Turns (Err stop) u.slot u.bytes s_new marks marks_new told_mid mid new held_mid held_new → PutsEnd (Err stop) us marks_new s_new told old new held held_new
   ended_by Output turned = cut_short turned
   ended_by Volume turned = failed turned
   ended_by (Full len) turned = too_full len turned

@@ -1,5 +1,6 @@
 -- What a crash leaves of a build of all updates, and its marks.
-use Rattle.std.proofs.Common.{◌≡◌, ℕ, ◌*◌, ◌<◌, ◌≤◌, List, [], ◌∷◌, length, replicate, take, slice_index, cond, Option, Bool, false, Err, IsTrue, refl, sym, ap, subst, ◌∙◌, inl, inr, arith, nat_le}
+use Rattle.std.proofs.Common.{◌≡◌, ◌↔◌, ◌⊎◌, ℕ, ◌*◌, ◌<◌, ◌≤◌, List, [], ◌∷◌, length, replicate, take, slice_index, cond, Option, Bool, false, Err, IsTrue, refl, sym, ap, subst, ◌∙◌, inl, inr, arith, nat_le}
+use Rattle.std.specs.Prelude.{IsErrOf}
 use Rattle.std.proofs.lemmas.Bool.{cases_lt}
 use Rattle.std.proofs.lemmas.Bool.Decides.{nat_tests}
 use Rattle.std.proofs.lemmas.List.{get_or-replicate, length-replicate, take_all}
@@ -10,17 +11,20 @@ use Rattle.outside_io.specs.volume.Disk.{Disk, IsQuiet, IsSettled}
 use Rattle.outside_io.specs.volume.History.{History, During, contents, current}
 use Rattle.outside_io.proofs.VolumeLemmas.Moments.{during_map_at, started_at}
 use Rattle.bundle_store.specs.declared.tile_rec.TileRec.{TileRec}
-use Rattle.bundle_store.specs.Build.{last_tiles, map_after}
+use Rattle.bundle_store.specs.declared.fault.StoreFault.{StoreFault}
+use Rattle.bundle_store.specs.declared.fault.StoreFault.TheVariants.{Device, BadBundle, BadJournal, NoTile, Beyond, TileTooLarge, EmptyTile, Full, NotEmpty as StoreNotEmpty, OutOfMemory as StoreMemory, Stopped}
+use Rattle.bundle_store.specs.Build.{EachFits, last_tiles, map_after}
+use Rattle.bundle_store.specs.Causes.{UnlessDevice}
 use Rattle.bundle_store.specs.Images.{EachImage, EmptyOr, HoldsClosed}
-use Rattle.bundle_store.specs.Session.{IsReadyToPut, SessionState}
+use Rattle.bundle_store.specs.Session.{BuildFails, IsReadyToPut, SessionState}
 use Rattle.bundle_store.specs.Tiles.{IsReadable, TileMap, tiles}
 use Rattle.bundle_store.proofs.Recovering.{tiles_empty}
 use Rattle.bundle_store.proofs.Standing.{still_good, weaker}
 use Rattle.bundle_lines.specs.declared.stop.BuildStop.{BuildStop}
 use Rattle.bundle_lines.specs.declared.stop.BuildStop.TheVariants.{Output, Volume, NotEmpty, OutOfMemory}
-use Rattle.bundle_lines.specs.Builds.{BuildEnd, BuildGave, BuildKeeps, BuildMarks, BuildReads, IsAllOrNone, KeepsSomeLength}
+use Rattle.bundle_lines.specs.Builds.{BuildEnd, BuildGave, BuildKeeps, BuildMarks, BuildReads, IsAllOrNone, KeepsSomeLength, OnBuildAnswer}
 use Rattle.bundle_lines.specs.Puts.{AreMarks, marked}
-use Rattle.bundle_lines.specs.inside.Raising.{IsRaised, Raises}
+use Rattle.bundle_lines.specs.inside.Raising.{IsRaised, Raises, build_stop_of}
 use Rattle.bundle_lines.proofs.Marked.{marked_none}
 
 -- ---- marks that are all one moment
@@ -133,6 +137,35 @@ builds_join start us marks old mid new are during kept = record {
     | inr after ↦ kept.each t after le
   ];
 }
+
+-- whatever the store answers, but Device, the session is ready for a put
+pub answers_ready : (fault : StoreFault) (P : Type 0) → UnlessDevice {X = Unit {0}} (Err fault) P → OnBuildAnswer (Err (build_stop_of fault)) P
+answers_ready Device P ready = tt
+answers_ready (BadBundle place found) P ready = tt
+answers_ready (BadJournal place found) P ready = tt
+answers_ready NoTile P ready = tt
+answers_ready (Beyond entry got) P ready = tt
+answers_ready (TileTooLarge at len) P ready = tt
+answers_ready (EmptyTile at) P ready = tt
+answers_ready (Full len) P ready = tt
+answers_ready (StoreNotEmpty len) P ready = ready
+answers_ready StoreMemory P ready = ready
+answers_ready Stopped P ready = tt
+
+-- a session that was running is stopped exactly where the stop is the volume's
+pub answers_stops : (us : List TileRec) (fault : StoreFault) (P Q : Type 0) → EachFits us → BuildFails us fault → (fault ≡ Stopped → ⊥) → (Q → ⊥)
+    → (P ↔ (Q ⊎ IsErrOf {T = Unit {0}} (Err fault) Device)) → P ↔ IsErrOf {T = Unit {0}} (Err (build_stop_of fault)) Volume
+answers_stops us Device P Q fit fails running other stops = (λ p. refl, λ is. stops.1 (inr refl))
+answers_stops us (BadBundle place found) P Q fit fails running other stops = absurd fails
+answers_stops us (BadJournal place found) P Q fit fails running other stops = absurd fails
+answers_stops us NoTile P Q fit fails running other stops = absurd fails
+answers_stops us (Beyond entry got) P Q fit fails running other stops = absurd fails
+answers_stops us (TileTooLarge at len) P Q fit fails running other stops = absurd (omega (arith, (fit at fails.within).1, fails.len_is, fails.large))
+answers_stops us (EmptyTile at) P Q fit fails running other stops = absurd (omega (arith, (fit at fails.within).0, fails.empty))
+answers_stops us (Full len) P Q fit fails running other stops = absurd fails
+answers_stops us (StoreNotEmpty len) P Q fit fails running other stops = (λ p. elim (stops.0 p) [ inl q ↦ absurd (other q) | inr is ↦ absurd (let bad : ⊥ = cc in bad) ], λ is. absurd (let bad : ⊥ = cc in bad))
+answers_stops us StoreMemory P Q fit fails running other stops = (λ p. elim (stops.0 p) [ inl q ↦ absurd (other q) | inr is ↦ absurd (let bad : ⊥ = cc in bad) ], λ is. absurd (let bad : ⊥ = cc in bad))
+answers_stops us Stopped P Q fit fails running other stops = absurd (running refl)
 
 -- ---- a build that the store refused
 

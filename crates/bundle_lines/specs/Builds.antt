@@ -50,6 +50,14 @@ OnNoBuild (Err (NotEmpty len)) P = P
 OnNoBuild (Err OutOfMemory) P = P
 OnNoBuild end P = Unit {0}
 
+-- unless the volume failed
+abbrev pub OnBuildAnswer : BuildEnd → Type 0 → Type 0
+OnBuildAnswer (Ok x) P = P
+OnBuildAnswer (Err Output) P = P
+OnBuildAnswer (Err Volume) P = Unit {0}
+OnBuildAnswer (Err (NotEmpty len)) P = P
+OnBuildAnswer (Err OutOfMemory) P = P
+
 -- the kept length is that of a bundle that is not empty, whatever the volume tells
 abbrev pub KeepsSomeLength : BuildEnd → Type 0
 KeepsSomeLength (Err (NotEmpty len)) = 0 < len

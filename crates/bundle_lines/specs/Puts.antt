@@ -1,15 +1,17 @@
--- Puts one after the other: what the bundle reads as, whether there is room, and what a crash
--- leaves at each moment, by the marks of those that were acknowledged.
-use Rattle.std.specs.Prelude.{◌≡◌, ℕ, ◌+◌, ◌^◌, ◌<◌, ◌≤◌, nat_le, List, [], ◌∷◌, length, take, slice_index, Ok, Err}
+-- Puts one after the other: what the bundle reads as, whether there is room, what a crash leaves at
+-- each moment, by the marks of those that were acknowledged, and how they end.
+use Rattle.std.specs.Prelude.{◌≡◌, ◌↔◌, ℕ, ◌+◌, ◌^◌, ◌<◌, ◌≤◌, nat_le, List, [], ◌∷◌, length, take, slice_index, Option, Bool, true, IsTrue, IsErrOf, Ok, Err}
 use Rattle.std.specs.List.{count_by}
-use Rattle.outside_io.specs.volume.History.{History, DuringAt}
+use Rattle.outside_io.specs.declared.volume.VolFile.TheVariants.{Bundle}
+use Rattle.outside_io.specs.volume.History.{History, DuringAt, contents, current}
 use Rattle.bundle_store.specs.declared.tile_rec.TileRec.{TileRec}
 use Rattle.bundle_store.specs.Appended.{bundle_after_put}
 use Rattle.bundle_store.specs.Build.{bytes_at, map_after}
-use Rattle.bundle_store.specs.Images.{EachImage}
-use Rattle.bundle_store.specs.Tiles.{TileMap}
+use Rattle.bundle_store.specs.Images.{EachImage, HoldsClosed}
+use Rattle.bundle_store.specs.Session.{IsReadyToPut, SessionState}
+use Rattle.bundle_store.specs.Tiles.{IsReadable, TileMap, tiles}
 use Rattle.bundle_lines.specs.declared.stop.PutStop.TheVariants.{Output, Volume, Full}
-use Rattle.bundle_lines.specs.Ends.{PutEnd}
+use Rattle.bundle_lines.specs.Ends.{PutEnd, PutGave, UnlessVolume}
 
 -- ---- the bundle
 
@@ -75,3 +77,29 @@ pub record IsAfterSome (start : TileMap) (updates : List TileRec) (marks : List 
 abbrev pub PutsKeep : TileMap → List TileRec → List ℕ → History → History → Type 0
 PutsKeep start updates marks old new =
     DuringAt (λ t d. EachImage (IsAfterSome start updates marks t) d) old new
+
+-- ---- the end
+
+-- What a volume that tells its files has behind the puts, each of which has a mark: unless the volume
+-- failed, nothing is pending, the journal is not open, and the session may put again.
+pub record PutsLeave (end : PutEnd) (updates : List TileRec) (marks : List ℕ) (s : SessionState)
+    (old new : History) : Type 0 where
+  pub reads : UnlessVolume end (HoldsClosed
+      (bundle_after_puts (contents Bundle old) (take (length marks) updates)) (current new))
+  pub room : EndsByRoom end (contents Bundle old) updates (length marks)
+  pub images : IsReadable (contents Bundle old)
+      → PutsKeep (tiles (contents Bundle old)) updates marks old new
+  pub tiles_are : IsReadable (contents Bundle old) → UnlessVolume end (EachImage
+      (λ map. map ≡ map_after (tiles (contents Bundle old)) (take (length marks) updates))
+      (current new))
+  pub later : old.moment ≤ new.moment
+  pub marks_are : AreMarks marks old.moment new.moment
+  pub ready : UnlessVolume end (IsReadyToPut s (current new))
+
+-- How puts end, and what they leave. The session is stopped exactly where the volume failed.
+pub record PutsEnd (end : PutEnd) (updates : List TileRec) (marks : List ℕ) (s : SessionState)
+    (told : Bool) (old new : History) (held_old held_new : Option (List ℕ)) : Type 0 where
+  pub gave : PutGave end updates (length marks) held_old held_new
+  pub full : KeepsFullLength end updates (length marks)
+  pub stops : (s.stopped ≡ true) ↔ IsErrOf end Volume
+  pub leaves : IsTrue told → PutsLeave end updates marks s old new

@@ -1,11 +1,11 @@
-ghost use Rattle.std.specs.Prelude.{◌≡◌, ◌+◌, ◌<◌, ◌≤◌, false, [], length, replicate, IsTrue, Err};
+ghost use Rattle.std.specs.Prelude.{◌≡◌, ◌↔◌, ◌+◌, ◌<◌, ◌≤◌, false, true, [], length, replicate, IsTrue, IsErrOf, Err};
 ghost use Rattle.outside_io.specs.declared.volume.VolFile.TheVariants.{Bundle};
 ghost use Rattle.outside_io.specs.streams.Faults.{IsCause};
 ghost use Rattle.outside_io.specs.volume.History.{During, contents, current};
 ghost use Rattle.bundle_store.specs.Build.{EachFits};
 ghost use Rattle.bundle_store.specs.Session.{IsReadyToPut};
 ghost use Rattle.bundle_store.specs.Tiles.{IsReadable, tiles};
-ghost use Rattle.bundle_lines.specs.Builds.{BuildGave, BuildKeeps, BuildMarks, BuildReads, KeepsSomeLength, OnNoBuild};
+ghost use Rattle.bundle_lines.specs.Builds.{BuildGave, BuildKeeps, BuildMarks, BuildReads, KeepsSomeLength, OnBuildAnswer, OnNoBuild};
 ghost use Rattle.bundle_lines.specs.inside.Raising.{Raises, build_stop_of};
 
 use crate::lines::give_built;
@@ -42,6 +42,9 @@ fn raise<V: Volume>(
         (V.history vol.old) (V.history vol.new) }
     ensures kept { IsTrue (V.told vol.old) → OnNoBuild result
         (During (λ d. d ≡ current (V.history vol.old)) (V.history vol.old) (V.history vol.new)) }
+    ensures ready { IsTrue (V.told vol.old) → OnBuildAnswer result
+        (IsReadyToPut session.new (current (V.history vol.new))) }
+    ensures stops { session.new.stopped ≡ true ↔ IsErrOf result BuildStop.Volume }
     ensures later { IsTrue (V.told vol.old) →
         (V.history vol.old).moment ≤ (V.history vol.new).moment }
     ensures told { V.told vol.new ≡ V.told vol.old }
@@ -93,6 +96,9 @@ pub fn build_all<V: Volume, K: Sink>(
         (V.history vol.old) (V.history vol.new) }
     ensures kept { IsTrue (V.told vol.old) → OnNoBuild result
         (During (λ d. d ≡ current (V.history vol.old)) (V.history vol.old) (V.history vol.new)) }
+    ensures ready { IsTrue (V.told vol.old) → OnBuildAnswer result
+        (IsReadyToPut session.new (current (V.history vol.new))) }
+    ensures stops { session.new.stopped ≡ true ↔ IsErrOf result BuildStop.Volume }
     ensures later { IsTrue (V.told vol.old) →
         (V.history vol.old).moment ≤ (V.history vol.new).moment }
     ensures told { V.told vol.new ≡ V.told vol.old }

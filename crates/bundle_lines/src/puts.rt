@@ -1,13 +1,12 @@
-ghost use Rattle.std.specs.Prelude.{◌≡◌, ◌↔◌, ◌+◌, ◌<◌, ◌≤◌, false, true, [], length, take, IsTrue, IsErrOf, Err};
+ghost use Rattle.std.specs.Prelude.{◌≡◌, ◌+◌, ◌<◌, ◌≤◌, false, [], length, IsTrue, Err};
 ghost use Rattle.outside_io.specs.declared.volume.VolFile.TheVariants.{Bundle};
 ghost use Rattle.outside_io.specs.streams.Faults.{IsCause};
 ghost use Rattle.outside_io.specs.volume.History.{During, contents, current};
-ghost use Rattle.bundle_store.specs.Build.{EachFits, map_after};
-ghost use Rattle.bundle_store.specs.Images.{EachImage, HoldsClosed, WithOrWithout};
+ghost use Rattle.bundle_store.specs.Build.{EachFits};
+ghost use Rattle.bundle_store.specs.Images.{EachImage, WithOrWithout};
 ghost use Rattle.bundle_store.specs.Session.{IsReadyToPut};
 ghost use Rattle.bundle_store.specs.Tiles.{IsReadable, tiles};
-ghost use Rattle.bundle_lines.specs.Ends.{PutGave, UnlessVolume};
-ghost use Rattle.bundle_lines.specs.Puts.{AreMarks, EndsByRoom, KeepsFullLength, PutsKeep, bundle_after_puts};
+ghost use Rattle.bundle_lines.specs.Puts.{PutsEnd};
 ghost use Rattle.bundle_lines.specs.inside.Turns.{Commits, Turns, stop_of};
 
 use crate::lines::give_put;
@@ -104,28 +103,8 @@ pub fn put_all<V: Volume, K: Sink>(
     requires room { length updates.now ≤ marks.old.spare }
     requires ready { IsTrue (V.told vol.old) →
         IsReadyToPut session.old (current (V.history vol.old)) }
-    ensures gave { PutGave result updates.now (length marks.new.marks) (K.held out.old)
-        (K.held out.new) }
-    ensures reads { IsTrue (V.told vol.old) → UnlessVolume result
-        (HoldsClosed (bundle_after_puts (contents Bundle (V.history vol.old))
-        (take (length marks.new.marks) updates.now)) (current (V.history vol.new))) }
-    ensures room { IsTrue (V.told vol.old) → EndsByRoom result (contents Bundle
-        (V.history vol.old)) updates.now (length marks.new.marks) }
-    ensures full { KeepsFullLength result updates.now (length marks.new.marks) }
-    ensures images { IsTrue (V.told vol.old) → IsReadable (contents Bundle (V.history vol.old)) →
-        PutsKeep (tiles (contents Bundle (V.history vol.old))) updates.now marks.new.marks
-        (V.history vol.old) (V.history vol.new) }
-    ensures tiles { IsTrue (V.told vol.old) → IsReadable (contents Bundle (V.history vol.old)) →
-        UnlessVolume result (EachImage (λ map. map ≡ map_after (tiles (contents Bundle
-        (V.history vol.old))) (take (length marks.new.marks) updates.now))
-        (current (V.history vol.new))) }
-    ensures marks { IsTrue (V.told vol.old) → AreMarks marks.new.marks (V.history vol.old).moment
-        (V.history vol.new).moment }
-    ensures later { IsTrue (V.told vol.old) →
-        (V.history vol.old).moment ≤ (V.history vol.new).moment }
-    ensures ready { IsTrue (V.told vol.old) → UnlessVolume result
-        (IsReadyToPut session.new (current (V.history vol.new))) }
-    ensures stops { session.new.stopped ≡ true ↔ IsErrOf result PutStop.Volume }
+    ensures ended { PutsEnd result updates.now marks.new.marks session.new (V.told vol.old)
+        (V.history vol.old) (V.history vol.new) (K.held out.old) (K.held out.new) }
     ensures told { V.told vol.new ≡ V.told vol.old }
     ensures output_failed { IsCause (result ≡ Err PutStop.Output) (K.faults out.old)
         (K.faults out.new) }

@@ -5,7 +5,7 @@ ghost use Rattle.std.specs.Prelude.{◌<◌};
 use crate::build_tests::{LISTED, build_two};
 use crate::put_tests::put_tens;
 use crate::same::same;
-use crate::volumes::{ENTRY, LAST, empty, gives, gives_at, with_entry, with_one};
+use crate::volumes::{ENTRY, LAST, empty, gives, gives_at, over, with_entry, with_one};
 use outside_io::{MemVolume, Pick, Volume};
 use std::process::Abort;
 use worked_examples::{BLOB, STEPS};
@@ -120,6 +120,38 @@ fn a_crash_within_a_recovery_is_recovered_again(rt: HostRuntime) {
     for moment in 19..23 {
         is_recovered_again(&rt, &vol, moment, Pick::Oldest);
         is_recovered_again(&rt, &vol, moment, Pick::Torn(255));
+    }
+}
+
+/// The last slot has the tile that was put first, or the one that was put over it.
+fn gives_either(rt: &(impl Abort + AllocGlobal), vol: &mut MemVolume) {
+    let left = over(rt, vol, &LAST);
+    same(rt, "the status", left.status, 0);
+    let tile = left.out.held();
+    assert!(rt; tile == BLOB.as_slice() || tile == STEPS.as_slice());
+}
+
+/// A put over this image of the moment is cut off at each of its own moments.
+fn is_cut_off_again(rt: &(impl Abort + AllocGlobal), vol: &MemVolume, moment: u64, pick: Pick) {
+    let mut crashed = image(rt, vol, moment, pick);
+    put_tens(rt, &mut crashed);
+    for next in 0..crashed.moment() {
+        gives_either(rt, &mut image(rt, &crashed, next, pick));
+    }
+    gives(
+        rt,
+        &mut image(rt, &crashed, crashed.moment(), pick),
+        &LAST,
+        &STEPS,
+    );
+}
+
+#[test]
+fn a_put_behind_a_crash_of_a_put_is_cut_off_again(rt: HostRuntime) {
+    let vol = put_over(&rt);
+    for moment in 0..25 {
+        is_cut_off_again(&rt, &vol, moment, Pick::Oldest);
+        is_cut_off_again(&rt, &vol, moment, Pick::Torn(255));
     }
 }
 

@@ -1,5 +1,5 @@
 -- One answer of `build`.
-use Rattle.std.proofs.Common.{◌≡◌, inl, inr, ℕ, ◌<◌, List, [], length, Ok, Err, refl, sym, ◌∙◌, ap, arith}
+use Rattle.std.proofs.Common.{◌≡◌, inl, inr, ℕ, List, [], length, Err, refl, sym, ◌∙◌, ap, arith}
 use Rattle.lerc_header.specs.declared.header.Version.{Version}
 use Rattle.lerc_header.specs.Written.{step_of}
 use Rattle.bundle_lines.specs.Builds.{built_line_of}
@@ -8,9 +8,9 @@ use Rattle.lerc_cli.specs.declared.command.Command.TheVariants.{Build}
 use Rattle.lerc_cli.specs.declared.stop.Refusal.{Refusal}
 use Rattle.lerc_cli.specs.declared.stop.Refusal.TheVariants.{NotEmpty}
 use Rattle.lerc_cli.specs.declared.stop.Stop.{Stop}
-use Rattle.lerc_cli.specs.declared.stop.Stop.TheVariants.{Usage, Refused, Source, Output, Volume, OutOfMemory, Store}
-use Rattle.lerc_cli.specs.Answer.{Ends, Files, IsAnswer, IsOutput, IsRefusal, stream_stop_of}
-use Rattle.lerc_cli.specs.Stop.{End}
+use Rattle.lerc_cli.specs.declared.stop.Stop.TheVariants.{Refused, Store}
+use Rattle.lerc_cli.specs.Answer.{Files, IsOutput, IsRefusal, stream_stop_of}
+use Rattle.lerc_cli.proofs.Answered.{Once, refused, store, well}
 use Rattle.lerc_cli.proofs.OneBundle.{both, one_opening, recovered_or_opening}
 use Rattle.lerc_cli.proofs.PutOnce.{IsOwn, all_told, own_bytes, own_refused, own_store}
 
@@ -49,39 +49,18 @@ build_or_refusal v e w bytes f n m output stop own (us, (of, all, empty, is)) (n
 
 -- ---- one output
 
-pub build_once : (v : Version) (e w : ℕ) (bytes : List ℕ) (f : Files) (n m : ℕ) (end other : End) (output another : List ℕ) → IsAnswer end → IsAnswer other
-    → Ends (Build v e w) (all_told bytes f) n end output → Ends (Build v e w) (all_told bytes f) m other another → (end ≡ other) × (output ≡ another)
-build_once v e w bytes f n m (Ok x) (Ok y) output another _ _ a b =
+pub build_once : (v : Version) (e w : ℕ) (bytes : List ℕ) (f : Files) → Once (Build v e w) (all_told bytes f)
+build_once v e w bytes f n m well well output another a b =
     (refl, a.1.3 ∙ ap built_line_of (updates_once v (step_of e) bytes a.0 b.0 a.1.0 b.1.0) ∙ sym b.1.3)
-build_once v e w bytes f n m (Ok x) (Err (Refused s)) output another _ _ a b = absurd (build_or_refusal v e w bytes f n m output (Refused s) (own_refused s) a b.0)
-build_once v e w bytes f n m (Ok x) (Err (Store s)) output another _ _ a b = absurd (build_or_refusal v e w bytes f n m output (Store s) (own_store s) a b.0)
-build_once v e w bytes f n m (Err (Refused r)) (Ok y) output another _ _ a b = absurd (build_or_refusal v e w bytes f m n another (Refused r) (own_refused r) b a.0)
-build_once v e w bytes f n m (Err (Store r)) (Ok y) output another _ _ a b = absurd (build_or_refusal v e w bytes f m n another (Store r) (own_store r) b a.0)
-build_once v e w bytes f n m (Err (Refused r)) (Err (Refused s)) output another _ _ a b =
+build_once v e w bytes f n m well (refused s) output another a b = absurd (build_or_refusal v e w bytes f n m output (Refused s) (own_refused s) a b.0)
+build_once v e w bytes f n m well (store s) output another a b = absurd (build_or_refusal v e w bytes f n m output (Store s) (own_store s) a b.0)
+build_once v e w bytes f n m (refused r) well output another a b = absurd (build_or_refusal v e w bytes f m n another (Refused r) (own_refused r) b a.0)
+build_once v e w bytes f n m (store r) well output another a b = absurd (build_or_refusal v e w bytes f m n another (Store r) (own_store r) b a.0)
+build_once v e w bytes f n m (refused r) (refused s) output another a b =
     let same = one_build_refusal v e w bytes f n m (Refused r) (Refused s) (own_refused r) (own_refused s) a.0 b.0 in (ap (λ (x : Stop). Err x) same, a.1 ∙ sym b.1)
-build_once v e w bytes f n m (Err (Refused r)) (Err (Store s)) output another _ _ a b =
+build_once v e w bytes f n m (refused r) (store s) output another a b =
     absurd (let same = one_build_refusal v e w bytes f n m (Refused r) (Store s) (own_refused r) (own_store s) a.0 b.0 in cc)
-build_once v e w bytes f n m (Err (Store r)) (Err (Refused s)) output another _ _ a b =
+build_once v e w bytes f n m (store r) (refused s) output another a b =
     absurd (let same = one_build_refusal v e w bytes f n m (Store r) (Refused s) (own_store r) (own_refused s) a.0 b.0 in cc)
-build_once v e w bytes f n m (Err (Store r)) (Err (Store s)) output another _ _ a b =
+build_once v e w bytes f n m (store r) (store s) output another a b =
     let same = one_build_refusal v e w bytes f n m (Store r) (Store s) (own_store r) (own_store s) a.0 b.0 in (ap (λ (x : Stop). Err x) same, a.1.1 ∙ sym b.1.1)
-build_once v e w bytes f n m (Err Usage) other output another answer _ a b = absurd answer
-build_once v e w bytes f n m (Err Source) other output another answer _ a b = absurd answer
-build_once v e w bytes f n m (Err Output) other output another answer _ a b = absurd answer
-build_once v e w bytes f n m (Err Volume) other output another answer _ a b = absurd answer
-build_once v e w bytes f n m (Err OutOfMemory) other output another answer _ a b = absurd answer
-build_once v e w bytes f n m (Ok x) (Err Usage) output another _ answer a b = absurd answer
-build_once v e w bytes f n m (Ok x) (Err Source) output another _ answer a b = absurd answer
-build_once v e w bytes f n m (Ok x) (Err Output) output another _ answer a b = absurd answer
-build_once v e w bytes f n m (Ok x) (Err Volume) output another _ answer a b = absurd answer
-build_once v e w bytes f n m (Ok x) (Err OutOfMemory) output another _ answer a b = absurd answer
-build_once v e w bytes f n m (Err (Refused r)) (Err Usage) output another _ answer a b = absurd answer
-build_once v e w bytes f n m (Err (Refused r)) (Err Source) output another _ answer a b = absurd answer
-build_once v e w bytes f n m (Err (Refused r)) (Err Output) output another _ answer a b = absurd answer
-build_once v e w bytes f n m (Err (Refused r)) (Err Volume) output another _ answer a b = absurd answer
-build_once v e w bytes f n m (Err (Refused r)) (Err OutOfMemory) output another _ answer a b = absurd answer
-build_once v e w bytes f n m (Err (Store r)) (Err Usage) output another _ answer a b = absurd answer
-build_once v e w bytes f n m (Err (Store r)) (Err Source) output another _ answer a b = absurd answer
-build_once v e w bytes f n m (Err (Store r)) (Err Output) output another _ answer a b = absurd answer
-build_once v e w bytes f n m (Err (Store r)) (Err Volume) output another _ answer a b = absurd answer
-build_once v e w bytes f n m (Err (Store r)) (Err OutOfMemory) output another _ answer a b = absurd answer

@@ -1,7 +1,6 @@
 -- What a run of `build` leaves, by how it ends.
-use Rattle.std.proofs.Common.{◌≡◌, ◌⊎◌, inl, inr, ℕ, ◌<◌, ◌≤◌, List, [], length, replicate, take, Bool, Option, Result, Ok, Err, refl, sym, ◌∙◌, ap, subst, rules, arith}
+use Rattle.std.proofs.Common.{◌≡◌, ◌⊎◌, inl, inr, ℕ, ◌≤◌, List, [], length, replicate, take, Bool, Option, Ok, Err, refl, sym, ◌∙◌, ap, subst, rules, arith}
 use Rattle.std.specs.Prelude.{IsFalse, IsTrue}
-use Rattle.std.proofs.lemmas.Bool.{cases_lt}
 use Rattle.std.proofs.lemmas.List.{length-replicate, take_all}
 use Rattle.outside_io.specs.declared.volume.VolFile.TheVariants.{Bundle, Journal}
 use Rattle.outside_io.specs.streams.Faults.{IsCause}
@@ -12,29 +11,30 @@ use Rattle.lerc_header.specs.Written.{step_of}
 use Rattle.bundle_store.specs.declared.tile_rec.TileRec.{TileRec}
 use Rattle.bundle_store.specs.Build.{last_tiles}
 use Rattle.bundle_store.specs.Layout.{layout}
-use Rattle.bundle_store.specs.Session.{SessionState}
+use Rattle.bundle_store.specs.Session.{IsReadyToPut, SessionState}
 use Rattle.bundle_store.specs.Tiles.{IsReadable, TileMap, tiles}
 use Rattle.bundle_lines.specs.declared.stop.BuildStop.TheVariants.{Output as BuildOutput, Volume as BuildVolume, NotEmpty as BuildNotEmpty, OutOfMemory as BuildMemory}
-use Rattle.bundle_lines.specs.Builds.{BuildEnd, BuildGave, BuildKeeps, BuildMarks, BuildReads, KeepsSomeLength, OnNoBuild, built_line_of}
+use Rattle.bundle_lines.specs.Builds.{BuildEnd, BuildGave, BuildKeeps, BuildMarks, BuildReads, KeepsSomeLength, OnBuildAnswer, OnNoBuild, built_line_of}
 use Rattle.bundle_lines.specs.Puts.{AreMarks}
 use Rattle.bundle_lines.proofs.Marked.{no_marks}
 use Rattle.bundle_lines.proofs.Raised.{builds_join, equal_marks}
 use Rattle.tile_updates.specs.declared.stop.StreamStop.{StreamStop}
 use Rattle.tile_updates.specs.declared.stop.StreamStop.TheVariants.{TooManyTiles as ManyTiles, Fault as TileFaultOf, DepthNeedsV4 as DeepTile, TileTooLarge as LargeTile, KeptTooMuch as MuchKept, Source as StreamSource, OutOfMemory as StreamMemory}
 use Rattle.lerc_cli.specs.declared.command.Command.TheVariants.{Build}
-use Rattle.lerc_cli.specs.declared.stop.Refusal.{Refusal}
-use Rattle.lerc_cli.specs.declared.stop.Refusal.TheVariants.{NoTile, Beyond, BadBundle, BadJournal, NotEmpty, TileTooLarge, Full, TooManyTiles, KeptTooMuch}
+use Rattle.lerc_cli.specs.declared.stop.Refusal.TheVariants.{NotEmpty, TileTooLarge, TooManyTiles, KeptTooMuch}
 use Rattle.lerc_cli.specs.declared.stop.Stop.{Stop}
 use Rattle.lerc_cli.specs.declared.stop.Stop.TheVariants.{Usage, Refused, Source, Output, Volume, OutOfMemory, Store}
 use Rattle.lerc_cli.specs.Answer.{Ends, Given, IsNoUpdates, UpdatesOf, stream_stop_of}
 use Rattle.lerc_cli.specs.Run.{OfOutput, OfVolume, files_of, given}
 use Rattle.lerc_cli.specs.Stop.{End}
-use Rattle.lerc_cli.specs.Tiles.{IsReady, OfReading, UpdatesAt, has_updates, is_early}
+use Rattle.lerc_cli.specs.Tiles.{IsReady, IsShut, OfReading, UpdatesAt, has_updates, is_early}
 use Rattle.lerc_cli.specs.inside.Opening.{IsOpened, OpeningStops}
 use Rattle.lerc_cli.specs.inside.Updates.{build_end_of}
 use Rattle.lerc_cli.proofs.BundleOpening.{of_bundle, reads_on}
 use Rattle.lerc_cli.proofs.Idle.{clash, keeps_unbuilt, stays, untouched}
 use Rattle.lerc_cli.proofs.Outputs.{stopped}
+use Rattle.lerc_cli.proofs.Resting.{shut_ready}
+use Rattle.lerc_cli.proofs.Unopened.{refused_volume}
 use Rattle.lerc_cli.proofs.PutRuns.{closed_map, earlier_marks, joined_cause, not_output}
 
 -- ---- the input has no updates, or memory was refused before the volume was called
@@ -96,6 +96,7 @@ memory_volume v e w g same told h f is = record {
   marks_are = λ tells. no_marks h.moment h.moment;
   marks_at = refl;
   reads = λ tells late. inl is;
+  rests = λ tells late. inl is;
   tiles = λ start ready. ([], (none_at v e w g OutOfMemory refl, keeps_unbuilt [] start h h (stays start told h ready)));
 }
 
@@ -129,25 +130,10 @@ pub unopened_output : (v : Version) (e w : ℕ) (g : Given) (us : List TileRec) 
 unopened_output v e w g us K held faults out out_new stop same of stops =
     stopped (Build v e w) g K held faults out out_new stop (unopened_ends v e w g us stop of stops) same (not_output g.files stop stops)
 
--- recovery or opening was refused, or the bundle is not empty
-refused_volume : (v : Version) (e w : ℕ) (g : Given) (r : Refusal) (same : Type 0) (told told_new : Bool) (h h_new : History) (f f_new : ℕ) → IsFalse (has_updates (Err (Store r))) → (IsTrue (is_early (Build v e w) (Err (Store r))) → ⊥)
-    → OfReading (Store r ≡ Volume) told told_new h h_new f f_new → OfVolume (Build v e w) g (Err (Store r)) same [] told told_new h h_new f f_new
-refused_volume v e w g r same told told_new h h_new f f_new none late so = record {
-  cause = record { counts = so.cause.counts; failed = λ is. absurd (let bad : ⊥ = cc in bad); rose = λ rose. absurd (let is : Store r ≡ Volume = so.cause.rose rose in let bad : ⊥ = cc in bad) };
-  told = so.told;
-  later = λ t none. so.later t;
-  idle = λ early. absurd (late early);
-  unmarked = λ is. absurd (let bad : ⊥ = cc in bad);
-  marks_are = λ t. no_marks h.moment h_new.moment;
-  marks_at = refl;
-  reads = λ t _. ([], (none_at v e w g (Store r) none, (contents Bundle h_new, (so.reads t (λ is. let bad : ⊥ = cc in bad), refl))));
-  tiles = λ start ready. ([], (none_at v e w g (Store r) none, keeps_unbuilt [] start h h_new (so.tiles start ready)));
-}
-
 -- memory was refused behind a recovery
 late_memory : (v : Version) (e w : ℕ) (g : Given) (same : Type 0) (told told_new : Bool) (h h_new : History) (f f_new : ℕ)
-    → OfReading (OutOfMemory ≡ Volume) told told_new h h_new f f_new → OfVolume (Build v e w) g (Err OutOfMemory) same [] told told_new h h_new f f_new
-late_memory v e w g same told told_new h h_new f f_new so = record {
+    → OfReading (OutOfMemory ≡ Volume) told told_new h h_new f f_new → (IsTrue told → IsShut (current h_new)) → OfVolume (Build v e w) g (Err OutOfMemory) same [] told told_new h h_new f f_new
+late_memory v e w g same told told_new h h_new f f_new so shut = record {
   cause = record { counts = so.cause.counts; failed = λ is. absurd (let bad : ⊥ = cc in bad); rose = λ rose. absurd (let is : OutOfMemory ≡ Volume = so.cause.rose rose in let bad : ⊥ = cc in bad) };
   told = so.told;
   later = λ t none. so.later t;
@@ -156,40 +142,13 @@ late_memory v e w g same told told_new h h_new f f_new so = record {
   marks_are = λ t. no_marks h.moment h_new.moment;
   marks_at = refl;
   reads = λ t _. inr ([], (none_at v e w g OutOfMemory refl, (contents Bundle h_new, (so.reads t (λ is. let bad : ⊥ = cc in bad), refl))));
+  rests = λ t _. inr (shut t);
   tiles = λ start ready. ([], (none_at v e w g OutOfMemory refl, keeps_unbuilt [] start h h_new (so.tiles start ready)));
 }
 
 -- all updates may be done where the volume failed
 volume_at : (v : Version) (e w : ℕ) (g : Given) (us : List TileRec) → UpdatesOf (Build v e w) g us → UpdatesAt (Build v e w) g (Err Volume) us
 volume_at v e w g us of = record { some = λ _. of; none = λ is. absurd (let bad : ⊥ = cc in bad) }
-
-pub unopened_volume : (v : Version) (e w : ℕ) (g : Given) (us : List TileRec) (stop : Stop) (same : Type 0) (told told_new : Bool) (h h_new : History) (f f_new : ℕ)
-    → UpdatesOf (Build v e w) g us → OpeningStops g.files stop → OfReading (stop ≡ Volume) told told_new h h_new f f_new → OfVolume (Build v e w) g (Err stop) same [] told told_new h h_new f f_new
-unopened_volume v e w g us Usage same told told_new h h_new f f_new of stops so = absurd stops
-unopened_volume v e w g us (Refused r) same told told_new h h_new f f_new of stops so = absurd stops
-unopened_volume v e w g us Source same told told_new h h_new f f_new of stops so = absurd stops
-unopened_volume v e w g us Output same told told_new h h_new f f_new of stops so = absurd stops
-unopened_volume v e w g us OutOfMemory same told told_new h h_new f f_new of stops so = absurd stops
-unopened_volume v e w g us Volume same told told_new h h_new f f_new of stops so = record {
-  cause = record { counts = so.cause.counts; failed = λ _. so.cause.failed refl; rose = λ rose. refl };
-  told = so.told;
-  later = λ t none. so.later t;
-  idle = λ early. absurd (let bad : ⊥ = cc in bad);
-  unmarked = λ is. absurd (let bad : ⊥ = cc in bad);
-  marks_are = λ t. no_marks h.moment h_new.moment;
-  marks_at = refl;
-  reads = λ t late. tt;
-  tiles = λ start ready. (us, (volume_at v e w g us of, keeps_unbuilt us start h h_new (so.tiles start ready)));
-}
-unopened_volume v e w g us (Store (BadBundle p x)) same told told_new h h_new f f_new of stops so = refused_volume v e w g (BadBundle p x) same told told_new h h_new f f_new refl (λ early. let bad : ⊥ = cc in bad) so
-unopened_volume v e w g us (Store (BadJournal p x)) same told told_new h h_new f f_new of stops so = refused_volume v e w g (BadJournal p x) same told told_new h h_new f f_new refl (λ early. let bad : ⊥ = cc in bad) so
-unopened_volume v e w g us (Store (NoTile at)) same told told_new h h_new f f_new of stops so = absurd stops
-unopened_volume v e w g us (Store (Beyond at entry got)) same told told_new h h_new f f_new of stops so = absurd stops
-unopened_volume v e w g us (Store (NotEmpty len)) same told told_new h h_new f f_new of stops so = absurd stops
-unopened_volume v e w g us (Store (TileTooLarge at len)) same told told_new h h_new f f_new of stops so = absurd stops
-unopened_volume v e w g us (Store (Full len)) same told told_new h h_new f f_new of stops so = absurd stops
-unopened_volume v e w g us (Store TooManyTiles) same told told_new h h_new f f_new of stops so = absurd stops
-unopened_volume v e w g us (Store (KeptTooMuch at)) same told told_new h h_new f f_new of stops so = absurd stops
 
 -- ---- the bundle was built, or was not
 
@@ -288,8 +247,8 @@ module _ (v : Version) (e w : ℕ) (g : Given) (failed : Type 0) (told told_mid 
 
   pub build_all_volume : (marks : List ℕ) (r : BuildEnd) → BuildMarks r us marks h_new.moment → (IsTrue told_mid → BuildReads r us (contents Bundle h_mid) (contents Bundle h_new))
       → (IsTrue told_mid → IsReadable (contents Bundle h_mid) → BuildKeeps (tiles (contents Bundle h_mid)) us marks h_mid h_new)
-      → (IsTrue told_mid → OnNoBuild r (During (λ d. d ≡ current h_mid) h_mid h_new)) → IsCause (r ≡ Err BuildVolume) f_mid f_new → Leaves marks r
-  build_all_volume marks (Ok x) is reads images kept cause = record {
+      → (IsTrue told_mid → OnNoBuild r (During (λ d. d ≡ current h_mid) h_mid h_new)) → (s_new : SessionState) → (IsTrue told_mid → OnBuildAnswer r (IsReadyToPut s_new (current h_new))) → IsCause (r ≡ Err BuildVolume) f_mid f_new → Leaves marks r
+  build_all_volume marks (Ok x) is reads images kept s_new ready cause = record {
     cause = joined_cause failed (◌≡◌ {A = End} (Ok tt) (Err Volume)) f f_mid f_new well so.cause (build_volume (Ok x) f_mid f_new cause);
     told = tells ∙ so.told;
     later = λ t none. absurd (let bad : ⊥ = cc in bad);
@@ -304,9 +263,10 @@ module _ (v : Version) (e w : ℕ) (g : Given) (failed : Type 0) (told told_mid 
         (contents Bundle h_mid, (inl ((opened t).done, (opened t).leaves), layout_after marks (is, λ m. (reads m).1) t)),
       ),
     );
+    rests = λ t _. shut_ready s_new (current h_new) (ready (so.told ∙ t));
     tiles = λ start ready. (us, (record { some = λ _. of; none = λ bad. absurd (let no : ⊥ = cc in no) }, built_tiles marks images (marks_after marks is ready.tells) start ready));
   }
-  build_all_volume marks (Err BuildOutput) is reads images kept cause = record {
+  build_all_volume marks (Err BuildOutput) is reads images kept s_new ready cause = record {
     cause = joined_cause failed (◌≡◌ {A = End} (Err Output) (Err Volume)) f f_mid f_new well so.cause (build_volume (Err BuildOutput) f_mid f_new cause);
     told = tells ∙ so.told;
     later = λ t none. absurd (let bad : ⊥ = cc in bad);
@@ -321,9 +281,10 @@ module _ (v : Version) (e w : ℕ) (g : Given) (failed : Type 0) (told told_mid 
         (contents Bundle h_mid, (inl ((opened t).done, (opened t).leaves), layout_after marks (is, λ m. (reads m).1) t)),
       ),
     );
+    rests = λ t _. shut_ready s_new (current h_new) (ready (so.told ∙ t));
     tiles = λ start ready. (us, (record { some = λ _. of; none = λ bad. absurd (let no : ⊥ = cc in no) }, built_tiles marks images (marks_after marks is ready.tells) start ready));
   }
-  build_all_volume marks (Err BuildVolume) is reads images kept cause = record {
+  build_all_volume marks (Err BuildVolume) is reads images kept s_new ready cause = record {
     cause = joined_cause failed (◌≡◌ {A = End} (Err Volume) (Err Volume)) f f_mid f_new well so.cause (build_volume (Err BuildVolume) f_mid f_new cause);
     told = tells ∙ so.told;
     later = λ t none. absurd (let bad : ⊥ = cc in bad);
@@ -332,12 +293,14 @@ module _ (v : Version) (e w : ℕ) (g : Given) (failed : Type 0) (told told_mid 
     marks_are = λ t. subst (λ (m : List ℕ). AreMarks m h.moment h_new.moment) (sym is) (no_marks h.moment h_new.moment);
     marks_at = subst (λ (m : List ℕ). m ≡ replicate (length m) h_new.moment) (sym is) refl;
     reads = λ t _. tt;
+    rests = λ t _. tt;
     tiles = λ start ready. (us, (volume_at v e w g us of, built_tiles marks images (subst (λ (m : List ℕ). AreMarks m h_mid.moment h_new.moment) (sym is) (no_marks h_mid.moment h_new.moment)) start ready));
   }
-  build_all_volume marks (Err (BuildNotEmpty len)) is reads images kept cause =
+  build_all_volume marks (Err (BuildNotEmpty len)) is reads images kept s_new ready cause =
       subst (λ (m : List ℕ). Leaves m (Err (BuildNotEmpty len))) (sym is)
-      (refused_volume v e w g (NotEmpty len) same told told_new h h_new f f_new refl (λ early. let bad : ⊥ = cc in bad)
-      (on (Store (NotEmpty len)) (stop_cause (Store (NotEmpty len)) (build_volume (Err (BuildNotEmpty len)) f_mid f_new cause)) kept))
-  build_all_volume marks (Err BuildMemory) is reads images kept cause =
+      (refused_volume (Build v e w) g same told told_new h h_new f f_new (NotEmpty len) refl refl
+      (on (Store (NotEmpty len)) (stop_cause (Store (NotEmpty len)) (build_volume (Err (BuildNotEmpty len)) f_mid f_new cause)) kept)
+      (λ t. shut_ready s_new (current h_new) (ready (so.told ∙ t))))
+  build_all_volume marks (Err BuildMemory) is reads images kept s_new ready cause =
       subst (λ (m : List ℕ). Leaves m (Err BuildMemory)) (sym is)
-      (late_memory v e w g same told told_new h h_new f f_new (on OutOfMemory (stop_cause OutOfMemory (build_volume (Err BuildMemory) f_mid f_new cause)) kept))
+      (late_memory v e w g same told told_new h h_new f f_new (on OutOfMemory (stop_cause OutOfMemory (build_volume (Err BuildMemory) f_mid f_new cause)) kept) (λ t. shut_ready s_new (current h_new) (ready (so.told ∙ t))))

@@ -1,26 +1,26 @@
 -- What recovering and opening the bundle answer, and what they leave of the volume.
-use Rattle.std.proofs.Common.{◌≡◌, ℕ, ◌<◌, ◌≤◌, ◌⊎◌, inl, inr, List, Bool, true, false, Option, Some, None, Result, Ok, Err, refl, sym, ap, subst, ◌∙◌, rules, arith}
-use Rattle.std.specs.Prelude.{IfSome, IsTrue}
+use Rattle.std.proofs.Common.{◌≡◌, ℕ, ◌<◌, ◌≤◌, ◌⊎◌, inl, inr, List, Bool, true, false, Option, Some, None, Ok, Err, refl, sym, ap, subst, ◌∙◌, rules, arith}
+use Rattle.std.specs.Prelude.{IsTrue}
 use Rattle.std.proofs.lemmas.Bool.{cases_lt}
 use Rattle.outside_io.specs.declared.volume.VolFile.TheVariants.{Bundle, Journal}
 use Rattle.outside_io.specs.streams.Faults.{FailedBetween, IsCause}
-use Rattle.outside_io.specs.volume.Disk.{Disk, IsImage}
+use Rattle.outside_io.specs.volume.Disk.{Disk}
 use Rattle.outside_io.specs.volume.History.{During, History, contents, current}
 use Rattle.outside_io.proofs.VolumeLemmas.Images.{only_image}
-use Rattle.outside_io.proofs.VolumeLemmas.Moments.{during_end, during_join, during_map, started}
+use Rattle.outside_io.proofs.VolumeLemmas.Moments.{during_end, during_join, during_map}
 use Rattle.bundle_index.specs.Entry.{entry_at}
 use Rattle.bundle_store.specs.declared.fault.StoreFault.{StoreFault}
 use Rattle.bundle_store.specs.declared.fault.StoreFault.TheVariants.{Device, BadBundle, BadJournal, NoTile, Beyond, TileTooLarge, EmptyTile, Full, NotEmpty, OutOfMemory, Stopped}
 use Rattle.bundle_store.specs.declared.recovery.Recovery.{Recovery}
 use Rattle.bundle_store.specs.Causes.{FaultFrom}
 use Rattle.bundle_store.specs.Images.{EachImage, StandsFor}
-use Rattle.bundle_store.specs.Recover.{EachStandsForOneOf, IsRecovered, Leaves, OnBadJournal, RecoverFails, RecoverySays, synced_disk}
-use Rattle.bundle_store.specs.Session.{GetFails, GetGives, GetRefuses, IsBeyond, OpenFails, OpenRefuses, Serves, SessionState}
+use Rattle.bundle_store.specs.Recover.{EachStandsForOneOf, Leaves, OnBadJournal, RecoverFails, RecoverySays, synced_disk}
+use Rattle.bundle_store.specs.Session.{GetFails, GetRefuses, IsBeyond, OpenFails, OpenRefuses, SessionState}
 use Rattle.bundle_store.specs.Tiles.{TileMap}
 use Rattle.lerc_cli.specs.declared.stop.Refusal.TheVariants.{NoTile as MissingTile, Beyond as MissingBytes, BadBundle as NoBundle, BadJournal as NoJournal, NotEmpty as SomeBytes, TileTooLarge as LargeTile, Full as FullBundle, TooManyTiles as ManyTiles, KeptTooMuch as MuchKept}
 use Rattle.lerc_cli.specs.declared.stop.Stop.{Stop}
 use Rattle.lerc_cli.specs.declared.stop.Stop.TheVariants.{Usage, Refused, Source, Output, Volume, OutOfMemory as NoMemory, Store}
-use Rattle.lerc_cli.specs.Answer.{Files, OfBundle, OfRecovered}
+use Rattle.lerc_cli.specs.Answer.{Files, OfBundle}
 use Rattle.lerc_cli.specs.Run.{files_of}
 use Rattle.lerc_cli.specs.Tiles.{IsLeft, IsReady, OfReading}
 use Rattle.lerc_cli.specs.inside.Opening.{IsOpened, OpeningStops, ReadsTile, Recovers, opening_stop_of, tile_stop_of}

@@ -1,8 +1,7 @@
 -- An object that a command does not touch is left as its contract says.
-use Rattle.std.proofs.Common.{◌≡◌, ℕ, List, [], Option, Some, None, Bool, Ok, Err, inl, inr, refl, rules, sym, subst, arith}
+use Rattle.std.proofs.Common.{◌≡◌, ℕ, List, [], Option, Bool, Ok, Err, inl, inr, refl, rules, sym, subst, arith}
 use Rattle.std.specs.Prelude.{IsTrue, IsFalse}
 use Rattle.outside_io.specs.declared.volume.VolFile.TheVariants.{Bundle, Journal}
-use Rattle.outside_io.specs.streams.Source.{TakesUpTo}
 use Rattle.outside_io.specs.volume.History.{History, contents, current}
 use Rattle.outside_io.proofs.VolumeLemmas.Images.{only_image}
 use Rattle.outside_io.proofs.VolumeLemmas.Moments.{during_map_at, started}
@@ -15,7 +14,7 @@ use Rattle.lerc_cli.specs.Command.{reads_source, calls_volume, makes_updates}
 use Rattle.lerc_cli.specs.Stop.{End}
 use Rattle.lerc_cli.specs.Answer.{Given, Ends, UpdatesOf}
 use Rattle.lerc_cli.specs.Run.{MarksAt, OfOutput, OfSource, OfVolume, TakesFor}
-use Rattle.lerc_cli.specs.Tiles.{IsReady, KeepsStart, KeepsTiles, OfReading, OnAnswer, UpdatesAt, bundle_after, is_early}
+use Rattle.lerc_cli.specs.Tiles.{IsReady, KeepsStart, KeepsTiles, OfReading, OnAnswer, Rests, UpdatesAt, bundle_after, is_early}
 use Rattle.outside_io.specs.volume.Disk.{Disk}
 use Rattle.bundle_store.specs.declared.tile_rec.TileRec.{TileRec}
 use Rattle.bundle_lines.specs.Builds.{BuildKeeps, IsAllOrNone}
@@ -51,18 +50,18 @@ none_built us start t d each = λ b j ib ij. let is = each b j ib ij in record {
 pub keeps_unbuilt : (us : List TileRec) (start : TileMap) (old new : History) → KeepsStart start old new → BuildKeeps start us [] old new
 keeps_unbuilt us start old new kept = during_map_at (λ _ d. EachImage (λ map. map ≡ start) d) (λ t d. EachImage (IsAllOrNone start us [] t) d) old new (λ t d _ _ each. none_built us start t d each) kept
 
--- no update is made, and none has a mark
-pub keeps_none : (c : Command) (start : TileMap) (old new : History) → KeepsStart start old new → KeepsTiles c [] [] start old new
-keeps_none (Encode version error) start old new kept = kept
-keeps_none Decode start old new kept = kept
-keeps_none Info start old new kept = kept
-keeps_none (Build version error workers) start old new kept = keeps_unbuilt [] start old new kept
-keeps_none (Put version error workers) start old new kept = keeps_unmarked [] start old new kept
-keeps_none (Get slot) start old new kept = kept
-keeps_none (GetRaw slot) start old new kept = kept
-keeps_none ListAll start old new kept = kept
-keeps_none Check start old new kept = kept
-keeps_none Recover start old new kept = kept
+-- none of these updates has a mark
+pub keeps_without_marks : (c : Command) (us : List TileRec) (start : TileMap) (old new : History) → KeepsStart start old new → KeepsTiles c us [] start old new
+keeps_without_marks (Encode version error) us start old new kept = kept
+keeps_without_marks Decode us start old new kept = kept
+keeps_without_marks Info us start old new kept = kept
+keeps_without_marks (Build version error workers) us start old new kept = keeps_unbuilt us start old new kept
+keeps_without_marks (Put version error workers) us start old new kept = keeps_unmarked us start old new kept
+keeps_without_marks (Get slot) us start old new kept = kept
+keeps_without_marks (GetRaw slot) us start old new kept = kept
+keeps_without_marks ListAll us start old new kept = kept
+keeps_without_marks Check us start old new kept = kept
+keeps_without_marks Recover us start old new kept = kept
 
 -- a command that makes no updates has none
 no_updates : (c : Command) (g : Given) → IsFalse (makes_updates c) → UpdatesOf c g []
@@ -128,7 +127,7 @@ idle_makes Check idle = refl
 idle_makes Recover idle = refl
 
 -- there are no marks
-none_at : (c : Command) (moment : ℕ) → MarksAt c [] moment
+pub none_at : (c : Command) (moment : ℕ) → MarksAt c [] moment
 none_at (Encode version error) moment = tt
 none_at Decode moment = tt
 none_at Info moment = tt
@@ -152,7 +151,8 @@ untouched c g end same told h faults is early well at = record {
   marks_are = λ tells. no_marks h.moment h.moment;
   marks_at = none_at c h.moment;
   reads = λ tells late. absurd (clash (is_early c end) early late);
-  tiles = λ start ready. ([], (at, keeps_none c start h h (stays start told h ready)));
+  rests = λ tells late. absurd (clash (is_early c end) early late);
+  tiles = λ start ready. ([], (at, keeps_without_marks c [] start h h (stays start told h ready)));
 }
 
 -- the volume of a command that does not call it
@@ -188,8 +188,9 @@ answers (Err (Store refusal)) c same P p = p (λ is. cc)
 
 -- the volume of a command that reads the bundle
 pub reading_volume : (c : Command) (g : Given) (end : End) (same : Type 0) (told told_new : Bool) (h h_new : History) (faults faults_new : ℕ)
-    → IsTrue (calls_volume c) → IsFalse (makes_updates c) → OfReading (end ≡ Err Volume) told told_new h h_new faults faults_new → OfVolume c g end same [] told told_new h h_new faults faults_new
-reading_volume c g end same told told_new h h_new faults faults_new calls none so = record {
+    → IsTrue (calls_volume c) → IsFalse (makes_updates c) → OfReading (end ≡ Err Volume) told told_new h h_new faults faults_new → (IsTrue told → Rests end (contents Journal h) (current h_new))
+    → OfVolume c g end same [] told told_new h h_new faults faults_new
+reading_volume c g end same told told_new h h_new faults faults_new calls none so rests = record {
   cause = so.cause;
   told = so.told;
   later = λ tells _. so.later tells;
@@ -199,7 +200,8 @@ reading_volume c g end same told told_new h h_new faults faults_new calls none s
   marks_at = none_at c h_new.moment;
   reads = λ tells late. answers end c same _ (λ well.
       ([], (record { some = λ _. no_updates c g none; none = λ _. refl }, (contents Bundle h_new, (so.reads tells well, sym (same_bundle c end (contents Bundle h_new) [] none))))));
-  tiles = λ start ready. ([], (record { some = λ _. no_updates c g none; none = λ _. refl }, keeps_none c start h h_new (so.tiles start ready)));
+  rests = λ tells late. answers end c same _ (λ well. rests tells);
+  tiles = λ start ready. ([], (record { some = λ _. no_updates c g none; none = λ _. refl }, keeps_without_marks c [] start h h_new (so.tiles start ready)));
 }
 
 -- nothing was taken

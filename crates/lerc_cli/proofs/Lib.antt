@@ -1,7 +1,9 @@
+mod Answered
 mod BuildOnce
 mod BuildRuns
 mod Built
 mod BundleOpening
+mod CutRuns
 mod Encoding
 mod Ends
 mod Exact
@@ -17,10 +19,12 @@ mod Outlined
 mod Outputs
 mod PutOnce
 mod PutRuns
+mod Resting
 mod SixLines
 mod Spelled
 mod TileBlobs
 mod ToldLines
+mod Unopened
 mod Whole
 mod WholeGrids
 mod WholeReads

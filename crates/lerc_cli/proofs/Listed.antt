@@ -1,25 +1,22 @@
 -- How the commands end that tell of the whole bundle.
-use Rattle.std.proofs.Common.{◌≡◌, ℕ, ◌≤◌, ◌*◌, List, [], Bool, Option, Ok, Err, inl, inr, refl, sym, ap, subst, ◌∙◌, rules, arith}
-use Rattle.std.specs.Prelude.{IfSome, IsTrue}
+use Rattle.std.proofs.Common.{◌≡◌, ℕ, ◌≤◌, ◌*◌, List, [], Bool, Option, Ok, Err, inl, inr, refl, sym, ap, subst, ◌∙◌, rules}
+use Rattle.std.specs.Prelude.{IsTrue}
 use Rattle.outside_io.specs.declared.volume.VolFile.TheVariants.{Bundle, Journal}
 use Rattle.outside_io.specs.streams.Faults.{FailedBetween, IsCause}
 use Rattle.outside_io.specs.streams.Sink.{Holds, HoldsPrefix}
 use Rattle.outside_io.specs.volume.Disk.{Disk}
 use Rattle.outside_io.specs.volume.History.{History, contents}
 use Rattle.outside_io.proofs.StreamLemmas.Gives.{Holds_none}
-use Rattle.bundle_store.specs.declared.check.CheckReport.{CheckReport}
 use Rattle.bundle_store.specs.declared.recovery.Recovery.{Recovery}
 use Rattle.bundle_store.specs.Check.{Reports}
-use Rattle.bundle_store.specs.Recover.{Leaves}
 use Rattle.bundle_store.specs.Session.{SessionState}
 use Rattle.bundle_lines.specs.declared.stop.LineStop.TheVariants.{Output as LineOutput, Volume as LineVolume}
 use Rattle.bundle_lines.specs.Ends.{CheckGave, LineEnd, ListGave}
 use Rattle.bundle_lines.specs.Lines.{check_lines, listing, recovery_line}
 use Rattle.lerc_cli.specs.declared.command.Command.TheVariants.{List as ListAll, Check, Recover}
-use Rattle.lerc_cli.specs.declared.stop.Refusal.TheVariants.{NoTile, Beyond, BadBundle, BadJournal}
 use Rattle.lerc_cli.specs.declared.stop.Stop.{Stop}
 use Rattle.lerc_cli.specs.declared.stop.Stop.TheVariants.{Usage, Refused, Source, Output, Volume, OutOfMemory, Store}
-use Rattle.lerc_cli.specs.Answer.{Ends, Files, OfBundle}
+use Rattle.lerc_cli.specs.Answer.{Ends, Files}
 use Rattle.lerc_cli.specs.Run.{OfOutput, files_of, given}
 use Rattle.lerc_cli.specs.inside.Opening.{IsOpened, OpeningStops, Recovers, end_of}
 use Rattle.lerc_cli.proofs.BundleOpening.{of_bundle}

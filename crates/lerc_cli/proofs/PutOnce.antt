@@ -1,16 +1,13 @@
 -- One answer of `put`.
-use Rattle.std.proofs.Common.{◌≡◌, ◌⊎◌, inl, inr, ℕ, ◌+◌, ◌<◌, ◌≤◌, List, [], length, take, Option, Some, None, Ok, Err, refl, sym, ◌∙◌, ap, subst, rules, arith}
-use Rattle.std.specs.Prelude.{IsTrue}
+use Rattle.std.proofs.Common.{◌≡◌, inl, inr, ℕ, ◌<◌, List, length, take, Some, Err, refl, sym, ◌∙◌, ap, subst, arith}
 use Rattle.std.proofs.lemmas.Bool.{cases_lt}
 use Rattle.lerc_header.specs.declared.header.Version.{Version}
 use Rattle.lerc_header.specs.Written.{step_of}
 use Rattle.bundle_store.specs.declared.tile_rec.TileRec.{TileRec}
-use Rattle.bundle_store.specs.Build.{bytes_at}
 use Rattle.bundle_lines.specs.Lines.{put_lines}
 use Rattle.bundle_lines.specs.Puts.{HaveRoom, IsFirstFull, length_before}
 use Rattle.tile_updates.specs.declared.stop.StreamStop.{StreamStop}
 use Rattle.tile_updates.specs.declared.stop.StreamStop.TheVariants.{TooManyTiles as ManyTiles, Fault as TileFaultOf, DepthNeedsV4 as DeepTile, TileTooLarge as LargeTile, KeptTooMuch as MuchKept, Source as StreamSource, OutOfMemory as StreamMemory}
-use Rattle.tile_updates.specs.Updates.{IsUpdates}
 use Rattle.tile_updates.specs.Stops.{IsStreamStop, TellsStop}
 use Rattle.tile_updates.proofs.Refusals.{stops_once, updates_once, updates_or_stop}
 use Rattle.lerc_cli.specs.declared.command.Command.TheVariants.{Put}
@@ -18,10 +15,10 @@ use Rattle.lerc_cli.specs.declared.stop.Fault.{Fault}
 use Rattle.lerc_cli.specs.declared.stop.Refusal.{Refusal}
 use Rattle.lerc_cli.specs.declared.stop.Refusal.TheVariants.{Full}
 use Rattle.lerc_cli.specs.declared.stop.Stop.{Stop}
-use Rattle.lerc_cli.specs.declared.stop.Stop.TheVariants.{Usage, Refused, Source, Output, Volume, OutOfMemory, Store}
-use Rattle.lerc_cli.specs.Answer.{Ends, Files, Given, IsAnswer, IsCutOff, IsFull, IsOutput, IsRefusal, OfBundle, stream_stop_of}
+use Rattle.lerc_cli.specs.declared.stop.Stop.TheVariants.{Refused, Source, OutOfMemory, Store}
+use Rattle.lerc_cli.specs.Answer.{Files, Given, IsCutOff, IsOutput, IsRefusal, stream_stop_of}
 use Rattle.lerc_cli.specs.Run.{given}
-use Rattle.lerc_cli.specs.Stop.{End}
+use Rattle.lerc_cli.proofs.Answered.{Once, refused, store, well}
 use Rattle.lerc_cli.proofs.OneBundle.{both, one_opening, recovered_or_opening}
 
 -- all is told
@@ -115,42 +112,21 @@ own_refused fault = record { source = λ is. cc; memory = λ is. cc }
 pub own_store : (r : Refusal) → IsOwn (Store r)
 own_store r = record { source = λ is. cc; memory = λ is. cc }
 
-pub put_once : (v : Version) (e w : ℕ) (bytes : List ℕ) (f : Files) (n m : ℕ) (end other : End) (output another : List ℕ) → IsAnswer end → IsAnswer other
-    → Ends (Put v e w) (all_told bytes f) n end output → Ends (Put v e w) (all_told bytes f) m other another → (end ≡ other) × (output ≡ another)
-put_once v e w bytes f n m (Ok x) (Ok y) output another _ _ a b =
+pub put_once : (v : Version) (e w : ℕ) (bytes : List ℕ) (f : Files) → Once (Put v e w) (all_told bytes f)
+put_once v e w bytes f n m well well output another a b =
     (refl, a.1.3 ∙ ap put_lines (updates_once v (step_of e) bytes a.0 b.0 a.1.0 b.1.0) ∙ sym b.1.3)
-put_once v e w bytes f n m (Ok x) (Err (Refused s)) output another _ _ a b = absurd (put_or_refusal v e w bytes f n m output (Refused s) (own_refused s) a b.0)
-put_once v e w bytes f n m (Ok x) (Err (Store s)) output another _ _ a b = absurd (put_or_refusal v e w bytes f n m output (Store s) (own_store s) a b.0)
-put_once v e w bytes f n m (Err (Refused r)) (Ok y) output another _ _ a b = absurd (put_or_refusal v e w bytes f m n another (Refused r) (own_refused r) b a.0)
-put_once v e w bytes f n m (Err (Store r)) (Ok y) output another _ _ a b = absurd (put_or_refusal v e w bytes f m n another (Store r) (own_store r) b a.0)
-put_once v e w bytes f n m (Err (Refused r)) (Err (Refused s)) output another _ _ a b =
+put_once v e w bytes f n m well (refused s) output another a b = absurd (put_or_refusal v e w bytes f n m output (Refused s) (own_refused s) a b.0)
+put_once v e w bytes f n m well (store s) output another a b = absurd (put_or_refusal v e w bytes f n m output (Store s) (own_store s) a b.0)
+put_once v e w bytes f n m (refused r) well output another a b = absurd (put_or_refusal v e w bytes f m n another (Refused r) (own_refused r) b a.0)
+put_once v e w bytes f n m (store r) well output another a b = absurd (put_or_refusal v e w bytes f m n another (Store r) (own_store r) b a.0)
+put_once v e w bytes f n m (refused r) (refused s) output another a b =
     let same = one_put_refusal v e w bytes f n m (Refused r) (Refused s) (own_refused r) (own_refused s) a.0 b.0 in (ap (λ (x : Stop). Err x) same.0, a.1 ∙ sym b.1)
-put_once v e w bytes f n m (Err (Refused r)) (Err (Store s)) output another _ _ a b =
+put_once v e w bytes f n m (refused r) (store s) output another a b =
     absurd (let same = one_put_refusal v e w bytes f n m (Refused r) (Store s) (own_refused r) (own_store s) a.0 b.0 in let no = same.0 in cc)
-put_once v e w bytes f n m (Err (Store r)) (Err (Refused s)) output another _ _ a b =
+put_once v e w bytes f n m (store r) (refused s) output another a b =
     absurd (let same = one_put_refusal v e w bytes f n m (Store r) (Refused s) (own_store r) (own_refused s) a.0 b.0 in let no = same.0 in cc)
-put_once v e w bytes f n m (Err (Store r)) (Err (Store s)) output another _ _ a b =
+put_once v e w bytes f n m (store r) (store s) output another a b =
     let same = one_put_refusal v e w bytes f n m (Store r) (Store s) (own_store r) (own_store s) a.0 b.0 in (
       ap (λ (x : Stop). Err x) same.0,
       cut_once v e w bytes f n (Store r) (Store s) output another a.1 (subst (λ (k : ℕ). IsCutOff (Put v e w) (all_told bytes f) k (Store s) another) (sym same.1) b.1),
     )
-put_once v e w bytes f n m (Err Usage) other output another answer _ a b = absurd answer
-put_once v e w bytes f n m (Err Source) other output another answer _ a b = absurd answer
-put_once v e w bytes f n m (Err Output) other output another answer _ a b = absurd answer
-put_once v e w bytes f n m (Err Volume) other output another answer _ a b = absurd answer
-put_once v e w bytes f n m (Err OutOfMemory) other output another answer _ a b = absurd answer
-put_once v e w bytes f n m (Ok x) (Err Usage) output another _ answer a b = absurd answer
-put_once v e w bytes f n m (Ok x) (Err Source) output another _ answer a b = absurd answer
-put_once v e w bytes f n m (Ok x) (Err Output) output another _ answer a b = absurd answer
-put_once v e w bytes f n m (Ok x) (Err Volume) output another _ answer a b = absurd answer
-put_once v e w bytes f n m (Ok x) (Err OutOfMemory) output another _ answer a b = absurd answer
-put_once v e w bytes f n m (Err (Refused r)) (Err Usage) output another _ answer a b = absurd answer
-put_once v e w bytes f n m (Err (Refused r)) (Err Source) output another _ answer a b = absurd answer
-put_once v e w bytes f n m (Err (Refused r)) (Err Output) output another _ answer a b = absurd answer
-put_once v e w bytes f n m (Err (Refused r)) (Err Volume) output another _ answer a b = absurd answer
-put_once v e w bytes f n m (Err (Refused r)) (Err OutOfMemory) output another _ answer a b = absurd answer
-put_once v e w bytes f n m (Err (Store r)) (Err Usage) output another _ answer a b = absurd answer
-put_once v e w bytes f n m (Err (Store r)) (Err Source) output another _ answer a b = absurd answer
-put_once v e w bytes f n m (Err (Store r)) (Err Output) output another _ answer a b = absurd answer
-put_once v e w bytes f n m (Err (Store r)) (Err Volume) output another _ answer a b = absurd answer
-put_once v e w bytes f n m (Err (Store r)) (Err OutOfMemory) output another _ answer a b = absurd answer

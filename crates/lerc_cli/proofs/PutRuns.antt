@@ -1,43 +1,40 @@
 -- What a run of `put` leaves, by how it ends.
-use Rattle.std.proofs.Common.{◌≡◌, ◌⊎◌, inl, inr, ℕ, ◌<◌, ◌≤◌, List, [], length, take, Bool, true, false, Option, Result, Ok, Err, refl, sym, ◌∙◌, ap, subst, rules, arith}
+use Rattle.std.proofs.Common.{◌≡◌, ◌⊎◌, inl, inr, ℕ, ◌≤◌, List, [], length, take, Bool, Option, Result, Ok, Err, refl, sym, ◌∙◌, ap, subst, rules, arith}
 use Rattle.std.specs.Prelude.{IsFalse, IsTrue, Vec}
 use Rattle.std.specs.declared.alloc.Global.{Global}
 use Rattle.std.proofs.lemmas.Bool.{cases_lt}
 use Rattle.outside_io.specs.declared.volume.VolFile.TheVariants.{Bundle, Journal}
 use Rattle.outside_io.specs.streams.Faults.{IsCause}
-use Rattle.outside_io.specs.streams.Sink.{Holds, HoldsPrefix}
 use Rattle.outside_io.specs.volume.Disk.{Disk, File}
-use Rattle.outside_io.specs.volume.History.{During, History, contents, current}
+use Rattle.outside_io.specs.volume.History.{History, contents, current}
 use Rattle.lerc_header.specs.declared.header.Version.{Version}
 use Rattle.lerc_header.specs.Written.{step_of}
 use Rattle.side_journal.specs.declared.body.JournalState.{JournalState}
 use Rattle.side_journal.specs.declared.body.JournalState.TheVariants.{Closed, Open, Bad}
 use Rattle.side_journal.specs.Says.{IsOpen, Says}
 use Rattle.bundle_store.specs.declared.tile_rec.TileRec.{TileRec}
-use Rattle.bundle_store.specs.Build.{bytes_at}
-use Rattle.bundle_store.specs.Images.{EachImage, HoldsClosed, Shows, StandsFor}
+use Rattle.bundle_store.specs.Images.{HoldsClosed, Shows}
 use Rattle.bundle_store.specs.Session.{SessionState}
 use Rattle.bundle_store.specs.Tiles.{IsReadable, TileMap, tiles}
 use Rattle.bundle_lines.specs.declared.stop.PutStop.TheVariants.{Output as PutOutput, Volume as PutVolume, Full as PutFull}
 use Rattle.bundle_lines.specs.Ends.{PutEnd, PutGave, UnlessVolume}
 use Rattle.bundle_lines.specs.Lines.{put_lines}
-use Rattle.bundle_lines.specs.Puts.{AreMarks, EndsByRoom, HaveRoom, IsFirstFull, KeepsFullLength, PutsKeep, bundle_after_puts}
-use Rattle.bundle_lines.proofs.Marked.{no_marks, puts_join}
+use Rattle.bundle_lines.specs.Puts.{AreMarks, EndsByRoom, HaveRoom, IsFirstFull, KeepsFullLength, PutsKeep, PutsLeave, bundle_after_puts}
+use Rattle.bundle_lines.proofs.Marked.{puts_join}
 use Rattle.tile_updates.specs.declared.stop.StreamStop.{StreamStop}
 use Rattle.tile_updates.specs.declared.stop.StreamStop.TheVariants.{TooManyTiles as ManyTiles, Fault as TileFaultOf, DepthNeedsV4 as DeepTile, TileTooLarge as LargeTile, KeptTooMuch as MuchKept, Source as StreamSource, OutOfMemory as StreamMemory}
 use Rattle.lerc_cli.specs.declared.command.Command.TheVariants.{Put}
-use Rattle.lerc_cli.specs.declared.stop.Refusal.{Refusal}
-use Rattle.lerc_cli.specs.declared.stop.Refusal.TheVariants.{NoTile, Beyond, BadBundle, BadJournal, NotEmpty, TileTooLarge, Full, TooManyTiles, KeptTooMuch}
 use Rattle.lerc_cli.specs.declared.stop.Stop.{Stop}
 use Rattle.lerc_cli.specs.declared.stop.Stop.TheVariants.{Usage, Refused, Source, Output, Volume, OutOfMemory, Store}
-use Rattle.lerc_cli.specs.Answer.{Ends, Files, Given, IsCutOff, IsNoUpdates, OfBundle, UpdatesOf, stream_stop_of}
+use Rattle.lerc_cli.specs.Answer.{Ends, Files, Given, IsCutOff, IsNoUpdates, UpdatesOf, stream_stop_of}
 use Rattle.lerc_cli.specs.Run.{Gained, OfOutput, OfVolume, StopsBeforeOutput, files_of, given}
 use Rattle.lerc_cli.specs.Stop.{End}
-use Rattle.lerc_cli.specs.Tiles.{IsReady, OfReading, OnAnswer, UpdatesAt, has_updates, is_early}
+use Rattle.lerc_cli.specs.Tiles.{OfReading, OnAnswer, UpdatesAt, has_updates, is_early}
 use Rattle.lerc_cli.specs.inside.Opening.{IsOpened, OpeningStops}
 use Rattle.lerc_cli.specs.inside.Updates.{put_end_of}
 use Rattle.lerc_cli.proofs.BundleOpening.{failed_later, of_bundle}
-use Rattle.lerc_cli.proofs.Idle.{clash, keeps_unmarked, untouched}
+use Rattle.lerc_cli.proofs.Idle.{clash, untouched}
+use Rattle.lerc_cli.proofs.Resting.{rests_put}
 use Rattle.lerc_cli.proofs.Outputs.{stopped}
 
 -- ---- reading the updates
@@ -128,56 +125,6 @@ pub unopened_output : (v : Version) (e w : ℕ) (g : Given) (us : List TileRec) 
     → UpdatesOf (Put v e w) g us → OpeningStops g.files stop → OfOutput (Put v e w) g 0 (Err stop) (out_new ≡ out) (held out) (held out_new) (faults out) (faults out_new)
 unopened_output v e w g us K held faults out out_new stop same of stops =
     stopped (Put v e w) g K held faults out out_new stop (unopened_ends v e w g us stop of stops) same (not_output g.files stop stops)
-
-none_at : (v : Version) (e w : ℕ) (g : Given) (r : Refusal) → IsFalse (has_updates (Err (Store r))) → UpdatesAt (Put v e w) g (Err (Store r)) []
-none_at v e w g r none = record { some = λ yes_. absurd (clash (has_updates (Err (Store r))) yes_ none); none = λ _. refl }
-
--- recovery or opening was refused
-refused_volume : (v : Version) (e w : ℕ) (g : Given) (r : Refusal) (same : Type 0) (told told_new : Bool) (h h_new : History) (f f_new : ℕ) → IsFalse (has_updates (Err (Store r))) → (IsTrue (is_early (Put v e w) (Err (Store r))) → ⊥)
-    → OfReading (Store r ≡ Volume) told told_new h h_new f f_new → OfVolume (Put v e w) g (Err (Store r)) same [] told told_new h h_new f f_new
-refused_volume v e w g r same told told_new h h_new f f_new none late so = record {
-  cause = record { counts = so.cause.counts; failed = λ is. absurd (let bad : ⊥ = cc in bad); rose = λ rose. absurd (let is : Store r ≡ Volume = so.cause.rose rose in let bad : ⊥ = cc in bad) };
-  told = so.told;
-  later = λ t none. so.later t;
-  idle = λ early. absurd (late early);
-  unmarked = λ is. absurd (let bad : ⊥ = cc in bad);
-  marks_are = λ t. no_marks h.moment h_new.moment;
-  marks_at = tt;
-  reads = λ t _. ([], (none_at v e w g r none, (contents Bundle h_new, (so.reads t (λ is. let bad : ⊥ = cc in bad), refl))));
-  tiles = λ start ready. ([], (none_at v e w g r none, keeps_unmarked [] start h h_new (so.tiles start ready)));
-}
-
--- an update may be done where the volume failed
-opened_not : (v : Version) (e w : ℕ) (g : Given) (us : List TileRec) → UpdatesOf (Put v e w) g us → UpdatesAt (Put v e w) g (Err Volume) us
-opened_not v e w g us of = record { some = λ _. of; none = λ is. absurd (let bad : ⊥ = cc in bad) }
-
-pub unopened_volume : (v : Version) (e w : ℕ) (g : Given) (us : List TileRec) (stop : Stop) (same : Type 0) (told told_new : Bool) (h h_new : History) (f f_new : ℕ)
-    → UpdatesOf (Put v e w) g us → OpeningStops g.files stop → OfReading (stop ≡ Volume) told told_new h h_new f f_new → OfVolume (Put v e w) g (Err stop) same [] told told_new h h_new f f_new
-unopened_volume v e w g us Usage same told told_new h h_new f f_new of stops so = absurd stops
-unopened_volume v e w g us (Refused r) same told told_new h h_new f f_new of stops so = absurd stops
-unopened_volume v e w g us Source same told told_new h h_new f f_new of stops so = absurd stops
-unopened_volume v e w g us Output same told told_new h h_new f f_new of stops so = absurd stops
-unopened_volume v e w g us OutOfMemory same told told_new h h_new f f_new of stops so = absurd stops
-unopened_volume v e w g us Volume same told told_new h h_new f f_new of stops so = record {
-  cause = record { counts = so.cause.counts; failed = λ _. so.cause.failed refl; rose = λ rose. refl };
-  told = so.told;
-  later = λ t none. so.later t;
-  idle = λ early. absurd (let bad : ⊥ = cc in bad);
-  unmarked = λ is. absurd (let bad : ⊥ = cc in bad);
-  marks_are = λ t. no_marks h.moment h_new.moment;
-  marks_at = tt;
-  reads = λ t late. tt;
-  tiles = λ start ready. (us, (opened_not v e w g us of, keeps_unmarked us start h h_new (so.tiles start ready)));
-}
-unopened_volume v e w g us (Store (BadBundle p x)) same told told_new h h_new f f_new of stops so = refused_volume v e w g (BadBundle p x) same told told_new h h_new f f_new refl (λ early. let bad : ⊥ = cc in bad) so
-unopened_volume v e w g us (Store (BadJournal p x)) same told told_new h h_new f f_new of stops so = refused_volume v e w g (BadJournal p x) same told told_new h h_new f f_new refl (λ early. let bad : ⊥ = cc in bad) so
-unopened_volume v e w g us (Store (NoTile at)) same told told_new h h_new f f_new of stops so = absurd stops
-unopened_volume v e w g us (Store (Beyond at entry got)) same told told_new h h_new f f_new of stops so = absurd stops
-unopened_volume v e w g us (Store (TileTooLarge at len)) same told told_new h h_new f f_new of stops so = absurd stops
-unopened_volume v e w g us (Store (Full len)) same told told_new h h_new f f_new of stops so = absurd stops
-unopened_volume v e w g us (Store TooManyTiles) same told told_new h h_new f f_new of stops so = absurd stops
-unopened_volume v e w g us (Store (NotEmpty len)) same told told_new h h_new f f_new of stops so = absurd stops
-unopened_volume v e w g us (Store (KeptTooMuch at)) same told told_new h h_new f f_new of stops so = absurd stops
 
 pub not_source : (files : Option Files) (stop : Stop) → OpeningStops files stop → ◌≡◌ {A = End} (Err stop) (Err Source) → ⊥
 not_source files stop stops is = let same : stop ≡ Source = cc in let none : OpeningStops files Source = subst (λ (s : Stop). OpeningStops files s) same stops in none
@@ -287,20 +234,19 @@ unless_map (Err (PutFull len)) P Q so p = so p
 pub put_all_volume : (v : Version) (e w : ℕ) (g : Given) (failed : Type 0) (told told_mid told_new : Bool) (h h_mid h_new : History) (f f_mid f_new : ℕ) (s : SessionState) (us : List TileRec) (marks : List ℕ) (r : PutEnd) (same : Type 0)
     → UpdatesOf (Put v e w) g us → (failed → ⊥) → OfReading failed told told_mid h h_mid f f_mid → (IsTrue told → IsOpened s (contents Bundle h) (contents Journal h) (current h_mid))
     → IsCause (r ≡ Err PutVolume) f_mid f_new → told_new ≡ told_mid
-    → (IsTrue told_mid → UnlessVolume r (HoldsClosed (bundle_after_puts (contents Bundle h_mid) (take (length marks) us)) (current h_new)))
-    → (IsTrue told_mid → IsReadable (contents Bundle h_mid) → PutsKeep (tiles (contents Bundle h_mid)) us marks h_mid h_new)
-    → (IsTrue told_mid → AreMarks marks h_mid.moment h_new.moment)
+    → (s_new : SessionState) → (IsTrue told_mid → PutsLeave r us marks s_new h_mid h_new)
     → OfVolume (Put v e w) g (put_end_of r) same marks told told_new h h_new f f_new
-put_all_volume v e w g failed told told_mid told_new h h_mid h_new f f_mid f_new s us marks r same of well so opened cause tells reads images are = record {
+put_all_volume v e w g failed told told_mid told_new h h_mid h_new f f_mid f_new s us marks r same of well so opened cause tells s_new leaves = record {
   cause = joined_cause failed (put_end_of r ≡ Err Volume) f f_mid f_new well so.cause (put_volume r f_mid f_new cause);
   told = tells ∙ so.told;
   later = λ t none. absurd (let bad : ⊥ = cc in bad);
   idle = λ early. absurd (not_early v e w r early);
   unmarked = λ is. absurd (let bad : ⊥ = cc in bad);
-  marks_are = λ t. earlier_marks marks h.moment h_mid.moment h_new.moment (so.later t) (are (so.told ∙ t));
+  marks_are = λ t. earlier_marks marks h.moment h_mid.moment h_new.moment (so.later t) (leaves (so.told ∙ t)).marks_are;
   marks_at = tt;
   reads = λ t _. on_answer v e w r same _ (unless_map r _ _ (λ (held : HoldsClosed (bundle_after_puts (contents Bundle h_mid) (take (length marks) us)) (current h_new)).
-      let o = opened t in (us, (updates_at v e w g r us of, (contents Bundle h_mid, (inl (o.done, o.leaves), ap (λ (x : File). x.now) held.bundle_is))))) (reads (so.told ∙ t)));
+      let o = opened t in (us, (updates_at v e w g r us of, (contents Bundle h_mid, (inl (o.done, o.leaves), ap (λ (x : File). x.now) held.bundle_is))))) (leaves (so.told ∙ t)).reads);
+  rests = λ t _. rests_put v e w same (contents Journal h) (current h_new) r _ (leaves (so.told ∙ t)).reads;
   tiles = λ start ready.
       let o = opened ready.tells in
       let stands = o.recovered.same start ready.stands in
@@ -309,7 +255,7 @@ put_all_volume v e w g failed told told_mid told_new h h_mid h_new f f_mid f_new
         us,
         (
           updates_at v e w g r us of,
-          puts_join start us marks h h_mid h_new (are t) (so.tiles start ready) (subst (λ (m : TileMap). PutsKeep m us marks h_mid h_new) (sym map.1) (images t map.0)),
+          puts_join start us marks h h_mid h_new (leaves t).marks_are (so.tiles start ready) (subst (λ (m : TileMap). PutsKeep m us marks h_mid h_new) (sym map.1) ((leaves t).images map.0)),
         ),
       );
 }

@@ -8,6 +8,7 @@ pub use Rattle.tile_updates.specs.Updates
 pub mod Answer
 pub mod Arguments
 pub mod Command
+pub mod CutRuns
 pub mod Info
 pub mod Run
 pub mod Stop

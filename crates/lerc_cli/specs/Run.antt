@@ -1,7 +1,7 @@
 -- What a run leaves of the objects that it is lent, whatever it answers. What an object tells is
 -- None, or false, where it tells nothing.
 use Rattle.std.specs.Prelude.{◌≡◌, ℕ, ◌≤◌, List, [], length, replicate, take, Option, Some, None, IfSome, Bool, IsTrue, IsFalse, if◌then◌else◌, Ok, Err}
-use Rattle.outside_io.specs.volume.History.{History, contents}
+use Rattle.outside_io.specs.volume.History.{History, contents, current}
 use Rattle.outside_io.specs.declared.volume.VolFile.TheVariants.{Bundle, Journal}
 use Rattle.outside_io.specs.streams.Sink.{Holds, HoldsPrefix}
 use Rattle.outside_io.specs.streams.Source.{TakesUpTo, IsAtEnd}
@@ -18,12 +18,12 @@ use Rattle.lerc_grammar.specs.Verdict.{WholeFault}
 use Rattle.lerc_cli.specs.declared.command.Command.{Command}
 use Rattle.lerc_cli.specs.declared.command.Command.TheVariants.{Encode, Decode, Info, Build, Put, Get, GetRaw, List as ListAll, Check, Recover}
 use Rattle.lerc_cli.specs.declared.stop.Reason.TheVariants.{Blob as BlobReasonOf}
-use Rattle.lerc_cli.specs.declared.stop.Stop.TheVariants.{Usage, Refused, Source, Output, Volume, OutOfMemory, Store}
-use Rattle.lerc_cli.specs.Command.{reads_source, calls_volume, makes_updates}
+use Rattle.lerc_cli.specs.declared.stop.Stop.TheVariants.{Usage, Refused, Source, Output, Volume, OutOfMemory}
+use Rattle.lerc_cli.specs.Command.{reads_source, makes_updates}
 use Rattle.lerc_cli.specs.Stop.{End, line_of, status_at, status_of}
 use Rattle.lerc_cli.specs.Answer.{Files, Given, Ends, HasHead, IsBlob}
 use Rattle.lerc_cli.specs.Info.{AreLinesOf}
-use Rattle.lerc_cli.specs.Tiles.{IsLeft, IsReady, KeepsTiles, OnAnswer, UpdatesAt, bundle_after, is_early}
+use Rattle.lerc_cli.specs.Tiles.{IsLeft, IsReady, KeepsTiles, OnAnswer, Rests, UpdatesAt, bundle_after, is_early}
 use Rattle.bundle_store.specs.declared.tile_rec.TileRec.{TileRec}
 use Rattle.bundle_lines.specs.Builds.{built_line_of}
 use Rattle.bundle_lines.specs.Puts.{AreMarks}
@@ -112,6 +112,9 @@ pub record OfVolume (c : Command) (g : Given) (end : End) (same : Type 0) (marks
       × (UpdatesAt c g end updates × ((bundle : List ℕ)
       × (IsLeft (contents Bundle old) (contents Journal old) bundle
       × (contents Bundle new ≡ bundle_after c end bundle (take (length marks) updates))))))
+  -- nothing is pending then, and the journal is not open, unless it was refused
+  pub rests : IsTrue told_old → IsFalse (is_early c end)
+      → OnAnswer end c same (Rests end (contents Journal old) (current new))
   -- what a crash may leave at each moment
   pub tiles : (start : TileMap) → IsReady told_old old start → (updates : List TileRec)
       × (UpdatesAt c g end updates × KeepsTiles c updates marks start old new)

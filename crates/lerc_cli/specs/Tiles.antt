@@ -1,9 +1,10 @@
 -- What a crash may leave at each moment of a run, and what the bundle reads as behind it.
-use Rattle.std.specs.Prelude.{◌≡◌, ◌⊎◌, ℕ, ◌≤◌, List, [], Bool, true, false, not, IsFalse, IsTrue, Ok, Err}
+use Rattle.std.specs.Prelude.{◌≡◌, ◌⊎◌, ℕ, ◌≤◌, List, [], Bool, true, false, not, IsFalse, IsTrue, Result, Ok, Err}
 use Rattle.outside_io.specs.declared.volume.VolFile.TheVariants.{Bundle, Journal}
 use Rattle.outside_io.specs.streams.Faults.{IsCause}
-use Rattle.outside_io.specs.volume.Disk.{IsQuiet}
+use Rattle.outside_io.specs.volume.Disk.{Disk, IsQuiet}
 use Rattle.outside_io.specs.volume.History.{During, History, contents, current}
+use Rattle.side_journal.specs.Says.{IsOpen}
 use Rattle.bundle_store.specs.declared.recovery.Recovery.{Recovery}
 use Rattle.bundle_store.specs.Images.{EachImage, StandsFor}
 use Rattle.bundle_store.specs.Recover.{Leaves, Refuses}
@@ -15,7 +16,8 @@ use Rattle.bundle_lines.specs.Builds.{BuildKeeps}
 use Rattle.bundle_lines.specs.Puts.{PutsKeep, bundle_after_puts}
 use Rattle.lerc_cli.specs.declared.command.Command.{Command}
 use Rattle.lerc_cli.specs.declared.command.Command.TheVariants.{Build, Put}
-use Rattle.lerc_cli.specs.declared.stop.Refusal.TheVariants.{TileTooLarge, Full, TooManyTiles, KeptTooMuch}
+use Rattle.lerc_cli.specs.declared.stop.Refusal.TheVariants.{BadJournal, TileTooLarge, Full, TooManyTiles, KeptTooMuch}
+use Rattle.lerc_cli.specs.declared.stop.Stop.{Stop}
 use Rattle.lerc_cli.specs.declared.stop.Stop.TheVariants.{Refused, Source, Output, Volume, OutOfMemory, Store}
 use Rattle.lerc_cli.specs.Answer.{Given, UpdatesOf}
 use Rattle.lerc_cli.specs.Command.{calls_volume}
@@ -95,6 +97,22 @@ abbrev pub IsLeft : List ℕ → List ℕ → List ℕ → Type 0
 IsLeft bundle journal left =
     ((found : Recovery) × Leaves bundle journal found left)
     ⊎ ((place found : ℕ) × (Refuses bundle journal place found × (left ≡ bundle)))
+
+-- a crash leaves what is read, and the journal is not open
+pub record IsShut (d : Disk) : Type 0 where
+  pub quiet : IsQuiet d
+  pub closed : ¬ IsOpen d.journal.now
+
+-- What stands behind a stop, unless the volume failed: where a test of the journal failed, it reads
+-- as it did, and no bundle was opened.
+abbrev pub RestsBehind : Stop → List ℕ → Disk → Type 0
+RestsBehind Volume journal d = Unit {0}
+RestsBehind (Store (BadJournal place found)) journal d = IsQuiet d × (d.journal.now ≡ journal)
+RestsBehind stop journal d = IsShut d
+
+abbrev pub Rests : {X : Type 0} → Result X Stop → List ℕ → Disk → Type 0
+Rests (Ok x) journal d = IsShut d
+Rests (Err stop) journal d = RestsBehind stop journal d
 
 -- What a call leaves of the volume that recovers the bundle, and then changes nothing. The first
 -- type says that the volume failed.

@@ -1,9 +1,11 @@
 //! The commands that tell of the whole bundle.
 
-ghost use Rattle.std.specs.Prelude.{◌≡◌, ℕ, List, Option, Err};
+ghost use Rattle.std.specs.Prelude.{◌≡◌, ℕ, List, Option, Err, IsTrue};
+ghost use Rattle.outside_io.specs.declared.volume.VolFile.TheVariants.{Journal};
+ghost use Rattle.outside_io.specs.volume.History.{contents, current};
 ghost use Rattle.lerc_cli.specs.declared.command.Command.{Command};
 ghost use Rattle.lerc_cli.specs.Run.{OfOutput, files_of, given};
-ghost use Rattle.lerc_cli.specs.Tiles.{OfReading};
+ghost use Rattle.lerc_cli.specs.Tiles.{OfReading, Rests};
 ghost use Rattle.lerc_cli.specs.inside.Opening.{end_of};
 
 use crate::opening::{open_bundle, recovered};
@@ -31,6 +33,8 @@ pub fn recover<K: Sink, V: Volume>(out: &mut K, vol: &mut V) -> Result<(), Stop>
         (K.faults out.new) }
     ensures volume { OfReading (result ≡ Err Stop.Volume) (V.told vol.old) (V.told vol.new)
         (V.history vol.old) (V.history vol.new) (V.faults vol.old) (V.faults vol.new) }
+    ensures rests { IsTrue (V.told vol.old) → Rests result (contents Journal (V.history vol.old))
+        (current (V.history vol.new)) }
 {
     let found = match recovered(vol) {
         Ok(found) => found,
@@ -50,6 +54,8 @@ pub fn list<K: Sink, V: Volume>(alloc: Global, out: &mut K, vol: &mut V) -> Resu
         (K.faults out.new) }
     ensures volume { OfReading (result ≡ Err Stop.Volume) (V.told vol.old) (V.told vol.new)
         (V.history vol.old) (V.history vol.new) (V.faults vol.old) (V.faults vol.new) }
+    ensures rests { IsTrue (V.told vol.old) → Rests result (contents Journal (V.history vol.old))
+        (current (V.history vol.new)) }
 {
     let session = match open_bundle(alloc, vol) {
         Ok(session) => session,
@@ -66,6 +72,8 @@ pub fn check<K: Sink, V: Volume>(alloc: Global, out: &mut K, vol: &mut V) -> Res
         (K.faults out.new) }
     ensures volume { OfReading (result ≡ Err Stop.Volume) (V.told vol.old) (V.told vol.new)
         (V.history vol.old) (V.history vol.new) (V.faults vol.old) (V.faults vol.new) }
+    ensures rests { IsTrue (V.told vol.old) → Rests result (contents Journal (V.history vol.old))
+        (current (V.history vol.new)) }
 {
     let session = match open_bundle(alloc, vol) {
         Ok(session) => session,

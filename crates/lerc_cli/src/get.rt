@@ -1,9 +1,11 @@
 //! One tile of the bundle.
 
-ghost use Rattle.std.specs.Prelude.{◌≡◌, ℕ, List, Option, Err};
+ghost use Rattle.std.specs.Prelude.{◌≡◌, ℕ, List, Option, Err, IsTrue};
+ghost use Rattle.outside_io.specs.declared.volume.VolFile.TheVariants.{Journal};
+ghost use Rattle.outside_io.specs.volume.History.{contents, current};
 ghost use Rattle.lerc_cli.specs.declared.command.Command.{Command};
 ghost use Rattle.lerc_cli.specs.Run.{OfOutput, files_of, given};
-ghost use Rattle.lerc_cli.specs.Tiles.{OfReading};
+ghost use Rattle.lerc_cli.specs.Tiles.{OfReading, Rests};
 ghost use Rattle.lerc_cli.specs.inside.Opening.{ReadsTile, tile_stop_of};
 
 use crate::opening::open_bundle;
@@ -32,6 +34,8 @@ pub fn read_tile<V: Volume>(alloc: Global, slot: Slot, vol: &mut V) -> Result<By
     ensures gives { ReadsTile (files_of (V.told vol.old) (V.history vol.old)) slot result }
     ensures volume { OfReading (result ≡ Err Stop.Volume) (V.told vol.old) (V.told vol.new)
         (V.history vol.old) (V.history vol.new) (V.faults vol.old) (V.faults vol.new) }
+    ensures rests { IsTrue (V.told vol.old) → Rests result (contents Journal (V.history vol.old))
+        (current (V.history vol.new)) }
 {
     let session = match open_bundle(alloc, vol) {
         Ok(session) => session,
@@ -56,6 +60,8 @@ pub fn get_raw<K: Sink, V: Volume>(
         (K.faults out.new) }
     ensures volume { OfReading (result ≡ Err Stop.Volume) (V.told vol.old) (V.told vol.new)
         (V.history vol.old) (V.history vol.new) (V.faults vol.old) (V.faults vol.new) }
+    ensures rests { IsTrue (V.told vol.old) → Rests result (contents Journal (V.history vol.old))
+        (current (V.history vol.new)) }
 {
     let tile = match read_tile(alloc, slot, vol) {
         Ok(tile) => tile,
@@ -80,6 +86,8 @@ pub fn get<K: Sink, V: Volume>(
         (K.faults out.new) }
     ensures volume { OfReading (result ≡ Err Stop.Volume) (V.told vol.old) (V.told vol.new)
         (V.history vol.old) (V.history vol.new) (V.faults vol.old) (V.faults vol.new) }
+    ensures rests { IsTrue (V.told vol.old) → Rests result (contents Journal (V.history vol.old))
+        (current (V.history vol.new)) }
 {
     let tile = match read_tile(alloc, slot, vol) {
         Ok(tile) => tile,

@@ -3,6 +3,7 @@
 ghost use Rattle.lerc_cli.specs.declared.command.Command.{Command};
 ghost use Rattle.lerc_cli.specs.Answer.{AnswersOnce};
 ghost use Rattle.lerc_cli.specs.Command.{SpellsOne};
+ghost use Rattle.lerc_cli.specs.CutRuns.{SurvivesCuts};
 
 /// Words spell at most one command.
 pub fn one_command()
@@ -12,4 +13,10 @@ pub fn one_command()
 /// Where all that a command reads is told, it has one answer.
 pub fn one_answer()
     ensures { (c : Command) → AnswersOnce c }
+{}
+
+/// Crashes that cut off one run after the other, each begun on what was left, leave what stands for
+/// the tiles after some of the first updates of each run, at least those that were acknowledged.
+pub fn survives_cuts()
+    ensures { SurvivesCuts }
 {}

@@ -32,7 +32,7 @@ mod tile;
 
 pub use arguments::{Arguments, ProcessArguments, command_words};
 pub use command::Command;
-pub use laws::{one_answer, one_command};
+pub use laws::{one_answer, one_command, survives_cuts};
 pub use lines::tell;
 pub use paths::{Paths, bundle_paths};
 pub use program::{exit_code, serve};

@@ -5,7 +5,7 @@ ghost use Rattle.outside_io.specs.declared.volume.VolFile.TheVariants.{Bundle, J
 ghost use Rattle.outside_io.specs.volume.History.{contents, current};
 ghost use Rattle.bundle_store.specs.Recover.{IsRecovered, Leaves};
 ghost use Rattle.lerc_cli.specs.Run.{files_of};
-ghost use Rattle.lerc_cli.specs.Tiles.{OfReading};
+ghost use Rattle.lerc_cli.specs.Tiles.{OfReading, Rests};
 ghost use Rattle.lerc_cli.specs.inside.Opening.{IsOpened, OpeningStops, Recovers, opening_stop_of};
 
 use crate::stop::{Refusal, Stop};
@@ -37,6 +37,8 @@ pub fn recovered<V: Volume>(vol: &mut V) -> Result<Recovery, Stop>
         (V.history vol.old)) (current (V.history vol.new))) }
     ensures volume { OfReading (result ≡ Err Stop.Volume) (V.told vol.old) (V.told vol.new)
         (V.history vol.old) (V.history vol.new) (V.faults vol.old) (V.faults vol.new) }
+    ensures rests { IsTrue (V.told vol.old) → Rests result (contents Journal (V.history vol.old))
+        (current (V.history vol.new)) }
 {
     match recover(vol) {
         Ok(found) => Ok(found),
@@ -54,6 +56,8 @@ pub fn open_bundle<V: Volume>(alloc: Global, vol: &mut V) -> Result<Session, Sto
         OpeningStops (files_of (V.told vol.old) (V.history vol.old)) stop) }
     ensures volume { OfReading (result ≡ Err Stop.Volume) (V.told vol.old) (V.told vol.new)
         (V.history vol.old) (V.history vol.new) (V.faults vol.old) (V.faults vol.new) }
+    ensures rests { IsTrue (V.told vol.old) → Rests result (contents Journal (V.history vol.old))
+        (current (V.history vol.new)) }
 {
     let _found = match recovered(vol) {
         Ok(found) => found,

@@ -1,14 +1,15 @@
-ghost use Rattle.std.specs.Prelude.{◌≡◌, ◌≢◌, ◌⊎◌, ◌↔◌, ℕ, List, [], Some, Ok, Err, OnOk, length};
+ghost use Rattle.std.specs.Prelude.{◌≡◌, ◌≢◌, ◌⊎◌, ◌↔◌, ℕ, List, [], Some, Ok, Err, IsTrue, OnOk, length};
 ghost use Rattle.outside_io.specs.streams.Sink.{Holds};
 ghost use Rattle.outside_io.specs.streams.Source.{IsAtEnd};
+ghost use Rattle.outside_io.specs.volume.History.{current};
 ghost use Rattle.lerc_header.specs.declared.header.Version.{Version};
 ghost use Rattle.lerc_cli.specs.declared.command.Command.{Command};
 ghost use Rattle.lerc_cli.specs.declared.stop.Stop.{Stop};
 ghost use Rattle.lerc_cli.specs.Answer.{IsBlob, IsOutput, Tells};
 ghost use Rattle.bundle_store.specs.Tiles.{TileMap};
-ghost use Rattle.lerc_cli.specs.Tiles.{IsReady, KeepsTiles, UpdatesAt};
+ghost use Rattle.lerc_cli.specs.Tiles.{IsReady, IsShut, KeepsTiles, UpdatesAt};
 ghost use Rattle.bundle_store.specs.declared.tile_rec.TileRec.{TileRec};
-ghost use Rattle.lerc_cli.specs.Command.{IsSpelled, IsNoCommand};
+ghost use Rattle.lerc_cli.specs.Command.{IsSpelled, IsNoCommand, calls_volume};
 ghost use Rattle.outside_io.specs.program.Line.{GivesLine};
 ghost use Rattle.outside_io.specs.streams.Faults.{IsCause};
 ghost use Rattle.lerc_cli.specs.Run.{OfSource, OfOutput, OfVolume, OfRun, GivesLineOf, files_of, given};
@@ -197,6 +198,12 @@ pub fn run<S: Source, K: Sink, E: Sink, V: Volume>(
         × UpdatesAt c
         (given (S.left src.old) (files_of (V.told vol.old) (V.history vol.old))) end updates
         × KeepsTiles c updates result.marks.marks start (V.history vol.old) (V.history vol.new))) }
+
+    // A command on a bundle that ends well, or whose output alone fails, leaves the volume so that a
+    // crash leaves what is read, and the journal is not open.
+    ensures shut { (c : Command) → IsSpelled c words.now → IsTrue (calls_volume c)
+        → IsTrue (V.told vol.old) → (result.status ≡ 0) ⊎ (result.status ≡ 4)
+        → IsShut (current (V.history vol.new)) }
 
     // One line tells of each stop.
     ensures no_other_status { (result.status ≡ 0)

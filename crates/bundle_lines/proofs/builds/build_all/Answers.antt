@@ -75,3 +75,18 @@ returns-in-Err-raise-clause-later g c = c.raise.ensures.later
 
 pub returns-in-Err-raise-clause-told : goal.returns-in-Err-raise-clause-told
 returns-in-Err-raise-clause-told g c = c.raise.ensures.told
+
+pub returns-in-Err-clause-ready : goal.returns-in-Err-clause-ready
+returns-in-Err-clause-ready g c = c.requires.ready
+
+pub returns-in-Err-raise-clause-ready : goal.returns-in-Err-raise-clause-ready
+returns-in-Err-raise-clause-ready g c = c.in-Err-raise.ensures.ready
+
+pub returns-in-Ok-give_built-clause-ready : goal.returns-in-Ok-give_built-clause-ready
+returns-in-Ok-give_built-clause-ready g c = c.in-Ok-raise.ensures.ready
+
+pub returns-in-Err-give_built-clause-ready : goal.returns-in-Err-give_built-clause-ready
+returns-in-Err-give_built-clause-ready g c = c.in-Ok-raise.ensures.ready
+
+pub returns-in-Err-raise-clause-stops : goal.returns-in-Err-raise-clause-stops
+returns-in-Err-raise-clause-stops g c = c.in-Err-raise.ensures.stops

@@ -1,4 +1,4 @@
-use Rattle.std.proofs.Common.{◌≡◌, ℕ, List, length, Err, refl, rules, ap, sym, subst, ◌∙◌}
+use Rattle.std.proofs.Common.{◌≡◌, List, Err, refl, rules, ap, sym, subst, ◌∙◌}
 use Rattle.outside_io.specs.volume.History.{current}
 use Rattle.bundle_store.specs.declared.tile_rec.TileRec.{TileRec}
 use Rattle.lerc_cli.specs.declared.command.Command.TheVariants.{Build}
@@ -9,7 +9,8 @@ use Rattle.lerc_cli.specs.declared.stop.Stop.TheVariants.{Volume}
 use Rattle.lerc_cli.proofs.BundleOpening.{reads_as}
 use Rattle.lerc_cli.proofs.Outputs.{source_read}
 use Rattle.lerc_cli.proofs.PutRuns.{not_source}
-use Rattle.lerc_cli.proofs.BuildRuns.{build_all_output, build_all_volume, builds_not_source, early_output, early_volume, unopened_output, unopened_volume}
+use Rattle.lerc_cli.proofs.BuildRuns.{build_all_output, build_all_volume, builds_not_source, early_output, early_volume, unopened_output}
+use Rattle.lerc_cli.proofs.Unopened.{unopened_volume}
 use Rattle.lerc_cli.proofs.build.build.Goals as goal
 
 pub returns-in-Err-clause-output : goal.returns-in-Err-clause-output
@@ -30,8 +31,8 @@ returns-in-Err-open_bundle-clause-output g c = λ workers.
 
 pub returns-in-Err-open_bundle-clause-volume : goal.returns-in-Err-open_bundle-clause-volume
 returns-in-Err-open_bundle-clause-volume g c = λ workers.
-    rw c.in-Ok.ensures.none (unopened_volume c.args.version c.args.error workers _ c.in-Ok.updates.items c.in-Err-open_bundle.stop _ _ _ (g.V.Volume.history c.args.vol.now) (g.V.Volume.history c.open_bundle.new.vol) _ _ c.in-Ok.ensures.updates c.in-Err-open_bundle.ensures.refused
-    (reads_as _ _ _ _ _ _ _ _ (λ is. let same : c.in-Err-open_bundle.stop ≡ Volume = cc in same) (λ is. ap (λ s. Err s) is) c.in-Err-open_bundle.ensures.volume))
+    rw c.in-Ok.ensures.none (unopened_volume (Build c.args.version c.args.error workers) _ _ _ _ (g.V.Volume.history c.args.vol.now) (g.V.Volume.history c.open_bundle.new.vol) _ _ c.in-Ok.updates.items c.in-Err-open_bundle.stop (search rules) c.in-Ok.ensures.updates c.in-Err-open_bundle.ensures.refused
+    (reads_as _ _ _ _ _ _ _ _ (λ is. let same : c.in-Err-open_bundle.stop ≡ Volume = cc in same) (λ is. ap (λ s. Err s) is) c.in-Err-open_bundle.ensures.volume) c.in-Err-open_bundle.ensures.rests)
 
 pub returns-clause-source : goal.returns-clause-source
 returns-clause-source g c = λ workers.
@@ -51,4 +52,4 @@ returns-clause-volume g c = λ workers.
     let of = subst (λ (us : List TileRec). UpdatesOf (Build c.args.version c.args.error workers) (given (g.S.Source.left c.args.src.now) (files_of (g.V.Volume.told c.args.vol.now) old)) us) (sym c.as_slice.ensures.value) c.in-Ok.ensures.updates in
     rw c.build_end.ensures (build_all_volume c.args.version c.args.error workers _ _ _ _ _ old (g.V.Volume.history c.open_bundle.new.vol) (g.V.Volume.history c.build_all.new.vol) _ _ _ c.in-Ok-open_bundle.session c.as_slice.result.now _
     of (λ is. absurd cc) c.in-Ok-open_bundle.ensures.volume c.in-Ok-open_bundle.ensures.opened c.build_all.ensures.told c.build_all.ensures.later
-    c.build_all.new.marks.marks c.build_all.result c.build_all.ensures.marks c.build_all.ensures.reads c.build_all.ensures.images c.build_all.ensures.kept c.build_all.ensures.volume_failed)
+    c.build_all.new.marks.marks c.build_all.result c.build_all.ensures.marks c.build_all.ensures.reads c.build_all.ensures.images c.build_all.ensures.kept c.build_all.new.session c.build_all.ensures.ready c.build_all.ensures.volume_failed)

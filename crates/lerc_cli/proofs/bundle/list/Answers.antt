@@ -1,6 +1,8 @@
+use Rattle.std.proofs.Common.{◌∙◌}
 use Rattle.outside_io.specs.volume.History.{current}
 use Rattle.lerc_cli.proofs.BundleOpening.{reads_on}
 use Rattle.lerc_cli.proofs.Listed.{line_volume, listed}
+use Rattle.lerc_cli.proofs.Resting.{rests_lines, shut_still}
 use Rattle.lerc_cli.proofs.bundle.list.Goals as goal
 
 pub returns-clause-output : goal.returns-clause-output
@@ -10,3 +12,10 @@ returns-clause-output g c = λ input.
 pub returns-clause-volume : goal.returns-clause-volume
 returns-clause-volume g c =
     rw c.end.ensures (reads_on _ _ _ _ _ _ _ _ _ _ _ (λ is. absurd cc) c.in-Ok.ensures.volume (line_volume c.list_all.result _ _ c.list_all.ensures.volume_failed) c.list_all.ensures.told c.list_all.ensures.during)
+
+pub returns-in-Err-clause-rests : goal.returns-in-Err-clause-rests
+returns-in-Err-clause-rests g c = c.in-Err.ensures.rests
+
+pub returns-clause-rests : goal.returns-clause-rests
+returns-clause-rests g c = λ told.
+    rw c.end.ensures (rests_lines c.list_all.result _ _ (shut_still _ _ (c.list_all.ensures.during (c.in-Ok.ensures.volume.told ∙ told)) (c.in-Ok.ensures.rests told)))

@@ -2,6 +2,7 @@ use Rattle.std.proofs.Common.{ℕ, List, Ok, Err, refl, subst}
 use Rattle.lerc_cli.specs.inside.Opening.{DecodesTile}
 use Rattle.lerc_cli.proofs.BundleOpening.{reads_as}
 use Rattle.lerc_cli.proofs.Got.{grid_cut, grid_gave, tile_stopped}
+use Rattle.lerc_cli.proofs.Resting.{rests_undecoded}
 use Rattle.lerc_cli.proofs.get.get.Goals as goal
 
 pub returns-in-Err-decode_tile-clause-output : goal.returns-in-Err-decode_tile-clause-output
@@ -21,3 +22,16 @@ returns-clause-output g c = λ input.
 
 pub returns-clause-volume : goal.returns-clause-volume
 returns-clause-volume g c = reads_as _ _ _ _ _ _ _ _ (λ is. absurd cc) (λ is. absurd cc) c.in-Ok.ensures.volume
+
+pub returns-in-Err-clause-rests : goal.returns-in-Err-clause-rests
+returns-in-Err-clause-rests g c = c.in-Err.ensures.rests
+
+pub returns-in-Err-decode_tile-clause-rests : goal.returns-in-Err-decode_tile-clause-rests
+returns-in-Err-decode_tile-clause-rests g c = λ told.
+    rests_undecoded _ c.in-Err-decode_tile.stop _ _ c.in-Err-decode_tile.ensures (c.in-Ok.ensures.rests told)
+
+pub returns-in-Ok-grid_write-clause-rests : goal.returns-in-Ok-grid_write-clause-rests
+returns-in-Ok-grid_write-clause-rests g c = c.in-Ok.ensures.rests
+
+pub returns-clause-rests : goal.returns-clause-rests
+returns-clause-rests g c = c.in-Ok.ensures.rests

@@ -2,6 +2,7 @@ use Rattle.std.proofs.Common.{◌≡◌, Err, true, false, ap, sym, ◌∙◌}
 use Rattle.lerc_cli.specs.declared.stop.Stop.TheVariants.{Volume}
 use Rattle.lerc_cli.proofs.BundleOpening.{reads_on, still, tile_cause}
 use Rattle.lerc_cli.proofs.Ends.{caused}
+use Rattle.lerc_cli.proofs.Resting.{rests_unread, shut_still}
 use Rattle.lerc_cli.proofs.get.read_tile.Goals as goal
 
 pub returns-in-Ok-get-clause-volume : goal.returns-in-Ok-get-clause-volume
@@ -15,3 +16,15 @@ returns-in-Err-get-clause-volume g c =
     (tile_cause c.args.slot c.in-Err-get.fault _ _ c.in-Err-get.ensures.answers
     (λ is. let both : false ≡ true = sym c.in-Ok.ensures.running ∙ c.in-Err-get.ensures.stopped.0 (ap (λ s. Err s) is) in absurd cc) c.in-Err-get.ensures.counted))
     c.get.ensures.told c.get.ensures.during
+
+pub returns-in-Err-clause-rests : goal.returns-in-Err-clause-rests
+returns-in-Err-clause-rests g c = c.in-Err.ensures.rests
+
+pub returns-in-Ok-get-clause-rests : goal.returns-in-Ok-get-clause-rests
+returns-in-Ok-get-clause-rests g c = λ told.
+    shut_still _ _ (c.get.ensures.during (c.in-Ok.ensures.volume.told ∙ told)) (c.in-Ok.ensures.rests told)
+
+pub returns-in-Err-get-clause-rests : goal.returns-in-Err-get-clause-rests
+returns-in-Err-get-clause-rests g c = λ told.
+    rw c.tile_stop.ensures (rests_unread c.args.slot c.in-Err-get.fault _ _
+    (shut_still _ _ (c.get.ensures.during (c.in-Ok.ensures.volume.told ∙ told)) (c.in-Ok.ensures.rests told)))

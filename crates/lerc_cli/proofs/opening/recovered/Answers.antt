@@ -1,7 +1,9 @@
 use Rattle.std.proofs.Common.{◌≡◌, Err, inl, ap, sym, ◌∙◌}
+use Rattle.outside_io.specs.volume.History.{current}
 use Rattle.lerc_cli.specs.declared.stop.Stop.TheVariants.{Volume}
 use Rattle.lerc_cli.proofs.BundleOpening.{left_alone, opening_cause, recovering, still}
 use Rattle.lerc_cli.proofs.Ends.{caused}
+use Rattle.lerc_cli.proofs.Resting.{rests_refused, shut_recovered}
 use Rattle.lerc_cli.proofs.opening.recovered.Goals as goal
 
 pub returns-in-Ok-clause-volume : goal.returns-in-Ok-clause-volume
@@ -15,3 +17,10 @@ returns-in-Err-clause-volume g c =
     (opening_cause c.in-Err.fault _ _ (inl c.in-Err.ensures.answers) c.in-Err.ensures.counted))
     c.in-Err.ensures.told c.in-Err.ensures.images
     (λ told other. left_alone c.in-Err.fault (g.V.Volume.history c.args.vol.now) (g.V.Volume.history c.recover.new.vol) c.in-Err.ensures.answers (λ is. other (ap (λ s. Err s) (c.opening_stop.ensures ∙ is))) (c.in-Err.ensures.says told) (c.in-Err.ensures.refused told))
+
+pub returns-in-Ok-clause-rests : goal.returns-in-Ok-clause-rests
+returns-in-Ok-clause-rests g c = λ told. shut_recovered _ _ _ (c.in-Ok.ensures.done told)
+
+pub returns-in-Err-clause-rests : goal.returns-in-Err-clause-rests
+returns-in-Err-clause-rests g c = λ told.
+    rw c.opening_stop.ensures (rests_refused c.in-Err.fault (current (g.V.Volume.history c.args.vol.now)) _ c.in-Err.ensures.answers (c.in-Err.ensures.refused told))

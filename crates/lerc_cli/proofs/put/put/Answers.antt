@@ -1,4 +1,4 @@
-use Rattle.std.proofs.Common.{◌≡◌, ℕ, List, length, Err, refl, rules, ap, sym, subst, ◌∙◌}
+use Rattle.std.proofs.Common.{◌≡◌, List, length, Err, refl, rules, ap, sym, subst, ◌∙◌}
 use Rattle.outside_io.specs.volume.History.{current}
 use Rattle.bundle_store.specs.declared.tile_rec.TileRec.{TileRec}
 use Rattle.lerc_cli.specs.declared.command.Command.TheVariants.{Put}
@@ -8,7 +8,8 @@ use Rattle.lerc_cli.specs.inside.Updates.{put_end_of}
 use Rattle.lerc_cli.specs.declared.stop.Stop.TheVariants.{Volume}
 use Rattle.lerc_cli.proofs.BundleOpening.{reads_as}
 use Rattle.lerc_cli.proofs.Outputs.{source_read}
-use Rattle.lerc_cli.proofs.PutRuns.{early_output, early_volume, not_source, put_all_output, put_all_volume, puts_not_source, unopened_output, unopened_volume}
+use Rattle.lerc_cli.proofs.PutRuns.{early_output, early_volume, not_source, put_all_output, put_all_volume, puts_not_source, unopened_output}
+use Rattle.lerc_cli.proofs.Unopened.{unopened_volume}
 use Rattle.lerc_cli.proofs.put.put.Goals as goal
 
 pub returns-in-Err-clause-output : goal.returns-in-Err-clause-output
@@ -29,8 +30,8 @@ returns-in-Err-open_bundle-clause-output g c = λ workers.
 
 pub returns-in-Err-open_bundle-clause-volume : goal.returns-in-Err-open_bundle-clause-volume
 returns-in-Err-open_bundle-clause-volume g c = λ workers.
-    rw c.in-Ok.ensures.none (unopened_volume c.args.version c.args.error workers _ c.in-Ok.updates.items c.in-Err-open_bundle.stop _ _ _ (g.V.Volume.history c.args.vol.now) (g.V.Volume.history c.open_bundle.new.vol) _ _ c.in-Ok.ensures.updates c.in-Err-open_bundle.ensures.refused
-    (reads_as _ _ _ _ _ _ _ _ (λ is. let same : c.in-Err-open_bundle.stop ≡ Volume = cc in same) (λ is. ap (λ s. Err s) is) c.in-Err-open_bundle.ensures.volume))
+    rw c.in-Ok.ensures.none (unopened_volume (Put c.args.version c.args.error workers) _ _ _ _ (g.V.Volume.history c.args.vol.now) (g.V.Volume.history c.open_bundle.new.vol) _ _ c.in-Ok.updates.items c.in-Err-open_bundle.stop (search rules) c.in-Ok.ensures.updates c.in-Err-open_bundle.ensures.refused
+    (reads_as _ _ _ _ _ _ _ _ (λ is. let same : c.in-Err-open_bundle.stop ≡ Volume = cc in same) (λ is. ap (λ s. Err s) is) c.in-Err-open_bundle.ensures.volume) c.in-Err-open_bundle.ensures.rests)
 
 pub returns-clause-source : goal.returns-clause-source
 returns-clause-source g c = λ workers.
@@ -42,11 +43,11 @@ returns-clause-output g c = λ workers.
     let told = c.in-Ok-open_bundle.ensures.volume.told in
     let of = subst (λ (us : List TileRec). UpdatesOf (Put c.args.version c.args.error workers) (given (g.S.Source.left c.args.src.now) (files_of (g.V.Volume.told c.args.vol.now) old)) us) (sym c.as_slice.ensures.value) c.in-Ok.ensures.updates in
     rw c.put_end.ensures (put_all_output c.args.version c.args.error workers (g.S.Source.left c.args.src.now) (g.V.Volume.told c.args.vol.now) old c.in-Ok-open_bundle.session (current (g.V.Volume.history c.open_bundle.new.vol)) c.as_slice.result.now (length c.put_all.new.marks.marks) c.put_all.result _ _ _ _ _
-    of c.in-Ok-open_bundle.ensures.opened (λ t. c.put_all.ensures.room (told ∙ t)) c.put_all.ensures.full c.put_all.ensures.gave c.put_all.ensures.output_failed)
+    of c.in-Ok-open_bundle.ensures.opened (λ t. (c.put_all.ensures.ended.leaves (told ∙ t)).room) c.put_all.ensures.ended.full c.put_all.ensures.ended.gave c.put_all.ensures.output_failed)
 
 pub returns-clause-volume : goal.returns-clause-volume
 returns-clause-volume g c = λ workers.
     let old = g.V.Volume.history c.args.vol.now in
     let of = subst (λ (us : List TileRec). UpdatesOf (Put c.args.version c.args.error workers) (given (g.S.Source.left c.args.src.now) (files_of (g.V.Volume.told c.args.vol.now) old)) us) (sym c.as_slice.ensures.value) c.in-Ok.ensures.updates in
     rw c.put_end.ensures (put_all_volume c.args.version c.args.error workers _ _ _ _ _ old (g.V.Volume.history c.open_bundle.new.vol) (g.V.Volume.history c.put_all.new.vol) _ _ _ c.in-Ok-open_bundle.session c.as_slice.result.now c.put_all.new.marks.marks c.put_all.result _
-    of (λ is. absurd cc) c.in-Ok-open_bundle.ensures.volume c.in-Ok-open_bundle.ensures.opened c.put_all.ensures.volume_failed c.put_all.ensures.told c.put_all.ensures.reads c.put_all.ensures.images c.put_all.ensures.marks)
+    of (λ is. absurd cc) c.in-Ok-open_bundle.ensures.volume c.in-Ok-open_bundle.ensures.opened c.put_all.ensures.volume_failed c.put_all.ensures.told c.put_all.new.session c.put_all.ensures.ended.leaves)

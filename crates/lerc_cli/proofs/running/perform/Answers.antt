@@ -30,7 +30,7 @@ pub returns-in-Get-clause-output : goal.returns-in-Get-clause-output
 returns-in-Get-clause-output g c = rw (c.in-Get.is, c.requires) (c.get.ensures.output _)
 
 pub returns-in-Get-clause-volume : goal.returns-in-Get-clause-volume
-returns-in-Get-clause-volume g c = rw (c.in-Get.is, c.requires) (reading_volume _ _ _ _ _ _ _ _ _ _ (search rules) refl c.get.ensures.volume)
+returns-in-Get-clause-volume g c = rw (c.in-Get.is, c.requires) (reading_volume _ _ _ _ _ _ _ _ _ _ (search rules) refl c.get.ensures.volume c.get.ensures.rests)
 
 pub returns-in-GetRaw-clause-source : goal.returns-in-GetRaw-clause-source
 returns-in-GetRaw-clause-source g c = rw c.in-GetRaw.is (source_idle _ _ _ _ _ _ _ _ _ _ _ _ refl (search rules) (c.get_raw.ensures.output None))
@@ -39,7 +39,7 @@ pub returns-in-GetRaw-clause-output : goal.returns-in-GetRaw-clause-output
 returns-in-GetRaw-clause-output g c = rw (c.in-GetRaw.is, c.requires) (c.get_raw.ensures.output _)
 
 pub returns-in-GetRaw-clause-volume : goal.returns-in-GetRaw-clause-volume
-returns-in-GetRaw-clause-volume g c = rw (c.in-GetRaw.is, c.requires) (reading_volume _ _ _ _ _ _ _ _ _ _ (search rules) refl c.get_raw.ensures.volume)
+returns-in-GetRaw-clause-volume g c = rw (c.in-GetRaw.is, c.requires) (reading_volume _ _ _ _ _ _ _ _ _ _ (search rules) refl c.get_raw.ensures.volume c.get_raw.ensures.rests)
 
 pub returns-in-List-clause-source : goal.returns-in-List-clause-source
 returns-in-List-clause-source g c = rw c.in-List.is (source_idle _ _ _ _ _ _ _ _ _ _ _ _ refl (search rules) (c.list.ensures.output None))
@@ -48,7 +48,7 @@ pub returns-in-List-clause-output : goal.returns-in-List-clause-output
 returns-in-List-clause-output g c = rw (c.in-List.is, c.requires) (c.list.ensures.output _)
 
 pub returns-in-List-clause-volume : goal.returns-in-List-clause-volume
-returns-in-List-clause-volume g c = rw (c.in-List.is, c.requires) (reading_volume _ _ _ _ _ _ _ _ _ _ (search rules) refl c.list.ensures.volume)
+returns-in-List-clause-volume g c = rw (c.in-List.is, c.requires) (reading_volume _ _ _ _ _ _ _ _ _ _ (search rules) refl c.list.ensures.volume c.list.ensures.rests)
 
 pub returns-in-Check-clause-source : goal.returns-in-Check-clause-source
 returns-in-Check-clause-source g c = rw c.in-Check.is (source_idle _ _ _ _ _ _ _ _ _ _ _ _ refl (search rules) (c.check.ensures.output None))
@@ -57,7 +57,7 @@ pub returns-in-Check-clause-output : goal.returns-in-Check-clause-output
 returns-in-Check-clause-output g c = rw (c.in-Check.is, c.requires) (c.check.ensures.output _)
 
 pub returns-in-Check-clause-volume : goal.returns-in-Check-clause-volume
-returns-in-Check-clause-volume g c = rw (c.in-Check.is, c.requires) (reading_volume _ _ _ _ _ _ _ _ _ _ (search rules) refl c.check.ensures.volume)
+returns-in-Check-clause-volume g c = rw (c.in-Check.is, c.requires) (reading_volume _ _ _ _ _ _ _ _ _ _ (search rules) refl c.check.ensures.volume c.check.ensures.rests)
 
 pub returns-in-Recover-clause-source : goal.returns-in-Recover-clause-source
 returns-in-Recover-clause-source g c = rw c.in-Recover.is (source_idle _ _ _ _ _ _ _ _ _ _ _ _ refl (search rules) (c.recover.ensures.output None))
@@ -66,7 +66,7 @@ pub returns-in-Recover-clause-output : goal.returns-in-Recover-clause-output
 returns-in-Recover-clause-output g c = rw (c.in-Recover.is, c.requires) (c.recover.ensures.output _)
 
 pub returns-in-Recover-clause-volume : goal.returns-in-Recover-clause-volume
-returns-in-Recover-clause-volume g c = rw (c.in-Recover.is, c.requires) (reading_volume _ _ _ _ _ _ _ _ _ _ (search rules) refl c.recover.ensures.volume)
+returns-in-Recover-clause-volume g c = rw (c.in-Recover.is, c.requires) (reading_volume _ _ _ _ _ _ _ _ _ _ (search rules) refl c.recover.ensures.volume c.recover.ensures.rests)
 
 pub returns-in-Encode-clause-blob : goal.returns-in-Encode-clause-blob
 returns-in-Encode-clause-blob g c = λ version error is.

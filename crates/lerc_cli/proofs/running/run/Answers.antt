@@ -7,6 +7,7 @@ use Rattle.lerc_cli.proofs.Ends.{ok_at, output_status, some_status, source_statu
 use Rattle.lerc_cli.proofs.Exact.{complete, cut_short, decoded, exact, refused, wanted}
 use Rattle.lerc_cli.proofs.Informed.{informed, informed_exactly}
 use Rattle.lerc_cli.proofs.Outputs.{nothing_given, on_ok}
+use Rattle.lerc_cli.proofs.Resting.{shut_at}
 use Rattle.lerc_cli.proofs.running.run.Goals as goal
 
 pub returns-clause-usage : goal.returns-clause-usage
@@ -50,6 +51,10 @@ pub returns-clause-kept : goal.returns-clause-kept
 returns-clause-kept g c = λ command spelled start ready.
     let made = (c.act-ended.ensures.volume command spelled).tiles start ready in
     (made.0, (_, (c.ended_status-status.ensures.status, made.1.0, made.1.1)))
+
+pub returns-clause-shut : goal.returns-clause-shut
+returns-clause-shut g c = λ command spelled calls told which.
+    shut_at command _ _ _ _ _ _ _ _ _ _ _ c.ended_status-status.ensures.status calls told which (c.act-ended.ensures.volume command spelled)
 
 pub returns-clause-no_other_status : goal.returns-clause-no_other_status
 returns-clause-no_other_status g c = some_status _ _ c.ended_status-status.ensures.status

@@ -1,0 +1,5 @@
+use Rattle.lerc_cli.proofs.CutRuns.{survives}
+use Rattle.lerc_cli.proofs.laws.survives_cuts.Goals as goal
+
+pub returns : goal.returns
+returns c = survives
