@@ -110,6 +110,7 @@ RestsBehind Volume journal d = Unit {0}
 RestsBehind (Store (BadJournal place found)) journal d = IsQuiet d × (d.journal.now ≡ journal)
 RestsBehind stop journal d = IsShut d
 
+-- the same behind any end of a call on the bundle
 abbrev pub Rests : {X : Type 0} → Result X Stop → List ℕ → Disk → Type 0
 Rests (Ok x) journal d = IsShut d
 Rests (Err stop) journal d = RestsBehind stop journal d
