@@ -25,4 +25,4 @@ pub returns-else-place-cols-clause-in_range : goal.returns-else-place-cols-claus
 returns-else-place-cols-clause-in_range c =
     let r = c.args.raster.now in
     each_in_range r.kind c.values_from.new.out _ c.values_from.ensures.room
-    (λ i lt. subst (InRange r.kind) (sym (c.values_from.ensures.values i lt)) (value_in_range r c.args.d _ c.cols-cols.ensures.sound))
+    (λ i lt. subst (InRange r.kind) (sym (c.values_from.ensures.values i lt)) (value_in_range r _ _ c.cols-cols.ensures.sound))
