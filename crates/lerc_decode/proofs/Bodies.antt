@@ -304,8 +304,8 @@ coded_there h blob mask form at is mm c =
 pub sweep_there : (h : Header) (blob : List ℕ) (mask : MaskForm) (form : ImageForm) (at : ℕ) → form ≡ Sweep at → IsMaskForm h blob mask → IsImageForm h blob mask form → CodedThere h blob mask (Sweep at) at
 sweep_there h blob mask form at is mm m = coded_there h blob mask (Sweep at) at refl mm (subst (IsImageForm h blob mask) is m)
 
-behind_place : (h : Header) (blob : List ℕ) (mask : MaskForm) (form : ImageForm) (at place : ℕ) (t : CodedThere h blob mask form at) → place ≡ at → take (length blob - place) (drop place blob) ≡ t.values
-behind_place h blob mask form at place t is = take_rest blob place ∙ ap (λ n. drop n blob) is ∙ t.there
+behind_place : (h : Header) (blob : List ℕ) (mask : MaskForm) (form : ImageForm) (at : ℕ) (t : CodedThere h blob mask form at) → take (length blob - at) (drop at blob) ≡ t.values
+behind_place h blob mask form at t = take_rest blob at ∙ t.there
 
 pub image_coded : (h : Header) (blob : List ℕ) (mask : MaskForm) (form : ImageForm) (at : ℕ) (r : Pixels) (t : CodedThere h blob mask form at) → IsCoded h t.front (t.tell ++ t.values) r → IsImage h (image_of h blob mask) r
 image_coded h blob mask form at r t c = coded t.bare t.lists.lists (t.tell ++ t.values) t.front t.lists.joined t.lists.stand t.other c
@@ -315,24 +315,24 @@ pub coded_fault : (h : Header) (blob : List ℕ) (mask : MaskForm) (form : Image
 coded_fault h blob mask form marks at q p reason t e w =
     (length t.lists.lists + (length t.tell + q), (omega (arith, e, t.place), image_inside h marks (image_of h blob mask) (t.tell ++ t.values) t.front (length t.tell + q) reason t.bare t.other t.lists w))
 
-pub image_sweep : (h : Header) (blob : List ℕ) (mask : MaskForm) (at place : ℕ) (r : Pixels) (t : CodedThere h blob mask (Sweep at) at) → place ≡ at → IsSwept h (take (length blob - place) (drop place blob)) r → IsImage h (image_of h blob mask) r
-image_sweep h blob mask at place r t is s =
+pub image_sweep : (h : Header) (blob : List ℕ) (mask : MaskForm) (at : ℕ) (r : Pixels) (t : CodedThere h blob mask (Sweep at) at) → IsSwept h (take (length blob - at) (drop at blob)) r → IsImage h (image_of h blob mask) r
+image_sweep h blob mask at r t s =
     image_coded h blob mask (Sweep at) at r t
-    (sweep t.values (ap (λ (u : List ℕ). u ++ t.values) t.tells) (subst (λ (u : List ℕ). AreValues h.kind u (values_of r.pixels)) (behind_place h blob mask (Sweep at) at place t is) s.stands) s.count)
+    (sweep t.values (ap (λ (u : List ℕ). u ++ t.values) t.tells) (subst (λ (u : List ℕ). AreValues h.kind u (values_of r.pixels)) (behind_place h blob mask (Sweep at) at t) s.stands) s.count)
 
-pub sweep_fault : (h : Header) (blob : List ℕ) (mask : MaskForm) (marks : List Bool) (at place : ℕ) (t : CodedThere h blob mask (Sweep at) at) → place ≡ at → (p : ℕ) (reason : BlobReason)
-    → moved place (sweep_faults h (take (length blob - place) (drop place blob))) p reason → moved (image_place h mask) (image_faults h marks (image_of h blob mask)) p reason
-sweep_fault h blob mask marks at place t is p reason (q, (e, w)) =
-    coded_fault h blob mask (Sweep at) marks at q p reason t (e ∙ ap (λ n. n + q) is)
+pub sweep_fault : (h : Header) (blob : List ℕ) (mask : MaskForm) (marks : List Bool) (at : ℕ) (t : CodedThere h blob mask (Sweep at) at) → (p : ℕ) (reason : BlobReason)
+    → moved at (sweep_faults h (take (length blob - at) (drop at blob))) p reason → moved (image_place h mask) (image_faults h marks (image_of h blob mask)) p reason
+sweep_fault h blob mask marks at t p reason (q, (e, w)) =
+    coded_fault h blob mask (Sweep at) marks at q p reason t e
     (subst (λ (u : List ℕ). coded_of (insides h marks t.front) h (u ++ t.values) (length u + q) reason) (sym t.tells)
-    (sweep_inside (insides h marks t.front) h t.values q reason (subst (λ (u : List ℕ). sweep_faults h u q reason) (behind_place h blob mask (Sweep at) at place t is) w)))
+    (sweep_inside (insides h marks t.front) h t.values q reason (subst (λ (u : List ℕ). sweep_faults h u q reason) (behind_place h blob mask (Sweep at) at t) w)))
 
 -- ---- blocks
 
 pub image_blocks : (h : Header) (blob : List ℕ) (mask : MaskForm) (at : ℕ) (old r : Pixels) (tops : List ℤ) (t : CodedThere h blob mask (Blocks at) at) → 0 < h.depth → KeepsMarks old r
     → AreTopsOf h (image_of h blob mask) tops → HasBlocks h (marks_of old) tops (take (length blob - at) (drop at blob)) r → IsImage h (image_of h blob mask) r
 image_blocks h blob mask at old r tops t some keeps are b =
-    let values = behind_place h blob mask (Blocks at) at at t refl in
+    let values = behind_place h blob mask (Blocks at) at t in
     image_coded h blob mask (Blocks at) at r t
     (blocks t.tells.0 t.values (ap (λ (u : List ℕ). u ++ t.values) t.tells.1.1) t.tells.1.0 b.side
     (subst (λ (ms : List Bool). AreBlocks h ms (top_of h t.front) t.values (all_blocks h r)) keeps.marks
@@ -343,7 +343,7 @@ pub blocks_fault : (h : Header) (blob : List ℕ) (mask : MaskForm) (marks : Lis
     → AreTopsOf h (image_of h blob mask) tops → (p : ℕ) (reason : BlobReason) → moved at (blocks_faults h marks (top_in tops) (take (length blob - at) (drop at blob))) p reason
     → moved (image_place h mask) (image_faults h marks (image_of h blob mask)) p reason
 blocks_fault h blob mask marks at tops t some are p reason (q, (e, w)) =
-    let values = behind_place h blob mask (Blocks at) at at t refl in
+    let values = behind_place h blob mask (Blocks at) at t in
     let mode = t.tells.0 in
     let there : blocks_faults h marks (top_of h t.front) t.values q reason =
     faults_same h marks (top_in tops) (top_of h t.front) t.values q reason some (are.each t.front (t.tell ++ t.values) t.lists) (subst (λ (u : List ℕ). blocks_faults h marks (top_in tops) u q reason) values w) in
@@ -357,12 +357,12 @@ blocks_fault h blob mask marks at tops t some are p reason (q, (e, w)) =
 pub image_deltas : (h : Header) (blob : List ℕ) (mask : MaskForm) (at : ℕ) (r : Pixels) (t : CodedThere h blob mask (Delta at) at) → HasDeltas h (take (length blob - at) (drop at blob)) r → IsImage h (image_of h blob mask) r
 image_deltas h blob mask at r t d =
     image_coded h blob mask (Delta at) at r t
-    (delta t.values d.symbols (ap (λ (u : List ℕ). u ++ t.values) t.tells.1) t.tells.0 (subst (λ (u : List ℕ). IsCoding (value_count h) u d.symbols) (behind_place h blob mask (Delta at) at at t refl) d.coding) d.deltas)
+    (delta t.values d.symbols (ap (λ (u : List ℕ). u ++ t.values) t.tells.1) t.tells.0 (subst (λ (u : List ℕ). IsCoding (value_count h) u d.symbols) (behind_place h blob mask (Delta at) at t) d.coding) d.deltas)
 
 pub image_plain : (h : Header) (blob : List ℕ) (mask : MaskForm) (at : ℕ) (r : Pixels) (t : CodedThere h blob mask (Plain at) at) → HasPlain h (take (length blob - at) (drop at blob)) r → IsImage h (image_of h blob mask) r
 image_plain h blob mask at r t d =
     image_coded h blob mask (Plain at) at r t
-    (plain t.values d.symbols (ap (λ (u : List ℕ). u ++ t.values) t.tells.1.1) t.tells.0 t.tells.1.0 (subst (λ (u : List ℕ). IsCoding (value_count h) u d.symbols) (behind_place h blob mask (Plain at) at at t refl) d.coding) d.plain)
+    (plain t.values d.symbols (ap (λ (u : List ℕ). u ++ t.values) t.tells.1.1) t.tells.0 t.tells.1.0 (subst (λ (u : List ℕ). IsCoding (value_count h) u d.symbols) (behind_place h blob mask (Plain at) at t) d.coding) d.plain)
 
 -- the mode of codes
 codes_fault_at : (h : Header) (blob : List ℕ) (mask : MaskForm) (form : ImageForm) (marks : List Bool) (at mode : ℕ) (t : CodedThere h blob mask form at) → t.tell ≡ 0 ∷ mode ∷ [] → HasMode h → mode ≤ greatest_mode h.version → ¬ (mode ≡ 0)
@@ -371,7 +371,7 @@ codes_fault_at h blob mask form marks at mode t tell has low some p reason (q, (
     coded_fault h blob mask form marks at q p reason t e
     (subst (λ (u : List ℕ). coded_of (insides h marks t.front) h (u ++ t.values) (length u + q) reason) (sym tell)
     (subst (λ (n : ℕ). coded_of (insides h marks t.front) h (0 ∷ mode ∷ t.values) n reason) (let s : 1 + (1 + q) ≡ 2 + q = omega arith in s)
-    (codes_inside (insides h marks t.front) h mode t.values q reason has low some (subst (λ (u : List ℕ). codes_faults (value_count h) u q reason) (behind_place h blob mask form at at t refl) w))))
+    (codes_inside (insides h marks t.front) h mode t.values q reason has low some (subst (λ (u : List ℕ). codes_faults (value_count h) u q reason) (behind_place h blob mask form at t) w))))
 
 pub deltas_fault : (h : Header) (blob : List ℕ) (mask : MaskForm) (marks : List Bool) (at : ℕ) (t : CodedThere h blob mask (Delta at) at) → (p : ℕ) (reason : BlobReason)
     → moved at (codes_faults (value_count h) (take (length blob - at) (drop at blob))) p reason → moved (image_place h mask) (image_faults h marks (image_of h blob mask)) p reason

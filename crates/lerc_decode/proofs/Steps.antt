@@ -116,9 +116,7 @@ pub told_of : (taken : List ℕ) (s : Stage) → IsStageOf taken s → IsTold ta
 told_of taken Key stands = more_key taken stands
 told_of taken (Fields v) stands = more_fields taken v stands.0 stands.1.0 stands.1.1.0 stands.1.1.1
 told_of taken (Body h) stands = more_body taken h stands.0 stands.1
-told_of taken (Whole r) stands = stands
-told_of taken (Wrong place reason) stands = stands
-told_of taken NoMemory stands = stands
+told_of taken _ stands = stands
 
 take_sum : (i j : ℕ) (xs : List ℕ) → take (i + j) xs ≡ take i xs ++ take j (drop i xs)
 take_sum i j xs =
@@ -143,58 +141,38 @@ after_body_all : (s : Stage) (all : Type 0) → AfterBody s all → state_at s �
 after_body_all Key all w e = absurd w
 after_body_all (Fields v) all w e = absurd w
 after_body_all (Body h) all w e = w
-after_body_all (Whole r) all w e = absurd (cc)
-after_body_all (Wrong place reason) all w e = absurd (cc)
-after_body_all NoMemory all w e = absurd (cc)
+after_body_all _ all w e = absurd (cc)
 
 after_fields_all : (s : Stage) (all : Type 0) (v : Version) → AfterFields s all → s ≡ Fields v → all
 after_fields_all Key all v w e = absurd w
 after_fields_all (Fields u) all v w e = w
-after_fields_all (Body h) all v w e = absurd (cc)
 after_fields_all (Whole r) all v w e = absurd w
-after_fields_all (Wrong place reason) all v w e = absurd (cc)
-after_fields_all NoMemory all v w e = absurd (cc)
+after_fields_all _ all v w e = absurd (cc)
 
 after_fields_key : (s : Stage) (all : Type 0) → AfterFields s all → s ≡ Key → ⊥
 after_fields_key Key all w e = w
-after_fields_key (Fields u) all w e = cc
-after_fields_key (Body h) all w e = cc
 after_fields_key (Whole r) all w e = w
-after_fields_key (Wrong place reason) all w e = cc
-after_fields_key NoMemory all w e = cc
+after_fields_key _ all w e = cc
 
 after_key_all : (s : Stage) (all : Type 0) → AfterKey s all → s ≡ Key → all
 after_key_all Key all w e = w
 after_key_all (Fields v) all w e = absurd (cc)
-after_key_all (Body h) all w e = absurd w
-after_key_all (Whole r) all w e = absurd w
 after_key_all (Wrong place reason) all w e = absurd (cc)
-after_key_all NoMemory all w e = absurd w
+after_key_all _ all w e = absurd w
 
 key_all : (so : Stage) (o a : Decoding) (piece : List ℕ) (i : ℕ) → o.stage ≡ so → StepsKey so o a piece i → a.stage ≡ Key → i ≡ length piece
 key_all Key o a piece i is w e = after_key_all a.stage (i ≡ length piece) w e
-key_all (Fields v) o a piece i is w e = absurd (let same = ap (λ (d : Decoding). d.stage) w.0 in cc)
-key_all (Body h) o a piece i is w e = absurd (let same = ap (λ (d : Decoding). d.stage) w.0 in cc)
-key_all (Whole r) o a piece i is w e = absurd (let same = ap (λ (d : Decoding). d.stage) w.0 in cc)
-key_all (Wrong place reason) o a piece i is w e = absurd (let same = ap (λ (d : Decoding). d.stage) w.0 in cc)
-key_all NoMemory o a piece i is w e = absurd (let same = ap (λ (d : Decoding). d.stage) w.0 in cc)
+key_all _ o a piece i is w e = absurd (let same = ap (λ (d : Decoding). d.stage) w.0 in cc)
 
 -- a step over the fields that ends before the key does changed nothing
 fields_key : (sa : Stage) (a b : Decoding) (piece : List ℕ) (j : ℕ) → a.stage ≡ sa → StepsFields sa a b piece j → b.stage ≡ Key → (a.stage ≡ Key) × (j ≡ 0)
 fields_key Key a b piece j is w e = (is, w.1)
 fields_key (Fields v) a b piece j is w e = absurd (after_fields_key b.stage (j ≡ length piece) w e)
-fields_key (Body h) a b piece j is w e = absurd (let same = ap (λ (d : Decoding). d.stage) w.0 in cc)
-fields_key (Whole r) a b piece j is w e = absurd (let same = ap (λ (d : Decoding). d.stage) w.0 in cc)
-fields_key (Wrong place reason) a b piece j is w e = absurd (let same = ap (λ (d : Decoding). d.stage) w.0 in cc)
-fields_key NoMemory a b piece j is w e = absurd (let same = ap (λ (d : Decoding). d.stage) w.0 in cc)
+fields_key _ a b piece j is w e = absurd (let same = ap (λ (d : Decoding). d.stage) w.0 in cc)
 
 fields_all : (sa : Stage) (a b : Decoding) (piece : List ℕ) (j : ℕ) (v : Version) → a.stage ≡ sa → StepsFields sa a b piece j → b.stage ≡ Fields v → j ≡ length piece
-fields_all Key a b piece j v is w e = absurd (let same = ap (λ (d : Decoding). d.stage) w.0 in cc)
 fields_all (Fields u) a b piece j v is w e = after_fields_all b.stage (j ≡ length piece) v w e
-fields_all (Body h) a b piece j v is w e = absurd (let same = ap (λ (d : Decoding). d.stage) w.0 in cc)
-fields_all (Whole r) a b piece j v is w e = absurd (let same = ap (λ (d : Decoding). d.stage) w.0 in cc)
-fields_all (Wrong place reason) a b piece j v is w e = absurd (let same = ap (λ (d : Decoding). d.stage) w.0 in cc)
-fields_all NoMemory a b piece j v is w e = absurd (let same = ap (λ (d : Decoding). d.stage) w.0 in cc)
+fields_all _ a b piece j v is w e = absurd (let same = ap (λ (d : Decoding). d.stage) w.0 in cc)
 
 pub all_used : (sb : Stage) (o a b n : Decoding) (piece : List ℕ) (i j k : ℕ) → b.stage ≡ sb → i ≤ length piece → j ≤ length (left i piece) → StepsKey o.stage o a piece i → StepsFields a.stage a b (left i piece) j → StepsBody sb b n (left (i + j) piece) k
     → state_at n.stage ≡ More → i + j + k ≡ length piece
@@ -208,33 +186,25 @@ all_used (Fields v) o a b n piece i j k is li lj x y z e =
 all_used (Body h) o a b n piece i j k is li lj x y z e =
     let third : k ≡ length (left (i + j) piece) = after_body_all n.stage (k ≡ length (left (i + j) piece)) z e in
     omega (arith, third, li, lj, ap length (take_rest piece i), length-drop i piece, ap length (take_rest piece (i + j)), length-drop (i + j) piece)
-all_used (Whole r) o a b n piece i j k is li lj x y z e = absurd (let same = ap (λ (d : Decoding). state_at d.stage) z.0 in let there = ap state_at is in cc)
-all_used (Wrong place reason) o a b n piece i j k is li lj x y z e = absurd (let same = ap (λ (d : Decoding). state_at d.stage) z.0 in let there = ap state_at is in cc)
-all_used NoMemory o a b n piece i j k is li lj x y z e = absurd (let same = ap (λ (d : Decoding). state_at d.stage) z.0 in let there = ap state_at is in cc)
+all_used _ o a b n piece i j k is li lj x y z e = absurd (let same = ap (λ (d : Decoding). state_at d.stage) z.0 in let there = ap state_at is in cc)
 
 stopped_key : (s : Stage) (o n : Decoding) (piece : List ℕ) (i : ℕ) → HasStopped s → StepsKey s o n piece i → IsSame o n i
 stopped_key Key o n piece i h w = absurd h
 stopped_key (Fields v) o n piece i h w = absurd h
 stopped_key (Body b) o n piece i h w = absurd h
-stopped_key (Whole r) o n piece i h w = w
-stopped_key (Wrong place reason) o n piece i h w = w
-stopped_key NoMemory o n piece i h w = w
+stopped_key _ o n piece i h w = w
 
 stopped_fields : (s : Stage) (o n : Decoding) (piece : List ℕ) (i : ℕ) → HasStopped s → StepsFields s o n piece i → IsSame o n i
 stopped_fields Key o n piece i h w = absurd h
 stopped_fields (Fields v) o n piece i h w = absurd h
 stopped_fields (Body b) o n piece i h w = absurd h
-stopped_fields (Whole r) o n piece i h w = w
-stopped_fields (Wrong place reason) o n piece i h w = w
-stopped_fields NoMemory o n piece i h w = w
+stopped_fields _ o n piece i h w = w
 
 stopped_body : (s : Stage) (o n : Decoding) (piece : List ℕ) (i : ℕ) → HasStopped s → StepsBody s o n piece i → IsSame o n i
 stopped_body Key o n piece i h w = absurd h
 stopped_body (Fields v) o n piece i h w = absurd h
 stopped_body (Body b) o n piece i h w = absurd h
-stopped_body (Whole r) o n piece i h w = w
-stopped_body (Wrong place reason) o n piece i h w = w
-stopped_body NoMemory o n piece i h w = w
+stopped_body _ o n piece i h w = w
 
 pub stays : (o a b n : Decoding) (p q r : List ℕ) (i j k : ℕ) → StepsKey o.stage o a p i → StepsFields a.stage a b q j → StepsBody b.stage b n r k → HasStopped o.stage → IsSame o n (i + j + k)
 stays o a b n p q r i j k x y z h =
@@ -248,40 +218,24 @@ stays o a b n p q r i j k x y z h =
 -- ---- a piece that is no longer than what is missing
 
 is_used : (s : Stage) (piece : List ℕ) (n : ℕ) → n ≡ length piece → IsUsed s piece n
-is_used Key piece n e = e
-is_used (Fields v) piece n e = e
-is_used (Body h) piece n e = e
-is_used (Whole r) piece n e = e
-is_used (Wrong place reason) piece n e = e
 is_used NoMemory piece n e = tt
+is_used _ piece n e = e
 
 key_used : (s : Stage) (piece : List ℕ) (n : ℕ) → AfterKey s (n ≡ length piece) → IsUsed s piece n → n ≡ length piece
-key_used Key piece n a u = u
-key_used (Fields v) piece n a u = u
-key_used (Body h) piece n a u = u
-key_used (Whole r) piece n a u = u
-key_used (Wrong place reason) piece n a u = u
 key_used NoMemory piece n a u = absurd a
+key_used _ piece n a u = u
 
 length-left : (i : ℕ) (piece : List ℕ) → length (left i piece) ≡ length piece - i
 length-left i piece = ap length (take_rest piece i) ∙ length-drop i piece
 
 fields_used : (sb : Stage) (b n : Decoding) (piece : List ℕ) (i j k : ℕ) → b.stage ≡ sb → i ≡ 0 → IsUsed sb (left i piece) j → StepsBody sb b n (left (i + j) piece) k → k ≤ length (left (i + j) piece) → IsUsed n.stage piece (i + j + k)
-fields_used Key b n piece i j k is z u s low = is_used n.stage piece (i + j + k) (omega (arith, z, u, low, length-left i piece, length-left (i + j) piece))
-fields_used (Fields v) b n piece i j k is z u s low = is_used n.stage piece (i + j + k) (omega (arith, z, u, low, length-left i piece, length-left (i + j) piece))
-fields_used (Body h) b n piece i j k is z u s low = is_used n.stage piece (i + j + k) (omega (arith, z, u, low, length-left i piece, length-left (i + j) piece))
-fields_used (Whole r) b n piece i j k is z u s low = is_used n.stage piece (i + j + k) (omega (arith, z, u, low, length-left i piece, length-left (i + j) piece))
-fields_used (Wrong place reason) b n piece i j k is z u s low = is_used n.stage piece (i + j + k) (omega (arith, z, u, low, length-left i piece, length-left (i + j) piece))
 fields_used NoMemory b n piece i j k is z u s low =
     let same : n.stage ≡ NoMemory = ap (λ (d : Decoding). d.stage) s.0 ∙ is in subst (λ (st : Stage). IsUsed st piece (i + j + k)) (sym same) tt
+fields_used _ b n piece i j k is z u s low = is_used n.stage piece (i + j + k) (omega (arith, z, u, low, length-left i piece, length-left (i + j) piece))
 
 body_used : (s : Stage) (piece : List ℕ) (i j k : ℕ) → i ≡ 0 → j ≡ 0 → IsUsed s (left (i + j) piece) k → IsUsed s piece (i + j + k)
-body_used Key piece i j k zi zj u = omega (arith, zi, zj, u, length-left (i + j) piece)
-body_used (Fields v) piece i j k zi zj u = omega (arith, zi, zj, u, length-left (i + j) piece)
-body_used (Body h) piece i j k zi zj u = omega (arith, zi, zj, u, length-left (i + j) piece)
-body_used (Whole r) piece i j k zi zj u = omega (arith, zi, zj, u, length-left (i + j) piece)
-body_used (Wrong place reason) piece i j k zi zj u = omega (arith, zi, zj, u, length-left (i + j) piece)
 body_used NoMemory piece i j k zi zj u = tt
+body_used _ piece i j k zi zj u = omega (arith, zi, zj, u, length-left (i + j) piece)
 
 pub used_all : (so : Stage) (o a b n : Decoding) (piece : List ℕ) (i j k : ℕ) → o.stage ≡ so → i ≤ length piece → j ≤ length (left i piece) → k ≤ length (left (i + j) piece)
     → StepsKey so o a piece i → UsesKey so a.stage piece i → StepsFields a.stage a b (left i piece) j → (length (left i piece) ≤ missing_at a.stage (length a.taken) → UsesFields a.stage b.stage (left i piece) j)
@@ -302,6 +256,4 @@ used_all (Body h) o a b n piece i j k is li lj lk x ux y uy z uz short =
     let room : length (left (i + j) piece) ≤ missing_at b.stage (length b.taken) =
     subst (λ (s : Stage). length (left (i + j) piece) ≤ missing_at s (length b.taken)) (sym sb) (subst (λ (d : Decoding). length (left (i + j) piece) ≤ missing_at (Body h) (length d.taken)) (sym same) (omega (arith, x.1, second.1, short, length-left (i + j) piece))) in
     body_used n.stage piece i j k x.1 second.1 (subst (λ (s : Stage). UsesBody s n.stage (left (i + j) piece) k) sb (uz room))
-used_all (Whole r) o a b n piece i j k is li lj lk x ux y uy z uz short = is_used n.stage piece (i + j + k) (omega (arith, short, x.1, lj, lk, length-left i piece, length-left (i + j) piece))
-used_all (Wrong place reason) o a b n piece i j k is li lj lk x ux y uy z uz short = is_used n.stage piece (i + j + k) (omega (arith, short, x.1, lj, lk, length-left i piece, length-left (i + j) piece))
-used_all NoMemory o a b n piece i j k is li lj lk x ux y uy z uz short = is_used n.stage piece (i + j + k) (omega (arith, short, x.1, lj, lk, length-left i piece, length-left (i + j) piece))
+used_all _ o a b n piece i j k is li lj lk x ux y uy z uz short = is_used n.stage piece (i + j + k) (omega (arith, short, x.1, lj, lk, length-left i piece, length-left (i + j) piece))

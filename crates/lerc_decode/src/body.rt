@@ -9,12 +9,12 @@ ghost use Rattle.raster_values.specs.Values.{AreValues};
 ghost use Rattle.lerc_header.specs.Head.{HeadAt, head_length};
 ghost use Rattle.lerc_header.specs.Checksum.{sum_of};
 ghost use Rattle.lerc_grammar.specs.Mask.{IsMask, count_of, mask_faults, mask_size, runs_faults};
-ghost use Rattle.lerc_grammar.specs.Image.{IsImage, image_faults, sweep_faults, value_count};
+ghost use Rattle.lerc_grammar.specs.Image.{sweep_faults, value_count};
 ghost use Rattle.lerc_grammar.specs.Blob.{Blob, blob_faults};
 ghost use Rattle.lerc_grammar.specs.Outline.{IsImageForm, IsMaskForm, image_place};
 ghost use Rattle.lerc_grammar.specs.declared.parts.ImageForm.{ImageForm};
 ghost use Rattle.lerc_decode.specs.inside.Blocks.{AreTopsOf, HasBoth, IsOneTop};
-ghost use Rattle.lerc_decode.specs.inside.Body.{HasHeadShape, HasSum, IsFilledWith, IsMarkedBy, IsMarkedFor, IsStopOf, IsSwept, KeepsMarks};
+ghost use Rattle.lerc_decode.specs.inside.Body.{HasHeadShape, HasSum, IsFilledWith, IsMarkedBy, IsMarkedFor, IsStopOf, IsSwept, KeepsMarks, ReadsImage};
 
 use crate::blocks::pour_blocks;
 use crate::codes::{pour_deltas, pour_plain};
@@ -324,12 +324,7 @@ fn pour_topped(
     requires form { IsImageForm header.now blob.now mask.now (ImageForm.Blocks place) }
     requires filled { tops.old ≡ replicate header.now.depth header.now.greatest }
     requires shape { HasHeadShape header.now raster.old }
-    ensures marks { KeepsMarks raster.old raster.new }
-    ensures ok { OnOk result (IsImage header.now
-        (drop (image_place header.now mask.now) blob.now) raster.new) }
-    ensures fault { IfErr result (λ stop. IsStopOf (moved (image_place header.now mask.now)
-        (image_faults header.now (marks_of raster.old)
-        (drop (image_place header.now mask.now) blob.now))) stop) }
+    ensures { ReadsImage header.now blob.now mask.now raster.old raster.new result }
 {
     let start = place_behind(header, mask);
     read_tops(&blob[start..], header, tops);
@@ -350,12 +345,7 @@ fn read_blocks(
     requires mask { IsMaskForm header.now blob.now mask.now }
     requires form { IsImageForm header.now blob.now mask.now (ImageForm.Blocks place) }
     requires shape { HasHeadShape header.now raster.old }
-    ensures marks { KeepsMarks raster.old raster.new }
-    ensures ok { OnOk result (IsImage header.now
-        (drop (image_place header.now mask.now) blob.now) raster.new) }
-    ensures fault { IfErr result (λ stop. IsStopOf (moved (image_place header.now mask.now)
-        (image_faults header.now (marks_of raster.old)
-        (drop (image_place header.now mask.now) blob.now))) stop) }
+    ensures { ReadsImage header.now blob.now mask.now raster.old raster.new result }
 {
     let Some(mut tops) = many(alloc, header.greatest, header.depth as usize) else {
         return Err(BodyStop::OutOfMemory);
@@ -386,12 +376,7 @@ fn read_deltas(
     requires form { IsImageForm header.now blob.now mask.now (ImageForm.Delta place) }
     requires shape { HasHeadShape header.now raster.old }
     requires valid { count_of (marks_of raster.old) ≡ header.now.valid }
-    ensures marks { KeepsMarks raster.old raster.new }
-    ensures ok { OnOk result (IsImage header.now
-        (drop (image_place header.now mask.now) blob.now) raster.new) }
-    ensures fault { IfErr result (λ stop. IsStopOf (moved (image_place header.now mask.now)
-        (image_faults header.now (marks_of raster.old)
-        (drop (image_place header.now mask.now) blob.now))) stop) }
+    ensures { ReadsImage header.now blob.now mask.now raster.old raster.new result }
 {
     let Some(mut symbols) = room_for(alloc, value_len(header)) else {
         return Err(BodyStop::OutOfMemory);
@@ -414,12 +399,7 @@ fn read_plain(
     requires form { IsImageForm header.now blob.now mask.now (ImageForm.Plain place) }
     requires shape { HasHeadShape header.now raster.old }
     requires valid { count_of (marks_of raster.old) ≡ header.now.valid }
-    ensures marks { KeepsMarks raster.old raster.new }
-    ensures ok { OnOk result (IsImage header.now
-        (drop (image_place header.now mask.now) blob.now) raster.new) }
-    ensures fault { IfErr result (λ stop. IsStopOf (moved (image_place header.now mask.now)
-        (image_faults header.now (marks_of raster.old)
-        (drop (image_place header.now mask.now) blob.now))) stop) }
+    ensures { ReadsImage header.now blob.now mask.now raster.old raster.new result }
 {
     let Some(mut symbols) = room_for(alloc, value_len(header)) else {
         return Err(BodyStop::OutOfMemory);
@@ -442,12 +422,7 @@ fn read_image(
     requires form { IsImageForm header.now blob.now mask.now form.now }
     requires shape { HasHeadShape header.now raster.old }
     requires valid { count_of (marks_of raster.old) ≡ header.now.valid }
-    ensures marks { KeepsMarks raster.old raster.new }
-    ensures ok { OnOk result (IsImage header.now
-        (drop (image_place header.now mask.now) blob.now) raster.new) }
-    ensures fault { IfErr result (λ stop. IsStopOf (moved (image_place header.now mask.now)
-        (image_faults header.now (marks_of raster.old)
-        (drop (image_place header.now mask.now) blob.now))) stop) }
+    ensures { ReadsImage header.now blob.now mask.now raster.old raster.new result }
 {
     match *form {
         ImageForm::Empty => Ok(()),

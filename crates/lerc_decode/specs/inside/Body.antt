@@ -1,6 +1,6 @@
 -- What the parts of a blob leave in the raster, and why there is none.
-use Rattle.std.specs.Prelude.{◌≡◌, ℕ, ℤ, ◌-◌, ◌*◌, List, length, drop, take}
-use Rattle.first_fault.specs.Faults.{Faults}
+use Rattle.std.specs.Prelude.{◌≡◌, ℕ, ℤ, ◌-◌, ◌*◌, List, length, drop, take, Result, OnOk, IfErr}
+use Rattle.first_fault.specs.Faults.{Faults, moved}
 use Rattle.mask_runs.specs.Runs.{Runs}
 use Rattle.raster_values.specs.declared.kind.PixelType.{PixelType}
 use Rattle.raster_values.specs.Raster.{Pixels, values_of}
@@ -14,7 +14,7 @@ use Rattle.lerc_header.specs.Checksum.{sum_of}
 use Rattle.lerc_grammar.specs.declared.parts.MaskForm.{MaskForm}
 use Rattle.lerc_grammar.specs.Outline.{image_place}
 use Rattle.lerc_grammar.specs.Mask.{IsMask, mask_size, count_of}
-use Rattle.lerc_grammar.specs.Image.{value_count}
+use Rattle.lerc_grammar.specs.Image.{IsImage, image_faults, value_count}
 use Rattle.lerc_decode.specs.declared.body.BodyStop.{BodyStop}
 use Rattle.lerc_decode.specs.declared.body.BodyStop.TheVariants.{Fault, OutOfMemory}
 
@@ -67,3 +67,12 @@ pub record IsMarkedFor (h : Header) (blob : List ℕ) (form : MaskForm) (r : Pix
   pub mask : IsMask (h.rows * h.cols) h.valid
       (take (image_place h form - head_length h.version) (drop (head_length h.version) blob))
       (marks_of r)
+
+-- the image behind the mask is read into a raster that has the mask's marks: it keeps them and has
+-- the values that the bytes stand for, or there is no memory, or one of their faults
+pub record ReadsImage (h : Header) (blob : List ℕ) (mask : MaskForm) (old new : Pixels)
+    (result : Result (Unit {0}) BodyStop) : Type 0 where
+  pub marks : KeepsMarks old new
+  pub ok : OnOk result (IsImage h (drop (image_place h mask) blob) new)
+  pub fault : IfErr result (λ stop. IsStopOf (moved (image_place h mask)
+      (image_faults h (marks_of old) (drop (image_place h mask) blob))) stop)

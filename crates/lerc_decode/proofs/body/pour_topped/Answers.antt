@@ -1,4 +1,4 @@
-use Rattle.std.proofs.Common.{List, ℕ, drop, ◌∙◌, refl, sym, ap, subst, arith}
+use Rattle.std.proofs.Common.{List, ℕ, ◌<◌, drop, ◌∙◌, refl, sym, ap, subst, arith}
 use Rattle.std.proofs.lemmas.List.{take_rest}
 use Rattle.raster_values.specs.Flat.{marks_of}
 use Rattle.lerc_grammar.specs.declared.parts.ImageForm.TheVariants.{Blocks}
@@ -17,20 +17,17 @@ read_tops-requires-clause-lists c =
     ∙ ap (λ n. drop n blob) c.place_behind-start.ensures.value in
     subst (HasBoth h) (sym start) (both_there h blob c.args.mask.now form c.args.place there)
 
-pub returns-clause-ok : goal.returns-clause-ok
-returns-clause-ok c =
+pub returns : goal.returns
+returns c =
     let h = c.args.header.now in
     let blob = c.args.blob.now in
-    let there = coded_there h blob c.args.mask.now (Blocks c.args.place) c.args.place refl c.requires.mask c.requires.form in
+    let mask = c.args.mask.now in
+    let there = coded_there h blob mask (Blocks c.args.place) c.args.place refl c.requires.mask c.requires.form in
     let start = take_rest blob c.place_behind-start.result ∙ ap (λ n. drop n blob) c.place_behind-start.ensures.value in
     let tops = subst (λ (u : List ℕ). AreTopsOf h u c.read_tops.new.tops) start c.read_tops.ensures in
-    ok_map _ _ (λ b. image_blocks h blob c.args.mask.now c.args.place c.args.raster.now c.pour_blocks.new.raster c.read_tops.new.tops there (omega (arith, c.requires.head.shape.depth_above)) c.pour_blocks.ensures.marks tops b) c.pour_blocks.result c.pour_blocks.ensures.ok
-
-pub returns-clause-fault : goal.returns-clause-fault
-returns-clause-fault c =
-    let h = c.args.header.now in
-    let blob = c.args.blob.now in
-    let there = coded_there h blob c.args.mask.now (Blocks c.args.place) c.args.place refl c.requires.mask c.requires.form in
-    let start = take_rest blob c.place_behind-start.result ∙ ap (λ n. drop n blob) c.place_behind-start.ensures.value in
-    let tops = subst (λ (u : List ℕ). AreTopsOf h u c.read_tops.new.tops) start c.read_tops.ensures in
-    err_map _ _ (λ p r w. blocks_fault h blob c.args.mask.now (marks_of c.args.raster.now) c.args.place c.read_tops.new.tops there (omega (arith, c.requires.head.shape.depth_above)) tops p r w) c.pour_blocks.result c.pour_blocks.ensures.fault
+    let some : 0 < h.depth = omega (arith, c.requires.head.shape.depth_above) in
+    record {
+      marks = c.pour_blocks.ensures.marks;
+      ok = ok_map _ _ (image_blocks h blob mask c.args.place c.args.raster.now c.pour_blocks.new.raster c.read_tops.new.tops there some c.pour_blocks.ensures.marks tops) c.pour_blocks.result c.pour_blocks.ensures.ok;
+      fault = err_map _ _ (blocks_fault h blob mask (marks_of c.args.raster.now) c.args.place c.read_tops.new.tops there some tops) c.pour_blocks.result c.pour_blocks.ensures.fault;
+    }

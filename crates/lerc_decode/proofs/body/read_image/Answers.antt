@@ -1,4 +1,5 @@
 use Rattle.std.proofs.Common.{◌≡◌, ◌≤◌, ℕ, List, ◌*◌, ◌-◌, length, refl, ap, arith}
+use Rattle.first_fault.specs.Parts.{AreBytes}
 use Rattle.raster_values.specs.PixelType.{bytes_of}
 use Rattle.raster_values.specs.Flat.{marks_of}
 use Rattle.lerc_header.specs.declared.header.Header.{Header}
@@ -6,7 +7,7 @@ use Rattle.lerc_grammar.specs.declared.parts.MaskForm.{MaskForm}
 use Rattle.lerc_grammar.specs.declared.parts.ImageForm.{ImageForm}
 use Rattle.lerc_grammar.specs.declared.parts.ImageForm.TheVariants.{Ranges}
 use Rattle.lerc_grammar.specs.Outline.{IsMaskForm, IsImageForm}
-use Rattle.lerc_decode.proofs.Bodies.{image_empty, ranges_there, image_ranges, sweep_there, image_sweep, sweep_fault, few_values, ok_map, err_map}
+use Rattle.lerc_decode.proofs.Bodies.{image_empty, ranges_there, image_ranges, sweep_there, image_sweep, sweep_fault, few_values, no_memory, ok_map, err_map}
 use Rattle.lerc_decode.proofs.body.read_image.Goals as goal
 
 -- both lists stand in the blob
@@ -38,28 +39,36 @@ pub pour_sweep-requires-clause-values : goal.pour_sweep-requires-clause-values
 pour_sweep-requires-clause-values c =
     few_values c.args.blob.now c.args.header.now c.requires.head
 
-pub returns-in-Empty-clause-ok : goal.returns-in-Empty-clause-ok
-returns-in-Empty-clause-ok c = image_empty c.args.header.now c.args.blob.now c.args.mask.now c.args.form.now c.args.raster.now c.in-Empty.is c.requires.form c.requires.valid
+pub returns-in-Empty : goal.returns-in-Empty
+returns-in-Empty c = record {
+  marks = record { kind = refl; rows = refl; cols = refl; depth = refl; marks = refl };
+  ok = image_empty c.args.header.now c.args.blob.now c.args.mask.now c.args.form.now c.args.raster.now c.in-Empty.is c.requires.form c.requires.valid;
+  fault = tt;
+}
 
-pub returns-in-Ranges-clause-ok : goal.returns-in-Ranges-clause-ok
-returns-in-Ranges-clause-ok c =
+pub returns-in-Ranges : goal.returns-in-Ranges
+returns-in-Ranges c =
     let h = c.args.header.now in
     let blob = c.args.blob.now in
     let size = h.depth * c.bytes.result in
     let size_is = ap (λ n. h.depth * n) c.bytes.ensures in
     let there = ranges_there h blob c.args.mask.now c.args.form.now size c.in-Ranges.is c.requires.mask c.requires.form size_is in
-    ok_map _ _ (λ f. image_ranges h blob c.args.mask.now size (length blob - 2 * size) c.fill_list.new.raster (λ i. omega (arith, c.type_inv.blob i)) there size_is refl f) c.fill_list.result c.fill_list.ensures.ok
+    let bytes : AreBytes blob = λ i. omega (arith, c.type_inv.blob i) in
+    record {
+      marks = c.fill_list.ensures.marks;
+      ok = ok_map _ _ (image_ranges h blob c.args.mask.now size (length blob - 2 * size) c.fill_list.new.raster bytes there size_is refl) c.fill_list.result c.fill_list.ensures.ok;
+      fault = no_memory _ c.fill_list.result c.fill_list.ensures.stop;
+    }
 
-pub returns-in-Sweep-clause-ok : goal.returns-in-Sweep-clause-ok
-returns-in-Sweep-clause-ok c =
+pub returns-in-Sweep : goal.returns-in-Sweep
+returns-in-Sweep c =
     let h = c.args.header.now in
     let blob = c.args.blob.now in
-    let there = sweep_there h blob c.args.mask.now c.args.form.now c.in-Sweep.at c.in-Sweep.is c.requires.mask c.requires.form in
-    ok_map _ _ (λ s. image_sweep h blob c.args.mask.now c.in-Sweep.at c.in-Sweep.at c.pour_sweep.new.raster there refl s) c.pour_sweep.result c.pour_sweep.ensures.ok
-
-pub returns-in-Sweep-clause-fault : goal.returns-in-Sweep-clause-fault
-returns-in-Sweep-clause-fault c =
-    let h = c.args.header.now in
-    let blob = c.args.blob.now in
-    let there = sweep_there h blob c.args.mask.now c.args.form.now c.in-Sweep.at c.in-Sweep.is c.requires.mask c.requires.form in
-    err_map _ _ (λ p r w. sweep_fault h blob c.args.mask.now (marks_of c.args.raster.now) c.in-Sweep.at c.in-Sweep.at there refl p r w) c.pour_sweep.result c.pour_sweep.ensures.fault
+    let mask = c.args.mask.now in
+    let at = c.in-Sweep.at in
+    let there = sweep_there h blob mask c.args.form.now at c.in-Sweep.is c.requires.mask c.requires.form in
+    record {
+      marks = c.pour_sweep.ensures.marks;
+      ok = ok_map _ _ (image_sweep h blob mask at c.pour_sweep.new.raster there) c.pour_sweep.result c.pour_sweep.ensures.ok;
+      fault = err_map _ _ (sweep_fault h blob mask (marks_of c.args.raster.now) at there) c.pour_sweep.result c.pour_sweep.ensures.fault;
+    }

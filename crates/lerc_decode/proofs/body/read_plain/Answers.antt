@@ -10,14 +10,13 @@ value_len-requires c = few_values c.args.blob.now c.args.header.now c.requires.h
 pub pour_plain-requires-clause-values : goal.pour_plain-requires-clause-values
 pour_plain-requires-clause-values c = few_values c.args.blob.now c.args.header.now c.requires.head
 
-pub returns-clause-ok : goal.returns-clause-ok
-returns-clause-ok c =
+pub returns : goal.returns
+returns c =
     let h = c.args.header.now in
-    let there = coded_there h c.args.blob.now c.args.mask.now (Plain c.args.place) c.args.place refl c.requires.mask c.requires.form in
-    ok_map _ _ (λ b. image_plain h c.args.blob.now c.args.mask.now c.args.place c.pour_plain.new.raster there b) c.pour_plain.result c.pour_plain.ensures.ok
-
-pub returns-clause-fault : goal.returns-clause-fault
-returns-clause-fault c =
-    let h = c.args.header.now in
-    let there = coded_there h c.args.blob.now c.args.mask.now (Plain c.args.place) c.args.place refl c.requires.mask c.requires.form in
-    err_map _ _ (λ p r w. plain_fault h c.args.blob.now c.args.mask.now (marks_of c.args.raster.now) c.args.place there p r w) c.pour_plain.result c.pour_plain.ensures.fault
+    let blob = c.args.blob.now in
+    let there = coded_there h blob c.args.mask.now (Plain c.args.place) c.args.place refl c.requires.mask c.requires.form in
+    record {
+      marks = c.pour_plain.ensures.marks;
+      ok = ok_map _ _ (image_plain h blob c.args.mask.now c.args.place c.pour_plain.new.raster there) c.pour_plain.result c.pour_plain.ensures.ok;
+      fault = err_map _ _ (plain_fault h blob c.args.mask.now (marks_of c.args.raster.now) c.args.place there) c.pour_plain.result c.pour_plain.ensures.fault;
+    }
