@@ -52,13 +52,13 @@ pub stop_map : (f g : Faults BlobReason) → ((p : ℕ) (r : BlobReason) → f p
 stop_map f g go (Fault x) w = go x.place x.reason w
 stop_map f g go OutOfMemory w = tt
 
-pub err_map : {T : Type 0} (f g : Faults BlobReason) → ((p : ℕ) (r : BlobReason) → f p r → g p r) → (result : Result T BodyStop) → IfErr result (IsStopOf f) → IfErr result (IsStopOf g)
-err_map f g go (Ok x) w = tt
-err_map f g go (Err stop) w = stop_map f g go stop w
+pub err_map : {T : Type 0} {f g : Faults BlobReason} → ((p : ℕ) (r : BlobReason) → f p r → g p r) → (result : Result T BodyStop) → IfErr result (IsStopOf f) → IfErr result (IsStopOf g)
+err_map go (Ok x) w = tt
+err_map {f = f} {g = g} go (Err stop) w = stop_map f g go stop w
 
-pub ok_map : {T : Type 0} (P Q : Type 0) → (P → Q) → (result : Result T BodyStop) → OnOk result P → OnOk result Q
-ok_map P Q go (Ok x) p = go p
-ok_map P Q go (Err stop) p = tt
+pub ok_map : {T P Q : Type 0} → (P → Q) → (result : Result T BodyStop) → OnOk result P → OnOk result Q
+ok_map go (Ok x) p = go p
+ok_map go (Err stop) p = tt
 
 -- ---- the mask
 

@@ -356,7 +356,8 @@ fn read_blocks(
 /// How many values the image has.
 fn value_len(header: &Header) -> usize
     requires { header.now.valid * header.now.depth ≤ 16777216 }
-    ensures { result ≡ value_count header.now }
+    ensures value { result ≡ value_count header.now }
+    ensures few { result ≤ 16777216 }
 {
     header.valid as usize * header.depth as usize
 }

@@ -28,6 +28,6 @@ returns c =
     let some : 0 < h.depth = omega (arith, c.requires.head.shape.depth_above) in
     record {
       marks = c.pour_blocks.ensures.marks;
-      ok = ok_map _ _ (image_blocks h blob mask c.args.place c.args.raster.now c.pour_blocks.new.raster c.read_tops.new.tops there some c.pour_blocks.ensures.marks tops) c.pour_blocks.result c.pour_blocks.ensures.ok;
-      fault = err_map _ _ (blocks_fault h blob mask (marks_of c.args.raster.now) c.args.place c.read_tops.new.tops there some tops) c.pour_blocks.result c.pour_blocks.ensures.fault;
+      ok = ok_map (image_blocks h blob mask c.args.place c.args.raster.now c.pour_blocks.new.raster c.read_tops.new.tops there some c.pour_blocks.ensures.marks tops) c.pour_blocks.result c.pour_blocks.ensures.ok;
+      fault = err_map (blocks_fault h blob mask (marks_of c.args.raster.now) c.args.place c.read_tops.new.tops there some tops) c.pour_blocks.result c.pour_blocks.ensures.fault;
     }

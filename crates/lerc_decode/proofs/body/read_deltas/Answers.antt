@@ -7,9 +7,6 @@ use Rattle.lerc_decode.proofs.body.read_deltas.Goals as goal
 pub value_len-requires : goal.value_len-requires
 value_len-requires c = few_values c.args.blob.now c.args.header.now c.requires.head
 
-pub pour_deltas-requires-clause-values : goal.pour_deltas-requires-clause-values
-pour_deltas-requires-clause-values c = few_values c.args.blob.now c.args.header.now c.requires.head
-
 pub returns : goal.returns
 returns c =
     let h = c.args.header.now in
@@ -17,6 +14,6 @@ returns c =
     let there = coded_there h blob c.args.mask.now (Delta c.args.place) c.args.place refl c.requires.mask c.requires.form in
     record {
       marks = c.pour_deltas.ensures.marks;
-      ok = ok_map _ _ (image_deltas h blob c.args.mask.now c.args.place c.pour_deltas.new.raster there) c.pour_deltas.result c.pour_deltas.ensures.ok;
-      fault = err_map _ _ (deltas_fault h blob c.args.mask.now (marks_of c.args.raster.now) c.args.place there) c.pour_deltas.result c.pour_deltas.ensures.fault;
+      ok = ok_map (image_deltas h blob c.args.mask.now c.args.place c.pour_deltas.new.raster there) c.pour_deltas.result c.pour_deltas.ensures.ok;
+      fault = err_map (deltas_fault h blob c.args.mask.now (marks_of c.args.raster.now) c.args.place there) c.pour_deltas.result c.pour_deltas.ensures.fault;
     }

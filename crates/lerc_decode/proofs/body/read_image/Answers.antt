@@ -56,7 +56,7 @@ returns-in-Ranges c =
     let bytes : AreBytes blob = λ i. omega (arith, c.type_inv.blob i) in
     record {
       marks = c.fill_list.ensures.marks;
-      ok = ok_map _ _ (image_ranges h blob c.args.mask.now size (length blob - 2 * size) c.fill_list.new.raster bytes there size_is refl) c.fill_list.result c.fill_list.ensures.ok;
+      ok = ok_map (image_ranges h blob c.args.mask.now size (length blob - 2 * size) c.fill_list.new.raster bytes there size_is refl) c.fill_list.result c.fill_list.ensures.ok;
       fault = no_memory _ c.fill_list.result c.fill_list.ensures.stop;
     }
 
@@ -69,6 +69,6 @@ returns-in-Sweep c =
     let there = sweep_there h blob mask c.args.form.now at c.in-Sweep.is c.requires.mask c.requires.form in
     record {
       marks = c.pour_sweep.ensures.marks;
-      ok = ok_map _ _ (image_sweep h blob mask at c.pour_sweep.new.raster there) c.pour_sweep.result c.pour_sweep.ensures.ok;
-      fault = err_map _ _ (sweep_fault h blob mask (marks_of c.args.raster.now) at there) c.pour_sweep.result c.pour_sweep.ensures.fault;
+      ok = ok_map (image_sweep h blob mask at c.pour_sweep.new.raster there) c.pour_sweep.result c.pour_sweep.ensures.ok;
+      fault = err_map (sweep_fault h blob mask (marks_of c.args.raster.now) at there) c.pour_sweep.result c.pour_sweep.ensures.fault;
     }

@@ -24,8 +24,8 @@ returns-in-Full-clause-ok c =
 
 pub returns-in-Runs-clause-ok : goal.returns-in-Runs-clause-ok
 returns-in-Runs-clause-ok c =
-    ok_map _ _ (λ b. runs_mask c.args.header.now c.args.blob.now c.args.form.now _ c.in-Runs.at c.in-Runs.len _ c.in-Runs.is c.requires.form (ap (λ n. n + 4) c.head_length-place.ensures) b) c.mark_runs.result c.mark_runs.ensures.ok
+    ok_map (λ b. runs_mask c.args.header.now c.args.blob.now c.args.form.now _ c.in-Runs.at c.in-Runs.len _ c.in-Runs.is c.requires.form (ap (λ n. n + 4) c.head_length-place.ensures) b) c.mark_runs.result c.mark_runs.ensures.ok
 
 pub returns-in-Runs-clause-fault : goal.returns-in-Runs-clause-fault
 returns-in-Runs-clause-fault c =
-    err_map _ _ (λ p r w. runs_fault c.args.header.now c.args.blob.now c.args.form.now c.in-Runs.at c.in-Runs.len _ p r c.in-Runs.is c.requires.form (ap (λ n. n + 4) c.head_length-place.ensures) w) c.mark_runs.result c.mark_runs.ensures.fault
+    err_map (λ p r w. runs_fault c.args.header.now c.args.blob.now c.args.form.now c.in-Runs.at c.in-Runs.len _ p r c.in-Runs.is c.requires.form (ap (λ n. n + 4) c.head_length-place.ensures) w) c.mark_runs.result c.mark_runs.ensures.fault

@@ -7,9 +7,6 @@ use Rattle.lerc_decode.proofs.body.read_plain.Goals as goal
 pub value_len-requires : goal.value_len-requires
 value_len-requires c = few_values c.args.blob.now c.args.header.now c.requires.head
 
-pub pour_plain-requires-clause-values : goal.pour_plain-requires-clause-values
-pour_plain-requires-clause-values c = few_values c.args.blob.now c.args.header.now c.requires.head
-
 pub returns : goal.returns
 returns c =
     let h = c.args.header.now in
@@ -17,6 +14,6 @@ returns c =
     let there = coded_there h blob c.args.mask.now (Plain c.args.place) c.args.place refl c.requires.mask c.requires.form in
     record {
       marks = c.pour_plain.ensures.marks;
-      ok = ok_map _ _ (image_plain h blob c.args.mask.now c.args.place c.pour_plain.new.raster there) c.pour_plain.result c.pour_plain.ensures.ok;
-      fault = err_map _ _ (plain_fault h blob c.args.mask.now (marks_of c.args.raster.now) c.args.place there) c.pour_plain.result c.pour_plain.ensures.fault;
+      ok = ok_map (image_plain h blob c.args.mask.now c.args.place c.pour_plain.new.raster there) c.pour_plain.result c.pour_plain.ensures.ok;
+      fault = err_map (plain_fault h blob c.args.mask.now (marks_of c.args.raster.now) c.args.place there) c.pour_plain.result c.pour_plain.ensures.fault;
     }

@@ -16,11 +16,11 @@ refused-requires c =
 
 pub returns-in-Ok-clause-ok : goal.returns-in-Ok-clause-ok
 returns-in-Ok-clause-ok c =
-    ok_map _ _ (λ w. coding_read (length c.args.symbols.now) c.in-Ok.used c.args.rest.now c.read_words.new.symbols c.in-Ok.codes c.in-Ok.ensures.ok w) c.read_words.result c.read_words.ensures.ok
+    ok_map (λ w. coding_read (length c.args.symbols.now) c.in-Ok.used c.args.rest.now c.read_words.new.symbols c.in-Ok.codes c.in-Ok.ensures.ok w) c.read_words.result c.read_words.ensures.ok
 
 pub returns-in-Ok-clause-fault : goal.returns-in-Ok-clause-fault
 returns-in-Ok-clause-fault c =
-    err_map _ _ (λ p r w. coding_fault (length c.args.symbols.now) c.in-Ok.used c.args.place p c.args.rest.now r c.in-Ok.codes c.in-Ok.ensures.ok w) c.read_words.result c.read_words.ensures.fault
+    err_map (λ p r w. coding_fault (length c.args.symbols.now) c.in-Ok.used c.args.place p c.args.rest.now r c.in-Ok.codes c.in-Ok.ensures.ok w) c.read_words.result c.read_words.ensures.fault
 
 pub returns-in-Err-clause-fault : goal.returns-in-Err-clause-fault
 returns-in-Err-clause-fault c =
