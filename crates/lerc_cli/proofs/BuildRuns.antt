@@ -27,7 +27,7 @@ use Rattle.lerc_cli.specs.declared.stop.Stop.TheVariants.{Usage, Refused, Source
 use Rattle.lerc_cli.specs.Answer.{Ends, Given, IsNoUpdates, UpdatesOf, stream_stop_of}
 use Rattle.lerc_cli.specs.Run.{OfOutput, OfVolume, files_of, given}
 use Rattle.lerc_cli.specs.Stop.{End}
-use Rattle.lerc_cli.specs.Tiles.{IsReady, IsShut, OfReading, UpdatesAt, has_updates, is_early}
+use Rattle.lerc_cli.specs.Tiles.{IsReady, IsShut, OfReading, OnAnswer, Rests, UpdatesAt, bundle_after, has_updates, is_early}
 use Rattle.lerc_cli.specs.inside.Opening.{IsOpened, OpeningStops}
 use Rattle.lerc_cli.specs.inside.Updates.{build_end_of}
 use Rattle.lerc_cli.proofs.BundleOpening.{of_bundle, reads_on}
@@ -245,45 +245,34 @@ module _ (v : Version) (e w : ℕ) (g : Given) (failed : Type 0) (told told_mid 
   abbrev Leaves : List ℕ → BuildEnd → Type 0
   Leaves marks r = OfVolume (Build v e w) g (build_end_of r) same marks told told_new h h_new f f_new
 
+  -- the bundle stands, where all went well or the output alone failed
+  stands_built : (marks : List ℕ) (end : End) → IsCause (end ≡ Err Volume) f_mid f_new → IsTrue (has_updates end) → IsFalse (is_early (Build v e w) end)
+      → ((P : Type 0) → P → OnAnswer end (Build v e w) same P) → ((b : List ℕ) (xs : List TileRec) → bundle_after (Build v e w) end b xs ≡ layout (last_tiles xs))
+      → IsBuilt marks → (IsTrue told_mid → IsReadable (contents Bundle h_mid) → BuildKeeps (tiles (contents Bundle h_mid)) us marks h_mid h_new)
+      → (IsTrue told → Rests end (contents Journal h) (current h_new)) → OfVolume (Build v e w) g end same marks told told_new h h_new f f_new
+  stands_built marks end cause has late answers after built images rests = record {
+    cause = joined_cause failed (end ≡ Err Volume) f f_mid f_new well so.cause cause;
+    told = tells ∙ so.told;
+    later = λ t none. absurd (let bad : ⊥ = cc in bad);
+    idle = λ early. absurd (clash (is_early (Build v e w) end) early late);
+    unmarked = λ none. absurd (let bad : ⊥ = cc in bad);
+    marks_are = λ t. earlier_marks marks h.moment h_mid.moment h_new.moment (so.later t) (marks_after marks built.0 t);
+    marks_at = all_at marks built.0;
+    reads = λ t _. answers _ (us, (all_made, (contents Bundle h_mid, (inl ((opened t).done, (opened t).leaves), layout_after marks built t ∙ sym (after (contents Bundle h_mid) (take (length marks) us))))));
+    rests = λ t _. answers _ (rests t);
+    tiles = λ start ready. (us, (all_made, built_tiles marks images (marks_after marks built.0 ready.tells) start ready));
+  }
+    where
+      all_made : UpdatesAt (Build v e w) g end us
+      all_made = record { some = λ _. of; none = λ no_. absurd (clash (has_updates end) has no_) }
+
   pub build_all_volume : (marks : List ℕ) (r : BuildEnd) → BuildMarks r us marks h_new.moment → (IsTrue told_mid → BuildReads r us (contents Bundle h_mid) (contents Bundle h_new))
       → (IsTrue told_mid → IsReadable (contents Bundle h_mid) → BuildKeeps (tiles (contents Bundle h_mid)) us marks h_mid h_new)
       → (IsTrue told_mid → OnNoBuild r (During (λ d. d ≡ current h_mid) h_mid h_new)) → (s_new : SessionState) → (IsTrue told_mid → OnBuildAnswer r (IsReadyToPut s_new (current h_new))) → IsCause (r ≡ Err BuildVolume) f_mid f_new → Leaves marks r
-  build_all_volume marks (Ok x) is reads images kept s_new ready cause = record {
-    cause = joined_cause failed (◌≡◌ {A = End} (Ok tt) (Err Volume)) f f_mid f_new well so.cause (build_volume (Ok x) f_mid f_new cause);
-    told = tells ∙ so.told;
-    later = λ t none. absurd (let bad : ⊥ = cc in bad);
-    idle = λ early. absurd (let bad : ⊥ = cc in bad);
-    unmarked = λ none. absurd (let bad : ⊥ = cc in bad);
-    marks_are = λ t. earlier_marks marks h.moment h_mid.moment h_new.moment (so.later t) (marks_after marks is t);
-    marks_at = all_at marks is;
-    reads = λ t _. (
-      us,
-      (
-        record { some = λ _. of; none = λ bad. absurd (let no : ⊥ = cc in no) },
-        (contents Bundle h_mid, (inl ((opened t).done, (opened t).leaves), layout_after marks (is, λ m. (reads m).1) t)),
-      ),
-    );
-    rests = λ t _. shut_ready s_new (current h_new) (ready (so.told ∙ t));
-    tiles = λ start ready. (us, (record { some = λ _. of; none = λ bad. absurd (let no : ⊥ = cc in no) }, built_tiles marks images (marks_after marks is ready.tells) start ready));
-  }
-  build_all_volume marks (Err BuildOutput) is reads images kept s_new ready cause = record {
-    cause = joined_cause failed (◌≡◌ {A = End} (Err Output) (Err Volume)) f f_mid f_new well so.cause (build_volume (Err BuildOutput) f_mid f_new cause);
-    told = tells ∙ so.told;
-    later = λ t none. absurd (let bad : ⊥ = cc in bad);
-    idle = λ early. absurd (let bad : ⊥ = cc in bad);
-    unmarked = λ none. absurd (let bad : ⊥ = cc in bad);
-    marks_are = λ t. earlier_marks marks h.moment h_mid.moment h_new.moment (so.later t) (marks_after marks is t);
-    marks_at = all_at marks is;
-    reads = λ t _. (
-      us,
-      (
-        record { some = λ _. of; none = λ bad. absurd (let no : ⊥ = cc in no) },
-        (contents Bundle h_mid, (inl ((opened t).done, (opened t).leaves), layout_after marks (is, λ m. (reads m).1) t)),
-      ),
-    );
-    rests = λ t _. shut_ready s_new (current h_new) (ready (so.told ∙ t));
-    tiles = λ start ready. (us, (record { some = λ _. of; none = λ bad. absurd (let no : ⊥ = cc in no) }, built_tiles marks images (marks_after marks is ready.tells) start ready));
-  }
+  build_all_volume marks (Ok x) is reads images kept s_new ready cause =
+      stands_built marks (Ok tt) (build_volume (Ok x) f_mid f_new cause) (search rules) refl (λ P p. p) (λ b xs. refl) (is, λ m. (reads m).1) images (λ t. shut_ready s_new (current h_new) (ready (so.told ∙ t)))
+  build_all_volume marks (Err BuildOutput) is reads images kept s_new ready cause =
+      stands_built marks (Err Output) (build_volume (Err BuildOutput) f_mid f_new cause) (search rules) refl (λ P p. p) (λ b xs. refl) (is, λ m. (reads m).1) images (λ t. shut_ready s_new (current h_new) (ready (so.told ∙ t)))
   build_all_volume marks (Err BuildVolume) is reads images kept s_new ready cause = record {
     cause = joined_cause failed (◌≡◌ {A = End} (Err Volume) (Err Volume)) f f_mid f_new well so.cause (build_volume (Err BuildVolume) f_mid f_new cause);
     told = tells ∙ so.told;

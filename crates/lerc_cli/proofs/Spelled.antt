@@ -7,7 +7,7 @@ use Rattle.lerc_header.specs.declared.header.Version.TheVariants.{V3, V4}
 use Rattle.lerc_cli.specs.declared.command.Command.{Command}
 use Rattle.lerc_cli.specs.declared.command.Command.TheVariants.{Encode, Decode, Info, Build, Put, Get, GetRaw, List as ListAll, Check, Recover}
 use Rattle.lerc_cli.specs.Command.{AreSlotWords, IsSpelled, IsVersionWord, IsWithin, SpellsOne}
-use Rattle.lerc_cli.specs.inside.Spelling.{IsBuild, IsEncode, IsGet, IsGetRaw, IsPut}
+use Rattle.lerc_cli.specs.inside.Spelling.{IsBuild, IsEncode, IsGet, IsGetRaw, IsOfTiles, IsPut}
 
 -- ---- one version, one number
 
@@ -321,163 +321,143 @@ no_name word none (Put a e w) is = let same : ◌≡◌ {A = ℕ} 1 4 = ap lengt
 
 -- ---- a name and two words
 
+name_of : (words others : List (List ℕ)) → words ≡ others → get_or words 0 [] ≡ get_or others 0 []
+name_of words others same = ap (λ (ws : List (List ℕ)). get_or ws 0 []) same
+
+-- one name is no other, where their first letters differ
+other_name : (name one two : List ℕ) → (get_or one 0 0 ≡ get_or two 0 0 → ⊥) → name ≡ one → name ≡ two → ⊥
+other_name name one two differ is so = differ (ap (λ (u : List ℕ). get_or u 0 0) (sym is ∙ so))
+
+-- which commands three words spell
+two_words : (name a b : List ℕ) (c : Command) → IsSpelled c (name ∷ a ∷ b ∷ []) → ((name ≡ codes "encode") × IsEncode a b c) ⊎ ((name ≡ codes "get") × IsGet a b c)
+two_words name a b (Encode v n) s =
+    let same = s.2.0 in
+    let one : a ≡ s.0 = cc in
+    let other : b ≡ s.1 = cc in
+    inl (name_of _ _ same, (v, (n, (refl, subst (λ (u : List ℕ). IsVersionWord u v) (sym one) s.2.1, subst (λ (u : List ℕ). IsWithin u n 0 4294967295) (sym other) s.2.2))))
+two_words name a b Decode s = absurd (let same : ◌≡◌ {A = ℕ} 3 1 = ap length s in omega (arith, same))
+two_words name a b Info s = absurd (let same : ◌≡◌ {A = ℕ} 3 1 = ap length s in omega (arith, same))
+two_words name a b (Get slot) s =
+    let same = s.2.0 in
+    let one : a ≡ s.0 = cc in
+    let other : b ≡ s.1 = cc in
+    inr (name_of _ _ same, (slot, (refl, subst (λ (u : List ℕ). AreSlotWords u b slot) (sym one) (subst (λ (u : List ℕ). AreSlotWords s.0 u slot) (sym other) s.2.1))))
+two_words name a b (GetRaw slot) s = absurd (let same : ◌≡◌ {A = ℕ} 3 4 = ap length s.2.0 in omega (arith, same))
+two_words name a b ListAll s = absurd (let same : ◌≡◌ {A = ℕ} 3 1 = ap length s in omega (arith, same))
+two_words name a b Check s = absurd (let same : ◌≡◌ {A = ℕ} 3 1 = ap length s in omega (arith, same))
+two_words name a b Recover s = absurd (let same : ◌≡◌ {A = ℕ} 3 1 = ap length s in omega (arith, same))
+two_words name a b (Build v n w) s = absurd (let same : ◌≡◌ {A = ℕ} 3 4 = ap length s.3.0 in omega (arith, same))
+two_words name a b (Put v n w) s = absurd (let same : ◌≡◌ {A = ℕ} 3 4 = ap length s.3.0 in omega (arith, same))
+
 pub encode_to : (name v e : List ℕ) → name ≡ codes "encode" → (c : Command) → IsEncode v e c → IsSpelled c (name ∷ v ∷ e ∷ [])
 encode_to name v e named c s = subst (λ (x : Command). IsSpelled x (name ∷ v ∷ e ∷ [])) (sym s.1.1.0) (v, e, (ap (λ (w : List ℕ). w ∷ v ∷ e ∷ []) named, s.1.1.1, s.1.1.2))
 
 pub encode_from : (name v e : List ℕ) → name ≡ codes "encode" → (c : Command) → IsSpelled c (name ∷ v ∷ e ∷ []) → IsEncode v e c
-encode_from name v e named (Encode a n) s =
-    let same = s.2.0 in
-    let one : s.0 ≡ v = (let x : v ≡ s.0 = cc in sym x) in
-    let other : s.1 ≡ e = (let x : e ≡ s.1 = cc in sym x) in
-    (a, (n, (refl, subst (λ (w : List ℕ). IsVersionWord w a) one s.2.1, subst (λ (w : List ℕ). IsWithin w n 0 4294967295) other s.2.2)))
-encode_from name v e named Decode s = absurd (let same : ◌≡◌ {A = ℕ} 3 1 = ap length s in omega (arith, same))
-encode_from name v e named Info s = absurd (let same : ◌≡◌ {A = ℕ} 3 1 = ap length s in omega (arith, same))
-encode_from name v e named (Get t) s = absurd (let same : ◌≡◌ {A = ℕ} 101 103 = sym (ap (λ (w : List ℕ). get_or w 0 0) named) ∙ other_letters _ _ s.2.0 in omega (arith, same))
-encode_from name v e named (GetRaw t) s = absurd (let same : ◌≡◌ {A = ℕ} 3 4 = ap length s.2.0 in omega (arith, same))
-encode_from name v e named ListAll s = absurd (let same : ◌≡◌ {A = ℕ} 3 1 = ap length s in omega (arith, same))
-encode_from name v e named Check s = absurd (let same : ◌≡◌ {A = ℕ} 3 1 = ap length s in omega (arith, same))
-encode_from name v e named Recover s = absurd (let same : ◌≡◌ {A = ℕ} 3 1 = ap length s in omega (arith, same))
-encode_from name v e named (Build a n w) s = absurd (let same : ◌≡◌ {A = ℕ} 3 4 = ap length s.3.0 in omega (arith, same))
-encode_from name v e named (Put a n w) s = absurd (let same : ◌≡◌ {A = ℕ} 3 4 = ap length s.3.0 in omega (arith, same))
+encode_from name v e named c s = elim (two_words name v e c s) [
+  | inl is ↦ is.1
+  | inr is ↦ absurd (other_name name (codes "encode") (codes "get") (λ same. omega (arith, same)) named is.0)
+]
 
 pub get_to : (name row col : List ℕ) → name ≡ codes "get" → (c : Command) → IsGet row col c → IsSpelled c (name ∷ row ∷ col ∷ [])
 get_to name row col named c s = subst (λ (x : Command). IsSpelled x (name ∷ row ∷ col ∷ [])) (sym s.1.0) (row, col, (ap (λ (w : List ℕ). w ∷ row ∷ col ∷ []) named, s.1.1))
 
 pub get_from : (name row col : List ℕ) → name ≡ codes "get" → (c : Command) → IsSpelled c (name ∷ row ∷ col ∷ []) → IsGet row col c
-get_from name row col named (Encode a e) s = absurd (let same : ◌≡◌ {A = ℕ} 103 101 = sym (ap (λ (w : List ℕ). get_or w 0 0) named) ∙ other_letters _ _ s.2.0 in omega (arith, same))
-get_from name row col named Decode s = absurd (let same : ◌≡◌ {A = ℕ} 3 1 = ap length s in omega (arith, same))
-get_from name row col named Info s = absurd (let same : ◌≡◌ {A = ℕ} 3 1 = ap length s in omega (arith, same))
-get_from name row col named (Get slot) s =
-    let same = s.2.0 in
-    let one : row ≡ s.0 = cc in
-    let other : col ≡ s.1 = cc in
-    (slot, (refl, subst (λ (w : List ℕ). AreSlotWords w col slot) (sym one) (subst (λ (w : List ℕ). AreSlotWords s.0 w slot) (sym other) s.2.1)))
-get_from name row col named (GetRaw t) s = absurd (let same : ◌≡◌ {A = ℕ} 3 4 = ap length s.2.0 in omega (arith, same))
-get_from name row col named ListAll s = absurd (let same : ◌≡◌ {A = ℕ} 3 1 = ap length s in omega (arith, same))
-get_from name row col named Check s = absurd (let same : ◌≡◌ {A = ℕ} 3 1 = ap length s in omega (arith, same))
-get_from name row col named Recover s = absurd (let same : ◌≡◌ {A = ℕ} 3 1 = ap length s in omega (arith, same))
-get_from name row col named (Build a n w) s = absurd (let same : ◌≡◌ {A = ℕ} 3 4 = ap length s.3.0 in omega (arith, same))
-get_from name row col named (Put a n w) s = absurd (let same : ◌≡◌ {A = ℕ} 3 4 = ap length s.3.0 in omega (arith, same))
-
-name_of : (name a b : List ℕ) (w x y : List ℕ) → ◌≡◌ {A = List (List ℕ)} (name ∷ a ∷ b ∷ []) (w ∷ x ∷ y ∷ []) → name ≡ w
-name_of name a b w x y same = ap (λ (words : List (List ℕ)). get_or words 0 []) same
+get_from name row col named c s = elim (two_words name row col c s) [
+  | inl is ↦ absurd (other_name name (codes "get") (codes "encode") (λ same. omega (arith, same)) named is.0)
+  | inr is ↦ is.1
+]
 
 pub no_two : (name a b : List ℕ) → (name ≡ codes "encode" → ⊥) → (name ≡ codes "get" → ⊥) → (c : Command) → IsSpelled c (name ∷ a ∷ b ∷ []) → ⊥
-no_two name a b encode get (Encode v e) s = encode (name_of name a b _ _ _ s.2.0)
-no_two name a b encode get Decode s = let same : ◌≡◌ {A = ℕ} 3 1 = ap length s in omega (arith, same)
-no_two name a b encode get Info s = let same : ◌≡◌ {A = ℕ} 3 1 = ap length s in omega (arith, same)
-no_two name a b encode get (Get slot) s = get (name_of name a b _ _ _ s.2.0)
-no_two name a b encode get (GetRaw t) s = let same : ◌≡◌ {A = ℕ} 3 4 = ap length s.2.0 in omega (arith, same)
-no_two name a b encode get ListAll s = let same : ◌≡◌ {A = ℕ} 3 1 = ap length s in omega (arith, same)
-no_two name a b encode get Check s = let same : ◌≡◌ {A = ℕ} 3 1 = ap length s in omega (arith, same)
-no_two name a b encode get Recover s = let same : ◌≡◌ {A = ℕ} 3 1 = ap length s in omega (arith, same)
-no_two name a b encode get (Build v e w) s = let same : ◌≡◌ {A = ℕ} 3 4 = ap length s.3.0 in omega (arith, same)
-no_two name a b encode get (Put v e w) s = let same : ◌≡◌ {A = ℕ} 3 4 = ap length s.3.0 in omega (arith, same)
+no_two name a b encode get c s = elim (two_words name a b c s) [ inl is ↦ encode is.0 | inr is ↦ get is.0 ]
 
 -- ---- a name and three words
+
+-- words that are equal to these are of the same tiles
+as_tiles : (make : Version → ℕ → ℕ → Command) (name a b d text : List ℕ) (version : Version) (error workers : ℕ)
+    → ((v e w : List ℕ) × ((name ∷ a ∷ b ∷ d ∷ [] ≡ text ∷ v ∷ e ∷ w ∷ []) × IsVersionWord v version × IsWithin e error 0 4294967295 × IsWithin w workers 1 64))
+    → IsOfTiles make a b d (make version error workers)
+as_tiles make name a b d text version error workers (v, e, w, (same, is, within, some)) =
+    let one : a ≡ v = cc in
+    let two : b ≡ e = cc in
+    let three : d ≡ w = cc in
+    (version, (error, workers, (refl, subst (λ (u : List ℕ). IsVersionWord u version) (sym one) is, subst (λ (u : List ℕ). IsWithin u error 0 4294967295) (sym two) within, subst (λ (u : List ℕ). IsWithin u workers 1 64) (sym three) some)))
+
+-- which commands four words spell
+three_behind : (name a b d : List ℕ) (c : Command) → IsSpelled c (name ∷ a ∷ b ∷ d ∷ [])
+    → ((name ≡ codes "build") × IsBuild a b d c) ⊎ (((name ≡ codes "put") × IsPut a b d c) ⊎ ((name ≡ codes "get") × (d ≡ codes "raw") × IsGetRaw a b c))
+three_behind name a b d (Encode v n) s = absurd (let same : ◌≡◌ {A = ℕ} 4 3 = ap length s.2.0 in omega (arith, same))
+three_behind name a b d Decode s = absurd (let same : ◌≡◌ {A = ℕ} 4 1 = ap length s in omega (arith, same))
+three_behind name a b d Info s = absurd (let same : ◌≡◌ {A = ℕ} 4 1 = ap length s in omega (arith, same))
+three_behind name a b d (Get slot) s = absurd (let same : ◌≡◌ {A = ℕ} 4 3 = ap length s.2.0 in omega (arith, same))
+three_behind name a b d (GetRaw slot) s =
+    let same = s.2.0 in
+    let one : a ≡ s.0 = cc in
+    let other : b ≡ s.1 = cc in
+    let raw : d ≡ codes "raw" = cc in
+    inr (inr (name_of _ _ same, raw, (slot, (refl, subst (λ (u : List ℕ). AreSlotWords u b slot) (sym one) (subst (λ (u : List ℕ). AreSlotWords s.0 u slot) (sym other) s.2.1)))))
+three_behind name a b d ListAll s = absurd (let same : ◌≡◌ {A = ℕ} 4 1 = ap length s in omega (arith, same))
+three_behind name a b d Check s = absurd (let same : ◌≡◌ {A = ℕ} 4 1 = ap length s in omega (arith, same))
+three_behind name a b d Recover s = absurd (let same : ◌≡◌ {A = ℕ} 4 1 = ap length s in omega (arith, same))
+three_behind name a b d (Build v n w) s = inl (name_of _ _ s.3.0, as_tiles Build name a b d (codes "build") v n w s)
+three_behind name a b d (Put v n w) s = inr (inl (name_of _ _ s.3.0, as_tiles Put name a b d (codes "put") v n w s))
 
 pub raw_to : (name row col raw : List ℕ) → name ≡ codes "get" → raw ≡ codes "raw" → (c : Command) → IsGetRaw row col c → IsSpelled c (name ∷ row ∷ col ∷ raw ∷ [])
 raw_to name row col raw named is c s = subst (λ (x : Command). IsSpelled x (name ∷ row ∷ col ∷ raw ∷ [])) (sym s.1.0) (row, col, ((λ i. named i ∷ row ∷ col ∷ is i ∷ []), s.1.1))
 
 pub raw_from : (name row col raw : List ℕ) → name ≡ codes "get" → (c : Command) → IsSpelled c (name ∷ row ∷ col ∷ raw ∷ []) → IsGetRaw row col c
-raw_from name row col raw named (Encode a e) s = absurd (let same : ◌≡◌ {A = ℕ} 4 3 = ap length s.2.0 in omega (arith, same))
-raw_from name row col raw named Decode s = absurd (let same : ◌≡◌ {A = ℕ} 4 1 = ap length s in omega (arith, same))
-raw_from name row col raw named Info s = absurd (let same : ◌≡◌ {A = ℕ} 4 1 = ap length s in omega (arith, same))
-raw_from name row col raw named (Get t) s = absurd (let same : ◌≡◌ {A = ℕ} 4 3 = ap length s.2.0 in omega (arith, same))
-raw_from name row col raw named (GetRaw slot) s =
-    let same = s.2.0 in
-    let one : row ≡ s.0 = cc in
-    let other : col ≡ s.1 = cc in
-    (slot, (refl, subst (λ (w : List ℕ). AreSlotWords w col slot) (sym one) (subst (λ (w : List ℕ). AreSlotWords s.0 w slot) (sym other) s.2.1)))
-raw_from name row col raw named ListAll s = absurd (let same : ◌≡◌ {A = ℕ} 4 1 = ap length s in omega (arith, same))
-raw_from name row col raw named Check s = absurd (let same : ◌≡◌ {A = ℕ} 4 1 = ap length s in omega (arith, same))
-raw_from name row col raw named Recover s = absurd (let same : ◌≡◌ {A = ℕ} 4 1 = ap length s in omega (arith, same))
-raw_from name row col raw named (Build a n w) s = absurd (let same : ◌≡◌ {A = ℕ} 103 98 = sym (ap (λ (w : List ℕ). get_or w 0 0) named) ∙ other_letters _ _ s.3.0 in omega (arith, same))
-raw_from name row col raw named (Put a n w) s = absurd (let same : ◌≡◌ {A = ℕ} 103 112 = sym (ap (λ (w : List ℕ). get_or w 0 0) named) ∙ other_letters _ _ s.3.0 in omega (arith, same))
+raw_from name row col raw named c s = elim (three_behind name row col raw c s) [
+  | inl is ↦ absurd (other_name name (codes "get") (codes "build") (λ same. omega (arith, same)) named is.0)
+  | inr other ↦ elim other [
+    | inl is ↦ absurd (other_name name (codes "get") (codes "put") (λ same. omega (arith, same)) named is.0)
+    | inr is ↦ is.2
+  ]
+]
 
 pub no_three : (name row col raw : List ℕ) → (name ≡ codes "build" → ⊥) → (name ≡ codes "put" → ⊥) → ((name ≡ codes "get") × (raw ≡ codes "raw") → ⊥) → (c : Command) → IsSpelled c (name ∷ row ∷ col ∷ raw ∷ []) → ⊥
-no_three name row col raw build put none (Encode a e) s = let same : ◌≡◌ {A = ℕ} 4 3 = ap length s.2.0 in omega (arith, same)
-no_three name row col raw build put none Decode s = let same : ◌≡◌ {A = ℕ} 4 1 = ap length s in omega (arith, same)
-no_three name row col raw build put none Info s = let same : ◌≡◌ {A = ℕ} 4 1 = ap length s in omega (arith, same)
-no_three name row col raw build put none (Get t) s = let same : ◌≡◌ {A = ℕ} 4 3 = ap length s.2.0 in omega (arith, same)
-no_three name row col raw build put none (GetRaw slot) s =
-    none (ap (λ (words : List (List ℕ)). get_or words 0 []) s.2.0, ap (λ (words : List (List ℕ)). get_or words 3 []) s.2.0)
-no_three name row col raw build put none ListAll s = let same : ◌≡◌ {A = ℕ} 4 1 = ap length s in omega (arith, same)
-no_three name row col raw build put none Check s = let same : ◌≡◌ {A = ℕ} 4 1 = ap length s in omega (arith, same)
-no_three name row col raw build put none Recover s = let same : ◌≡◌ {A = ℕ} 4 1 = ap length s in omega (arith, same)
-no_three name row col raw build put none (Build v e w) s = build (ap (λ (words : List (List ℕ)). get_or words 0 []) s.3.0)
-no_three name row col raw build put none (Put v e w) s = put (ap (λ (words : List (List ℕ)). get_or words 0 []) s.3.0)
+no_three name row col raw build put none c s = elim (three_behind name row col raw c s) [
+  | inl is ↦ build is.0
+  | inr other ↦ elim other [ inl is ↦ put is.0 | inr is ↦ none (is.0, is.1) ]
+]
 
 pub build_to : (name v e w : List ℕ) → name ≡ codes "build" → (c : Command) → IsBuild v e w c → IsSpelled c (name ∷ v ∷ e ∷ w ∷ [])
 build_to name v e w named c s = subst (λ (x : Command). IsSpelled x (name ∷ v ∷ e ∷ w ∷ [])) (sym s.1.2.0) (v, e, w, (ap (λ (u : List ℕ). u ∷ v ∷ e ∷ w ∷ []) named, s.1.2.1, s.1.2.2, s.1.2.3))
 
 pub build_from : (name v e w : List ℕ) → name ≡ codes "build" → (c : Command) → IsSpelled c (name ∷ v ∷ e ∷ w ∷ []) → IsBuild v e w c
-build_from name v e w named (Encode a n) s = absurd (let same : ◌≡◌ {A = ℕ} 4 3 = ap length s.2.0 in omega (arith, same))
-build_from name v e w named Decode s = absurd (let same : ◌≡◌ {A = ℕ} 4 1 = ap length s in omega (arith, same))
-build_from name v e w named Info s = absurd (let same : ◌≡◌ {A = ℕ} 4 1 = ap length s in omega (arith, same))
-build_from name v e w named (Get t) s = absurd (let same : ◌≡◌ {A = ℕ} 4 3 = ap length s.2.0 in omega (arith, same))
-build_from name v e w named ListAll s = absurd (let same : ◌≡◌ {A = ℕ} 4 1 = ap length s in omega (arith, same))
-build_from name v e w named Check s = absurd (let same : ◌≡◌ {A = ℕ} 4 1 = ap length s in omega (arith, same))
-build_from name v e w named Recover s = absurd (let same : ◌≡◌ {A = ℕ} 4 1 = ap length s in omega (arith, same))
-build_from name v e w named (GetRaw t) s = absurd (let same : ◌≡◌ {A = ℕ} 98 103 = sym (ap (λ (u : List ℕ). get_or u 0 0) named) ∙ other_letters _ _ s.2.0 in omega (arith, same))
-build_from name v e w named (Put a n m) s = absurd (let same : ◌≡◌ {A = ℕ} 98 112 = sym (ap (λ (u : List ℕ). get_or u 0 0) named) ∙ other_letters _ _ s.3.0 in omega (arith, same))
-build_from name v e w named (Build a n m) s =
-    let same = s.3.0 in
-    let one : v ≡ s.0 = cc in
-    let two : e ≡ s.1 = cc in
-    let three : w ≡ s.2 = cc in
-    (a, (n, m, (refl, subst (λ (u : List ℕ). IsVersionWord u a) (sym one) s.3.1, subst (λ (u : List ℕ). IsWithin u n 0 4294967295) (sym two) s.3.2, subst (λ (u : List ℕ). IsWithin u m 1 64) (sym three) s.3.3)))
-
-pub build_some : (v e w : List ℕ) (version : Version) (error workers : ℕ) → IsVersionWord v version → IsWithin e error 0 4294967295 → IsWithin w workers 1 64
-    → (c : Command) → (◌≡◌ {A = Option Command} (Some (Build version error workers)) (Some c)) ↔ IsBuild v e w c
-build_some v e w version error workers is within some c = (
-  λ same. (version, (error, workers, ((let here : c ≡ Build version error workers = cc in here), is, within, some))),
-  λ s. (let one = one_version v v version s.0 refl is s.1.2.1 in
-      let two = one_number e e error s.1.0 refl within.0 s.1.2.2.0 in
-      let three = one_number w w workers s.1.1 refl some.0 s.1.2.3.0 in
-      ap Some ((λ i. Build (one i) (two i) (three i)) ∙ sym s.1.2.0)),
-)
-
-pub build_none : (v e w : List ℕ) (found : Option Command) → found ≡ None → ((version : Version) (error workers : ℕ) → IsVersionWord v version → IsWithin e error 0 4294967295 → IsWithin w workers 1 64 → ⊥)
-    → (c : Command) → (found ≡ Some c) ↔ IsBuild v e w c
-build_none v e w found is never c = (
-  λ same. absurd (let other = sym is ∙ same in cc),
-  λ s. absurd (never s.0 s.1.0 s.1.1 s.1.2.1 s.1.2.2 s.1.2.3),
-)
+build_from name v e w named c s = elim (three_behind name v e w c s) [
+  | inl is ↦ is.1
+  | inr other ↦ elim other [
+    | inl is ↦ absurd (other_name name (codes "build") (codes "put") (λ same. omega (arith, same)) named is.0)
+    | inr is ↦ absurd (other_name name (codes "build") (codes "get") (λ same. omega (arith, same)) named is.0)
+  ]
+]
 
 pub put_to : (name v e w : List ℕ) → name ≡ codes "put" → (c : Command) → IsPut v e w c → IsSpelled c (name ∷ v ∷ e ∷ w ∷ [])
 put_to name v e w named c s = subst (λ (x : Command). IsSpelled x (name ∷ v ∷ e ∷ w ∷ [])) (sym s.1.2.0) (v, e, w, (ap (λ (u : List ℕ). u ∷ v ∷ e ∷ w ∷ []) named, s.1.2.1, s.1.2.2, s.1.2.3))
 
 pub put_from : (name v e w : List ℕ) → name ≡ codes "put" → (c : Command) → IsSpelled c (name ∷ v ∷ e ∷ w ∷ []) → IsPut v e w c
-put_from name v e w named (Encode a n) s = absurd (let same : ◌≡◌ {A = ℕ} 4 3 = ap length s.2.0 in omega (arith, same))
-put_from name v e w named Decode s = absurd (let same : ◌≡◌ {A = ℕ} 4 1 = ap length s in omega (arith, same))
-put_from name v e w named Info s = absurd (let same : ◌≡◌ {A = ℕ} 4 1 = ap length s in omega (arith, same))
-put_from name v e w named (Get t) s = absurd (let same : ◌≡◌ {A = ℕ} 4 3 = ap length s.2.0 in omega (arith, same))
-put_from name v e w named ListAll s = absurd (let same : ◌≡◌ {A = ℕ} 4 1 = ap length s in omega (arith, same))
-put_from name v e w named Check s = absurd (let same : ◌≡◌ {A = ℕ} 4 1 = ap length s in omega (arith, same))
-put_from name v e w named Recover s = absurd (let same : ◌≡◌ {A = ℕ} 4 1 = ap length s in omega (arith, same))
-put_from name v e w named (GetRaw t) s = absurd (let same : ◌≡◌ {A = ℕ} 112 103 = sym (ap (λ (u : List ℕ). get_or u 0 0) named) ∙ other_letters _ _ s.2.0 in omega (arith, same))
-put_from name v e w named (Build a n m) s = absurd (let same : ◌≡◌ {A = ℕ} 112 98 = sym (ap (λ (u : List ℕ). get_or u 0 0) named) ∙ other_letters _ _ s.3.0 in omega (arith, same))
-put_from name v e w named (Put a n m) s =
-    let same = s.3.0 in
-    let one : v ≡ s.0 = cc in
-    let two : e ≡ s.1 = cc in
-    let three : w ≡ s.2 = cc in
-    (a, (n, m, (refl, subst (λ (u : List ℕ). IsVersionWord u a) (sym one) s.3.1, subst (λ (u : List ℕ). IsWithin u n 0 4294967295) (sym two) s.3.2, subst (λ (u : List ℕ). IsWithin u m 1 64) (sym three) s.3.3)))
+put_from name v e w named c s = elim (three_behind name v e w c s) [
+  | inl is ↦ absurd (other_name name (codes "put") (codes "build") (λ same. omega (arith, same)) named is.0)
+  | inr other ↦ elim other [
+    | inl is ↦ is.1
+    | inr is ↦ absurd (other_name name (codes "put") (codes "get") (λ same. omega (arith, same)) named is.0)
+  ]
+]
 
-pub put_some : (v e w : List ℕ) (version : Version) (error workers : ℕ) → IsVersionWord v version → IsWithin e error 0 4294967295 → IsWithin w workers 1 64
-    → (c : Command) → (◌≡◌ {A = Option Command} (Some (Put version error workers)) (Some c)) ↔ IsPut v e w c
-put_some v e w version error workers is within some c = (
-  λ same. (version, (error, workers, ((let here : c ≡ Put version error workers = cc in here), is, within, some))),
+-- what was found of the three words, or that they are none
+pub tiles_some : (make : Version → ℕ → ℕ → Command) (v e w : List ℕ) (version : Version) (error workers : ℕ) → IsVersionWord v version → IsWithin e error 0 4294967295 → IsWithin w workers 1 64
+    → (c : Command) → (◌≡◌ {A = Option Command} (Some (make version error workers)) (Some c)) ↔ IsOfTiles make v e w c
+tiles_some make v e w version error workers is within some c = (
+  λ same. (version, (error, workers, ((let here : c ≡ make version error workers = cc in here), is, within, some))),
   λ s. (let one = one_version v v version s.0 refl is s.1.2.1 in
       let two = one_number e e error s.1.0 refl within.0 s.1.2.2.0 in
       let three = one_number w w workers s.1.1 refl some.0 s.1.2.3.0 in
-      ap Some ((λ i. Put (one i) (two i) (three i)) ∙ sym s.1.2.0)),
+      ap Some ((λ i. make (one i) (two i) (three i)) ∙ sym s.1.2.0)),
 )
 
-pub put_none : (v e w : List ℕ) (found : Option Command) → found ≡ None → ((version : Version) (error workers : ℕ) → IsVersionWord v version → IsWithin e error 0 4294967295 → IsWithin w workers 1 64 → ⊥)
-    → (c : Command) → (found ≡ Some c) ↔ IsPut v e w c
-put_none v e w found is never c = (
+pub tiles_none : (make : Version → ℕ → ℕ → Command) (v e w : List ℕ) (found : Option Command) → found ≡ None
+    → ((version : Version) (error workers : ℕ) → IsVersionWord v version → IsWithin e error 0 4294967295 → IsWithin w workers 1 64 → ⊥)
+    → (c : Command) → (found ≡ Some c) ↔ IsOfTiles make v e w c
+tiles_none make v e w found is never c = (
   λ same. absurd (let other = sym is ∙ same in cc),
   λ s. absurd (never s.0 s.1.0 s.1.1 s.1.2.1 s.1.2.2 s.1.2.3),
 )

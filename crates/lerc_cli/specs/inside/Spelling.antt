@@ -18,12 +18,17 @@ IsGet row col c = (slot : ℕ) × ((c ≡ Get slot) × AreSlotWords row col slot
 abbrev pub IsGetRaw : List ℕ → List ℕ → Command → Type 0
 IsGetRaw row col c = (slot : ℕ) × ((c ≡ GetRaw slot) × AreSlotWords row col slot)
 
+-- The command is made of the version, the error and the number of workers that these three words
+-- stand for.
+abbrev pub IsOfTiles : (Version → ℕ → ℕ → Command) → List ℕ → List ℕ → List ℕ → Command → Type 0
+IsOfTiles make v e w c = (version : Version) × ((error workers : ℕ)
+    × ((c ≡ make version error workers) × IsVersionWord v version
+    × IsWithin e error 0 4294967295 × IsWithin w workers 1 64))
+
 -- the command is `build` of these three words
 abbrev pub IsBuild : List ℕ → List ℕ → List ℕ → Command → Type 0
-IsBuild v e w c = (version : Version) × ((error workers : ℕ) × ((c ≡ Build version error workers)
-    × IsVersionWord v version × IsWithin e error 0 4294967295 × IsWithin w workers 1 64))
+IsBuild v e w c = IsOfTiles Build v e w c
 
 -- the command is `put` of these three words
 abbrev pub IsPut : List ℕ → List ℕ → List ℕ → Command → Type 0
-IsPut v e w c = (version : Version) × ((error workers : ℕ) × ((c ≡ Put version error workers)
-    × IsVersionWord v version × IsWithin e error 0 4294967295 × IsWithin w workers 1 64))
+IsPut v e w c = IsOfTiles Put v e w c
