@@ -80,8 +80,8 @@ PutsKeep start updates marks old new =
 
 -- ---- the end
 
--- What a volume that tells its files has behind the puts, each of which has a mark: unless the volume
--- failed, nothing is pending, the journal is not open, and the session may put again.
+-- What a volume that tells its files has behind the puts that have a mark. Unless it failed,
+-- nothing is pending, the journal is not open, and the session may put again.
 pub record PutsLeave (end : PutEnd) (updates : List TileRec) (marks : List ℕ) (s : SessionState)
     (old new : History) : Type 0 where
   pub reads : UnlessVolume end (HoldsClosed

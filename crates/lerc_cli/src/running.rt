@@ -199,8 +199,8 @@ pub fn run<S: Source, K: Sink, E: Sink, V: Volume>(
         (given (S.left src.old) (files_of (V.told vol.old) (V.history vol.old))) end updates
         × KeepsTiles c updates result.marks.marks start (V.history vol.old) (V.history vol.new))) }
 
-    // A command on a bundle that ends well, or whose output alone fails, leaves the volume so that a
-    // crash leaves what is read, and the journal is not open.
+    // A command on a bundle that ends well, or whose output alone fails, leaves nothing pending: a
+    // crash then leaves what is read, and the journal is not open.
     ensures shut { (c : Command) → IsSpelled c words.now → IsTrue (calls_volume c)
         → IsTrue (V.told vol.old) → (result.status ≡ 0) ⊎ (result.status ≡ 4)
         → IsShut (current (V.history vol.new)) }
