@@ -4,6 +4,7 @@ mod Filling
 mod Fresh
 mod Fronts
 mod Keeping
+mod Kept
 pub mod PutLaws
 mod Layouts
 mod Numbering

@@ -13,6 +13,7 @@ pub mod Built
 pub mod Causes
 pub mod Check
 pub mod Images
+pub mod Kept
 pub mod Layout
 pub mod Recover
 pub mod Session

@@ -11,7 +11,7 @@ use bundle_index::{BundleHeader, Entry, Slot, entry_place};
 use outside_io::{Failed, VolFile, Volume};
 
 /// The bytes of an entry.
-fn spelled(entry: Entry) -> [u8; 8]
+pub(crate) fn spelled(entry: Entry) -> [u8; 8]
     requires { IsEntry entry }
     ensures { result ≡ entry_bytes entry }
 {
