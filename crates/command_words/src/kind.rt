@@ -22,7 +22,7 @@ pub fn type_word(kind: PixelType) -> &'static [u8]
 }
 
 /// The type that a word names.
-pub fn kind_of(word: &Word) -> Option<PixelType>
+pub fn kind_named(word: &Word) -> Option<PixelType>
     ensures { (kind : PixelType) → (result ≡ Some kind) ↔ (word.now ≡ type_name kind) }
 {
     if has_text(word, b"i8") {

@@ -11,7 +11,7 @@ mod number;
 mod slot;
 mod version;
 
-pub use kind::{kind_of, type_word};
+pub use kind::{kind_named, type_word};
 pub use number::{error_of, has_text, within, workers_of};
 pub use slot::slot_of;
 pub use version::version_of;
