@@ -10,7 +10,7 @@ use Rattle.lerc_header.specs.declared.header.Version.{Version}
 use Rattle.lerc_header.specs.Head.{number_of}
 use Rattle.lerc_grammar.specs.Verdict.{IsDone}
 use Rattle.lerc_encode.specs.Encoded.{IsEncodedOnce, NeedsV4}
-use Rattle.lerc_encode.specs.Choice.{choice}
+use Rattle.lerc_encode.specs.Choice.{chosen_blob}
 
 -- ---- how long the arrays are
 
@@ -75,7 +75,7 @@ IsAllowed rows cols depth = (¬ HasZero rows cols depth) × (¬ IsTooLarge rows 
 -- raster near it
 pub record IsBlobOf (blob : List ℕ) (r : Pixels) (version : Version) (step : ℕ) : Type 0 where
   pub fits : ¬ NeedsV4 version r
-  pub chosen : blob ≡ choice r version step
+  pub chosen : blob ≡ chosen_blob r version step
   pub once : IsEncodedOnce blob r step
 
 -- the blob of the raster that the arrays are has so many bytes

@@ -30,11 +30,11 @@ ghost use Rattle.lerc_c.specs.Arrays.{AreNamed, IsAllowed, GivesSizes, IsDecoded
 ghost use Rattle.lerc_c.specs.Names.{name_at, reason_name};
 
 use decoding::{DecodeStop, decode_into};
-use encoding::{EncodeStop, encode_into, kind_of, version_of};
+use encoding::{EncodeStop, encode_into, kind_numbered, version_numbered};
 use lerc_encode::blobs_are_small;
-use lerc_header::read_header;
+use lerc_header::{is_shape, read_header};
 use naming::name_of;
-use sizes::{is_shape, size_of};
+use sizes::size_of;
 use std::alloc::Global;
 use told::{Fault, Head, fault_of, head_of};
 
@@ -125,7 +125,7 @@ pub extern "C" fn futskheri_greatest_size(kind: u32, rows: u32, cols: u32, depth
     ensures law { BlobsAreSmall }
 {
     blobs_are_small();
-    let Some(kind) = kind_of(kind) else {
+    let Some(kind) = kind_numbered(kind) else {
         return 0;
     };
     if !is_shape(rows, cols, depth) {
@@ -175,10 +175,10 @@ pub extern "C" fn futskheri_encode(
     ensures kept { result ≢ 0 → out.new ≡ out.old }
     ensures size_kept { result ≢ 0 → result ≢ 9 → size.new ≡ size.old }
 {
-    let Some(kind) = kind_of(kind) else {
+    let Some(kind) = kind_numbered(kind) else {
         return BAD_KIND;
     };
-    let Some(version) = version_of(version) else {
+    let Some(version) = version_numbered(version) else {
         return BAD_VERSION;
     };
     match encode_into(

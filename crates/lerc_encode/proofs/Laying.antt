@@ -22,8 +22,8 @@ use Rattle.lerc_encode.specs.Ranges.{greatest_value}
 use Rattle.lerc_encode.specs.Masks.{mask_part, mask_runs_of}
 use Rattle.lerc_encode.specs.Heads.{header_of}
 use Rattle.lerc_encode.specs.Images.{ending, image_bytes, side_at}
-use Rattle.lerc_encode.specs.Choice.{behind_head, header_with, checksum_of, choice}
-use Rattle.lerc_encode.specs.Encoded.{IsAsked}
+use Rattle.lerc_encode.specs.Choice.{behind_head, header_with, checksum_of, chosen_blob}
+use Rattle.lerc_encode.specs.inside.Asked.{IsAsked}
 use Rattle.lerc_encode.specs.inside.Choosing.{IsBase}
 use Rattle.lerc_encode.specs.inside.Layout.{IsSealed}
 use Rattle.lerc_encode.proofs.Extremes.{all_least_fits, all_greatest_fits}
@@ -121,8 +121,8 @@ other_sum : (r : Pixels) (version : Version) (step sum : ℕ) → header_with r 
 unfolding header_with header_of
 other_sum r version step sum = refl
 
-pub sealed_is : (r : Pixels) (version : Version) (step : ℕ) (h : Header) (behind blob : List ℕ) → h ≡ header_with r version step 0 → behind ≡ behind_head r version step → IsSealed h behind blob → blob ≡ choice r version step
-unfolding choice checksum_of
+pub sealed_is : (r : Pixels) (version : Version) (step : ℕ) (h : Header) (behind blob : List ℕ) → h ≡ header_with r version step 0 → behind ≡ behind_head r version step → IsSealed h behind blob → blob ≡ chosen_blob r version step
+unfolding chosen_blob checksum_of
 sealed_is r version step h behind blob e f s =
     s ∙ (λ t. head_bytes (record (e t) { checksum = sum_of (drop 14 (head_bytes (e t) ++ f t)) }) ++ f t)
     ∙ ap (λ (x : Header). head_bytes x ++ behind_head r version step) (sym (other_sum r version step (sum_of (drop 14 (head_bytes (header_with r version step 0) ++ behind_head r version step)))))

@@ -27,7 +27,7 @@ unfoldable pub checksum_of : Pixels → Version → ℕ → ℕ
 checksum_of r version step =
     sum_of (drop 14 (head_bytes (header_with r version step 0) ++ behind_head r version step))
 
-unfoldable pub choice : Pixels → Version → ℕ → List ℕ
-choice r version step =
+unfoldable pub chosen_blob : Pixels → Version → ℕ → List ℕ
+chosen_blob r version step =
     head_bytes (header_with r version step (checksum_of r version step))
     ++ behind_head r version step

@@ -9,7 +9,7 @@ ghost use Rattle.raster_values.specs.Raster.{values_of};
 ghost use Rattle.lerc_grammar.specs.Blocks.{coded_blocks};
 ghost use Rattle.delta_mode.specs.Deltas.{plain};
 ghost use Rattle.lerc_encode.specs.Codings.{coding_bytes};
-ghost use Rattle.lerc_encode.specs.Images.{all_deltas, blocks_bytes, form_bytes, mode_bytes};
+ghost use Rattle.lerc_encode.specs.Images.{all_deltas, blocks_bytes, coded_form_bytes, mode_bytes};
 ghost use Rattle.lerc_encode.specs.Ranges.{front_bytes};
 ghost use Rattle.lerc_encode.specs.inside.Blocked.{AreFlags, IsBlocked, IsMeasured};
 ghost use Rattle.lerc_encode.specs.inside.Coded.{AreThere, IsLying};
@@ -128,9 +128,9 @@ fn write_plain_form(plains: &Symbols, raster: &Raster, out: &mut [u8])
 pub(crate) fn write_form(chosen: &Chosen, base: &Header, raster: &Raster, out: &mut [u8])
     requires base { IsBase base.now raster.now }
     requires chosen { IsChosen raster.now base.now.version base.now.step chosen.now }
-    requires room { length out.old ≡ length (form_bytes raster.now base.now.version base.now.step
+    requires room { length out.old ≡ length (coded_form_bytes raster.now base.now.version base.now.step
         (named chosen.now.form)) }
-    ensures { out.new ≡ form_bytes raster.now base.now.version base.now.step
+    ensures { out.new ≡ coded_form_bytes raster.now base.now.version base.now.step
         (named chosen.now.form) }
 {
     match chosen.form {
