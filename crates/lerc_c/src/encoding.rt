@@ -3,10 +3,10 @@
 ghost use Rattle.std.specs.Prelude.{◌≡◌, ◌<◌, ◌↔◌, [], IfOk, IfErr, IfSome, OnOk, OnErr, IsTrue, length};
 ghost use Rattle.raster_values.specs.Raster.{IsRaster, IsShape, blank};
 ghost use Rattle.raster_values.specs.Flat.{PutsAll};
-ghost use Rattle.lerc_header.specs.Head.{number_of};
+ghost use Rattle.lerc_header.specs.Head.{version_number};
 ghost use Rattle.lerc_header.specs.Written.{step_of};
 ghost use Rattle.raster_values.specs.PixelType.{code_of};
-ghost use Rattle.lerc_c.specs.Arrays.{GivesSizes, IsGiven, IsEncoded, values_size, mask_size};
+ghost use Rattle.lerc_c.specs.Arrays.{GivesSizes, IsGiven, IsEncoded, values_size, mask_array_size};
 ghost use Rattle.lerc_c.specs.inside.Stops.{IsArgumentStop, IsFit, IsWriteStop, IsWritten, IsEncodeStop};
 ghost use Rattle.lerc_c.specs.inside.Marked.{IsMarked};
 
@@ -40,7 +40,7 @@ pub(crate) fn kind_numbered(number: u32) -> Option<PixelType>
 
 /// The version that a number of C names.
 pub(crate) fn version_numbered(number: u32) -> Option<Version>
-    ensures { (version : Version) → (result ≡ Some version) ↔ (number ≡ number_of version) }
+    ensures { (version : Version) → (result ≡ Some version) ↔ (number ≡ version_number version) }
 {
     Version::of_number(i64::from(number))
 }
@@ -97,7 +97,7 @@ fn mark_bits(raster: &mut Raster, mask: &[u8])
     requires blank { raster.old
         ≡ blank raster.old.kind raster.old.rows raster.old.cols raster.old.depth }
     requires some { length mask.now ≡ 0 → ⊥ }
-    requires size { length mask.now ≡ mask_size raster.old.rows raster.old.cols }
+    requires size { length mask.now ≡ mask_array_size raster.old.rows raster.old.cols }
     ensures { IsMarked raster.old.kind raster.old.rows raster.old.cols raster.old.depth
         mask.now raster.new }
 {

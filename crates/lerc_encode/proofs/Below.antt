@@ -25,10 +25,10 @@ use Rattle.huff_codes.proofs.ChosenTables.{run_low}
 use Rattle.delta_mode.specs.Deltas.{plain as plain_symbols}
 use Rattle.lerc_encode.specs.Codings.{code_lengths, coding_bytes, have_codes, bits_number, shortest_run, symbol_codes, code_table_bytes, table_codes, word_in_front, filled_words}
 use Rattle.lerc_encode.specs.Heads.{header_of}
-use Rattle.lerc_encode.specs.Ranges.{front_bytes, greatests, has_equal_ranges, is_constant, is_empty, leasts}
+use Rattle.lerc_encode.specs.Ranges.{lists_bytes, greatests, has_equal_ranges, is_constant, is_empty, leasts}
 use Rattle.lerc_encode.specs.Masks.{are_alike, mask_part, mask_runs_of, packed}
 use Rattle.lerc_encode.specs.Images.{CodedForm, sweep, blocks_8, blocks_16, delta, plain, empty, constant, ranges, coded, all_deltas, blocks_bytes, chosen_coded_form, ending, coded_form_bytes, has_mode, image_bytes, is_v4, mode_bytes}
-use Rattle.lerc_encode.specs.Choice.{behind_head, checksum_of, header_with}
+use Rattle.lerc_encode.specs.Choice.{mask_and_image, checksum_of, header_with}
 use Rattle.lerc_encode.proofs.Packing.{packed_below}
 use Rattle.lerc_encode.proofs.TableBytes.{used_of}
 use Rattle.lerc_encode.proofs.Standing.{MayBe}
@@ -95,7 +95,7 @@ mask_below marks = joined (little_bytes 4 (length (if are_alike marks then [] el
 
 -- ---- the image
 
-front_below : (r : Pixels) (version : Version) → AreBelow (front_bytes r version)
+front_below : (r : Pixels) (version : Version) → AreBelow (lists_bytes r version)
 front_below r V3 = tt
 front_below r V4 = values_below r.kind (leasts r ++ greatests r)
 
@@ -127,10 +127,10 @@ image_below r version step = by (is_empty r) (is_constant r) (is_v4 version && h
     by false true c = tt
     by false false true = front_below r version
     by false false false =
-        joined (front_bytes r version) (coded_form_bytes r version step (chosen_coded_form r version step)) (front_below r version) (form_below r version step (chosen_coded_form r version step) (chosen_may r version step))
+        joined (lists_bytes r version) (coded_form_bytes r version step (chosen_coded_form r version step)) (front_below r version) (form_below r version step (chosen_coded_form r version step) (chosen_may r version step))
 
-behind_below : (r : Pixels) (version : Version) (step : ℕ) → AreBelow (behind_head r version step)
-unfolding behind_head
+behind_below : (r : Pixels) (version : Version) (step : ℕ) → AreBelow (mask_and_image r version step)
+unfolding mask_and_image
 behind_below r version step =
     joined (mask_part (marks_of r)) (image_bytes r version step (ending r version step)) (mask_below (marks_of r)) (image_below r version step)
 
@@ -159,5 +159,5 @@ pub checksum_below : (r : Pixels) (version : Version) (step : ℕ) → checksum_
 unfolding checksum_of
 checksum_below r version step =
     let h = header_with r version step 0 in
-    let bytes = subst AreBelow (sym (covered r version step 0)) (joined (field_bytes h) (behind_head r version step) (fields_below h) (behind_below r version step)) in
-    sum_below (drop 14 (head_bytes h ++ behind_head r version step)) bytes
+    let bytes = subst AreBelow (sym (covered r version step 0)) (joined (field_bytes h) (mask_and_image r version step) (fields_below h) (behind_below r version step)) in
+    sum_below (drop 14 (head_bytes h ++ mask_and_image r version step)) bytes

@@ -30,11 +30,11 @@ use Rattle.lerc_grammar.specs.Image.{IsImage}
 use Rattle.lerc_grammar.specs.Near.{Near}
 use Rattle.lerc_grammar.specs.Blob.{Blob, BlobParts, IsJoinOf, IsHeadOf}
 use Rattle.lerc_grammar.proofs.Blobs.{one_raster}
-use Rattle.lerc_encode.specs.Ranges.{greatest_value, front_bytes, has_equal_ranges, is_constant, is_empty}
+use Rattle.lerc_encode.specs.Ranges.{greatest_value, lists_bytes, has_equal_ranges, is_constant, is_empty}
 use Rattle.lerc_encode.specs.Masks.{packed, are_alike, mask_runs_of, mask_part}
 use Rattle.lerc_encode.specs.Heads.{header_of}
 use Rattle.lerc_encode.specs.Images.{CodedForm, sweep, blocks_8, blocks_16, delta, plain, is_v4, Ending, empty, constant, ranges, coded, side_at, image_bytes, coded_form_bytes, coded_forms, chosen_coded_form, ending}
-use Rattle.lerc_encode.specs.Choice.{behind_head, header_with, checksum_of, chosen_blob}
+use Rattle.lerc_encode.specs.Choice.{mask_and_image, header_with, checksum_of, chosen_blob}
 use Rattle.lerc_encode.specs.Encoded.{Declares, IsEncodedOnce}
 use Rattle.lerc_encode.specs.inside.Asked.{IsAsked}
 use Rattle.lerc_encode.specs.inside.Suits.{IsBeside}
@@ -72,7 +72,7 @@ sweep_few r is version step =
     let b = by_four (valid_count r * r.depth) 16777216 (bytes_of r.kind) (omega (arith, more, all)) (few_bytes r.kind) in
     omega (arith, size, b)
 
-front_few : (r : Pixels) → IsRaster r → (version : Version) → length (front_bytes r version) ≤ 524288
+front_few : (r : Pixels) → IsRaster r → (version : Version) → length (lists_bytes r version) ≤ 524288
 front_few r is V3 = omega arith
 front_few r is V4 =
     let size = length_front r in
@@ -96,7 +96,7 @@ chosen_ends r is version step size sum some = by (is_empty r) refl (is_constant 
         let front = front_few r is version in
         let form = chosen_few r version step in
         let most = sweep_few r is version step in
-        let joined : length (front_bytes r version ++ coded_form_bytes r version step (chosen_coded_form r version step)) ≡ length (front_bytes r version) + length (coded_form_bytes r version step (chosen_coded_form r version step)) = length-append (front_bytes r version) (coded_form_bytes r version step (chosen_coded_form r version step)) in
+        let joined : length (lists_bytes r version ++ coded_form_bytes r version step (chosen_coded_form r version step)) ≡ length (lists_bytes r version) + length (coded_form_bytes r version step (chosen_coded_form r version step)) = length-append (lists_bytes r version) (coded_form_bytes r version step (chosen_coded_form r version step)) in
         record { few = omega (arith, front, form, most, joined); stands = coded_stands r is version step size sum some h l k (chosen_coded_form r version step) (chosen_may r version step) }
 
 -- ---- the mask
@@ -174,8 +174,8 @@ pub head_few : (version : Version) → head_length version ≤ 66
 head_few V3 = omega arith
 head_few V4 = omega arith
 
-pub length_behind : (r : Pixels) → IsRaster r → (version : Version) (step : ℕ) → 0 < step → (4 ≤ length (behind_head r version step)) × (length (behind_head r version step) ≤ 73924615)
-unfolding behind_head mask_part
+pub length_behind : (r : Pixels) → IsRaster r → (version : Version) (step : ℕ) → 0 < step → (4 ≤ length (mask_and_image r version step)) × (length (mask_and_image r version step) ≤ 73924615)
+unfolding mask_and_image mask_part
 length_behind r is version step some =
     let image = (chosen_ends r is version step 0 0 some).few in
     let mask = mask_few r is in
@@ -187,11 +187,11 @@ version_of : (r : Pixels) (version : Version) (step sum : ℕ) → head_length (
 unfolding header_with header_of
 version_of r version step sum = refl
 
-pub length_choice : (r : Pixels) (version : Version) (step : ℕ) → length (chosen_blob r version step) ≡ head_length version + length (behind_head r version step)
+pub length_choice : (r : Pixels) (version : Version) (step : ℕ) → length (chosen_blob r version step) ≡ head_length version + length (mask_and_image r version step)
 unfolding chosen_blob
 length_choice r version step =
-    length-append (head_bytes (header_with r version step (checksum_of r version step))) (behind_head r version step)
-    ∙ ap (λ n. n + length (behind_head r version step)) (length-head (header_with r version step (checksum_of r version step)) ∙ version_of r version step (checksum_of r version step))
+    length-append (head_bytes (header_with r version step (checksum_of r version step))) (mask_and_image r version step)
+    ∙ ap (λ n. n + length (mask_and_image r version step)) (length-head (header_with r version step (checksum_of r version step)) ∙ version_of r version step (checksum_of r version step))
 
 step_above : (step : ℕ) → IsTwiceError step → 0 < step
 step_above step is = is.above
@@ -247,13 +247,13 @@ other_sum : (r : Pixels) (version : Version) (step sum : ℕ) → header_with r 
 unfolding header_with header_of
 other_sum r version step sum = refl
 
-pub covered : (r : Pixels) (version : Version) (step sum : ℕ) → drop 14 (head_bytes (header_with r version step sum) ++ behind_head r version step) ≡ field_bytes (header_with r version step 0) ++ behind_head r version step
+pub covered : (r : Pixels) (version : Version) (step sum : ℕ) → drop 14 (head_bytes (header_with r version step sum) ++ mask_and_image r version step) ≡ field_bytes (header_with r version step 0) ++ mask_and_image r version step
 covered r version step sum =
     let h = header_with r version step sum in
     let long = length-head h ∙ version_of r version step sum in
     let head : 62 ≤ head_length version = least_head version in
-    drop-append-le 14 (head_bytes h) (behind_head r version step) (omega (arith, long, head))
-    ∙ ap (λ (xs : List ℕ). xs ++ behind_head r version step) (drop-head h ∙ ap field_bytes (other_sum r version step sum) ∙ field-checksum (header_with r version step 0) sum)
+    drop-append-le 14 (head_bytes h) (mask_and_image r version step) (omega (arith, long, head))
+    ∙ ap (λ (xs : List ℕ). xs ++ mask_and_image r version step) (drop-head h ∙ ap field_bytes (other_sum r version step sum) ∙ field-checksum (header_with r version step 0) sum)
   where
     least_head : (version : Version) → 62 ≤ head_length version
     least_head V3 = omega arith
@@ -315,7 +315,7 @@ valid_is : (r : Pixels) (version : Version) (step : ℕ) → (header_with r vers
 unfolding header_with header_of
 valid_is r version step = refl
 
-size_is : (r : Pixels) (version : Version) (step : ℕ) → (header_with r version step (checksum_of r version step)).size ≡ head_length version + length (behind_head r version step)
+size_is : (r : Pixels) (version : Version) (step : ℕ) → (header_with r version step (checksum_of r version step)).size ≡ head_length version + length (mask_and_image r version step)
 unfolding header_with header_of
 size_is r version step = refl
 
@@ -327,12 +327,12 @@ head_long : (r : Pixels) (version : Version) (step : ℕ) → length (head_bytes
 head_long r version step = length-head (header_with r version step (checksum_of r version step))
 
 joined_of : (r : Pixels) (version : Version) (step : ℕ) → chosen_blob r version step ≡ head_bytes (header_with r version step (checksum_of r version step)) ++ (mask_part (marks_of r) ++ image_bytes r version step (ending r version step))
-unfolding chosen_blob behind_head
+unfolding chosen_blob mask_and_image
 joined_of r version step = refl
 
 head_there : (r : Pixels) (version : Version) (step : ℕ) → IsAsked r version step → checksum_of r version step < 2 ^ 32 → HeadAt (chosen_blob r version step) (header_with r version step (checksum_of r version step))
 unfolding chosen_blob
-head_there r version step asked sum_fits = head_stands (header_with r version step (checksum_of r version step)) (behind_head r version step) (is_header r version step asked (checksum_of r version step) sum_fits)
+head_there r version step asked sum_fits = head_stands (header_with r version step (checksum_of r version step)) (mask_and_image r version step) (is_header r version step asked (checksum_of r version step) sum_fits)
 
 mask_there : (r s : Pixels) (version : Version) (step : ℕ) → IsRaster r → IsBeside r s step
     → IsMask ((header_with r version step (checksum_of r version step)).rows * (header_with r version step (checksum_of r version step)).cols) (header_with r version step (checksum_of r version step)).valid (mask_part (marks_of r)) (marks_of s)
@@ -347,7 +347,7 @@ parts r version step = record {
   image = image_bytes r version step (ending r version step);
 }
 
-image_of : (r s : Pixels) (version : Version) (step : ℕ) → IsImage (header_of r version step (side_at (ending r version step)) (head_length version + length (behind_head r version step)) (checksum_of r version step)) (image_bytes r version step (ending r version step)) s
+image_of : (r s : Pixels) (version : Version) (step : ℕ) → IsImage (header_of r version step (side_at (ending r version step)) (head_length version + length (mask_and_image r version step)) (checksum_of r version step)) (image_bytes r version step (ending r version step)) s
     → IsImage (header_with r version step (checksum_of r version step)) (image_bytes r version step (ending r version step)) s
 unfolding header_with
 image_of r s version step image = image
@@ -365,7 +365,7 @@ head_is r s version step near =
     }
 
 join : (r : Pixels) (version : Version) (step : ℕ) (s : Pixels) → IsAsked r version step → checksum_of r version step < 2 ^ 32
-    → (ends : ImageStands r version step (head_length version + length (behind_head r version step)) (checksum_of r version step) (ending r version step)) → s ≡ ends.raster
+    → (ends : ImageStands r version step (head_length version + length (mask_and_image r version step)) (checksum_of r version step) (ending r version step)) → s ≡ ends.raster
     → IsJoinOf (chosen_blob r version step) s (header_with r version step (checksum_of r version step)) (parts r version step)
 join r version step s asked sum_fits ends e =
     let h = header_with r version step (checksum_of r version step) in
@@ -376,14 +376,14 @@ join r version step s asked sum_fits ends e =
       head_stands = head_there r version step asked sum_fits;
       head_of = head_is r s version step near;
       mask_of = mask_there r s version step asked.sound near;
-      image_of = image_of r s version step (subst (λ (x : Pixels). IsImage (header_of r version step (side_at (ending r version step)) (head_length version + length (behind_head r version step)) (checksum_of r version step)) (image_bytes r version step (ending r version step)) x) (sym e) ends.image);
+      image_of = image_of r s version step (subst (λ (x : Pixels). IsImage (header_of r version step (side_at (ending r version step)) (head_length version + length (mask_and_image r version step)) (checksum_of r version step)) (image_bytes r version step (ending r version step)) x) (sym e) ends.image);
     }
 
 encoded : (r : Pixels) (version : Version) (step : ℕ) → IsAsked r version step → checksum_of r version step < 2 ^ 32 → IsEncoded (chosen_blob r version step) r step
 encoded r version step asked sum_fits =
     let is = asked.sound in
     let h = header_with r version step (checksum_of r version step) in
-    let size = head_length version + length (behind_head r version step) in
+    let size = head_length version + length (mask_and_image r version step) in
     let ends = (chosen_ends r is version step size (checksum_of r version step) asked.step_allowed.above).stands in
     record {
       raster = ends.raster;

@@ -16,7 +16,7 @@ use Rattle.micro_block.specs.Choice as micro
 use Rattle.micro_block.proofs.Written.{raw_stands}
 use Rattle.lerc_grammar.specs.Image.{Ends, IsBare, IsFront, AreEqual, IsImage}
 use Rattle.lerc_grammar.specs.Image as grammar
-use Rattle.lerc_encode.specs.Ranges.{greatest_value, depth_values, leasts, greatests, front_bytes, has_equal_ranges, is_constant, is_empty}
+use Rattle.lerc_encode.specs.Ranges.{greatest_value, depth_values, leasts, greatests, lists_bytes, has_equal_ranges, is_constant, is_empty}
 use Rattle.lerc_encode.specs.inside.Fronts.{front_of}
 use Rattle.lerc_encode.specs.Heads.{header_of}
 use Rattle.lerc_encode.specs.Images.{CodedForm, is_v4, Ending, empty, constant, ranges, coded, side_at, side_of, image_bytes, coded_form_bytes}
@@ -65,7 +65,7 @@ all_one r is e =
 
 -- ---- the lists
 
-front_stands : (r : Pixels) → IsRaster r → (version : Version) (step side size sum : ℕ) → IsFront (header_of r version step side size sum) version (front_bytes r version) (front_of r version)
+front_stands : (r : Pixels) → IsRaster r → (version : Version) (step side size sum : ℕ) → IsFront (header_of r version step side size sum) version (lists_bytes r version) (front_of r version)
 unfolding header_of
 front_stands r is V3 step side size sum = (refl, refl)
 front_stands r is V4 step side size sum =
@@ -119,14 +119,14 @@ ranges_stands r is V4 step size sum h d k =
     let e = same_lists (leasts r) (greatests r) k in
     record { raster = r; sound = is; near = near_itself r step; image = grammar.ranges (not_bare r V4 step 8 size sum h d) (front_of r V4) (front_stands r is V4 step 8 size sum) e (all_of_ranges r is e) }
 
-front_of_header : (r : Pixels) → IsRaster r → (version : Version) (step side size sum : ℕ) → IsFront (header_of r version step side size sum) (header_of r version step side size sum).version (front_bytes r version) (front_of r version)
+front_of_header : (r : Pixels) → IsRaster r → (version : Version) (step side size sum : ℕ) → IsFront (header_of r version step side size sum) (header_of r version step side size sum).version (lists_bytes r version) (front_of r version)
 unfolding header_of
 front_of_header r is version step side size sum = front_stands r is version step side size sum
 
 coded_image : (r : Pixels) → IsRaster r → (version : Version) (step size sum : ℕ) → 0 < step → is_empty r ≡ false → is_constant r ≡ false → (is_v4 version && has_equal_ranges r) ≡ false → (form : CodedForm) → MayBe r version step form
-    → IsImage (header_of r version step (side_of form) size sum) (front_bytes r version ++ coded_form_bytes r version step form) (raster_of r version step size sum form)
+    → IsImage (header_of r version step (side_of form) size sum) (lists_bytes r version ++ coded_form_bytes r version step form) (raster_of r version step size sum form)
 coded_image r is version step size sum some h d k form may =
-    grammar.coded (not_bare r version step (side_of form) size sum h d) (front_bytes r version) (coded_form_bytes r version step form) (front_of r version) refl
+    grammar.coded (not_bare r version step (side_of form) size sum h d) (lists_bytes r version) (coded_form_bytes r version step form) (front_of r version) refl
     (front_of_header r is version step (side_of form) size sum) (not_equal r version k) (form_stands r is version step size sum some form may)
 
 pub coded_stands : (r : Pixels) → IsRaster r → (version : Version) (step size sum : ℕ) → 0 < step → is_empty r ≡ false → is_constant r ≡ false → (is_v4 version && has_equal_ranges r) ≡ false → (form : CodedForm) → MayBe r version step form → ImageStands r version step size sum (coded form)

@@ -24,7 +24,7 @@ use Rattle.micro_block.specs.Choice.{least_value}
 use Rattle.micro_block.specs.Frame.{IsBlockStep}
 use Rattle.raster_values.proofs.Views.{same_bits}
 use Rattle.lerc_encode.specs.Heads.{header_of}
-use Rattle.lerc_encode.specs.Ranges.{greatest_value, leasts, greatests, front_bytes, has_equal_ranges, is_constant, is_empty}
+use Rattle.lerc_encode.specs.Ranges.{greatest_value, leasts, greatests, lists_bytes, has_equal_ranges, is_constant, is_empty}
 use Rattle.lerc_encode.specs.Images as images
 use Rattle.lerc_encode.specs.Images.{CodedForm, blocks_bytes, mode_bytes, coded_form_bytes, coded_forms, chosen_coded_form, ending, is_v4}
 use Rattle.lerc_encode.specs.inside.Blocked.{IsBlocked}
@@ -92,19 +92,19 @@ front_half r vs e = length-values_bytes r.kind vs ∙ ap (λ n. n * bytes_of r.k
 pub front_split : (kind : PixelType) (vs ws : List ℤ) → values_bytes kind (vs ++ ws) ≡ values_bytes kind vs ++ values_bytes kind ws
 front_split kind vs ws = flat_map-append (value_bytes kind) vs ws
 
-pub length_front : (r : Pixels) → length (front_bytes r V4) ≡ 2 * (r.depth * bytes_of r.kind)
+pub length_front : (r : Pixels) → length (lists_bytes r V4) ≡ 2 * (r.depth * bytes_of r.kind)
 length_front r =
     let a = front_half r (leasts r) (length_leasts r) in
     let b = front_half r (greatests r) (length_greatests r) in
-    let both : length (front_bytes r V4) ≡ length (values_bytes r.kind (leasts r)) + length (values_bytes r.kind (greatests r)) = ap length (front_split r.kind (leasts r) (greatests r)) ∙ length-append (values_bytes r.kind (leasts r)) (values_bytes r.kind (greatests r)) in
+    let both : length (lists_bytes r V4) ≡ length (values_bytes r.kind (leasts r)) + length (values_bytes r.kind (greatests r)) = ap length (front_split r.kind (leasts r) (greatests r)) ∙ length-append (values_bytes r.kind (leasts r)) (values_bytes r.kind (greatests r)) in
     omega (arith, a, b, both)
 
-pub front_long : (r : Pixels) (depth bytes : ℕ) → depth ≡ r.depth → bytes ≡ bytes_of r.kind → 2 * depth * bytes ≡ length (front_bytes r V4)
+pub front_long : (r : Pixels) (depth bytes : ℕ) → depth ≡ r.depth → bytes ≡ bytes_of r.kind → 2 * depth * bytes ≡ length (lists_bytes r V4)
 front_long r depth bytes d b = (λ t. 2 * d t * b t) ∙ (let e : 2 * r.depth * bytes_of r.kind ≡ 2 * (r.depth * bytes_of r.kind) = omega arith in e) ∙ sym (length_front r)
 
 -- both lists, one behind the other
 pub lists_written : (r : Pixels) (half : ℕ) (first second rest : List ℕ) → length first ≡ half → first ≡ values_bytes r.kind (leasts r) → second ≡ values_bytes r.kind (greatests r)
-    → put_mid half (length (first ++ rest) - half) (first ++ rest) second ≡ front_bytes r V4
+    → put_mid half (length (first ++ rest) - half) (first ++ rest) second ≡ lists_bytes r V4
 lists_written r half first second rest long a b =
     end_written first rest second half (length (first ++ rest) - half) long (let l = length-append first rest in omega (arith, l, long))
     ∙ (λ t. a t ++ b t) ∙ sym (front_split r.kind (leasts r) (greatests r))
@@ -206,5 +206,5 @@ pub length_set : (xs : List ℕ) (i v : ℕ) → length (set xs i v) ≡ length 
 length_set xs i v = length-set xs i v
 
 -- half of the room for both lists
-pub front_room : (r : Pixels) (out : List ℕ) → length out ≡ length (front_bytes r V4) → length out / 2 ≡ r.depth * bytes_of r.kind
+pub front_room : (r : Pixels) (out : List ℕ) → length out ≡ length (lists_bytes r V4) → length out / 2 ≡ r.depth * bytes_of r.kind
 front_room r out e = let whole = length_front r in omega (arith, e, whole)

@@ -8,17 +8,17 @@ use Rattle.raster_values.specs.PixelType.{bytes_of}
 use Rattle.raster_values.specs.Flat.{marks_of}
 use Rattle.lerc_header.specs.declared.header.Version.{Version}
 use Rattle.lerc_header.specs.declared.header.Version.TheVariants.{V3, V4}
-use Rattle.lerc_encode.specs.Ranges.{front_bytes, has_equal_ranges, is_constant, is_empty}
+use Rattle.lerc_encode.specs.Ranges.{lists_bytes, has_equal_ranges, is_constant, is_empty}
 use Rattle.lerc_encode.specs.Masks.{packed, are_alike, mask_runs_of, mask_part}
 use Rattle.mask_runs.specs.Chosen.{chosen_runs}
 use Rattle.lerc_encode.specs.Images.{sweep, is_v4, empty, constant, ranges, coded, image_bytes, coded_form_bytes, chosen_coded_form, ending}
-use Rattle.lerc_encode.specs.Choice.{behind_head}
+use Rattle.lerc_encode.specs.Choice.{mask_and_image}
 use Rattle.lerc_encode.specs.Sizes.{BlobsAreSmall}
 use Rattle.lerc_encode.proofs.Packing.{long_marks, length_packed, runs_small}
 use Rattle.lerc_encode.proofs.Forming.{length_front, length_sweep}
 use Rattle.lerc_encode.proofs.Encoded.{chosen_few, valid_few, length_choice, head_few}
 
-front_small : (r : Pixels) (version : Version) → length (front_bytes r version) ≤ 2 * (r.depth * bytes_of r.kind)
+front_small : (r : Pixels) (version : Version) → length (lists_bytes r version) ≤ 2 * (r.depth * bytes_of r.kind)
 front_small r V3 = omega arith
 front_small r V4 = let e = length_front r in omega (arith, e)
 
@@ -41,7 +41,7 @@ image_small r is version step = by (is_empty r) (is_constant r) (is_v4 version &
         let front = front_small r version in
         let form = chosen_few r version step in
         let most = sweep_small r is version step in
-        let joined : length (front_bytes r version ++ coded_form_bytes r version step (chosen_coded_form r version step)) ≡ length (front_bytes r version) + length (coded_form_bytes r version step (chosen_coded_form r version step)) = length-append (front_bytes r version) (coded_form_bytes r version step (chosen_coded_form r version step)) in
+        let joined : length (lists_bytes r version ++ coded_form_bytes r version step (chosen_coded_form r version step)) ≡ length (lists_bytes r version) + length (coded_form_bytes r version step (chosen_coded_form r version step)) = length-append (lists_bytes r version) (coded_form_bytes r version step (chosen_coded_form r version step)) in
         omega (arith, front, form, most, joined)
 
 runs_few : (r : Pixels) → IsRaster r → length (mask_runs_of (marks_of r)) ≤ 3 * ((r.rows * r.cols + 7) / 8) + 2
@@ -56,7 +56,7 @@ runs_few r is = by (are_alike (marks_of r))
         omega (arith, a, b)
 
 pub small : BlobsAreSmall
-unfolding behind_head mask_part
+unfolding mask_and_image mask_part
 small r version step is =
     let image = image_small r is version step in
     let runs = runs_few r is in

@@ -1,5 +1,8 @@
 -- Symbols as code words, in bytes: their counts and the lengths of their codes, the code table, and
 -- the words.
+-- What the bytes of a table and of words are is said by the relations of huff_codes: a law,
+-- `codings_are_written`, says that those below are the ones in these relations, and no others are.
+-- So nobody has to follow how they are made.
 use Rattle.std.specs.Prelude.{ℕ, zero, suc, ◌+◌, ◌-◌, ◌*◌, ◌%◌, ◌^◌, Bool, false, ◌&&◌, nat_eq, nat_le, if◌then◌else◌, List, [], ◌∷◌, ◌++◌, length, slice_index, take, drop, replicate, map, unwrap_or, Some}
 use Rattle.std.specs.List.{list_all, range_with_len}
 use Rattle.byteorder.specs.Endian.{little_bytes}

@@ -12,7 +12,7 @@ use Rattle.micro_block.specs.Choice.{block_bytes}
 use Rattle.delta_mode.specs.Deltas.{deltas, plain as plain_symbols}
 use Rattle.lerc_grammar.specs.Blocks.{block_col, coded_blocks, coded_values}
 use Rattle.lerc_encode.specs.Heads.{header_of}
-use Rattle.lerc_encode.specs.Ranges.{front_bytes, has_equal_ranges, is_constant, is_empty}
+use Rattle.lerc_encode.specs.Ranges.{lists_bytes, has_equal_ranges, is_constant, is_empty}
 use Rattle.lerc_encode.specs.Codings.{coding_bytes, have_codes}
 
 -- the bytes of coded block number k
@@ -109,5 +109,5 @@ side_at (coded form) = side_of form
 abbrev pub image_bytes : Pixels → Version → ℕ → Ending → List ℕ
 image_bytes r version step empty = []
 image_bytes r version step constant = []
-image_bytes r version step ranges = front_bytes r version
-image_bytes r version step (coded form) = front_bytes r version ++ coded_form_bytes r version step form
+image_bytes r version step ranges = lists_bytes r version
+image_bytes r version step (coded form) = lists_bytes r version ++ coded_form_bytes r version step form

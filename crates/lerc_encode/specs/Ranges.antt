@@ -25,9 +25,9 @@ abbrev pub greatests : Pixels → List ℤ
 greatests r = map (λ d. greatest_value (depth_values r d)) (range_with_len 0 r.depth)
 
 -- the lists that stand behind the mask in version 4, and none in version 3
-abbrev pub front_bytes : Pixels → Version → List ℕ
-front_bytes r V3 = []
-front_bytes r V4 = values_bytes r.kind (leasts r ++ greatests r)
+abbrev pub lists_bytes : Pixels → Version → List ℕ
+lists_bytes r V3 = []
+lists_bytes r V4 = values_bytes r.kind (leasts r ++ greatests r)
 
 -- ---- images that end early
 

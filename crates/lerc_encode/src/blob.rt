@@ -4,7 +4,7 @@ ghost use Rattle.std.specs.Prelude.{◌≡◌, ◌+◌, ◌^◌, ◌<◌, ◌≤
 ghost use Rattle.lerc_header.specs.declared.header.Version.TheVariants.{V3};
 ghost use Rattle.lerc_header.specs.Head.{head_length};
 ghost use Rattle.lerc_header.specs.Written.{IsHeader, head_bytes};
-ghost use Rattle.lerc_encode.specs.Choice.{behind_head, chosen_blob, header_with};
+ghost use Rattle.lerc_encode.specs.Choice.{mask_and_image, chosen_blob, header_with};
 ghost use Rattle.lerc_encode.specs.Encoded.{Declares, IsEncodedOnce};
 ghost use Rattle.lerc_encode.specs.inside.Asked.{IsAsked};
 ghost use Rattle.lerc_encode.specs.inside.Choosing.{AreRanges, IsBase};
@@ -103,7 +103,7 @@ fn plan_of(alloc: Global, raster: &Raster, version: Version, step: u64) -> Resul
 fn behind_len(plan: &Plan, raster: &Raster) -> usize
     requires { IsPlan raster.now plan.now.base.version plan.now.base.step plan.now }
     ensures value { result
-        ≡ length (behind_head raster.now plan.now.base.version plan.now.base.step) }
+        ≡ length (mask_and_image raster.now plan.now.base.version plan.now.base.step) }
     ensures few { result ≤ 73924615 }
 {
     4 + plan.runs + image_len(&plan.ending, &plan.base, raster)
@@ -113,8 +113,8 @@ fn behind_len(plan: &Plan, raster: &Raster) -> usize
 fn write_behind(plan: &Plan, raster: &Raster, out: &mut [u8])
     requires plan { IsPlan raster.now plan.now.base.version plan.now.base.step plan.now }
     requires room { length out.old
-        ≡ length (behind_head raster.now plan.now.base.version plan.now.base.step) }
-    ensures { out.new ≡ behind_head raster.now plan.now.base.version plan.now.base.step }
+        ≡ length (mask_and_image raster.now plan.now.base.version plan.now.base.step) }
+    ensures { out.new ≡ mask_and_image raster.now plan.now.base.version plan.now.base.step }
 {
     let front = (4 + plan.runs).min(out.len());
     write_mask(raster, &plan.mask, plan.runs, &mut out[..front]);
@@ -131,7 +131,7 @@ fn write_behind(plan: &Plan, raster: &Raster, out: &mut [u8])
 fn header_of(plan: &Plan, raster: &Raster, size: usize) -> Header
     requires plan { IsPlan raster.now plan.now.base.version plan.now.base.step plan.now }
     requires size { size ≡ head_length plan.now.base.version
-        + length (behind_head raster.now plan.now.base.version plan.now.base.step) }
+        + length (mask_and_image raster.now plan.now.base.version plan.now.base.step) }
     requires few { size < 2 ^ 32 }
     ensures { result ≡ header_with raster.now plan.now.base.version plan.now.base.step 0 }
 {
@@ -179,7 +179,7 @@ fn fill(plan: &Plan, raster: &Raster, blob: &mut [u8])
     requires asked { IsAsked raster.now plan.now.base.version plan.now.base.step }
     requires plan { IsPlan raster.now plan.now.base.version plan.now.base.step plan.now }
     requires room { length blob.old ≡ head_length plan.now.base.version
-        + length (behind_head raster.now plan.now.base.version plan.now.base.step) }
+        + length (mask_and_image raster.now plan.now.base.version plan.now.base.step) }
     ensures { blob.new ≡ chosen_blob raster.now plan.now.base.version plan.now.base.step }
 {
     let size = blob.len();

@@ -10,7 +10,7 @@ ghost use Rattle.lerc_grammar.specs.Blocks.{coded_blocks};
 ghost use Rattle.delta_mode.specs.Deltas.{plain};
 ghost use Rattle.lerc_encode.specs.Codings.{coding_bytes};
 ghost use Rattle.lerc_encode.specs.Images.{all_deltas, blocks_bytes, coded_form_bytes, mode_bytes};
-ghost use Rattle.lerc_encode.specs.Ranges.{front_bytes};
+ghost use Rattle.lerc_encode.specs.Ranges.{lists_bytes};
 ghost use Rattle.lerc_encode.specs.inside.Blocked.{AreFlags, IsBlocked, IsMeasured};
 ghost use Rattle.lerc_encode.specs.inside.Coded.{AreThere, IsLying};
 ghost use Rattle.lerc_encode.specs.inside.Choosing.{AreRanges, IsBase, IsChosen, named};
@@ -158,7 +158,7 @@ fn write_values(kind: PixelType, values: &[i64], out: &mut [u8])
 
 /// How many bytes the lists in front of an image take.
 pub(crate) fn front_len(version: Version, raster: &Raster) -> usize
-    ensures value { result ≡ length (front_bytes raster.now version) }
+    ensures value { result ≡ length (lists_bytes raster.now version) }
     ensures few { result ≤ 524288 }
 {
     match version {
@@ -170,8 +170,8 @@ pub(crate) fn front_len(version: Version, raster: &Raster) -> usize
 /// Writes both lists.
 fn write_lists(ranges: &Ranges, raster: &Raster, out: &mut [u8])
     requires ranges { AreRanges raster.now ranges.now }
-    requires room { length out.old ≡ length (front_bytes raster.now V4) }
-    ensures { out.new ≡ front_bytes raster.now V4 }
+    requires room { length out.old ≡ length (lists_bytes raster.now V4) }
+    ensures { out.new ≡ lists_bytes raster.now V4 }
 {
     let kind = raster.kind();
     let half = out.len() / 2;
@@ -182,8 +182,8 @@ fn write_lists(ranges: &Ranges, raster: &Raster, out: &mut [u8])
 /// Writes the lists in front of an image, if the version has them.
 pub(crate) fn write_front(version: Version, ranges: &Ranges, raster: &Raster, out: &mut [u8])
     requires ranges { AreRanges raster.now ranges.now }
-    requires room { length out.old ≡ length (front_bytes raster.now version) }
-    ensures { out.new ≡ front_bytes raster.now version }
+    requires room { length out.old ≡ length (lists_bytes raster.now version) }
+    ensures { out.new ≡ lists_bytes raster.now version }
 {
     match version {
         Version::V3 => {}

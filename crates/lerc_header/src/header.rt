@@ -3,7 +3,7 @@
 ghost use Rattle.std.specs.Prelude.{◌≡◌, ◌<◌, ◌↔◌, IsTrue, pos};
 ghost use Rattle.lerc_header.specs.declared.header.Version.{Version};
 ghost use Rattle.lerc_header.specs.declared.header.Version.TheVariants.{V3};
-ghost use Rattle.lerc_header.specs.Head.{head_length, number_of, shift};
+ghost use Rattle.lerc_header.specs.Head.{head_length, version_number, shift};
 
 use raster_values::PixelType;
 
@@ -18,7 +18,7 @@ impl Version {
     /// The version that a number names: 3 or 4.
     pub fn of_number(number: i64) -> Option<Version>
         ensures { (version : Version) → (result ≡ Some version)
-            ↔ (number ≡ pos (number_of version)) }
+            ↔ (number ≡ pos (version_number version)) }
     {
         match number {
             3 => Some(Version::V3),
@@ -29,7 +29,7 @@ impl Version {
 
     /// The number of the version.
     pub fn number(self) -> u32
-        ensures { result ≡ number_of self }
+        ensures { result ≡ version_number self }
     {
         match self {
             Version::V3 => 3,

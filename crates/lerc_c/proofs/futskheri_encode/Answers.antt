@@ -1,6 +1,6 @@
 use Rattle.std.proofs.Common.{◌≡◌, ◌<◌, Some, length, refl, ap, ◌∙◌}
 use Rattle.lerc_header.specs.declared.header.Version.TheVariants.{V3}
-use Rattle.lerc_header.specs.Head.{number_of}
+use Rattle.lerc_header.specs.Head.{version_number}
 use Rattle.lerc_c.specs.Arrays.{IsAllowed, GivesSizes}
 use Rattle.lerc_c.specs.inside.Stops.{IsFit}
 use Rattle.lerc_c.proofs.futskheri_encode.Goals as goal
@@ -16,7 +16,7 @@ returns-in-Err-DepthNeedsV4-clause-deep c = λ _.
     let told : IsAllowed c.args.rows c.args.cols c.args.depth
     × (GivesSizes c.in-Some.kind c.args.rows c.args.cols c.args.depth (length c.args.values.now) (length c.args.mask.now) × ((c.in-Some-version_numbered.version ≡ V3) × (1 < c.args.depth)))
     = rw c.in-Err-DepthNeedsV4.field-0-is at c.in-Err-DepthNeedsV4.ensures.stop in
-    (told.0, ((c.in-Some.kind, ((c.in-Some.ensures c.in-Some.kind).0 refl, told.1.0)), ((c.in-Some-version_numbered.ensures c.in-Some-version_numbered.version).0 refl ∙ ap number_of told.1.1.0, told.1.1.1)))
+    (told.0, ((c.in-Some.kind, ((c.in-Some.ensures c.in-Some.kind).0 refl, told.1.0)), ((c.in-Some-version_numbered.ensures c.in-Some-version_numbered.version).0 refl ∙ ap version_number told.1.1.0, told.1.1.1)))
 
 pub returns-in-Err-OutOfMemory-clause-memory : goal.returns-in-Err-OutOfMemory-clause-memory
 returns-in-Err-OutOfMemory-clause-memory c = λ _.

@@ -1,5 +1,5 @@
 use Rattle.std.proofs.Common.{◌≡◌, ◌+◌, ◌∙◌, subst, length, arith}
-use Rattle.lerc_encode.specs.Choice.{behind_head, chosen_blob}
+use Rattle.lerc_encode.specs.Choice.{mask_and_image, chosen_blob}
 use Rattle.lerc_encode.specs.Encoded.{Declares, IsEncodedOnce}
 use Rattle.lerc_encode.proofs.Asked.{asked_of}
 use Rattle.lerc_encode.proofs.Encoded.{declares, encoded_once, few, length_choice}
@@ -11,7 +11,7 @@ returns-then-size-out-clause-room c = λ n e.
     let r = c.args.raster.now in
     let is = c.in_ok-plan.ensures in
     let same : n ≡ c.head_length.result + c.behind_len.result = cc in
-    let value : c.behind_len.result ≡ length (behind_head r c.args.version c.args.step) = c.behind_len.ensures.value ∙ (λ t. length (behind_head r (is.version_is t) ((is.step_is ∙ c.get.ensures.step) t))) in
+    let value : c.behind_len.result ≡ length (mask_and_image r c.args.version c.args.step) = c.behind_len.ensures.value ∙ (λ t. length (mask_and_image r (is.version_is t) ((is.step_is ∙ c.get.ensures.step) t))) in
     let head = c.head_length.ensures in
     let long = length_choice r c.args.version c.args.step in
     let over = c.if-size-out.true in
@@ -26,7 +26,7 @@ returns-clause-few c =
     let asked = asked_of r c.args.version c.get.result c.needs_v4.result c.depth.result c.depth.ensures.value c.depth.ensures.sound c.get.ensures.allowed c.if-needs_v4.false c.needs_v4.ensures in
     let most = few r c.args.version c.get.result asked in
     let long = length_choice r c.args.version c.get.result in
-    let value : c.behind_len.result ≡ length (behind_head r c.args.version c.get.result) = c.behind_len.ensures.value ∙ (λ t. length (behind_head r (is.version_is t) (is.step_is t))) in
+    let value : c.behind_len.result ≡ length (mask_and_image r c.args.version c.get.result) = c.behind_len.ensures.value ∙ (λ t. length (mask_and_image r (is.version_is t) (is.step_is t))) in
     let head = c.head_length.ensures in
     omega (arith, most, long, value, head)
 
