@@ -123,7 +123,7 @@ fn has_equal_ranges(found: &Ranges, raster: &Raster) -> bool
     requires { AreRanges raster.now found.now }
     ensures { result ≡ ranges.has_equal_ranges raster.now }
 {
-    // the lists are as long as the raster is deep: `depth` tells the proof that it is one
+    // for the proof: `depth` ensures that the raster is a lawful one
     let _depth = raster.depth();
     let (leasts, greatests) = (found.leasts.as_slice(), found.greatests.as_slice());
     leasts == greatests

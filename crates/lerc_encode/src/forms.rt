@@ -71,6 +71,7 @@ fn write_sweep(raster: &Raster, out: &mut [u8])
         ≡ length (1 ∷ values_bytes raster.now.kind (values_of raster.now.pixels)) }
     ensures { out.new ≡ 1 ∷ values_bytes raster.now.kind (values_of raster.now.pixels) }
 {
+    // for the proof: `kind` ensures that the raster is a lawful one
     let _kind = raster.kind();
     out[0] = 1;
     raster.value_bytes(&mut out[1..]);
