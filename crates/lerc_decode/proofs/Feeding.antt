@@ -10,7 +10,7 @@ use Rattle.lerc_header.proofs.Prefixes.{head_more}
 use Rattle.lerc_decode.specs.declared.from_source.Decoded.{Decoded}
 use Rattle.lerc_decode.specs.declared.from_source.FromFault.{FromFault}
 use Rattle.lerc_decode.specs.declared.from_source.FromFault.TheVariants.{Source, OutOfMemory}
-use Rattle.lerc_decode.specs.FromSource.{IsSized, raster_alone}
+use Rattle.lerc_decode.specs.FromSource.{IsSized}
 use Rattle.std.proofs.lemmas.List.{append_assoc, length-append, length-take-le, take-append-drop, take_all}
 use Rattle.lerc_header.specs.Head.{head_length}
 use Rattle.lerc_header.specs.declared.header.Version.{Version}
@@ -19,10 +19,11 @@ use Rattle.outside_io.specs.streams.Source.{Takes}
 use Rattle.lerc_decode.specs.Decoding.{Stage, Key, Fields, Body, Whole, Wrong, NoMemory, Decoding, IsStageOf, HasTaken}
 use Rattle.lerc_decode.specs.States.{missing_at, finished_at, IsUsed}
 use Rattle.outside_io.specs.streams.Source.{IsAtEnd}
-use Rattle.lerc_decode.specs.inside.Feeding.{Begins, Joins, Follows, work_at}
+use Rattle.lerc_decode.specs.Feeding.{Begins, Joins, Follows}
+use Rattle.lerc_decode.specs.inside.Feeding.{from_finished, work_at}
 use Rattle.lerc_header.specs.declared.fault.BlobReason.TheVariants.{Truncated}
 use Rattle.lerc_decode.specs.declared.from_source.FromFault.TheVariants.{Blob}
-use Rattle.lerc_decode.specs.FromSource.{from_finished, IsDecoded}
+use Rattle.lerc_decode.specs.FromSource.{IsDecoded}
 use Rattle.lerc_decode.proofs.Steps.{told_of}
 use Rattle.lerc_grammar.specs.Verdict.{IsMore}
 
@@ -215,10 +216,6 @@ few_more s left0 left1 left2 old taken room none stands f short t before =
 
 -- ---- the raster alone
 
-pub alone : (r : Result Decoded FromFault) (old new : Option (List ℕ)) → IsSized r old new → IsDecoded (raster_alone r) old new
-alone (Ok d) None new t = t
-alone (Ok d) (Some input) new (taken, (rest, (j, (e, found)))) = (taken, (rest, (j, (e, found.0))))
-alone (Err (Blob f)) None new t = t
-alone (Err (Blob f)) (Some input) new t = t
-alone (Err Source) old new t = tt
-alone (Err OutOfMemory) old new t = t
+pub alone : (d : Decoded) (old new : Option (List ℕ)) → IsSized (Ok d) old new → IsDecoded (Ok d.raster) old new
+alone d None new t = t
+alone d (Some input) new (taken, (rest, (j, (e, found)))) = (taken, (rest, (j, (e, found.0))))

@@ -244,7 +244,7 @@ impl Decoder {
     }
 
     /// What is known of the bytes taken.
-    fn state(&self) -> FedState
+    pub fn state(&self) -> FedState
         ensures value { result ≡ state_at self.now.stage }
         ensures sound { IsStageOf self.now.taken self.now.stage }
     {
@@ -258,14 +258,14 @@ impl Decoder {
         }
     }
 
-    /// How many bytes were taken.
-    pub(crate) fn len(&self) -> usize
-        ensures { result ≡ length self.now.taken }
+    /// The bytes taken so far.
+    pub fn bytes(&self) -> &[u8]
+        ensures { result.now ≡ self.now.taken }
     {
         if self.blob.is_empty() {
-            self.have
+            &self.head[..self.have]
         } else {
-            self.blob.len()
+            &self.blob
         }
     }
 

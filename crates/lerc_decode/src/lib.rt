@@ -9,4 +9,4 @@ mod from_source;
 mod front;
 
 pub use decoder::{DecodeFault, Decoder, Fed, FedState};
-pub use from_source::{Decoded, FromFault, decode_from, decode_sized};
+pub use from_source::{Decoded, FromFault, decode_from, decode_sized, feed_from};

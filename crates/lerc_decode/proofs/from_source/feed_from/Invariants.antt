@@ -1,7 +1,8 @@
 use Rattle.std.proofs.Common.{◌≡◌, []}
 use Rattle.outside_io.specs.streams.Source.{TakesUpTo}
 use Rattle.lerc_decode.specs.Decoding.{IsStageOf}
-use Rattle.lerc_decode.specs.inside.Feeding.{Begins, Follows, Joins, work_left}
+use Rattle.lerc_decode.specs.Feeding.{Begins, Follows, Joins}
+use Rattle.lerc_decode.specs.inside.Feeding.{work_left}
 use Rattle.lerc_decode.proofs.from_source.feed_from.Given as goal
 
 abbrev pub invariant-loop-got : goal.invariant-loop-got
