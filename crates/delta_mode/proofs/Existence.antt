@@ -17,7 +17,7 @@ use Rattle.raster_values.specs.Block.{SameMask}
 use Rattle.raster_values.specs.Flat.{value_in, marks_of, revalued, pixels_with}
 use Rattle.raster_values.proofs.Revalued.{may_change, in_order_there}
 use Rattle.raster_values.proofs.Deep.{raster_deep, length-values_of}
-use Rattle.delta_mode.specs.Symbols.{IsByteType, bias, symbol_of, symbol_number}
+use Rattle.delta_mode.specs.Symbols.{IsByteType, bias, symbol_of}
 use Rattle.delta_mode.specs.Deltas.{predictor, delta, is_valid, AreDeltas}
 use Rattle.delta_mode.specs.Laws.{AreSymbols, DepthIsThere, RasterIsThere, PlainIsThere, DeltasAreSymbols, PlainAreSymbols}
 use Rattle.delta_mode.specs.inside.Pieces.{rank, value_of_place, AreCoded}
@@ -199,6 +199,10 @@ depth_there r d symbols hr byte deep h =
     other_number a b ne = grind (arith, nat_tests, ne)
 
 -- ---- plain symbols
+
+-- the number of the type that has this symbol
+abbrev symbol_number : PixelType → ℕ → ℤ
+symbol_number kind symbol = pos symbol -ℤ pos (bias kind)
 
 number_symbol : (kind : PixelType) (s : ℕ) → IsByteType kind → s < 256 → symbol_of kind (symbol_number kind s) ≡ s
 number_symbol kind s byte lt =

@@ -18,7 +18,8 @@ use Rattle.tile_stream.specs.declared.tile.Tile.{Tile}
 use Rattle.tile_stream.specs.declared.tile.TileReason.{TileReason}
 use Rattle.tile_stream.specs.declared.tile.TileReason.TheVariants.{BadTileMark, BadSlot, Grid}
 use Rattle.tile_stream.specs.declared.tile.TileStop.TheVariants.{Fault}
-use Rattle.tile_stream.specs.Tile.{IsTile, IsTileHead, IsToldStop, TilesAreParts, TookTile, col_faults, tile_cut, tile_head_faults, tile_mark_faults, of_grid, row_faults, stop_of, tile_faults}
+use Rattle.tile_stream.specs.Tile.{IsTile, IsTileHead, IsToldStop, TilesAreParts, TookTile, col_faults, tile_cut, tile_head_faults, tile_mark_faults, of_grid, row_faults, tile_faults}
+use Rattle.tile_stream.specs.inside.Stops.{stop_of}
 
 -- ---- the head
 

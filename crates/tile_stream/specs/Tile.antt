@@ -7,8 +7,6 @@ use Rattle.outside_io.specs.streams.Faults.{FailedBetween}
 use Rattle.raster_values.specs.ReadGrid.{IsGrid, TookBytes, grid_faults}
 use Rattle.raster_values.specs.declared.reading.GridReason.{GridReason}
 use Rattle.raster_values.specs.declared.reading.GridReason.TheVariants.{Truncated}
-use Rattle.raster_values.specs.declared.reading.GridStop.{GridStop}
-use Rattle.raster_values.specs.declared.reading.GridStop.TheVariants.{Fault as GridFault, Source as GridSource, OutOfMemory as GridMemory}
 use Rattle.tile_stream.specs.declared.tile.Tile.{Tile}
 use Rattle.tile_stream.specs.declared.tile.TileReason.{TileReason}
 use Rattle.tile_stream.specs.declared.tile.TileReason.TheVariants.{BadTileMark, BadSlot, Grid}
@@ -63,12 +61,6 @@ of_grid faults place (Grid reason) = faults place reason
 abbrev pub tile_faults : List ℕ → Faults TileReason
 tile_faults bytes =
     in_order IsTileHead tile_head_faults (λ slot behind. of_grid (grid_faults behind)) bytes
-
--- a stop of a grid, as one of its tile
-abbrev pub stop_of : GridStop → TileStop
-stop_of (GridFault f) = Fault (record { reason = Grid f.reason; place = f.place })
-stop_of GridSource = Source
-stop_of GridMemory = OutOfMemory
 
 -- ---- what a read leaves
 

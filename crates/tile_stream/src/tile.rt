@@ -1,6 +1,7 @@
 ghost use Rattle.std.specs.Prelude.{◌≡◌, ℕ, ◌+◌, ◌^◌, ◌<◌, ◌≤◌, List, None, Some, IfOk, IfErr, OnErr, MatchResult, length};
 ghost use Rattle.raster_values.specs.ReadGrid.{TookSome};
-ghost use Rattle.tile_stream.specs.Tile.{CountsTileStop, IsTile, IsTileHead, IsToldStop, TookTile, tile_mark_faults, stop_of};
+ghost use Rattle.tile_stream.specs.Tile.{CountsTileStop, IsTile, IsTileHead, IsToldStop, TookTile, tile_mark_faults};
+ghost use Rattle.tile_stream.specs.inside.Stops.{stop_of};
 
 use bundle_index::Slot;
 use outside_io::{Failed, Source, take_all};
