@@ -3,12 +3,17 @@ mod Counting
 mod Filling
 mod Fresh
 mod Fronts
+mod GroupStanding
+mod GroupWrites
+mod Grouping
+mod Kept
 mod Keeping
 pub mod PutLaws
 mod Layouts
 mod Numbering
 pub mod OneRecovery
 pub mod Opening
+mod Overlays
 mod Padded
 mod Putting
 pub mod Recovering

@@ -17,5 +17,5 @@ unfoldable pub symbol_of : PixelType → ℤ → ℕ
 symbol_of kind number = unsigned_abs (int_rem_euclid (number +ℤ pos (bias kind)) (pos 256))
 
 -- the number of the type that has this symbol
-abbrev pub number_of : PixelType → ℕ → ℤ
-number_of kind symbol = pos symbol -ℤ pos (bias kind)
+abbrev pub symbol_number : PixelType → ℕ → ℤ
+symbol_number kind symbol = pos symbol -ℤ pos (bias kind)

@@ -5,7 +5,7 @@ use Rattle.raster_values.specs.Grid.{grid_of}
 use Rattle.raster_values.specs.Raster.{Pixels}
 use Rattle.lerc_header.specs.declared.header.Version.{Version}
 use Rattle.lerc_header.specs.Written.{step_of}
-use Rattle.lerc_encode.specs.Choice.{choice}
+use Rattle.lerc_encode.specs.Choice.{chosen_blob}
 use Rattle.lerc_cli.specs.declared.command.Command.{Command}
 use Rattle.lerc_cli.specs.declared.command.Command.TheVariants.{Encode, Decode, Info, Build, Put, Get, GetRaw, List as ListAll, Check, Recover}
 use Rattle.lerc_cli.specs.declared.stop.Fault.{Fault}
@@ -38,7 +38,7 @@ SourceOnce c = (input : List ℕ) (files : Option Files) → Once c (given (Some
 
 encode_once : (v : Version) (e : ℕ) → SourceOnce (Encode v e)
 encode_once v e input files n m well well output another a b =
-    (refl, a.1.3 ∙ ap (λ (r : Pixels). choice r v (step_of e)) (one_grid input a.0 b.0 a.1.1 b.1.1) ∙ sym b.1.3)
+    (refl, a.1.3 ∙ ap (λ (r : Pixels). chosen_blob r v (step_of e)) (one_grid input a.0 b.0 a.1.1 b.1.1) ∙ sym b.1.3)
 encode_once v e input files n m well (refused f) output another a b = absurd (grid_or_refusal v input files a.0 a.1.1 a.1.2 f.place f.reason b.0)
 encode_once v e input files n m (refused f) well output another a b = absurd (grid_or_refusal v input files b.0 b.1.1 b.1.2 f.place f.reason a.0)
 encode_once v e input files n m (refused f) (refused g) output another a b =

@@ -6,7 +6,7 @@ use Rattle.hex.specs.Hex.{encode_lower}
 use Rattle.raster_values.specs.declared.kind.PixelType.{PixelType}
 use Rattle.raster_values.specs.declared.kind.PixelType.TheVariants.{I8, U8, I16, U16, I32, U32}
 use Rattle.lerc_header.specs.declared.header.Header.{Header}
-use Rattle.lerc_header.specs.Head.{number_of}
+use Rattle.lerc_header.specs.Head.{version_number}
 use Rattle.lerc_grammar.specs.declared.parts.MaskForm.{MaskForm}
 use Rattle.lerc_grammar.specs.declared.parts.MaskForm.TheVariants.{Empty as NoneValid, Full, Runs, Previous}
 use Rattle.lerc_grammar.specs.declared.parts.ImageForm.{ImageForm}
@@ -40,7 +40,7 @@ checksum_line checksum = word_line (codes "checksum") (encode_lower (little_byte
 -- what the header says of the raster's shape: six lines
 abbrev pub shape_lines : Header → List ℕ
 shape_lines h =
-    number_line (codes "version") (number_of h.version)
+    number_line (codes "version") (version_number h.version)
     ++ (word_line (codes "type") (type_name h.kind)
     ++ (number_line (codes "rows") h.rows
     ++ (number_line (codes "cols") h.cols
