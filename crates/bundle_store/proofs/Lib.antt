@@ -6,8 +6,8 @@ mod Fronts
 mod GroupStanding
 mod GroupWrites
 mod Grouping
-mod Kept
 mod Keeping
+mod Kept
 pub mod PutLaws
 mod Layouts
 mod Numbering

@@ -17,6 +17,7 @@ pub mod Check
 pub mod FirstImages
 pub mod GroupPuts
 pub mod Images
+pub mod Kept
 pub mod LaidOver
 pub mod Layout
 pub mod Recover

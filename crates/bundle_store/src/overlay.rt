@@ -15,7 +15,7 @@ use outside_io::{Failed, VolFile, Volume};
 use side_journal::Group;
 
 /// The bytes of an entry.
-fn spelled(entry: Entry) -> [u8; 8]
+pub(crate) fn spelled(entry: Entry) -> [u8; 8]
     requires { IsEntry entry }
     ensures { result ≡ entry_bytes entry }
 {

@@ -13,14 +13,15 @@ ghost use Rattle.bundle_store.specs.inside.Parts.{IsAtRest};
 ghost use Rattle.bundle_store.specs.Images.{EachImage, HoldsClosed, WithOrWithout};
 ghost use Rattle.bundle_store.specs.Causes.{CountsDevice, OnRefusal, UnlessDevice};
 ghost use Rattle.bundle_store.specs.Session.{KeepsLength, PutFails};
+ghost use Rattle.bundle_store.specs.Kept.{Keeps};
 ghost use Rattle.bundle_store.specs.Layout.{layout, record_bytes};
 ghost use Rattle.bundle_store.specs.Tiles.{IsBundle, IsReadable, Opens, no_tiles, tiles};
 
 use crate::StoreFault;
 use crate::append::append_record;
 use crate::build::build_empty;
+use crate::front::Front;
 use crate::group_commit::{apply_body, group_of_one};
-use crate::reading::read_front;
 use bundle_index::{BundleHeader, Entry, Slot};
 use outside_io::{Failed, VolFile, Volume};
 use side_journal::{Body, arm, prepare};
@@ -96,10 +97,12 @@ fn body_of_one(slot: Slot, entry: Entry, length: u64, header: BundleHeader) -> B
     }
 }
 
-/// Puts the tile on a bundle of `len` bytes.
+/// Puts the tile on a bundle of `len` bytes, of which `front` has the header and the index, before
+/// and after.
 pub(crate) fn put_on_bundle<V: Volume>(
     vol: &mut V,
     len: u64,
+    front: &mut Front,
     slot: Slot,
     tile: &[u8],
 ) -> Result<(), Failed>
@@ -108,11 +111,15 @@ pub(crate) fn put_on_bundle<V: Volume>(
     requires room { len + 4 + length tile.now ≤ 2 ^ 40 }
     requires least { IsTrue (V.told vol.old) → 131136 ≤ len }
     requires len { IsTrue (V.told vol.old) → len ≡ length (contents Bundle (V.history vol.old)) }
+    requires keeps { IsTrue (V.told vol.old) → Keeps front.old (contents Bundle
+        (V.history vol.old)) }
     requires quiet { IsTrue (V.told vol.old) → IsQuiet (current (V.history vol.old)) }
     requires closed { IsTrue (V.told vol.old) → ¬ IsOpen (contents Journal (V.history vol.old)) }
     ensures done { IsTrue (V.told vol.old) →
         OnOk result (HoldsClosed (bundle_with_tile (contents Bundle
         (V.history vol.old)) slot tile.now) (current (V.history vol.new))) }
+    ensures keeps { IsTrue (V.told vol.old) → OnOk result (Keeps front.new (bundle_with_tile
+        (contents Bundle (V.history vol.old)) slot tile.now)) }
     ensures slot { slot < 16384 }
     ensures images { IsTrue (V.told vol.old) →
         During (λ d. IsBundle (contents Bundle (V.history vol.old))
@@ -121,19 +128,26 @@ pub(crate) fn put_on_bundle<V: Volume>(
     ensures told { V.told vol.new ≡ V.told vol.old }
     ensures counted { CountsFaults result (V.faults vol.old) (V.faults vol.new) }
 {
-    let (old_header, old) = read_front(vol, slot)?;
+    let old = front.entry(slot);
     let size = tile.len() as u32;
     let entry = Entry {
         offset: len + 4,
         size,
     };
-    let header = old_header.after_put(old, size, len + 4 + size as u64);
+    let header = front.header().after_put(old, size, len + 4 + size as u64);
     let body = body_of_one(slot, entry, len + 4 + size as u64, header);
-    commit(vol, len, tile, &body)
+    commit(vol, len, tile, &body)?;
+    front.put(&header, slot, entry);
+    Ok(())
 }
 
 /// Puts the tile on an empty file, which is first made a bundle of no tiles.
-pub(crate) fn put_on_nothing<V: Volume>(vol: &mut V, slot: Slot, tile: &[u8]) -> Result<(), Failed>
+pub(crate) fn put_on_nothing<V: Volume>(
+    vol: &mut V,
+    front: &mut Front,
+    slot: Slot,
+    tile: &[u8],
+) -> Result<(), Failed>
     requires some { 0 < length tile.now }
     requires size { length tile.now < 2 ^ 24 }
     requires empty { IsTrue (V.told vol.old) → contents Bundle (V.history vol.old) ≡ [] }
@@ -142,6 +156,8 @@ pub(crate) fn put_on_nothing<V: Volume>(vol: &mut V, slot: Slot, tile: &[u8]) ->
     ensures done { IsTrue (V.told vol.old) →
         OnOk result (HoldsClosed (bundle_with_tile (layout no_tiles) slot tile.now)
         (current (V.history vol.new))) }
+    ensures keeps { IsTrue (V.told vol.old) →
+        OnOk result (Keeps front.new (bundle_with_tile (layout no_tiles) slot tile.now)) }
     ensures slot { OnOk result (slot < 16384) }
     ensures images { IsTrue (V.told vol.old) →
         During (EachImage (WithOrWithout slot tile.now no_tiles)) (V.history vol.old)
@@ -149,15 +165,23 @@ pub(crate) fn put_on_nothing<V: Volume>(vol: &mut V, slot: Slot, tile: &[u8]) ->
     ensures told { V.told vol.new ≡ V.told vol.old }
     ensures counted { CountsFaults result (V.faults vol.old) (V.faults vol.new) }
 {
-    build_empty(vol, &[], &[], &mut [])?;
-    put_on_bundle(vol, 131136, slot, tile)
+    build_empty(vol, &[], &[], &mut [], front)?;
+    put_on_bundle(vol, 131136, front, slot, tile)
 }
 
-/// Puts the tile on the bundle, if there is room for it.
-pub(crate) fn put_tile<V: Volume>(vol: &mut V, slot: Slot, tile: &[u8]) -> Result<(), StoreFault>
+/// Puts the tile on the bundle, if there is room for it; `front` has the bundle's header and index,
+/// before and after.
+pub(crate) fn put_tile<V: Volume>(
+    vol: &mut V,
+    front: &mut Front,
+    slot: Slot,
+    tile: &[u8],
+) -> Result<(), StoreFault>
     requires some { 0 < length tile.now }
     requires size { length tile.now < 2 ^ 24 }
     requires opens { IsTrue (V.told vol.old) → Opens (contents Bundle (V.history vol.old)) }
+    requires keeps { IsTrue (V.told vol.old) → Keeps front.old (contents Bundle
+        (V.history vol.old)) }
     requires quiet { IsTrue (V.told vol.old) → IsQuiet (current (V.history vol.old)) }
     requires closed { IsTrue (V.told vol.old) → ¬ IsOpen (contents Journal (V.history vol.old)) }
     ensures done { IsTrue (V.told vol.old) →
@@ -170,7 +194,7 @@ pub(crate) fn put_tile<V: Volume>(vol: &mut V, slot: Slot, tile: &[u8]) -> Resul
     ensures kept { IsTrue (V.told vol.old) → OnRefusal result
         (During (λ d. d ≡ current (V.history vol.old)) (V.history vol.old) (V.history vol.new)) }
     ensures rest { IsTrue (V.told vol.old) → UnlessDevice result
-        (IsAtRest (current (V.history vol.new))) }
+        (IsAtRest front.new (current (V.history vol.new))) }
     ensures answers { IfErr result (λ f. PutFails (length tile.now) f) }
     ensures running { ¬ IsErrOf result StoreFault.Stopped }
     ensures images { IsTrue (V.told vol.old) →
@@ -185,9 +209,9 @@ pub(crate) fn put_tile<V: Volume>(vol: &mut V, slot: Slot, tile: &[u8]) -> Resul
         return Err(StoreFault::Full { len });
     }
     if len == 0 {
-        put_on_nothing(vol, slot, tile)?;
+        put_on_nothing(vol, front, slot, tile)?;
     } else {
-        put_on_bundle(vol, len, slot, tile)?;
+        put_on_bundle(vol, len, front, slot, tile)?;
     }
     Ok(())
 }

@@ -3,6 +3,7 @@ use Rattle.std.specs.Prelude.{◌≡◌, ℕ, List, ◌++◌}
 use Rattle.outside_io.specs.volume.Disk.{Disk, IsImage, IsQuiet, IsSettled}
 use Rattle.side_journal.specs.Says.{IsOpen, SaysBuild}
 use Rattle.bundle_store.specs.Images.{StandsFor}
+use Rattle.bundle_store.specs.Kept.{FrontBytes, Keeps}
 use Rattle.bundle_store.specs.Tiles.{Opens, TileMap}
 
 -- the bytes begin with these
@@ -40,8 +41,9 @@ abbrev pub EachKeeps : List ℕ → List ℕ → Disk → Type 0
 EachKeeps bundle journal now = (b j : List ℕ) → IsImage now.bundle b → IsImage now.journal j →
     (map : TileMap) → StandsFor bundle journal map → StandsFor b j map
 
--- a session can be opened here, nothing is pending, and the journal is not open
-pub record IsAtRest (d : Disk) : Type 0 where
+-- a session that keeps this can serve the bundle, nothing is pending, and the journal is not open
+pub record IsAtRest (front : FrontBytes) (d : Disk) : Type 0 where
   pub opens : Opens d.bundle.now
+  pub keeps : Keeps front d.bundle.now
   pub quiet : IsQuiet d
   pub closed : ¬ IsOpen d.journal.now
