@@ -15,6 +15,8 @@ mod grids;
 #[cfg(test)]
 mod headers;
 #[cfg(test)]
+mod large;
+#[cfg(test)]
 mod rasters;
 #[cfg(test)]
 mod same;
