@@ -18,7 +18,8 @@ fn grid_of(rt: &impl Abort, alloc: Global) -> Vec<u8> {
     grid.extend_from_slice(b"LGR1\x01\x88\x13\0\0\x14\0\0\0\x01\0\0\0")
         .expect(rt, "memory");
     let marks = vec![in alloc; 1; 100_000].expect(rt, "memory");
-    grid.extend_from_slice(marks.as_slice()).expect(rt, "memory");
+    grid.extend_from_slice(marks.as_slice())
+        .expect(rt, "memory");
     let mut state: u32 = 1;
     for _ in 0..100_000 {
         state = state.wrapping_mul(1_103_515_245).wrapping_add(12345);

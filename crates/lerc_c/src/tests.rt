@@ -127,9 +127,7 @@ fn names_of_reasons(rt: HostRuntime) {
 /// than 4,096 rows.
 fn encode_large(alloc: Global, values: &[u8], blob: &mut [u8]) -> u32 {
     let mut size = 0;
-    futskheri_encode(
-        alloc, 1, 5000, 20, 1, 4, 0, values, b"", blob, &mut size,
-    )
+    futskheri_encode(alloc, 1, 5000, 20, 1, 4, 0, values, b"", blob, &mut size)
 }
 
 #[test]

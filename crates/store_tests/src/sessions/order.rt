@@ -21,9 +21,24 @@ struct Held {
 fn held(rt: &impl Abort, vol: &mut MemVolume) -> Held {
     let (mut journal, mut header, mut entry) = ([0; 96], [0; 64], [0; 8]);
     let len = vol.len(VolFile::Bundle).expect(rt, "length");
-    same(rt, "journal", vol.read(VolFile::Journal, 0, &mut journal), Ok(96));
-    same(rt, "header", vol.read(VolFile::Bundle, 0, &mut header), Ok(64));
-    same(rt, "entry", vol.read(VolFile::Bundle, 64, &mut entry), Ok(8));
+    same(
+        rt,
+        "journal",
+        vol.read(VolFile::Journal, 0, &mut journal),
+        Ok(96),
+    );
+    same(
+        rt,
+        "header",
+        vol.read(VolFile::Bundle, 0, &mut header),
+        Ok(64),
+    );
+    same(
+        rt,
+        "entry",
+        vol.read(VolFile::Bundle, 64, &mut entry),
+        Ok(8),
+    );
     Held {
         len,
         journal,
@@ -35,7 +50,12 @@ fn held(rt: &impl Abort, vol: &mut MemVolume) -> Held {
 // A volume whose call of this number fails, after the put of the small tile into the first slot.
 fn with_small(rt: &impl Abort, alloc: Global, number: u64) -> MemVolume {
     let mut vol = failing_volume(rt, alloc, &[number]);
-    same(rt, "small", put(alloc, &mut vol, first_slot(rt), &SMALL), Ok(()));
+    same(
+        rt,
+        "small",
+        put(alloc, &mut vol, first_slot(rt), &SMALL),
+        Ok(()),
+    );
     vol
 }
 
