@@ -11,14 +11,14 @@ use std::process::Abort;
 // What the two files hold: the length of the bundle, the journal, the header, and the entry of the
 // first slot.
 #[derive(Drop)]
-struct Held {
+struct Contents {
     len: u64,
     journal: [u8; 96],
     header: [u8; 64],
     entry: [u8; 8],
 }
 
-fn held(rt: &impl Abort, vol: &mut MemVolume) -> Held {
+fn contents_of(rt: &impl Abort, vol: &mut MemVolume) -> Contents {
     let (mut journal, mut header, mut entry) = ([0; 96], [0; 64], [0; 8]);
     let len = vol.len(VolFile::Bundle).expect(rt, "length");
     same(
@@ -39,7 +39,7 @@ fn held(rt: &impl Abort, vol: &mut MemVolume) -> Held {
         vol.read(VolFile::Bundle, 64, &mut entry),
         Ok(8),
     );
-    Held {
+    Contents {
         len,
         journal,
         header,
@@ -61,11 +61,11 @@ fn with_small(rt: &impl Abort, alloc: Global, number: u64) -> MemVolume {
 
 // Where the call of this number fails: whether then the bundle is longer by the record of the large
 // tile, and whether the journal, the header and the entry are others than before its put.
-fn written(rt: &impl Abort, alloc: Global, number: u64, before: &Held) -> [bool; 4] {
+fn written(rt: &impl Abort, alloc: Global, number: u64, before: &Contents) -> [bool; 4] {
     let mut vol = with_small(rt, alloc, number);
     let answer = put(alloc, &mut vol, first_slot(rt), &LARGE);
     same(rt, number, answer.is_err(), true);
-    let after = held(rt, &mut vol);
+    let after = contents_of(rt, &mut vol);
     [
         after.len == before.len.wrapping_add(76),
         after.journal != before.journal,
@@ -90,7 +90,7 @@ fn steps_of(rt: &impl Abort, number: u64, written: [bool; 4]) -> usize {
 #[test]
 fn a_put_writes_the_record_then_the_journal_then_the_header_then_the_entry(rt: HostRuntime) {
     let alloc = rt.alloc();
-    let before = held(&rt, &mut with_small(&rt, alloc, u64::MAX));
+    let before = contents_of(&rt, &mut with_small(&rt, alloc, u64::MAX));
     let mut vol = with_small(&rt, alloc, u64::MAX);
     let begin = vol.moment();
     let answer = put(alloc, &mut vol, first_slot(&rt), &LARGE);
