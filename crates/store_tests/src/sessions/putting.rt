@@ -168,3 +168,17 @@ fn entries_that_a_check_finds_bad(rt: HostRuntime) {
         (2, 144, 0, false),
     );
 }
+
+#[test]
+fn a_tile_above_65535_bytes_is_put_and_got(rt: HostRuntime) {
+    let (alloc, slot) = (rt.alloc(), first_slot(&rt));
+    let mut vol = empty_volume(&rt, alloc);
+    let tile = vec![in alloc; 7; 70_000].expect(&rt, "memory");
+    same(
+        &rt,
+        "put",
+        put(alloc, &mut vol, slot, tile.as_slice()),
+        Ok(()),
+    );
+    expect_tile(&rt, alloc, &mut vol, slot, tile.as_slice());
+}
