@@ -18,22 +18,63 @@ pub(super) struct Backing<R: Files + Drop> {
     is_named: bool,
 }
 
+// The greatest place to which a machine lets a file be moved. No file has a byte there.
+const GREATEST_PLACE: u64 = 9223372036854775807;
+
 // An open file.
 #[derive(Drop)]
 struct OpenedFile<F: Drop> {
     file: F,
+    // Where its next read or write goes, if that is known.
+    place: Option<u64>,
     // Else it was opened for reading alone.
     is_writable: bool,
 }
 
 impl<F: Drop> OpenedFile<F> {
+    fn new(file: F, is_writable: bool) -> OpenedFile<F> {
+        OpenedFile {
+            file,
+            place: None,
+            is_writable,
+        }
+    }
+
     fn writable(&mut self) -> Option<&mut F> {
         if self.is_writable {
+            self.place = None;
             Some(&mut self.file)
         } else {
             None
         }
     }
+}
+
+// The length of the file.
+fn len_of<F: Seek + Drop>(opened: &mut OpenedFile<F>) -> Option<u64> {
+    opened.place = None;
+    opened.file.seek(SeekFrom::End(0)).ok()
+}
+
+// Reads from the place on, until the buffer is full or the file ends. The file is moved only where
+// it does not stand there.
+fn read_at<F: Read + Seek + Drop>(
+    opened: &mut OpenedFile<F>,
+    at: u64,
+    buf: &mut [u8],
+) -> Option<usize>
+    ensures { IfSome result (λ n. n ≤ length buf.old) }
+{
+    if at > GREATEST_PLACE {
+        return Some(0);
+    }
+    if opened.place != Some(at) {
+        opened.file.seek(SeekFrom::Start(at)).ok()?;
+    }
+    opened.place = None;
+    let count = read_all(&mut opened.file, buf)?;
+    opened.place = at.checked_add(count as u64);
+    Some(count)
 }
 
 impl<R: Files + Drop> Backing<R> {
@@ -76,7 +117,7 @@ impl<R: Files + Drop> Backing<R> {
 
     pub(super) fn len(&mut self, files: &R) -> Option<u64> {
         match self.open(files)? {
-            Some(opened) => opened.file.seek(SeekFrom::End(0)).ok(),
+            Some(opened) => len_of(opened),
             None => Some(0),
         }
     }
@@ -84,14 +125,10 @@ impl<R: Files + Drop> Backing<R> {
     pub(super) fn read(&mut self, files: &R, at: u64, buf: &mut [u8]) -> Option<usize>
         ensures { IfSome result (λ n. n ≤ length buf.old) }
     {
-        if at >= self.len(files)? {
-            return Some(0);
+        match self.open(files)? {
+            Some(opened) => read_at(opened, at, buf),
+            None => Some(0),
         }
-        let Some(opened) = self.open(files)? else {
-            return Some(0);
-        };
-        opened.file.seek(SeekFrom::Start(at)).ok()?;
-        read_all(&mut opened.file, buf)
     }
 
     pub(super) fn write(&mut self, files: &R, at: u64, bytes: &[u8]) -> Option<()> {
@@ -126,14 +163,10 @@ impl<R: Files + Drop> Backing<R> {
 // The file of this path, which is opened for reading alone where it may not be written.
 fn opened<R: Files>(files: &R, path: &str) -> io::Result<OpenedFile<R::File>> {
     match OpenOptions::new().read(true).write(true).open(files, path) {
-        Ok(file) => Ok(OpenedFile {
-            file,
-            is_writable: true,
-        }),
-        Err(error) if is_no_leave(error.kind()) => Ok(OpenedFile {
-            file: File::open(files, path)?,
-            is_writable: false,
-        }),
+        Ok(file) => Ok(OpenedFile::new(file, true)),
+        Err(error) if is_no_leave(error.kind()) => {
+            Ok(OpenedFile::new(File::open(files, path)?, false))
+        }
         Err(error) => Err(error),
     }
 }
@@ -149,10 +182,7 @@ fn made<R: Files>(files: &R, path: &str) -> Option<OpenedFile<R::File>> {
     let mut options = OpenOptions::new();
     options.read(true).write(true).create(true);
     let file = options.open(files, path).ok()?;
-    Some(OpenedFile {
-        file,
-        is_writable: true,
-    })
+    Some(OpenedFile::new(file, true))
 }
 
 // Reads until the buffer is full or the file ends.
