@@ -3,6 +3,9 @@ mod Counting
 mod Filling
 mod Fresh
 mod Fronts
+mod GroupStanding
+mod GroupWrites
+mod Grouping
 mod Keeping
 mod Kept
 pub mod PutLaws
@@ -10,6 +13,7 @@ mod Layouts
 mod Numbering
 pub mod OneRecovery
 pub mod Opening
+mod Overlays
 mod Padded
 mod Putting
 pub mod Recovering

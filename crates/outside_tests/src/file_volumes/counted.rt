@@ -84,7 +84,12 @@ fn a_read_behind_the_end_gives_none(rt: HostRuntime) {
         let desk = desk_with(&rt, rt.alloc(), Some(6), Fault::Nothing);
         let mut vol = volume_on(&rt, rt.alloc(), &desk, "shelf/b");
         same(&rt, "the end", read(&mut vol, file, 6, &mut buf), Ok(0));
-        same(&rt, "behind", read(&mut vol, file, 1 << 40, &mut buf), Ok(0));
+        same(
+            &rt,
+            "behind",
+            read(&mut vol, file, 1 << 40, &mut buf),
+            Ok(0),
+        );
         same(&rt, "buffer", buf, [7; 5]);
     }
 }
@@ -120,10 +125,20 @@ fn may_only_be_read(rt: &impl Abort, alloc: Global, file: VolFile, kind: ErrorKi
         same(rt, number, calls(&mut vol, each), may_read);
         same(rt, number, write(&mut vol, each, 6, b""), Err(Failed));
         let counts = desk.counts(each);
-        same(rt, number, (counts.writes, counts.cuts, counts.syncs), (0, 0, 1));
+        same(
+            rt,
+            number,
+            (counts.writes, counts.cuts, counts.syncs),
+            (0, 0, 1),
+        );
     }
     // Both names are synced, once each.
-    same(rt, number, desk.folder.counts.get(), opened_and_synced(2, 2));
+    same(
+        rt,
+        number,
+        desk.folder.counts.get(),
+        opened_and_synced(2, 2),
+    );
 }
 
 #[test]
@@ -245,8 +260,18 @@ fn holds(rt: &impl Abort, alloc: Global, fault: Fault) -> (bool, &'static str, u
 #[test]
 fn three_numbers_are_held_by_a_folder_that_opens(rt: HostRuntime) {
     let alloc = rt.alloc();
-    same(&rt, "root", holds(&rt, alloc, Fault::Nothing), (true, "/", 3));
-    same(&rt, "here", holds(&rt, alloc, Fault::OpenRoot), (true, ".", 3));
+    same(
+        &rt,
+        "root",
+        holds(&rt, alloc, Fault::Nothing),
+        (true, "/", 3),
+    );
+    same(
+        &rt,
+        "here",
+        holds(&rt, alloc, Fault::OpenRoot),
+        (true, ".", 3),
+    );
     let (is_held, _, _) = holds(&rt, alloc, Fault::OpenFolder);
     same(&rt, "none", is_held, false);
 }

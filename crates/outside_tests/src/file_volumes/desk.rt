@@ -400,6 +400,7 @@ impl Files for Machine {
     fn remove_dir_all<B: Allocator>(&self, _alloc: B, _path: &str) -> io::Result<()> {
         Err(error(ErrorKind::Unsupported))
     }
+
     fn read_link<B: Allocator>(&self, alloc: B, path: &str) -> io::Result<PathBuf<B>> {
         if self.desk.fault.get() == Fault::ReadLink {
             return Err(error(ErrorKind::Other));

@@ -96,7 +96,12 @@ fn a_file_is_longer_than_4_gib(rt: HostRuntime) {
         same(&rt, "far", far, *b"\0abc");
         same(&rt, "near", read(&mut vol, file, 5, &mut near), Ok(4));
         same(&rt, "near", near, [0; 4]);
-        same(&rt, "behind", read(&mut vol, file, FAR + 4, &mut far), Ok(0));
+        same(
+            &rt,
+            "behind",
+            read(&mut vol, file, FAR + 4, &mut far),
+            Ok(0),
+        );
         same(&rt, "cut", cut(&mut vol, file, FAR + 1), Ok(()));
         same(&rt, "left", len(&mut vol, file), Ok(FAR + 1));
         same(&rt, "removed", is_removed(&rt, file), true);

@@ -7,6 +7,8 @@ use Rattle.bundle_index.specs.Header.{header_after}
 use Rattle.bundle_index.specs.declared.entry.Entry.{Entry}
 use Rattle.bundle_index.proofs.Headers.{length-header_after}
 use Rattle.bundle_store.specs.Appended.{bundle_with_tile, put_entry, put_header, with_entry}
+use Rattle.bundle_store.specs.LaidOver.{with_body}
+use Rattle.side_journal.specs.declared.body.Body.{Body}
 use Rattle.bundle_store.specs.Images.{EachImage, WithOrWithout}
 use Rattle.bundle_store.specs.Layout.{record_bytes}
 use Rattle.bundle_store.specs.Tiles.{IsBundle, IsReadable, tiles}
@@ -16,14 +18,14 @@ use Rattle.bundle_store.proofs.Standing.{weaker}
 use Rattle.bundle_store.proofs.put.put_on_bundle.Goals as goal
 
 -- the images, by the bundle that is left
-images : (b tile h : List ℕ) (slot : ℕ) (e : Entry) (old new : History) → with_entry h slot e (b ++ record_bytes tile) ≡ bundle_with_tile b slot tile → slot < 16384 → 0 < length tile → length tile < 2 ^ 24 → length b + 4 + length tile ≤ 2 ^ 40
-    → During (λ d. IsBundle b → IsReadable (with_entry h slot e (b ++ record_bytes tile)) → EachImage (λ map. (map ≡ tiles b) ⊎ (map ≡ tiles (with_entry h slot e (b ++ record_bytes tile)))) d) old new
+images : (b tile after : List ℕ) (slot : ℕ) (old new : History) → after ≡ bundle_with_tile b slot tile → slot < 16384 → 0 < length tile → length tile < 2 ^ 24 → length b + 4 + length tile ≤ 2 ^ 40
+    → During (λ d. IsBundle b → IsReadable after → EachImage (λ map. (map ≡ tiles b) ⊎ (map ≡ tiles after)) d) old new
     → During (λ d. IsBundle b → EachImage (WithOrWithout slot tile (tiles b)) d) old new
-images b tile h slot e old new put below some small room during =
+images b tile after slot old new put below some small room during =
     let Pass : Disk → Type 0 = λ d. IsBundle b → EachImage (WithOrWithout slot tile (tiles b)) d in
-    during_map _ Pass old new (λ d each is. weaker (λ map. (map ≡ tiles b) ⊎ (map ≡ tiles (with_entry h slot e (b ++ record_bytes tile)))) (WithOrWithout slot tile (tiles b)) d (λ map either. elim either [
+    during_map _ Pass old new (λ d each is. weaker (λ map. (map ≡ tiles b) ⊎ (map ≡ tiles after)) (WithOrWithout slot tile (tiles b)) d (λ map either. elim either [
       | inl before ↦ inl before
-      | inr after ↦ inr (after ∙ ap tiles put ∙ put_on_tiles b tile slot is below some small room)
+      | inr done ↦ inr (done ∙ ap tiles put ∙ put_on_tiles b tile slot is below some small room)
     ]) (each is (inr (subst IsBundle (sym put) (put_on_bundle b tile slot is below some small room))))) during
 
 -- the header, by the one that is kept
@@ -42,8 +44,8 @@ returns-in_err-commit-clause-images g c = λ told.
     let len = c.requires.len told in
     let some : length b ≢ 0 = λ zero. absurd (omega (arith, zero, len, c.requires.least told)) in
     let header_is = header_by b tile c.header.result c.after_put-header.result c.args.slot c.args.len c.entry-old.result (c.header.ensures.value ∙ keeps_header b c.args.front.now (c.requires.keeps told) some) (c.entry-old.ensures.value b (c.requires.keeps told)) len c.after_put-header.ensures in
-    let put = put_is b b tile c.after_put-header.result c.args.slot _ header_is (entry_by b tile c.args.len len) refl in
-    images b tile c.after_put-header.result c.args.slot _ old _ put c.entry-old.ensures.slot c.requires.some c.requires.size (omega (arith, len, c.requires.room)) (c.commit.ensures.images told)
+    let put : with_body c.body_of_one-body.result (b ++ record_bytes tile) ≡ bundle_with_tile b c.args.slot tile = ap (λ (x : Body). with_body x (b ++ record_bytes tile)) c.body_of_one-body.ensures ∙ put_is b b tile c.after_put-header.result c.args.slot _ header_is (entry_by b tile c.args.len len) refl in
+    images b tile (with_body c.body_of_one-body.result (b ++ record_bytes tile)) c.args.slot old _ put c.entry-old.ensures.slot c.requires.some c.requires.size (omega (arith, len, c.requires.room)) (c.commit.ensures.images told)
 
 pub returns-clause-images : goal.returns-clause-images
 returns-clause-images g c = λ told.
@@ -53,8 +55,8 @@ returns-clause-images g c = λ told.
     let len = c.requires.len told in
     let some : length b ≢ 0 = λ zero. absurd (omega (arith, zero, len, c.requires.least told)) in
     let header_is = header_by b tile c.header.result c.after_put-header.result c.args.slot c.args.len c.entry-old.result (c.header.ensures.value ∙ keeps_header b c.args.front.now (c.requires.keeps told) some) (c.entry-old.ensures.value b (c.requires.keeps told)) len c.after_put-header.ensures in
-    let put = put_is b b tile c.after_put-header.result c.args.slot _ header_is (entry_by b tile c.args.len len) refl in
-    images b tile c.after_put-header.result c.args.slot _ old _ put c.entry-old.ensures.slot c.requires.some c.requires.size (omega (arith, len, c.requires.room)) (c.commit.ensures.images told)
+    let put : with_body c.body_of_one-body.result (b ++ record_bytes tile) ≡ bundle_with_tile b c.args.slot tile = ap (λ (x : Body). with_body x (b ++ record_bytes tile)) c.body_of_one-body.ensures ∙ put_is b b tile c.after_put-header.result c.args.slot _ header_is (entry_by b tile c.args.len len) refl in
+    images b tile (with_body c.body_of_one-body.result (b ++ record_bytes tile)) c.args.slot old _ put c.entry-old.ensures.slot c.requires.some c.requires.size (omega (arith, len, c.requires.room)) (c.commit.ensures.images told)
 
 pub returns-clause-done : goal.returns-clause-done
 returns-clause-done g c = λ told.
@@ -64,7 +66,7 @@ returns-clause-done g c = λ told.
     let len = c.requires.len told in
     let some : length b ≢ 0 = λ zero. absurd (omega (arith, zero, len, c.requires.least told)) in
     let header_is = header_by b tile c.header.result c.after_put-header.result c.args.slot c.args.len c.entry-old.result (c.header.ensures.value ∙ keeps_header b c.args.front.now (c.requires.keeps told) some) (c.entry-old.ensures.value b (c.requires.keeps told)) len c.after_put-header.ensures in
-    let put = put_is b b tile c.after_put-header.result c.args.slot _ header_is (entry_by b tile c.args.len len) refl in
+    let put : with_body c.body_of_one-body.result (b ++ record_bytes tile) ≡ bundle_with_tile b c.args.slot tile = ap (λ (x : Body). with_body x (b ++ record_bytes tile)) c.body_of_one-body.ensures ∙ put_is b b tile c.after_put-header.result c.args.slot _ header_is (entry_by b tile c.args.len len) refl in
     let is = c.in_ok-commit.ensures.done told in
     record {
       bundle_is = ap (λ (d : Disk). d.bundle) is ∙ ap settled put;
