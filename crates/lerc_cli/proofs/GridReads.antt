@@ -19,7 +19,7 @@ use Rattle.lerc_cli.specs.declared.stop.Reason.TheVariants.{Blob, Grid, Leftover
 use Rattle.lerc_cli.specs.declared.stop.Stop.{Stop}
 use Rattle.lerc_cli.specs.declared.stop.Stop.TheVariants.{Usage, Refused, Source, Output, Volume, OutOfMemory, Store}
 use Rattle.lerc_grammar.specs.Near.{Near, NearestIsSame}
-use Rattle.lerc_encode.specs.Choice.{choice}
+use Rattle.lerc_encode.specs.Choice.{chosen_blob}
 use Rattle.lerc_encode.specs.Encoded.{Declares, IsEncodedOnce, NeedsV4}
 use Rattle.lerc_cli.specs.Answer.{Ends, Files, IsNoGrid, IsNotEncoded}
 use Rattle.lerc_cli.specs.Run.{Encodes, GivesBlob, given}
@@ -73,11 +73,11 @@ took_more asked (Some left) mid new (bytes, (rest, (joined, is))) asks = by aske
 
 -- ---- what the blob is
 
-pub encodes : NearestIsSame → (version : Version) (error step : ℕ) (r : Pixels) (blob : List ℕ) → IsRaster r → step ≡ step_of error → blob ≡ choice r version step → Declares blob version step → IsEncodedOnce blob r step
+pub encodes : NearestIsSame → (version : Version) (error step : ℕ) (r : Pixels) (blob : List ℕ) → IsRaster r → step ≡ step_of error → blob ≡ chosen_blob r version step → Declares blob version step → IsEncodedOnce blob r step
     → Encodes version error r blob
 encodes same version error step r blob is said chosen declared once =
     let here = subst (λ (n : ℕ). IsEncodedOnce blob r n) said once in record {
-      chosen = subst (λ (n : ℕ). blob ≡ choice r version n) said chosen;
+      chosen = subst (λ (n : ℕ). blob ≡ chosen_blob r version n) said chosen;
       declared = subst (λ (n : ℕ). Declares blob version n) said declared;
       once = here;
       exact = λ none. sym (same r here.raster is here.blob.0 (subst (λ (n : ℕ). Near r here.raster (step_of n)) none here.near));

@@ -27,7 +27,7 @@ use Rattle.lerc_header.specs.declared.header.Version.{Version}
 use Rattle.lerc_header.specs.declared.header.Version.TheVariants.{V3}
 use Rattle.lerc_header.specs.Head.{HeadAt}
 use Rattle.lerc_header.specs.Written.{step_of}
-use Rattle.lerc_encode.specs.Choice.{choice}
+use Rattle.lerc_encode.specs.Choice.{chosen_blob}
 use Rattle.lerc_encode.specs.Encoded.{NeedsV4}
 use Rattle.lerc_cli.specs.declared.command.Command.{Command}
 use Rattle.lerc_cli.specs.declared.command.Command.TheVariants.{Encode, Decode, Info, Build, Put, Get, GetRaw, List as ListAll, Check, Recover}
@@ -94,7 +94,7 @@ HoldsBlob bundle slot r = (tile : List ℕ) × (GetGives bundle slot tile × Blo
 abbrev pub IsOutput : Command → Given → ℕ → List ℕ → Type 0
 IsOutput (Encode version error) g n output =
     (r : Pixels) × (IsRaster r × OfInput g (λ bytes. IsGrid bytes r) × (¬ NeedsV4 version r)
-    × (output ≡ choice r version (step_of error)))
+    × (output ≡ chosen_blob r version (step_of error)))
 IsOutput Decode g n output =
     (r : Pixels) × (IsRaster r × OfInput g (λ bytes. Blob bytes r) × (output ≡ grid_of r))
 IsOutput Info g n output =
