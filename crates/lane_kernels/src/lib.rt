@@ -10,6 +10,7 @@
 mod capped;
 mod difference;
 mod extremes;
+mod lanes;
 mod unsigned;
 
 pub use capped::plus_capped;

@@ -1,5 +1,5 @@
 -- One command of words, and one answer of a command.
-use Rattle.std.proofs.Common.{◌≡◌, Err, List, ℕ, Option, Some, refl, rules, sym, ap, subst, ◌∙◌}
+use Rattle.std.proofs.Common.{◌≡◌, Err, List, ℕ, None, Option, Some, refl, rules, sym, ap, subst, ◌∙◌}
 use Rattle.std.specs.Prelude.{IsTrue}
 use Rattle.raster_values.specs.Grid.{grid_of}
 use Rattle.raster_values.specs.Raster.{Pixels}
@@ -62,9 +62,9 @@ decode_once input files n m (refused f) (store r) output another a b = absurd b.
 
 info_once : SourceOnce Info
 info_once input files n m well well output another a b =
-    let there : IsOutline input a.1.2.0 = subst (λ (u : List ℕ). IsOutline u a.1.2.0) (sym a.1.1) a.1.2.1.0 in
-    let here : IsOutline input b.1.2.0 = subst (λ (u : List ℕ). IsOutline u b.1.2.0) (sym b.1.1) b.1.2.1.0 in
-    (refl, a.1.2.1.1 ∙ ap outline_lines ((one_outline input).once a.1.2.0 b.1.2.0 there here) ∙ sym b.1.2.1.1)
+    let there : IsOutline None input a.1.2.0 = subst (λ (u : List ℕ). IsOutline None u a.1.2.0) (sym a.1.1) a.1.2.1.0 in
+    let here : IsOutline None input b.1.2.0 = subst (λ (u : List ℕ). IsOutline None u b.1.2.0) (sym b.1.1) b.1.2.1.0 in
+    (refl, a.1.2.1.1 ∙ ap outline_lines ((one_outline None input).once a.1.2.0 b.1.2.0 there here) ∙ sym b.1.2.1.1)
 info_once input files n m well (refused f) output another a b =
     absurd (blob_or_fault input a.1.0.0 f.place b.0.0 (subst (λ (u : List ℕ). Blob u a.1.0.0) (sym a.1.1) a.1.0.1) b.0.1.1)
 info_once input files n m (refused f) well output another a b =

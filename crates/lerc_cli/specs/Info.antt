@@ -1,5 +1,5 @@
 -- The fourteen lines that tell what a blob says of itself.
-use Rattle.std.specs.Prelude.{◌≡◌, ℕ, ℤ, List, [], ◌∷◌, ◌++◌, codes, decimal}
+use Rattle.std.specs.Prelude.{◌≡◌, ℕ, ℤ, List, [], ◌∷◌, ◌++◌, None, codes, decimal}
 use Rattle.std.specs.Fmt.{signed_decimal}
 use Rattle.byteorder.specs.Endian.{little_bytes}
 use Rattle.hex.specs.Hex.{encode_lower}
@@ -8,7 +8,7 @@ use Rattle.raster_values.specs.declared.kind.PixelType.TheVariants.{I8, U8, I16,
 use Rattle.lerc_header.specs.declared.header.Header.{Header}
 use Rattle.lerc_header.specs.Head.{version_number}
 use Rattle.lerc_grammar.specs.declared.parts.MaskForm.{MaskForm}
-use Rattle.lerc_grammar.specs.declared.parts.MaskForm.TheVariants.{Empty as NoneValid, Full, Runs}
+use Rattle.lerc_grammar.specs.declared.parts.MaskForm.TheVariants.{Empty as NoneValid, Full, Runs, Previous}
 use Rattle.lerc_grammar.specs.declared.parts.ImageForm.{ImageForm}
 use Rattle.lerc_grammar.specs.declared.parts.ImageForm.TheVariants.{Empty, Constant, Ranges, Sweep, Blocks, Delta, Plain}
 use Rattle.lerc_grammar.specs.declared.parts.Outline.{Outline}
@@ -62,6 +62,7 @@ abbrev pub mask_line : MaskForm → List ℕ
 mask_line NoneValid = word_line (codes "mask") (codes "empty")
 mask_line Full = word_line (codes "mask") (codes "full")
 mask_line (Runs at len) = number_line (codes "mask runs") len
+mask_line Previous = word_line (codes "mask") (codes "previous")
 
 abbrev pub image_name : ImageForm → List ℕ
 image_name Empty = codes "empty"
@@ -81,4 +82,4 @@ outline_lines o =
 
 -- the bytes are the lines of what these bytes say of themselves
 abbrev pub AreLinesOf : List ℕ → List ℕ → Type 0
-AreLinesOf blob lines = (o : Outline) × (IsOutline blob o × (lines ≡ outline_lines o))
+AreLinesOf blob lines = (o : Outline) × (IsOutline None blob o × (lines ≡ outline_lines o))

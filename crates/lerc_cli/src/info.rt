@@ -1,4 +1,4 @@
-ghost use Rattle.std.specs.Prelude.{◌≡◌, Option};
+ghost use Rattle.std.specs.Prelude.{◌≡◌, None, Option};
 ghost use Rattle.lerc_grammar.specs.Outlines.{IsOutline};
 ghost use Rattle.lerc_cli.specs.declared.command.Command.{Command};
 ghost use Rattle.lerc_cli.specs.Answer.{Files, IsBlob};
@@ -14,9 +14,9 @@ use std::alloc::Global;
 /// What a blob says of itself.
 fn outline_of(blob: &[u8]) -> Outline
     requires { IsBlob blob.now }
-    ensures { IsOutline blob.now result }
+    ensures { IsOutline None blob.now result }
 {
-    match outline(blob) {
+    match outline(blob, None) {
         Ok(outline) => outline,
         Err(_) => unreachable!(),
     }

@@ -142,6 +142,7 @@ fn add_mask(line: &mut Line, mask: MaskForm)
         MaskForm::Empty => add_word(line, b"mask", b"empty"),
         MaskForm::Full => add_word(line, b"mask", b"full"),
         MaskForm::Runs { len, .. } => add_number(line, b"mask runs", len.into()),
+        MaskForm::Previous => add_word(line, b"mask", b"previous"),
     }
 }
 

@@ -6,22 +6,9 @@ use Rattle.lerc_header.specs.declared.fault.BlobFault.{BlobFault}
 use Rattle.lerc_header.specs.declared.fault.BlobReason.TheVariants.{Truncated}
 use Rattle.lerc_grammar.specs.Verdict.{FirstFault, IsDone, IsMore}
 use Rattle.lerc_decode.specs.Decoding.{HasHeader, IsLeast}
-use Rattle.lerc_decode.specs.declared.decoder.DecodeFault.{DecodeFault}
-use Rattle.lerc_decode.specs.declared.decoder.DecodeFault.TheVariants.{Blob as BlobOf, OutOfMemory as NoMemoryOf}
 use Rattle.lerc_decode.specs.declared.from_source.Decoded.{Decoded}
 use Rattle.lerc_decode.specs.declared.from_source.FromFault.{FromFault}
 use Rattle.lerc_decode.specs.declared.from_source.FromFault.TheVariants.{Blob, Source, OutOfMemory}
-
--- a decoder's answer behind so many bytes, as that of a source
-abbrev pub from_finished : Result Pixels DecodeFault → ℕ → Result Decoded FromFault
-from_finished (Ok r) size = Ok (record { raster = r; size = size })
-from_finished (Err (BlobOf f)) size = Err (Blob f)
-from_finished (Err NoMemoryOf) size = Err OutOfMemory
-
--- the raster alone
-abbrev pub raster_alone : Result Decoded FromFault → Result Pixels FromFault
-raster_alone (Ok d) = Ok d.raster
-raster_alone (Err fault) = Err fault
 
 -- the source failed exactly where the answer says so
 abbrev pub CountsSource : {X : Type 0} → Result X FromFault → ℕ → ℕ → Type 0
@@ -34,11 +21,12 @@ abbrev pub IsFaultIn : BlobFault → List ℕ → List ℕ → Type 0
 IsFaultIn f taken rest = (FirstFault taken f.place f.reason × IsLeast taken)
     ⊎ (IsMore taken × ((rest ≡ []) × (f ≡ record { reason = Truncated; place = length taken })))
 
--- the bytes taken are a blob, or its first fault is decided
-abbrev pub IsFound : Result Decoded FromFault → List ℕ → List ℕ → Type 0
-IsFound (Ok d) taken rest = IsDone taken d.raster (length taken) × (d.size ≡ length taken)
-IsFound (Err (Blob f)) taken rest = IsFaultIn f taken rest
-IsFound _ taken rest = Unit {0}
+-- `done` holds of the answer and the bytes taken, or their first fault is decided
+abbrev pub IsFound : {X : Type 0} → (X → List ℕ → Type 0) → Result X FromFault →
+    List ℕ → List ℕ → Type 0
+IsFound done (Ok x) taken rest = done x taken
+IsFound done (Err (Blob f)) taken rest = IsFaultIn f taken rest
+IsFound done _ taken rest = Unit {0}
 
 -- the source's bytes are those taken and those that it still has
 abbrev pub Splits : List ℕ → Option (List ℕ) → (List ℕ → List ℕ → Type 0) → Type 0
@@ -46,20 +34,19 @@ Splits input new P = (taken : List ℕ) × ((rest : List ℕ)
     × ((input ≡ taken ++ rest) × ((new ≡ Some rest) × P taken rest)))
 
 -- What was taken of a source that tells its bytes. Memory is wanted only behind a whole header.
-abbrev pub IsSized : Result Decoded FromFault → Option (List ℕ) → Option (List ℕ) → Type 0
-IsSized (Err Source) old new = Unit {0}
-IsSized (Err OutOfMemory) old new = IfSome old HasHeader
-IsSized result None new = new ≡ None
-IsSized result (Some input) new = Splits input new (IsFound result)
+abbrev pub IsTaken : {X : Type 0} → (X → List ℕ → Type 0) → Result X FromFault →
+    Option (List ℕ) → Option (List ℕ) → Type 0
+IsTaken done (Err Source) old new = Unit {0}
+IsTaken done (Err OutOfMemory) old new = IfSome old HasHeader
+IsTaken done result None new = new ≡ None
+IsTaken done result (Some input) new = Splits input new (IsFound done result)
 
--- the same where the size is not asked for
-abbrev pub IsRead : Result Pixels FromFault → List ℕ → List ℕ → Type 0
-IsRead (Ok r) taken rest = IsDone taken r (length taken)
-IsRead (Err (Blob f)) taken rest = IsFaultIn f taken rest
-IsRead _ taken rest = Unit {0}
-
+-- where it went well the bytes taken are a blob, and this is its raster
 abbrev pub IsDecoded : Result Pixels FromFault → Option (List ℕ) → Option (List ℕ) → Type 0
-IsDecoded (Err Source) old new = Unit {0}
-IsDecoded (Err OutOfMemory) old new = IfSome old HasHeader
-IsDecoded result None new = new ≡ None
-IsDecoded result (Some input) new = Splits input new (IsRead result)
+IsDecoded result old new = IsTaken (λ r taken. IsDone taken r (length taken)) result old new
+
+-- the same, and this is its size
+abbrev pub IsSized : Result Decoded FromFault → Option (List ℕ) → Option (List ℕ) → Type 0
+IsSized result old new =
+    IsTaken (λ d taken. IsDone taken d.raster (length taken) × (d.size ≡ length taken)) result old
+    new

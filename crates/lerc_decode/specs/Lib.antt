@@ -1,4 +1,5 @@
 pub mod Decoding
 pub mod States
+pub mod Feeding
 pub mod FromSource
 pub mod inside

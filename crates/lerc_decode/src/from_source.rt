@@ -6,8 +6,9 @@ ghost use Rattle.outside_io.specs.streams.Source.{IsAtEnd, TakesUpTo};
 ghost use Rattle.raster_values.specs.Raster.{IsRaster};
 ghost use Rattle.lerc_decode.specs.Decoding.{IsStageOf};
 ghost use Rattle.lerc_decode.specs.States.{missing_at};
-ghost use Rattle.lerc_decode.specs.inside.Feeding.{Begins, Follows, Joins, work_left};
-ghost use Rattle.lerc_decode.specs.FromSource.{CountsSource, IsDecoded, IsSized, from_finished};
+ghost use Rattle.lerc_decode.specs.Feeding.{Begins, Follows, Joins};
+ghost use Rattle.lerc_decode.specs.FromSource.{CountsSource, IsDecoded, IsSized};
+ghost use Rattle.lerc_decode.specs.inside.Feeding.{from_finished, work_left};
 
 use crate::decoder::{DecodeFault, Decoder};
 use lerc_header::BlobFault;
@@ -38,14 +39,15 @@ fn feed_once<S: Source>(
     room: &mut [u8],
 ) -> Result<usize, Failed>
     requires short { length room.old ≤ missing_at decoder.old.stage (length decoder.old.taken) }
-    requires stands { IsStageOf decoder.old.taken decoder.old.stage }
+    requires stands { IsStageOf decoder.old.before decoder.old.taken decoder.old.stage }
     ensures counted { CountsFaults result (S.faults src.old) (S.faults src.new) }
     ensures fed { OnOk result (Follows decoder.new.stage
         (Joins (S.left src.old) (S.left src.new) decoder.old.taken decoder.new.taken)) }
     ensures begins { OnOk result (Begins (S.left src.old) decoder.old.taken decoder.new.taken) }
     ensures taken { TakesUpTo (missing_at decoder.old.stage (length decoder.old.taken))
         (S.left src.old) (S.left src.new) }
-    ensures stands { IsStageOf decoder.new.taken decoder.new.stage }
+    ensures stands { IsStageOf decoder.new.before decoder.new.taken decoder.new.stage }
+    ensures before { decoder.new.before ≡ decoder.old.before }
     ensures within { IfOk result (λ n. n ≤ length room.old) }
     ensures same { IfOk result (λ n. n ≡ 0 → decoder.new ≡ decoder.old) }
     ensures end { IfOk result (λ n. n ≡ 0 → (length room.old ≡ 0) ⊎ IsAtEnd (S.left src.new)) }
@@ -58,18 +60,21 @@ fn feed_once<S: Source>(
     Ok(got)
 }
 
-/// Feeds the decoder from a source until nothing more is decided, or the source ends or fails.
-fn feed_from<S: Source>(src: &mut S, decoder: &mut Decoder) -> Result<(), Failed>
-    requires { IsStageOf decoder.old.taken decoder.old.stage }
+/// Feeds the decoder from a source until nothing more is decided, or the source ends or fails. It
+/// asks for no more bytes than the decoder wants, so that none behind the blob is taken.
+pub fn feed_from<S: Source>(src: &mut S, decoder: &mut Decoder) -> Result<(), Failed>
     ensures counted { CountsFaults result (S.faults src.old) (S.faults src.new) }
     ensures fed { OnOk result (Follows decoder.new.stage
         (Joins (S.left src.old) (S.left src.new) decoder.old.taken decoder.new.taken)) }
     ensures begins { OnOk result (Begins (S.left src.old) decoder.old.taken decoder.new.taken) }
     ensures taken { decoder.old.taken ≡ [] → TakesUpTo 134217728 (S.left src.old) (S.left src.new) }
-    ensures stands { IsStageOf decoder.new.taken decoder.new.stage }
+    ensures stands { IsStageOf decoder.new.before decoder.new.taken decoder.new.stage }
+    ensures before { decoder.new.before ≡ decoder.old.before }
     ensures end { OnOk result ((missing_at decoder.new.stage (length decoder.new.taken) ≡ 0)
         ⊎ IsAtEnd (S.left src.new)) }
 {
+    // For the proofs: what holds of each decoder.
+    let _state = decoder.state();
     let mut buf = [0u8; 4096];
     loop {
         let wants = decoder.wants().min(4096);
@@ -102,7 +107,7 @@ pub fn decode_sized<S: Source>(alloc: Global, src: &mut S) -> Result<Decoded, Fr
     let mut decoder = Decoder::new(alloc);
     match feed_from(src, &mut decoder) {
         Ok(()) => {
-            let size = decoder.len();
+            let size = decoder.bytes().len();
             answer(decoder.finish(), size)
         }
         Err(_) => Err(FromFault::Source),

@@ -19,8 +19,7 @@ use Rattle.raster_values.specs.Raster.{Pixels}
 use Rattle.raster_values.proofs.Every.{Every, every_append, every_flat_map}
 use Rattle.lerc_header.specs.declared.header.Header.{Header}
 use Rattle.micro_block.specs.Choice as choice
-use Rattle.micro_block.specs.Choice.{Form, block_bytes, chosen_form, form_bytes, holds, is_flat, is_stuffable, least_value, narrow_type, narrowest, offset_bytes, quantised_values, tag_byte}
-use Rattle.micro_block.specs.inside.Forms.{May}
+use Rattle.micro_block.specs.Choice.{Form, May, block_bytes, chosen_form, form_bytes, holds, is_flat, is_stuffable, least_value, narrow_type, narrowest, offset_bytes, quantised_values, tag_byte}
 use Rattle.micro_block.proofs.Written.{chosen_may, left, right}
 use Rattle.lerc_grammar.specs.Blocks.{block_col, coded_blocks, coded_values}
 use Rattle.lerc_encode.specs.Images.{blocks_bytes, coded_bytes}

@@ -25,7 +25,7 @@ use Rattle.lerc_header.proofs.WrittenHeads.{length-head, drop-head, head_stands,
 use Rattle.micro_block.specs.Choice as micro
 use Rattle.micro_block.specs.Near.{IsNear}
 use Rattle.micro_block.proofs.Fewest.{is_first_least, IsTaken}
-use Rattle.lerc_grammar.specs.Mask.{IsMask, alike, mixed, count_of, IsAlike}
+use Rattle.lerc_grammar.specs.Mask.{IsMask, alike, mixed, previous, count_of, IsAlike}
 use Rattle.lerc_grammar.specs.Image.{IsImage}
 use Rattle.lerc_grammar.specs.Near.{Near}
 use Rattle.lerc_grammar.specs.Blob.{Blob, BlobParts, IsJoinOf, IsHeadOf}
@@ -167,6 +167,7 @@ mask_stands r is =
 some_mask : (pixels valid : ℕ) (bytes : List ℕ) (marks : List Bool) → IsMask pixels valid bytes marks → 4 ≤ length bytes
 some_mask pixels valid bytes marks (alike mark e long at m) = omega (arith, long)
 some_mask pixels valid bytes marks (mixed mask e long at runs size m count) = long
+some_mask pixels valid bytes marks (previous e long at m count) = omega (arith, long)
 
 -- ---- the blob
 

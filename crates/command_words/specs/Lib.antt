@@ -1,0 +1,2 @@
+pub use Rattle.outside_io.specs.program.Word
+pub mod Words

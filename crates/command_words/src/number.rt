@@ -1,0 +1,49 @@
+//! Words that are one text, and words that are numbers.
+
+ghost use Rattle.std.specs.Prelude.{◌≡◌, ◌↔◌, ◌≤◌, ℕ, Some, IsTrue};
+ghost use Rattle.command_words.specs.Words.{IsWithin};
+
+use outside_io::Word;
+
+/// Whether the word is this text.
+pub fn has_text(word: &Word, text: &[u8]) -> bool
+    ensures { IsTrue result ↔ (word.now ≡ text.now) }
+{
+    word.as_slice() == text
+}
+
+/// The number that the word stands for, where it is within these limits.
+pub fn within(word: &Word, least: u64, greatest: u64) -> Option<u64>
+    ensures { (n : ℕ) → (result ≡ Some n) ↔ IsWithin word.now n least greatest }
+{
+    match word.number() {
+        Some(n) if n >= least && n <= greatest => Some(n),
+        _ => None,
+    }
+}
+
+/// The greatest error that a blob may have.
+const GREATEST_ERROR: u64 = 4_294_967_295;
+
+/// The error that a word stands for.
+pub fn error_of(word: &Word) -> Option<u32>
+    ensures { (error : ℕ) → (result ≡ Some error) ↔ IsWithin word.now error 0 4294967295 }
+{
+    match within(word, 0, GREATEST_ERROR) {
+        Some(error) => Some(error as u32),
+        None => None,
+    }
+}
+
+/// How many workers there may be.
+const MOST_WORKERS: u64 = 64;
+
+/// The number of workers that a word stands for.
+pub fn workers_of(word: &Word) -> Option<u32>
+    ensures { (workers : ℕ) → (result ≡ Some workers) ↔ IsWithin word.now workers 1 64 }
+{
+    match within(word, 1, MOST_WORKERS) {
+        Some(workers) => Some(workers as u32),
+        None => None,
+    }
+}

@@ -1,0 +1,231 @@
+-- What recovering and opening the bundle answer, and what they leave of the volume.
+use Rattle.std.proofs.Common.{◌≡◌, ℕ, ◌≤◌, ◌⊎◌, inl, inr, List, Bool, true, false, Option, Some, None, Ok, Err, refl, sym, ap, subst, ◌∙◌, rules, arith}
+use Rattle.std.specs.Prelude.{IsTrue}
+use Rattle.std.proofs.lemmas.Bool.{cases_lt}
+use Rattle.outside_io.specs.declared.volume.VolFile.TheVariants.{Bundle, Journal}
+use Rattle.outside_io.specs.streams.Faults.{FailedBetween, IsCause}
+use Rattle.outside_io.specs.volume.Disk.{Disk}
+use Rattle.outside_io.specs.volume.History.{During, History, contents, current}
+use Rattle.outside_io.proofs.VolumeLemmas.Images.{only_image}
+use Rattle.outside_io.proofs.VolumeLemmas.Moments.{during_end, during_join, during_map}
+use Rattle.bundle_index.specs.Entry.{entry_at}
+use Rattle.bundle_store.specs.declared.fault.StoreFault.{StoreFault}
+use Rattle.bundle_store.specs.declared.fault.StoreFault.TheVariants.{Device, BadBundle, BadJournal, NoTile, Beyond, TileTooLarge, EmptyTile, Full, NotEmpty, OutOfMemory, Stopped}
+use Rattle.bundle_store.specs.declared.recovery.Recovery.{Recovery}
+use Rattle.bundle_store.specs.Causes.{FaultFrom}
+use Rattle.bundle_store.specs.Images.{EachImage, StandsFor}
+use Rattle.bundle_store.specs.Recover.{EachStandsForOneOf, Leaves, OnBadJournal, RecoverFails, RecoverySays, synced_disk}
+use Rattle.bundle_store.specs.Session.{GetFails, GetRefuses, IsBeyond, OpenFails, OpenRefuses, SessionState}
+use Rattle.bundle_store.specs.Tiles.{TileMap}
+use Rattle.program_ends.specs.Moves.{VolumeMove, volume_move}
+use Rattle.program_ends.specs.declared.stop.Stop.{Stop}
+use Rattle.program_ends.specs.declared.stop.Stop.TheVariants.{Usage, Refused, Source, Output, Volume, OutOfMemory as NoMemory}
+use Rattle.opened_bundle.specs.declared.refusal.StoreRefusal.{StoreRefusal}
+use Rattle.opened_bundle.specs.declared.refusal.StoreRefusal.TheVariants.{NoTile as MissingTile, Beyond as MissingBytes, BadBundle as NoBundle, BadJournal as NoJournal, NotEmpty as SomeBytes, Full as FullBundle}
+use Rattle.opened_bundle.specs.Files.{Files, OfBundle, files_of}
+use Rattle.opened_bundle.specs.Left.{IsLeft, IsReady, OfReading}
+use Rattle.opened_bundle.specs.Opening.{IsOpened, OpeningStops, ReadsTile, Recovers}
+use Rattle.opened_bundle.specs.Refusals.{stop_of, tile_stop_of}
+
+-- ---- causes
+
+pub still : (P : Type 0) (old new : ℕ) → new ≡ old → (P → ⊥) → IsCause P old new
+still P old new same never = record { counts = omega (arith, same); failed = λ is. absurd (never is); rose = λ rose. absurd (omega (arith, same, rose)) }
+
+-- a fault of recovery or of opening
+abbrev Fails : StoreFault → Type 0
+Fails fault = RecoverFails fault ⊎ OpenFails fault
+
+never : {P : Type 0} → ⊥ ⊎ ⊥ → P
+never (inl bad) = absurd bad
+never (inr bad) = absurd bad
+
+pub opening_cause : (fault : StoreFault) (old new : ℕ) → Fails fault → FaultFrom fault old new → IsCause (stop_of fault ≡ Volume) old new
+opening_cause Device old new fails from = record { counts = from.0; failed = λ _. from.1; rose = λ _. refl }
+opening_cause (BadBundle place found) old new fails same = still (Refused (NoBundle place found) ≡ Volume) old new same (λ is. cc)
+opening_cause (BadJournal place found) old new fails same = still (Refused (NoJournal place found) ≡ Volume) old new same (λ is. cc)
+opening_cause NoTile old new fails same = never fails
+opening_cause (Beyond entry got) old new fails same = never fails
+opening_cause (TileTooLarge at len) old new fails same = never fails
+opening_cause (EmptyTile at) old new fails same = never fails
+opening_cause (Full len) old new fails same = never fails
+opening_cause (NotEmpty len) old new fails same = never fails
+opening_cause OutOfMemory old new fails same = still (NoMemory ≡ Volume) old new same (λ is. cc)
+opening_cause Stopped old new fails same = never fails
+
+pub tile_cause : (slot : ℕ) (fault : StoreFault) (old new : ℕ) → GetFails fault → (fault ≡ Stopped → ⊥) → FaultFrom fault old new → IsCause (tile_stop_of slot fault ≡ Volume) old new
+tile_cause slot Device old new fails running from = record { counts = from.0; failed = λ _. from.1; rose = λ _. refl }
+tile_cause slot (BadBundle place found) old new fails running same = absurd fails
+tile_cause slot (BadJournal place found) old new fails running same = absurd fails
+tile_cause slot NoTile old new fails running same = still (tile_stop_of slot NoTile ≡ Volume) old new same (λ is. cc)
+tile_cause slot (Beyond entry got) old new fails running same = still (tile_stop_of slot (Beyond entry got) ≡ Volume) old new same (λ is. cc)
+tile_cause slot (TileTooLarge at len) old new fails running same = absurd fails
+tile_cause slot (EmptyTile at) old new fails running same = absurd fails
+tile_cause slot (Full len) old new fails running same = absurd fails
+tile_cause slot (NotEmpty len) old new fails running same = absurd fails
+tile_cause slot OutOfMemory old new fails running same = still (NoMemory ≡ Volume) old new same (λ is. cc)
+tile_cause slot Stopped old new fails running same = absurd (running refl)
+
+-- ---- what is told of the files
+
+pub recovers : (told : Bool) (h : History) (done : Recovery) (left : List ℕ) → (IsTrue told → Leaves (contents Bundle h) (contents Journal h) done left) → Recovers (files_of told h) (Ok done)
+recovers true h done left leaves = (left, leaves (search rules))
+recovers false h done left leaves = tt
+
+pub unrecovered : (told : Bool) (h : History) (fault : StoreFault) → RecoverFails fault → (IsTrue told → RecoverySays (contents Bundle h) (contents Journal h) (Err fault)) → Recovers (files_of told h) (Err (stop_of fault))
+unrecovered told h Device fails says = tt
+unrecovered true h (BadJournal place found) fails says = (fails, says (search rules))
+unrecovered false h (BadJournal place found) fails says = (fails, tt)
+unrecovered told h (BadBundle place found) fails says = absurd fails
+unrecovered told h NoTile fails says = absurd fails
+unrecovered told h (Beyond entry got) fails says = absurd fails
+unrecovered told h (TileTooLarge at len) fails says = absurd fails
+unrecovered told h (EmptyTile at) fails says = absurd fails
+unrecovered told h (Full len) fails says = absurd fails
+unrecovered told h (NotEmpty len) fails says = absurd fails
+unrecovered told h OutOfMemory fails says = absurd fails
+unrecovered told h Stopped fails says = absurd fails
+
+-- the refusal of a recovery is one of opening
+pub stops_opening : (files : Option Files) (stop : Stop StoreRefusal) → Recovers files (Err stop) → OpeningStops files stop
+stops_opening files Usage is = absurd is
+stops_opening files Source is = absurd is
+stops_opening files Output is = absurd is
+stops_opening files Volume is = tt
+stops_opening files NoMemory is = absurd is
+stops_opening files (Refused (MissingTile row col)) is = absurd is
+stops_opening files (Refused (MissingBytes row col entry got)) is = absurd is
+stops_opening files (Refused (NoBundle place found)) is = absurd is
+stops_opening files (Refused (NoJournal place found)) is = is
+stops_opening files (Refused (FullBundle len)) is = absurd is
+stops_opening files (Refused (SomeBytes len)) is = absurd is
+
+pub open_stops : (told : Bool) (h : History) (done : Recovery) (bundle : List ℕ) (fault : StoreFault) → OpenFails fault
+    → (IsTrue told → Leaves (contents Bundle h) (contents Journal h) done bundle) → (IsTrue told → OpenRefuses bundle fault) → OpeningStops (files_of told h) (stop_of fault)
+open_stops told h done bundle Device fails leaves refuses = tt
+open_stops true h done bundle (BadBundle place found) fails leaves refuses = (fails, (done, (bundle, (leaves (search rules), refuses (search rules)))))
+open_stops false h done bundle (BadBundle place found) fails leaves refuses = (fails, tt)
+open_stops told h done bundle (BadJournal place found) fails leaves refuses = absurd fails
+open_stops told h done bundle NoTile fails leaves refuses = absurd fails
+open_stops told h done bundle (Beyond entry got) fails leaves refuses = absurd fails
+open_stops told h done bundle (TileTooLarge at len) fails leaves refuses = absurd fails
+open_stops told h done bundle (EmptyTile at) fails leaves refuses = absurd fails
+open_stops told h done bundle (Full len) fails leaves refuses = absurd fails
+open_stops told h done bundle (NotEmpty len) fails leaves refuses = absurd fails
+open_stops true h done bundle OutOfMemory fails leaves refuses = (done, (bundle, (leaves (search rules), (refuses (search rules), tt))))
+open_stops false h done bundle OutOfMemory fails leaves refuses = tt
+open_stops told h done bundle Stopped fails leaves refuses = absurd fails
+
+-- the bundle that was opened is such
+pub of_bundle : (told : Bool) (h : History) (P : List ℕ → Type 0) (s : SessionState) (d : Disk)
+    → (IsTrue told → IsOpened s (contents Bundle h) (contents Journal h) d) → (IsTrue told → P d.bundle.now) → OfBundle (files_of told h) P
+of_bundle true h P s d opened is =
+    let o = opened (search rules) in (o.done, (d.bundle.now, (o.leaves, (o.serves.opens, is (search rules)))))
+of_bundle false h P s d opened is = tt
+
+pub bundle_map : (files : Option Files) (P Q : List ℕ → Type 0) → ((b : List ℕ) → P b → Q b) → OfBundle files P → OfBundle files Q
+bundle_map None P Q so of = tt
+bundle_map (Some f) P Q so (done, (bundle, (leaves, (opens, is)))) = (done, (bundle, (leaves, (opens, so bundle is))))
+
+-- ---- one tile
+
+pub tile_not_opened : (files : Option Files) (slot : ℕ) (stop : Stop StoreRefusal) → OpeningStops files stop → ReadsTile files slot (Err stop)
+tile_not_opened files slot Usage stops = absurd stops
+tile_not_opened files slot Source stops = absurd stops
+tile_not_opened files slot Output stops = absurd stops
+tile_not_opened files slot Volume stops = tt
+tile_not_opened files slot NoMemory stops = stops
+tile_not_opened files slot (Refused (MissingTile row col)) stops = absurd stops
+tile_not_opened files slot (Refused (MissingBytes row col entry got)) stops = absurd stops
+tile_not_opened files slot (Refused (NoBundle place found)) stops = stops
+tile_not_opened files slot (Refused (NoJournal place found)) stops = stops
+tile_not_opened files slot (Refused (FullBundle len)) stops = absurd stops
+tile_not_opened files slot (Refused (SomeBytes len)) stops = absurd stops
+
+pub tile_refused : (told : Bool) (h : History) (s : SessionState) (d : Disk) (slot : ℕ) (fault : StoreFault) → (IsTrue told → IsOpened s (contents Bundle h) (contents Journal h) d)
+    → GetFails fault → (fault ≡ Stopped → ⊥) → (IsTrue told → GetRefuses d.bundle.now slot fault) → ReadsTile (files_of told h) slot (Err (tile_stop_of slot fault))
+tile_refused told h s d slot Device opened fails running refuses = tt
+tile_refused told h s d slot NoTile opened fails running refuses = (refl, refl, of_bundle told h (λ b. (entry_at b slot).size ≡ 0) s d opened refuses)
+tile_refused told h s d slot (Beyond entry got) opened fails running refuses = (refl, refl, fails, of_bundle told h (λ b. IsBeyond b slot entry got) s d opened refuses)
+tile_refused told h s d slot OutOfMemory opened fails running refuses = of_bundle told h (λ b. Unit {0}) s d opened (λ _. tt)
+tile_refused told h s d slot Stopped opened fails running refuses = absurd (running refl)
+tile_refused told h s d slot (BadBundle place found) opened fails running refuses = absurd fails
+tile_refused told h s d slot (BadJournal place found) opened fails running refuses = absurd fails
+tile_refused told h s d slot (TileTooLarge at len) opened fails running refuses = absurd fails
+tile_refused told h s d slot (EmptyTile at) opened fails running refuses = absurd fails
+tile_refused told h s d slot (Full len) opened fails running refuses = absurd fails
+tile_refused told h s d slot (NotEmpty len) opened fails running refuses = absurd fails
+
+-- ---- the volume
+
+-- nothing is pending: what one of the images stands for is what stood at the start
+one_start : (start : TileMap) (told : Bool) (h : History) (d : Disk) → IsReady told h start → EachStandsForOneOf (current h) d → EachImage (λ map. map ≡ start) d
+one_start start told h d ready each = λ b j ib ij.
+    let one = each b j ib ij in
+    let bundle : one.bundle ≡ contents Bundle h = only_image (current h).bundle one.bundle ready.quiet.bundle one.bundle_is in
+    let journal : one.journal ≡ contents Journal h = only_image (current h).journal one.journal ready.quiet.journal one.journal_is in
+    let stands : StandsFor one.bundle one.journal start =
+    subst (λ (l : List ℕ). StandsFor l one.journal start) (sym bundle) (subst (λ (l : List ℕ). StandsFor (contents Bundle h) l start) (sym journal) ready.stands) in
+    record { map = start; stands = one.same start stands; passes = refl }
+
+pub recovering : (P : Type 0) (vol : VolumeMove) → IsCause P vol.faults.old vol.faults.new → vol.told.new ≡ vol.told.old
+    → (IsTrue vol.told.old → During (EachStandsForOneOf (current vol.history.old)) vol.history.old vol.history.new)
+    → (IsTrue vol.told.old → (P → ⊥) → IsLeft (contents Bundle vol.history.old) (contents Journal vol.history.old) (contents Bundle vol.history.new)) → OfReading P vol
+recovering P vol cause same images left = record {
+  cause = cause;
+  told = same;
+  later = λ tells. (images tells).later;
+  reads = left;
+  tiles = λ start ready. during_map _ _ vol.history.old vol.history.new (λ d. one_start start vol.told.old vol.history.old d ready) (images ready.tells);
+}
+
+-- a recovery that was refused leaves the bundle as it was
+pub left_alone : (fault : StoreFault) (old new : History) → RecoverFails fault → (stop_of fault ≡ Volume → ⊥) → RecoverySays (contents Bundle old) (contents Journal old) (Err fault)
+    → OnBadJournal {X = Recovery} (Err fault) (current new ≡ synced_disk (current old)) → IsLeft (contents Bundle old) (contents Journal old) (contents Bundle new)
+left_alone Device old new fails other says kept = absurd (other refl)
+left_alone (BadJournal place found) old new fails other says kept = inr (place, found, (says, ap (λ (d : Disk). d.bundle.now) kept))
+left_alone (BadBundle place found) old new fails other says kept = absurd fails
+left_alone NoTile old new fails other says kept = absurd fails
+left_alone (Beyond entry got) old new fails other says kept = absurd fails
+left_alone (TileTooLarge at len) old new fails other says kept = absurd fails
+left_alone (EmptyTile at) old new fails other says kept = absurd fails
+left_alone (Full len) old new fails other says kept = absurd fails
+left_alone (NotEmpty len) old new fails other says kept = absurd fails
+left_alone OutOfMemory old new fails other says kept = absurd fails
+left_alone Stopped old new fails other says kept = absurd fails
+
+pub failed_later : (f m n : ℕ) → f ≤ m → FailedBetween m n → FailedBetween f n
+failed_later f m n first (inl rose) = inl (omega (arith, first, rose))
+failed_later f m n first (inr full) = inr full
+
+-- a call more, which changes nothing
+pub reads_on : (P Q V : Type 0) (told : V → Bool) (history : V → History) (faults : V → ℕ) (old mid new : V) → (P → ⊥) → OfReading P (volume_move told history faults old mid)
+    → IsCause Q (faults mid) (faults new) → told new ≡ told mid → (IsTrue (told mid) → During (λ d. d ≡ current (history mid)) (history mid) (history new))
+    → OfReading Q (volume_move told history faults old new)
+reads_on P Q V told history faults old mid new well so cause same during = record {
+  cause = record {
+    counts = omega (arith, so.cause.counts, cause.counts);
+    failed = λ q. failed_later (faults old) (faults mid) (faults new) so.cause.counts (cause.failed q);
+    rose = λ rose. elim (cases_lt (faults old) (faults mid)) [ inl before ↦ absurd (well (so.cause.rose before)) | inr after ↦ cause.rose (omega (arith, after, rose)) ];
+  };
+  told = same ∙ so.told;
+  later = λ tells. (let now = during (so.told ∙ tells) in omega (arith, so.later tells, now.later));
+  reads = λ tells _.
+      let end : current (history new) ≡ current (history mid) = during_end (λ d. d ≡ current (history mid)) (history mid) (history new) (during (so.told ∙ tells)) in
+      subst (λ (d : Disk). IsLeft (contents Bundle (history old)) (contents Journal (history old)) d.bundle.now) (sym end) (so.reads tells well);
+  tiles = λ start ready.
+      let first = so.tiles start ready in
+      let here = during_end (EachImage (λ map. map ≡ start)) (history old) (history mid) first in
+      during_join (EachImage (λ map. map ≡ start)) (history old) (history mid) (history new) first
+      (during_map _ _ (history mid) (history new) (λ d is. subst (EachImage (λ map. map ≡ start)) (sym is) here) (during (so.told ∙ ready.tells)));
+}
+
+-- the same under another name of the failure
+pub reads_as : (P Q : Type 0) (vol : VolumeMove) → (P → Q) → (Q → P) → OfReading P vol → OfReading Q vol
+reads_as P Q vol to from so = record {
+  cause = record { counts = so.cause.counts; failed = λ q. so.cause.failed (from q); rose = λ rose. to (so.cause.rose rose) };
+  told = so.told;
+  later = so.later;
+  reads = λ tells other. so.reads tells (λ p. other (to p));
+  tiles = so.tiles;
+}
