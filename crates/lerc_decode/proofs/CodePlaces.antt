@@ -72,7 +72,7 @@ size_within n width size rest =
     within_unless (2 ≤ size) list.BadTable 0 (moved 1 (lists.entry_faults n width (size - 1) rest)) (1 + length rest) (omega arith) (λ _.
     within_moved 1 (lists.entry_faults n width (size - 1) rest) (length rest) (1 + length rest) (entry_within n width (size - 1) rest) (omega arith))
 
-list_table_within : (n width : ℕ) (rest : List ℕ) → AreWithin (lists.table_faults n width rest) (length rest)
+list_table_within : (n width : ℕ) (rest : List ℕ) → AreWithin (lists.list_table_faults n width rest) (length rest)
 list_table_within n width rest =
     within_unless (0 < length rest) list.Cut 0 (lists.size_faults n width (slice_index rest 0) (drop 1 rest)) (length rest) (omega arith) (λ some p r w.
     let low = size_within n width (slice_index rest 0) (drop 1 rest) p r w in omega (arith, low, some, length-drop 1 rest))
@@ -80,8 +80,8 @@ list_table_within n width rest =
 pub list_within : (n : ℕ) (bytes : List ℕ) → AreWithin (list_faults n bytes) (length bytes)
 unfolding list_faults
 list_within n bytes =
-    within_in_order (IsListHeadOf n) (list_head_faults n) (lists.body_faults n) bytes (head_within n bytes)
-    (λ head rest. within_choice (IsTrue head.table) (lists.table_faults n head.width rest) (lists.data_faults n head.width rest) (length rest) (λ _. list_table_within n head.width rest) (λ _. data_within n head.width rest))
+    within_in_order (IsListHeadOf n) (list_head_faults n) (lists.list_body_faults n) bytes (head_within n bytes)
+    (λ head rest. within_choice (IsTrue head.table) (lists.list_table_faults n head.width rest) (lists.data_faults n head.width rest) (length rest) (λ _. list_table_within n head.width rest) (λ _. data_within n head.width rest))
 
 -- ---- tables
 
