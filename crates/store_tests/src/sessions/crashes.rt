@@ -180,14 +180,23 @@ fn a_put_leaves_the_other_slots(rt: HostRuntime) {
     expect_length(&rt, rt.alloc(), &vol, between, slot, 66);
 }
 
+/// Recoveries of a put are cut off and made again, on these images of each moment from the gate on.
+fn expect_put_recovers(rt: &impl Abort, alloc: Global, picks: [Pick; 2]) {
+    let slot = last_slot(rt);
+    let (vol, between) = two_puts(rt, alloc, slot);
+    for pick in picks {
+        expect_agreements(rt, alloc, &vol, between.saturating_add(14), 8, slot, pick);
+    }
+}
+
 #[test]
 fn recovery_of_a_put_survives_each_crash(rt: HostRuntime) {
-    let alloc = rt.alloc();
-    let slot = last_slot(&rt);
-    let (vol, between) = two_puts(&rt, alloc, slot);
-    for pick in PICKS {
-        expect_agreements(&rt, alloc, &vol, between.saturating_add(14), 8, slot, pick);
-    }
+    expect_put_recovers(&rt, rt.alloc(), [Pick::Oldest, Pick::Newest]);
+}
+
+#[test]
+fn recovery_of_a_torn_put_survives_each_crash(rt: HostRuntime) {
+    expect_put_recovers(&rt, rt.alloc(), [Pick::Torn(0), Pick::Torn(255)]);
 }
 
 // Recovery and opening make 4 calls; the bundle of no tiles 14, of which the gate's are numbers 11
