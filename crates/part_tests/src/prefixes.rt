@@ -1,4 +1,4 @@
-//! What eight bits tell of code words, and words that both tables are asked for, over `huff_codes`.
+//! What eight bits tell of code words, and words of codes up to nine bits, over `huff_codes`.
 
 use crate::same::same;
 use huff_codes::{Codes, Look, Prefixes, read_symbols, read_table};
@@ -103,7 +103,7 @@ fn expect_read(rt: &impl Abort, count: usize, used: usize) {
 #[test]
 fn ten_codes_are_read_in_order(rt: HostRuntime) {
     expect_read(&rt, 10, 12);
-    // from 256 symbols on the tables are asked
+    // from 256 symbols on the table of eleven bits is asked
     expect_read(&rt, 255, 176);
     expect_read(&rt, 256, 176);
     expect_read(&rt, 300, 208);

@@ -3,7 +3,7 @@
 ghost use Rattle.std.specs.Prelude.{◌≤◌, length};
 
 use lerc_cli::run;
-use outside_io::{Bytes, MemSink, MemSource, MemVolume, Pick, Piece, Start, VolFile, Volume, Word};
+use outside_io::{Bytes, MemSink, MemSource, MemVolume, Pick, Piece, Start, Volume, Word};
 use std::alloc::{AllocError, Global};
 use std::process::Abort;
 
@@ -16,10 +16,11 @@ fn words_of(alloc: Global, words: &[&str]) -> Result<Vec<Word>, AllocError> {
     Ok(list)
 }
 
-/// A file of these bytes.
-fn file_of(alloc: Global, bytes: &[u8]) -> Result<Start, AllocError> {
+/// A file of this length that begins with these bytes.
+fn file_of(alloc: Global, len: u64, bytes: &[u8]) -> Result<Start, AllocError>
+    requires { length bytes.now ≤ len }
+{
     let mut pieces = Vec::new(alloc);
-    let len = bytes.len() as u64;
     let bytes = Bytes::of(alloc, bytes)?;
     pieces.push(Piece { at: 0, bytes })?;
     Ok(Start::new(len, pieces))
@@ -27,8 +28,8 @@ fn file_of(alloc: Global, bytes: &[u8]) -> Result<Start, AllocError> {
 
 /// This bundle beside an empty journal, none of whose calls fails.
 pub(crate) fn volume(alloc: Global, bundle: &[u8]) -> Result<MemVolume, AllocError> {
-    let bundle = file_of(alloc, bundle)?;
-    let journal = file_of(alloc, &[])?;
+    let bundle = file_of(alloc, bundle.len() as u64, bundle)?;
+    let journal = file_of(alloc, 0, &[])?;
     MemVolume::new(alloc, bundle, journal, Vec::new(alloc), None, 1000, 300_000)
 }
 
