@@ -75,7 +75,7 @@ group_is_puts b us long fit = all_more us (take 64 b) [] b b (length-take-le 64 
 
 -- ---- the tiles
 
-put_long : (b : List ℕ) (u : TileRec) → 131136 ≤ length b → u.slot < 16384 → length (bundle_with_tile b u.slot u.bytes) ≡ length b + (4 + length u.bytes)
+pub put_long : (b : List ℕ) (u : TileRec) → 131136 ≤ length b → u.slot < 16384 → length (bundle_with_tile b u.slot u.bytes) ≡ length b + (4 + length u.bytes)
 put_long b u long below =
     let joined : length (b ++ record_bytes u.bytes) ≡ length b + (4 + length u.bytes) = length-append b (record_bytes u.bytes) ∙ omega (arith, length-record_bytes u.bytes) in
     ap length (put_parts b u) ∙ length-with_entry (put_header b u.slot u.bytes) u.slot (put_entry b u.bytes) (b ++ record_bytes u.bytes) (put_header_size b u long) below (omega (arith, joined, long)) ∙ joined

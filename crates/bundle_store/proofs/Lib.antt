@@ -3,6 +3,7 @@ mod Counting
 mod Filling
 mod Fresh
 mod Fronts
+mod GroupEntries
 mod GroupStanding
 mod GroupWrites
 mod Grouping

@@ -10,6 +10,7 @@ use Rattle.bundle_store.specs.declared.tile_rec.TileRec.{TileRec}
 use Rattle.outside_io.specs.volume.Disk.{Disk, IsQuiet}
 use Rattle.side_journal.specs.Says.{IsOpen}
 use Rattle.bundle_store.specs.Build.{EachFits, bytes_at}
+use Rattle.bundle_store.specs.GroupPuts.{NoRoom}
 use Rattle.bundle_store.specs.Kept.{FrontBytes, Keeps}
 use Rattle.bundle_store.specs.Tiles.{Opens}
 
@@ -167,3 +168,17 @@ BuildFails tiles (Full len) = ⊥
 BuildFails tiles (NotEmpty len) = EachFits tiles × (0 < len)
 BuildFails tiles OutOfMemory = EachFits tiles
 BuildFails tiles Stopped = Unit {0}
+
+-- why a put of these tiles at once refuses, over whatever volume
+abbrev pub GroupFails : List TileRec → StoreFault → Type 0
+GroupFails tiles Device = EachFits tiles
+GroupFails tiles (BadBundle at number) = ⊥
+GroupFails tiles (BadJournal at number) = ⊥
+GroupFails tiles NoTile = ⊥
+GroupFails tiles (Beyond entry got) = ⊥
+GroupFails tiles (TileTooLarge at len) = IsFirstLarge tiles at len
+GroupFails tiles (EmptyTile at) = IsFirstEmpty tiles at
+GroupFails tiles (Full len) = EachFits tiles × ((size : ℕ) × NoRoom size tiles len)
+GroupFails tiles (NotEmpty len) = ⊥
+GroupFails tiles OutOfMemory = ⊥
+GroupFails tiles Stopped = Unit {0}

@@ -13,6 +13,7 @@ mod fault;
 mod front;
 mod group_append;
 mod group_commit;
+mod group_put;
 mod laws;
 mod laying;
 mod overlay;

@@ -27,7 +27,7 @@ use outside_io::{Failed, VolFile, Volume};
 use side_journal::{Body, arm, prepare};
 
 /// The greatest length of a bundle.
-const GREATEST_LENGTH: u64 = 1099511627776;
+pub(crate) const GREATEST_LENGTH: u64 = 1099511627776;
 
 /// Writes the tile's record behind the bundle's end, and the body into the closed journal. The
 /// bundle's tiles stay.

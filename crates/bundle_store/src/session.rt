@@ -7,14 +7,16 @@ ghost use Rattle.bundle_store.specs.Check.{Reports};
 ghost use Rattle.bundle_store.specs.Appended.{bundle_after_put};
 ghost use Rattle.bundle_store.specs.Build.{EachFits, last_tiles};
 ghost use Rattle.bundle_store.specs.Built.{HoldsTiles};
+ghost use Rattle.bundle_store.specs.GroupPuts.{AllOrNone, NoRoom, OnFull, bundle_after_puts, group_records};
 ghost use Rattle.bundle_store.specs.Layout.{layout};
 ghost use Rattle.bundle_store.specs.Images.{EachImage, EmptyOr, HoldsClosed, WithOrWithout};
 ghost use Rattle.bundle_store.specs.Tiles.{IsReadable, tiles};
-ghost use Rattle.bundle_store.specs.Session.{BuildFails, GetFails, GetGives, GetRefuses, IsReadyToPut, KeepsLength, OpenFails, OpenRefuses, PutFails, Serves};
+ghost use Rattle.bundle_store.specs.Session.{BuildFails, GetFails, GetGives, GetRefuses, GroupFails, IsReadyToPut, KeepsLength, OpenFails, OpenRefuses, PutFails, Serves};
 
 use crate::build::{build_on, check_tiles, number_tiles, record_buffer};
 use crate::check::check_index;
 use crate::front::Front;
+use crate::group_put::put_tiles;
 use crate::put::put_tile;
 use crate::reading::{fault_of, read_header};
 use crate::{CheckReport, StoreFault, TileRec};
@@ -250,6 +252,56 @@ impl Session {
             self.stopped = true;
         }
         put
+    }
+
+    /// Puts up to 64 tiles into their slots at once: in their order, so of two in one slot the last
+    /// stands. In this order Stopped, the first tile that is empty or too large, Device for the
+    /// length, Full, Device. After Device all of them stand or none does, and the session is
+    /// stopped: `recover` is called, and a new session opened.
+    pub fn put_group<V: Volume>(
+        &mut self,
+        vol: &mut V,
+        updates: &[TileRec],
+    ) -> Result<(), StoreFault>
+        requires some { 1 ≤ length updates.now }
+        requires most { length updates.now ≤ 64 }
+        requires ready { IsTrue (V.told vol.old) → self.old.stopped ≡ false →
+            IsReadyToPut self.old (current (V.history vol.old)) }
+        ensures done { IsTrue (V.told vol.old) →
+            OnOk result (HoldsClosed (bundle_after_puts (contents Bundle
+            (V.history vol.old)) updates.now) (current (V.history vol.new))) }
+        ensures stopped { IsErrOf result StoreFault.Stopped ↔ (self.old.stopped ≡ true) }
+        ensures stops { self.new.stopped ≡ true ↔ ((self.old.stopped ≡ true) ⊎
+            IsErrOf result StoreFault.Device) }
+        ensures answers { IfErr result (λ f. GroupFails updates.now f) }
+        ensures fits { OnOk result (EachFits updates.now) }
+        ensures room { IsTrue (V.told vol.old) → OnOk result (length (contents Bundle
+            (V.history vol.old)) + length (group_records updates.now) ≤ 2 ^ 40) }
+        ensures full { IsTrue (V.told vol.old) → IfErr result (λ f. OnFull (λ len. NoRoom
+            (length (contents Bundle (V.history vol.old))) updates.now len) f) }
+        ensures images { IsTrue (V.told vol.old) → During (λ d. self.old.stopped ≡ false →
+            IsReadable (contents Bundle (V.history vol.old))
+            → EachImage (AllOrNone updates.now
+            (tiles (contents Bundle (V.history vol.old)))) d) (V.history vol.old)
+            (V.history vol.new) }
+        ensures kept { IsTrue (V.told vol.old) → OnRefusal result
+            (During (λ d. d ≡ current (V.history vol.old)) (V.history vol.old)
+            (V.history vol.new)) }
+        ensures ready { IsTrue (V.told vol.old) → self.old.stopped ≡ false → UnlessDevice result
+            (IsReadyToPut self.new (current (V.history vol.new))) }
+        ensures idle { self.old.stopped ≡ true → vol.new ≡ vol.old }
+        ensures told { V.told vol.new ≡ V.told vol.old }
+        ensures counted { CountsDevice result (V.faults vol.old) (V.faults vol.new) }
+    {
+        if self.stopped {
+            return Err(StoreFault::Stopped);
+        }
+        check_tiles(updates)?;
+        let done = put_tiles(vol, &mut self.front, updates);
+        if let Err(StoreFault::Device) = done {
+            self.stopped = true;
+        }
+        done
     }
 
     /// Builds a bundle of each slot's last tile in the place of an empty file. In this order

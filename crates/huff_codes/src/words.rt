@@ -210,11 +210,12 @@ fn table_for(codes: &Codes, count: usize) -> [Entry; 2048]
     }
 }
 
-/// The table of prefixes to read so many symbols by: none where making it would take longer.
+/// The table of prefixes to read so many symbols by: none where making it would take
+/// more than some hundredths of the whole.
 fn prefixes_for(codes: &Codes, count: usize) -> Option<Prefixes>
     ensures { IfSome result (λ p. ArePrefixes codes.now p) }
 {
-    if count < 256 {
+    if count < 262144 {
         None
     } else {
         Some(Prefixes::of(codes))

@@ -8,8 +8,6 @@ use Rattle.raster_values.specs.Raster.{IsRaster}
 use Rattle.lerc_header.specs.Head.{HeadAt}
 use Rattle.lerc_header.proofs.Prefixes.{head_more}
 use Rattle.lerc_decode.specs.declared.from_source.Decoded.{Decoded}
-use Rattle.lerc_decode.specs.declared.from_source.FromFault.{FromFault}
-use Rattle.lerc_decode.specs.declared.from_source.FromFault.TheVariants.{Source, OutOfMemory}
 use Rattle.lerc_decode.specs.FromSource.{IsSized}
 use Rattle.std.proofs.lemmas.List.{append_assoc, length-append, length-take-le, take-append-drop, take_all}
 use Rattle.lerc_header.specs.Head.{head_length}

@@ -19,8 +19,8 @@ ghost use Rattle.lerc_decode.specs.inside.Body.{HasHeadShape, HasSum, IsFilledWi
 use crate::before::Before;
 use crate::blocks::pour_blocks;
 use crate::codes::{pour_deltas, pour_plain};
-use lerc_grammar::{ImageForm, MaskForm, image_part, mask_part};
-use lerc_header::{BlobFault, BlobReason, Header, Version, checksum};
+use lerc_grammar::{ImageForm, MaskForm, image_part, mask_part, place_behind};
+use lerc_header::{BlobFault, BlobReason, Header, Version, sum_behind};
 use mask_runs::read_runs;
 use raster_values::{PixelType, Raster};
 use std::alloc::Global;
@@ -305,20 +305,6 @@ fn pour_sweep(
     Ok(())
 }
 
-/// The place behind a mask of this form.
-fn place_behind(header: &Header, mask: &MaskForm) -> usize
-    ensures value { result ≡ image_place header.now mask.now }
-    ensures few { result < 2 ^ 33 }
-{
-    let head = header.version.head_length() + 4;
-    match *mask {
-        MaskForm::Empty => head,
-        MaskForm::Full => head,
-        MaskForm::Runs { len, .. } => head + len as usize,
-        MaskForm::Previous => head,
-    }
-}
-
 /// Whether all depths have the header's top.
 fn has_one_top(header: &Header) -> bool
     ensures { IsTrue result ↔ IsOneTop header.now }
@@ -567,14 +553,6 @@ fn raster_of(
     let mask = mask_form(blob, header, before)?;
     let raster = marked(alloc, blob, header, &mask, before)?;
     pictured(alloc, blob, header, &mask, raster)
-}
-
-/// The checksum of a blob's bytes.
-fn sum_behind(blob: &[u8]) -> u32
-    requires { 14 ≤ length blob.now }
-    ensures { result ≡ sum_of (drop 14 blob.now) }
-{
-    checksum(&blob[14..])
 }
 
 /// The raster of a blob behind that of the raster before, or what is wrong with the blob first.

@@ -1,7 +1,6 @@
 -- What the image stands for, by how it ends.
-use Rattle.std.proofs.Common.{◌≡◌, ℕ, ◌<◌, Bool, true, false, List, [], ◌++◌, length, get_or, replicate, refl, sym, ap, ◌∙◌, subst, arith, Option, Some, None, ◌⊎◌, inl, inr}
-use Rattle.std.specs.Prelude.{ℤ, pos, is_some, unwrap_or, nat_eq, ◌&&◌, ◌||◌, IfSome}
-use Rattle.std.specs.Ordering.{int_eq}
+use Rattle.std.proofs.Common.{◌≡◌, ℕ, ◌<◌, true, false, List, [], ◌++◌, length, get_or, replicate, refl, sym, ap, ◌∙◌, subst, arith, Option, Some, None, inl, inr}
+use Rattle.std.specs.Prelude.{ℤ, pos, is_some, unwrap_or, nat_eq, ◌&&◌, IfSome}
 use Rattle.std.proofs.lemmas.Int.{ints}
 use Rattle.std.proofs.lemmas.Bool.{eqb-true, eq-eqb}
 use Rattle.std.proofs.lemmas.Bool.Decides.{Decides-int_eq}
@@ -14,7 +13,7 @@ use Rattle.lerc_header.specs.declared.header.Version.{Version}
 use Rattle.lerc_header.specs.declared.header.Version.TheVariants.{V3, V4}
 use Rattle.micro_block.specs.Choice as micro
 use Rattle.micro_block.proofs.Written.{raw_stands}
-use Rattle.lerc_grammar.specs.Image.{Ends, IsBare, IsFront, AreEqual, IsImage}
+use Rattle.lerc_grammar.specs.Image.{IsBare, IsFront, AreEqual, IsImage}
 use Rattle.lerc_grammar.specs.Image as grammar
 use Rattle.lerc_encode.specs.Ranges.{greatest_value, depth_values, leasts, greatests, lists_bytes, has_equal_ranges, is_constant, is_empty}
 use Rattle.lerc_encode.specs.inside.Fronts.{front_of}

@@ -1,6 +1,6 @@
 //! The chosen blob of a raster.
 
-ghost use Rattle.std.specs.Prelude.{◌≡◌, ◌+◌, ◌^◌, ◌<◌, ◌≤◌, ◌↔◌, ◌++◌, ℕ, IfOk, IsErrOf, IsTrue, OnErr, OnOk, drop, length};
+ghost use Rattle.std.specs.Prelude.{◌≡◌, ◌+◌, ◌^◌, ◌<◌, ◌≤◌, ◌↔◌, ◌++◌, ℕ, IfOk, IsErrOf, OnErr, OnOk, drop, length};
 ghost use Rattle.lerc_header.specs.declared.header.Version.TheVariants.{V3};
 ghost use Rattle.lerc_header.specs.Head.{head_length};
 ghost use Rattle.lerc_header.specs.Written.{IsHeader, head_bytes};

@@ -12,8 +12,7 @@ ghost use Rattle.lerc_grammar.specs.declared.parts.ImageForm.{ImageForm};
 ghost use Rattle.lerc_grammar.specs.declared.parts.MaskForm.{MaskForm};
 ghost use Rattle.lerc_grammar.specs.inside.Spans.{IsFormBehind, IsFormTold, IsFrontSpan, IsMaskSpan, IsZeroTold};
 
-use byteorder::{ByteOrder, LittleEndian};
-use lerc_header::{BlobFault, BlobReason, Header, Version};
+use lerc_header::{BlobFault, BlobReason, Header, Version, signed_at};
 
 /// The form of a blob's mask.
 #[derive(Clone, Copy, Debug, PartialEq, Eq)]
@@ -73,15 +72,6 @@ fn later(fault: BlobFault, by: usize) -> BlobFault
     }
 }
 
-/// The signed number in the first four bytes.
-#[tactic(auto, unfolding(lerc_header::specs::Head::i32_at))]
-fn number_in_front(rest: &[u8]) -> i32
-    requires { 4 ≤ length rest.now }
-    ensures { result ≡ i32_at rest.now 0 }
-{
-    LittleEndian::read_i32(rest)
-}
-
 /// Whether no pixel or every pixel is valid.
 fn are_alike(pixels: u64, valid: u64) -> bool
     ensures { IsTrue result ↔ IsAlike pixels valid }
@@ -121,7 +111,7 @@ fn mask_span(rest: &[u8], pixels: u64, valid: u32, before: Option<u32>) -> Resul
     if rest.len() < 4 {
         return refused(BlobReason::PastEnd, 0);
     }
-    let number = number_in_front(rest);
+    let number = signed_at(rest, 0);
     let alike = are_alike(pixels, u64::from(valid));
     if number < 0 || (alike && number != 0) {
         return refused(BlobReason::BadMaskLength, 0);
@@ -364,8 +354,8 @@ fn form_at(rest: &[u8], header: &Header, place: usize) -> Result<ImageForm, Blob
     }
 }
 
-/// The place behind a mask of this form.
-fn place_behind(header: &Header, mask: &MaskForm) -> usize
+/// The place behind a mask of this form, at which the image begins.
+pub fn place_behind(header: &Header, mask: &MaskForm) -> usize
     ensures value { result ≡ image_place header.now mask.now }
     ensures few { result < 2 ^ 33 }
 {

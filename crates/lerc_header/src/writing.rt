@@ -5,7 +5,7 @@ ghost use Rattle.byteorder.specs.Endian.{little_bytes};
 ghost use Rattle.raster_values.specs.PixelType.{code_of};
 ghost use Rattle.double_bits.specs.Bits.{half_bits};
 ghost use Rattle.lerc_header.specs.declared.header.Header.{Header};
-ghost use Rattle.lerc_header.specs.Head.{version_number, shift, head_length, HeadAt};
+ghost use Rattle.lerc_header.specs.Head.{shift, head_length, HeadAt};
 ghost use Rattle.lerc_header.specs.Written.{IsHeader, shape_bytes, counts_bytes, doubles_bytes, front_bytes, head_bytes};
 ghost use Rattle.lerc_header.specs.inside.Laid.{AreLaid};
 

@@ -3,6 +3,7 @@
 mod building;
 mod crashes;
 mod failing;
+mod groups;
 mod order;
 mod putting;
 mod refusals;

@@ -1,7 +1,10 @@
 -- What the parts of a put of some tiles at once leave.
 use Rattle.std.specs.Prelude.{◌≡◌, ℕ, ◌≤◌, List, [], ◌∷◌, length}
 use Rattle.outside_io.specs.volume.Disk.{Disk, IsImage}
-use Rattle.bundle_store.specs.GroupPuts.{with_entries}
+use Rattle.bundle_store.specs.declared.fault.StoreFault.{StoreFault}
+use Rattle.bundle_store.specs.declared.fault.StoreFault.TheVariants.{Full}
+use Rattle.bundle_store.specs.declared.tile_rec.TileRec.{TileRec}
+use Rattle.bundle_store.specs.GroupPuts.{NoRoom, with_entries}
 use Rattle.side_journal.specs.Groups.{NewEntry}
 use Rattle.side_journal.specs.Bodies.{IsGroup}
 use Rattle.side_journal.specs.Says.{SaysBody}
@@ -48,3 +51,9 @@ pub record SaysThese (journal : List ℕ) (es : List NewEntry) (header : List �
   pub lays : Lays body es header
   pub size_is : size_in body ≡ size
   pub place_is : size_place body ≡ place
+
+-- the refusal is for want of room behind so many bytes
+pub record IsFullOf (size : ℕ) (us : List TileRec) (fault : StoreFault) : Type 0 where
+  pub len : ℕ
+  pub is : fault ≡ Full len
+  pub none : NoRoom size us len

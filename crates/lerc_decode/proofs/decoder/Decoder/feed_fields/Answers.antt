@@ -1,5 +1,4 @@
-use Rattle.std.proofs.Common.{rules, ◌≡◌, ◌≤◌, ◌+◌, length, refl, sym, ◌∙◌, subst, arith}
-use Rattle.lerc_decode.specs.Decoding.{Decoding, IsStageOf}
+use Rattle.std.proofs.Common.{rules, ◌≡◌, ◌≤◌, ◌+◌, length, refl, sym, ◌∙◌, arith}
 use Rattle.lerc_decode.specs.declared.decoder.Decoder.TheInside.{Inside}
 use Rattle.lerc_decode.specs.inside.Inside.{IsInside, seen}
 use Rattle.lerc_decode.specs.States.{missing_at}
