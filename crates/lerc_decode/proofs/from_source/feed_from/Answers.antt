@@ -28,7 +28,7 @@ loop-got-preserved g c = record {
 
 pub loop-got-init : goal.loop-got-init
 loop-got-init g c = record {
-  stands = c.state.ensures.sound;
+  stands = c.state-state.ensures.sound;
   fed = follow_any c.args.decoder.now.stage _ (joins_same _ _);
   begins = begins_same _ _;
   few = λ none. takes_none _ _;
