@@ -26,11 +26,13 @@ record() {
 
 # The journal, its gate closed, of a tile in the last slot: its offset and its size, and the bundle that has it.
 journal() {
-    bytes 00 4c 42 4a 52 4e 4c 31 01 00 ff 3f 00 00 00 00
-    numbers 5 "$1"
-    numbers 3 "$2"
+    bytes 00 4c 42 4a 52 4e 4c 32 01 01 00 00 00 00 00 00
     numbers 8 "$(wc -c <"$3")"
     head -c 64 "$3"
+    bytes ff 3f 00 00 00 00 00 00
+    numbers 5 "$1"
+    numbers 3 "$2"
+    zeros 1008
 }
 
 # The same with the gate open.
@@ -46,7 +48,13 @@ opened() {
 { header 72 70 131282; index 131128 131210 72; record blob; record steps; } >bundle_2
 journal 131140 66 bundle_1 >journal_1
 journal 131210 72 bundle_2 >journal_2
-{ bytes 00 4c 42 4a 52 4e 4c 31 02; zeros 87; } >journal_of_build
+{ bytes 00 4c 42 4a 52 4e 4c 32 02; zeros 1103; } >journal_of_build
+
+# What a program that knew the first form alone left: the journal of that second put, its gate open, and that of a build.
+first_open=$here/tests/first_form.jnl
+{ bytes 00; tail -c +2 "$first_open"; } >first_2
+{ bytes 01 4c 42 4a 52 4e 4c 31 02; zeros 87; } >first_open_build
+{ bytes 00; tail -c +2 first_open_build; } >first_build
 
 # What a crash leaves of that second put: the record alone; the journal open as well; header and entry torn.
 { cat bundle_1; record steps; } >appended
@@ -60,15 +68,23 @@ opened journal_2 >open_2
 opened journal_of_build >open_build
 head -c 70000 bundle_1 >part_of_build
 
-# Open journals that are none: of another text, kind, slot and length; of a length behind the bundle's end.
-{ head -c 7 open_2; bytes 32; tail -c +9 open_2; } >bad_text_journal
+# Open journals that are none: of another text, kind, count, slot and length; and the same of the first form.
+{ head -c 7 open_2; bytes 31; tail -c +9 open_2; } >bad_text_journal
 { head -c 8 open_2; bytes 03; tail -c +10 open_2; } >bad_kind_journal
-{ head -c 10 open_2; bytes 00 40; tail -c +13 open_2; } >bad_slot_journal
-{ head -c 24 open_2; bytes 3f 00 02; tail -c +28 open_2; } >bad_length_journal
+{ head -c 9 open_2; bytes 00; tail -c +11 open_2; } >no_count_journal
+{ head -c 9 open_2; bytes 41; tail -c +11 open_2; } >bad_count_journal
+{ head -c 88 open_2; bytes 00 40; tail -c +91 open_2; } >bad_slot_journal
+{ head -c 16 open_2; bytes 3f 00 02; tail -c +20 open_2; } >bad_length_journal
+{ head -c 7 "$first_open"; bytes 32; tail -c +9 "$first_open"; } >bad_text_first
+{ head -c 8 "$first_open"; bytes 03; tail -c +10 "$first_open"; } >bad_kind_first
+{ head -c 10 "$first_open"; bytes 00 40; tail -c +13 "$first_open"; } >bad_slot_first
+{ head -c 24 "$first_open"; bytes 3f 00 02; tail -c +28 "$first_open"; } >bad_length_first
 
 # Journals that are not open, whatever they hold.
 bytes ff >byte_journal
-head -c 95 open_2 >short_journal
+head -c 95 "$first_open" >short_first
+{ cat "$first_open"; bytes 00; } >longer_first
+head -c 1111 open_2 >short_journal
 { cat open_2; bytes 00; } >longer_journal
 { bytes 00; tail -c +2 bad_kind_journal; } >closed_journal
 
@@ -213,7 +229,10 @@ recovers torn open_2 applied bundle_2 journal_2 list_2
 recovers bundle_2 open_2 applied bundle_2 journal_2 list_2
 recovers part_of_build open_build emptied nothing journal_of_build nothing
 recovers none open_build emptied none journal_of_build nothing
-for given in byte_journal short_journal longer_journal closed_journal; do
+recovers appended "$first_open" applied bundle_2 first_2 list_2
+recovers torn "$first_open" applied bundle_2 first_2 list_2
+recovers part_of_build first_open_build emptied nothing first_build nothing
+for given in byte_journal short_journal longer_journal short_first longer_first closed_journal; do
     recovers bundle_1 "$given" closed bundle_1 "$given" list_1
 done
 begins_as torn open_2
@@ -231,11 +250,18 @@ no_journal() {
     leaves "$2 is left as it was" "$1" "$2"
 }
 
-no_journal appended bad_text_journal 'at 1 found 14157648107291212'
+no_journal appended bad_text_journal 'at 1 found 13876173130580556'
 no_journal appended bad_kind_journal 'at 8 found 3'
-no_journal appended bad_slot_journal 'at 10 found 16384'
-no_journal appended bad_length_journal 'at 24 found 131135'
-no_journal bundle_1 open_2 'at 24 found 131282'
+no_journal appended no_count_journal 'at 9 found 0'
+no_journal appended bad_count_journal 'at 9 found 65'
+no_journal appended bad_slot_journal 'at 88 found 16384'
+no_journal appended bad_length_journal 'at 16 found 131135'
+no_journal bundle_1 open_2 'at 16 found 131282'
+no_journal appended bad_text_first 'at 1 found 14157648107291212'
+no_journal appended bad_kind_first 'at 8 found 3'
+no_journal appended bad_slot_first 'at 10 found 16384'
+no_journal appended bad_length_first 'at 24 found 131135'
+no_journal bundle_1 "$first_open" 'at 24 found 131282'
 
 # ---- Failures
 

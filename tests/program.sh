@@ -17,6 +17,7 @@ failed=0
 . "$here/tests/bundles.sh"
 . "$here/tests/puts.sh"
 . "$here/tests/builds.sh"
+. "$here/tests/edges.sh"
 . "$here/tests/gdal.sh"
 
 echo "$passed passed, $failed failed"

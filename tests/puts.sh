@@ -23,9 +23,9 @@ head -c 21 one_tile >short_stream
 
 # What these make: of the two tiles, and of the first of them; of the one tile, behind another one in its slot.
 { header 66 70 131276; index 64 131210 66; record blob; record none_valid; } >put_twice
-{ journal 131210 66 put_twice | head -c 10; bytes 00 00; journal 131210 66 put_twice | tail -c +13; } >put_twice_journal
+{ journal 131210 66 put_twice | head -c 88; bytes 00 00; journal 131210 66 put_twice | tail -c +91; } >put_twice_journal
 { header 66 0 131206; index 64 131140 66; record blob; } >put_once
-{ journal 131140 66 put_once | head -c 10; bytes 00 00; journal 131140 66 put_once | tail -c +13; } >put_once_journal
+{ journal 131140 66 put_once | head -c 88; bytes 00 00; journal 131140 66 put_once | tail -c +91; } >put_once_journal
 { header 72 146 131352; index 131128 131286 66; record blob; record steps; record blob; } >bundle_3
 journal 131286 66 bundle_3 >journal_3
 { header 89 0 131229; index 131128 131140 89; record steps_deep; } >bundle_deep
@@ -61,6 +61,12 @@ leaves 'put: two depths' bundle_deep journal_deep
 begins_as torn open_2
 expect 'put: beside an open journal' 0 put_1 '' plainly disk put 3 0 1 <one_tile
 leaves 'put: beside an open journal' bundle_3 journal_3
+begins_as bundle_1 first_2
+expect 'put: beside a closed journal of the first form' 0 put_2 '' plainly disk put 3 1 1 <tile_of_tens
+leaves 'put: beside a closed journal of the first form' bundle_2 journal_2
+begins_as torn "$first_open"
+expect 'put: beside an open journal of the first form' 0 put_1 '' plainly disk put 3 0 1 <one_tile
+leaves 'put: beside an open journal of the first form' bundle_3 journal_3
 begins_as bundle_1 byte_journal
 expect 'put: beside a journal of one byte' 0 put_2 '' plainly disk put 3 1 1 <tile_of_tens
 leaves 'put: beside a journal of one byte' bundle_2 journal_2

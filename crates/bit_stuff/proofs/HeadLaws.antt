@@ -7,7 +7,7 @@ use Rattle.byteorder.specs.Endian.{little_bytes, little_number}
 use Rattle.byteorder.specs.Numbers.{little_number-reads_back, little_from-append, little_from-take}
 use Rattle.bit_stuff.specs.declared.heads.ListHead.{ListHead}
 use Rattle.bit_stuff.specs.Stuffed.{IsStuffed, stuffed_bytes, stuffed_size}
-use Rattle.bit_stuff.specs.Head.{IsHead, chosen_code, count_size, head_bytes, head_size, table_flag}
+use Rattle.bit_stuff.specs.Head.{IsListHead, chosen_code, count_size, list_head_bytes, head_size, table_flag}
 use Rattle.bit_stuff.specs.Simple.{IsSimpleList, simple_bytes, width_of}
 use Rattle.bit_stuff.proofs.Numbers.{length-little_bytes}
 use Rattle.bit_stuff.proofs.Digits.{width_of-le, below_width}
@@ -29,8 +29,8 @@ count_fits n h = elim (cases_lt n 256) [
   ]
 ]
 
-pub length-head_bytes : (w : ℕ) (table : Bool) (n : ℕ) → length (head_bytes w table n) ≡ head_size n
-unfolding head_bytes
+pub length-head_bytes : (w : ℕ) (table : Bool) (n : ℕ) → length (list_head_bytes w table n) ≡ head_size n
+unfolding list_head_bytes
 length-head_bytes w table n = omega (arith, length-little_bytes (count_size (chosen_code n)) n)
 
 table_flag-lt : (table : Bool) → table_flag table < 2
@@ -43,8 +43,8 @@ table_flag-is true = (λ _. refl, λ _. refl)
 
 -- a written head is read back, whatever follows
 pub head_bytes-head : (w : ℕ) (table : Bool) (n : ℕ) (rest : List ℕ) → w < 32 → n < 2 ^ 32 → (IsTrue table → 0 < w)
-    → IsHead (head_bytes w table n ++ rest) (record { width = w; table = table; count = n }) (head_size n)
-unfolding head_bytes
+    → IsListHead (list_head_bytes w table n ++ rest) (record { width = w; table = table; count = n }) (head_size n)
+unfolding list_head_bytes
 head_bytes-head w table n rest narrow small some =
     let form = w + 32 * table_flag table + 64 * chosen_code n in
     let size = count_size (chosen_code n) in
@@ -67,7 +67,7 @@ head_bytes-head w table n rest narrow small some =
 pub length-simple_bytes : (values : List ℕ) → length (simple_bytes values) ≡ head_size (length values) + stuffed_size (length values) (width_of values)
 unfolding simple_bytes
 length-simple_bytes values =
-    length-append (head_bytes (width_of values) false (length values)) (stuffed_bytes (width_of values) values)
+    length-append (list_head_bytes (width_of values) false (length values)) (stuffed_bytes (width_of values) values)
     ∙ omega (arith, length-head_bytes (width_of values) false (length values), length-stuffed_bytes (width_of values) values)
 
 -- the chosen bytes are a list of the values in the simple form
@@ -76,7 +76,7 @@ unfolding simple_bytes
 simple_bytes-list values small below =
     let n = length values in
     let w = width_of values in
-    let front = head_bytes w false n in
+    let front = list_head_bytes w false n in
     let after : drop (head_size n) (front ++ stuffed_bytes w values) ≡ stuffed_bytes w values = drop_at front (stuffed_bytes w values) (head_size n) (length-head_bytes w false n) in (
       record { width = w; table = false; count = n },
       (
@@ -92,18 +92,18 @@ simple_bytes-list values small below =
 
 -- what `write_simple` leaves
 pub simple_written : (values old out new : List ℕ) (w used : ℕ) → w ≡ width_of values → used ≡ head_size (length values)
-    → out ≡ head_bytes w false (length values) ++ drop (head_size (length values)) old → new ≡ stuffed_bytes w values
+    → out ≡ list_head_bytes w false (length values) ++ drop (head_size (length values)) old → new ≡ stuffed_bytes w values
     → put_mid used (length out - used) out new ≡ simple_bytes values
 unfolding simple_bytes
 simple_written values old out new w used chosen size head stuffed =
     let n = length values in
-    let front = head_bytes w false n in
+    let front = list_head_bytes w false n in
     let rest = drop (head_size n) old in
     let len : length front ≡ used = length-head_bytes w false n ∙ sym size in
     ap (λ (xs : List ℕ). put_mid used (length xs - used) xs new) head
     ∙ end_written front rest new used (length (front ++ rest) - used) len (omega (arith, length-append front rest, len))
     ∙ ap (λ (xs : List ℕ). front ++ xs) stuffed
-    ∙ ap (λ (k : ℕ). head_bytes k false n ++ stuffed_bytes k values) chosen
+    ∙ ap (λ (k : ℕ). list_head_bytes k false n ++ stuffed_bytes k values) chosen
 
 -- bytes are a simple list of one list
 pub simple_unique : (bytes xs ys : List ℕ) → IsSimpleList bytes xs → IsSimpleList bytes ys → xs ≡ ys
@@ -116,7 +116,7 @@ simple_unique bytes xs ys (h, (u, a)) (k, (v, b)) =
     stuffed_unique (drop u bytes) h.width xs ys a.stuffed at_place same_count
 
 -- a head is one, whatever follows its bytes
-pub head-append : (xs ys : List ℕ) (head : ListHead) (used : ℕ) → IsHead xs head used → IsHead (xs ++ ys) head used
+pub head-append : (xs ys : List ℕ) (head : ListHead) (used : ℕ) → IsListHead xs head used → IsListHead (xs ++ ys) head used
 head-append [] ys head used h = absurd (omega (arith, h.form.there))
 head-append (x ∷ xs) ys head used h = record {
   form = record { there = omega arith; code = h.form.code; table = h.form.table };
@@ -128,7 +128,7 @@ head-append (x ∷ xs) ys head used h = record {
 }
 
 -- a head lies in the bytes that it takes
-pub head-take : (xs : List ℕ) (n : ℕ) (head : ListHead) (used : ℕ) → IsHead xs head used → used ≤ n → IsHead (take n xs) head used
+pub head-take : (xs : List ℕ) (n : ℕ) (head : ListHead) (used : ℕ) → IsListHead xs head used → used ≤ n → IsListHead (take n xs) head used
 head-take [] n head used h front = absurd (omega (arith, h.form.there))
 head-take (x ∷ xs) zero head used h front = absurd (omega (arith, h.size, front))
 head-take (x ∷ xs) (suc n) head used h front = record {
@@ -147,7 +147,7 @@ same_flag true false p q = absurd (false≢true (q.1 (p.0 refl)))
 same_flag true true p q = refl
 
 -- bytes begin with one head at most
-pub one_head : (xs : List ℕ) (g h : ListHead) (used taken : ℕ) → IsHead xs g used → IsHead xs h taken → (g ≡ h) × (used ≡ taken)
+pub one_head : (xs : List ℕ) (g h : ListHead) (used taken : ℕ) → IsListHead xs g used → IsListHead xs h taken → (g ≡ h) × (used ≡ taken)
 one_head xs g h used taken a b =
     let width : g.width ≡ h.width = a.width ∙ sym b.width in
     let table : g.table ≡ h.table = same_flag g.table h.table a.table b.table in

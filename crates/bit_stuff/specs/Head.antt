@@ -36,7 +36,7 @@ pub record HasForm (bytes : List ℕ) : Type 0 where
   pub table : table_bit bytes ≡ 1 → 0 < width_bits bytes
 
 -- the bytes begin with this head, which takes so many of them
-pub record IsHead (bytes : List ℕ) (head : ListHead) (taken : ℕ) : Type 0 where
+pub record IsListHead (bytes : List ℕ) (head : ListHead) (taken : ℕ) : Type 0 where
   pub form : HasForm bytes
   pub width : head.width ≡ width_bits bytes
   pub table : IsTrue head.table ↔ (table_bit bytes ≡ 1)
@@ -46,25 +46,25 @@ pub record IsHead (bytes : List ℕ) (head : ListHead) (taken : ℕ) : Type 0 wh
 
 -- The faults of a head of `want` numbers, in the order of the tests. The count: it is there, and it
 -- is the wanted one.
-abbrev pub count_faults : ℕ → List ℕ → Faults ListReason
-count_faults want bytes =
+abbrev pub list_count_faults : ℕ → List ℕ → Faults ListReason
+list_count_faults want bytes =
     unless (1 + count_size (size_code bytes) ≤ length bytes) (wrong Cut 1)
     (unless (count_at bytes ≡ want) (wrong BadCount 1) none)
 
 -- the size code has a meaning, and a table has a width
-abbrev pub form_faults : ℕ → List ℕ → Faults ListReason
-form_faults want bytes =
+abbrev pub list_form_faults : ℕ → List ℕ → Faults ListReason
+list_form_faults want bytes =
     unless (size_code bytes < 3) (wrong BadHead 0)
     (unless (table_bit bytes ≡ 1 → 0 < width_bits bytes) (wrong BadTable 0)
-    (count_faults want bytes))
+    (list_count_faults want bytes))
 
 -- the first byte is there, and what it says is right
-abbrev pub head_faults : ℕ → List ℕ → Faults ListReason
-head_faults want bytes = unless (0 < length bytes) (wrong Cut 0) (form_faults want bytes)
+abbrev pub list_head_faults : ℕ → List ℕ → Faults ListReason
+list_head_faults want bytes = unless (0 < length bytes) (wrong Cut 0) (list_form_faults want bytes)
 
 -- the bytes are the head of a list of n numbers, and no more
-abbrev pub IsHeadOf : ℕ → List ℕ → ListHead → Type 0
-IsHeadOf n bytes head = IsHead bytes head (length bytes) × (head.count ≡ n)
+abbrev pub IsListHeadOf : ℕ → List ℕ → ListHead → Type 0
+IsListHeadOf n bytes head = IsListHead bytes head (length bytes) × (head.count ≡ n)
 
 -- the code of the smallest size that holds the count: u8 up to 255, u16 up to 65,535, else u32
 abbrev pub chosen_code : ℕ → ℕ
@@ -78,7 +78,7 @@ abbrev pub table_flag : Bool → ℕ
 table_flag table = if table then 1 else 0
 
 -- the head that is written: its first byte, and the count in as few bytes as hold it
-unfoldable pub head_bytes : ℕ → Bool → ℕ → List ℕ
-head_bytes width table count =
+unfoldable pub list_head_bytes : ℕ → Bool → ℕ → List ℕ
+list_head_bytes width table count =
     (width + 32 * table_flag table + 64 * chosen_code count)
     ∷ little_bytes (count_size (chosen_code count)) count

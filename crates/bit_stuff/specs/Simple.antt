@@ -3,12 +3,12 @@ use Rattle.std.specs.Prelude.{ℕ, ◌≡◌, List, [], ◌∷◌, ◌++◌, len
 use Rattle.std.specs.Int.Digits.{digits_of}
 use Rattle.bit_stuff.specs.declared.heads.ListHead.{ListHead}
 use Rattle.bit_stuff.specs.Stuffed.{IsStuffed, stuffed_bytes}
-use Rattle.bit_stuff.specs.Head.{IsHead, head_bytes}
+use Rattle.bit_stuff.specs.Head.{IsListHead, list_head_bytes}
 
 -- the bytes are this head, which is in the simple form and counts the values, and the values
 -- stuffed
 pub record IsSimpleUnder (bytes values : List ℕ) (head : ListHead) (used : ℕ) : Type 0 where
-  pub is_head : IsHead bytes head used
+  pub is_head : IsListHead bytes head used
   pub simple : head.table ≡ false
   pub count : head.count ≡ length values
   pub stuffed : IsStuffed (drop used bytes) head.width values
@@ -33,4 +33,4 @@ width_of values = binary_digits (greatest_number values)
 -- the bytes that are chosen for a list in the simple form
 unfoldable pub simple_bytes : List ℕ → List ℕ
 simple_bytes values =
-    head_bytes (width_of values) false (length values) ++ stuffed_bytes (width_of values) values
+    list_head_bytes (width_of values) false (length values) ++ stuffed_bytes (width_of values) values

@@ -3,7 +3,7 @@
 ghost use Rattle.std.specs.Prelude.{◌≡◌, ◌+◌, ◌*◌, ◌≤◌, ◌↔◌, ◌++◌, ℕ};
 ghost use Rattle.std.specs.Prelude.{IfErr, MatchResult, length, drop};
 ghost use Rattle.byteorder.specs.Endian.{little_number};
-ghost use Rattle.bit_stuff.specs.Head.{IsHead, count_size, head_bytes, head_faults, head_size};
+ghost use Rattle.bit_stuff.specs.Head.{IsListHead, count_size, list_head_bytes, list_head_faults, head_size};
 ghost use Rattle.bit_stuff.specs.declared.heads.ListHead.{ListHead};
 ghost use Rattle.bit_stuff.specs.declared.heads.ListFault.{ListFault};
 
@@ -79,8 +79,8 @@ fn refused(reason: ListReason, at: usize) -> Result<(ListHead, usize), ListFault
 /// Reads a head, with one clause for both answers.
 fn head_of(bytes: &[u8], want: u32) -> Result<(ListHead, usize), ListFault>
     ensures { MatchResult result
-        (λ r. IsHead bytes.now r.0 r.1 × (r.0.count ≡ want))
-        (λ f. (f.at ≤ length bytes.now) × head_faults want bytes.now f.at f.reason) }
+        (λ r. IsListHead bytes.now r.0 r.1 × (r.0.count ≡ want))
+        (λ f. (f.at ≤ length bytes.now) × list_head_faults want bytes.now f.at f.reason) }
 {
     if bytes.is_empty() {
         return refused(ListReason::Cut, 0);
@@ -123,9 +123,9 @@ fn head_of(bytes: &[u8], want: u32) -> Result<(ListHead, usize), ListFault>
 pub fn read_head(bytes: &[u8], want: u32) -> Result<(ListHead, usize), ListFault>
     ensures ok { (head : ListHead) (used : ℕ) →
         (result ≡ Ok (record { 0 = head; 1 = used }))
-        ↔ (IsHead bytes.now head used × (head.count ≡ want)) }
+        ↔ (IsListHead bytes.now head used × (head.count ≡ want)) }
     ensures fault { (f : ListFault) →
-        (result ≡ Err f) ↔ head_faults want bytes.now f.at f.reason }
+        (result ≡ Err f) ↔ list_head_faults want bytes.now f.at f.reason }
     ensures within { IfErr result (λ f. f.at ≤ length bytes.now) }
 {
     head_of(bytes, want)
@@ -144,12 +144,12 @@ pub fn head_len(count: u32) -> usize
 
 /// Writes the head of a list over the front of `out`, its count in one byte up to 255, in two up to
 /// 65,535 and else in four. Answers how many bytes that took; the rest of `out` stays.
-#[tactic(auto, unfolding(crate::specs::Head::head_bytes))]
+#[tactic(auto, unfolding(crate::specs::Head::list_head_bytes))]
 pub fn write_head(width: u32, table: bool, count: u32, out: &mut [u8]) -> usize
     requires width { width ≤ 31 }
     requires room { head_size count ≤ length out.old }
     ensures used { result ≡ head_size count }
-    ensures bytes { out.new ≡ head_bytes width table count ++ drop (head_size count) out.old }
+    ensures bytes { out.new ≡ list_head_bytes width table count ++ drop (head_size count) out.old }
 {
     let form = width as u8 + 32 * u8::from(table);
     if count <= 255 {

@@ -3,7 +3,7 @@
 
 ghost use Rattle.std.specs.Prelude.{◌≡◌, ◌^◌, ◌<◌, ◌≤◌, ℕ, List, All, length, slice_index};
 ghost use Rattle.first_fault.specs.Parts.{IsDecided, IsPart};
-ghost use Rattle.bit_stuff.specs.Head.{IsHeadOf, head_faults};
+ghost use Rattle.bit_stuff.specs.Head.{IsListHeadOf, list_head_faults};
 ghost use Rattle.bit_stuff.specs.Simple.{IsSimpleList, simple_bytes};
 ghost use Rattle.bit_stuff.specs.Stuffed.{HasClearSpareBits, IsStuffed, stuffed_bytes, stuffed_size};
 
@@ -55,6 +55,6 @@ pub fn simple_lists_have_one_list()
 
 /// A head is read in one way, whatever follows it, and it stands or has one first fault.
 pub fn heads_stand_or_have_one_fault()
-    ensures part { (n : ℕ) → IsPart (IsHeadOf n) (head_faults n) }
-    ensures decided { (n : ℕ) → IsDecided (IsHeadOf n) (head_faults n) }
+    ensures part { (n : ℕ) → IsPart (IsListHeadOf n) (list_head_faults n) }
+    ensures decided { (n : ℕ) → IsDecided (IsListHeadOf n) (list_head_faults n) }
 {}

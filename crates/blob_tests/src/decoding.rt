@@ -318,9 +318,9 @@ fn has_forms(rt: &impl Abort, blob: &[u8], mask: MaskForm, image: ImageForm) {
     let mut longer = [0; 80];
     assert!(rt; blob.len() < 80);
     longer[..blob.len()].copy_from_slice(blob);
-    let followed = outline(&longer[..blob.len() + 1]);
-    same(rt, "followed", followed, outline(blob));
-    match outline(blob) {
+    let followed = outline(&longer[..blob.len() + 1], None);
+    same(rt, "followed", followed, outline(blob, None));
+    match outline(blob, None) {
         Ok(told) => {
             same(rt, "mask", told.mask, mask);
             same(rt, "image", told.image, image);
@@ -346,7 +346,7 @@ fn has_no_forms(rt: &impl Abort, bytes: &[u8], reason: BlobReason, place: u64) {
     same(
         rt,
         place,
-        outline(bytes).err(),
+        outline(bytes, None).err(),
         Some(BlobFault { reason, place }),
     );
 }

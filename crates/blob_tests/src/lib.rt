@@ -15,6 +15,10 @@ mod grids;
 #[cfg(test)]
 mod headers;
 #[cfg(test)]
+mod large;
+#[cfg(test)]
+mod previous_masks;
+#[cfg(test)]
 mod rasters;
 #[cfg(test)]
 mod same;

@@ -2,19 +2,20 @@
 use Rattle.std.specs.Prelude.{◌≡◌, ℕ, ◌+◌, ◌-◌, ◌<◌, ◌≤◌, ◌^◌, ◌==◌, max, min, List, ◌++◌, length, take, drop, slice_index, Option, Some, None, if◌then◌else◌}
 use Rattle.byteorder.specs.Endian.{little_bytes}
 use Rattle.bundle_index.specs.Numbers.{u32_at, u64_at}
+use Rattle.bundle_index.specs.Sizes.{slot_count}
 use Rattle.bundle_index.specs.declared.header.HeaderFault.{HeaderFault}
 
 -- what a reader requires of the front of a bundle: version 3, 16,384 records, offsets of 5 bytes
 pub record HasHeader (bundle : List ℕ) : Type 0 where
   pub version : u32_at bundle 0 ≡ 3
-  pub records : u32_at bundle 4 ≡ 16384
+  pub records : u32_at bundle 4 ≡ slot_count
   pub offset_bytes : u32_at bundle 12 ≡ 5
 
 -- the first of these that fails: its place, and the number that stands there
 abbrev pub header_fault : List ℕ → Option HeaderFault
 header_fault bundle =
     if u32_at bundle 0 == 3
-    then (if u32_at bundle 4 == 16384
+    then (if u32_at bundle 4 == slot_count
     then (if u32_at bundle 12 == 5
     then None
     else Some (record { place = 12; found = u32_at bundle 12 }))
@@ -26,7 +27,7 @@ header_fault bundle =
 pub record HasFreshFields (header : List ℕ) (greatest size : ℕ) : Type 0 where
   pub long : length header ≡ 64
   pub version : u32_at header 0 ≡ 3
-  pub records : u32_at header 4 ≡ 16384
+  pub records : u32_at header 4 ≡ slot_count
   pub greatest_tile : u32_at header 8 ≡ greatest
   pub offset_bytes : u32_at header 12 ≡ 5
   pub slack : u64_at header 16 ≡ 0
@@ -42,7 +43,7 @@ pub record HasFreshFields (header : List ℕ) (greatest size : ℕ) : Type 0 whe
 -- the bytes of these fields, and so the header of a new bundle
 unfoldable pub fresh_header : ℕ → ℕ → List ℕ
 fresh_header greatest size =
-    little_bytes 4 3 ++ (little_bytes 4 16384 ++ (little_bytes 4 greatest ++ (little_bytes 4 5
+    little_bytes 4 3 ++ (little_bytes 4 slot_count ++ (little_bytes 4 greatest ++ (little_bytes 4 5
     ++ (little_bytes 8 0 ++ (little_bytes 8 size
     ++ (little_bytes 8 40 ++ (little_bytes 4 131092
     ++ (little_bytes 4 3 ++ (little_bytes 4 16 ++ (little_bytes 4 16384

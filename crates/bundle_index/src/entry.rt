@@ -1,5 +1,6 @@
 ghost use Rattle.std.specs.Prelude.{◌≡◌, ◌<◌};
 ghost use Rattle.bundle_index.specs.Entry.{IsEntry, entry_of, place_of, word_of};
+ghost use Rattle.bundle_index.specs.Sizes.{slot_count};
 
 use crate::Slot;
 
@@ -37,7 +38,7 @@ impl Entry {
 /// The place of the slot's entry in the bundle.
 pub fn entry_place(slot: Slot) -> u64
     ensures value { result ≡ place_of slot }
-    ensures slot { slot < 16384 }
+    ensures slot { slot < slot_count }
 {
     64 + 8 * slot.number() as u64
 }

@@ -2,7 +2,7 @@ ghost use Rattle.std.specs.Prelude.{◌≡◌, ◌+◌, ◌<◌, ◌≤◌, ◌^
 ghost use Rattle.bundle_index.specs.Header.{fresh_header, header_after, header_fault, bytes_left_behind, slack_after};
 ghost use Rattle.bundle_index.specs.Numbers.{u32_at, u64_at};
 
-use crate::Entry;
+use crate::{Entry, SLOT_COUNT};
 use byteorder::{ByteOrder, LittleEndian};
 use std::marker::Model;
 
@@ -102,7 +102,7 @@ impl BundleHeader {
     {
         let mut bytes = [0; 64];
         LittleEndian::write_u32(&mut bytes, 3);
-        LittleEndian::write_u32(&mut bytes[4..], 16384);
+        LittleEndian::write_u32(&mut bytes[4..], u32::from(SLOT_COUNT));
         LittleEndian::write_u32(&mut bytes[8..], greatest);
         LittleEndian::write_u32(&mut bytes[12..], 5);
         LittleEndian::write_u64(&mut bytes[24..], length);
@@ -142,7 +142,7 @@ impl BundleHeader {
             });
         }
         let records = number_at(&self.bytes, 4);
-        if records != 16384 {
+        if records != u32::from(SLOT_COUNT) {
             return Some(HeaderFault {
                 place: 4,
                 found: records as u64,

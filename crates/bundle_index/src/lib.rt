@@ -8,6 +8,7 @@
 mod entry;
 mod header;
 mod laws;
+mod sizes;
 mod slot;
 
 pub use entry::{Entry, entry_place};
@@ -16,4 +17,5 @@ pub use laws::{
     entries_are_read_back, fresh_headers_have_their_fields, fresh_headers_pass,
     headers_after_a_put_have_their_fields, headers_after_a_put_pass, headers_pass_or_fail,
 };
+pub use sizes::{INDEX_END, SLOT_COUNT};
 pub use slot::Slot;

@@ -1,5 +1,7 @@
 ghost use Rattle.std.specs.Prelude.{◌≡◌, ◌↔◌, ◌⊎◌, ◌+◌, ◌*◌, ◌/◌, ◌%◌, ◌<◌, ◌≤◌, IfSome};
+ghost use Rattle.bundle_index.specs.Sizes.{slot_count};
 
+use crate::SLOT_COUNT;
 use std::marker::Model;
 
 /// One of the 128 by 128 places of a bundle. Contracts see its number, 128 * row + col, which is
@@ -11,12 +13,13 @@ pub struct Slot {
 
 impl Model for Slot {
     ghost use Rattle.std.specs.Prelude.{ℕ, ◌<◌};
+    ghost use Rattle.bundle_index.specs.Sizes.{slot_count};
 
     ghost Value = { ℕ };
 
     ghost view = { λ s. s.number };
 
-    ghost invariant = { λ s. s.number < 16384 };
+    ghost invariant = { λ s. s.number < slot_count };
 
     ghost inverse = { λ n. record { number = n } };
 }
@@ -38,9 +41,9 @@ impl Slot {
     /// The slot of a number. None exactly where it is at least 16,384.
     pub fn of_number(number: u16) -> Option<Slot>
         ensures some { IfSome result (λ s. s ≡ number) }
-        ensures none { (result ≡ None) ↔ (16384 ≤ number) }
+        ensures none { (result ≡ None) ↔ (slot_count ≤ number) }
     {
-        if number >= 16384 {
+        if number >= SLOT_COUNT {
             return None;
         }
         Some(Slot { number })
@@ -63,7 +66,7 @@ impl Slot {
     /// The number, below 16,384.
     pub fn number(self) -> u16
         ensures value { result ≡ self }
-        ensures below { self < 16384 }
+        ensures below { self < slot_count }
     {
         self.number
     }

@@ -1,6 +1,7 @@
 -- How a call that gives lines ends, and what the output then has gained. Where a bundle is named
 -- it is one whose volume tells its contents; a volume that tells nothing leaves it unsaid.
-use Rattle.std.specs.Prelude.{◌≡◌, ℕ, ◌+◌, ◌-◌, ◌*◌, ◌^◌, ◌<◌, ◌≤◌, min, List, length, take, Option, Bool, IsTrue, Result, Ok, Err}
+use Rattle.std.specs.Prelude.{◌≡◌, ℕ, ◌*◌, ◌<◌, ◌≤◌, List, length, take, Option, Bool, IsTrue, Result, Ok, Err}
+use Rattle.outside_io.specs.declared.Failed.{Failed}
 use Rattle.outside_io.specs.streams.Sink.{Holds, HoldsPrefix}
 use Rattle.bundle_store.specs.declared.check.CheckReport.{CheckReport}
 use Rattle.bundle_store.specs.declared.tile_rec.TileRec.{TileRec}
@@ -43,15 +44,12 @@ UnlessVolume (Err (Full len)) P = P
 abbrev pub IsListing : Bool → List ℕ → ℕ → List ℕ → Type 0
 IsListing told bundle k lines = IsTrue told → lines ≡ listing bundle (128 * k)
 
--- The lines of all slots. Where the volume failed, those of the rows read before: each read takes a
--- moment, the failed one too. Where the output failed, a prefix of those of the rows read.
-abbrev pub ListGave : Bool → List ℕ → LineEnd → ℕ → ℕ → Option (List ℕ) → Option (List ℕ) → Type 0
-ListGave told bundle (Ok x) from to old new =
+-- The lines of all slots; where the output failed, a prefix of those of some rows.
+abbrev pub ListGave : Bool → List ℕ → Result (Unit {0}) Failed → Option (List ℕ) → Option (List ℕ)
+    → Type 0
+ListGave told bundle (Ok x) old new =
     (lines : List ℕ) × (IsListing told bundle 128 lines × Holds old new lines)
-ListGave told bundle (Err Volume) from to old new =
-    (k : ℕ) × ((k < 128) × (to ≡ min (from + k + 1) (2 ^ 64 - 1))
-    × ((lines : List ℕ) × (IsListing told bundle k lines × Holds old new lines)))
-ListGave told bundle (Err Output) from to old new =
+ListGave told bundle (Err e) old new =
     (k : ℕ) × ((k ≤ 128) × ((lines : List ℕ)
     × (IsListing told bundle k lines × HoldsPrefix old new lines)))
 

@@ -5,7 +5,6 @@ use Rattle.std.specs.List.{count_by}
 use Rattle.outside_io.specs.declared.volume.VolFile.TheVariants.{Bundle}
 use Rattle.outside_io.specs.volume.History.{History, DuringAt, contents, current}
 use Rattle.bundle_store.specs.declared.tile_rec.TileRec.{TileRec}
-use Rattle.bundle_store.specs.Appended.{bundle_after_put}
 use Rattle.bundle_store.specs.Build.{bytes_at, map_after}
 use Rattle.bundle_store.specs.Images.{EachImage, HoldsClosed}
 use Rattle.bundle_store.specs.Session.{IsReadyToPut, SessionState}
@@ -16,10 +15,7 @@ use Rattle.bundle_lines.specs.Ends.{PutEnd, PutGave, UnlessVolume}
 -- ---- the bundle
 
 -- the bundle after the updates were put one after the other
-abbrev pub bundle_after_puts : List ℕ → List TileRec → List ℕ
-bundle_after_puts bundle [] = bundle
-bundle_after_puts bundle (u ∷ us) =
-    bundle_after_puts (bundle_after_put bundle u.slot u.bytes) us
+pub use Rattle.bundle_store.specs.GroupPuts.{bundle_after_puts}
 
 -- the length of the bundle as update number i is put, which the updates before it leave
 abbrev pub length_before : List ℕ → List TileRec → ℕ → ℕ

@@ -1,22 +1,25 @@
 //! The listing of a bundle, a row of slots at a time.
 
-ghost use Rattle.std.specs.Prelude.{◌≡◌, ◌+◌, ◌*◌, ◌<◌, ◌≤◌, ◌++◌, [], false, length, IsTrue, Err};
+ghost use Rattle.std.specs.Prelude.{◌≡◌, ◌+◌, ◌*◌, ◌<◌, ◌≤◌, ◌++◌, [], false, length, IsTrue};
 ghost use Rattle.outside_io.specs.declared.volume.VolFile.TheVariants.{Bundle};
-ghost use Rattle.outside_io.specs.streams.Faults.{IsCause};
-ghost use Rattle.outside_io.specs.volume.History.{During, contents, current};
+ghost use Rattle.outside_io.specs.streams.Faults.{CountsFaults};
+ghost use Rattle.outside_io.specs.volume.History.{contents};
+ghost use Rattle.bundle_index.specs.Entry.{entry_at};
 ghost use Rattle.bundle_store.specs.Session.{Serves};
 ghost use Rattle.bundle_lines.specs.Ends.{ListGave};
 ghost use Rattle.bundle_lines.specs.Lines.{list_line};
 ghost use Rattle.bundle_lines.specs.inside.Rows.{row_lines};
 
-use crate::stop::LineStop;
-use bundle_index::Entry;
+use bundle_index::{Entry, Slot};
 use bundle_store::Session;
-use outside_io::{Line, Sink, Volume, give_all};
+use outside_io::{Failed, Line, Sink, Volume, give_all};
 use std::marker::Model;
 
 /// The greatest number of bytes of a row's lines: four numbers in each.
 const ROOM: usize = 10752;
+
+/// The entry of no tile.
+const NO_ENTRY: Entry = Entry { offset: 0, size: 0 };
 
 /// The lines of a row, made without taking memory. Contracts see the list of their bytes.
 #[derive(Drop)]
@@ -91,48 +94,62 @@ fn slot_line(row: u8, col: u8, entry: &Entry) -> Line
     line
 }
 
-/// Makes the lines of a row whose entries these are.
-fn spell_row(row: u8, entries: &[Entry; 128], lines: &mut RowLines)
-    ensures { lines.new ≡ row_lines row entries.now 128 }
+/// The entry of the slot of a row and a column.
+fn entry_of<V: Volume>(session: &Session, vol: &mut V, row: u8, col: u8) -> Entry
+    requires row { row < 128 }
+    requires col { col < 128 }
+    requires running { session.now.stopped ≡ false }
+    requires serves { IsTrue (V.told vol.old) →
+        Serves session.now (contents Bundle (V.history vol.old)) }
+    ensures value { IsTrue (V.told vol.old) →
+        result ≡ entry_at (contents Bundle (V.history vol.old)) (128 * row + col) }
+    ensures same { vol.new ≡ vol.old }
 {
-    lines.clear();
-    for col in 0..128u8 {
-        lines.add(slot_line(row, col, &entries[col as usize]).as_slice());
+    let Some(slot) = Slot::of(row, col) else {
+        return NO_ENTRY;
+    };
+    match session.entry(vol, slot) {
+        Ok(entry) => entry,
+        Err(_) => NO_ENTRY,
     }
 }
 
-/// Gives the line of each slot that has a tile, by slot number. The index is read a row at a time,
-/// and the lines of a row are given at once. It takes no memory.
+/// Makes the lines of a row, by no device call.
+fn spell_row<V: Volume>(session: &Session, vol: &mut V, row: u8, lines: &mut RowLines)
+    requires row { row < 128 }
+    requires running { session.now.stopped ≡ false }
+    requires serves { IsTrue (V.told vol.old) →
+        Serves session.now (contents Bundle (V.history vol.old)) }
+    ensures lines { IsTrue (V.told vol.old) →
+        lines.new ≡ row_lines (contents Bundle (V.history vol.old)) row 128 }
+    ensures same { vol.new ≡ vol.old }
+{
+    lines.clear();
+    for col in 0..128u8 {
+        let entry = entry_of(session, vol, row, col);
+        lines.add(slot_line(row, col, &entry).as_slice());
+    }
+}
+
+/// Gives the line of each slot that has a tile, by slot number, by no device call. The lines of a
+/// row are given at once. It takes no memory.
 pub fn list_all<V: Volume, K: Sink>(
     session: &Session,
     vol: &mut V,
     out: &mut K,
-) -> Result<(), LineStop>
+) -> Result<(), Failed>
     requires running { session.now.stopped ≡ false }
     requires serves { IsTrue (V.told vol.old) →
         Serves session.now (contents Bundle (V.history vol.old)) }
     ensures gave { ListGave (V.told vol.old) (contents Bundle (V.history vol.old)) result
-        (V.history vol.old).moment (V.history vol.new).moment (K.held out.old) (K.held out.new) }
-    ensures during { IsTrue (V.told vol.old) → During (λ d. d ≡ current (V.history vol.old))
-        (V.history vol.old) (V.history vol.new) }
-    ensures told { V.told vol.new ≡ V.told vol.old }
-    ensures output_failed { IsCause (result ≡ Err LineStop.Output) (K.faults out.old)
-        (K.faults out.new) }
-    ensures volume_failed { IsCause (result ≡ Err LineStop.Volume) (V.faults vol.old)
-        (V.faults vol.new) }
+        (K.held out.old) (K.held out.new) }
+    ensures same { vol.new ≡ vol.old }
+    ensures counted { CountsFaults result (K.faults out.old) (K.faults out.new) }
 {
-    let mut entries = [Entry { offset: 0, size: 0 }; 128];
     let mut lines = RowLines::new();
     for row in 0..128u8 {
-        match session.row_entries(vol, row, &mut entries) {
-            Ok(()) => {}
-            Err(_) => return Err(LineStop::Volume),
-        }
-        spell_row(row, &entries, &mut lines);
-        match give_all(out, lines.as_slice()) {
-            Ok(()) => {}
-            Err(_) => return Err(LineStop::Output),
-        }
+        spell_row(session, vol, row, &mut lines);
+        give_all(out, lines.as_slice())?;
     }
     Ok(())
 }

@@ -1,17 +1,17 @@
 -- What a check counts.
-use Rattle.std.proofs.Common.{◌≡◌, ◌≢◌, inl, inr, refl, Bool, true, false, ℕ, zero, suc, ◌+◌, ◌*◌, ◌-◌, ◌<◌, ◌≤◌, ◌==◌, nat_eq, nat_lt, if◌then◌else◌, List, length, get_or, take, drop, Option, Some, None, sym, ◌∙◌, ap, subst, arith}
+use Rattle.std.proofs.Common.{◌≡◌, ◌≢◌, inl, inr, refl, Bool, true, false, ℕ, zero, suc, ◌+◌, ◌-◌, ◌<◌, ◌≤◌, ◌==◌, nat_eq, nat_lt, if◌then◌else◌, List, length, get_or, take, drop, Option, Some, None, sym, ◌∙◌, ap, subst, arith}
 use mathlib.Core.Bool.{not}
 use Rattle.std.proofs.lemmas.Bool.{cases_eq, cases_lt}
 use Rattle.std.proofs.lemmas.Bool.Decides.{nat_tests}
 use Rattle.std.proofs.lemmas.List.{places}
-use Rattle.bundle_index.specs.Entry.{entry_at, place_of}
+use Rattle.bundle_index.specs.Entry.{entry_at}
 use Rattle.bundle_index.specs.Numbers.{u32_at, u64_at}
 use Rattle.bundle_index.specs.declared.entry.Entry.{Entry}
-use Rattle.bundle_index.proofs.Numbers.{SameAt, same_u64}
+use Rattle.bundle_index.proofs.Numbers.{same_u64}
 use Rattle.bundle_store.specs.declared.check.CheckReport.{CheckReport}
 use Rattle.bundle_store.specs.Check.{IsFirstBad, Reports, bad_count, byte_count, is_bad, tile_count}
 use Rattle.bundle_store.specs.Tiles.{IsReadable, IsWithin, Opens}
-use Rattle.bundle_store.specs.inside.Checking.{NextReport, SameEntries, first_bad_with}
+use Rattle.bundle_store.specs.inside.Checking.{NextReport, first_bad_with}
 
 test_same : (n m : ℕ) → n ≡ m → (n == m) ≡ true
 test_same n m is = grind (arith, nat_tests)
@@ -123,20 +123,6 @@ good_is_readable b opens none = elim opens [
   | inl empty ↦ inl empty
   | inr index ↦ inr (record { index = index; entries = λ slot lt. within_by b (entry_at b slot) (none_bad b 16384 slot none lt) })
 ]
-
--- a part of the index as it was read
-pub part_entries : (b part : List ℕ) (number at : ℕ) → at ≡ 64 + 4096 * number → SameAt 4096 part 0 b at → SameEntries part (512 * number) b
-part_entries b part number at is same = λ i lt. same_u64 part b (8 * i) (place_of (512 * number + i)) (λ k less.
-    ap (λ (m : ℕ). get_or part m 0) (let e : 8 * i + k ≡ 0 + (8 * i + k) = omega arith in e)
-    ∙ same (8 * i + k) (omega arith)
-    ∙ ap (λ (m : ℕ). get_or b m 0) (let e : at + (8 * i + k) ≡ place_of (512 * number + i) + k = omega arith in e))
-
--- the same of a row's bytes
-pub row_word : (b part : List ℕ) (row col at : ℕ) → at ≡ 64 + 1024 * row → col < 128 → SameAt 1024 part 0 b at → u64_at part (8 * col) ≡ u64_at b (place_of (128 * row + col))
-row_word b part row col at is less same = same_u64 part b (8 * col) (place_of (128 * row + col)) (λ k lt.
-    ap (λ (m : ℕ). get_or part m 0) (let e : 8 * col + k ≡ 0 + (8 * col + k) = omega arith in e)
-    ∙ same (8 * col + k) (omega arith)
-    ∙ ap (λ (m : ℕ). get_or b m 0) (let e : at + (8 * col + k) ≡ place_of (128 * row + col) + k = omega arith in e))
 
 -- a word of a part
 cut_at : (n at i d : ℕ) (c : List ℕ) → i < n → get_or (take n (drop at c)) i d ≡ get_or c (at + i) d

@@ -3,12 +3,18 @@ mod Counting
 mod Filling
 mod Fresh
 mod Fronts
+mod GroupEntries
+mod GroupStanding
+mod GroupWrites
+mod Grouping
 mod Keeping
+mod Kept
 pub mod PutLaws
 mod Layouts
 mod Numbering
 pub mod OneRecovery
 pub mod Opening
+mod Overlays
 mod Padded
 mod Putting
 pub mod Recovering

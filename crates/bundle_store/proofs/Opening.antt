@@ -8,6 +8,7 @@ use Rattle.bundle_index.specs.Numbers.{u32_at}
 use Rattle.bundle_index.specs.declared.header.HeaderFault.{HeaderFault}
 use Rattle.bundle_index.proofs.Numbers.{same_u32}
 use Rattle.bundle_store.specs.Session.{open_fault}
+use Rattle.bundle_store.specs.Tiles.{HasIndex}
 
 test_same : (n m : ℕ) → n ≡ m → (n == m) ≡ true
 test_same n m is = grind (arith, nat_tests)
@@ -59,3 +60,10 @@ open_by b long =
     let fault : Option HeaderFault = Some (record { place = length b; found = length b }) in
     ap (λ (t : Bool). if t then None else (if nat_lt (length b) 131136 then fault else header_fault b)) (test_differ (length b) 0 (λ is. absurd (omega (arith, is))))
     ∙ ap (λ (t : Bool). if t then fault else header_fault b) (test_ge (length b) 131136 long)
+
+-- the header that was read decides
+pub opened_fault : (b header : List ℕ) (o : Option HeaderFault) → 131136 ≤ length b → header ≡ take 64 b → o ≡ header_fault header → o ≡ open_fault b
+opened_fault b header o long is decides = decides ∙ ap header_fault is ∙ front_fault b ∙ sym (open_by b long)
+
+pub opened_index : (b header : List ℕ) → 131136 ≤ length b → header ≡ take 64 b → header_fault header ≡ None → HasIndex b
+opened_index b header long is none = record { long = long; header = has_by b (sym (front_fault b) ∙ ap header_fault (sym is) ∙ none) }

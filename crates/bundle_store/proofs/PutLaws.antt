@@ -21,7 +21,7 @@ test_differ n m differs = grind (arith, nat_tests)
 
 -- a bundle after a put, by the length before it
 module _ (b tile : List ℕ) (slot : ℕ) where
-  on_nothing : length b ≡ 0 → bundle_after_put b slot tile ≡ bundle_with_tile (layout no_tiles) slot tile
+  pub on_nothing : length b ≡ 0 → bundle_after_put b slot tile ≡ bundle_with_tile (layout no_tiles) slot tile
   on_nothing zero = ap (λ (t : Bool). if t then bundle_with_tile (layout no_tiles) slot tile else bundle_with_tile b slot tile) (test_same (length b) 0 zero)
 
   pub on_bundle : length b ≢ 0 → bundle_after_put b slot tile ≡ bundle_with_tile b slot tile

@@ -8,21 +8,24 @@ use Rattle.outside_io.proofs.VolumeLemmas.Images.{only_image}
 use Rattle.outside_io.proofs.VolumeLemmas.Moments.{during_end, during_join, during_map, started, stays_on}
 use Rattle.bundle_index.specs.Entry.{entry_at, entry_of, place_of}
 use Rattle.bundle_index.specs.Numbers.{u64_at}
-use Rattle.bundle_index.specs.declared.entry.Entry.{Entry}
-use Rattle.side_journal.specs.declared.body.Body.TheVariants.{Tile, Build}
+use Rattle.side_journal.specs.declared.body.Body.TheVariants.{Tile, Build, Group}
 use Rattle.side_journal.specs.declared.body.JournalState.{JournalState}
 use Rattle.side_journal.specs.declared.body.JournalState.TheVariants.{Closed, Open, Bad}
-use Rattle.side_journal.specs.Says.{IsOpen, Says, SaysBuild, SaysTile}
+use Rattle.side_journal.specs.Says.{IsOpen, Says, SaysBuild}
 use Rattle.side_journal.specs.Steps.{KeepsBody}
 use Rattle.side_journal.proofs.Gates.{image_is}
 use Rattle.side_journal.proofs.OneState.{one_state}
-use Rattle.bundle_store.specs.Appended.{with_entry}
-use Rattle.bundle_store.specs.inside.Parts.{EachKeeps, IsUnderWay, KeepsJournal}
+use Rattle.side_journal.specs.Groups.{NewEntry}
+use Rattle.side_journal.proofs.Spells.{build_whole}
+use Rattle.bundle_store.specs.GroupPuts.{with_entries}
+use Rattle.bundle_store.specs.inside.Grouped.{AreUnderWay, SaysThese}
+use Rattle.bundle_store.specs.inside.Parts.{EachKeeps, KeepsJournal}
 use Rattle.bundle_store.specs.Images.{EachImage, IsSoundWith, Shows, StandsFor}
 use Rattle.bundle_store.specs.Recover.{EachStandsForOneOf, IsRecovered}
 use Rattle.bundle_store.specs.Tiles.{IsReadable, TileMap, no_tiles, tiles}
 use Rattle.bundle_store.proofs.Region.{tile_none, tiles_by}
-use Rattle.bundle_store.proofs.Standing.{in_gate, open_good, way_at}
+use Rattle.bundle_store.proofs.GroupStanding.{shows_these, ways_at}
+use Rattle.bundle_store.proofs.Standing.{in_gate, open_good}
 
 -- an empty file has no tiles
 pub nothing_at : (place : ℕ) → ◌≡◌ {A = ℕ} (u64_at [] place) 0
@@ -40,7 +43,7 @@ in_wiping j old d opened says is keeps = λ c k ic ik.
 
 -- the gate is being closed beside the empty bundle
 pub in_emptied : (j : List ℕ) (old d : Disk) → SaysBuild j → old.bundle ≡ settled [] → old.journal.now ≡ j → KeepsBody old d → EachImage (λ map. map ≡ no_tiles) d
-in_emptied j old d says is now keeps = in_gate [] j Build no_tiles (λ map. map ≡ no_tiles) old d says.whole says (inl refl) tiles_empty refl refl is now keeps
+in_emptied j old d says is now keeps = in_gate [] j Build no_tiles (λ map. map ≡ no_tiles) old d (build_whole j says) says (inl refl) tiles_empty refl refl is now keeps
 
 -- what a journal says decides what an image beside it stands for
 pub shows_by : (b j : List ℕ) (s : JournalState) (map : TileMap) → Says j s → StandsFor b j map → Shows s b map
@@ -54,6 +57,7 @@ one_map b j one two first second = by_state first.state first.shows (shows_by b 
     by_state Closed is other = is.1 ∙ sym other.1
     by_state (Open (Tile slot e n h)) is other = is.2 ∙ sym other.2
     by_state (Open Build) is other = is ∙ sym other
+    by_state (Open (Group es n h)) is other = is.2 ∙ sym other.2
     by_state (Bad place found) is other = absurd is
 
 -- nothing is pending: the files stand for what they stand for
@@ -81,16 +85,16 @@ both_settled d b j is = record {
 pub shut_gate : (d : Disk) (b j : List ℕ) → d ≡ (let x : Disk = record { bundle = settled b; journal = settled (0 ∷ j) } in x) → ¬ IsOpen d.journal.now
 shut_gate d b j is = λ opened. opened.gate (ap (λ (x : Disk). get_or x.journal.now 0 0) is)
 
--- the tile was put
-pub recovered_tile : (b j : List ℕ) (slot : ℕ) (e : Entry) (n : ℕ) (header : List ℕ) (d : Disk) → IsOpen j → SaysTile j slot e n header
-    → d ≡ (let x : Disk = record { bundle = settled (with_entry header slot e b); journal = settled (0 ∷ drop 1 j) } in x) → IsRecovered b j d
-recovered_tile b j slot e n header d opened says is = record {
-  quiet = both_settled d (with_entry header slot e b) (0 ∷ drop 1 j) is;
-  closed = shut_gate d (with_entry header slot e b) (drop 1 j) is;
+-- the tiles were put
+pub recovered_group : (b j : List ℕ) (es : List NewEntry) (header : List ℕ) (n place : ℕ) (d : Disk) → IsOpen j → SaysThese j es header n place
+    → d ≡ (let x : Disk = record { bundle = settled (with_entries header es b); journal = settled (0 ∷ drop 1 j) } in x) → IsRecovered b j d
+recovered_group b j es header n place d opened these is = record {
+  quiet = both_settled d (with_entries header es b) (0 ∷ drop 1 j) is;
+  closed = shut_gate d (with_entries header es b) (drop 1 j) is;
   same = λ map stands.
-      let shows = shows_by b j (Open (Tile slot e n header)) map (opened, says) stands in
-      let now : d.bundle.now ≡ with_entry header slot e b = ap (λ (x : Disk). x.bundle.now) is in
-      record { state = Closed; says = shut_gate d (with_entry header slot e b) (drop 1 j) is; shows = (subst IsReadable (sym now) shows.1, shows.2 ∙ ap tiles (sym now)) };
+      let shows = shows_these b these.body es header map these.lays (shows_by b j (Open these.body) map (opened, these.says) stands) in
+      let now : d.bundle.now ≡ with_entries header es b = ap (λ (x : Disk). x.bundle.now) is in
+      record { state = Closed; says = shut_gate d (with_entries header es b) (drop 1 j) is; shows = (subst IsReadable (sym now) shows.1, shows.2 ∙ ap tiles (sym now)) };
 }
 
 -- the bundle was emptied
@@ -104,12 +108,12 @@ recovered_empty b j d opened says is = record {
       record { state = Closed; says = shut_gate d [] (drop 1 j) is; shows = (inl (ap length now), shows ∙ sym tiles_empty ∙ ap tiles (sym now)) };
 }
 
--- while the tile of an open journal is put
-pub keeps_tile : (b j : List ℕ) (slot : ℕ) (e : Entry) (n : ℕ) (header : List ℕ) (d : Disk) → IsOpen j → SaysTile j slot e n header
-    → (IsUnderWay b j slot e header → EachImage (λ map. map ≡ tiles (with_entry header slot e b)) d) → EachKeeps b j d
-keeps_tile b j slot e n header d opened says each = keeps_by b j d (λ map stands.
-    let shows = shows_by b j (Open (Tile slot e n header)) map (opened, says) stands in
-    image_eq (tiles (with_entry header slot e b)) map d (sym shows.2) (each (record { size = n; says = says; within = shows.0; readable = shows.1 })))
+-- while the tiles of an open journal are put
+pub keeps_group : (b j : List ℕ) (es : List NewEntry) (header : List ℕ) (n place : ℕ) (d : Disk) → IsOpen j → SaysThese j es header n place
+    → (AreUnderWay b j es header → EachImage (λ map. map ≡ tiles (with_entries header es b)) d) → EachKeeps b j d
+keeps_group b j es header n place d opened these each = keeps_by b j d (λ map stands.
+    let shows = shows_these b these.body es header map these.lays (shows_by b j (Open these.body) map (opened, these.says) stands) in
+    image_eq (tiles (with_entries header es b)) map d (sym shows.2) (each (record { body = these.body; says = these.says; lays = these.lays; within = shows.0; readable = shows.1 })))
 
 -- while a bundle is emptied
 pub keeps_empty : (b j : List ℕ) (d : Disk) → IsOpen j → SaysBuild j → EachImage (λ map. map ≡ no_tiles) d → EachKeeps b j d
@@ -130,19 +134,19 @@ keeps_measuring old next r quiet tick same =
     let Pass = EachKeeps (current old).bundle.now (current old).journal.now in
     stays_on Pass old old next r (started Pass old (keeps_start (current old) quiet)) tick same
 
--- the bundle is measured, and the tile of the open journal is put
-pub keeps_putting : {T E : Type 0} (slot : ℕ) (e : Entry) (n : ℕ) (header : List ℕ) (old next last : History) (r : Result T E) → IsQuiet (current old) → IsOpen (current old).journal.now → SaysTile (current old).journal.now slot e n header
+-- the bundle is measured, and the tiles of the open journal are put
+pub keeps_putting : {T E : Type 0} (es : List NewEntry) (header : List ℕ) (n place : ℕ) (old next last : History) (r : Result T E) → IsQuiet (current old) → IsOpen (current old).journal.now → SaysThese (current old).journal.now es header n place
     → Ticks old next r → current next ≡ current old
-    → During (λ d. IsUnderWay (current next).bundle.now (current next).journal.now slot e header → EachImage (λ map. map ≡ tiles (with_entry header slot e (current next).bundle.now)) d) next last
+    → During (λ d. AreUnderWay (current next).bundle.now (current next).journal.now es header → EachImage (λ map. map ≡ tiles (with_entries header es (current next).bundle.now)) d) next last
     → During (EachKeeps (current old).bundle.now (current old).journal.now) old last
-keeps_putting slot e n header old next last r quiet opened says tick same during =
+keeps_putting es header n place old next last r quiet opened these tick same during =
     let b = (current old).bundle.now in
     let j = (current old).journal.now in
     let bundle : (current next).bundle.now ≡ b = ap (λ (d : Disk). d.bundle.now) same in
     let journal : (current next).journal.now ≡ j = ap (λ (d : Disk). d.journal.now) same in
     during_join (EachKeeps b j) old next last (keeps_measuring old next r quiet tick same)
-    (during_map _ _ next last (λ d each. keeps_tile b j slot e n header d opened says (λ way.
-    subst (λ (l : List ℕ). EachImage (λ map. map ≡ tiles (with_entry header slot e l)) d) bundle (each (way_at b (current next).bundle.now j (current next).journal.now slot e header bundle journal way))))
+    (during_map _ _ next last (λ d each. keeps_group b j es header n place d opened these (λ way.
+    subst (λ (l : List ℕ). EachImage (λ map. map ≡ tiles (with_entries header es l)) d) bundle (each (ways_at b (current next).bundle.now j (current next).journal.now es header bundle journal way))))
     during)
 
 -- the journal is read, and a bundle that was being built is emptied
@@ -154,7 +158,7 @@ keeps_emptying s old next last is says quiet reading emptying =
     let build : Says j (Open Build) = subst (Says j) is says in
     during_join _ old next last (keeps_reading old next quiet reading) (during_map _ _ next last (λ d each. keeps_empty b j d build.0 build.1 each) emptying)
 
--- the journal is read, and the tile that it says is put
+-- the journal is read, and the tiles that it says are put
 pub keeps_finishing : (old next last : History) → IsQuiet (current old)
     → During (λ d. d ≡ current old) old next
     → During (EachKeeps (current next).bundle.now (current next).journal.now) next last

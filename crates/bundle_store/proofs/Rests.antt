@@ -3,6 +3,7 @@ use Rattle.std.proofs.Common.{◌≢◌, inl, inr, ℕ, ◌+◌, ◌^◌, ◌<�
 use Rattle.outside_io.specs.volume.Disk.{Disk, File, settled}
 use Rattle.bundle_store.specs.Appended.{bundle_with_tile}
 use Rattle.bundle_store.specs.Images.{HoldsClosed}
+use Rattle.bundle_store.specs.Kept.{FrontBytes, Keeps}
 use Rattle.bundle_store.specs.Layout.{layout}
 use Rattle.bundle_store.specs.Session.{IsReadyToPut, SessionState}
 use Rattle.bundle_store.specs.Tiles.{AreTiles, Opens, TileMap, no_tiles}
@@ -11,15 +12,16 @@ use Rattle.bundle_store.proofs.Layouts.{layout_bundle, length-nothing, nothing_f
 use Rattle.bundle_store.proofs.Putting.{put_index, put_on_bundle}
 
 -- what holds a bundle beside a closed journal is at rest
-pub holds_rest : (b : List ℕ) (d : Disk) → Opens b → HoldsClosed b d → IsAtRest d
-holds_rest b d opens holds = record {
+pub holds_rest : (b : List ℕ) (front : FrontBytes) (d : Disk) → Opens b → Keeps front b → HoldsClosed b d → IsAtRest front d
+holds_rest b front d opens keeps holds = record {
   opens = subst Opens (sym (ap (λ (f : File). f.now) holds.bundle_is)) opens;
+  keeps = subst (Keeps front) (sym (ap (λ (f : File). f.now) holds.bundle_is)) keeps;
   quiet = record { bundle = holds.bundle_is ∙ ap (λ (f : File). settled f.now) (sym holds.bundle_is); journal = holds.journal };
   closed = holds.closed;
 }
 
-pub ready_at_rest : (s : SessionState) (d : Disk) → IsAtRest d → IsReadyToPut s d
-ready_at_rest s d rest = record { serves = record { opens = rest.opens }; quiet = rest.quiet; closed = rest.closed }
+pub ready_at_rest : (s : SessionState) (d : Disk) → IsAtRest s.front d → IsReadyToPut s d
+ready_at_rest s d rest = record { serves = record { opens = rest.opens; keeps = rest.keeps }; quiet = rest.quiet; closed = rest.closed }
 
 -- a first put leaves a bundle that opens
 pub opens_nothing : (tile : List ℕ) (slot : ℕ) → slot < 16384 → 0 < length tile → length tile < 2 ^ 24 → Opens (bundle_with_tile (layout no_tiles) slot tile)

@@ -1,11 +1,12 @@
 -- What an image of both files stands for.
 use Rattle.std.specs.Prelude.{◌≡◌, ◌⊎◌, ℕ, ◌≤◌, List, length}
 use Rattle.outside_io.specs.volume.Disk.{Disk, IsImage, IsSettled, settled}
-use Rattle.side_journal.specs.declared.body.Body.TheVariants.{Tile, Build}
+use Rattle.side_journal.specs.declared.body.Body.TheVariants.{Tile, Build, Group}
 use Rattle.side_journal.specs.declared.body.JournalState.{JournalState}
 use Rattle.side_journal.specs.declared.body.JournalState.TheVariants.{Closed, Open, Bad}
 use Rattle.side_journal.specs.Says.{IsOpen, Says}
 use Rattle.bundle_store.specs.Appended.{with_entry}
+use Rattle.bundle_store.specs.GroupPuts.{with_entries}
 use Rattle.bundle_store.specs.Tiles.{IsReadable, TileMap, no_tiles, tiles, with_tile}
 
 -- The tiles of a bundle beside a journal that says this: its own where the journal does not count;
@@ -17,6 +18,9 @@ Shows (Open Build) bundle map = map ≡ no_tiles
 Shows (Open (Tile slot entry size header)) bundle map =
     (size ≤ length bundle) × IsReadable (with_entry header slot entry bundle) ×
     (map ≡ tiles (with_entry header slot entry bundle))
+Shows (Open (Group entries size header)) bundle map =
+    (size ≤ length bundle) × IsReadable (with_entries header entries bundle) ×
+    (map ≡ tiles (with_entries header entries bundle))
 Shows (Bad place found) bundle map = ⊥
 
 -- An image is sound, and this is the map that it stands for.

@@ -5,6 +5,8 @@ pub use Rattle.bundle_index.specs.Numbers
 pub use Rattle.outside_io.specs.volume.Disk
 pub use Rattle.outside_io.specs.streams.Faults
 pub use Rattle.outside_io.specs.volume.History
+pub use Rattle.side_journal.specs.FirstForm
+pub use Rattle.side_journal.specs.Groups
 pub use Rattle.side_journal.specs.Says
 pub use Rattle.side_journal.specs.Bodies
 pub mod Appended
@@ -12,7 +14,11 @@ pub mod Build
 pub mod Built
 pub mod Causes
 pub mod Check
+pub mod FirstImages
+pub mod GroupPuts
 pub mod Images
+pub mod Kept
+pub mod LaidOver
 pub mod Layout
 pub mod Recover
 pub mod Session

@@ -1,38 +1,37 @@
 -- What recovery answers and leaves.
 use Rattle.std.specs.Prelude.{◌≡◌, ◌⊎◌, ℕ, ◌<◌, ◌≤◌, List, [], length, Result, Ok, Err}
 use Rattle.outside_io.specs.volume.Disk.{Disk, IsImage, IsQuiet, settled}
-use Rattle.bundle_index.specs.declared.entry.Entry.{Entry}
-use Rattle.side_journal.specs.Says.{Fails, IsOpen, IsWrongAt, SaysBuild, SaysTile}
+use Rattle.side_journal.specs.Says.{Fails, IsOpen, IsWrongAt, SaysBody, SaysBuild}
+use Rattle.side_journal.specs.declared.body.Body.{Body}
 use Rattle.bundle_store.specs.declared.fault.StoreFault.{StoreFault}
 use Rattle.bundle_store.specs.declared.fault.StoreFault.TheVariants.{Device, BadBundle, BadJournal, NoTile, Beyond, TileTooLarge, EmptyTile, Full, NotEmpty, OutOfMemory, Stopped}
 use Rattle.bundle_store.specs.declared.recovery.Recovery.{Recovery}
 use Rattle.bundle_store.specs.declared.recovery.Recovery.TheVariants.{Closed, Applied, Emptied}
-use Rattle.bundle_store.specs.Appended.{with_entry}
 use Rattle.bundle_store.specs.Images.{StandsFor}
+use Rattle.bundle_store.specs.LaidOver.{IsOfTiles, size_in, size_place, with_body}
 use Rattle.bundle_store.specs.Tiles.{TileMap}
 
--- an open journal of one tile, the bundle being long enough
+-- an open journal of tiles, the bundle being long enough
 pub record AppliesTo (bundle journal : List ℕ) : Type 0 where
   pub opened : IsOpen journal
-  pub slot : ℕ
-  pub entry : Entry
-  pub size : ℕ
-  pub header : List ℕ
-  pub says : SaysTile journal slot entry size header
-  pub within : size ≤ length bundle
+  pub body : Body
+  pub says : SaysBody journal body
+  pub tiles : IsOfTiles body
+  pub within : size_in body ≤ length bundle
 
--- an open journal that names a length beyond the bundle's
-pub record IsTooShort (bundle journal : List ℕ) (found : ℕ) : Type 0 where
-  pub slot : ℕ
-  pub entry : Entry
-  pub header : List ℕ
-  pub says : SaysTile journal slot entry found header
+-- an open journal of tiles that names, at this place, a length beyond the bundle's
+pub record IsTooShort (bundle journal : List ℕ) (place found : ℕ) : Type 0 where
+  pub body : Body
+  pub says : SaysBody journal body
+  pub tiles : IsOfTiles body
+  pub at : place ≡ size_place body
+  pub is : found ≡ size_in body
   pub short : length bundle < found
 
 -- the first test that an open journal beside this bundle fails
 abbrev pub Refuses : List ℕ → List ℕ → ℕ → ℕ → Type 0
-Refuses bundle journal place found = IsOpen journal × (Fails journal place found ⊎
-    ((place ≡ 24) × IsTooShort bundle journal found))
+Refuses bundle journal place found = IsOpen journal ×
+    (Fails journal place found ⊎ IsTooShort bundle journal place found)
 
 -- What each answer says of both files, as they are read after the syncs. No two hold of the same
 -- files.
@@ -56,7 +55,7 @@ RecoverySays bundle journal (Err Stopped) = ⊥
 abbrev pub Leaves : List ℕ → List ℕ → Recovery → List ℕ → Type 0
 Leaves bundle journal Closed left = (¬ IsOpen journal) × (left ≡ bundle)
 Leaves bundle journal Applied left =
-    (a : AppliesTo bundle journal) × (left ≡ with_entry a.header a.slot a.entry bundle)
+    (a : AppliesTo bundle journal) × (left ≡ with_body a.body bundle)
 Leaves bundle journal Emptied left = IsOpen journal × SaysBuild journal × (left ≡ [])
 
 -- nothing is pending on either file, which hold what they held
@@ -100,11 +99,11 @@ OnBadJournal (Err OutOfMemory) P = Unit {0}
 OnBadJournal (Err Stopped) P = Unit {0}
 
 -- The kept numbers of a refusal of a recovery fail the test of their place, over whatever volume.
--- That the bundle is shorter than the length found at 24 is said only where the volume tells its
+-- That the bundle is shorter than the length found at 16 or 24 is said only where the volume tells its
 -- contents.
 abbrev pub RecoverFails : StoreFault → Type 0
 RecoverFails Device = Unit {0}
-RecoverFails (BadJournal place found) = IsWrongAt place found ⊎ (place ≡ 24)
+RecoverFails (BadJournal place found) = IsWrongAt place found ⊎ ((place ≡ 16) ⊎ (place ≡ 24))
 RecoverFails (BadBundle place found) = ⊥
 RecoverFails NoTile = ⊥
 RecoverFails (Beyond entry got) = ⊥

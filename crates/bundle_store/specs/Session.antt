@@ -1,5 +1,5 @@
 -- Sessions.
-use Rattle.std.specs.Prelude.{◌≡◌, ◌≢◌, ◌⊎◌, ℕ, ◌+◌, ◌-◌, ◌*◌, ◌^◌, ◌<◌, ◌≤◌, ◌==◌, nat_lt, Bool, List, length, take, drop, slice_get, Option, Some, None, if◌then◌else◌}
+use Rattle.std.specs.Prelude.{◌≡◌, ◌≢◌, ◌⊎◌, ℕ, ◌+◌, ◌-◌, ◌^◌, ◌<◌, ◌≤◌, ◌==◌, nat_lt, Bool, List, length, take, drop, Option, Some, None, if◌then◌else◌}
 use Rattle.bundle_index.specs.Entry.{entry_at}
 use Rattle.bundle_index.specs.Header.{header_fault}
 use Rattle.bundle_index.specs.declared.entry.Entry.{Entry}
@@ -10,15 +10,20 @@ use Rattle.bundle_store.specs.declared.tile_rec.TileRec.{TileRec}
 use Rattle.outside_io.specs.volume.Disk.{Disk, IsQuiet}
 use Rattle.side_journal.specs.Says.{IsOpen}
 use Rattle.bundle_store.specs.Build.{EachFits, bytes_at}
+use Rattle.bundle_store.specs.GroupPuts.{NoRoom}
+use Rattle.bundle_store.specs.Kept.{FrontBytes, Keeps}
 use Rattle.bundle_store.specs.Tiles.{Opens}
 
--- all that a session keeps of its bundle: whether a put or a build of it answered Device
+-- all that a session keeps: whether a put or a build of it answered Device, and the header and the
+-- index of its bundle
 pub record SessionState : Type 0 where
   pub stopped : Bool
+  pub front : FrontBytes
 
 -- a session can serve a bundle
 pub record Serves (s : SessionState) (bundle : List ℕ) : Type 0 where
   pub opens : Opens bundle
+  pub keeps : Keeps s.front bundle
 
 -- What a session needs to put or to build: it can serve the bundle, nothing is pending, and the
 -- journal is not open.
@@ -47,7 +52,7 @@ OpenRefuses bundle (TileTooLarge at len) = ⊥
 OpenRefuses bundle (EmptyTile at) = ⊥
 OpenRefuses bundle (Full len) = ⊥
 OpenRefuses bundle (NotEmpty len) = ⊥
-OpenRefuses bundle OutOfMemory = ⊥
+OpenRefuses bundle OutOfMemory = Opens bundle
 OpenRefuses bundle Stopped = ⊥
 
 -- A number that fails the test of its place as a bundle is opened, in whatever bundle.
@@ -66,7 +71,7 @@ OpenFails (TileTooLarge at len) = ⊥
 OpenFails (EmptyTile at) = ⊥
 OpenFails (Full len) = ⊥
 OpenFails (NotEmpty len) = ⊥
-OpenFails OutOfMemory = ⊥
+OpenFails OutOfMemory = Unit {0}
 OpenFails Stopped = ⊥
 
 -- the bytes that the slot's entry names, where they are all there
@@ -74,11 +79,6 @@ pub record GetGives (bundle : List ℕ) (slot : ℕ) (tile : List ℕ) : Type 0 
   pub some : 0 < (entry_at bundle slot).size
   pub within : (entry_at bundle slot).offset + (entry_at bundle slot).size ≤ length bundle
   pub bytes : tile ≡ take (entry_at bundle slot).size (drop (entry_at bundle slot).offset bundle)
-
--- these are the entries of the 128 slots of a row, by column
-abbrev pub AreRowEntries : List ℕ → ℕ → List Entry → Type 0
-AreRowEntries bundle row entries = (col : ℕ) → col < 128 →
-    slice_get entries col ≡ Some (entry_at bundle (128 * row + col))
 
 -- the slot's entry names more bytes than the bundle has from its offset on
 pub record IsBeyond (bundle : List ℕ) (slot : ℕ) (entry : Entry) (got : ℕ) : Type 0 where
@@ -168,3 +168,17 @@ BuildFails tiles (Full len) = ⊥
 BuildFails tiles (NotEmpty len) = EachFits tiles × (0 < len)
 BuildFails tiles OutOfMemory = EachFits tiles
 BuildFails tiles Stopped = Unit {0}
+
+-- why a put of these tiles at once refuses, over whatever volume
+abbrev pub GroupFails : List TileRec → StoreFault → Type 0
+GroupFails tiles Device = EachFits tiles
+GroupFails tiles (BadBundle at number) = ⊥
+GroupFails tiles (BadJournal at number) = ⊥
+GroupFails tiles NoTile = ⊥
+GroupFails tiles (Beyond entry got) = ⊥
+GroupFails tiles (TileTooLarge at len) = IsFirstLarge tiles at len
+GroupFails tiles (EmptyTile at) = IsFirstEmpty tiles at
+GroupFails tiles (Full len) = EachFits tiles × ((size : ℕ) × NoRoom size tiles len)
+GroupFails tiles (NotEmpty len) = ⊥
+GroupFails tiles OutOfMemory = ⊥
+GroupFails tiles Stopped = Unit {0}

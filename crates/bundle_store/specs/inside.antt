@@ -1,3 +1,4 @@
 pub mod Checking
+pub mod Grouped
 pub mod Parts
 pub mod Table

@@ -10,9 +10,11 @@ ghost use Rattle.bundle_store.specs.Build.{EachFits, last_tiles};
 ghost use Rattle.bundle_store.specs.Causes.{CountsDevice, OnRefusal, UnlessDevice};
 ghost use Rattle.bundle_store.specs.Session.{BuildFails, KeepsLength};
 ghost use Rattle.bundle_store.specs.Images.{EachImage, EmptyOr, HoldsClosed};
+ghost use Rattle.bundle_store.specs.Kept.{Keeps};
 ghost use Rattle.bundle_store.specs.Layout.{layout};
 ghost use Rattle.bundle_store.specs.Tiles.{AreTiles, Opens, no_tiles};
 
+use crate::front::Front;
 use crate::laying::lay_out;
 use crate::{StoreFault, TileRec};
 use outside_io::{Failed, VolFile, Volume};
@@ -38,12 +40,14 @@ fn begin<V: Volume>(vol: &mut V) -> Result<(), Failed>
     open_gate(vol)
 }
 
-/// Builds a bundle of the tiles that the table numbers in the place of an empty one.
+/// Builds a bundle of the tiles that the table numbers in the place of an empty one, of which
+/// `front` then has the header and the index.
 pub(crate) fn build_empty<V: Volume>(
     vol: &mut V,
     tiles: &[TileRec],
     table: &[Option<usize>],
     buffer: &mut [u8],
+    front: &mut Front,
 ) -> Result<(), Failed>
     requires buffer { HasRoom tiles.now (length buffer.old) }
     requires table { IsTable tiles.now table.now }
@@ -54,6 +58,7 @@ pub(crate) fn build_empty<V: Volume>(
     ensures done { IsTrue (V.told vol.old) →
         OnOk result (HoldsClosed (layout (table_map tiles.now table.now))
         (current (V.history vol.new))) }
+    ensures keeps { OnOk result (Keeps front.new (layout (table_map tiles.now table.now))) }
     ensures images { IsTrue (V.told vol.old) →
         During (EachImage (EmptyOr (table_map tiles.now table.now))) (V.history vol.old)
         (V.history vol.new) }
@@ -61,7 +66,7 @@ pub(crate) fn build_empty<V: Volume>(
     ensures counted { CountsFaults result (V.faults vol.old) (V.faults vol.new) }
 {
     begin(vol)?;
-    lay_out(vol, tiles, table, buffer)?;
+    lay_out(vol, tiles, table, buffer, front)?;
     close_gate(vol)
 }
 
@@ -115,18 +120,21 @@ pub(crate) fn check_tiles(tiles: &[TileRec]) -> Result<(), StoreFault>
     Ok(())
 }
 
-/// Builds the bundle, if the file is empty.
+/// Builds the bundle, if the file is empty; `front` then has its header and its index.
 pub(crate) fn build_on<V: Volume>(
     vol: &mut V,
     tiles: &[TileRec],
     table: &[Option<usize>],
     buffer: &mut [u8],
+    front: &mut Front,
 ) -> Result<(), StoreFault>
     requires buffer { HasRoom tiles.now (length buffer.old) }
     requires table { IsTable tiles.now table.now }
     requires tiles { AreTiles (table_map tiles.now table.now) }
     requires fits { EachFits tiles.now }
     requires opens { IsTrue (V.told vol.old) → Opens (contents Bundle (V.history vol.old)) }
+    requires keeps { IsTrue (V.told vol.old) → Keeps front.old (contents Bundle
+        (V.history vol.old)) }
     requires quiet { IsTrue (V.told vol.old) → IsQuiet (current (V.history vol.old)) }
     requires closed { IsTrue (V.told vol.old) → ¬ IsOpen (contents Journal (V.history vol.old)) }
     ensures done { IsTrue (V.told vol.old) →
@@ -142,7 +150,7 @@ pub(crate) fn build_on<V: Volume>(
     ensures beside { IsTrue (V.told vol.old) → 0 < length (contents Bundle (V.history vol.old)) →
         During (λ d. d ≡ current (V.history vol.old)) (V.history vol.old) (V.history vol.new) }
     ensures rest { IsTrue (V.told vol.old) → UnlessDevice result
-        (IsAtRest (current (V.history vol.new))) }
+        (IsAtRest front.new (current (V.history vol.new))) }
     ensures running { ¬ IsErrOf result StoreFault.Stopped }
     ensures images { IsTrue (V.told vol.old) → During (λ d. contents Bundle (V.history vol.old)
         ≡ []
@@ -155,6 +163,6 @@ pub(crate) fn build_on<V: Volume>(
     if len != 0 {
         return Err(StoreFault::NotEmpty { len });
     }
-    build_empty(vol, tiles, table, buffer)?;
+    build_empty(vol, tiles, table, buffer, front)?;
     Ok(())
 }

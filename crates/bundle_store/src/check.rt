@@ -4,11 +4,12 @@ ghost use Rattle.std.specs.Prelude.{◌≡◌, ◌+◌, ◌*◌, ◌^◌, ◌<�
 ghost use Rattle.outside_io.specs.declared.volume.VolFile.TheVariants.{Bundle};
 ghost use Rattle.outside_io.specs.streams.Faults.{CountsFaults};
 ghost use Rattle.outside_io.specs.volume.History.{During, contents, current};
-ghost use Rattle.bundle_index.specs.Entry.{IsEntry, place_of};
-ghost use Rattle.bundle_index.specs.Numbers.{u64_at};
+ghost use Rattle.bundle_index.specs.Entry.{IsEntry};
 ghost use Rattle.bundle_store.specs.Check.{Reports, is_bad};
-ghost use Rattle.bundle_store.specs.inside.Checking.{IsSmall, NextReport, SameEntries};
+ghost use Rattle.bundle_store.specs.Kept.{Keeps};
+ghost use Rattle.bundle_store.specs.inside.Checking.{IsSmall, NextReport};
 
+use crate::front::Front;
 use bundle_index::{Entry, Slot};
 use byteorder::{ByteOrder, LittleEndian};
 use outside_io::{Failed, VolFile, Volume};
@@ -37,6 +38,7 @@ fn is_bad_entry<V: Volume>(vol: &mut V, entry: Entry, len: u64) -> Result<bool, 
         IfOk result (λ b. b ≡ is_bad (contents Bundle (V.history vol.old)) entry) }
     ensures during { IsTrue (V.told vol.old) → During (λ d. d ≡ current (V.history vol.old))
         (V.history vol.old) (V.history vol.new) }
+    ensures calls { (V.history vol.new).moment ≤ (V.history vol.old).moment + 1 }
     ensures told { V.told vol.new ≡ V.told vol.old }
     ensures counted { CountsFaults result (V.faults vol.old) (V.faults vol.new) }
 {
@@ -75,45 +77,20 @@ fn with_slot(report: &CheckReport, number: u16, size: u32, bad: bool) -> CheckRe
     }
 }
 
-/// The report with the 512 slots from `first` on, whose entries are these bytes.
-fn check_part<V: Volume>(
+/// The report of a bundle of `len` bytes, by its index, with one device call for each tile at most.
+pub(crate) fn check_index<V: Volume>(
     vol: &mut V,
-    part: &[u8; 4096],
-    first: u16,
+    front: &Front,
     len: u64,
-    report: CheckReport,
 ) -> Result<CheckReport, Failed>
-    requires first { first + 512 ≤ 16384 }
-    requires small { IsSmall first report }
-    requires part { IsTrue (V.told vol.old) →
-        SameEntries part.now first (contents Bundle (V.history vol.old)) }
-    requires len { IsTrue (V.told vol.old) → len ≡ length (contents Bundle (V.history vol.old)) }
-    requires report { IsTrue (V.told vol.old) →
-        Reports (contents Bundle (V.history vol.old)) first report }
-    ensures small { IfOk result (λ r. IsSmall (first + 512) r) }
-    ensures report { IsTrue (V.told vol.old) →
-        IfOk result (λ r. Reports (contents Bundle (V.history vol.old)) (first + 512) r) }
-    ensures during { IsTrue (V.told vol.old) → During (λ d. d ≡ current (V.history vol.old))
-        (V.history vol.old) (V.history vol.new) }
-    ensures told { V.told vol.new ≡ V.told vol.old }
-    ensures counted { CountsFaults result (V.faults vol.old) (V.faults vol.new) }
-{
-    let mut all = report;
-    for i in 0..512 {
-        let entry = Entry::unpack(LittleEndian::read_u64(&part[8 * i..]));
-        let bad = is_bad_entry(vol, entry, len)?;
-        all = with_slot(&all, first + i as u16, entry.size, bad);
-    }
-    Ok(all)
-}
-
-/// The report of a bundle of `len` bytes. The index is read in parts of 4,096 bytes.
-pub(crate) fn check_index<V: Volume>(vol: &mut V, len: u64) -> Result<CheckReport, Failed>
+    requires keeps { IsTrue (V.told vol.old) → Keeps front.now (contents Bundle
+        (V.history vol.old)) }
     requires len { IsTrue (V.told vol.old) → len ≡ length (contents Bundle (V.history vol.old)) }
     ensures report { IsTrue (V.told vol.old) →
         IfOk result (λ r. Reports (contents Bundle (V.history vol.old)) 16384 r) }
     ensures during { IsTrue (V.told vol.old) → During (λ d. d ≡ current (V.history vol.old))
         (V.history vol.old) (V.history vol.new) }
+    ensures calls { (V.history vol.new).moment ≤ (V.history vol.old).moment + 16384 }
     ensures told { V.told vol.new ≡ V.told vol.old }
     ensures counted { CountsFaults result (V.faults vol.old) (V.faults vol.new) }
 {
@@ -123,10 +100,10 @@ pub(crate) fn check_index<V: Volume>(vol: &mut V, len: u64) -> Result<CheckRepor
         bad: 0,
         first_bad: None,
     };
-    for number in 0..32u16 {
-        let mut part = [0; 4096];
-        vol.read(VolFile::Bundle, 64 + 4096 * number as u64, &mut part)?;
-        all = check_part(vol, &part, 512 * number, len, all)?;
+    for number in 0..16384u16 {
+        let entry = front.numbered(number);
+        let bad = is_bad_entry(vol, entry, len)?;
+        all = with_slot(&all, number, entry.size, bad);
     }
     Ok(all)
 }

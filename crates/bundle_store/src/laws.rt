@@ -4,6 +4,7 @@
 ghost use Rattle.std.specs.Prelude.{◌≡◌, ◌≢◌, ◌++◌, ◌+◌, ◌^◌, ◌<◌, ◌≤◌, ℕ, List, [], Result, Err, length, replicate};
 ghost use Rattle.bundle_index.specs.Entry.{entry_at};
 ghost use Rattle.bundle_index.specs.Header.{fresh_header};
+ghost use Rattle.side_journal.specs.Groups.{NewEntry};
 ghost use Rattle.bundle_store.specs.declared.fault.StoreFault.{StoreFault};
 ghost use Rattle.bundle_store.specs.declared.fault.StoreFault.TheVariants.{Device};
 ghost use Rattle.bundle_store.specs.declared.recovery.Recovery.{Recovery};
@@ -11,6 +12,8 @@ ghost use Rattle.bundle_store.specs.declared.tile_rec.TileRec.{TileRec};
 ghost use Rattle.bundle_store.specs.Appended.{bundle_after_put};
 ghost use Rattle.bundle_store.specs.Build.{map_after};
 ghost use Rattle.bundle_store.specs.Check.{bad_count};
+ghost use Rattle.bundle_store.specs.FirstImages.{StoodFor};
+ghost use Rattle.bundle_store.specs.GroupPuts.{AreSlots, AreTilesIn, HasRoomFor, bundle_with_tiles, group_records, new_entries, with_entries};
 ghost use Rattle.bundle_store.specs.Images.{StandsFor};
 ghost use Rattle.bundle_store.specs.Layout.{layout};
 ghost use Rattle.bundle_store.specs.Recover.{Leaves, RecoverySays};
@@ -41,6 +44,30 @@ pub fn puts_replace_one_tile()
     ensures tiles { (bundle tile : List ℕ) (slot : ℕ) → IsReadable bundle → slot < 16384 →
         0 < length tile → length tile < 2 ^ 24 → length bundle + 4 + length tile ≤ 2 ^ 40 →
         tiles (bundle_after_put bundle slot tile) ≡ with_tile slot tile (tiles bundle) }
+{}
+
+/// Tiles put at once, by one header and their entries laid over their records, are tiles put one
+/// after the other; laid over twice is laid over once.
+pub fn groups_are_puts()
+    ensures bundle { (bundle : List ℕ) (tiles : List TileRec) → 131136 ≤ length bundle →
+        AreTilesIn tiles → (header : List ℕ) × ((length header ≡ 64) ×
+        (bundle_with_tiles bundle tiles ≡ with_entries header (new_entries (length bundle) tiles)
+        (bundle ++ group_records tiles))) }
+    ensures twice { (header bundle : List ℕ) (es : List NewEntry) → length header ≡ 64 →
+        AreSlots es → 131136 ≤ length bundle →
+        with_entries header es (with_entries header es bundle) ≡ with_entries header es bundle }
+    ensures readable { (bundle : List ℕ) (us : List TileRec) → IsBundle bundle → AreTilesIn us →
+        HasRoomFor (length bundle) us → IsBundle (bundle_with_tiles bundle us) }
+    ensures tiles { (bundle : List ℕ) (us : List TileRec) → IsBundle bundle → AreTilesIn us →
+        HasRoomFor (length bundle) us →
+        tiles (bundle_with_tiles bundle us) ≡ map_after (tiles bundle) us }
+{}
+
+/// An image that was sound before journals had a second form stands for the same map, unless its
+/// journal has the second form's 1,112 bytes, which no journal had then.
+pub fn images_of_the_first_form_stand_for_the_same()
+    ensures { (bundle journal : List ℕ) (map : TileMap) → length journal ≢ 1112 →
+        StoodFor bundle journal map → StandsFor bundle journal map }
 {}
 
 /// Lists of tiles one after the other are as good as one list.

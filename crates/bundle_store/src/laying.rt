@@ -4,14 +4,16 @@ ghost use Rattle.outside_io.specs.volume.Disk.{laid, settled};
 ghost use Rattle.outside_io.specs.streams.Faults.{CountsFaults};
 ghost use Rattle.outside_io.specs.volume.History.{During, contents, current};
 ghost use Rattle.bundle_index.specs.Entry.{IsEntry};
-ghost use Rattle.bundle_index.specs.Header.{fresh_header, bytes_left_behind};
+ghost use Rattle.bundle_index.specs.Header.{bytes_left_behind};
 ghost use Rattle.bundle_store.specs.inside.Parts.{Extends, KeepsJournal};
+ghost use Rattle.bundle_store.specs.Kept.{Keeps};
 ghost use Rattle.bundle_store.specs.Built.{filled};
 ghost use Rattle.bundle_store.specs.inside.Table.{HasRoom, IsTable, entry_of_size, table_map};
 ghost use Rattle.bundle_store.specs.Layout.{entries, greatest_size, layout, record_of, records, size_of, record_bytes};
 ghost use Rattle.bundle_store.specs.Tiles.{AreTiles};
 
 use crate::TileRec;
+use crate::front::Front;
 use bundle_index::{BundleHeader, Entry};
 use byteorder::{ByteOrder, LittleEndian};
 use outside_io::{Failed, VolFile, Volume};
@@ -91,7 +93,7 @@ pub(crate) fn count_tiles(tiles: &[TileRec], table: &[Option<usize>]) -> u32
 }
 
 /// Lays bytes over others from a place on.
-fn lay(out: &mut [u8], at: usize, bytes: &[u8])
+pub(crate) fn lay(out: &mut [u8], at: usize, bytes: &[u8])
     requires { at + length bytes.now ≤ length out.old }
     ensures { out.new ≡ laid at bytes.now out.old }
 {
@@ -194,65 +196,30 @@ fn write_records<V: Volume>(
     Ok(())
 }
 
-/// The entries of 1,024 slots from `first` on, behind so many bytes of records; how many there are
-/// then.
-fn spell_part(
-    tiles: &[TileRec],
-    table: &[Option<usize>],
-    first: usize,
-    before: u64,
-    part: &mut [u8; 8192],
-) -> u64
+/// The index of the tiles that the table numbers.
+pub(crate) fn spell_index(tiles: &[TileRec], table: &[Option<usize>], index: &mut [u8])
     requires table { IsTable tiles.now table.now }
     requires tiles { AreTiles (table_map tiles.now table.now) }
-    requires first { first + 1024 ≤ 16384 }
-    requires before { before ≡ length (records (table_map tiles.now table.now) first) }
-    ensures part { entries (table_map tiles.now table.now) (first + 1024) ≡ entries
-        (table_map tiles.now table.now) first ++ part.new }
-    ensures end { result ≡ length (records (table_map tiles.now table.now) (first + 1024)) }
+    requires long { length index.old ≡ 131072 }
+    ensures { index.new ≡ entries (table_map tiles.now table.now) 16384 }
 {
-    let mut end = before;
-    for i in 0..1024 {
-        let len = len_at(tiles, table, first + i);
+    let mut end = 0;
+    for i in 0..16384 {
+        let len = len_at(tiles, table, i);
         let word = entry_for(len, end).pack();
-        LittleEndian::write_u64(&mut part[8 * i..], word);
+        LittleEndian::write_u64(&mut index[8 * i..], word);
         end += record_len(len);
     }
-    end
-}
-
-/// The index, behind the header, in parts of 8,192 bytes.
-fn write_index<V: Volume>(
-    vol: &mut V,
-    tiles: &[TileRec],
-    table: &[Option<usize>],
-) -> Result<(), Failed>
-    requires table { IsTable tiles.now table.now }
-    requires tiles { AreTiles (table_map tiles.now table.now) }
-    requires end { IsTrue (V.told vol.old) → length (contents Bundle (V.history vol.old)) ≡ 64 }
-    ensures done { IsTrue (V.told vol.old) → OnOk result (Extends (current (V.history vol.old))
-        (current (V.history vol.new)) (entries (table_map tiles.now table.now) 16384)) }
-    ensures during { IsTrue (V.told vol.old) → During (KeepsJournal (current (V.history vol.old)))
-        (V.history vol.old) (V.history vol.new) }
-    ensures told { V.told vol.new ≡ V.told vol.old }
-    ensures counted { CountsFaults result (V.faults vol.old) (V.faults vol.new) }
-{
-    let mut before = 0;
-    for number in 0..16 {
-        let mut part = [0; 8192];
-        before = spell_part(tiles, table, 1024 * number, before, &mut part);
-        vol.write(VolFile::Bundle, 64 + 8192 * number as u64, &part)?;
-    }
-    Ok(())
 }
 
 /// Writes header, index and records of the tiles that the table numbers into the empty bundle, and
-/// syncs it. The buffer takes one record.
+/// syncs it; `front` then has its header and its index. The buffer takes one record.
 pub(crate) fn lay_out<V: Volume>(
     vol: &mut V,
     tiles: &[TileRec],
     table: &[Option<usize>],
     buffer: &mut [u8],
+    front: &mut Front,
 ) -> Result<(), Failed>
     requires buffer { HasRoom tiles.now (length buffer.old) }
     requires table { IsTable tiles.now table.now }
@@ -260,15 +227,15 @@ pub(crate) fn lay_out<V: Volume>(
     requires empty { IsTrue (V.told vol.old) → contents Bundle (V.history vol.old) ≡ [] }
     ensures bundle { IsTrue (V.told vol.old) → OnOk result ((current (V.history vol.new)).bundle
         ≡ settled (layout (table_map tiles.now table.now))) }
+    ensures keeps { Keeps front.new (layout (table_map tiles.now table.now)) }
     ensures during { IsTrue (V.told vol.old) → During (KeepsJournal (current (V.history vol.old)))
         (V.history vol.old) (V.history vol.new) }
     ensures told { V.told vol.new ≡ V.told vol.old }
     ensures counted { CountsFaults result (V.faults vol.old) (V.faults vol.new) }
 {
     let (most, total) = measure(tiles, table);
-    let header = BundleHeader::fresh(most, RECORDS + total).bytes();
-    vol.write(VolFile::Bundle, 0, &header)?;
-    write_index(vol, tiles, table)?;
+    front.fill(BundleHeader::fresh(most, RECORDS + total), tiles, table);
+    front.write(vol)?;
     write_records(vol, tiles, table, buffer)?;
     vol.sync(VolFile::Bundle)
 }

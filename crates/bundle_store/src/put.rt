@@ -1,37 +1,40 @@
-ghost use Rattle.std.specs.Prelude.{◌≡◌, ◌⊎◌, ◌+◌, ◌^◌, ◌<◌, ◌≤◌, ◌∷◌, ◌++◌, [], drop, length, IsTrue, IsErrOf, IfErr, OnOk};
+ghost use Rattle.std.specs.Prelude.{◌≡◌, ◌⊎◌, ◌+◌, ◌^◌, ◌<◌, ◌≤◌, ◌∷◌, ◌++◌, [], length, IsTrue, IsErrOf, IfErr, OnOk};
 ghost use Rattle.outside_io.specs.declared.volume.VolFile.TheVariants.{Bundle, Journal};
 ghost use Rattle.outside_io.specs.volume.Disk.{IsQuiet, IsSettled, settled};
 ghost use Rattle.outside_io.specs.streams.Faults.{CountsFaults};
 ghost use Rattle.outside_io.specs.volume.History.{During, contents, current};
-ghost use Rattle.bundle_index.specs.Entry.{IsEntry};
-ghost use Rattle.side_journal.specs.Says.{IsOpen, SaysBody};
-ghost use Rattle.side_journal.specs.Bodies.{IsBody, body_bytes, tile_bytes};
-ghost use Rattle.bundle_store.specs.Appended.{bundle_after_put, with_entry, bundle_with_tile};
-ghost use Rattle.bundle_store.specs.inside.Parts.{IsAtRest, IsUnderWay};
+ghost use Rattle.side_journal.specs.Says.{IsOpen};
+ghost use Rattle.side_journal.specs.Bodies.{IsWritten, body_bytes};
+ghost use Rattle.side_journal.specs.declared.body.Body.TheVariants.{Group as OfGroup};
+ghost use Rattle.bundle_store.specs.Appended.{bundle_after_put, bundle_with_tile};
+ghost use Rattle.bundle_store.specs.LaidOver.{size_in, with_body};
+ghost use Rattle.bundle_store.specs.inside.Grouped.{IsOfGroup};
+ghost use Rattle.bundle_store.specs.inside.Parts.{IsAtRest};
 ghost use Rattle.bundle_store.specs.Images.{EachImage, HoldsClosed, WithOrWithout};
 ghost use Rattle.bundle_store.specs.Causes.{CountsDevice, OnRefusal, UnlessDevice};
 ghost use Rattle.bundle_store.specs.Session.{KeepsLength, PutFails};
+ghost use Rattle.bundle_store.specs.Kept.{Keeps};
 ghost use Rattle.bundle_store.specs.Layout.{layout, record_bytes};
 ghost use Rattle.bundle_store.specs.Tiles.{IsBundle, IsReadable, Opens, no_tiles, tiles};
 
 use crate::StoreFault;
 use crate::append::append_record;
 use crate::build::build_empty;
-use crate::reading::read_front;
-use crate::redo::redo;
+use crate::front::Front;
+use crate::group_commit::{apply_body, group_of_one};
 use bundle_index::{BundleHeader, Entry, Slot};
 use outside_io::{Failed, VolFile, Volume};
-use side_journal::{Body, arm, open_gate, prepare};
+use side_journal::{Body, arm, prepare};
 
 /// The greatest length of a bundle.
-const GREATEST_LENGTH: u64 = 1099511627776;
+pub(crate) const GREATEST_LENGTH: u64 = 1099511627776;
 
 /// Writes the tile's record behind the bundle's end, and the body into the closed journal. The
 /// bundle's tiles stay.
 fn stage<V: Volume>(vol: &mut V, end: u64, tile: &[u8], body: &Body) -> Result<(), Failed>
     requires size { length tile.now < 2 ^ 24 }
     requires room { end + 4 + length tile.now ≤ 2 ^ 40 }
-    requires body { IsBody body.now }
+    requires body { IsWritten body.now }
     requires end { IsTrue (V.told vol.old) → end ≡ length (contents Bundle (V.history vol.old)) }
     requires bundle { IsTrue (V.told vol.old) → IsSettled (current (V.history vol.old)).bundle }
     requires journal { IsTrue (V.told vol.old) → IsSettled (current (V.history vol.old)).journal }
@@ -52,85 +55,54 @@ fn stage<V: Volume>(vol: &mut V, end: u64, tile: &[u8], body: &Body) -> Result<(
     arm(vol, body)
 }
 
-/// Opens the gate, lays the header and the entry over the bundle, and closes the gate.
-fn apply<V: Volume>(
-    vol: &mut V,
-    header: &BundleHeader,
-    slot: Slot,
-    entry: Entry,
-) -> Result<(), Failed>
-    requires entry { IsEntry entry }
-    requires long { IsTrue (V.told vol.old) → 131136 ≤ length (contents Bundle
-        (V.history vol.old)) }
-    requires whole { IsTrue (V.told vol.old) → length (contents Journal (V.history vol.old)) ≡ 96 }
-    requires bundle { IsTrue (V.told vol.old) → IsSettled (current (V.history vol.old)).bundle }
-    requires journal { IsTrue (V.told vol.old) → IsSettled (current (V.history vol.old)).journal }
-    ensures done { IsTrue (V.told vol.old) → OnOk result (current (V.history vol.new) ≡ record {
-      bundle = settled (with_entry header.now slot entry (contents Bundle (V.history vol.old)));
-      journal = settled (0 ∷ drop 1 (contents Journal (V.history vol.old)));
-    }) }
-    ensures images { IsTrue (V.told vol.old) →
-        During (λ d. IsBundle (contents Bundle (V.history vol.old)) →
-        IsUnderWay (contents Bundle (V.history vol.old)) (contents Journal
-        (V.history vol.old)) slot entry header.now
-        → EachImage (λ map. (map ≡ tiles (contents Bundle (V.history vol.old))) ⊎
-        (map ≡ tiles (with_entry header.now slot entry (contents Bundle (V.history vol.old))))) d)
-        (V.history vol.old) (V.history vol.new) }
-    ensures told { V.told vol.new ≡ V.told vol.old }
-    ensures counted { CountsFaults result (V.faults vol.old) (V.faults vol.new) }
-{
-    open_gate(vol)?;
-    redo(vol, header, slot, entry)
-}
-
-/// Puts the tile on a bundle of `end` bytes, by its entry and the bundle's new header.
-fn commit<V: Volume>(
-    vol: &mut V,
-    end: u64,
-    tile: &[u8],
-    slot: Slot,
-    entry: Entry,
-    header: &BundleHeader,
-) -> Result<(), Failed>
+/// Puts the tile on a bundle of `end` bytes, by the body that names its entry and the bundle's new
+/// header.
+fn commit<V: Volume>(vol: &mut V, end: u64, tile: &[u8], body: &Body) -> Result<(), Failed>
     requires size { length tile.now < 2 ^ 24 }
     requires room { end + 4 + length tile.now ≤ 2 ^ 40 }
+    requires body { IsOfGroup body.now }
+    requires names { size_in body.now ≡ end + 4 + length tile.now }
     requires least { IsTrue (V.told vol.old) → 131136 ≤ end }
-    requires slot { slot < 16384 }
-    requires entry { IsEntry entry }
-    requires header { length header.now ≡ 64 }
     requires end { IsTrue (V.told vol.old) → end ≡ length (contents Bundle (V.history vol.old)) }
     requires quiet { IsTrue (V.told vol.old) → IsQuiet (current (V.history vol.old)) }
     requires closed { IsTrue (V.told vol.old) → ¬ IsOpen (contents Journal (V.history vol.old)) }
     ensures done { IsTrue (V.told vol.old) → OnOk result (current (V.history vol.new) ≡ record {
-      bundle = settled (with_entry header.now slot entry (contents Bundle
-          (V.history vol.old) ++ record_bytes tile.now));
-      journal = settled (0 ∷ tile_bytes slot entry (end + 4 + length tile.now) header.now);
+      bundle = settled (with_body body.now (contents Bundle (V.history vol.old)
+          ++ record_bytes tile.now));
+      journal = settled (0 ∷ body_bytes body.now);
     }) }
     ensures images { IsTrue (V.told vol.old) →
         During (λ d. IsBundle (contents Bundle (V.history vol.old)) →
-        IsReadable (with_entry header.now slot entry (contents Bundle
-        (V.history vol.old) ++ record_bytes tile.now))
+        IsReadable (with_body body.now (contents Bundle (V.history vol.old)
+        ++ record_bytes tile.now))
         → EachImage (λ map. (map ≡ tiles (contents Bundle (V.history vol.old))) ⊎
-        (map ≡ tiles (with_entry header.now slot entry (contents Bundle
-        (V.history vol.old) ++ record_bytes tile.now)))) d)
+        (map ≡ tiles (with_body body.now (contents Bundle (V.history vol.old)
+        ++ record_bytes tile.now)))) d)
         (V.history vol.old) (V.history vol.new) }
     ensures told { V.told vol.new ≡ V.told vol.old }
     ensures counted { CountsFaults result (V.faults vol.old) (V.faults vol.new) }
 {
-    let body = Body::Tile {
-        slot,
-        entry,
-        length: end + 4 + tile.len() as u64,
-        header: *header,
-    };
-    stage(vol, end, tile, &body)?;
-    apply(vol, header, slot, entry)
+    stage(vol, end, tile, body)?;
+    apply_body(vol, body)
 }
 
-/// Puts the tile on a bundle of `len` bytes.
+/// The body of a journal of one tile.
+fn body_of_one(slot: Slot, entry: Entry, length: u64, header: BundleHeader) -> Body
+    ensures { result ≡ OfGroup ((slot, entry) ∷ []) length header }
+{
+    Body::Group {
+        group: group_of_one(slot, entry),
+        length,
+        header,
+    }
+}
+
+/// Puts the tile on a bundle of `len` bytes, of which `front` has the header and the index, before
+/// and after.
 pub(crate) fn put_on_bundle<V: Volume>(
     vol: &mut V,
     len: u64,
+    front: &mut Front,
     slot: Slot,
     tile: &[u8],
 ) -> Result<(), Failed>
@@ -139,11 +111,15 @@ pub(crate) fn put_on_bundle<V: Volume>(
     requires room { len + 4 + length tile.now ≤ 2 ^ 40 }
     requires least { IsTrue (V.told vol.old) → 131136 ≤ len }
     requires len { IsTrue (V.told vol.old) → len ≡ length (contents Bundle (V.history vol.old)) }
+    requires keeps { IsTrue (V.told vol.old) → Keeps front.old (contents Bundle
+        (V.history vol.old)) }
     requires quiet { IsTrue (V.told vol.old) → IsQuiet (current (V.history vol.old)) }
     requires closed { IsTrue (V.told vol.old) → ¬ IsOpen (contents Journal (V.history vol.old)) }
     ensures done { IsTrue (V.told vol.old) →
         OnOk result (HoldsClosed (bundle_with_tile (contents Bundle
         (V.history vol.old)) slot tile.now) (current (V.history vol.new))) }
+    ensures keeps { IsTrue (V.told vol.old) → OnOk result (Keeps front.new (bundle_with_tile
+        (contents Bundle (V.history vol.old)) slot tile.now)) }
     ensures slot { slot < 16384 }
     ensures images { IsTrue (V.told vol.old) →
         During (λ d. IsBundle (contents Bundle (V.history vol.old))
@@ -152,18 +128,26 @@ pub(crate) fn put_on_bundle<V: Volume>(
     ensures told { V.told vol.new ≡ V.told vol.old }
     ensures counted { CountsFaults result (V.faults vol.old) (V.faults vol.new) }
 {
-    let (old_header, old) = read_front(vol, slot)?;
+    let old = front.entry(slot);
     let size = tile.len() as u32;
     let entry = Entry {
         offset: len + 4,
         size,
     };
-    let header = old_header.after_put(old, size, len + 4 + size as u64);
-    commit(vol, len, tile, slot, entry, &header)
+    let header = front.header().after_put(old, size, len + 4 + size as u64);
+    let body = body_of_one(slot, entry, len + 4 + size as u64, header);
+    commit(vol, len, tile, &body)?;
+    front.put(&header, slot, entry);
+    Ok(())
 }
 
 /// Puts the tile on an empty file, which is first made a bundle of no tiles.
-pub(crate) fn put_on_nothing<V: Volume>(vol: &mut V, slot: Slot, tile: &[u8]) -> Result<(), Failed>
+pub(crate) fn put_on_nothing<V: Volume>(
+    vol: &mut V,
+    front: &mut Front,
+    slot: Slot,
+    tile: &[u8],
+) -> Result<(), Failed>
     requires some { 0 < length tile.now }
     requires size { length tile.now < 2 ^ 24 }
     requires empty { IsTrue (V.told vol.old) → contents Bundle (V.history vol.old) ≡ [] }
@@ -172,6 +156,8 @@ pub(crate) fn put_on_nothing<V: Volume>(vol: &mut V, slot: Slot, tile: &[u8]) ->
     ensures done { IsTrue (V.told vol.old) →
         OnOk result (HoldsClosed (bundle_with_tile (layout no_tiles) slot tile.now)
         (current (V.history vol.new))) }
+    ensures keeps { IsTrue (V.told vol.old) →
+        OnOk result (Keeps front.new (bundle_with_tile (layout no_tiles) slot tile.now)) }
     ensures slot { OnOk result (slot < 16384) }
     ensures images { IsTrue (V.told vol.old) →
         During (EachImage (WithOrWithout slot tile.now no_tiles)) (V.history vol.old)
@@ -179,15 +165,23 @@ pub(crate) fn put_on_nothing<V: Volume>(vol: &mut V, slot: Slot, tile: &[u8]) ->
     ensures told { V.told vol.new ≡ V.told vol.old }
     ensures counted { CountsFaults result (V.faults vol.old) (V.faults vol.new) }
 {
-    build_empty(vol, &[], &[], &mut [])?;
-    put_on_bundle(vol, 131136, slot, tile)
+    build_empty(vol, &[], &[], &mut [], front)?;
+    put_on_bundle(vol, 131136, front, slot, tile)
 }
 
-/// Puts the tile on the bundle, if there is room for it.
-pub(crate) fn put_tile<V: Volume>(vol: &mut V, slot: Slot, tile: &[u8]) -> Result<(), StoreFault>
+/// Puts the tile on the bundle, if there is room for it; `front` has the bundle's header and index,
+/// before and after.
+pub(crate) fn put_tile<V: Volume>(
+    vol: &mut V,
+    front: &mut Front,
+    slot: Slot,
+    tile: &[u8],
+) -> Result<(), StoreFault>
     requires some { 0 < length tile.now }
     requires size { length tile.now < 2 ^ 24 }
     requires opens { IsTrue (V.told vol.old) → Opens (contents Bundle (V.history vol.old)) }
+    requires keeps { IsTrue (V.told vol.old) → Keeps front.old (contents Bundle
+        (V.history vol.old)) }
     requires quiet { IsTrue (V.told vol.old) → IsQuiet (current (V.history vol.old)) }
     requires closed { IsTrue (V.told vol.old) → ¬ IsOpen (contents Journal (V.history vol.old)) }
     ensures done { IsTrue (V.told vol.old) →
@@ -200,7 +194,7 @@ pub(crate) fn put_tile<V: Volume>(vol: &mut V, slot: Slot, tile: &[u8]) -> Resul
     ensures kept { IsTrue (V.told vol.old) → OnRefusal result
         (During (λ d. d ≡ current (V.history vol.old)) (V.history vol.old) (V.history vol.new)) }
     ensures rest { IsTrue (V.told vol.old) → UnlessDevice result
-        (IsAtRest (current (V.history vol.new))) }
+        (IsAtRest front.new (current (V.history vol.new))) }
     ensures answers { IfErr result (λ f. PutFails (length tile.now) f) }
     ensures running { ¬ IsErrOf result StoreFault.Stopped }
     ensures images { IsTrue (V.told vol.old) →
@@ -215,9 +209,9 @@ pub(crate) fn put_tile<V: Volume>(vol: &mut V, slot: Slot, tile: &[u8]) -> Resul
         return Err(StoreFault::Full { len });
     }
     if len == 0 {
-        put_on_nothing(vol, slot, tile)?;
+        put_on_nothing(vol, front, slot, tile)?;
     } else {
-        put_on_bundle(vol, len, slot, tile)?;
+        put_on_bundle(vol, len, front, slot, tile)?;
     }
     Ok(())
 }

@@ -1,29 +1,30 @@
-ghost use Rattle.std.specs.Prelude.{◌≡◌, ◌≤◌, ◌∷◌, [], drop, IsTrue, IfErr, IfOk, OnOk};
+ghost use Rattle.std.specs.Prelude.{◌≡◌, ◌⊎◌, ◌∷◌, [], drop, length, IsTrue, IfErr, IfOk, OnOk};
 ghost use Rattle.outside_io.specs.declared.volume.VolFile.TheVariants.{Bundle, Journal};
 ghost use Rattle.outside_io.specs.volume.Disk.{IsQuiet, settled};
 ghost use Rattle.outside_io.specs.streams.Faults.{CountsFaults};
-ghost use Rattle.bundle_index.specs.Entry.{IsEntry};
 ghost use Rattle.outside_io.specs.volume.History.{During, contents, current};
-ghost use Rattle.side_journal.specs.Says.{IsOpen, SaysBuild, SaysTile};
+ghost use Rattle.side_journal.specs.Groups.{AreNew};
+ghost use Rattle.side_journal.specs.Says.{IsOpen, SaysBuild};
 ghost use Rattle.bundle_store.specs.Causes.{CountsDevice};
+ghost use Rattle.bundle_store.specs.inside.Grouped.{SaysThese};
 ghost use Rattle.bundle_store.specs.inside.Parts.{EachKeeps};
 ghost use Rattle.bundle_store.specs.Images.{EachImage};
 ghost use Rattle.bundle_store.specs.Recover.{EachStandsForOneOf, IsRecovered, Leaves, OnBadJournal, RecoverFails, RecoverySays, synced_disk};
 ghost use Rattle.bundle_store.specs.Tiles.{no_tiles};
 
 use crate::StoreFault;
-use crate::redo::redo;
+use crate::group_commit::{group_of_one, redo_group};
 use crate::syncs::{sync_both, wipe};
-use bundle_index::{BundleHeader, Entry, Slot};
+use bundle_index::BundleHeader;
 use outside_io::{Failed, VolFile, Volume};
-use side_journal::{Body, JournalState, close_gate, read_journal};
+use side_journal::{Body, Group, JournalState, close_gate, read_journal};
 
 /// What recovery has done.
 #[derive(Clone, Copy, Debug, PartialEq, Eq)]
 pub enum Recovery {
     /// Nothing: the journal did not count.
     Closed,
-    /// The journal's tile was put.
+    /// The journal's tiles were put.
     Applied,
     /// A bundle that was being built is empty again.
     Emptied,
@@ -47,19 +48,22 @@ fn empty<V: Volume>(vol: &mut V) -> Result<(), Failed>
     close_gate(vol)
 }
 
-/// Puts the tile of an open journal, unless the bundle is too short for it.
-fn finish_tile<V: Volume>(
+/// Puts the tiles of an open journal, unless the bundle is too short for them: `place` is where the
+/// journal has the bundle's new length.
+fn finish_group<V: Volume>(
     vol: &mut V,
     header: &BundleHeader,
-    slot: Slot,
-    entry: Entry,
-    length: u64,
+    group: &Group,
+    size: u64,
+    place: u64,
 ) -> Result<Recovery, StoreFault>
-    requires entry { IsEntry entry }
+    requires new { AreNew group.now }
+    requires header { length header.now ≡ 64 }
+    requires place { (place ≡ 16) ⊎ (place ≡ 24) }
     requires quiet { IsTrue (V.told vol.old) → IsQuiet (current (V.history vol.old)) }
     requires opened { IsTrue (V.told vol.old) → IsOpen (contents Journal (V.history vol.old)) }
     requires says { IsTrue (V.told vol.old) →
-        SaysTile (contents Journal (V.history vol.old)) slot entry length header.now }
+        SaysThese (contents Journal (V.history vol.old)) group.now header.now size place }
     ensures says { IsTrue (V.told vol.old) → RecoverySays (contents Bundle (V.history vol.old))
         (contents Journal (V.history vol.old)) result }
     ensures images { IsTrue (V.told vol.old) →
@@ -77,13 +81,10 @@ fn finish_tile<V: Volume>(
     ensures told { V.told vol.new ≡ V.told vol.old }
     ensures counted { CountsDevice result (V.faults vol.old) (V.faults vol.new) }
 {
-    if vol.len(VolFile::Bundle)? < length {
-        return Err(StoreFault::BadJournal {
-            place: 24,
-            found: length,
-        });
+    if vol.len(VolFile::Bundle)? < size {
+        return Err(StoreFault::BadJournal { place, found: size });
     }
-    redo(vol, header, slot, entry)?;
+    redo_group(vol, header, group)?;
     Ok(Recovery::Applied)
 }
 
@@ -120,7 +121,12 @@ fn finish<V: Volume>(vol: &mut V) -> Result<Recovery, StoreFault>
                 entry,
                 length,
                 header,
-            } => finish_tile(vol, header, *slot, *entry, *length),
+            } => finish_group(vol, header, &group_of_one(*slot, *entry), *length, 24),
+            Body::Group {
+                group,
+                length,
+                header,
+            } => finish_group(vol, header, group, *length, 16),
             Body::Build => {
                 empty(vol)?;
                 Ok(Recovery::Emptied)

@@ -1,33 +1,37 @@
 ghost use Rattle.std.specs.Prelude.{◌≡◌, ◌↔◌, ◌⊎◌, ◌+◌, ◌^◌, ◌<◌, ◌≤◌, [], false, true, None, Some, length, IsTrue, IsErrOf, IfOk, IfErr, OnErr, OnOk};
 ghost use Rattle.outside_io.specs.declared.volume.VolFile.TheVariants.{Bundle, Journal};
-ghost use Rattle.outside_io.specs.volume.History.{During, Ticks, contents, current};
+ghost use Rattle.outside_io.specs.volume.History.{During, contents, current};
 ghost use Rattle.bundle_index.specs.Entry.{entry_at};
 ghost use Rattle.bundle_store.specs.Causes.{CountsDevice, OnRefusal, UnlessDevice};
 ghost use Rattle.bundle_store.specs.Check.{Reports};
 ghost use Rattle.bundle_store.specs.Appended.{bundle_after_put};
 ghost use Rattle.bundle_store.specs.Build.{EachFits, last_tiles};
 ghost use Rattle.bundle_store.specs.Built.{HoldsTiles};
+ghost use Rattle.bundle_store.specs.GroupPuts.{AllOrNone, NoRoom, OnFull, bundle_after_puts, group_records};
 ghost use Rattle.bundle_store.specs.Layout.{layout};
 ghost use Rattle.bundle_store.specs.Images.{EachImage, EmptyOr, HoldsClosed, WithOrWithout};
 ghost use Rattle.bundle_store.specs.Tiles.{IsReadable, tiles};
-ghost use Rattle.bundle_store.specs.Session.{AreRowEntries, BuildFails, GetFails, GetGives, GetRefuses, IsReadyToPut, KeepsLength, OpenFails, OpenRefuses, PutFails, Serves};
+ghost use Rattle.bundle_store.specs.Session.{BuildFails, GetFails, GetGives, GetRefuses, GroupFails, IsReadyToPut, KeepsLength, OpenFails, OpenRefuses, PutFails, Serves};
 
 use crate::build::{build_on, check_tiles, number_tiles, record_buffer};
 use crate::check::check_index;
+use crate::front::Front;
+use crate::group_put::put_tiles;
 use crate::put::put_tile;
-use crate::reading::{header_fault_of, read_entry};
-use crate::rows::read_row;
+use crate::reading::{fault_of, read_header};
 use crate::{CheckReport, StoreFault, TileRec};
 use bundle_index::{Entry, Slot};
 use outside_io::{Bytes, VolFile, Volume};
 use std::alloc::Global;
 use std::marker::Model;
 
-/// An open bundle. It holds no volume: each call takes the one on which it was opened.
+/// An open bundle. It keeps the header and the index; it holds no volume: each call takes the one
+/// on which it was opened.
 #[derive(Drop)]
 pub struct Session {
     alloc: Global,
     stopped: bool,
+    front: Front,
 }
 
 impl Model for Session {
@@ -35,12 +39,13 @@ impl Model for Session {
 
     ghost Value = { SessionState };
 
-    ghost view = { λ s. record { stopped = s.stopped } };
+    ghost view = { λ s. record { stopped = s.stopped; front = s.front } };
 }
 
 impl Session {
-    /// Opens the bundle. A file of length 0 is a bundle without tiles. Device, or BadBundle where
-    /// the length or a field of the header fails a reader's test.
+    /// Opens the bundle, and reads its header and its index. A file of length 0 is a bundle without
+    /// tiles. In this order Device for the length, BadBundle for it, Device for the header,
+    /// BadBundle where a field of it fails a reader's test, OutOfMemory, Device for the index.
     pub fn open<V: Volume>(alloc: Global, vol: &mut V) -> Result<Session, StoreFault>
         ensures ok { IsTrue (V.told vol.old) → IfOk result
             (λ s. Serves s (contents Bundle (V.history vol.old))) }
@@ -50,6 +55,7 @@ impl Session {
         ensures answers { IfErr result (λ f. OpenFails f) }
         ensures during { IsTrue (V.told vol.old) → During (λ d. d ≡ current (V.history vol.old))
             (V.history vol.old) (V.history vol.new) }
+        ensures calls { (V.history vol.new).moment ≤ (V.history vol.old).moment + 3 }
         ensures told { V.told vol.new ≡ V.told vol.old }
         ensures counted { CountsDevice result (V.faults vol.old) (V.faults vol.new) }
     {
@@ -58,6 +64,7 @@ impl Session {
             return Ok(Session {
                 alloc,
                 stopped: false,
+                front: Front::empty(alloc)?,
             });
         }
         if len < 131136 {
@@ -66,16 +73,25 @@ impl Session {
                 found: len,
             });
         }
-        match header_fault_of(vol)? {
-            Some(fault) => Err(StoreFault::BadBundle {
-                place: fault.place,
-                found: fault.found,
-            }),
-            None => Ok(Session {
-                alloc,
-                stopped: false,
-            }),
+        let header = read_header(vol)?;
+        match fault_of(&header) {
+            Some(fault) => {
+                return Err(StoreFault::BadBundle {
+                    place: fault.place,
+                    found: fault.found,
+                });
+            }
+            None => {}
         }
+        let Ok(mut front) = Front::empty(alloc) else {
+            return Err(StoreFault::OutOfMemory);
+        };
+        front.read(vol, header)?;
+        Ok(Session {
+            alloc,
+            stopped: false,
+            front,
+        })
     }
 
     /// The bundle's length in bytes. Device, Stopped.
@@ -88,6 +104,7 @@ impl Session {
         ensures answers { IfErr result (λ f. (f ≡ StoreFault.Device) ⊎ (f ≡ StoreFault.Stopped)) }
         ensures during { IsTrue (V.told vol.old) → During (λ d. d ≡ current (V.history vol.old))
             (V.history vol.old) (V.history vol.new) }
+        ensures calls { (V.history vol.new).moment ≤ (V.history vol.old).moment + 1 }
         ensures idle { self.now.stopped ≡ true → vol.new ≡ vol.old }
         ensures told { V.told vol.new ≡ V.told vol.old }
         ensures counted { CountsDevice result (V.faults vol.old) (V.faults vol.new) }
@@ -108,6 +125,7 @@ impl Session {
         ensures answers { IfErr result (λ f. (f ≡ StoreFault.Device) ⊎ (f ≡ StoreFault.Stopped)) }
         ensures during { IsTrue (V.told vol.old) → During (λ d. d ≡ current (V.history vol.old))
             (V.history vol.old) (V.history vol.new) }
+        ensures calls { (V.history vol.new).moment ≤ (V.history vol.old).moment + 16385 }
         ensures idle { self.now.stopped ≡ true → vol.new ≡ vol.old }
         ensures told { V.told vol.new ≡ V.told vol.old }
         ensures counted { CountsDevice result (V.faults vol.old) (V.faults vol.new) }
@@ -116,61 +134,28 @@ impl Session {
             return Err(StoreFault::Stopped);
         }
         let len = vol.len(VolFile::Bundle)?;
-        Ok(check_index(vol, len)?)
+        Ok(check_index(vol, &self.front, len)?)
     }
 
-    /// The entry at the slot's place; that of an empty file is 0. Device, Stopped.
+    /// The entry at the slot's place, by no device call; that of an empty file is 0. Stopped is its
+    /// one refusal.
     pub fn entry<V: Volume>(&self, vol: &mut V, slot: Slot) -> Result<Entry, StoreFault>
         requires serves { IsTrue (V.told vol.old) → self.now.stopped ≡ false →
             Serves self.now (contents Bundle (V.history vol.old)) }
         ensures value { IsTrue (V.told vol.old) →
             IfOk result (λ e. e ≡ entry_at (contents Bundle (V.history vol.old)) slot) }
         ensures stopped { IsErrOf result StoreFault.Stopped ↔ (self.now.stopped ≡ true) }
-        ensures answers { IfErr result (λ f. (f ≡ StoreFault.Device) ⊎ (f ≡ StoreFault.Stopped)) }
-        ensures during { IsTrue (V.told vol.old) → During (λ d. d ≡ current (V.history vol.old))
-            (V.history vol.old) (V.history vol.new) }
-        ensures idle { self.now.stopped ≡ true → vol.new ≡ vol.old }
-        ensures told { V.told vol.new ≡ V.told vol.old }
-        ensures counted { CountsDevice result (V.faults vol.old) (V.faults vol.new) }
+        ensures answers { IfErr result (λ f. f ≡ StoreFault.Stopped) }
+        ensures same { vol.new ≡ vol.old }
     {
         if self.stopped {
             return Err(StoreFault::Stopped);
         }
-        Ok(read_entry(vol, slot)?)
+        Ok(self.front.entry(slot))
     }
 
-    /// The entries of the 128 slots of a row, by column, in one device call; those of an empty file
-    /// are 0. Device, Stopped, after which `entries` is as it was.
-    pub fn row_entries<V: Volume>(
-        &self,
-        vol: &mut V,
-        row: u8,
-        entries: &mut [Entry; 128],
-    ) -> Result<(), StoreFault>
-        requires serves { IsTrue (V.told vol.old) → self.now.stopped ≡ false →
-            Serves self.now (contents Bundle (V.history vol.old)) }
-        requires row { row < 128 }
-        ensures value { IsTrue (V.told vol.old) → OnOk result
-            (AreRowEntries (contents Bundle (V.history vol.old)) row entries.new) }
-        ensures same { OnErr result (entries.new ≡ entries.old) }
-        ensures stopped { IsErrOf result StoreFault.Stopped ↔ (self.now.stopped ≡ true) }
-        ensures answers { IfErr result (λ f. (f ≡ StoreFault.Device) ⊎ (f ≡ StoreFault.Stopped)) }
-        ensures disk { IsTrue (V.told vol.old) →
-            current (V.history vol.new) ≡ current (V.history vol.old) }
-        ensures time { self.now.stopped ≡ false →
-            Ticks (V.history vol.old) (V.history vol.new) result }
-        ensures idle { self.now.stopped ≡ true → vol.new ≡ vol.old }
-        ensures told { V.told vol.new ≡ V.told vol.old }
-        ensures counted { CountsDevice result (V.faults vol.old) (V.faults vol.new) }
-    {
-        if self.stopped {
-            return Err(StoreFault::Stopped);
-        }
-        Ok(read_row(vol, row, entries)?)
-    }
-
-    /// The bytes of the slot's tile. In this order Stopped, Device for the entry, NoTile,
-    /// OutOfMemory, Device for the tile, Beyond.
+    /// The bytes of the slot's tile, by one device call; none where there is no tile. In this order
+    /// Stopped, NoTile, OutOfMemory, Device, Beyond.
     pub fn get<V: Volume>(&self, vol: &mut V, slot: Slot) -> Result<Bytes, StoreFault>
         requires serves { IsTrue (V.told vol.old) → self.now.stopped ≡ false →
             Serves self.now (contents Bundle (V.history vol.old)) }
@@ -186,6 +171,8 @@ impl Session {
         ensures answers { IfErr result (λ f. GetFails f) }
         ensures during { IsTrue (V.told vol.old) → During (λ d. d ≡ current (V.history vol.old))
             (V.history vol.old) (V.history vol.new) }
+        ensures calls { (V.history vol.new).moment ≤ (V.history vol.old).moment + 1 }
+        ensures unread { IsErrOf result StoreFault.NoTile → vol.new ≡ vol.old }
         ensures idle { self.now.stopped ≡ true → vol.new ≡ vol.old }
         ensures told { V.told vol.new ≡ V.told vol.old }
         ensures counted { CountsDevice result (V.faults vol.old) (V.faults vol.new) }
@@ -193,7 +180,7 @@ impl Session {
         if self.stopped {
             return Err(StoreFault::Stopped);
         }
-        let entry = read_entry(vol, slot)?;
+        let entry = self.front.entry(slot);
         if entry.size == 0 {
             return Err(StoreFault::NoTile);
         }
@@ -260,11 +247,61 @@ impl Session {
                 len: tile.len() as u64,
             });
         }
-        let put = put_tile(vol, slot, tile);
+        let put = put_tile(vol, &mut self.front, slot, tile);
         if let Err(StoreFault::Device) = put {
             self.stopped = true;
         }
         put
+    }
+
+    /// Puts up to 64 tiles into their slots at once: in their order, so of two in one slot the last
+    /// stands. In this order Stopped, the first tile that is empty or too large, Device for the
+    /// length, Full, Device. After Device all of them stand or none does, and the session is
+    /// stopped: `recover` is called, and a new session opened.
+    pub fn put_group<V: Volume>(
+        &mut self,
+        vol: &mut V,
+        updates: &[TileRec],
+    ) -> Result<(), StoreFault>
+        requires some { 1 ≤ length updates.now }
+        requires most { length updates.now ≤ 64 }
+        requires ready { IsTrue (V.told vol.old) → self.old.stopped ≡ false →
+            IsReadyToPut self.old (current (V.history vol.old)) }
+        ensures done { IsTrue (V.told vol.old) →
+            OnOk result (HoldsClosed (bundle_after_puts (contents Bundle
+            (V.history vol.old)) updates.now) (current (V.history vol.new))) }
+        ensures stopped { IsErrOf result StoreFault.Stopped ↔ (self.old.stopped ≡ true) }
+        ensures stops { self.new.stopped ≡ true ↔ ((self.old.stopped ≡ true) ⊎
+            IsErrOf result StoreFault.Device) }
+        ensures answers { IfErr result (λ f. GroupFails updates.now f) }
+        ensures fits { OnOk result (EachFits updates.now) }
+        ensures room { IsTrue (V.told vol.old) → OnOk result (length (contents Bundle
+            (V.history vol.old)) + length (group_records updates.now) ≤ 2 ^ 40) }
+        ensures full { IsTrue (V.told vol.old) → IfErr result (λ f. OnFull (λ len. NoRoom
+            (length (contents Bundle (V.history vol.old))) updates.now len) f) }
+        ensures images { IsTrue (V.told vol.old) → During (λ d. self.old.stopped ≡ false →
+            IsReadable (contents Bundle (V.history vol.old))
+            → EachImage (AllOrNone updates.now
+            (tiles (contents Bundle (V.history vol.old)))) d) (V.history vol.old)
+            (V.history vol.new) }
+        ensures kept { IsTrue (V.told vol.old) → OnRefusal result
+            (During (λ d. d ≡ current (V.history vol.old)) (V.history vol.old)
+            (V.history vol.new)) }
+        ensures ready { IsTrue (V.told vol.old) → self.old.stopped ≡ false → UnlessDevice result
+            (IsReadyToPut self.new (current (V.history vol.new))) }
+        ensures idle { self.old.stopped ≡ true → vol.new ≡ vol.old }
+        ensures told { V.told vol.new ≡ V.told vol.old }
+        ensures counted { CountsDevice result (V.faults vol.old) (V.faults vol.new) }
+    {
+        if self.stopped {
+            return Err(StoreFault::Stopped);
+        }
+        check_tiles(updates)?;
+        let done = put_tiles(vol, &mut self.front, updates);
+        if let Err(StoreFault::Device) = done {
+            self.stopped = true;
+        }
+        done
     }
 
     /// Builds a bundle of each slot's last tile in the place of an empty file. In this order
@@ -310,7 +347,13 @@ impl Session {
         check_tiles(tiles)?;
         let table = number_tiles(self.alloc, tiles)?;
         let mut buffer = record_buffer(self.alloc, tiles)?;
-        let built = build_on(vol, tiles, table.as_slice(), buffer.as_mut_slice());
+        let built = build_on(
+            vol,
+            tiles,
+            table.as_slice(),
+            buffer.as_mut_slice(),
+            &mut self.front,
+        );
         if let Err(StoreFault::Device) = built {
             self.stopped = true;
         }

@@ -66,12 +66,12 @@ const FIRST_BUNDLE: [(u64, &[u8]); 5] = [
 ];
 
 /// What the journal beside it holds.
-const FIRST_JOURNAL: [(u64, &[u8]); 2] = [
-    (
-        0,
-        b"\0LBJRNL1\x01\0\xff\x3f\0\0\0\0\x44\0\x02\0\0\x42\0\0\x86\0\x02\0\0\0\0\0",
-    ),
-    (32, &HEADER),
+const FIRST_JOURNAL: [(u64, &[u8]); 5] = [
+    (0, b"\0LBJRNL2\x01\x01\0\0\0\0\0\0\x86\0\x02\0\0\0\0\0"),
+    (24, &HEADER),
+    (88, b"\xff\x3f\0\0\0\0\0\0"),
+    (96, &ENTRY),
+    (104, &[0; 100]),
 ];
 
 #[test]
@@ -79,7 +79,7 @@ fn a_first_put_writes_these_files(rt: HostRuntime) {
     let mut vol = empty(&rt);
     put_pixel(&rt, &mut vol);
     holds(&rt, &mut vol, VolFile::Bundle, 131206, &FIRST_BUNDLE);
-    holds(&rt, &mut vol, VolFile::Journal, 96, &FIRST_JOURNAL);
+    holds(&rt, &mut vol, VolFile::Journal, 1112, &FIRST_JOURNAL);
 }
 
 /// What a bundle of a tile holds behind a put over it: the greatest size, the bytes that no entry

@@ -17,7 +17,7 @@ use Rattle.raster_values.specs.Block.{SameMask}
 use Rattle.raster_values.specs.Flat.{value_in, marks_of, revalued, pixels_with}
 use Rattle.raster_values.proofs.Revalued.{may_change, in_order_there}
 use Rattle.raster_values.proofs.Deep.{raster_deep, length-values_of}
-use Rattle.delta_mode.specs.Symbols.{IsByteType, bias, symbol_of, number_of}
+use Rattle.delta_mode.specs.Symbols.{IsByteType, bias, symbol_of}
 use Rattle.delta_mode.specs.Deltas.{predictor, delta, is_valid, AreDeltas}
 use Rattle.delta_mode.specs.Laws.{AreSymbols, DepthIsThere, RasterIsThere, PlainIsThere, DeltasAreSymbols, PlainAreSymbols}
 use Rattle.delta_mode.specs.inside.Pieces.{rank, value_of_place, AreCoded}
@@ -200,12 +200,16 @@ depth_there r d symbols hr byte deep h =
 
 -- ---- plain symbols
 
-number_symbol : (kind : PixelType) (s : ℕ) → IsByteType kind → s < 256 → symbol_of kind (number_of kind s) ≡ s
+-- the number of the type that has this symbol
+abbrev symbol_number : PixelType → ℕ → ℤ
+symbol_number kind symbol = pos symbol -ℤ pos (bias kind)
+
+number_symbol : (kind : PixelType) (s : ℕ) → IsByteType kind → s < 256 → symbol_of kind (symbol_number kind s) ≡ s
 number_symbol kind s byte lt =
     let e : ((pos s -ℤ pos (bias kind)) +ℤ pos (bias kind)) +ℤ pos (2 * 256) ≡ pos (s + 512) = omega (arith, ints) in
     symbol-is kind (pos s -ℤ pos (bias kind)) (s + 512) e ∙ (let f : (s + 512) % 256 ≡ s = omega (arith, lt) in f)
 
-number_fits : (kind : PixelType) (s : ℕ) → IsByteType kind → s < 256 → InRange kind (number_of kind s)
+number_fits : (kind : PixelType) (s : ℕ) → IsByteType kind → s < 256 → InRange kind (symbol_number kind s)
 number_fits kind s byte lt = in_type kind (pos s) s byte (ap pos (let f : s ≡ s % 256 = omega (arith, lt) in f))
 
 count_marks : (ps : List (Option (List ℤ))) → count_by (λ m. m) (map is_some ps) ≡ count_by is_some ps
@@ -216,19 +220,19 @@ count_marks (p ∷ ps) =
 pub plain_there : PlainIsThere
 plain_there r symbols hr byte h =
     let marks = marks_of r in
-    let values = map (number_of r.kind) symbols in
+    let values = map (symbol_number r.kind) symbols in
     let long : length marks ≡ r.rows * r.cols = length-map r.pixels is_some ∙ hr.places in
-    let long_values = length-map symbols (number_of r.kind) in
+    let long_values = length-map symbols (symbol_number r.kind) in
     let fits : All (InRange r.kind) values = All-from_get_or (InRange r.kind) values (pos 0) (λ i lt.
     let low : i < length symbols = omega (arith, lt, long_values) in
-    subst (InRange r.kind) (sym (get_or-map (number_of r.kind) symbols i 0 (pos 0) low)) (number_fits r.kind (get_or symbols i 0) byte (All-get_or (λ x. x < 256) symbols i 0 low h.1))) in
+    subst (InRange r.kind) (sym (get_or-map (symbol_number r.kind) symbols i 0 (pos 0) low)) (number_fits r.kind (get_or symbols i 0) byte (All-get_or (λ x. x < 256) symbols i 0 low h.1))) in
     let there = in_order_there r.kind r.rows r.cols r.depth marks values hr.shape long fits (long_values ∙ h.0 ∙ ap (λ n. n * r.depth) (sym (count_marks r.pixels))) in
     let s : Pixels = record { kind = r.kind; rows = r.rows; cols = r.cols; depth = r.depth; pixels = pixels_with r.depth marks values } in
     let same = mask_from_marks r s hr there.raster (record { kind = refl; rows = refl; cols = refl; depth = refl }) there.has_marks in
     let back : map (symbol_of r.kind) values ≡ symbols =
     ext_get_or 0 (map (symbol_of r.kind) values) symbols (length-map values (symbol_of r.kind) ∙ long_values) (λ i lt.
     let low : i < length symbols = omega (arith, lt, length-map values (symbol_of r.kind), long_values) in
-    get_or-map (symbol_of r.kind) values i (pos 0) 0 (omega (arith, low, long_values)) ∙ ap (symbol_of r.kind) (get_or-map (number_of r.kind) symbols i 0 (pos 0) low)
+    get_or-map (symbol_of r.kind) values i (pos 0) 0 (omega (arith, low, long_values)) ∙ ap (symbol_of r.kind) (get_or-map (symbol_number r.kind) symbols i 0 (pos 0) low)
     ∙ number_symbol r.kind (get_or symbols i 0) byte (All-get_or (λ x. x < 256) symbols i 0 low h.1)) in
     (s, (there.raster, record { same = same; taken = sym (ap (map (symbol_of r.kind)) there.has_values ∙ back) }))
 

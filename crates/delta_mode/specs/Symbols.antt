@@ -1,5 +1,5 @@
 -- The symbol of a number: a byte.
-use Rattle.std.specs.Prelude.{ℕ, ◌≡◌, ℤ, pos, ◌+ℤ◌, ◌-ℤ◌, unsigned_abs, if◌then◌else◌}
+use Rattle.std.specs.Prelude.{ℕ, ◌≡◌, ℤ, pos, ◌+ℤ◌, unsigned_abs, if◌then◌else◌}
 use Rattle.std.specs.Int.{int_rem_euclid}
 use Rattle.raster_values.specs.declared.kind.PixelType.{PixelType}
 use Rattle.raster_values.specs.PixelType.{bytes_of, is_signed}
@@ -15,7 +15,3 @@ bias kind = if is_signed kind then 128 else 0
 -- the number with its bias, modulo 256; so a number wrapped into the type has the same symbol
 unfoldable pub symbol_of : PixelType → ℤ → ℕ
 symbol_of kind number = unsigned_abs (int_rem_euclid (number +ℤ pos (bias kind)) (pos 256))
-
--- the number of the type that has this symbol
-abbrev pub number_of : PixelType → ℕ → ℤ
-number_of kind symbol = pos symbol -ℤ pos (bias kind)

@@ -32,3 +32,4 @@ mod Tallies
 mod Pushing
 pub mod Once
 mod Lookups
+mod Prefixed

@@ -8,6 +8,7 @@ pub mod Words
 pub mod Counts
 pub mod Turns
 pub mod Table
+pub mod Prefixes
 pub mod Written
 pub mod Laws
 pub mod inside

@@ -15,6 +15,7 @@ mod joining;
 mod laws;
 mod lengths;
 mod lookup;
+mod prefixes;
 mod table;
 mod word_pairs;
 mod words;
@@ -30,6 +31,7 @@ pub use laws::{
     words_are_a_part, written_bytes_are_once, written_tables_are_tables, written_words_are_words,
 };
 pub use lengths::Lengths;
+pub use prefixes::{Look, Prefixes};
 pub use table::{SymbolRange, read_table};
 pub use words::read_symbols;
 pub use writing::{have_lengths, symbols_len, write_symbols};

@@ -1,9 +1,11 @@
 //! Reading code words.
 
 ghost use Rattle.std.specs.Prelude.{◌≡◌, ℕ, ◌+◌, ◌-◌, ◌*◌, ◌/◌, ◌%◌, ◌≤◌, ◌<◌, ◌^◌, ◌↔◌, List};
-ghost use Rattle.std.specs.Prelude.{Bool, All, length, drop, take, MatchResult, IfOk, Ok, Err, ◌++◌};
+ghost use Rattle.std.specs.Prelude.{Bool, All, length, drop, take, MatchResult, IfOk, IfSome};
+ghost use Rattle.std.specs.Prelude.{Ok, Err, ◌++◌};
 ghost use Rattle.huff_codes.specs.declared.faults.CodeFault.{CodeFault};
 ghost use Rattle.huff_codes.specs.Bits.{word_bits};
+ghost use Rattle.huff_codes.specs.Prefixes.{ArePrefixes};
 ghost use Rattle.huff_codes.specs.Words.{AreWords, IsStuck, whole_end, word_faults};
 ghost use Rattle.huff_codes.specs.inside.Lookup.{AreEntries, IsSeen, IsShort};
 ghost use Rattle.huff_codes.specs.inside.Looking.{IsReading};
@@ -13,6 +15,7 @@ ghost use Rattle.huff_codes.specs.inside.Stored.{IsAhead};
 use crate::codes::{Ahead, Codes};
 use crate::faults::{CodeFault, CodeReason};
 use crate::lookup::{Entry, entries_of, no_entries};
+use crate::prefixes::{Prefixes, symbol_ahead};
 use byteorder::{ByteOrder, LittleEndian};
 
 /// 32 of the 64 bits of two words, from bit `skip` on.
@@ -162,7 +165,14 @@ fn read_few(bytes: &[u8], entries: &[Entry; 2048], from: Place, out: &mut [u8]) 
 }
 
 /// Reads one symbol.
-fn read_one(bytes: &[u8], codes: &Codes, from: Place, out: &mut [u8]) -> Result<Place, CodeFault>
+fn read_one(
+    bytes: &[u8],
+    codes: &Codes,
+    prefixes: &Option<Prefixes>,
+    from: Place,
+    out: &mut [u8],
+) -> Result<Place, CodeFault>
+    requires prefixes { IfSome prefixes.now (λ p. ArePrefixes codes.now p) }
     requires room { from.count < length out.old }
     requires within { from.bit ≤ 32 * (length bytes.now / 4) }
     requires count { length out.old ≤ 2 ^ 24 }
@@ -175,7 +185,7 @@ fn read_one(bytes: &[u8], codes: &Codes, from: Place, out: &mut [u8]) -> Result<
         (λ f. word_faults codes.now (length out.new) bytes.now f.at f.reason) }
 {
     let next = ahead(bytes, from.bit);
-    match codes.next(next) {
+    match symbol_ahead(codes, prefixes, next) {
         Some((found, length)) => {
             out[from.count] = found;
             Ok(Place {
@@ -200,6 +210,18 @@ fn table_for(codes: &Codes, count: usize) -> [Entry; 2048]
     }
 }
 
+/// The table of prefixes to read so many symbols by: none where making it would take
+/// more than some hundredths of the whole.
+fn prefixes_for(codes: &Codes, count: usize) -> Option<Prefixes>
+    ensures { IfSome result (λ p. ArePrefixes codes.now p) }
+{
+    if count < 262144 {
+        None
+    } else {
+        Some(Prefixes::of(codes))
+    }
+}
+
 /// Reads the symbols, with one clause for both answers.
 fn read_all(bytes: &[u8], codes: &Codes, out: &mut [u8]) -> Result<usize, CodeFault>
     requires count { length out.old ≤ 2 ^ 24 }
@@ -209,13 +231,14 @@ fn read_all(bytes: &[u8], codes: &Codes, out: &mut [u8]) -> Result<usize, CodeFa
         (λ f. word_faults codes.now (length out.new) bytes.now f.at f.reason) }
 {
     let entries = table_for(codes, out.len());
+    let prefixes = prefixes_for(codes, out.len());
     let mut place = Place { bit: 0, count: 0 };
     while place.count < out.len() {
         let next = read_few(bytes, &entries, place, out);
         place = if next.count > place.count {
             next
         } else {
-            read_one(bytes, codes, next, out)?
+            read_one(bytes, codes, &prefixes, next, out)?
         };
     }
     let used = (place.bit + 31) / 32 * 4 + 4;

@@ -1,5 +1,11 @@
 pub mod Bounds
 mod Caps
+mod Eight
+mod EightSums
+mod Folds
+mod Ends
 pub mod Mapped
 mod MinMax
+mod Sums
+mod Times
 mod Within

@@ -3,13 +3,14 @@
 //! no memory.
 //!
 //! The contract that the layer above uses: each call gives exactly what its plain definition over
-//! the list gives, at every length. Inside the loops there is no branch and no division, so that
-//! the bodies can be written over lanes later under the same contracts.
+//! the list gives, at every length. `range`, `minus` and `plus_capped` go over eight lanes at once,
+//! with a plain loop for what is left over.
 #![tactic(auto)]
 
 mod capped;
 mod difference;
 mod extremes;
+mod lanes;
 mod unsigned;
 
 pub use capped::plus_capped;

@@ -1,10 +1,11 @@
 -- What a decoder tells that was fed a whole input in one piece.
-use Rattle.std.proofs.Common.{◌≡◌, ℕ, ◌≤◌, List, [], ◌++◌, length, take, refl, sym, ap, ◌∙◌, subst, arith, inl, inr}
+use Rattle.std.proofs.Common.{◌≡◌, ℕ, ◌≤◌, List, [], ◌++◌, length, take, Option, None, refl, sym, ap, ◌∙◌, subst, arith, inl, inr}
 use Rattle.std.specs.Prelude.{Result, IfOk, IfErr}
 use Rattle.std.proofs.lemmas.List.{take_all}
 use Rattle.raster_values.specs.Raster.{Pixels}
 use Rattle.lerc_header.specs.Head.{HeadAt}
 use Rattle.lerc_header.proofs.Prefixes.{head_of_take}
+use Rattle.lerc_grammar.specs.Mask.{Previous}
 use Rattle.lerc_grammar.specs.Verdict.{IsDone, IsMore, FirstFault}
 use Rattle.lerc_grammar.specs.Blob.{Blob}
 use Rattle.lerc_decode.specs.declared.decoder.DecodeFault.{DecodeFault}
@@ -25,7 +26,7 @@ of_more blob taken used is all more =
     (tt, inr (subst IsMore same more, (ap length same, refl)))
 
 -- by the stage that the decoder stands at
-told_at : (stage : Stage) (blob taken : List ℕ) (used : ℕ) → used ≤ length blob → taken ≡ take used blob → (state_at stage ≡ More → used ≡ length blob) → IsTold taken stage → Told blob (finished_at stage taken)
+told_at : (stage : Stage) (blob taken : List ℕ) (used : ℕ) → used ≤ length blob → taken ≡ take used blob → (state_at stage ≡ More → used ≡ length blob) → IsTold None taken stage → Told blob (finished_at stage taken)
 told_at Key blob taken used within is whole told = of_more blob taken used is (whole refl) told
 told_at (Fields v) blob taken used within is whole told = of_more blob taken used is (whole refl) told
 told_at (Body h) blob taken used within is whole told = of_more blob taken used is (whole refl) told
@@ -35,7 +36,8 @@ told_at (Wrong place reason) blob taken used within is whole told =
     (tt, inl (used, (within, subst (λ bytes. FirstFault bytes place reason) is told.0)))
 told_at NoMemory blob taken used within is whole told = (tt, record { header = told.header; stands = head_of_take used blob told.header (subst (λ bytes. HeadAt bytes told.header) is told.stands) })
 
-pub told : (old new : Decoding) (blob : List ℕ) (used : ℕ) (result : Result Pixels DecodeFault) → old.taken ≡ [] → HasTaken old new blob used → (state_at new.stage ≡ More → used ≡ length blob)
-    → IsTold new.taken new.stage → result ≡ finished_at new.stage new.taken → Told blob result
-told old new blob used result none took whole is_told is =
-    subst (Told blob) (sym is) (told_at new.stage blob new.taken used took.within (took.taken ∙ ap (λ xs. xs ++ take used blob) none) whole is_told)
+pub told : (old new : Decoding) (blob : List ℕ) (used : ℕ) (result : Result Pixels DecodeFault) → old.taken ≡ [] → old.before ≡ None → HasTaken old new blob used → (state_at new.stage ≡ More → used ≡ length blob)
+    → IsTold new.before new.taken new.stage → result ≡ finished_at new.stage new.taken → Told blob result
+told old new blob used result none alone took whole is_told is =
+    subst (Told blob) (sym is) (told_at new.stage blob new.taken used took.within (took.taken ∙ ap (λ xs. xs ++ take used blob) none) whole
+    (subst (λ (before : Option Previous). IsTold before new.taken new.stage) (took.before ∙ alone) is_told))

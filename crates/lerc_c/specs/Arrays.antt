@@ -7,10 +7,10 @@ use Rattle.raster_values.specs.Grid.{values_bytes}
 use Rattle.raster_values.specs.Flat.{all_values, value_in}
 use Rattle.raster_values.specs.Order.{mask_bit, IsMaskOf}
 use Rattle.lerc_header.specs.declared.header.Version.{Version}
-use Rattle.lerc_header.specs.Head.{number_of}
+use Rattle.lerc_header.specs.Head.{version_number}
 use Rattle.lerc_grammar.specs.Verdict.{IsDone}
 use Rattle.lerc_encode.specs.Encoded.{IsEncodedOnce, NeedsV4}
-use Rattle.lerc_encode.specs.Choice.{choice}
+use Rattle.lerc_encode.specs.Choice.{chosen_blob}
 
 -- ---- how long the arrays are
 
@@ -19,18 +19,18 @@ abbrev pub values_size : PixelType → ℕ → ℕ → ℕ → ℕ
 values_size kind rows cols depth = rows * cols * depth * bytes_of kind
 
 -- a bit for each pixel
-abbrev pub mask_size : ℕ → ℕ → ℕ
-mask_size rows cols = (rows * cols + 7) / 8
+abbrev pub mask_array_size : ℕ → ℕ → ℕ
+mask_array_size rows cols = (rows * cols + 7) / 8
 
 pub record HaveSizes (r : Pixels) (values mask : ℕ) : Type 0 where
   pub values_is : values ≡ values_size r.kind r.rows r.cols r.depth
-  pub mask_is : mask ≡ mask_size r.rows r.cols
+  pub mask_is : mask ≡ mask_array_size r.rows r.cols
 
 -- ---- a blob in
 
 -- some first bytes are a blob, and the arrays have the values of its raster, 0 where a pixel is
 -- invalid, and its mask
-pub record IsDecoded (bytes values mask : List ℕ) : Type 0 where
+pub record AreDecoded (bytes values mask : List ℕ) : Type 0 where
   pub raster : Pixels
   pub size : ℕ
   pub done : IsDone bytes raster size
@@ -65,7 +65,7 @@ pub record IsGiven (kind : PixelType) (rows cols depth : ℕ) (values mask : Lis
 -- the array of values has the length of such a raster's, and that of mask bytes too, or none
 pub record GivesSizes (kind : PixelType) (rows cols depth values mask : ℕ) : Type 0 where
   pub values_is : values ≡ values_size kind rows cols depth
-  pub mask_is : (mask ≡ 0 → ⊥) → mask ≡ mask_size rows cols
+  pub mask_is : (mask ≡ 0 → ⊥) → mask ≡ mask_array_size rows cols
 
 -- there are rasters of the shape
 abbrev pub IsAllowed : ℕ → ℕ → ℕ → Type 0
@@ -75,7 +75,7 @@ IsAllowed rows cols depth = (¬ HasZero rows cols depth) × (¬ IsTooLarge rows 
 -- raster near it
 pub record IsBlobOf (blob : List ℕ) (r : Pixels) (version : Version) (step : ℕ) : Type 0 where
   pub fits : ¬ NeedsV4 version r
-  pub chosen : blob ≡ choice r version step
+  pub chosen : blob ≡ chosen_blob r version step
   pub once : IsEncodedOnce blob r step
 
 -- the blob of the raster that the arrays are has so many bytes
@@ -107,7 +107,7 @@ abbrev pub WithKind : ℕ → (PixelType → Type 0) → Type 0
 WithKind number P = (kind : PixelType) × ((number ≡ code_of kind) × P kind)
 
 abbrev pub WithVersion : ℕ → (Version → Type 0) → Type 0
-WithVersion number P = (version : Version) × ((number ≡ number_of version) × P version)
+WithVersion number P = (version : Version) × ((number ≡ version_number version) × P version)
 
 -- both numbers name something
 abbrev pub AreNamed : ℕ → ℕ → Type 0

@@ -2,7 +2,7 @@
 use Rattle.std.specs.Prelude.{◌≡◌, ℕ, ◌≤◌, ◌⊎◌, List, length, take}
 use Rattle.raster_values.specs.PixelType.{code_of}
 use Rattle.lerc_header.specs.declared.header.Header.{Header}
-use Rattle.lerc_header.specs.Head.{number_of}
+use Rattle.lerc_header.specs.Head.{version_number}
 use Rattle.lerc_header.specs.declared.fault.BlobReason.{BlobReason}
 use Rattle.lerc_header.specs.declared.fault.BlobReason.TheVariants.{Truncated, BadKey, BadVersion, BadRows, BadCols, BadDepth, TooLarge, BadCount, BadBlockSize, BadBlobSize, FloatPixels, BadType, BadError, BadRange, BadChecksum, BadMaskLength, BadRun, BadMaskCount, MaskMissing, BadSweep, BadMode, BadBlockTag, BadOffsetCode, BadListHead, BadListCount, BadTable, BadIndex, BadCodeTable, NoCode, PastEnd, Leftover}
 use Rattle.lerc_grammar.specs.Verdict.{FirstFault, IsMore}
@@ -63,7 +63,7 @@ pub record TellsFault (f : Fault) (place : ℕ) (reason : BlobReason) : Type 0 w
 
 -- the numbers are those of a header
 pub record TellsHead (head : Head) (h : Header) : Type 0 where
-  pub version : head.version ≡ number_of h.version
+  pub version : head.version ≡ version_number h.version
   pub kind : head.kind ≡ code_of h.kind
   pub rows : head.rows ≡ h.rows
   pub cols : head.cols ≡ h.cols

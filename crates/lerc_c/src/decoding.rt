@@ -5,7 +5,7 @@ ghost use Rattle.raster_values.specs.Grid.{values_bytes};
 ghost use Rattle.raster_values.specs.Flat.{all_values};
 ghost use Rattle.raster_values.specs.Order.{IsMaskOf};
 ghost use Rattle.lerc_grammar.specs.Verdict.{IsDone};
-ghost use Rattle.lerc_c.specs.Arrays.{HaveSizes, IsDecoded};
+ghost use Rattle.lerc_c.specs.Arrays.{HaveSizes, AreDecoded};
 ghost use Rattle.lerc_c.specs.inside.Stops.{IsRasterStop, IsArrayStop};
 
 use lerc_decode::{DecodeFault, Decoder};
@@ -57,7 +57,7 @@ pub(crate) fn decode_into(
     values: &mut [u8],
     mask: &mut [u8],
 ) -> Result<(), DecodeStop>
-    ensures ok { OnOk result (IsDecoded blob.now values.new mask.new) }
+    ensures ok { OnOk result (AreDecoded blob.now values.new mask.new) }
     ensures stop { IfErr result (λ stop.
         IsArrayStop blob.now (length values.old) (length mask.old) stop) }
     ensures kept { OnErr result ((values.new ≡ values.old) × (mask.new ≡ mask.old)) }

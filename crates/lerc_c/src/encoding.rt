@@ -3,17 +3,15 @@
 ghost use Rattle.std.specs.Prelude.{◌≡◌, ◌<◌, ◌↔◌, [], IfOk, IfErr, IfSome, OnOk, OnErr, IsTrue, length};
 ghost use Rattle.raster_values.specs.Raster.{IsRaster, IsShape, blank};
 ghost use Rattle.raster_values.specs.Flat.{PutsAll};
-ghost use Rattle.lerc_header.specs.declared.header.Version.TheVariants.{V3};
-ghost use Rattle.lerc_header.specs.Head.{number_of};
+ghost use Rattle.lerc_header.specs.Head.{version_number};
 ghost use Rattle.lerc_header.specs.Written.{step_of};
 ghost use Rattle.raster_values.specs.PixelType.{code_of};
-ghost use Rattle.lerc_c.specs.Arrays.{GivesSizes, IsGiven, IsEncoded, values_size, mask_size};
+ghost use Rattle.lerc_c.specs.Arrays.{GivesSizes, IsGiven, IsEncoded, values_size, mask_array_size};
 ghost use Rattle.lerc_c.specs.inside.Stops.{IsArgumentStop, IsFit, IsWriteStop, IsWritten, IsEncodeStop};
 ghost use Rattle.lerc_c.specs.inside.Marked.{IsMarked};
 
-use crate::sizes::is_shape;
 use lerc_encode::{LayFault, encode_over};
-use lerc_header::{Step, Version};
+use lerc_header::{Step, Version, is_shape, kind_of, needs_v4};
 use raster_values::{PixelType, Raster};
 use std::alloc::Global;
 
@@ -33,22 +31,18 @@ pub(crate) enum EncodeStop {
     NoRoom(usize),
 }
 
-/// The pixel type that a number names.
-pub(crate) fn kind_of(number: u32) -> Option<PixelType>
+/// The pixel type that a number of C names.
+pub(crate) fn kind_numbered(number: u32) -> Option<PixelType>
     ensures { (kind : PixelType) → (result ≡ Some kind) ↔ (number ≡ code_of kind) }
 {
-    PixelType::of_code(u8::try_from(number).ok()?)
+    kind_of(i64::from(number))
 }
 
-/// The version that a number names.
-pub(crate) fn version_of(number: u32) -> Option<Version>
-    ensures { (version : Version) → (result ≡ Some version) ↔ (number ≡ number_of version) }
+/// The version that a number of C names.
+pub(crate) fn version_numbered(number: u32) -> Option<Version>
+    ensures { (version : Version) → (result ≡ Some version) ↔ (number ≡ version_number version) }
 {
-    match number {
-        3 => Some(Version::V3),
-        4 => Some(Version::V4),
-        _ => None,
-    }
+    Version::of_number(i64::from(number))
 }
 
 /// Whether arrays of these lengths give the values and the mask of a raster of this shape.
@@ -59,16 +53,6 @@ fn give_sizes(kind: PixelType, rows: u32, cols: u32, depth: u32, values: usize, 
     let pixels = rows as usize * cols as usize;
     let size = pixels * depth as usize * kind.bytes();
     values == size && (mask == 0 || mask == pixels.div_ceil(8))
-}
-
-/// Whether the version has no place for the depths.
-fn needs_v4(version: Version, depth: u32) -> bool
-    ensures { IsTrue result ↔ ((version ≡ V3) × (1 < depth)) }
-{
-    match version {
-        Version::V3 => depth > 1,
-        Version::V4 => false,
-    }
 }
 
 /// Whether there are rasters of the shape, arrays of these lengths give one, and the version has a
@@ -101,7 +85,7 @@ fn test_arguments(
     Ok(())
 }
 
-/// What holds of each raster, for the proofs.
+/// What holds of each raster, for the proofs: `rows` ensures it of the raster that it is asked of.
 fn note_sound(raster: &Raster)
     ensures { IsRaster raster.now }
 {
@@ -113,7 +97,7 @@ fn mark_bits(raster: &mut Raster, mask: &[u8])
     requires blank { raster.old
         ≡ blank raster.old.kind raster.old.rows raster.old.cols raster.old.depth }
     requires some { length mask.now ≡ 0 → ⊥ }
-    requires size { length mask.now ≡ mask_size raster.old.rows raster.old.cols }
+    requires size { length mask.now ≡ mask_array_size raster.old.rows raster.old.cols }
     ensures { IsMarked raster.old.kind raster.old.rows raster.old.cols raster.old.depth
         mask.now raster.new }
 {

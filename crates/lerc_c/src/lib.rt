@@ -18,7 +18,7 @@ ghost use Rattle.lerc_encode.specs.Sizes.{BlobsAreSmall, greatest_size};
 ghost use Rattle.lerc_header.specs.declared.header.Header.{Header};
 ghost use Rattle.lerc_header.specs.declared.fault.BlobFault.{BlobFault};
 ghost use Rattle.lerc_header.specs.declared.fault.BlobReason.{BlobReason};
-ghost use Rattle.lerc_header.specs.Head.{HeadAt, number_of};
+ghost use Rattle.lerc_header.specs.Head.{HeadAt, version_number};
 ghost use Rattle.raster_values.specs.declared.kind.PixelType.{PixelType};
 ghost use Rattle.raster_values.specs.PixelType.{code_of};
 ghost use Rattle.lerc_header.specs.declared.header.Version.{Version};
@@ -26,15 +26,15 @@ ghost use Rattle.lerc_header.specs.HeadFaults.{header_faults};
 ghost use Rattle.lerc_header.specs.Written.{step_of};
 ghost use Rattle.lerc_decode.specs.Decoding.{HasHeader};
 ghost use Rattle.lerc_c.specs.Told.{reason_number, TellsFault, TellsHead, TellsRefusal};
-ghost use Rattle.lerc_c.specs.Arrays.{AreNamed, IsAllowed, GivesSizes, IsDecoded, IsEncoded, IsMisfit, IsTooLong, WithKind, WithVersion};
+ghost use Rattle.lerc_c.specs.Arrays.{AreNamed, IsAllowed, GivesSizes, AreDecoded, IsEncoded, IsMisfit, IsTooLong, WithKind, WithVersion};
 ghost use Rattle.lerc_c.specs.Names.{name_at, reason_name};
 
 use decoding::{DecodeStop, decode_into};
-use encoding::{EncodeStop, encode_into, kind_of, version_of};
+use encoding::{EncodeStop, encode_into, kind_numbered, version_numbered};
 use lerc_encode::blobs_are_small;
-use lerc_header::read_header;
+use lerc_header::{is_shape, read_header};
 use naming::name_of;
-use sizes::{is_shape, size_of};
+use sizes::size_of;
 use std::alloc::Global;
 use told::{Fault, Head, fault_of, head_of};
 
@@ -96,7 +96,7 @@ pub extern "C" fn futskheri_decode(
     fault: &mut Fault,
 ) -> u32
     ensures status { result ≤ 3 }
-    ensures ok { result ≡ 0 → IsDecoded blob.now values.new mask.new }
+    ensures ok { result ≡ 0 → AreDecoded blob.now values.new mask.new }
     ensures refused { result ≡ 1 → TellsRefusal blob.now fault.new }
     ensures memory { result ≡ 2 → HasHeader blob.now }
     ensures sizes { result ≡ 3 → IsMisfit blob.now (length values.old) (length mask.old) }
@@ -125,7 +125,7 @@ pub extern "C" fn futskheri_greatest_size(kind: u32, rows: u32, cols: u32, depth
     ensures law { BlobsAreSmall }
 {
     blobs_are_small();
-    let Some(kind) = kind_of(kind) else {
+    let Some(kind) = kind_numbered(kind) else {
         return 0;
     };
     if !is_shape(rows, cols, depth) {
@@ -160,7 +160,7 @@ pub extern "C" fn futskheri_encode(
     ensures no_room { result ≡ 9 → WithKind kind (λ k. WithVersion version (λ v. IsTooLong
         k rows cols depth values.now mask.now v (step_of error) size.new (length out.old))) }
     ensures bad_kind { result ≡ 4 → (k : PixelType) → kind ≢ code_of k }
-    ensures bad_version { result ≡ 5 → WithKind kind (λ _. (v : Version) → version ≢ number_of v) }
+    ensures bad_version { result ≡ 5 → WithKind kind (λ _. (v : Version) → version ≢ version_number v) }
     ensures bad_shape { result ≡ 6 → HasZero rows cols depth }
     ensures too_large { result ≡ 7 → ¬ HasZero rows cols depth × IsTooLarge rows cols depth }
     ensures sizes { result ≡ 3 → IsAllowed rows cols depth × WithKind kind (λ k.
@@ -175,10 +175,10 @@ pub extern "C" fn futskheri_encode(
     ensures kept { result ≢ 0 → out.new ≡ out.old }
     ensures size_kept { result ≢ 0 → result ≢ 9 → size.new ≡ size.old }
 {
-    let Some(kind) = kind_of(kind) else {
+    let Some(kind) = kind_numbered(kind) else {
         return BAD_KIND;
     };
-    let Some(version) = version_of(version) else {
+    let Some(version) = version_numbered(version) else {
         return BAD_VERSION;
     };
     match encode_into(

@@ -1,21 +1,10 @@
 //! How long a blob may be.
 
-ghost use Rattle.std.specs.Prelude.{◌≡◌, ◌↔◌, ◌≤◌, IsTrue};
+ghost use Rattle.std.specs.Prelude.{◌≡◌, ◌≤◌};
 ghost use Rattle.raster_values.specs.Raster.{IsShape};
 ghost use Rattle.lerc_encode.specs.Sizes.{greatest_size};
 
 use raster_values::PixelType;
-
-/// Whether there are rasters of the shape.
-pub(crate) fn is_shape(rows: u32, cols: u32, depth: u32) -> bool
-    ensures { IsTrue result ↔ IsShape rows cols depth }
-{
-    if rows == 0 || cols == 0 || depth == 0 || depth > 65536 {
-        return false;
-    }
-    let pixels = u64::from(rows) * u64::from(cols);
-    pixels <= 16777216 && pixels * u64::from(depth) <= 16777216
-}
 
 /// The size that no blob of a raster of this type and shape passes.
 pub(crate) fn size_of(kind: PixelType, rows: u32, cols: u32, depth: u32) -> u64

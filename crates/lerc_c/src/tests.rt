@@ -122,3 +122,34 @@ fn names_of_reasons(rt: HostRuntime) {
     expect_name(&rt, 0, b"BadVersion..", 0, b"BadVersion..");
     expect_name(&rt, 31, b"BadVersion..", 8, b"Leftoveron..");
 }
+
+/// The status where 5,000 rows and 20 columns of u8 are encoded: more than 65,535 pixels, and more
+/// than 4,096 rows.
+fn encode_large(alloc: Global, values: &[u8], blob: &mut [u8]) -> u32 {
+    let mut size = 0;
+    futskheri_encode(alloc, 1, 5000, 20, 1, 4, 0, values, b"", blob, &mut size)
+}
+
+#[test]
+fn a_large_raster_out_and_in(rt: HostRuntime) {
+    let alloc = rt.alloc();
+    let mut values = Vec::new(alloc);
+    let mut state: u32 = 1;
+    for _ in 0..100_000 {
+        state = state.wrapping_mul(1_103_515_245).wrapping_add(12345);
+        values.push((state >> 24) as u8).expect(&rt, "memory");
+    }
+    let mut blob = vec![in alloc; 0; 200_000].expect(&rt, "memory");
+    let status = encode_large(alloc, values.as_slice(), blob.as_mut_slice());
+    same(&rt, "encoded", u64::from(status), 0);
+    let mut back = vec![in alloc; 7; 100_000].expect(&rt, "memory");
+    let mut mask = vec![in alloc; 0; 12_500].expect(&rt, "memory");
+    let (status, ..) = decode(
+        alloc,
+        blob.as_slice(),
+        back.as_mut_slice(),
+        mask.as_mut_slice(),
+    );
+    same(&rt, "decoded", u64::from(status), 0);
+    same_bytes(&rt, "values", back.as_slice(), values.as_slice());
+}

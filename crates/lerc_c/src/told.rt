@@ -2,10 +2,9 @@
 
 ghost use Rattle.std.specs.Prelude.{◌≡◌};
 ghost use Rattle.raster_values.specs.PixelType.{code_of};
-ghost use Rattle.lerc_header.specs.Head.{number_of};
 ghost use Rattle.lerc_c.specs.Told.{TellsFault, TellsHead, found_of, reason_number, stated_of};
 
-use lerc_header::{BlobFault, BlobReason, Header, Version};
+use lerc_header::{BlobFault, BlobReason, Header};
 
 /// The first fault of a blob.
 #[repr(C)]
@@ -45,16 +44,6 @@ pub struct Head {
     pub checksum: u32,
 }
 
-/// The number of a version.
-fn version_number(version: Version) -> u32
-    ensures { result ≡ number_of version }
-{
-    match version {
-        Version::V3 => 3,
-        Version::V4 => 4,
-    }
-}
-
 /// The numbers of a header.
 pub(crate) fn head_of(header: &Header) -> Head
     ensures { TellsHead result header.now }
@@ -63,7 +52,7 @@ pub(crate) fn head_of(header: &Header) -> Head
         step: header.step,
         least: header.least,
         greatest: header.greatest,
-        version: version_number(header.version),
+        version: header.version.number(),
         kind: u32::from(header.kind.code()),
         rows: header.rows,
         cols: header.cols,

@@ -1,6 +1,6 @@
 -- A whole blob is made of its parts, and goes wrong where a part of it does.
-use Rattle.std.proofs.Common.{◌≡◌, suc, ℕ, ℤ, ◌+◌, ◌-◌, ◌*◌, ◌<◌, ◌≤◌, Bool, true, false, List, [], ◌∷◌, ◌++◌, length, take, drop, replicate, Option, Ok, Err, refl, sym, ap, ◌∙◌, subst, arith, inl, inr}
-use Rattle.std.specs.Prelude.{Result, IfErr, OnOk, ◌↔◌}
+use Rattle.std.proofs.Common.{◌≡◌, suc, ℕ, ℤ, ◌+◌, ◌-◌, ◌*◌, ◌<◌, ◌≤◌, Bool, true, false, List, [], ◌∷◌, ◌++◌, length, take, drop, replicate, Option, Some, unwrap_or, Ok, Err, refl, sym, ap, ◌∙◌, subst, arith, inl, inr}
+use Rattle.std.specs.Prelude.{Result, IfErr, IfOk, OnOk, ◌↔◌}
 use Rattle.std.proofs.lemmas.List.{append-nil, append_assoc, length-append, length-drop, length-take-le, take-append-drop, take_rest, drop_at, drop-drop}
 use Rattle.first_fault.specs.Faults.{Faults, moved}
 use Rattle.first_fault.specs.Parts.{AreBytes}
@@ -18,13 +18,13 @@ use Rattle.lerc_header.specs.declared.fault.BlobFault.{BlobFault}
 use Rattle.lerc_header.specs.Head.{HeadAt, RangeAt, head_length, shift}
 use Rattle.lerc_header.specs.Checksum.{sum_of}
 use Rattle.lerc_grammar.specs.declared.parts.MaskForm.{MaskForm}
-use Rattle.lerc_grammar.specs.declared.parts.MaskForm.TheVariants.{Empty as NoneValid, Full, Runs as RunsAt}
+use Rattle.lerc_grammar.specs.declared.parts.MaskForm.TheVariants.{Empty as NoneValid, Full, Runs as RunsAt, Previous as Taken}
 use Rattle.lerc_grammar.specs.declared.parts.ImageForm.{ImageForm}
 use Rattle.lerc_grammar.specs.declared.parts.ImageForm.TheVariants.{Empty as NoImage, Constant, Ranges, Sweep, Blocks, Delta, Plain}
-use Rattle.lerc_grammar.specs.Mask.{IsMask, mask_size, count_of, runs_faults, mask_faults}
+use Rattle.lerc_grammar.specs.Mask.{IsMaskAfter, Previous, count_before, mask_size, count_of, runs_faults, mask_faults}
 use Rattle.lerc_grammar.specs.Image.{Ends, IsFront, AreEqual, IsBare, IsCoded, IsImage, empty, constant, ranges, coded, sweep, blocks, one_list, top_of, insides, coded_of, image_faults, sweep_faults, HasMode, greatest_mode, value_count, delta, plain}
 use Rattle.lerc_grammar.specs.Blocks.{AreBlocks, all_blocks, blocks_faults}
-use Rattle.lerc_grammar.specs.Blob.{Blob, blob_faults}
+use Rattle.lerc_grammar.specs.Blob.{BlobAfter, blob_faults}
 use Rattle.lerc_grammar.specs.Outline.{HasMaskLength, IsMaskForm, IsImageForm, IsCodedForm, IsFormBytes, HasLists, values_place, image_place, mask_part_faults, image_part_faults}
 use Rattle.raster_values.specs.Values.{AreValues}
 use Rattle.lerc_grammar.proofs.Bytes.{bytes_in_drop}
@@ -32,7 +32,7 @@ use Rattle.lerc_grammar.proofs.ImageDecided.{none_each}
 use Rattle.lerc_grammar.proofs.Lists.{first_list, front_list_long}
 use Rattle.std.proofs.Math.Nat.{mul-le-mul_right}
 use Rattle.lerc_grammar.proofs.Counts.{mask_count, counted}
-use Rattle.lerc_grammar.proofs.MaskDecided.{alike_stands, mixed_stands}
+use Rattle.lerc_grammar.proofs.MaskDecided.{alike_stands, mixed_stands, taken_stands}
 use Rattle.lerc_grammar.proofs.Looking.{mask_outside, mask_inside, image_outside, image_inside, sweep_inside, blocks_inside, codes_inside}
 use Rattle.lerc_decode.specs.declared.body.BodyStop.{BodyStop}
 use Rattle.lerc_decode.specs.declared.body.BodyStop.TheVariants.{Fault, OutOfMemory}
@@ -44,7 +44,7 @@ use Rattle.lerc_grammar.proofs.CodedOnce.{least_mode}
 use Rattle.lerc_decode.specs.inside.Codes.{HasDeltas, HasPlain}
 use Rattle.lerc_decode.specs.inside.Blocks.{AreTopsOf, HasBlocks, HasBoth, top_in}
 use Rattle.lerc_decode.proofs.BlockReading.{blocks_same, faults_same}
-use Rattle.lerc_decode.specs.inside.Body.{IsStopOf, HasHeadShape, IsFilledWith, IsMarkedBy, IsMarkedFor, IsSwept, KeepsMarks}
+use Rattle.lerc_decode.specs.inside.Body.{IsStopOf, HasHeadShape, IsFilledWith, IsMarkedBy, IsMarkedFor, IsMaskFormFor, IsSwept, KeepsMarks, marks_for}
 
 -- ---- stops
 
@@ -71,47 +71,57 @@ rest_long h blob n m = omega (arith, m.there, length-drop (head_length h.version
 four : (h : Header) → head_length h.version + 4 - head_length h.version ≡ 4
 four h = omega arith
 
-pub empty_mask : (h : Header) (blob : List ℕ) (form : MaskForm) (marks : List Bool) → form ≡ NoneValid → IsMaskForm h blob form → marks ≡ replicate (h.rows * h.cols) false
-    → IsMask (h.rows * h.cols) h.valid (take (image_place h form - head_length h.version) (rest_of h blob)) marks
-empty_mask h blob form marks is m e =
+pub empty_mask : (before : Option Previous) (h : Header) (blob : List ℕ) (form : MaskForm) (marks : List Bool) → form ≡ NoneValid → IsMaskForm h blob form → marks ≡ replicate (h.rows * h.cols) false
+    → IsMaskAfter (marks_for before h) (h.rows * h.cols) h.valid (take (image_place h form - head_length h.version) (rest_of h blob)) marks
+empty_mask before h blob form marks is m e =
     let f : IsMaskForm h blob NoneValid = subst (IsMaskForm h blob) is m in
-    subst (λ (x : MaskForm). IsMask (h.rows * h.cols) h.valid (take (image_place h x - head_length h.version) (rest_of h blob)) marks) (sym is)
-    (subst (λ (n : ℕ). IsMask (h.rows * h.cols) h.valid (take n (rest_of h blob)) marks) (sym (four h))
-    (subst (IsMask (h.rows * h.cols) h.valid (take 4 (rest_of h blob))) (sym e)
-    (alike_stands (h.rows * h.cols) h.valid (rest_of h blob) false (omega (arith, rest_long h blob 0 f.1)) f.0 f.1.number)))
+    subst (λ (x : MaskForm). IsMaskAfter (marks_for before h) (h.rows * h.cols) h.valid (take (image_place h x - head_length h.version) (rest_of h blob)) marks) (sym is)
+    (subst (λ (n : ℕ). IsMaskAfter (marks_for before h) (h.rows * h.cols) h.valid (take n (rest_of h blob)) marks) (sym (four h))
+    (subst (IsMaskAfter (marks_for before h) (h.rows * h.cols) h.valid (take 4 (rest_of h blob))) (sym e)
+    (alike_stands (marks_for before h) (h.rows * h.cols) h.valid (rest_of h blob) false (omega (arith, rest_long h blob 0 f.1)) f.0 f.1.number)))
 
-pub full_mask : (h : Header) (blob : List ℕ) (form : MaskForm) (marks : List Bool) → form ≡ Full → IsMaskForm h blob form → marks ≡ replicate (h.rows * h.cols) true
-    → IsMask (h.rows * h.cols) h.valid (take (image_place h form - head_length h.version) (rest_of h blob)) marks
-full_mask h blob form marks is m e =
+pub full_mask : (before : Option Previous) (h : Header) (blob : List ℕ) (form : MaskForm) (marks : List Bool) → form ≡ Full → IsMaskForm h blob form → marks ≡ replicate (h.rows * h.cols) true
+    → IsMaskAfter (marks_for before h) (h.rows * h.cols) h.valid (take (image_place h form - head_length h.version) (rest_of h blob)) marks
+full_mask before h blob form marks is m e =
     let f : IsMaskForm h blob Full = subst (IsMaskForm h blob) is m in
-    subst (λ (x : MaskForm). IsMask (h.rows * h.cols) h.valid (take (image_place h x - head_length h.version) (rest_of h blob)) marks) (sym is)
-    (subst (λ (n : ℕ). IsMask (h.rows * h.cols) h.valid (take n (rest_of h blob)) marks) (sym (four h))
-    (subst (IsMask (h.rows * h.cols) h.valid (take 4 (rest_of h blob))) (sym e)
-    (alike_stands (h.rows * h.cols) h.valid (rest_of h blob) true (omega (arith, rest_long h blob 0 f.1.1)) f.1.0 f.1.1.number)))
+    subst (λ (x : MaskForm). IsMaskAfter (marks_for before h) (h.rows * h.cols) h.valid (take (image_place h x - head_length h.version) (rest_of h blob)) marks) (sym is)
+    (subst (λ (n : ℕ). IsMaskAfter (marks_for before h) (h.rows * h.cols) h.valid (take n (rest_of h blob)) marks) (sym (four h))
+    (subst (IsMaskAfter (marks_for before h) (h.rows * h.cols) h.valid (take 4 (rest_of h blob))) (sym e)
+    (alike_stands (marks_for before h) (h.rows * h.cols) h.valid (rest_of h blob) true (omega (arith, rest_long h blob 0 f.1.1)) f.1.0 f.1.1.number)))
 
 -- where the runs stand
 runs_there : (h : Header) (blob : List ℕ) (place n : ℕ) → place ≡ head_length h.version + 4 → take (place + n - place) (drop place blob) ≡ take n (drop 4 (rest_of h blob))
 runs_there h blob place n is =
     ap (λ k. take k (drop place blob)) (let t : place + n - place ≡ n = omega arith in t) ∙ ap (λ k. take n (drop k blob)) is ∙ ap (take n) (sym (drop-drop 4 (head_length h.version) blob))
 
-pub runs_mask : (h : Header) (blob : List ℕ) (form : MaskForm) (r : Pixels) (at len place : ℕ) → form ≡ RunsAt at len → IsMaskForm h blob form → place ≡ head_length h.version + 4
+pub runs_mask : (before : Option Previous) (h : Header) (blob : List ℕ) (form : MaskForm) (r : Pixels) (at len place : ℕ) → form ≡ RunsAt at len → IsMaskForm h blob form → place ≡ head_length h.version + 4
     → IsMarkedBy (h.rows * h.cols) h.valid (take (place + len - place) (drop place blob)) r
-    → IsMask (h.rows * h.cols) h.valid (take (image_place h form - head_length h.version) (rest_of h blob)) (marks_of r)
-runs_mask h blob form r at len place is m place_is b =
+    → IsMaskAfter (marks_for before h) (h.rows * h.cols) h.valid (take (image_place h form - head_length h.version) (rest_of h blob)) (marks_of r)
+runs_mask before h blob form r at len place is m place_is b =
     let f : IsMaskForm h blob (RunsAt at len) = subst (IsMaskForm h blob) is m in
     let runs : Runs (take len (drop 4 (rest_of h blob))) b.mask = subst (λ (u : List ℕ). Runs u b.mask) (runs_there h blob place len place_is) b.runs_of in
-    subst (λ (x : MaskForm). IsMask (h.rows * h.cols) h.valid (take (image_place h x - head_length h.version) (rest_of h blob)) (marks_of r)) (sym is)
-    (subst (λ (n : ℕ). IsMask (h.rows * h.cols) h.valid (take n (rest_of h blob)) (marks_of r)) (let t : 4 + len ≡ head_length h.version + 4 + len - head_length h.version = omega arith in t)
-    (subst (IsMask (h.rows * h.cols) h.valid (take (4 + len) (rest_of h blob))) (sym b.marks)
-    (mixed_stands (h.rows * h.cols) h.valid (rest_of h blob) b.mask len f.0 f.1.1.1.number (rest_long h blob len f.1.1.1) runs b.size b.count)))
+    subst (λ (x : MaskForm). IsMaskAfter (marks_for before h) (h.rows * h.cols) h.valid (take (image_place h x - head_length h.version) (rest_of h blob)) (marks_of r)) (sym is)
+    (subst (λ (n : ℕ). IsMaskAfter (marks_for before h) (h.rows * h.cols) h.valid (take n (rest_of h blob)) (marks_of r)) (let t : 4 + len ≡ head_length h.version + 4 + len - head_length h.version = omega arith in t)
+    (subst (IsMaskAfter (marks_for before h) (h.rows * h.cols) h.valid (take (4 + len) (rest_of h blob))) (sym b.marks)
+    (mixed_stands (marks_for before h) (h.rows * h.cols) h.valid (rest_of h blob) b.mask len f.0 f.1.1.1.number (rest_long h blob len f.1.1.1) runs b.size b.count)))
 
-pub runs_fault : (h : Header) (blob : List ℕ) (form : MaskForm) (at len place p : ℕ) (reason : BlobReason) → form ≡ RunsAt at len → IsMaskForm h blob form → place ≡ head_length h.version + 4
+pub runs_fault : (before : Option Previous) (h : Header) (blob : List ℕ) (form : MaskForm) (at len place p : ℕ) (reason : BlobReason) → form ≡ RunsAt at len → IsMaskForm h blob form → place ≡ head_length h.version + 4
     → moved place (runs_faults (h.rows * h.cols) h.valid (take (place + len - place) (drop place blob))) p reason
-    → moved (head_length h.version) (mask_faults (h.rows * h.cols) h.valid (rest_of h blob)) p reason
-runs_fault h blob form at len place p reason is m place_is (q, (e, w)) =
+    → moved (head_length h.version) (mask_faults (count_before (marks_for before h)) (h.rows * h.cols) h.valid (rest_of h blob)) p reason
+runs_fault before h blob form at len place p reason is m place_is (q, (e, w)) =
     let f : IsMaskForm h blob (RunsAt at len) = subst (IsMaskForm h blob) is m in
     let there = subst (λ (u : List ℕ). runs_faults (h.rows * h.cols) h.valid u q reason) (runs_there h blob place len place_is) w in
-    (4 + q, (omega (arith, e, place_is), mask_inside (h.rows * h.cols) h.valid (rest_of h blob) len q reason f.0 f.1.1.1.number f.1.1.0 (rest_long h blob len f.1.1.1) there))
+    (4 + q, (omega (arith, e, place_is), mask_inside (count_before (marks_for before h)) (h.rows * h.cols) h.valid (rest_of h blob) len q reason f.0 f.1.1.1.number f.1.1.0 (rest_long h blob len f.1.1.1) there))
+
+pub previous_mask : (before : Option Previous) (h : Header) (blob : List ℕ) (form : MaskForm) (marks : List Bool) → form ≡ Taken → IsMaskFormFor before h blob form → marks_for before h ≡ Some marks
+    → IsMaskAfter (marks_for before h) (h.rows * h.cols) h.valid (take (image_place h form - head_length h.version) (rest_of h blob)) marks
+previous_mask before h blob form marks is m there =
+    let f : IsMaskFormFor before h blob Taken = subst (IsMaskFormFor before h blob) is m in
+    let count : count_of marks ≡ h.valid = ap (λ (o : Option ℕ). unwrap_or o 0) (ap count_before (sym there) ∙ f.1) in
+    subst (λ (x : MaskForm). IsMaskAfter (marks_for before h) (h.rows * h.cols) h.valid (take (image_place h x - head_length h.version) (rest_of h blob)) marks) (sym is)
+    (subst (λ (n : ℕ). IsMaskAfter (marks_for before h) (h.rows * h.cols) h.valid (take n (rest_of h blob)) marks) (sym (four h))
+    (subst (λ (b : Option (List Bool)). IsMaskAfter b (h.rows * h.cols) h.valid (take 4 (rest_of h blob)) marks) (sym there)
+    (taken_stands marks (h.rows * h.cols) h.valid (rest_of h blob) (omega (arith, rest_long h blob 0 f.0.1)) f.0.0 f.0.1.number count)))
 
 -- what the reader of the runs finds
 pub run_within : (bytes : List ℕ) (n p : ℕ) → FirstRunFault bytes n p → p ≤ length bytes
@@ -132,26 +142,28 @@ bad_count pixels valid place found runs mask r size is other =
 
 -- ---- a blob
 
-pub mask_stop : (h : Header) (blob : List ℕ) (p : ℕ) (reason : BlobReason) → h.checksum ≡ sum_of (drop 14 blob) → moved (head_length h.version) (mask_faults (h.rows * h.cols) h.valid (rest_of h blob)) p reason → blob_faults h blob p reason
-mask_stop h blob p reason sum (q, (e, w)) = inl (sum, (q, (e, inl w)))
+pub mask_stop : (before : Option Previous) (h : Header) (blob : List ℕ) (p : ℕ) (reason : BlobReason) → h.checksum ≡ sum_of (drop 14 blob) → moved (head_length h.version) (mask_faults (count_before (marks_for before h)) (h.rows * h.cols) h.valid (rest_of h blob)) p reason → blob_faults before h blob p reason
+mask_stop before h blob p reason sum (q, (e, w)) = inl (sum, (q, (e, inl w)))
 
-pub mask_part_stop : (h : Header) (blob : List ℕ) (p : ℕ) (reason : BlobReason) → h.checksum ≡ sum_of (drop 14 blob) → mask_part_faults h blob p reason → blob_faults h blob p reason
-mask_part_stop h blob p reason sum (q, (e, w)) = inl (sum, (q, (e, inl (mask_outside (h.rows * h.cols) h.valid (rest_of h blob) q reason w))))
+pub mask_part_stop : (before : Option Previous) (h : Header) (blob : List ℕ) (p : ℕ) (reason : BlobReason) → h.checksum ≡ sum_of (drop 14 blob) → mask_part_faults (count_before (marks_for before h)) h blob p reason → blob_faults before h blob p reason
+mask_part_stop before h blob p reason sum (q, (e, w)) = inl (sum, (q, (e, inl (mask_outside (count_before (marks_for before h)) (h.rows * h.cols) h.valid (rest_of h blob) q reason w))))
 
 place_above : (h : Header) (form : MaskForm) → head_length h.version ≤ image_place h form
 place_above h NoneValid = omega arith
 place_above h Full = omega arith
 place_above h (RunsAt at len) = omega arith
+place_above h Taken = omega arith
 
 place_within : (h : Header) (blob : List ℕ) (form : MaskForm) → IsMaskForm h blob form → image_place h form ≤ length blob
 place_within h blob NoneValid m = omega (arith, m.1.there)
 place_within h blob Full m = omega (arith, m.1.1.there)
 place_within h blob (RunsAt at len) m = omega (arith, m.1.1.1.there)
+place_within h blob Taken m = omega (arith, m.1.there)
 
-pub image_stop : (h : Header) (blob : List ℕ) (form : MaskForm) (marks : List Bool) (p : ℕ) (reason : BlobReason) → h.checksum ≡ sum_of (drop 14 blob) → IsMaskForm h blob form
-    → IsMask (h.rows * h.cols) h.valid (take (image_place h form - head_length h.version) (rest_of h blob)) marks
-    → moved (image_place h form) (image_faults h marks (drop (image_place h form) blob)) p reason → blob_faults h blob p reason
-image_stop h blob form marks p reason sum m mask (q, (e, w)) =
+pub image_stop : (before : Option Previous) (h : Header) (blob : List ℕ) (form : MaskForm) (marks : List Bool) (p : ℕ) (reason : BlobReason) → h.checksum ≡ sum_of (drop 14 blob) → IsMaskForm h blob form
+    → IsMaskAfter (marks_for before h) (h.rows * h.cols) h.valid (take (image_place h form - head_length h.version) (rest_of h blob)) marks
+    → moved (image_place h form) (image_faults h marks (drop (image_place h form) blob)) p reason → blob_faults before h blob p reason
+image_stop before h blob form marks p reason sum m mask (q, (e, w)) =
     let n = head_length h.version in
     let used = image_place h form - n in
     let above = place_above h form in
@@ -176,21 +188,21 @@ image_stop h blob form marks p reason sum m mask (q, (e, w)) =
       ),
     )
 
-pub image_part_stop : (h : Header) (blob : List ℕ) (form : MaskForm) (marks : List Bool) (p : ℕ) (reason : BlobReason) → h.checksum ≡ sum_of (drop 14 blob) → IsMaskForm h blob form
-    → IsMask (h.rows * h.cols) h.valid (take (image_place h form - head_length h.version) (rest_of h blob)) marks
-    → image_part_faults h blob form p reason → blob_faults h blob p reason
-image_part_stop h blob form marks p reason sum m mask (q, (e, w)) =
-    image_stop h blob form marks p reason sum m mask (q, (e, image_outside h marks (drop (image_place h form) blob) q reason w))
+pub image_part_stop : (before : Option Previous) (h : Header) (blob : List ℕ) (form : MaskForm) (marks : List Bool) (p : ℕ) (reason : BlobReason) → h.checksum ≡ sum_of (drop 14 blob) → IsMaskForm h blob form
+    → IsMaskAfter (marks_for before h) (h.rows * h.cols) h.valid (take (image_place h form - head_length h.version) (rest_of h blob)) marks
+    → image_part_faults h blob form p reason → blob_faults before h blob p reason
+image_part_stop before h blob form marks p reason sum m mask (q, (e, w)) =
+    image_stop before h blob form marks p reason sum m mask (q, (e, image_outside h marks (drop (image_place h form) blob) q reason w))
 
-pub blob_made : (h : Header) (blob : List ℕ) (form : MaskForm) (old r : Pixels) → HeadAt blob h → length blob ≡ h.size → h.checksum ≡ sum_of (drop 14 blob) → IsMaskForm h blob form
+pub blob_made : (before : Option Previous) (h : Header) (blob : List ℕ) (form : MaskForm) (old r : Pixels) → HeadAt blob h → length blob ≡ h.size → h.checksum ≡ sum_of (drop 14 blob) → IsMaskForm h blob form
     → IsRaster r → HasHeadShape h old → KeepsMarks old r
-    → IsMask (h.rows * h.cols) h.valid (take (image_place h form - head_length h.version) (rest_of h blob)) (marks_of old)
-    → IsImage h (drop (image_place h form) blob) r → Blob blob r
-blob_made h blob form old r head size sum m sound shape keeps mask image =
+    → IsMaskAfter (marks_for before h) (h.rows * h.cols) h.valid (take (image_place h form - head_length h.version) (rest_of h blob)) (marks_of old)
+    → IsImage h (drop (image_place h form) blob) r → BlobAfter before blob r
+blob_made before h blob form old r head size sum m sound shape keeps mask image =
     let n = head_length h.version in
     let used = image_place h form - n in
     let above = place_above h form in
-    let there = subst (IsMask (h.rows * h.cols) h.valid (take used (rest_of h blob))) keeps.marks mask in
+    let there = subst (IsMaskAfter (marks_for before h) (h.rows * h.cols) h.valid (take used (rest_of h blob))) keeps.marks mask in
     let back : drop used (rest_of h blob) ≡ drop (image_place h form) blob = drop-drop used n blob ∙ ap (λ k. drop k blob) (let t : n + used ≡ image_place h form = omega (arith, above) in t) in (
       sound,
       (
@@ -206,7 +218,7 @@ blob_made h blob form old r head size sum m sound shape keeps mask image =
               rows = shape.rows ∙ keeps.rows;
               cols = shape.cols ∙ keeps.cols;
               depth = shape.depth ∙ keeps.depth;
-              valid = sym (mask_count (h.rows * h.cols) h.valid (take used (rest_of h blob)) (marks_of r) there) ∙ sym (counted r.pixels);
+              valid = sym (mask_count (marks_for before h) (h.rows * h.cols) h.valid (take used (rest_of h blob)) (marks_of r) there) ∙ sym (counted r.pixels);
               size = sym size;
               checksum = sum;
             };
@@ -412,26 +424,41 @@ no_memory f (Ok x) w = tt
 no_memory f (Err stop) w = subst (IsStopOf f) (sym w) tt
 
 -- the checksum does not stand
-pub bad_sum : (h : Header) (blob : List ℕ) (computed : ℕ) → computed ≡ sum_of (drop 14 blob) → ¬ (h.checksum ≡ computed) → blob_faults h blob 10 (BadChecksum h.checksum computed)
-bad_sum h blob computed is other = inr ((λ e. other (e ∙ sym is)), (refl, ap (BadChecksum h.checksum) is))
+pub bad_sum : (before : Option Previous) (h : Header) (blob : List ℕ) (computed : ℕ) → computed ≡ sum_of (drop 14 blob) → ¬ (h.checksum ≡ computed) → blob_faults before h blob 10 (BadChecksum h.checksum computed)
+bad_sum before h blob computed is other = inr ((λ e. other (e ∙ sym is)), (refl, ap (BadChecksum h.checksum) is))
 
-pub mask_form_stop : {T : Type 0} (h : Header) (blob : List ℕ) (result : Result T BlobFault) → h.checksum ≡ sum_of (drop 14 blob) → ((f : BlobFault) → (result ≡ Err f) ↔ mask_part_faults h blob f.place f.reason) → (f : BlobFault) → result ≡ Err f → blob_faults h blob f.place f.reason
-mask_form_stop h blob result sum exact f is = mask_part_stop h blob f.place f.reason sum ((exact f).0 is)
+pub mask_form_stop : {T : Type 0} (before : Option Previous) (h : Header) (blob : List ℕ) (count : Option ℕ) (result : Result T BlobFault) → count ≡ count_before (marks_for before h) → h.checksum ≡ sum_of (drop 14 blob)
+    → ((f : BlobFault) → (result ≡ Err f) ↔ mask_part_faults count h blob f.place f.reason) → (f : BlobFault) → result ≡ Err f → blob_faults before h blob f.place f.reason
+mask_form_stop before h blob count result counted sum exact f is =
+    mask_part_stop before h blob f.place f.reason sum (subst (λ (n : Option ℕ). mask_part_faults n h blob f.place f.reason) counted ((exact f).0 is))
 
-pub image_form_stop : {T : Type 0} (h : Header) (blob : List ℕ) (mask : MaskForm) (r : Pixels) (result : Result T BlobFault) → h.checksum ≡ sum_of (drop 14 blob) → IsMaskForm h blob mask → IsMarkedFor h blob mask r
-    → ((f : BlobFault) → (result ≡ Err f) ↔ image_part_faults h blob mask f.place f.reason) → (f : BlobFault) → result ≡ Err f → blob_faults h blob f.place f.reason
-image_form_stop h blob mask r result sum form m exact f is = image_part_stop h blob mask (marks_of r) f.place f.reason sum form m.mask ((exact f).0 is)
+pub marked_count : (before : Option Previous) (h : Header) (blob : List ℕ) (mask : MaskForm) (r : Pixels) → IsMarkedFor before h blob mask r → count_of (marks_of r) ≡ h.valid
+marked_count before h blob mask r m = mask_count (marks_for before h) (h.rows * h.cols) h.valid _ (marks_of r) m.mask
 
-pub marked_count : (h : Header) (blob : List ℕ) (mask : MaskForm) (r : Pixels) → IsMarkedFor h blob mask r → count_of (marks_of r) ≡ h.valid
-marked_count h blob mask r m = mask_count (h.rows * h.cols) h.valid _ (marks_of r) m.mask
+pub mask_err : (before : Option Previous) (h : Header) (blob : List ℕ) (stop : BodyStop) → h.checksum ≡ sum_of (drop 14 blob)
+    → IsStopOf (moved (head_length h.version) (mask_faults (count_before (marks_for before h)) (h.rows * h.cols) h.valid (rest_of h blob))) stop → IsStopOf (blob_faults before h blob) stop
+mask_err before h blob stop sum w = stop_map _ (blob_faults before h blob) (λ p r x. mask_stop before h blob p r sum x) stop w
 
-pub mask_err : (h : Header) (blob : List ℕ) (stop : BodyStop) → h.checksum ≡ sum_of (drop 14 blob) → IsStopOf (moved (head_length h.version) (mask_faults (h.rows * h.cols) h.valid (rest_of h blob))) stop → IsStopOf (blob_faults h blob) stop
-mask_err h blob stop sum w = stop_map _ (blob_faults h blob) (λ p r x. mask_stop h blob p r sum x) stop w
+-- the form of the image has a fault
+pub form_err : (before : Option Previous) (h : Header) (blob : List ℕ) (mask : MaskForm) (r : Pixels) (f : BlobFault) → h.checksum ≡ sum_of (drop 14 blob) → IsMaskForm h blob mask → IsMarkedFor before h blob mask r
+    → image_part_faults h blob mask f.place f.reason → blob_faults before h blob f.place f.reason
+form_err before h blob mask r f sum form m w = image_part_stop before h blob mask (marks_of r) f.place f.reason sum form m.mask w
 
-pub image_err : (h : Header) (blob : List ℕ) (mask : MaskForm) (old : Pixels) (stop : BodyStop) → h.checksum ≡ sum_of (drop 14 blob) → IsMaskForm h blob mask → IsMarkedFor h blob mask old
-    → IsStopOf (moved (image_place h mask) (image_faults h (marks_of old) (image_of h blob mask))) stop → IsStopOf (blob_faults h blob) stop
-image_err h blob mask old stop sum form m w = stop_map _ (blob_faults h blob) (λ p r x. image_stop h blob mask (marks_of old) p r sum form m.mask x) stop w
+pub image_err : (before : Option Previous) (h : Header) (blob : List ℕ) (mask : MaskForm) (old : Pixels) (stop : BodyStop) → h.checksum ≡ sum_of (drop 14 blob) → IsMaskForm h blob mask → IsMarkedFor before h blob mask old
+    → IsStopOf (moved (image_place h mask) (image_faults h (marks_of old) (image_of h blob mask))) stop → IsStopOf (blob_faults before h blob) stop
+image_err before h blob mask old stop sum form m w = stop_map _ (blob_faults before h blob) (λ p r x. image_stop before h blob mask (marks_of old) p r sum form m.mask x) stop w
 
-pub picture_made : (h : Header) (blob : List ℕ) (mask : MaskForm) (old r : Pixels) → HeadAt blob h → length blob ≡ h.size → h.checksum ≡ sum_of (drop 14 blob) → IsMaskForm h blob mask → IsMarkedFor h blob mask old
-    → IsRaster r → KeepsMarks old r → IsImage h (image_of h blob mask) r → Blob blob r
-picture_made h blob mask old r head size sum form m sound keeps image = blob_made h blob mask old r head size sum form sound m.shape keeps m.mask image
+pub picture_made : (before : Option Previous) (h : Header) (blob : List ℕ) (mask : MaskForm) (old r : Pixels) → HeadAt blob h → length blob ≡ h.size → h.checksum ≡ sum_of (drop 14 blob) → IsMaskForm h blob mask → IsMarkedFor before h blob mask old
+    → IsRaster r → KeepsMarks old r → IsImage h (image_of h blob mask) r → BlobAfter before blob r
+picture_made before h blob mask old r head size sum form m sound keeps image = blob_made before h blob mask old r head size sum form sound m.shape keeps m.mask image
+
+-- what holds whatever the raster before is, of the one that there is
+pub picked_ok : (before : Option Previous) (h : Header) (blob : List ℕ) (mask : MaskForm) (old : Pixels) (result : Result Pixels BodyStop) → IsMarkedFor before h blob mask old
+    → IfOk result (λ r. (b : Option Previous) → IsMarkedFor b h blob mask old → BlobAfter b blob r) → IfOk result (λ r. BlobAfter before blob r)
+picked_ok before h blob mask old (Ok r) m w = w before m
+picked_ok before h blob mask old (Err stop) m w = tt
+
+pub picked_err : (before : Option Previous) (h : Header) (blob : List ℕ) (mask : MaskForm) (old : Pixels) (result : Result Pixels BodyStop) → IsMarkedFor before h blob mask old
+    → IfErr result (λ stop. (b : Option Previous) → IsMarkedFor b h blob mask old → IsStopOf (blob_faults b h blob) stop) → IfErr result (λ stop. IsStopOf (blob_faults before h blob) stop)
+picked_err before h blob mask old (Ok r) m w = tt
+picked_err before h blob mask old (Err stop) m w = w before m

@@ -3,7 +3,7 @@ use Rattle.std.proofs.Common.{◌≡◌, ℕ, ◌+◌, ◌-◌, ◌*◌, ◌/◌
 use Rattle.std.proofs.lemmas.List.{length-append, length-drop}
 use Rattle.first_fault.specs.Faults.{Faults, none, wrong, choice, unless, moved, in_order}
 use Rattle.bit_stuff.specs.declared.heads.ListReason.TheVariants as list
-use Rattle.bit_stuff.specs.Head.{IsHeadOf, count_at, count_faults, count_size, form_faults, head_faults, size_code, table_bit, width_bits}
+use Rattle.bit_stuff.specs.Head.{IsListHeadOf, count_at, list_count_faults, count_size, list_form_faults, list_head_faults, size_code, table_bit, width_bits}
 use Rattle.bit_stuff.specs.Simple.{binary_digits}
 use Rattle.bit_stuff.specs.Stuffed.{stuffed_size}
 use Rattle.lut_stuff.specs.Faults as lists
@@ -44,11 +44,11 @@ within_in_order part own behind bytes a b p r (inr s) =
 
 -- ---- lists
 
-head_within : (n : ℕ) (bytes : List ℕ) → AreWithin (head_faults n bytes) (length bytes)
+head_within : (n : ℕ) (bytes : List ℕ) → AreWithin (list_head_faults n bytes) (length bytes)
 head_within n bytes =
-    within_unless (0 < length bytes) list.Cut 0 (form_faults n bytes) (length bytes) (omega arith) (λ some.
-    within_unless (size_code bytes < 3) list.BadHead 0 (unless (table_bit bytes ≡ 1 → 0 < width_bits bytes) (wrong list.BadTable 0) (count_faults n bytes)) (length bytes) (omega arith) (λ _.
-    within_unless (table_bit bytes ≡ 1 → 0 < width_bits bytes) list.BadTable 0 (count_faults n bytes) (length bytes) (omega arith) (λ _.
+    within_unless (0 < length bytes) list.Cut 0 (list_form_faults n bytes) (length bytes) (omega arith) (λ some.
+    within_unless (size_code bytes < 3) list.BadHead 0 (unless (table_bit bytes ≡ 1 → 0 < width_bits bytes) (wrong list.BadTable 0) (list_count_faults n bytes)) (length bytes) (omega arith) (λ _.
+    within_unless (table_bit bytes ≡ 1 → 0 < width_bits bytes) list.BadTable 0 (list_count_faults n bytes) (length bytes) (omega arith) (λ _.
     within_unless (1 + count_size (size_code bytes) ≤ length bytes) list.Cut 1 (unless (count_at bytes ≡ n) (wrong list.BadCount 1) none) (length bytes) (omega (arith, some)) (λ _.
     within_unless (count_at bytes ≡ n) list.BadCount 1 none (length bytes) (omega (arith, some)) (λ _. within_none (length bytes))))))
 
@@ -72,7 +72,7 @@ size_within n width size rest =
     within_unless (2 ≤ size) list.BadTable 0 (moved 1 (lists.entry_faults n width (size - 1) rest)) (1 + length rest) (omega arith) (λ _.
     within_moved 1 (lists.entry_faults n width (size - 1) rest) (length rest) (1 + length rest) (entry_within n width (size - 1) rest) (omega arith))
 
-list_table_within : (n width : ℕ) (rest : List ℕ) → AreWithin (lists.table_faults n width rest) (length rest)
+list_table_within : (n width : ℕ) (rest : List ℕ) → AreWithin (lists.list_table_faults n width rest) (length rest)
 list_table_within n width rest =
     within_unless (0 < length rest) list.Cut 0 (lists.size_faults n width (slice_index rest 0) (drop 1 rest)) (length rest) (omega arith) (λ some p r w.
     let low = size_within n width (slice_index rest 0) (drop 1 rest) p r w in omega (arith, low, some, length-drop 1 rest))
@@ -80,8 +80,8 @@ list_table_within n width rest =
 pub list_within : (n : ℕ) (bytes : List ℕ) → AreWithin (list_faults n bytes) (length bytes)
 unfolding list_faults
 list_within n bytes =
-    within_in_order (IsHeadOf n) (head_faults n) (lists.body_faults n) bytes (head_within n bytes)
-    (λ head rest. within_choice (IsTrue head.table) (lists.table_faults n head.width rest) (lists.data_faults n head.width rest) (length rest) (λ _. list_table_within n head.width rest) (λ _. data_within n head.width rest))
+    within_in_order (IsListHeadOf n) (list_head_faults n) (lists.list_body_faults n) bytes (head_within n bytes)
+    (λ head rest. within_choice (IsTrue head.table) (lists.list_table_faults n head.width rest) (lists.data_faults n head.width rest) (length rest) (λ _. list_table_within n head.width rest) (λ _. data_within n head.width rest))
 
 -- ---- tables
 

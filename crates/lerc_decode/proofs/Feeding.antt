@@ -8,8 +8,6 @@ use Rattle.raster_values.specs.Raster.{IsRaster}
 use Rattle.lerc_header.specs.Head.{HeadAt}
 use Rattle.lerc_header.proofs.Prefixes.{head_more}
 use Rattle.lerc_decode.specs.declared.from_source.Decoded.{Decoded}
-use Rattle.lerc_decode.specs.declared.from_source.FromFault.{FromFault}
-use Rattle.lerc_decode.specs.declared.from_source.FromFault.TheVariants.{Source, OutOfMemory}
 use Rattle.lerc_decode.specs.FromSource.{IsSized}
 use Rattle.std.proofs.lemmas.List.{append_assoc, length-append, length-take-le, take-append-drop, take_all}
 use Rattle.lerc_header.specs.Head.{head_length}
@@ -25,6 +23,7 @@ use Rattle.lerc_header.specs.declared.fault.BlobReason.TheVariants.{Truncated}
 use Rattle.lerc_decode.specs.declared.from_source.FromFault.TheVariants.{Blob}
 use Rattle.lerc_decode.specs.FromSource.{IsDecoded}
 use Rattle.lerc_decode.proofs.Steps.{told_of}
+use Rattle.lerc_grammar.specs.Mask.{Previous}
 use Rattle.lerc_grammar.specs.Verdict.{IsMore}
 
 follows : (s : Stage) (piece : List ℕ) (used : ℕ) (joins : Type 0) → IsUsed s piece used → (used ≡ length piece → joins) → Follows s joins
@@ -56,16 +55,16 @@ work_less (Whole r) lo ln used piece low e some u = omega (arith, low)
 work_less (Wrong place reason) lo ln used piece low e some u = omega (arith, low)
 work_less NoMemory lo ln used piece low e some u = omega (arith, low)
 
-pub less_work : (so sn : Stage) (old new piece : List ℕ) (used : ℕ) → IsStageOf old so → 0 < length piece → length piece ≤ missing_at so (length old) → used ≤ length piece → new ≡ old ++ take used piece → IsUsed sn piece used → work_at sn (length new) < work_at so (length old)
-less_work Key sn old new piece used stands some short within e u =
+pub less_work : (before : Option Previous) (so sn : Stage) (old new piece : List ℕ) (used : ℕ) → IsStageOf before old so → 0 < length piece → length piece ≤ missing_at so (length old) → used ≤ length piece → new ≡ old ++ take used piece → IsUsed sn piece used → work_at sn (length new) < work_at so (length old)
+less_work before Key sn old new piece used stands some short within e u =
     work_less sn (length old) (length new) used piece (omega (arith, stands)) (ap length e ∙ length-append old (take used piece) ∙ ap (λ k. length old + k) (length-take-le used piece within)) some u
-less_work (Fields v) sn old new piece used stands some short within e u =
+less_work before (Fields v) sn old new piece used stands some short within e u =
     work_less sn (length old) (length new) used piece (omega (arith, stands.1.0, short_head v)) (ap length e ∙ length-append old (take used piece) ∙ ap (λ k. length old + k) (length-take-le used piece within)) some u
-less_work (Body h) sn old new piece used stands some short within e u =
+less_work before (Body h) sn old new piece used stands some short within e u =
     work_less sn (length old) (length new) used piece (omega (arith, stands.1, stands.0.size_below)) (ap length e ∙ length-append old (take used piece) ∙ ap (λ k. length old + k) (length-take-le used piece within)) some u
-less_work (Whole r) sn old new piece used stands some short within e u = absurd (omega (arith, some, short))
-less_work (Wrong place reason) sn old new piece used stands some short within e u = absurd (omega (arith, some, short))
-less_work NoMemory sn old new piece used stands some short within e u = absurd (omega (arith, some, short))
+less_work before (Whole r) sn old new piece used stands some short within e u = absurd (omega (arith, some, short))
+less_work before (Wrong place reason) sn old new piece used stands some short within e u = absurd (omega (arith, some, short))
+less_work before NoMemory sn old new piece used stands some short within e u = absurd (omega (arith, some, short))
 
 -- ---- several calls
 
@@ -118,11 +117,11 @@ pub waits : (n : ℕ) (P : Type 0) → 0 < n → (n ≡ 0) ⊎ P → P
 waits n P some (inl e) = absurd (omega (arith, some, e))
 waits n P some (inr p) = p
 
-pub decoded : (s : Stage) (taken : List ℕ) (left0 left1 : Option (List ℕ)) → IsStageOf taken s → Follows s (Joins left0 left1 [] taken) → Begins left0 [] taken → (missing_at s (length taken) ≡ 0) ⊎ IsAtEnd left1
+pub decoded : (s : Stage) (taken : List ℕ) (left0 left1 : Option (List ℕ)) → IsStageOf None taken s → Follows s (Joins left0 left1 [] taken) → Begins left0 [] taken → (missing_at s (length taken) ≡ 0) ⊎ IsAtEnd left1
     → IsSized (from_finished (finished_at s taken) (length taken)) left0 left1
-decoded Key taken left0 left1 stands f b end = found_more left0 left1 taken (told_of taken Key stands) f (waits (10 - length taken) (IsAtEnd left1) (omega (arith, stands)) end)
-decoded (Fields v) taken left0 left1 stands f b end = found_more left0 left1 taken (told_of taken (Fields v) stands) f (waits (head_length v - length taken) (IsAtEnd left1) (omega (arith, stands.1.0)) end)
-decoded (Body h) taken left0 left1 stands f b end = found_more left0 left1 taken (told_of taken (Body h) stands) f (waits (h.size - length taken) (IsAtEnd left1) (omega (arith, stands.1)) end)
+decoded Key taken left0 left1 stands f b end = found_more left0 left1 taken (told_of None taken Key stands) f (waits (10 - length taken) (IsAtEnd left1) (omega (arith, stands)) end)
+decoded (Fields v) taken left0 left1 stands f b end = found_more left0 left1 taken (told_of None taken (Fields v) stands) f (waits (head_length v - length taken) (IsAtEnd left1) (omega (arith, stands.1.0)) end)
+decoded (Body h) taken left0 left1 stands f b end = found_more left0 left1 taken (told_of None taken (Body h) stands) f (waits (h.size - length taken) (IsAtEnd left1) (omega (arith, stands.1)) end)
 decoded (Whole r) taken None left1 stands f b end = f
 decoded (Whole r) taken (Some input) left1 stands (rest, (e, j)) b end = (taken, (rest, (j, (e, (stands.0, refl)))))
 decoded (Wrong place reason) taken None left1 stands f b end = f
@@ -130,7 +129,7 @@ decoded (Wrong place reason) taken (Some input) left1 stands (rest, (e, j)) b en
 decoded NoMemory taken None left1 stands f b end = tt
 decoded NoMemory taken (Some input) left1 stands f (rest, j) end = record { header = stands.header; stands = subst (λ (u : List ℕ). HeadAt u stands.header) (sym j) (head_more taken rest stands.header stands.stands) }
 
-pub decoded_raster : (s : Stage) (taken : List ℕ) (size : ℕ) → IsStageOf taken s → IfOk (from_finished (finished_at s taken) size) (λ d. IsRaster d.raster)
+pub decoded_raster : (s : Stage) (taken : List ℕ) (size : ℕ) → IsStageOf None taken s → IfOk (from_finished (finished_at s taken) size) (λ d. IsRaster d.raster)
 decoded_raster Key taken size stands = tt
 decoded_raster (Fields v) taken size stands = tt
 decoded_raster (Body h) taken size stands = tt
@@ -200,19 +199,19 @@ few_live (Some left) left1 left2 taken room (rest, (e, j)) most t =
 few_stopped : (left0 left1 left2 : Option (List ℕ)) (room : ℕ) → room ≡ 0 → TakesUpTo room left1 left2 → TakesUpTo 134217728 left0 left1 → TakesUpTo 134217728 left0 left2
 few_stopped left0 left1 left2 room zero t before = subst (TakesUpTo 134217728 left0) (sym (same_left left1 left2 room zero t)) before
 
-few_from_nothing : (s : Stage) (left0 left1 left2 : Option (List ℕ)) (taken : List ℕ) (room : ℕ) → IsStageOf taken s → Follows s (Joins left0 left1 [] taken) → room ≤ missing_at s (length taken)
+few_from_nothing : (before : Option Previous) (s : Stage) (left0 left1 left2 : Option (List ℕ)) (taken : List ℕ) (room : ℕ) → IsStageOf before taken s → Follows s (Joins left0 left1 [] taken) → room ≤ missing_at s (length taken)
     → TakesUpTo room left1 left2 → TakesUpTo 134217728 left0 left1 → TakesUpTo 134217728 left0 left2
-few_from_nothing Key left0 left1 left2 taken room stands f short t before = few_live left0 left1 left2 taken room f (omega (arith, stands, short)) t
-few_from_nothing (Fields v) left0 left1 left2 taken room stands f short t before = few_live left0 left1 left2 taken room f (omega (arith, stands.1.0, short, short_head v)) t
-few_from_nothing (Body h) left0 left1 left2 taken room stands f short t before = few_live left0 left1 left2 taken room f (omega (arith, stands.1, short, stands.0.size_below)) t
-few_from_nothing (Whole r) left0 left1 left2 taken room stands f short t before = few_stopped left0 left1 left2 room (omega (arith, short)) t before
-few_from_nothing (Wrong place reason) left0 left1 left2 taken room stands f short t before = few_stopped left0 left1 left2 room (omega (arith, short)) t before
-few_from_nothing NoMemory left0 left1 left2 taken room stands f short t before = few_stopped left0 left1 left2 room (omega (arith, short)) t before
+few_from_nothing behind Key left0 left1 left2 taken room stands f short t before = few_live left0 left1 left2 taken room f (omega (arith, stands, short)) t
+few_from_nothing behind (Fields v) left0 left1 left2 taken room stands f short t before = few_live left0 left1 left2 taken room f (omega (arith, stands.1.0, short, short_head v)) t
+few_from_nothing behind (Body h) left0 left1 left2 taken room stands f short t before = few_live left0 left1 left2 taken room f (omega (arith, stands.1, short, stands.0.size_below)) t
+few_from_nothing behind (Whole r) left0 left1 left2 taken room stands f short t before = few_stopped left0 left1 left2 room (omega (arith, short)) t before
+few_from_nothing behind (Wrong place reason) left0 left1 left2 taken room stands f short t before = few_stopped left0 left1 left2 room (omega (arith, short)) t before
+few_from_nothing behind NoMemory left0 left1 left2 taken room stands f short t before = few_stopped left0 left1 left2 room (omega (arith, short)) t before
 
-pub few_more : (s : Stage) (left0 left1 left2 : Option (List ℕ)) (old taken : List ℕ) (room : ℕ) → old ≡ [] → IsStageOf taken s → Follows s (Joins left0 left1 old taken) → room ≤ missing_at s (length taken)
+pub few_more : (before : Option Previous) (s : Stage) (left0 left1 left2 : Option (List ℕ)) (old taken : List ℕ) (room : ℕ) → old ≡ [] → IsStageOf before taken s → Follows s (Joins left0 left1 old taken) → room ≤ missing_at s (length taken)
     → TakesUpTo room left1 left2 → TakesUpTo 134217728 left0 left1 → TakesUpTo 134217728 left0 left2
-few_more s left0 left1 left2 old taken room none stands f short t before =
-    few_from_nothing s left0 left1 left2 taken room stands (subst (λ (u : List ℕ). Follows s (Joins left0 left1 u taken)) none f) short t before
+few_more behind s left0 left1 left2 old taken room none stands f short t before =
+    few_from_nothing behind s left0 left1 left2 taken room stands (subst (λ (u : List ℕ). Follows s (Joins left0 left1 u taken)) none f) short t before
 
 -- ---- the raster alone
 

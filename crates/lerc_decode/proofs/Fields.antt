@@ -1,7 +1,5 @@
 -- The first fault of a whole header behind its key and version.
-use Rattle.std.proofs.Common.{◌≡◌, ℕ, ◌≤◌, ◌-◌, List, length, take, drop, ap, refl, arith, Ok, Err}
-use Rattle.std.proofs.lemmas.List.{take_rest}
-use Rattle.byteorder.specs.Endian.{little_number, twos_complement}
+use Rattle.std.proofs.Common.{◌≡◌, ℕ, ◌≤◌, List, length, refl, arith, Ok, Err}
 use Rattle.std.specs.Prelude.{Result, IfErr, ◌↔◌}
 use Rattle.first_fault.specs.Faults.{Faults, wrong, choice}
 use Rattle.first_fault.proofs.Parts.{passed, failed}
@@ -11,8 +9,8 @@ use Rattle.lerc_header.specs.declared.header.Header.{Header}
 use Rattle.lerc_header.specs.declared.fault.BlobFault.{BlobFault}
 use Rattle.lerc_header.specs.declared.fault.BlobReason.{BlobReason}
 use Rattle.lerc_header.specs.declared.fault.BlobReason.TheVariants.{BadKey, BadVersion, Truncated}
-use Rattle.lerc_header.specs.Head.{head_length, i32_at}
-use Rattle.lerc_header.specs.HeadFaults.{HasKey, HasVersion, key_tests, field_faults, whole_faults, header_faults}
+use Rattle.lerc_header.specs.Head.{head_length}
+use Rattle.lerc_header.specs.HeadFaults.{HasKey, HasVersion, key_faults, key_tests, field_faults, whole_faults, header_faults}
 use Rattle.lerc_header.proofs.FaultLemmas.{one_version}
 
 abbrev behind : List ℕ → Version → Faults BlobReason
@@ -41,7 +39,7 @@ pub fields_err : (v : Version) (bytes : List ℕ) (result : Result Header BlobFa
 fields_err v bytes (Ok h) long key version exact = tt
 fields_err v bytes (Err f) long key version exact = fields_of v bytes f.place f.reason long key version ((exact f).0 refl)
 
--- a number behind other bytes
-pub number_behind : (bytes : List ℕ) (n : ℕ) → i32_at (take (length bytes - n) (drop n bytes)) 0 ≡ i32_at bytes n
-unfolding i32_at
-number_behind bytes n = ap (λ (u : List ℕ). twos_complement 4 (little_number 4 u)) (take_rest bytes n)
+-- of the key and the version
+pub version_err : (bytes : List ℕ) (result : Result Version BlobFault) → ((f : BlobFault) → (result ≡ Err f) ↔ key_faults bytes f.place f.reason) → IfErr result (λ f. key_faults bytes f.place f.reason)
+version_err bytes (Ok v) exact = tt
+version_err bytes (Err f) exact = (exact f).0 refl

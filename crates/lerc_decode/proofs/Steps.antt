@@ -1,41 +1,43 @@
 -- What each step of the decoder comes to.
-use Rattle.std.proofs.Common.{◌≡◌, ℕ, ◌+◌, ◌-◌, ◌<◌, ◌≤◌, false, cond, List, [], ◌∷◌, ◌++◌, length, take, drop, nat_eq, refl, sym, ap, ◌∙◌, subst, arith}
-use Rattle.std.proofs.lemmas.List.{append_assoc, length-append, length-drop, take-append-le, take-append-drop, take-take, take_all, drop-take, take_rest}
+use Rattle.std.proofs.Common.{◌≡◌, ℕ, ◌+◌, ◌-◌, ◌<◌, ◌≤◌, false, cond, List, [], ◌∷◌, ◌++◌, length, take, drop, Option, nat_eq, refl, sym, ap, ◌∙◌, subst, arith}
+use Rattle.std.proofs.lemmas.List.{append-nil, append_assoc, length-append, length-drop, length-take-le, take-append-le, take-append-drop, take-take, take_all, drop-take, take_rest}
 use Rattle.std.proofs.lemmas.Bool.Decides.{nat_tests}
 use Rattle.raster_values.specs.Raster.{Pixels}
 use Rattle.lerc_header.specs.declared.header.Header.{Header}
 use Rattle.lerc_header.specs.declared.header.Version.{Version}
+use Rattle.lerc_header.specs.declared.header.Version.TheVariants.{V3, V4}
 use Rattle.lerc_header.specs.Head.{HeadAt, head_length}
 use Rattle.lerc_header.specs.declared.fault.BlobReason.{BlobReason}
 use Rattle.lerc_header.specs.HeadFaults.{HasKey, HasVersion, field_faults}
-use Rattle.lerc_grammar.specs.Blob.{Blob, blob_faults}
-use Rattle.lerc_grammar.specs.Verdict.{FirstFault, of_field, of_blob, IsDone}
+use Rattle.lerc_grammar.specs.Mask.{Previous}
+use Rattle.lerc_grammar.specs.Blob.{BlobAfter, blob_faults}
+use Rattle.lerc_grammar.specs.Verdict.{FirstFaultAfter, of_field, of_blob, IsDoneAfter}
 use Rattle.lerc_header.proofs.Prefixes.{head_more}
 use Rattle.lerc_header.proofs.FaultLemmas.{one_version}
 use Rattle.lerc_grammar.proofs.More.{more_key, more_fields, more_body, least_fields, least_body}
 use Rattle.lerc_grammar.proofs.Verdicts.{take_same}
 use Rattle.lerc_decode.specs.declared.decoder.Decoder.TheInside.{Inside}
 use Rattle.lerc_decode.specs.declared.decoder.Progress.{Progress}
-use Rattle.lerc_decode.specs.declared.decoder.Progress.TheVariants.{Fields as AtFields, Body as AtBody}
-use Rattle.lerc_decode.specs.Decoding.{Stage, Key, Fields, Body, Whole, Wrong, NoMemory, Decoding, IsStageOf, IsLeast, HasTaken, IsSame}
+use Rattle.lerc_decode.specs.declared.decoder.Progress.TheVariants.{Fields as AtFields, Body as AtBody, Refused, OutOfMemory}
+use Rattle.lerc_decode.specs.Decoding.{Stage, Key, Fields, Body, Whole, Wrong, NoMemory, Decoding, IsStageOf, IsLeastAfter, HasTaken, IsSame}
 use Rattle.lerc_decode.specs.inside.Steps.{AfterKey, AfterFields, AfterBody, StepsKey, StepsFields, StepsBody}
 use Rattle.lerc_decode.specs.declared.decoder.FedState.TheVariants.{More}
 use Rattle.lerc_decode.specs.States.{state_at, missing_at, IsTold, HasStopped, IsUsed}
 use Rattle.lerc_decode.specs.inside.Steps.{UsesKey, UsesFields, UsesBody}
-use Rattle.lerc_decode.specs.inside.Stages.{stage_of}
-use Rattle.lerc_decode.specs.inside.Inside.{taken_of, IsKept, IsInside}
+use Rattle.lerc_decode.specs.inside.Stages.{KeepsHead, stage_of}
+use Rattle.lerc_decode.specs.inside.Inside.{seen, taken_of, IsKept, IsInside}
 
 -- ---- a whole blob
 
-pub whole_done : (blob : List ℕ) (r : Pixels) (h : Header) → HeadAt blob h → length blob ≡ h.size → Blob blob r → IsDone blob r (length blob) × IsLeast blob
-whole_done blob r h head size is =
-    ((omega arith, subst (λ (u : List ℕ). Blob u r) (sym (take_all (length blob) blob (omega arith))) is), least_body blob h head size)
+pub whole_done : (before : Option Previous) (blob : List ℕ) (r : Pixels) (h : Header) → HeadAt blob h → length blob ≡ h.size → BlobAfter before blob r → IsDoneAfter before blob r (length blob) × IsLeastAfter before blob
+whole_done before blob r h head size is =
+    ((omega arith, subst (λ (u : List ℕ). BlobAfter before u r) (sym (take_all (length blob) blob (omega arith))) is), least_body blob h head size)
 
-pub whole_wrong : (blob : List ℕ) (h : Header) (place : ℕ) (reason : BlobReason) → HeadAt blob h → length blob ≡ h.size → blob_faults h blob place reason
-    → FirstFault blob place reason × IsLeast blob
-whole_wrong blob h place reason head size w =
+pub whole_wrong : (before : Option Previous) (blob : List ℕ) (h : Header) (place : ℕ) (reason : BlobReason) → HeadAt blob h → length blob ≡ h.size → blob_faults before h blob place reason
+    → FirstFaultAfter before blob place reason × IsLeastAfter before blob
+whole_wrong before blob h place reason head size w =
     let same = sym (take_all h.size blob (omega (arith, size))) in
-    (of_blob h (omega (arith, size)) (subst (λ (u : List ℕ). HeadAt u h) same head) (subst (λ (u : List ℕ). blob_faults h u place reason) same w), least_body blob h head size)
+    (of_blob h (omega (arith, size)) (subst (λ (u : List ℕ). HeadAt u h) same head) (subst (λ (u : List ℕ). blob_faults before h u place reason) same w), least_body blob h head size)
 
 -- ---- a whole header
 
@@ -48,9 +50,9 @@ head_stands head v h long version is =
     let size : head_length v + 4 ≤ h.size = subst (λ (w : Version). head_length w + 4 ≤ h.size) same is.size_above in
     (is, omega (arith, size, long))
 
-pub head_wrong : (head : List ℕ) (v : Version) (place : ℕ) (reason : BlobReason) → length head ≡ head_length v → HasKey (take 10 head) → HasVersion (take 10 head) v → field_faults v head place reason
-    → FirstFault head place reason × IsLeast head
-head_wrong head v place reason long key version w =
+pub head_wrong : (before : Option Previous) (head : List ℕ) (v : Version) (place : ℕ) (reason : BlobReason) → length head ≡ head_length v → HasKey (take 10 head) → HasVersion (take 10 head) v → field_faults v head place reason
+    → FirstFaultAfter before head place reason × IsLeastAfter before head
+head_wrong before head v place reason long key version w =
     let same = sym (take_all (head_length v) head (omega (arith, long))) in
     let s = take_same 10 head (omega arith) (omega (arith, long)) in (
       of_field v (omega (arith, long)) (subst HasKey same (sym s.key ∙ key)) (subst (λ (u : List ℕ). HasVersion u v) same (version_there head v long version)) (subst (λ (u : List ℕ). field_faults v u place reason) same w),
@@ -59,11 +61,11 @@ head_wrong head v place reason long key version w =
 
 -- ---- what a decoder holds
 
-pub taken_head : (a : Inside) (v : Version) → a.progress ≡ AtFields v → IsInside a → IsStageOf (take a.have a.head) (Fields v)
+pub taken_head : (a : Inside) (v : Version) → a.progress ≡ AtFields v → IsInside a → IsStageOf a.before (take a.have a.head) (Fields v)
 taken_head a v is inside =
     let kept : a.blob.items ≡ [] = (subst (IsKept a) is inside.kept).0 in
     let taken : taken_of a ≡ take a.have a.head = ap (λ (xs : List ℕ). cond (nat_eq (length xs) 0) (take a.have a.head) xs) kept in
-    subst (λ (u : List ℕ). IsStageOf u (Fields v)) taken (subst (λ (p : Progress). IsStageOf (taken_of a) (stage_of p)) is inside.stands)
+    subst (λ (u : List ℕ). IsStageOf a.before u (Fields v)) taken (subst (λ (p : Progress). IsStageOf a.before (taken_of a) (stage_of p)) is inside.stands)
 
 pub front_kept : (a : Inside) (v : Version) (new piece : List ℕ) (used want : ℕ) → a.progress ≡ AtFields v → IsInside a → take (a.have + used) new ≡ take a.have a.head ++ take used piece → a.have + used ≡ want
     → HasKey (take 10 (take want new)) × HasVersion (take 10 (take want new)) v
@@ -77,10 +79,10 @@ some_items : (xs ys : List ℕ) → 0 < length xs → cond (nat_eq (length xs) 0
 some_items [] ys some = absurd (omega (arith, some))
 some_items (x ∷ xs) ys some = ap (λ b. cond b ys (x ∷ xs)) (let t : nat_eq (length (x ∷ xs)) 0 ≡ false = grind (arith, nat_tests) in t)
 
-pub taken_body : (a : Inside) (h : Header) → a.progress ≡ AtBody h → IsInside a → IsStageOf a.blob.items (Body h)
+pub taken_body : (a : Inside) (h : Header) → a.progress ≡ AtBody h → IsInside a → IsStageOf a.before a.blob.items (Body h)
 taken_body a h is inside =
     let kept : 0 < length a.blob.items = subst (IsKept a) is inside.kept in
-    subst (λ (u : List ℕ). IsStageOf u (Body h)) (some_items a.blob.items (take a.have a.head) kept) (subst (λ (p : Progress). IsStageOf (taken_of a) (stage_of p)) is inside.stands)
+    subst (λ (u : List ℕ). IsStageOf a.before u (Body h)) (some_items a.blob.items (take a.have a.head) kept) (subst (λ (p : Progress). IsStageOf a.before (taken_of a) (stage_of p)) is inside.stands)
 
 pub body_head : (a : Inside) (h : Header) (new more : List ℕ) → a.progress ≡ AtBody h → IsInside a → new ≡ a.blob.items ++ more → HeadAt new h
 body_head a h new more is inside e = subst (λ (u : List ℕ). HeadAt u h) (sym e) (head_more a.blob.items more h (taken_body a h is inside).0)
@@ -106,17 +108,60 @@ body_goes_on a b h more is inside same have head e short =
       room = ap length head ∙ inside.room;
       within = omega (arith, inside.within, have);
       kept = subst (IsKept b) (sym same) some;
-      stands = subst (λ (p : Progress). IsStageOf (taken_of b) (stage_of p)) (sym same)
-          (subst (λ (u : List ℕ). IsStageOf u (Body h)) (sym (some_items b.blob.items (take b.have b.head) some)) (body_head a h b.blob.items more is inside e, short));
+      stands = subst (λ (p : Progress). IsStageOf b.before (taken_of b) (stage_of p)) (sym same)
+          (subst (λ (u : List ℕ). IsStageOf b.before u (Body h)) (sym (some_items b.blob.items (take b.have b.head) some)) (body_head a h b.blob.items more is inside e, short));
     }
+
+-- what holds of a decoder's stage
+pub stood : (a : Inside) (d : Decoding) → seen a ≡ d → IsInside a → IsStageOf d.before d.taken d.stage
+stood a d is inside = subst (λ (x : Decoding). IsStageOf x.before x.taken x.stage) is inside.stands
+
+-- a call that takes nothing
+pub takes_nothing : (d : Decoding) (piece : List ℕ) → HasTaken d d piece 0
+takes_nothing d piece = record { within = omega arith; taken = sym (append-nil d.taken); before = refl }
+
+-- the bytes of the whole header are kept where it stands
+pub header_kept : (b : Inside) (p : Progress) (want : ℕ) → b.progress ≡ p → b.have ≡ want → 0 < want → want ≤ 66 → length b.head ≡ 66 → KeepsHead p b.blob.items (take want b.head) → IsStageOf b.before (take want b.head) (stage_of p) → IsInside b
+header_kept b (AtBody h) want is have some few room kept stands =
+    let here : 0 < length b.blob.items = omega (arith, ap length kept, length-take-le want b.head (omega (arith, few, room)), some) in
+    record {
+      room = room;
+      within = omega (arith, have, few);
+      kept = subst (IsKept b) (sym is) here;
+      stands = subst (λ (p : Progress). IsStageOf b.before (taken_of b) (stage_of p)) (sym is)
+          (subst (λ (u : List ℕ). IsStageOf b.before u (Body h)) (sym (some_items b.blob.items (take b.have b.head) here ∙ kept)) stands);
+    }
+header_kept b (Refused f) want is have some few room kept stands =
+    let taken : taken_of b ≡ take want b.head = ap (λ (xs : List ℕ). cond (nat_eq (length xs) 0) (take b.have b.head) xs) kept ∙ ap (λ n. take n b.head) have in
+    record {
+      room = room;
+      within = omega (arith, have, few);
+      kept = subst (IsKept b) (sym is) tt;
+      stands = subst (λ (p : Progress). IsStageOf b.before (taken_of b) (stage_of p)) (sym is)
+          (subst (λ (u : List ℕ). IsStageOf b.before u (Wrong f.place f.reason)) (sym taken) stands);
+    }
+header_kept b OutOfMemory want is have some few room kept stands =
+    let taken : taken_of b ≡ take want b.head = ap (λ (xs : List ℕ). cond (nat_eq (length xs) 0) (take b.have b.head) xs) kept ∙ ap (λ n. take n b.head) have in
+    record {
+      room = room;
+      within = omega (arith, have, few);
+      kept = subst (IsKept b) (sym is) tt;
+      stands = subst (λ (p : Progress). IsStageOf b.before (taken_of b) (stage_of p)) (sym is)
+          (subst (λ (u : List ℕ). IsStageOf b.before u NoMemory) (sym taken) stands);
+    }
+header_kept b _ want is have some few room kept stands = absurd kept
+
+pub head_size : (v : Version) → (0 < head_length v) × (head_length v ≤ 66)
+head_size V3 = (omega arith, omega arith)
+head_size V4 = (omega arith, omega arith)
 
 -- ---- the three steps together
 
-pub told_of : (taken : List ℕ) (s : Stage) → IsStageOf taken s → IsTold taken s
-told_of taken Key stands = more_key taken stands
-told_of taken (Fields v) stands = more_fields taken v stands.0 stands.1.0 stands.1.1.0 stands.1.1.1
-told_of taken (Body h) stands = more_body taken h stands.0 stands.1
-told_of taken _ stands = stands
+pub told_of : (before : Option Previous) (taken : List ℕ) (s : Stage) → IsStageOf before taken s → IsTold before taken s
+told_of before taken Key stands = more_key taken stands
+told_of before taken (Fields v) stands = more_fields taken v stands.0 stands.1.0 stands.1.1.0 stands.1.1.1
+told_of before taken (Body h) stands = more_body taken h stands.0 stands.1
+told_of before taken _ stands = stands
 
 take_sum : (i j : ℕ) (xs : List ℕ) → take (i + j) xs ≡ take i xs ++ take j (drop i xs)
 take_sum i j xs =
@@ -132,6 +177,7 @@ taken_more o a b piece i j x y =
     record {
       within = omega (arith, x.within, y.within, ap length rest, length-drop i piece);
       taken = y.taken ∙ ap (λ (u : List ℕ). a.taken ++ take j u) rest ∙ ap (λ u. u ++ take j (drop i piece)) x.taken ∙ append_assoc o.taken (take i piece) (take j (drop i piece)) ∙ ap (λ u. o.taken ++ u) (sym (take_sum i j piece));
+      before = y.before ∙ x.before;
     }
 
 pub taken_all : (o a b n : Decoding) (piece : List ℕ) (i j k : ℕ) → HasTaken o a piece i → HasTaken a b (left i piece) j → HasTaken b n (left (i + j) piece) k → HasTaken o n piece (i + j + k)

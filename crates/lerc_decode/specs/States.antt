@@ -1,14 +1,15 @@
 -- What a decoder answers.
-use Rattle.std.specs.Prelude.{◌≡◌, ℕ, ◌-◌, List, length, Result, Ok, Err}
+use Rattle.std.specs.Prelude.{◌≡◌, ℕ, ◌-◌, List, length, Option, Result, Ok, Err}
 use Rattle.raster_values.specs.Raster.{Pixels}
 use Rattle.lerc_header.specs.Head.{head_length}
-use Rattle.lerc_grammar.specs.Verdict.{FirstFault, IsDone, IsMore}
+use Rattle.lerc_grammar.specs.Mask.{Previous}
+use Rattle.lerc_grammar.specs.Verdict.{FirstFaultAfter, IsDoneAfter, IsMoreAfter}
 use Rattle.lerc_header.specs.declared.fault.BlobReason.TheVariants.{Truncated}
 use Rattle.lerc_decode.specs.declared.decoder.DecodeFault.{DecodeFault}
 use Rattle.lerc_decode.specs.declared.decoder.DecodeFault.TheVariants.{Blob as BlobOf, OutOfMemory as NoMemoryOf}
 use Rattle.lerc_decode.specs.declared.decoder.FedState.{FedState}
 use Rattle.lerc_decode.specs.declared.decoder.FedState.TheVariants.{More, Done, Refused, OutOfMemory}
-use Rattle.lerc_decode.specs.Decoding.{Stage, Key, Fields, Body, Whole, Wrong, NoMemory, HasHeader, IsLeast}
+use Rattle.lerc_decode.specs.Decoding.{Stage, Key, Fields, Body, Whole, Wrong, NoMemory, HasHeader, IsLeastAfter}
 
 abbrev pub state_at : Stage → FedState
 state_at Key = More
@@ -29,13 +30,15 @@ missing_at NoMemory n = 0
 
 -- the verdict on the bytes taken, and that no fewer bytes decide it; memory is wanted only behind a
 -- whole header
-abbrev pub IsTold : List ℕ → Stage → Type 0
-IsTold taken Key = IsMore taken
-IsTold taken (Fields v) = IsMore taken
-IsTold taken (Body h) = IsMore taken
-IsTold taken (Whole r) = IsDone taken r (length taken) × IsLeast taken
-IsTold taken (Wrong place reason) = FirstFault taken place reason × IsLeast taken
-IsTold taken NoMemory = HasHeader taken
+abbrev pub IsTold : Option Previous → List ℕ → Stage → Type 0
+IsTold before taken Key = IsMoreAfter before taken
+IsTold before taken (Fields v) = IsMoreAfter before taken
+IsTold before taken (Body h) = IsMoreAfter before taken
+IsTold before taken (Whole r) =
+    IsDoneAfter before taken r (length taken) × IsLeastAfter before taken
+IsTold before taken (Wrong place reason) =
+    FirstFaultAfter before taken place reason × IsLeastAfter before taken
+IsTold before taken NoMemory = HasHeader taken
 
 -- nothing more is decided
 abbrev pub HasStopped : Stage → Type 0

@@ -1,6 +1,6 @@
 //! The raster of a whole blob.
 
-ghost use Rattle.std.specs.Prelude.{◌≡◌, ◌≢◌, ◌≤◌, ◌*◌, ◌+◌, ◌-◌, ◌<◌, ◌^◌, IfOk, IfErr, OnOk, IfSome, IsTrue, ◌↔◌, All, length, take, drop, replicate};
+ghost use Rattle.std.specs.Prelude.{◌≡◌, ◌≢◌, ◌≤◌, ◌*◌, ◌+◌, ◌-◌, ◌<◌, ◌^◌, IfOk, IfErr, OnOk, IfSome, IsTrue, Option, Some, ◌↔◌, All, length, take, drop, replicate};
 ghost use Rattle.first_fault.specs.Faults.{moved};
 ghost use Rattle.raster_values.specs.PixelType.{InRange, bytes_of};
 ghost use Rattle.raster_values.specs.Raster.{IsRaster, IsShape, blank};
@@ -8,18 +8,19 @@ ghost use Rattle.raster_values.specs.Flat.{EachValid, marks_of};
 ghost use Rattle.raster_values.specs.Values.{AreValues};
 ghost use Rattle.lerc_header.specs.Head.{HeadAt, head_length};
 ghost use Rattle.lerc_header.specs.Checksum.{sum_of};
-ghost use Rattle.lerc_grammar.specs.Mask.{IsMask, count_of, mask_faults, mask_size, runs_faults};
+ghost use Rattle.lerc_grammar.specs.Mask.{IsMaskAfter, Previous, count_before, count_of, mask_faults, mask_size, runs_faults};
 ghost use Rattle.lerc_grammar.specs.Image.{sweep_faults, value_count};
-ghost use Rattle.lerc_grammar.specs.Blob.{Blob, blob_faults};
+ghost use Rattle.lerc_grammar.specs.Blob.{BlobAfter, blob_faults};
 ghost use Rattle.lerc_grammar.specs.Outline.{IsImageForm, IsMaskForm, image_place};
 ghost use Rattle.lerc_grammar.specs.declared.parts.ImageForm.{ImageForm};
 ghost use Rattle.lerc_decode.specs.inside.Blocks.{AreTopsOf, HasBoth, IsOneTop};
-ghost use Rattle.lerc_decode.specs.inside.Body.{HasHeadShape, HasSum, IsFilledWith, IsMarkedBy, IsMarkedFor, IsStopOf, IsSwept, KeepsMarks, ReadsImage};
+ghost use Rattle.lerc_decode.specs.inside.Body.{HasHeadShape, HasSum, IsFilledWith, IsMarkedBy, IsMarkedFor, IsMaskFormFor, IsStopOf, IsSwept, KeepsMarks, ReadsImage, marks_for};
 
+use crate::before::Before;
 use crate::blocks::pour_blocks;
 use crate::codes::{pour_deltas, pour_plain};
-use lerc_grammar::{ImageForm, MaskForm, image_part, mask_part};
-use lerc_header::{BlobFault, BlobReason, Header, Version, checksum};
+use lerc_grammar::{ImageForm, MaskForm, image_part, mask_part, place_behind};
+use lerc_header::{BlobFault, BlobReason, Header, Version, sum_behind};
 use mask_runs::read_runs;
 use raster_values::{PixelType, Raster};
 use std::alloc::Global;
@@ -133,25 +134,52 @@ fn mark_runs(
     mark_by(runs, place, header, &mut mask, raster)
 }
 
+/// How many pixels are valid in the raster before, where there is one of the header's rows and
+/// columns.
+fn counted_before(before: &Option<Before>, header: &Header) -> Option<u32>
+    ensures { result ≡ count_before (marks_for before.now header.now) }
+{
+    match before {
+        Some(before) => before.count_for(header),
+        None => None,
+    }
+}
+
+/// Makes the same pixels valid as in the raster before, which has the header's rows and columns.
+fn mark_as_before(before: &Option<Before>, header: &Header, raster: &mut Raster)
+    requires blank { raster.old
+        ≡ blank header.now.kind header.now.rows header.now.cols header.now.depth }
+    requires count { count_before (marks_for before.now header.now) ≡ Some header.now.valid }
+    ensures shape { HasHeadShape header.now raster.new }
+    ensures marks { marks_for before.now header.now ≡ Some (marks_of raster.new) }
+{
+    if let Some(before) = before {
+        before.mark(header, raster);
+    }
+}
+
 /// Makes the pixels valid that the mask says.
 fn read_mask(
     alloc: Global,
     blob: &[u8],
     header: &Header,
     form: &MaskForm,
+    before: &Option<Before>,
     raster: &mut Raster,
 ) -> Result<(), BodyStop>
     requires head { HeadAt blob.now header.now }
     requires size { length blob.now ≡ header.now.size }
-    requires form { IsMaskForm header.now blob.now form.now }
+    requires form { IsMaskFormFor before.now header.now blob.now form.now }
     requires blank { raster.old
         ≡ blank header.now.kind header.now.rows header.now.cols header.now.depth }
     ensures shape { HasHeadShape header.now raster.new }
-    ensures ok { OnOk result (IsMask (header.now.rows * header.now.cols) header.now.valid
+    ensures ok { OnOk result (IsMaskAfter (marks_for before.now header.now)
+        (header.now.rows * header.now.cols) header.now.valid
         (take (image_place header.now form.now - head_length header.now.version)
         (drop (head_length header.now.version) blob.now)) (marks_of raster.new)) }
     ensures fault { IfErr result (λ stop. IsStopOf (moved (head_length header.now.version)
-        (mask_faults (header.now.rows * header.now.cols) header.now.valid
+        (mask_faults (count_before (marks_for before.now header.now))
+        (header.now.rows * header.now.cols) header.now.valid
         (drop (head_length header.now.version) blob.now))) stop) }
 {
     match *form {
@@ -164,6 +192,10 @@ fn read_mask(
             let place = header.version.head_length() + 4;
             let runs = &blob[place..place + len as usize];
             mark_runs(alloc, runs, place, header, raster)
+        }
+        MaskForm::Previous => {
+            mark_as_before(before, header, raster);
+            Ok(())
         }
     }
 }
@@ -271,19 +303,6 @@ fn pour_sweep(
     raster.pour(sweep);
     note_sound(raster);
     Ok(())
-}
-
-/// The place behind a mask of this form.
-fn place_behind(header: &Header, mask: &MaskForm) -> usize
-    ensures value { result ≡ image_place header.now mask.now }
-    ensures few { result < 2 ^ 33 }
-{
-    let head = header.version.head_length() + 4;
-    match *mask {
-        MaskForm::Empty => head,
-        MaskForm::Full => head,
-        MaskForm::Runs { len, .. } => head + len as usize,
-    }
 }
 
 /// Whether all depths have the header's top.
@@ -444,78 +463,71 @@ fn read_image(
 }
 
 /// The form of the mask.
-fn mask_form(blob: &[u8], header: &Header) -> Result<MaskForm, BodyStop>
+fn mask_form(blob: &[u8], header: &Header, before: &Option<Before>) -> Result<MaskForm, BodyStop>
     requires head { HeadAt blob.now header.now }
     requires size { length blob.now ≡ header.now.size }
     requires sum { HasSum header.now blob.now }
-    ensures ok { IfOk result (λ form. IsMaskForm header.now blob.now form) }
-    ensures fault { IfErr result (λ stop. IsStopOf (blob_faults header.now blob.now) stop) }
+    ensures ok { IfOk result (λ form. IsMaskFormFor before.now header.now blob.now form) }
+    ensures fault { IfErr result (λ stop.
+        IsStopOf (blob_faults before.now header.now blob.now) stop) }
 {
-    match mask_part(blob, header) {
+    match mask_part(blob, header, counted_before(before, header)) {
         Ok(form) => Ok(form),
         Err(fault) => Err(BodyStop::Fault(fault)),
     }
 }
 
 /// A raster whose pixels are valid as the mask says.
-fn marked(alloc: Global, blob: &[u8], header: &Header, form: &MaskForm) -> Result<Raster, BodyStop>
+fn marked(
+    alloc: Global,
+    blob: &[u8],
+    header: &Header,
+    form: &MaskForm,
+    before: &Option<Before>,
+) -> Result<Raster, BodyStop>
     requires head { HeadAt blob.now header.now }
     requires size { length blob.now ≡ header.now.size }
     requires sum { HasSum header.now blob.now }
-    requires form { IsMaskForm header.now blob.now form.now }
-    ensures ok { IfOk result (λ r. IsMarkedFor header.now blob.now form.now r) }
-    ensures fault { IfErr result (λ stop. IsStopOf (blob_faults header.now blob.now) stop) }
+    requires form { IsMaskFormFor before.now header.now blob.now form.now }
+    ensures ok { IfOk result (λ r. IsMarkedFor before.now header.now blob.now form.now r) }
+    ensures fault { IfErr result (λ stop.
+        IsStopOf (blob_faults before.now header.now blob.now) stop) }
 {
     let Some(mut raster) = blank_raster(alloc, header) else {
         return Err(BodyStop::OutOfMemory);
     };
-    match read_mask(alloc, blob, header, form, &mut raster) {
+    match read_mask(alloc, blob, header, form, before, &mut raster) {
         Ok(()) => Ok(raster),
         Err(stop) => Err(stop),
     }
 }
 
-/// The form of the image, behind a mask that stands.
-fn image_form(
-    blob: &[u8],
-    header: &Header,
-    mask: &MaskForm,
-    raster: &Raster,
-) -> Result<ImageForm, BodyStop>
-    requires head { HeadAt blob.now header.now }
-    requires size { length blob.now ≡ header.now.size }
-    requires sum { HasSum header.now blob.now }
-    requires form { IsMaskForm header.now blob.now mask.now }
-    requires marked { IsMarkedFor header.now blob.now mask.now raster.now }
-    ensures ok { IfOk result (λ form. IsImageForm header.now blob.now mask.now form) }
-    ensures fault { IfErr result (λ stop. IsStopOf (blob_faults header.now blob.now) stop) }
-{
-    let _rows = raster.rows();
-    match image_part(blob, header, mask) {
-        Ok(form) => Ok(form),
-        Err(fault) => Err(BodyStop::Fault(fault)),
-    }
-}
-
-/// The raster with the values that the image says.
+/// The raster with the values that the image says, behind a mask that stands, whatever the raster
+/// before is.
 fn pictured(
     alloc: Global,
     blob: &[u8],
     header: &Header,
     mask: &MaskForm,
-    form: &ImageForm,
     mut raster: Raster,
 ) -> Result<Raster, BodyStop>
     requires head { HeadAt blob.now header.now }
     requires size { length blob.now ≡ header.now.size }
     requires sum { HasSum header.now blob.now }
     requires mask { IsMaskForm header.now blob.now mask.now }
-    requires form { IsImageForm header.now blob.now mask.now form.now }
-    requires marked { IsMarkedFor header.now blob.now mask.now raster }
-    ensures ok { IfOk result (λ r. Blob blob.now r) }
-    ensures fault { IfErr result (λ stop. IsStopOf (blob_faults header.now blob.now) stop) }
+    requires shape { HasHeadShape header.now raster }
+    requires valid { count_of (marks_of raster) ≡ header.now.valid }
+    ensures ok { IfOk result (λ r. (before : Option Previous) →
+        IsMarkedFor before header.now blob.now mask.now raster → BlobAfter before blob.now r) }
+    ensures fault { IfErr result (λ stop. (before : Option Previous) →
+        IsMarkedFor before header.now blob.now mask.now raster →
+        IsStopOf (blob_faults before header.now blob.now) stop) }
 {
-    match read_image(alloc, blob, header, mask, form, &mut raster) {
+    let form = match image_part(blob, header, mask) {
+        Ok(form) => form,
+        Err(fault) => return Err(BodyStop::Fault(fault)),
+    };
+    match read_image(alloc, blob, header, mask, &form, &mut raster) {
         Ok(()) => {
             note_sound(&raster);
             Ok(raster)
@@ -525,33 +537,36 @@ fn pictured(
 }
 
 /// The raster of a blob whose checksum stands.
-fn raster_of(alloc: Global, blob: &[u8], header: &Header) -> Result<Raster, BodyStop>
+fn raster_of(
+    alloc: Global,
+    blob: &[u8],
+    header: &Header,
+    before: &Option<Before>,
+) -> Result<Raster, BodyStop>
     requires head { HeadAt blob.now header.now }
     requires size { length blob.now ≡ header.now.size }
     requires sum { HasSum header.now blob.now }
-    ensures ok { IfOk result (λ r. Blob blob.now r) }
-    ensures fault { IfErr result (λ stop. IsStopOf (blob_faults header.now blob.now) stop) }
+    ensures ok { IfOk result (λ r. BlobAfter before.now blob.now r) }
+    ensures fault { IfErr result (λ stop.
+        IsStopOf (blob_faults before.now header.now blob.now) stop) }
 {
-    let mask = mask_form(blob, header)?;
-    let raster = marked(alloc, blob, header, &mask)?;
-    let image = image_form(blob, header, &mask, &raster)?;
-    pictured(alloc, blob, header, &mask, &image, raster)
+    let mask = mask_form(blob, header, before)?;
+    let raster = marked(alloc, blob, header, &mask, before)?;
+    pictured(alloc, blob, header, &mask, raster)
 }
 
-/// The checksum of a blob's bytes.
-fn sum_behind(blob: &[u8]) -> u32
-    requires { 14 ≤ length blob.now }
-    ensures { result ≡ sum_of (drop 14 blob.now) }
-{
-    checksum(&blob[14..])
-}
-
-/// The raster of a blob, or what is wrong with the blob first.
-pub(crate) fn body(alloc: Global, blob: &[u8], header: &Header) -> Result<Raster, BodyStop>
+/// The raster of a blob behind that of the raster before, or what is wrong with the blob first.
+pub(crate) fn body(
+    alloc: Global,
+    blob: &[u8],
+    header: &Header,
+    before: &Option<Before>,
+) -> Result<Raster, BodyStop>
     requires head { HeadAt blob.now header.now }
     requires size { length blob.now ≡ header.now.size }
-    ensures ok { IfOk result (λ r. Blob blob.now r) }
-    ensures fault { IfErr result (λ stop. IsStopOf (blob_faults header.now blob.now) stop) }
+    ensures ok { IfOk result (λ r. BlobAfter before.now blob.now r) }
+    ensures fault { IfErr result (λ stop.
+        IsStopOf (blob_faults before.now header.now blob.now) stop) }
 {
     let computed = sum_behind(blob);
     if header.checksum != computed {
@@ -563,5 +578,5 @@ pub(crate) fn body(alloc: Global, blob: &[u8], header: &Header) -> Result<Raster
             10,
         );
     }
-    raster_of(alloc, blob, header)
+    raster_of(alloc, blob, header, before)
 }

@@ -1,19 +1,21 @@
 //! The decoder.
 
-ghost use Rattle.std.specs.Prelude.{◌≡◌, ◌<◌, ◌≤◌, ◌+◌, ◌-◌, ◌*◌, ◌^◌, ◌++◌, ◌↔◌, min, max, [], length, take, vec_capacity, IsTrue, MatchBool};
+ghost use Rattle.std.specs.Prelude.{◌≡◌, ◌<◌, ◌≤◌, ◌+◌, ◌-◌, ◌*◌, ◌^◌, ◌++◌, ◌↔◌, min, max, [], length, take, vec_capacity, IfOk, IsTrue, MatchBool, None, Option, Some};
 ghost use Rattle.lerc_header.specs.Head.{HeadAt, head_length};
 ghost use Rattle.lerc_header.specs.HeadFaults.{HasKey, HasVersion};
+ghost use Rattle.lerc_grammar.specs.Mask.{Previous, previous_of};
 ghost use Rattle.lerc_decode.specs.Decoding.{Key, HasTaken, IsSame, IsStageOf};
 ghost use Rattle.lerc_decode.specs.inside.Steps.{StepsKey, StepsFields, StepsBody};
 ghost use Rattle.lerc_decode.specs.inside.Stages.{stage_of, KeepsHead, HasEnded};
 ghost use Rattle.lerc_decode.specs.States.{state_at, missing_at, IsTold, HasStopped, IsFinished, IsUsed};
 ghost use Rattle.lerc_decode.specs.inside.Steps.{UsesKey, UsesFields, UsesBody};
 
+use crate::before::Before;
 use crate::body::{BodyStop, body};
 use crate::front::{header_at, version_at};
 use lerc_header::{BlobFault, BlobReason, Header, Version};
 use raster_values::Raster;
-use std::alloc::Global;
+use std::alloc::{AllocError, Global};
 use std::marker::Model;
 
 /// Whether a blob is whole.
@@ -55,11 +57,12 @@ enum Progress {
 pub struct Decoder {
     alloc: Global,
     // The bytes taken, until the header is whole.
-    head: [u8; 70],
+    head: [u8; 66],
     have: usize,
     // The bytes taken, from the whole header on.
     blob: Vec<u8>,
     progress: Progress,
+    before: Option<Before>,
 }
 
 impl Model for Decoder {
@@ -76,9 +79,9 @@ impl Model for Decoder {
 
 /// Puts bytes of the piece behind those that are there, as many as are missing to `want`. Answers
 /// how many.
-fn fill(head: &mut [u8; 70], have: usize, want: usize, piece: &[u8]) -> usize
+fn fill(head: &mut [u8; 66], have: usize, want: usize, piece: &[u8]) -> usize
     requires have { have ≤ want }
-    requires want { want ≤ 70 }
+    requires want { want ≤ 66 }
     ensures used { result ≡ min (length piece.now) (want - have) }
     ensures room { length head.new ≡ length head.old }
     ensures bytes { take (have + result) head.new ≡ take have head.old ++ take result piece.now }
@@ -136,7 +139,7 @@ fn after_fields(version: Version, blob: &mut Vec<u8>, head: &[u8]) -> Progress
     requires version { HasVersion (take 10 head.now) version }
     requires empty { blob.old.items ≡ [] }
     ensures kept { KeepsHead result blob.new.items head.now }
-    ensures sound { IsStageOf head.now (stage_of result) }
+    ensures sound { (before : Option Previous) → IsStageOf before head.now (stage_of result) }
 {
     match header_at(version, head) {
         Ok(header) => match blob.extend_from_slice(head) {
@@ -148,13 +151,13 @@ fn after_fields(version: Version, blob: &mut Vec<u8>, head: &[u8]) -> Progress
 }
 
 /// What a whole blob is.
-fn after_body(alloc: Global, blob: &[u8], header: Header) -> Progress
+fn after_body(alloc: Global, blob: &[u8], header: Header, before: &Option<Before>) -> Progress
     requires head { HeadAt blob.now header }
     requires size { length blob.now ≡ header.size }
     ensures ended { HasEnded result }
-    ensures sound { IsStageOf blob.now (stage_of result) }
+    ensures sound { IsStageOf before.now blob.now (stage_of result) }
 {
-    match body(alloc, blob, &header) {
+    match body(alloc, blob, &header, before) {
         Ok(raster) => Progress::Done(raster),
         Err(BodyStop::Fault(fault)) => Progress::Refused(fault),
         Err(BodyStop::OutOfMemory) => Progress::OutOfMemory,
@@ -162,18 +165,39 @@ fn after_body(alloc: Global, blob: &[u8], header: Header) -> Progress
 }
 
 impl Decoder {
-    /// A decoder that has taken no byte.
+    /// A decoder that has taken no byte, of a blob with no raster before it.
     pub fn new(alloc: Global) -> Decoder
         ensures taken { result.taken ≡ [] }
         ensures stage { result.stage ≡ Key }
+        ensures before { result.before ≡ None }
     {
         Decoder {
             alloc,
-            head: [0; 70],
+            head: [0; 66],
             have: 0,
             blob: Vec::new(alloc),
             progress: Progress::Key,
+            before: None,
         }
+    }
+
+    /// A decoder that has taken no byte, of a blob behind that of this raster. It keeps which
+    /// pixels are valid, and none of the values.
+    pub fn after(alloc: Global, previous: &Raster) -> Result<Decoder, AllocError>
+        ensures taken { IfOk result (λ decoder. decoder.taken ≡ []) }
+        ensures stage { IfOk result (λ decoder. decoder.stage ≡ Key) }
+        ensures before { IfOk result (λ decoder.
+            decoder.before ≡ Some (previous_of previous.now)) }
+    {
+        let before = Before::of(alloc, previous)?;
+        Ok(Decoder {
+            alloc,
+            head: [0; 66],
+            have: 0,
+            blob: Vec::new(alloc),
+            progress: Progress::Key,
+            before: Some(before),
+        })
     }
 
     /// Takes bytes up to the version's end.
@@ -182,7 +206,7 @@ impl Decoder {
         ensures steps { StepsKey self.old.stage self.old self.new piece.now result }
         ensures exact { length piece.now ≤ missing_at self.old.stage (length self.old.taken)
             → UsesKey self.old.stage self.new.stage piece.now result }
-        ensures sound { IsStageOf self.new.taken self.new.stage }
+        ensures sound { IsStageOf self.new.before self.new.taken self.new.stage }
     {
         let Progress::Key = &self.progress else {
             return 0;
@@ -204,7 +228,7 @@ impl Decoder {
         ensures steps { StepsFields self.old.stage self.old self.new piece.now result }
         ensures exact { length piece.now ≤ missing_at self.old.stage (length self.old.taken)
             → UsesFields self.old.stage self.new.stage piece.now result }
-        ensures sound { IsStageOf self.new.taken self.new.stage }
+        ensures sound { IsStageOf self.new.before self.new.taken self.new.stage }
     {
         let Progress::Fields(version) = &self.progress else {
             return 0;
@@ -225,7 +249,7 @@ impl Decoder {
         ensures steps { StepsBody self.old.stage self.old self.new piece.now result }
         ensures exact { length piece.now ≤ missing_at self.old.stage (length self.old.taken)
             → UsesBody self.old.stage self.new.stage piece.now result }
-        ensures sound { IsStageOf self.new.taken self.new.stage }
+        ensures sound { IsStageOf self.new.before self.new.taken self.new.stage }
     {
         let Progress::Body(header) = &self.progress else {
             return 0;
@@ -238,7 +262,7 @@ impl Decoder {
             return 0;
         }
         if self.blob.len() == size {
-            self.progress = after_body(self.alloc, &self.blob, header);
+            self.progress = after_body(self.alloc, &self.blob, header, &self.before);
         }
         used
     }
@@ -246,7 +270,7 @@ impl Decoder {
     /// What is known of the bytes taken.
     pub fn state(&self) -> FedState
         ensures value { result ≡ state_at self.now.stage }
-        ensures sound { IsStageOf self.now.taken self.now.stage }
+        ensures sound { IsStageOf self.now.before self.now.taken self.now.stage }
     {
         match &self.progress {
             Progress::Key => FedState::More,
@@ -289,8 +313,8 @@ impl Decoder {
     pub fn feed(&mut self, piece: &[u8]) -> Fed
         ensures taken { HasTaken self.old self.new piece.now result.used }
         ensures state { result.state ≡ state_at self.new.stage }
-        ensures verdict { IsTold self.new.taken self.new.stage }
-        ensures sound { IsStageOf self.new.taken self.new.stage }
+        ensures verdict { IsTold self.new.before self.new.taken self.new.stage }
+        ensures sound { IsStageOf self.new.before self.new.taken self.new.stage }
         ensures exact { length piece.now ≤ missing_at self.old.stage (length self.old.taken)
             → IsUsed self.new.stage piece.now result.used }
         ensures whole { result.state ≡ FedState.More → result.used ≡ length piece.now }

@@ -39,14 +39,15 @@ fn feed_once<S: Source>(
     room: &mut [u8],
 ) -> Result<usize, Failed>
     requires short { length room.old ≤ missing_at decoder.old.stage (length decoder.old.taken) }
-    requires stands { IsStageOf decoder.old.taken decoder.old.stage }
+    requires stands { IsStageOf decoder.old.before decoder.old.taken decoder.old.stage }
     ensures counted { CountsFaults result (S.faults src.old) (S.faults src.new) }
     ensures fed { OnOk result (Follows decoder.new.stage
         (Joins (S.left src.old) (S.left src.new) decoder.old.taken decoder.new.taken)) }
     ensures begins { OnOk result (Begins (S.left src.old) decoder.old.taken decoder.new.taken) }
     ensures taken { TakesUpTo (missing_at decoder.old.stage (length decoder.old.taken))
         (S.left src.old) (S.left src.new) }
-    ensures stands { IsStageOf decoder.new.taken decoder.new.stage }
+    ensures stands { IsStageOf decoder.new.before decoder.new.taken decoder.new.stage }
+    ensures before { decoder.new.before ≡ decoder.old.before }
     ensures within { IfOk result (λ n. n ≤ length room.old) }
     ensures same { IfOk result (λ n. n ≡ 0 → decoder.new ≡ decoder.old) }
     ensures end { IfOk result (λ n. n ≡ 0 → (length room.old ≡ 0) ⊎ IsAtEnd (S.left src.new)) }
@@ -67,7 +68,8 @@ pub fn feed_from<S: Source>(src: &mut S, decoder: &mut Decoder) -> Result<(), Fa
         (Joins (S.left src.old) (S.left src.new) decoder.old.taken decoder.new.taken)) }
     ensures begins { OnOk result (Begins (S.left src.old) decoder.old.taken decoder.new.taken) }
     ensures taken { decoder.old.taken ≡ [] → TakesUpTo 134217728 (S.left src.old) (S.left src.new) }
-    ensures stands { IsStageOf decoder.new.taken decoder.new.stage }
+    ensures stands { IsStageOf decoder.new.before decoder.new.taken decoder.new.stage }
+    ensures before { decoder.new.before ≡ decoder.old.before }
     ensures end { OnOk result ((missing_at decoder.new.stage (length decoder.new.taken) ≡ 0)
         ⊎ IsAtEnd (S.left src.new)) }
 {

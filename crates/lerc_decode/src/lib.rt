@@ -1,6 +1,7 @@
 //! A decoder that takes a blob in pieces of any size.
 #![tactic(auto)]
 
+mod before;
 mod blocks;
 mod body;
 mod codes;

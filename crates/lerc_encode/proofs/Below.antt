@@ -23,12 +23,12 @@ use Rattle.huff_codes.specs.Words.{word_count}
 use Rattle.huff_codes.specs.Written.{run_lengths, table_head}
 use Rattle.huff_codes.proofs.ChosenTables.{run_low}
 use Rattle.delta_mode.specs.Deltas.{plain as plain_symbols}
-use Rattle.lerc_encode.specs.Codings.{code_lengths, coding_bytes, have_codes, number_of, shortest_run, symbol_codes, table_bytes, table_codes, word_in_front, words_of}
+use Rattle.lerc_encode.specs.Codings.{code_lengths, coding_bytes, have_codes, bits_number, shortest_run, symbol_codes, code_table_bytes, table_codes, word_in_front, filled_words}
 use Rattle.lerc_encode.specs.Heads.{header_of}
-use Rattle.lerc_encode.specs.Ranges.{front_bytes, greatests, is_bare, is_level, leasts}
+use Rattle.lerc_encode.specs.Ranges.{lists_bytes, greatests, has_equal_ranges, is_constant, is_empty, leasts}
 use Rattle.lerc_encode.specs.Masks.{are_alike, mask_part, mask_runs_of, packed}
-use Rattle.lerc_encode.specs.Images.{Form, sweep, blocks_8, blocks_16, delta, plain, bare, level, coded, all_deltas, blocks_bytes, chosen_form, ending, form_bytes, has_mode, image_bytes, is_v4, mode_bytes}
-use Rattle.lerc_encode.specs.Choice.{behind_head, checksum_of, header_with}
+use Rattle.lerc_encode.specs.Images.{CodedForm, sweep, blocks_8, blocks_16, delta, plain, empty, constant, ranges, coded, all_deltas, blocks_bytes, chosen_coded_form, ending, coded_form_bytes, has_mode, image_bytes, is_v4, mode_bytes}
+use Rattle.lerc_encode.specs.Choice.{mask_and_image, checksum_of, header_with}
 use Rattle.lerc_encode.proofs.Packing.{packed_below}
 use Rattle.lerc_encode.proofs.TableBytes.{used_of}
 use Rattle.lerc_encode.proofs.Standing.{MayBe}
@@ -39,20 +39,20 @@ use Rattle.lerc_encode.proofs.BlocksBelow.{blocks_below, joined, little, simple_
 
 -- ---- code words
 
-words_below : (n : ℕ) (bits : List Bool) → AreBelow (words_of n bits)
-unfolding words_of
+words_below : (n : ℕ) (bits : List Bool) → AreBelow (filled_words n bits)
+unfolding filled_words
 words_below zero bits = tt
 words_below (suc n) bits =
-    joined (little_bytes 4 (number_of (word_in_front bits))) (words_of n (drop 32 bits)) (little 4 (number_of (word_in_front bits))) (words_below n (drop 32 bits))
+    joined (little_bytes 4 (bits_number (word_in_front bits))) (filled_words n (drop 32 bits)) (little 4 (bits_number (word_in_front bits))) (words_below n (drop 32 bits))
 
-table_below : (lengths : List ℕ) → AreLengths lengths → AreBelow (table_bytes lengths)
-unfolding table_bytes
+table_below : (lengths : List ℕ) → AreLengths lengths → AreBelow (code_table_bytes lengths)
+unfolding code_table_bytes
 table_below lengths are =
     let run = shortest_run lengths in
     let list = run_lengths lengths run in
     let low : All (λ v. v < 2 ^ 6) list = λ k d lt. (let le = run_low lengths run are k d lt in omega (arith, le)) in
     let narrow = width_of-le 6 list low in
-    let words = words_of (word_count (length (table_codes lengths))) (table_codes lengths) in
+    let words = filled_words (word_count (length (table_codes lengths))) (table_codes lengths) in
     joined (table_head run) (simple_bytes list ++ words)
     (joined (little_bytes 4 4) (little_bytes 4 256 ++ (little_bytes 4 run.first ++ little_bytes 4 (run.first + run.count))) (little 4 4)
     (joined (little_bytes 4 256) (little_bytes 4 run.first ++ little_bytes 4 (run.first + run.count)) (little 4 256)
@@ -63,7 +63,7 @@ coding_below : (symbols : List ℕ) → have_codes symbols ≡ true → AreBelow
 unfolding coding_bytes
 coding_below symbols has =
     let n = word_count (length (symbol_codes symbols)) + 1 in
-    joined (table_bytes (code_lengths symbols)) (words_of n (symbol_codes symbols)) (table_below (code_lengths symbols) (used_of symbols has).lengths) (words_below n (symbol_codes symbols))
+    joined (code_table_bytes (code_lengths symbols)) (filled_words n (symbol_codes symbols)) (table_below (code_lengths symbols) (used_of symbols has).lengths) (words_below n (symbol_codes symbols))
 
 -- ---- the mask
 
@@ -95,7 +95,7 @@ mask_below marks = joined (little_bytes 4 (length (if are_alike marks then [] el
 
 -- ---- the image
 
-front_below : (r : Pixels) (version : Version) → AreBelow (front_bytes r version)
+front_below : (r : Pixels) (version : Version) → AreBelow (lists_bytes r version)
 front_below r V3 = tt
 front_below r V4 = values_below r.kind (leasts r ++ greatests r)
 
@@ -106,8 +106,8 @@ mode_below r step = by (has_mode r step)
     by true = (omega arith, tt)
     by false = tt
 
-form_below : (r : Pixels) (version : Version) (step : ℕ) (form : Form) → MayBe r version step form → AreBelow (form_bytes r version step form)
-unfolding form_bytes
+form_below : (r : Pixels) (version : Version) (step : ℕ) (form : CodedForm) → MayBe r version step form → AreBelow (coded_form_bytes r version step form)
+unfolding coded_form_bytes
 form_below r version step sweep may = (omega arith, values_below r.kind (values_of r.pixels))
 form_below r version step blocks_8 may =
     (omega arith, joined (mode_bytes r step) (blocks_bytes (header_of r version step 8 0 0) r) (mode_below r step) (blocks_below (header_of r version step 8 0 0) r))
@@ -120,16 +120,17 @@ form_below r version step plain may =
 
 image_below : (r : Pixels) (version : Version) (step : ℕ) → AreBelow (image_bytes r version step (ending r version step))
 unfolding ending
-image_below r version step = by (is_bare r) (is_v4 version && is_level r)
+image_below r version step = by (is_empty r) (is_constant r) (is_v4 version && has_equal_ranges r)
   where
-    by : (b c : Bool) → AreBelow (image_bytes r version step (if b then bare else (if c then level else coded (chosen_form r version step))))
-    by true c = tt
-    by false true = front_below r version
-    by false false =
-        joined (front_bytes r version) (form_bytes r version step (chosen_form r version step)) (front_below r version) (form_below r version step (chosen_form r version step) (chosen_may r version step))
+    by : (b d c : Bool) → AreBelow (image_bytes r version step (if b then empty else (if d then constant else (if c then ranges else coded (chosen_coded_form r version step)))))
+    by true d c = tt
+    by false true c = tt
+    by false false true = front_below r version
+    by false false false =
+        joined (lists_bytes r version) (coded_form_bytes r version step (chosen_coded_form r version step)) (front_below r version) (form_below r version step (chosen_coded_form r version step) (chosen_may r version step))
 
-behind_below : (r : Pixels) (version : Version) (step : ℕ) → AreBelow (behind_head r version step)
-unfolding behind_head
+behind_below : (r : Pixels) (version : Version) (step : ℕ) → AreBelow (mask_and_image r version step)
+unfolding mask_and_image
 behind_below r version step =
     joined (mask_part (marks_of r)) (image_bytes r version step (ending r version step)) (mask_below (marks_of r)) (image_below r version step)
 
@@ -158,5 +159,5 @@ pub checksum_below : (r : Pixels) (version : Version) (step : ℕ) → checksum_
 unfolding checksum_of
 checksum_below r version step =
     let h = header_with r version step 0 in
-    let bytes = subst AreBelow (sym (covered r version step 0)) (joined (field_bytes h) (behind_head r version step) (fields_below h) (behind_below r version step)) in
-    sum_below (drop 14 (head_bytes h ++ behind_head r version step)) bytes
+    let bytes = subst AreBelow (sym (covered r version step 0)) (joined (field_bytes h) (mask_and_image r version step) (fields_below h) (behind_below r version step)) in
+    sum_below (drop 14 (head_bytes h ++ mask_and_image r version step)) bytes

@@ -4,7 +4,7 @@ use Rattle.std.specs.Prelude.{ℤ, slice_index, nat_le, not, ◌&&◌, if◌then
 use Rattle.std.specs.List.{range_with_len}
 use Rattle.std.proofs.lemmas.Bool.{leb-true, ltb-true}
 use Rattle.byteorder.specs.Endian.{little_bytes}
-use Rattle.bit_stuff.specs.Head.{chosen_code, count_size, head_bytes, table_flag}
+use Rattle.bit_stuff.specs.Head.{chosen_code, count_size, list_head_bytes, table_flag}
 use Rattle.bit_stuff.specs.Simple.{binary_digits, greatest_number, simple_bytes, width_of}
 use Rattle.bit_stuff.specs.Stuffed.{number_of_values, stuffed_bytes, stuffed_size}
 use Rattle.bit_stuff.proofs.Digits.{digits-le}
@@ -19,8 +19,7 @@ use Rattle.raster_values.specs.Raster.{Pixels}
 use Rattle.raster_values.proofs.Every.{Every, every_append, every_flat_map}
 use Rattle.lerc_header.specs.declared.header.Header.{Header}
 use Rattle.micro_block.specs.Choice as choice
-use Rattle.micro_block.specs.Choice.{Form, block_bytes, chosen_form, form_bytes, holds, is_flat, is_stuffable, least_value, narrow_type, narrowest, offset_bytes, quantised_values, tag_byte}
-use Rattle.micro_block.specs.inside.Forms.{May}
+use Rattle.micro_block.specs.Choice.{Form, May, block_bytes, chosen_form, form_bytes, holds, is_flat, is_stuffable, least_value, narrow_type, narrowest, offset_bytes, quantised_values, tag_byte}
 use Rattle.micro_block.proofs.Written.{chosen_may, left, right}
 use Rattle.lerc_grammar.specs.Blocks.{block_col, coded_blocks, coded_values}
 use Rattle.lerc_encode.specs.Images.{blocks_bytes, coded_bytes}
@@ -50,8 +49,8 @@ flag_low : (table : Bool) → table_flag table ≤ 1
 flag_low true = omega arith
 flag_low false = omega arith
 
-head_below : (w : ℕ) (table : Bool) (n : ℕ) → w < 32 → AreBelow (head_bytes w table n)
-unfolding head_bytes
+head_below : (w : ℕ) (table : Bool) (n : ℕ) → w < 32 → AreBelow (list_head_bytes w table n)
+unfolding list_head_bytes
 head_below w table n low =
     (let code = chosen_code-lt n in let flag = flag_low table in omega (arith, low, code, flag), little (count_size (chosen_code n)) n)
 
@@ -62,14 +61,14 @@ stuffed_below w xs = little (stuffed_size (length xs) w) (number_of_values w xs)
 pub simple_below : (xs : List ℕ) → width_of xs < 32 → AreBelow (simple_bytes xs)
 unfolding simple_bytes
 simple_below xs low =
-    joined (head_bytes (width_of xs) false (length xs)) (stuffed_bytes (width_of xs) xs) (head_below (width_of xs) false (length xs) low) (stuffed_below (width_of xs) xs)
+    joined (list_head_bytes (width_of xs) false (length xs)) (stuffed_bytes (width_of xs) xs) (head_below (width_of xs) false (length xs) low) (stuffed_below (width_of xs) xs)
 
 table_below : (xs : List ℕ) → width_of xs < 32 → distinct_above_0 xs ≤ 254 → AreBelow (table_bytes xs)
 unfolding table_bytes
 table_below xs low few =
     let entries = stuffed_bytes (width_of xs) (entries_of xs) in
     let indexes = stuffed_bytes (binary_digits (distinct_above_0 xs)) (map (index_in (entries_of xs)) xs) in
-    joined (head_bytes (width_of xs) true (length xs)) ((distinct_above_0 xs + 1) ∷ (entries ++ indexes)) (head_below (width_of xs) true (length xs) low)
+    joined (list_head_bytes (width_of xs) true (length xs)) ((distinct_above_0 xs + 1) ∷ (entries ++ indexes)) (head_below (width_of xs) true (length xs) low)
     (omega (arith, few), joined entries indexes (stuffed_below (width_of xs) (entries_of xs)) (stuffed_below (binary_digits (distinct_above_0 xs)) (map (index_in (entries_of xs)) xs)))
 
 -- ---- blocks

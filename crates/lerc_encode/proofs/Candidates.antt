@@ -11,7 +11,7 @@ use Rattle.micro_block.proofs.Fewest.{At, at_first}
 use Rattle.micro_block.proofs.Steps.{by_sizes, sized}
 use Rattle.lerc_encode.specs.Codings.{coding_bytes, have_codes}
 use Rattle.lerc_encode.specs.Images as images
-use Rattle.lerc_encode.specs.Images.{Form, blocks_bytes, mode_bytes, form_bytes, forms, chosen_form, all_deltas, may_be_delta, may_be_plain}
+use Rattle.lerc_encode.specs.Images.{CodedForm, blocks_bytes, mode_bytes, coded_form_bytes, coded_forms, chosen_coded_form, all_deltas, may_be_delta, may_be_plain}
 use Rattle.lerc_encode.specs.inside.Coded.{AreCodings, AreSymbols, HasSymbols, IsLying}
 use Rattle.lerc_encode.specs.inside.Choosing.{IsBase, IsChosen, named, form_at}
 use Rattle.lerc_encode.specs.inside.Blocked.{IsMeasured}
@@ -28,12 +28,12 @@ some_same : {A : Type 0} (x y : A) → Some x ≡ Some y → x ≡ y
 some_same x y e = cc
 
 -- how many bytes a form takes
-abbrev pub size_of : Pixels → Version → ℕ → Form → ℕ
-size_of r version step form = length (form_bytes r version step form)
+abbrev pub size_of : Pixels → Version → ℕ → CodedForm → ℕ
+size_of r version step form = length (coded_form_bytes r version step form)
 
 -- ---- a form that is taken may be taken
 
-may_there : (r : Pixels) (version : Version) (step i : ℕ) (form : Form) → get_or (forms r version step) i None ≡ Some form → MayBe r version step form
+may_there : (r : Pixels) (version : Version) (step i : ℕ) (form : CodedForm) → get_or (coded_forms r version step) i None ≡ Some form → MayBe r version step form
 may_there r version step zero form e = subst (MayBe r version step) (some_same images.sweep form e) tt
 may_there r version step (suc zero) form e = subst (MayBe r version step) (some_same images.blocks_8 form e) tt
 may_there r version step (suc (suc zero)) form e = subst (MayBe r version step) (some_same images.blocks_16 form e) tt
@@ -49,17 +49,17 @@ may_there r version step (suc (suc (suc (suc zero)))) form e = by (may_be_plain 
     by false h same = absurd (cc)
 may_there r version step (suc (suc (suc (suc (suc i))))) form e = absurd (cc)
 
-pub chosen_may : (r : Pixels) (version : Version) (step : ℕ) → MayBe r version step (chosen_form r version step)
-unfolding chosen_form
-chosen_may r version step = by (first_least (size_of r version step) (forms r version step)) (at_first (size_of r version step) (forms r version step))
+pub chosen_may : (r : Pixels) (version : Version) (step : ℕ) → MayBe r version step (chosen_coded_form r version step)
+unfolding chosen_coded_form
+chosen_may r version step = by (first_least (size_of r version step) (coded_forms r version step)) (at_first (size_of r version step) (coded_forms r version step))
   where
-    by : (taken : Option Form) → At (forms r version step) taken → MayBe r version step (unwrap_or taken images.sweep)
+    by : (taken : Option CodedForm) → At (coded_forms r version step) taken → MayBe r version step (unwrap_or taken images.sweep)
     by None h = tt
     by (Some form) h = may_there r version step h.0 form h.1
 
 -- ---- the lengths
 
-coded_size : (r : Pixels) (version : Version) (step : ℕ) (Lie : Type 0) (wanted : Bool) (symbols : List ℕ) (s : Symbols) (form : Form) → AreSymbols Lie wanted symbols s → size_of r version step form ≡ 2 + length (coding_bytes symbols)
+coded_size : (r : Pixels) (version : Version) (step : ℕ) (Lie : Type 0) (wanted : Bool) (symbols : List ℕ) (s : Symbols) (form : CodedForm) → AreSymbols Lie wanted symbols s → size_of r version step form ≡ 2 + length (coding_bytes symbols)
     → option_map (λ c. c.size + 2) s.coding ≡ option_map (size_of r version step) (allowed (wanted && have_codes symbols) form)
 coded_size r version step Lie wanted symbols s form are long = by s.coding are
   where
@@ -72,28 +72,28 @@ coded_size r version step Lie wanted symbols s form are long = by s.coding are
 
 pub delta_size : (r : Pixels) (version : Version) (step : ℕ) (c : Codings) → AreCodings r version step c
     → option_map (λ x. x.size + 2) c.deltas.coding ≡ option_map (size_of r version step) (allowed (may_be_delta r step) images.delta)
-unfolding form_bytes
+unfolding coded_form_bytes
 delta_size r version step c are = coded_size r version step ⊥ (images.has_mode r step) (all_deltas r) c.deltas images.delta are.deltas (omega arith)
 
 pub plain_size : (r : Pixels) (version : Version) (step : ℕ) (c : Codings) → AreCodings r version step c
     → option_map (λ x. x.size + 2) c.plains.coding ≡ option_map (size_of r version step) (allowed (may_be_plain r version step) images.plain)
-unfolding form_bytes
+unfolding coded_form_bytes
 plain_size r version step c are = coded_size r version step (IsLying r) (images.has_mode r step && images.is_v4 version) (plain_symbols r) c.plains images.plain are.plains (omega arith)
 
 -- ---- the bytes
 
-pub delta_is : (r : Pixels) (version : Version) (step : ℕ) → 0 ∷ 1 ∷ coding_bytes (all_deltas r) ≡ form_bytes r version step images.delta
-unfolding form_bytes
+pub delta_is : (r : Pixels) (version : Version) (step : ℕ) → 0 ∷ 1 ∷ coding_bytes (all_deltas r) ≡ coded_form_bytes r version step images.delta
+unfolding coded_form_bytes
 delta_is r version step = refl
 
-pub plain_is : (r : Pixels) (version : Version) (step : ℕ) → 0 ∷ 2 ∷ coding_bytes (plain_symbols r) ≡ form_bytes r version step images.plain
-unfolding form_bytes
+pub plain_is : (r : Pixels) (version : Version) (step : ℕ) → 0 ∷ 2 ∷ coding_bytes (plain_symbols r) ≡ coded_form_bytes r version step images.plain
+unfolding coded_form_bytes
 plain_is r version step = refl
 
 -- ---- the choice
 
 -- the form at a place where there is one
-placed : (r : Pixels) (version : Version) (step k n : ℕ) → option_map (size_of r version step) (get_or (forms r version step) k None) ≡ Some n → get_or (forms r version step) k None ≡ Some (named (form_at k))
+placed : (r : Pixels) (version : Version) (step k n : ℕ) → option_map (size_of r version step) (get_or (coded_forms r version step) k None) ≡ Some n → get_or (coded_forms r version step) k None ≡ Some (named (form_at k))
 placed r version step zero n e = refl
 placed r version step (suc zero) n e = refl
 placed r version step (suc (suc zero)) n e = refl
@@ -231,27 +231,27 @@ pub few_of : (limit : ℕ) (h : Header) (r : Pixels) (found : Option Measured) �
 few_of limit h r None is = tt
 few_of limit h r (Some m) is = is.few
 
-pub measured_here : (h g : Header) (r : Pixels) (form : Form) (named_form : Form) (found : Option Measured) → MatchOption found (named_form ≡ form → ⊥) (IsMeasured g r) → named_form ≡ form → h ≡ g → MatchOption found ⊥ (IsMeasured h r)
+pub measured_here : (h g : Header) (r : Pixels) (form : CodedForm) (named_form : CodedForm) (found : Option Measured) → MatchOption found (named_form ≡ form → ⊥) (IsMeasured g r) → named_form ≡ form → h ≡ g → MatchOption found ⊥ (IsMeasured h r)
 measured_here h g r form named_form None is at e = absurd (is at)
 measured_here h g r form named_form (Some m) is at e = subst (λ (x : Header). IsMeasured x r m) (sym e) is
 
 pub chosen_is : (r : Pixels) (version : Version) (step front a b8 b16 most most16 : ℕ) (small large : Option Measured) (d e : Option ℕ) (us : List (Option ℕ)) (first : Option (ℕ × ℕ)) (p : ℕ × ℕ) (f : ValueForm) (codings : Codings)
     → AreFound front a b8 b16 most most16 small large d e → us ≡ Some a ∷ measured_len front small ∷ measured_len front large ∷ d ∷ e ∷ []
-    → Some a ∷ Some (1 + front + b8) ∷ Some (1 + front + b16) ∷ d ∷ e ∷ [] ≡ map (option_map (size_of r version step)) (forms r version step) → a ≤ 67108865
+    → Some a ∷ Some (1 + front + b8) ∷ Some (1 + front + b16) ∷ d ∷ e ∷ [] ≡ map (option_map (size_of r version step)) (coded_forms r version step) → a ≤ 67108865
     → MatchOption first ((i n : ℕ) → get_or us i None ≡ Some n → ⊥) (λ q. IsFirstLeast (λ m. m) us q.0 q.1) → p ≡ unwrap_or first (0, 0)
     → f ≡ form_at p.0 → AreCodings r version step codings → MatchOption small Unit (IsMeasured (header_of r version step 8 0 0) r) → MatchOption large Unit (IsMeasured (header_of r version step 16 0 0) r)
     → IsChosen r version step (record { form = f; size = p.1; codings = codings; small = small; large = large })
-unfolding chosen_form
+unfolding chosen_coded_form
 chosen_is r version step front a b8 b16 most most16 small large d e us None p f codings found same is few none at form are small_are large_are = absurd (none 0 a (ap (λ (xs : List (Option ℕ)). get_or xs 0 None) same))
 chosen_is r version step front a b8 b16 most most16 small large d e us (Some q) p f codings found same is few first_is at form_is are small_are large_are =
     let size = size_of r version step in
     let here = subst (λ (xs : List (Option ℕ)). IsFirstLeast (λ m. m) xs q.0 q.1) same first_is in
     let first = whole_least (sizes_found front a small large d e) (all_sizes front a b8 b16 d e) q.0 q.1 (found_part front a b8 b16 most most16 small large d e found) here in
-    let known : option_map size (get_or (forms r version step) q.0 None) ≡ Some q.1 = sym (sized size (forms r version step) q.0) ∙ ap (λ (xs : List (Option ℕ)). get_or xs q.0 None) (sym is) ∙ first.there in
+    let known : option_map size (get_or (coded_forms r version step) q.0 None) ≡ Some q.1 = sym (sized size (coded_forms r version step) q.0) ∙ ap (λ (xs : List (Option ℕ)). get_or xs q.0 None) (sym is) ∙ first.there in
     let there = placed r version step q.0 q.1 known in
-    let taken : first_least size (forms r version step) ≡ Some (named (form_at q.0)) = by_sizes size (forms r version step) q.0 q.1 (named (form_at q.0)) there (subst (λ (xs : List (Option ℕ)). IsFirstLeast (λ m. m) xs q.0 q.1) is first) in
+    let taken : first_least size (coded_forms r version step) ≡ Some (named (form_at q.0)) = by_sizes size (coded_forms r version step) q.0 q.1 (named (form_at q.0)) there (subst (λ (xs : List (Option ℕ)). IsFirstLeast (λ m. m) xs q.0 q.1) is first) in
     let placed_form : named f ≡ named (form_at q.0) = ap named (form_is ∙ ap (λ (x : ℕ × ℕ). form_at x.0) at) in
-    let form : named f ≡ unwrap_or (first_least size (forms r version step)) images.sweep = placed_form ∙ ap (λ x. unwrap_or x images.sweep) (sym taken) in
+    let form : named f ≡ unwrap_or (first_least size (coded_forms r version step)) images.sweep = placed_form ∙ ap (λ x. unwrap_or x images.sweep) (sym taken) in
     let long : q.1 ≡ size (named (form_at q.0)) = some_same q.1 (size (named (form_at q.0))) (sym known ∙ ap (option_map size) there) in
     let low = first.least 0 a refl in
     let second : p.1 ≡ q.1 = ap (λ (x : ℕ × ℕ). x.1) at in

@@ -25,31 +25,32 @@ use Rattle.lerc_header.proofs.WrittenHeads.{length-head, drop-head, head_stands,
 use Rattle.micro_block.specs.Choice as micro
 use Rattle.micro_block.specs.Near.{IsNear}
 use Rattle.micro_block.proofs.Fewest.{is_first_least, IsTaken}
-use Rattle.lerc_grammar.specs.Mask.{IsMask, alike, mixed, count_of, IsAlike}
+use Rattle.lerc_grammar.specs.Mask.{IsMask, alike, mixed, previous, count_of, IsAlike}
 use Rattle.lerc_grammar.specs.Image.{IsImage}
 use Rattle.lerc_grammar.specs.Near.{Near}
 use Rattle.lerc_grammar.specs.Blob.{Blob, BlobParts, IsJoinOf, IsHeadOf}
 use Rattle.lerc_grammar.proofs.Blobs.{one_raster}
-use Rattle.lerc_encode.specs.Ranges.{greatest_value, front_bytes, is_bare, is_level}
+use Rattle.lerc_encode.specs.Ranges.{greatest_value, lists_bytes, has_equal_ranges, is_constant, is_empty}
 use Rattle.lerc_encode.specs.Masks.{packed, are_alike, mask_runs_of, mask_part}
 use Rattle.lerc_encode.specs.Heads.{header_of}
-use Rattle.lerc_encode.specs.Images.{Form, sweep, blocks_8, blocks_16, delta, plain, is_v4, Ending, bare, level, coded, side_at, image_bytes, form_bytes, forms, chosen_form, ending}
-use Rattle.lerc_encode.specs.Choice.{behind_head, header_with, checksum_of, choice}
-use Rattle.lerc_encode.specs.Encoded.{Declares, IsAsked, IsEncodedOnce}
+use Rattle.lerc_encode.specs.Images.{CodedForm, sweep, blocks_8, blocks_16, delta, plain, is_v4, Ending, empty, constant, ranges, coded, side_at, image_bytes, coded_form_bytes, coded_forms, chosen_coded_form, ending}
+use Rattle.lerc_encode.specs.Choice.{mask_and_image, header_with, checksum_of, chosen_blob}
+use Rattle.lerc_encode.specs.Encoded.{Declares, IsEncodedOnce}
+use Rattle.lerc_encode.specs.inside.Asked.{IsAsked}
 use Rattle.lerc_encode.specs.inside.Suits.{IsBeside}
 use Rattle.lerc_encode.proofs.Extremes.{in_order, no_values, all_least_fits, all_greatest_fits}
 use Rattle.lerc_encode.proofs.Packing.{count_marks, long_marks, mask_few, alike_runs, mixed_runs, packed_bits, packed_below, length_packed, all_off, all_on}
 use Rattle.lerc_encode.proofs.Forming.{length_front, length_sweep}
 use Rattle.lerc_encode.proofs.Candidates.{chosen_may}
-use Rattle.lerc_encode.proofs.Endings.{ImageStands, bare_stands, level_stands, coded_stands}
+use Rattle.lerc_encode.proofs.Endings.{ImageStands, empty_stands, constant_stands, ranges_stands, coded_stands}
 
 -- ---- the length of the image
 
-pub chosen_few : (r : Pixels) (version : Version) (step : ℕ) → length (form_bytes r version step (chosen_form r version step)) ≤ length (form_bytes r version step sweep)
-unfolding chosen_form
-chosen_few r version step = few _ (is_first_least (λ form. length (form_bytes r version step form)) (forms r version step))
+pub chosen_few : (r : Pixels) (version : Version) (step : ℕ) → length (coded_form_bytes r version step (chosen_coded_form r version step)) ≤ length (coded_form_bytes r version step sweep)
+unfolding chosen_coded_form
+chosen_few r version step = few _ (is_first_least (λ form. length (coded_form_bytes r version step form)) (coded_forms r version step))
   where
-    few : (taken : Option Form) → IsTaken (λ form. length (form_bytes r version step form)) (forms r version step) taken → length (form_bytes r version step (unwrap_or taken sweep)) ≤ length (form_bytes r version step sweep)
+    few : (taken : Option CodedForm) → IsTaken (λ form. length (coded_form_bytes r version step form)) (coded_forms r version step) taken → length (coded_form_bytes r version step (unwrap_or taken sweep)) ≤ length (coded_form_bytes r version step sweep)
     few None h = omega arith
     few (Some form) h = h.1.least 0 sweep refl
 
@@ -62,8 +63,8 @@ by_four n m k h low =
 pub valid_few : (r : Pixels) → IsRaster r → valid_count r ≤ r.rows * r.cols
 valid_few r is = let most : valid_count r ≤ length r.pixels = count_by-le-length is_some r.pixels in let places = is.places in omega (arith, most, places)
 
-sweep_few : (r : Pixels) → IsRaster r → (version : Version) (step : ℕ) → length (form_bytes r version step sweep) ≤ 67108865
-unfolding form_bytes
+sweep_few : (r : Pixels) → IsRaster r → (version : Version) (step : ℕ) → length (coded_form_bytes r version step sweep) ≤ 67108865
+unfolding coded_form_bytes
 sweep_few r is version step =
     let size = length_sweep r is (valid_count r) r.depth (bytes_of r.kind) refl refl refl in
     let more = mul-le-mul_right r.depth (valid_few r is) in
@@ -71,7 +72,7 @@ sweep_few r is version step =
     let b = by_four (valid_count r * r.depth) 16777216 (bytes_of r.kind) (omega (arith, more, all)) (few_bytes r.kind) in
     omega (arith, size, b)
 
-front_few : (r : Pixels) → IsRaster r → (version : Version) → length (front_bytes r version) ≤ 524288
+front_few : (r : Pixels) → IsRaster r → (version : Version) → length (lists_bytes r version) ≤ 524288
 front_few r is V3 = omega arith
 front_few r is V4 =
     let size = length_front r in
@@ -85,17 +86,18 @@ record Ends (r : Pixels) (version : Version) (step size sum : ℕ) (e : Ending) 
 
 chosen_ends : (r : Pixels) → IsRaster r → (version : Version) (step size sum : ℕ) → 0 < step → Ends r version step size sum (ending r version step)
 unfolding ending
-chosen_ends r is version step size sum some = by (is_bare r) refl (is_v4 version && is_level r) refl
+chosen_ends r is version step size sum some = by (is_empty r) refl (is_constant r) refl (is_v4 version && has_equal_ranges r) refl
   where
-    by : (b : Bool) → is_bare r ≡ b → (c : Bool) → (is_v4 version && is_level r) ≡ c → Ends r version step size sum (if b then bare else (if c then level else coded (chosen_form r version step)))
-    by true h c k = record { few = omega arith; stands = bare_stands r is version step size sum h }
-    by false h true k = record { few = let f = front_few r is version in omega (arith, f); stands = level_stands r is version step size sum h k }
-    by false h false k =
+    by : (b : Bool) → is_empty r ≡ b → (d : Bool) → is_constant r ≡ d → (c : Bool) → (is_v4 version && has_equal_ranges r) ≡ c → Ends r version step size sum (if b then empty else (if d then constant else (if c then ranges else coded (chosen_coded_form r version step))))
+    by true h d l c k = record { few = omega arith; stands = empty_stands r is version step size sum h }
+    by false h true l c k = record { few = omega arith; stands = constant_stands r is version step size sum h l }
+    by false h false l true k = record { few = let f = front_few r is version in omega (arith, f); stands = ranges_stands r is version step size sum h l k }
+    by false h false l false k =
         let front = front_few r is version in
         let form = chosen_few r version step in
         let most = sweep_few r is version step in
-        let joined : length (front_bytes r version ++ form_bytes r version step (chosen_form r version step)) ≡ length (front_bytes r version) + length (form_bytes r version step (chosen_form r version step)) = length-append (front_bytes r version) (form_bytes r version step (chosen_form r version step)) in
-        record { few = omega (arith, front, form, most, joined); stands = coded_stands r is version step size sum some h k (chosen_form r version step) (chosen_may r version step) }
+        let joined : length (lists_bytes r version ++ coded_form_bytes r version step (chosen_coded_form r version step)) ≡ length (lists_bytes r version) + length (coded_form_bytes r version step (chosen_coded_form r version step)) = length-append (lists_bytes r version) (coded_form_bytes r version step (chosen_coded_form r version step)) in
+        record { few = omega (arith, front, form, most, joined); stands = coded_stands r is version step size sum some h l k (chosen_coded_form r version step) (chosen_may r version step) }
 
 -- ---- the mask
 
@@ -165,6 +167,7 @@ mask_stands r is =
 some_mask : (pixels valid : ℕ) (bytes : List ℕ) (marks : List Bool) → IsMask pixels valid bytes marks → 4 ≤ length bytes
 some_mask pixels valid bytes marks (alike mark e long at m) = omega (arith, long)
 some_mask pixels valid bytes marks (mixed mask e long at runs size m count) = long
+some_mask pixels valid bytes marks (previous e long at m count) = omega (arith, long)
 
 -- ---- the blob
 
@@ -172,8 +175,8 @@ pub head_few : (version : Version) → head_length version ≤ 66
 head_few V3 = omega arith
 head_few V4 = omega arith
 
-pub length_behind : (r : Pixels) → IsRaster r → (version : Version) (step : ℕ) → 0 < step → (4 ≤ length (behind_head r version step)) × (length (behind_head r version step) ≤ 73924615)
-unfolding behind_head mask_part
+pub length_behind : (r : Pixels) → IsRaster r → (version : Version) (step : ℕ) → 0 < step → (4 ≤ length (mask_and_image r version step)) × (length (mask_and_image r version step) ≤ 73924615)
+unfolding mask_and_image mask_part
 length_behind r is version step some =
     let image = (chosen_ends r is version step 0 0 some).few in
     let mask = mask_few r is in
@@ -185,16 +188,16 @@ version_of : (r : Pixels) (version : Version) (step sum : ℕ) → head_length (
 unfolding header_with header_of
 version_of r version step sum = refl
 
-pub length_choice : (r : Pixels) (version : Version) (step : ℕ) → length (choice r version step) ≡ head_length version + length (behind_head r version step)
-unfolding choice
+pub length_choice : (r : Pixels) (version : Version) (step : ℕ) → length (chosen_blob r version step) ≡ head_length version + length (mask_and_image r version step)
+unfolding chosen_blob
 length_choice r version step =
-    length-append (head_bytes (header_with r version step (checksum_of r version step))) (behind_head r version step)
-    ∙ ap (λ n. n + length (behind_head r version step)) (length-head (header_with r version step (checksum_of r version step)) ∙ version_of r version step (checksum_of r version step))
+    length-append (head_bytes (header_with r version step (checksum_of r version step))) (mask_and_image r version step)
+    ∙ ap (λ n. n + length (mask_and_image r version step)) (length-head (header_with r version step (checksum_of r version step)) ∙ version_of r version step (checksum_of r version step))
 
 step_above : (step : ℕ) → IsTwiceError step → 0 < step
 step_above step is = is.above
 
-pub few : (r : Pixels) (version : Version) (step : ℕ) → IsAsked r version step → length (choice r version step) ≤ 134217728
+pub few : (r : Pixels) (version : Version) (step : ℕ) → IsAsked r version step → length (chosen_blob r version step) ≤ 134217728
 few r version step asked =
     let size = length_choice r version step in
     let behind = (length_behind r asked.sound version step asked.step_allowed.above).1 in
@@ -202,8 +205,9 @@ few r version step asked =
     omega (arith, size, behind, head)
 
 side_few : (e : Ending) → (0 < side_at e) × (side_at e ≤ 16)
-side_few bare = (omega arith, omega arith)
-side_few level = (omega arith, omega arith)
+side_few empty = (omega arith, omega arith)
+side_few constant = (omega arith, omega arith)
+side_few ranges = (omega arith, omega arith)
 side_few (coded sweep) = (omega arith, omega arith)
 side_few (coded blocks_8) = (omega arith, omega arith)
 side_few (coded blocks_16) = (omega arith, omega arith)
@@ -244,20 +248,20 @@ other_sum : (r : Pixels) (version : Version) (step sum : ℕ) → header_with r 
 unfolding header_with header_of
 other_sum r version step sum = refl
 
-pub covered : (r : Pixels) (version : Version) (step sum : ℕ) → drop 14 (head_bytes (header_with r version step sum) ++ behind_head r version step) ≡ field_bytes (header_with r version step 0) ++ behind_head r version step
+pub covered : (r : Pixels) (version : Version) (step sum : ℕ) → drop 14 (head_bytes (header_with r version step sum) ++ mask_and_image r version step) ≡ field_bytes (header_with r version step 0) ++ mask_and_image r version step
 covered r version step sum =
     let h = header_with r version step sum in
     let long = length-head h ∙ version_of r version step sum in
     let head : 62 ≤ head_length version = least_head version in
-    drop-append-le 14 (head_bytes h) (behind_head r version step) (omega (arith, long, head))
-    ∙ ap (λ (xs : List ℕ). xs ++ behind_head r version step) (drop-head h ∙ ap field_bytes (other_sum r version step sum) ∙ field-checksum (header_with r version step 0) sum)
+    drop-append-le 14 (head_bytes h) (mask_and_image r version step) (omega (arith, long, head))
+    ∙ ap (λ (xs : List ℕ). xs ++ mask_and_image r version step) (drop-head h ∙ ap field_bytes (other_sum r version step sum) ∙ field-checksum (header_with r version step 0) sum)
   where
     least_head : (version : Version) → 62 ≤ head_length version
     least_head V3 = omega arith
     least_head V4 = omega arith
 
-pub sum_is : (r : Pixels) (version : Version) (step : ℕ) → checksum_of r version step ≡ sum_of (drop 14 (choice r version step))
-unfolding choice checksum_of
+pub sum_is : (r : Pixels) (version : Version) (step : ℕ) → checksum_of r version step ≡ sum_of (drop 14 (chosen_blob r version step))
+unfolding chosen_blob checksum_of
 sum_is r version step = ap sum_of (covered r version step 0 ∙ sym (covered r version step (checksum_of r version step)))
 
 -- ---- near, by places
@@ -312,7 +316,7 @@ valid_is : (r : Pixels) (version : Version) (step : ℕ) → (header_with r vers
 unfolding header_with header_of
 valid_is r version step = refl
 
-size_is : (r : Pixels) (version : Version) (step : ℕ) → (header_with r version step (checksum_of r version step)).size ≡ head_length version + length (behind_head r version step)
+size_is : (r : Pixels) (version : Version) (step : ℕ) → (header_with r version step (checksum_of r version step)).size ≡ head_length version + length (mask_and_image r version step)
 unfolding header_with header_of
 size_is r version step = refl
 
@@ -323,13 +327,13 @@ stored_is r version step = refl
 head_long : (r : Pixels) (version : Version) (step : ℕ) → length (head_bytes (header_with r version step (checksum_of r version step))) ≡ head_length (header_with r version step (checksum_of r version step)).version
 head_long r version step = length-head (header_with r version step (checksum_of r version step))
 
-joined_of : (r : Pixels) (version : Version) (step : ℕ) → choice r version step ≡ head_bytes (header_with r version step (checksum_of r version step)) ++ (mask_part (marks_of r) ++ image_bytes r version step (ending r version step))
-unfolding choice behind_head
+joined_of : (r : Pixels) (version : Version) (step : ℕ) → chosen_blob r version step ≡ head_bytes (header_with r version step (checksum_of r version step)) ++ (mask_part (marks_of r) ++ image_bytes r version step (ending r version step))
+unfolding chosen_blob mask_and_image
 joined_of r version step = refl
 
-head_there : (r : Pixels) (version : Version) (step : ℕ) → IsAsked r version step → checksum_of r version step < 2 ^ 32 → HeadAt (choice r version step) (header_with r version step (checksum_of r version step))
-unfolding choice
-head_there r version step asked sum_fits = head_stands (header_with r version step (checksum_of r version step)) (behind_head r version step) (is_header r version step asked (checksum_of r version step) sum_fits)
+head_there : (r : Pixels) (version : Version) (step : ℕ) → IsAsked r version step → checksum_of r version step < 2 ^ 32 → HeadAt (chosen_blob r version step) (header_with r version step (checksum_of r version step))
+unfolding chosen_blob
+head_there r version step asked sum_fits = head_stands (header_with r version step (checksum_of r version step)) (mask_and_image r version step) (is_header r version step asked (checksum_of r version step) sum_fits)
 
 mask_there : (r s : Pixels) (version : Version) (step : ℕ) → IsRaster r → IsBeside r s step
     → IsMask ((header_with r version step (checksum_of r version step)).rows * (header_with r version step (checksum_of r version step)).cols) (header_with r version step (checksum_of r version step)).valid (mask_part (marks_of r)) (marks_of s)
@@ -344,12 +348,12 @@ parts r version step = record {
   image = image_bytes r version step (ending r version step);
 }
 
-image_of : (r s : Pixels) (version : Version) (step : ℕ) → IsImage (header_of r version step (side_at (ending r version step)) (head_length version + length (behind_head r version step)) (checksum_of r version step)) (image_bytes r version step (ending r version step)) s
+image_of : (r s : Pixels) (version : Version) (step : ℕ) → IsImage (header_of r version step (side_at (ending r version step)) (head_length version + length (mask_and_image r version step)) (checksum_of r version step)) (image_bytes r version step (ending r version step)) s
     → IsImage (header_with r version step (checksum_of r version step)) (image_bytes r version step (ending r version step)) s
 unfolding header_with
 image_of r s version step image = image
 
-head_is : (r s : Pixels) (version : Version) (step : ℕ) → IsBeside r s step → IsHeadOf (header_with r version step (checksum_of r version step)) (choice r version step) s
+head_is : (r s : Pixels) (version : Version) (step : ℕ) → IsBeside r s step → IsHeadOf (header_with r version step (checksum_of r version step)) (chosen_blob r version step) s
 head_is r s version step near =
     record {
       kind = kind_is r version step ∙ near.shape.kind;
@@ -362,8 +366,8 @@ head_is r s version step near =
     }
 
 join : (r : Pixels) (version : Version) (step : ℕ) (s : Pixels) → IsAsked r version step → checksum_of r version step < 2 ^ 32
-    → (ends : ImageStands r version step (head_length version + length (behind_head r version step)) (checksum_of r version step) (ending r version step)) → s ≡ ends.raster
-    → IsJoinOf (choice r version step) s (header_with r version step (checksum_of r version step)) (parts r version step)
+    → (ends : ImageStands r version step (head_length version + length (mask_and_image r version step)) (checksum_of r version step) (ending r version step)) → s ≡ ends.raster
+    → IsJoinOf (chosen_blob r version step) s (header_with r version step (checksum_of r version step)) (parts r version step)
 join r version step s asked sum_fits ends e =
     let h = header_with r version step (checksum_of r version step) in
     let near = subst (λ (x : Pixels). IsBeside r x step) (sym e) ends.near in
@@ -373,14 +377,14 @@ join r version step s asked sum_fits ends e =
       head_stands = head_there r version step asked sum_fits;
       head_of = head_is r s version step near;
       mask_of = mask_there r s version step asked.sound near;
-      image_of = image_of r s version step (subst (λ (x : Pixels). IsImage (header_of r version step (side_at (ending r version step)) (head_length version + length (behind_head r version step)) (checksum_of r version step)) (image_bytes r version step (ending r version step)) x) (sym e) ends.image);
+      image_of = image_of r s version step (subst (λ (x : Pixels). IsImage (header_of r version step (side_at (ending r version step)) (head_length version + length (mask_and_image r version step)) (checksum_of r version step)) (image_bytes r version step (ending r version step)) x) (sym e) ends.image);
     }
 
-encoded : (r : Pixels) (version : Version) (step : ℕ) → IsAsked r version step → checksum_of r version step < 2 ^ 32 → IsEncoded (choice r version step) r step
+encoded : (r : Pixels) (version : Version) (step : ℕ) → IsAsked r version step → checksum_of r version step < 2 ^ 32 → IsEncoded (chosen_blob r version step) r step
 encoded r version step asked sum_fits =
     let is = asked.sound in
     let h = header_with r version step (checksum_of r version step) in
-    let size = head_length version + length (behind_head r version step) in
+    let size = head_length version + length (mask_and_image r version step) in
     let ends = (chosen_ends r is version step size (checksum_of r version step) asked.step_allowed.above).stands in
     record {
       raster = ends.raster;
@@ -388,11 +392,11 @@ encoded r version step asked sum_fits =
       blob = (ends.sound, (h, (parts r version step, join r version step ends.raster asked sum_fits ends refl)));
     }
 
-pub encoded_once : (r : Pixels) (version : Version) (step : ℕ) → IsAsked r version step → checksum_of r version step < 2 ^ 32 → IsEncodedOnce (choice r version step) r step
+pub encoded_once : (r : Pixels) (version : Version) (step : ℕ) → IsAsked r version step → checksum_of r version step < 2 ^ 32 → IsEncodedOnce (chosen_blob r version step) r step
 encoded_once r version step asked sum_fits =
     let e = encoded r version step asked sum_fits in
-    record { raster = e.raster; blob = e.blob; near = e.near; only = λ s b. one_raster (choice r version step) s e.raster b e.blob }
+    record { raster = e.raster; blob = e.blob; near = e.near; only = λ s b. one_raster (chosen_blob r version step) s e.raster b e.blob }
 
-pub declares : (r : Pixels) (version : Version) (step : ℕ) → IsAsked r version step → checksum_of r version step < 2 ^ 32 → Declares (choice r version step) version step
+pub declares : (r : Pixels) (version : Version) (step : ℕ) → IsAsked r version step → checksum_of r version step < 2 ^ 32 → Declares (chosen_blob r version step) version step
 unfolding header_with header_of
 declares r version step asked sum_fits = (header_with r version step (checksum_of r version step), (head_there r version step asked sum_fits, refl, refl))

@@ -1,7 +1,6 @@
 -- What the image stands for, by how it ends.
-use Rattle.std.proofs.Common.{◌≡◌, ℕ, ◌<◌, Bool, true, false, List, [], ◌++◌, length, get_or, replicate, refl, sym, ap, ◌∙◌, subst, arith, Option, Some, None, ◌⊎◌, inl, inr}
-use Rattle.std.specs.Prelude.{ℤ, pos, is_some, unwrap_or, nat_eq, ◌&&◌, ◌||◌, IfSome}
-use Rattle.std.specs.Ordering.{int_eq}
+use Rattle.std.proofs.Common.{◌≡◌, ℕ, ◌<◌, true, false, List, [], ◌++◌, length, get_or, replicate, refl, sym, ap, ◌∙◌, subst, arith, Option, Some, None, inl, inr}
+use Rattle.std.specs.Prelude.{ℤ, pos, is_some, unwrap_or, nat_eq, ◌&&◌, IfSome}
 use Rattle.std.proofs.lemmas.Int.{ints}
 use Rattle.std.proofs.lemmas.Bool.{eqb-true, eq-eqb}
 use Rattle.std.proofs.lemmas.Bool.Decides.{Decides-int_eq}
@@ -14,44 +13,24 @@ use Rattle.lerc_header.specs.declared.header.Version.{Version}
 use Rattle.lerc_header.specs.declared.header.Version.TheVariants.{V3, V4}
 use Rattle.micro_block.specs.Choice as micro
 use Rattle.micro_block.proofs.Written.{raw_stands}
-use Rattle.lerc_grammar.specs.Image.{Ends, IsBare, IsFront, AreEqual, IsImage}
+use Rattle.lerc_grammar.specs.Image.{IsBare, IsFront, AreEqual, IsImage}
 use Rattle.lerc_grammar.specs.Image as grammar
-use Rattle.lerc_encode.specs.Ranges.{greatest_value, depth_values, leasts, greatests, front_of, front_bytes, is_bare, is_level}
+use Rattle.lerc_encode.specs.Ranges.{greatest_value, depth_values, leasts, greatests, lists_bytes, has_equal_ranges, is_constant, is_empty}
+use Rattle.lerc_encode.specs.inside.Fronts.{front_of}
 use Rattle.lerc_encode.specs.Heads.{header_of}
-use Rattle.lerc_encode.specs.Images.{Form, is_v4, Ending, bare, level, coded, side_at, side_of, image_bytes, form_bytes}
+use Rattle.lerc_encode.specs.Images.{CodedForm, is_v4, Ending, empty, constant, ranges, coded, side_at, side_of, image_bytes, coded_form_bytes}
 use Rattle.lerc_encode.specs.inside.Suits.{IsBeside}
 use Rattle.lerc_encode.proofs.Members.{Has}
 use Rattle.lerc_encode.proofs.Extremes.{greatest_above, least_below, value_among, value_of_all, no_values, leasts_fit, greatests_fit, length_leasts, length_greatests}
 use Rattle.lerc_encode.proofs.Forming.{same_lists, lists_same}
 use Rattle.lerc_encode.proofs.Standing.{at_greatests, at_leasts, near_itself, MayBe, form_stands, form_sound, form_near, raster_of}
 
-or_true : (a b : Bool) → (a || b) ≡ true → (a ≡ true) ⊎ (b ≡ true)
-or_true true b h = inl refl
-or_true false b h = inr h
-
-or_left : (a b : Bool) → a ≡ true → (a || b) ≡ true
-or_left true b h = refl
-or_left false b h = absurd (cc)
-
-or_right : (a b : Bool) → b ≡ true → (a || b) ≡ true
-or_right true b h = refl
-or_right false b h = h
-
 -- ---- no values, or all of one
 
-bare_is : (r : Pixels) (version : Version) (step side size sum : ℕ) → is_bare r ≡ true → IsBare (header_of r version step side size sum)
+not_bare : (r : Pixels) (version : Version) (step side size sum : ℕ) → is_empty r ≡ false → is_constant r ≡ false → IsBare (header_of r version step side size sum) → ⊥
 unfolding header_of
-bare_is r version step side size sum h = after (or_true (nat_eq (valid_count r) 0) (int_eq (micro.least_value (values_of r.pixels)) (greatest_value (values_of r.pixels))) h)
-  where
-    after : (nat_eq (valid_count r) 0 ≡ true) ⊎ (int_eq (micro.least_value (values_of r.pixels)) (greatest_value (values_of r.pixels)) ≡ true)
-        → (valid_count r ≡ 0) ⊎ (micro.least_value (values_of r.pixels) ≡ greatest_value (values_of r.pixels))
-    after (inl e) = inl (eqb-true (valid_count r) 0 e)
-    after (inr e) = inr ((Decides-int_eq (micro.least_value (values_of r.pixels)) (greatest_value (values_of r.pixels))).0 e)
-
-not_bare : (r : Pixels) (version : Version) (step side size sum : ℕ) → is_bare r ≡ false → IsBare (header_of r version step side size sum) → ⊥
-unfolding header_of
-not_bare r version step side size sum h (inl e) = let t : is_bare r ≡ true = or_left (nat_eq (valid_count r) 0) _ (eq-eqb (valid_count r) 0 e) in cc
-not_bare r version step side size sum h (inr e) = let t : is_bare r ≡ true = or_right (nat_eq (valid_count r) 0) _ ((Decides-int_eq (micro.least_value (values_of r.pixels)) (greatest_value (values_of r.pixels))).1 e) in cc
+not_bare r version step side size sum h k (inl e) = let t : is_empty r ≡ true = eq-eqb (valid_count r) 0 e in cc
+not_bare r version step side size sum h k (inr e) = let t : is_constant r ≡ true = (Decides-int_eq (micro.least_value (values_of r.pixels)) (greatest_value (values_of r.pixels))).1 e in cc
 
 -- the values of each valid pixel, by its depths
 each_pixel : (r : Pixels) → IsRaster r → (ws : List ℤ) → length ws ≡ r.depth
@@ -85,15 +64,15 @@ all_one r is e =
 
 -- ---- the lists
 
-front_stands : (r : Pixels) → IsRaster r → (version : Version) (step side size sum : ℕ) → IsFront (header_of r version step side size sum) version (front_bytes r version) (front_of r version)
+front_stands : (r : Pixels) → IsRaster r → (version : Version) (step side size sum : ℕ) → IsFront (header_of r version step side size sum) version (lists_bytes r version) (front_of r version)
 unfolding header_of
 front_stands r is V3 step side size sum = (refl, refl)
 front_stands r is V4 step side size sum =
     (record { least = leasts r; greatest = greatests r }, (refl, (length_leasts r, (length_greatests r, raw_stands r.kind (leasts r ++ greatests r) (All-append (InRange r.kind) (leasts r) (greatests r) (leasts_fit r is) (greatests_fit r is))))))
 
 -- all pixels have the least values where these are the greatest
-all_level : (r : Pixels) → IsRaster r → leasts r ≡ greatests r → EachValid r (λ values. values ≡ leasts r)
-all_level r is e =
+all_of_ranges : (r : Pixels) → IsRaster r → leasts r ≡ greatests r → EachValid r (λ values. values ≡ leasts r)
+all_of_ranges r is e =
     each_pixel r is (leasts r) (length_leasts r)
     (λ k d there valid low.
     let member = value_among r k d there valid in
@@ -102,9 +81,9 @@ all_level r is e =
     let same : micro.least_value (depth_values r d) ≡ greatest_value (depth_values r d) = sym (at_leasts r d low) ∙ ap (λ vs. get_or vs d (pos 0)) e ∙ at_greatests r d low in
     (let v : value_in r d k ≡ micro.least_value (depth_values r d) = omega (arith, ints, a, b, same) in v) ∙ sym (at_leasts r d low))
 
-not_equal : (r : Pixels) (version : Version) → (is_v4 version && is_level r) ≡ false → AreEqual (front_of r version) → ⊥
+not_equal : (r : Pixels) (version : Version) → (is_v4 version && has_equal_ranges r) ≡ false → AreEqual (front_of r version) → ⊥
 not_equal r V3 h e = e
-not_equal r V4 h e = let t : is_level r ≡ true = lists_same (leasts r) (greatests r) e in cc
+not_equal r V4 h e = let t : has_equal_ranges r ≡ true = lists_same (leasts r) (greatests r) e in cc
 
 -- ---- the image
 
@@ -114,40 +93,46 @@ pub record ImageStands (r : Pixels) (version : Version) (step size sum : ℕ) (e
   pub near : IsBeside r raster step
   pub image : IsImage (header_of r version step (side_at e) size sum) (image_bytes r version step e) raster
 
-pub bare_stands : (r : Pixels) → IsRaster r → (version : Version) (step size sum : ℕ) → is_bare r ≡ true → ImageStands r version step size sum bare
+pub empty_stands : (r : Pixels) → IsRaster r → (version : Version) (step size sum : ℕ) → is_empty r ≡ true → ImageStands r version step size sum empty
 unfolding header_of
-bare_stands r is version step size sum h = record { raster = r; sound = is; near = near_itself r step; image = by (nat_eq (valid_count r) 0) refl }
-  where
-    by : (b : Bool) → nat_eq (valid_count r) 0 ≡ b → IsImage (header_of r version step 8 size sum) [] r
-    by true t = let e = eqb-true (valid_count r) 0 t in grammar.empty e refl (none_there r is e)
-    by false t = grammar.constant (λ e. let u : nat_eq (valid_count r) 0 ≡ true = eq-eqb (valid_count r) 0 e in cc) (all_same (bare_is r version step 8 size sum h)) refl (all_one r is (all_same (bare_is r version step 8 size sum h)))
-      where
-        all_same : (valid_count r ≡ 0) ⊎ (micro.least_value (values_of r.pixels) ≡ greatest_value (values_of r.pixels)) → micro.least_value (values_of r.pixels) ≡ greatest_value (values_of r.pixels)
-        all_same (inl e) = absurd (let u : nat_eq (valid_count r) 0 ≡ true = eq-eqb (valid_count r) 0 e in cc)
-        all_same (inr e) = e
+empty_stands r is version step size sum h =
+    let e = eqb-true (valid_count r) 0 h in
+    record { raster = r; sound = is; near = near_itself r step; image = grammar.empty e refl (none_there r is e) }
 
-pub level_stands : (r : Pixels) → IsRaster r → (version : Version) (step size sum : ℕ) → is_bare r ≡ false → (is_v4 version && is_level r) ≡ true → ImageStands r version step size sum level
+pub constant_stands : (r : Pixels) → IsRaster r → (version : Version) (step size sum : ℕ) → is_empty r ≡ false → is_constant r ≡ true → ImageStands r version step size sum constant
 unfolding header_of
-level_stands r is V3 step size sum h k = absurd (cc)
-level_stands r is V4 step size sum h k =
+constant_stands r is version step size sum h k =
+    let same = (Decides-int_eq (micro.least_value (values_of r.pixels)) (greatest_value (values_of r.pixels))).0 k in
+    record {
+      raster = r;
+      sound = is;
+      near = near_itself r step;
+      image = grammar.constant (λ e. let u : nat_eq (valid_count r) 0 ≡ true = eq-eqb (valid_count r) 0 e in cc) same refl (all_one r is same);
+    }
+
+pub ranges_stands : (r : Pixels) → IsRaster r → (version : Version) (step size sum : ℕ) → is_empty r ≡ false → is_constant r ≡ false → (is_v4 version && has_equal_ranges r) ≡ true
+    → ImageStands r version step size sum ranges
+unfolding header_of
+ranges_stands r is V3 step size sum h d k = absurd (cc)
+ranges_stands r is V4 step size sum h d k =
     let e = same_lists (leasts r) (greatests r) k in
-    record { raster = r; sound = is; near = near_itself r step; image = grammar.ranges (not_bare r V4 step 8 size sum h) (front_of r V4) (front_stands r is V4 step 8 size sum) e (all_level r is e) }
+    record { raster = r; sound = is; near = near_itself r step; image = grammar.ranges (not_bare r V4 step 8 size sum h d) (front_of r V4) (front_stands r is V4 step 8 size sum) e (all_of_ranges r is e) }
 
-front_of_header : (r : Pixels) → IsRaster r → (version : Version) (step side size sum : ℕ) → IsFront (header_of r version step side size sum) (header_of r version step side size sum).version (front_bytes r version) (front_of r version)
+front_of_header : (r : Pixels) → IsRaster r → (version : Version) (step side size sum : ℕ) → IsFront (header_of r version step side size sum) (header_of r version step side size sum).version (lists_bytes r version) (front_of r version)
 unfolding header_of
 front_of_header r is version step side size sum = front_stands r is version step side size sum
 
-coded_image : (r : Pixels) → IsRaster r → (version : Version) (step size sum : ℕ) → 0 < step → is_bare r ≡ false → (is_v4 version && is_level r) ≡ false → (form : Form) → MayBe r version step form
-    → IsImage (header_of r version step (side_of form) size sum) (front_bytes r version ++ form_bytes r version step form) (raster_of r version step size sum form)
-coded_image r is version step size sum some h k form may =
-    grammar.coded (not_bare r version step (side_of form) size sum h) (front_bytes r version) (form_bytes r version step form) (front_of r version) refl
+coded_image : (r : Pixels) → IsRaster r → (version : Version) (step size sum : ℕ) → 0 < step → is_empty r ≡ false → is_constant r ≡ false → (is_v4 version && has_equal_ranges r) ≡ false → (form : CodedForm) → MayBe r version step form
+    → IsImage (header_of r version step (side_of form) size sum) (lists_bytes r version ++ coded_form_bytes r version step form) (raster_of r version step size sum form)
+coded_image r is version step size sum some h d k form may =
+    grammar.coded (not_bare r version step (side_of form) size sum h d) (lists_bytes r version) (coded_form_bytes r version step form) (front_of r version) refl
     (front_of_header r is version step (side_of form) size sum) (not_equal r version k) (form_stands r is version step size sum some form may)
 
-pub coded_stands : (r : Pixels) → IsRaster r → (version : Version) (step size sum : ℕ) → 0 < step → is_bare r ≡ false → (is_v4 version && is_level r) ≡ false → (form : Form) → MayBe r version step form → ImageStands r version step size sum (coded form)
-coded_stands r is version step size sum some h k form may =
+pub coded_stands : (r : Pixels) → IsRaster r → (version : Version) (step size sum : ℕ) → 0 < step → is_empty r ≡ false → is_constant r ≡ false → (is_v4 version && has_equal_ranges r) ≡ false → (form : CodedForm) → MayBe r version step form → ImageStands r version step size sum (coded form)
+coded_stands r is version step size sum some h d k form may =
     record {
       raster = raster_of r version step size sum form;
       sound = form_sound r is version step size sum some form;
       near = form_near r is version step size sum some form;
-      image = coded_image r is version step size sum some h k form may;
+      image = coded_image r is version step size sum some h d k form may;
     }

@@ -1,6 +1,6 @@
 -- The forms of an image's values, and the choice among them.
 use Rattle.std.proofs.Common.{◌≡◌, ℕ, ◌+◌, ◌-◌, ◌*◌, ◌/◌, ◌<◌, Bool, true, false, List, [], ◌∷◌, ◌++◌, length, refl, sym, ap, ◌∙◌, subst, arith, length-append, ◌⊎◌, inl, inr}
-use Rattle.std.specs.Prelude.{ℤ, nat_eq, ◌&&◌, ◌||◌, if◌then◌else◌, ◌≢◌, set}
+use Rattle.std.specs.Prelude.{ℤ, nat_eq, ◌&&◌, if◌then◌else◌, ◌≢◌, set}
 use Rattle.std.proofs.lemmas.Bool.{eqb-true, cases_eq}
 use Rattle.std.proofs.lemmas.Bool.Decides.{nat_tests, Decides-int_eq}
 use Rattle.std.specs.Ordering.{int_eq}
@@ -24,9 +24,9 @@ use Rattle.micro_block.specs.Choice.{least_value}
 use Rattle.micro_block.specs.Frame.{IsBlockStep}
 use Rattle.raster_values.proofs.Views.{same_bits}
 use Rattle.lerc_encode.specs.Heads.{header_of}
-use Rattle.lerc_encode.specs.Ranges.{greatest_value, leasts, greatests, front_bytes, is_bare, is_level}
+use Rattle.lerc_encode.specs.Ranges.{greatest_value, leasts, greatests, lists_bytes, has_equal_ranges, is_constant, is_empty}
 use Rattle.lerc_encode.specs.Images as images
-use Rattle.lerc_encode.specs.Images.{Form, blocks_bytes, mode_bytes, form_bytes, forms, chosen_form, ending, is_v4}
+use Rattle.lerc_encode.specs.Images.{CodedForm, blocks_bytes, mode_bytes, coded_form_bytes, coded_forms, chosen_coded_form, ending, is_v4}
 use Rattle.lerc_encode.specs.inside.Blocked.{IsBlocked}
 use Rattle.lerc_encode.specs.inside.Choosing.{IsBase}
 use Rattle.lerc_encode.proofs.Extremes.{all_least_fits, all_greatest_fits, length_values, length_leasts, length_greatests}
@@ -62,20 +62,20 @@ large_blocked h g r b e =
 
 -- ---- forms
 
-pub sweep_is : (r : Pixels) (version : Version) (step : ℕ) → 1 ∷ values_bytes r.kind (values_of r.pixels) ≡ form_bytes r version step images.sweep
-unfolding form_bytes
+pub sweep_is : (r : Pixels) (version : Version) (step : ℕ) → 1 ∷ values_bytes r.kind (values_of r.pixels) ≡ coded_form_bytes r version step images.sweep
+unfolding coded_form_bytes
 sweep_is r version step = refl
 
-pub small_is : (h : Header) (r : Pixels) → IsBase h r → 0 ∷ (mode_bytes r h.step ++ blocks_bytes h r) ≡ form_bytes r h.version h.step images.blocks_8
-unfolding form_bytes
+pub small_is : (h : Header) (r : Pixels) → IsBase h r → 0 ∷ (mode_bytes r h.step ++ blocks_bytes h r) ≡ coded_form_bytes r h.version h.step images.blocks_8
+unfolding coded_form_bytes
 small_is h r b = ap (λ (x : Header). 0 ∷ (mode_bytes r h.step ++ blocks_bytes x r)) b.is
 
 pub large_header : (h : Header) (r : Pixels) → IsBase h r → record h { side = 16 } ≡ header_of r h.version h.step 16 0 0
 unfolding header_of
 large_header h r b = ap (λ (x : Header). record x { side = 16 }) b.is
 
-pub large_is : (h g : Header) (r : Pixels) → IsBase h r → g ≡ record h { side = 16 } → 0 ∷ (mode_bytes r g.step ++ blocks_bytes g r) ≡ form_bytes r h.version h.step images.blocks_16
-unfolding form_bytes
+pub large_is : (h g : Header) (r : Pixels) → IsBase h r → g ≡ record h { side = 16 } → 0 ∷ (mode_bytes r g.step ++ blocks_bytes g r) ≡ coded_form_bytes r h.version h.step images.blocks_16
+unfolding coded_form_bytes
 large_is h g r b e = ap (λ (x : Header). 0 ∷ (mode_bytes r x.step ++ blocks_bytes x r)) e ∙ ap (λ (x : Header). 0 ∷ (mode_bytes r h.step ++ blocks_bytes x r)) (large_header h r b)
 
 -- ---- lengths
@@ -92,19 +92,19 @@ front_half r vs e = length-values_bytes r.kind vs ∙ ap (λ n. n * bytes_of r.k
 pub front_split : (kind : PixelType) (vs ws : List ℤ) → values_bytes kind (vs ++ ws) ≡ values_bytes kind vs ++ values_bytes kind ws
 front_split kind vs ws = flat_map-append (value_bytes kind) vs ws
 
-pub length_front : (r : Pixels) → length (front_bytes r V4) ≡ 2 * (r.depth * bytes_of r.kind)
+pub length_front : (r : Pixels) → length (lists_bytes r V4) ≡ 2 * (r.depth * bytes_of r.kind)
 length_front r =
     let a = front_half r (leasts r) (length_leasts r) in
     let b = front_half r (greatests r) (length_greatests r) in
-    let both : length (front_bytes r V4) ≡ length (values_bytes r.kind (leasts r)) + length (values_bytes r.kind (greatests r)) = ap length (front_split r.kind (leasts r) (greatests r)) ∙ length-append (values_bytes r.kind (leasts r)) (values_bytes r.kind (greatests r)) in
+    let both : length (lists_bytes r V4) ≡ length (values_bytes r.kind (leasts r)) + length (values_bytes r.kind (greatests r)) = ap length (front_split r.kind (leasts r) (greatests r)) ∙ length-append (values_bytes r.kind (leasts r)) (values_bytes r.kind (greatests r)) in
     omega (arith, a, b, both)
 
-pub front_long : (r : Pixels) (depth bytes : ℕ) → depth ≡ r.depth → bytes ≡ bytes_of r.kind → 2 * depth * bytes ≡ length (front_bytes r V4)
+pub front_long : (r : Pixels) (depth bytes : ℕ) → depth ≡ r.depth → bytes ≡ bytes_of r.kind → 2 * depth * bytes ≡ length (lists_bytes r V4)
 front_long r depth bytes d b = (λ t. 2 * d t * b t) ∙ (let e : 2 * r.depth * bytes_of r.kind ≡ 2 * (r.depth * bytes_of r.kind) = omega arith in e) ∙ sym (length_front r)
 
 -- both lists, one behind the other
 pub lists_written : (r : Pixels) (half : ℕ) (first second rest : List ℕ) → length first ≡ half → first ≡ values_bytes r.kind (leasts r) → second ≡ values_bytes r.kind (greatests r)
-    → put_mid half (length (first ++ rest) - half) (first ++ rest) second ≡ front_bytes r V4
+    → put_mid half (length (first ++ rest) - half) (first ++ rest) second ≡ lists_bytes r V4
 lists_written r half first second rest long a b =
     end_written first rest second half (length (first ++ rest) - half) long (let l = length-append first rest in omega (arith, l, long))
     ∙ (λ t. a t ++ b t) ∙ sym (front_split r.kind (leasts r) (greatests r))
@@ -163,45 +163,48 @@ same_itself (v ∷ vs) = (λ t. (Decides-int_eq v v).1 refl t && same_itself vs 
 pub lists_same : (vs ws : List ℤ) → vs ≡ ws → pointwise int_eq vs ws ≡ true
 lists_same vs ws e = subst (λ us. pointwise int_eq vs us ≡ true) e (same_itself vs)
 
-pub level_is : (r : Pixels) (vs ws : List ℤ) (b : Bool) → vs ≡ leasts r → ws ≡ greatests r → b ≡ pointwise int_eq vs ws → b ≡ is_level r
-level_is r vs ws b e f h = h ∙ (λ t. pointwise int_eq (e t) (f t))
+pub ranges_are : (r : Pixels) (vs ws : List ℤ) (b : Bool) → vs ≡ leasts r → ws ≡ greatests r → b ≡ pointwise int_eq vs ws → b ≡ has_equal_ranges r
+ranges_are r vs ws b e f h = h ∙ (λ t. pointwise int_eq (e t) (f t))
 
 neq_false : (a b : ℕ) → (a ≡ b → ⊥) → nat_eq a b ≡ false
 neq_false a b ne = grind (arith, nat_tests, ne)
 
-pub bare_valid : (h : Header) (r : Pixels) → IsBase h r → h.valid ≡ 0 → nat_eq h.valid 0 ≡ is_bare r
+pub empty_is : (h : Header) (r : Pixels) → IsBase h r → nat_eq h.valid 0 ≡ is_empty r
 unfolding header_of
-bare_valid h r b e =
-    let t = eq_true h.valid 0 e in
-    t ∙ sym (ap (λ (x : Bool). x || int_eq (least_value (values_of r.pixels)) (greatest_value (values_of r.pixels))) (ap (λ (x : Header). nat_eq x.valid 0) (sym b.is) ∙ t))
+empty_is h r b = ap (λ (x : Header). nat_eq x.valid 0) b.is
 
-pub bare_other : (h : Header) (r : Pixels) → IsBase h r → (h.valid ≡ 0 → ⊥) → nat_eq (of_z w64 h.least) (of_z w64 h.greatest) ≡ is_bare r
+pub constant_is : (h : Header) (r : Pixels) → IsBase h r → nat_eq (of_z w64 h.least) (of_z w64 h.greatest) ≡ is_constant r
 unfolding header_of
-bare_other h r b ne =
-    let t = neq_false h.valid 0 ne in
+constant_is h r b =
     let least : h.least ≡ least_value (values_of r.pixels) = ap (λ (x : Header). x.least) b.is in
     let greatest : h.greatest ≡ greatest_value (values_of r.pixels) = ap (λ (x : Header). x.greatest) b.is in
     (λ i. nat_eq (of_z w64 (least i)) (of_z w64 (greatest i)))
     ∙ same_test r.kind (least_value (values_of r.pixels)) (greatest_value (values_of r.pixels)) (all_least_fits r b.sound) (all_greatest_fits r b.sound)
-    ∙ sym (ap (λ (x : Bool). x || int_eq (least_value (values_of r.pixels)) (greatest_value (values_of r.pixels))) (ap (λ (x : Header). nat_eq x.valid 0) (sym b.is) ∙ t))
 
 -- ---- the ending
 
-pub ends_bare : (r : Pixels) (version : Version) (step : ℕ) → is_bare r ≡ true → ending r version step ≡ images.bare
+pub ends_empty : (r : Pixels) (version : Version) (step : ℕ) → is_empty r ≡ true → ending r version step ≡ images.empty
 unfolding ending
-ends_bare r version step e = ap (λ (b : Bool). if b then images.bare else (if is_v4 version && is_level r then images.level else images.coded (chosen_form r version step))) e
+ends_empty r version step e =
+    ap (λ (b : Bool). if b then images.empty else (if is_constant r then images.constant else (if is_v4 version && has_equal_ranges r then images.ranges else images.coded (chosen_coded_form r version step)))) e
 
-pub ends_level : (r : Pixels) (version : Version) (step : ℕ) → is_bare r ≡ false → (is_v4 version && is_level r) ≡ true → ending r version step ≡ images.level
+pub ends_constant : (r : Pixels) (version : Version) (step : ℕ) → is_empty r ≡ false → is_constant r ≡ true → ending r version step ≡ images.constant
 unfolding ending
-ends_level r version step e f = (λ t. if e t then images.bare else (if f t then images.level else images.coded (chosen_form r version step)))
+ends_constant r version step e d =
+    (λ t. if e t then images.empty else (if d t then images.constant else (if is_v4 version && has_equal_ranges r then images.ranges else images.coded (chosen_coded_form r version step))))
 
-pub ends_coded : (r : Pixels) (version : Version) (step : ℕ) → is_bare r ≡ false → (is_v4 version && is_level r) ≡ false → ending r version step ≡ images.coded (chosen_form r version step)
+pub ends_ranges : (r : Pixels) (version : Version) (step : ℕ) → is_empty r ≡ false → is_constant r ≡ false → (is_v4 version && has_equal_ranges r) ≡ true → ending r version step ≡ images.ranges
 unfolding ending
-ends_coded r version step e f = (λ t. if e t then images.bare else (if f t then images.level else images.coded (chosen_form r version step)))
+ends_ranges r version step e d f = (λ t. if e t then images.empty else (if d t then images.constant else (if f t then images.ranges else images.coded (chosen_coded_form r version step))))
+
+pub ends_coded : (r : Pixels) (version : Version) (step : ℕ) → is_empty r ≡ false → is_constant r ≡ false → (is_v4 version && has_equal_ranges r) ≡ false
+    → ending r version step ≡ images.coded (chosen_coded_form r version step)
+unfolding ending
+ends_coded r version step e d f = (λ t. if e t then images.empty else (if d t then images.constant else (if f t then images.ranges else images.coded (chosen_coded_form r version step))))
 
 pub length_set : (xs : List ℕ) (i v : ℕ) → length (set xs i v) ≡ length xs
 length_set xs i v = length-set xs i v
 
 -- half of the room for both lists
-pub front_room : (r : Pixels) (out : List ℕ) → length out ≡ length (front_bytes r V4) → length out / 2 ≡ r.depth * bytes_of r.kind
+pub front_room : (r : Pixels) (out : List ℕ) → length out ≡ length (lists_bytes r V4) → length out / 2 ≡ r.depth * bytes_of r.kind
 front_room r out e = let whole = length_front r in omega (arith, e, whole)

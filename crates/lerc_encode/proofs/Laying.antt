@@ -22,8 +22,8 @@ use Rattle.lerc_encode.specs.Ranges.{greatest_value}
 use Rattle.lerc_encode.specs.Masks.{mask_part, mask_runs_of}
 use Rattle.lerc_encode.specs.Heads.{header_of}
 use Rattle.lerc_encode.specs.Images.{ending, image_bytes, side_at}
-use Rattle.lerc_encode.specs.Choice.{behind_head, header_with, checksum_of, choice}
-use Rattle.lerc_encode.specs.Encoded.{IsAsked}
+use Rattle.lerc_encode.specs.Choice.{mask_and_image, header_with, checksum_of, chosen_blob}
+use Rattle.lerc_encode.specs.inside.Asked.{IsAsked}
 use Rattle.lerc_encode.specs.inside.Choosing.{IsBase}
 use Rattle.lerc_encode.specs.inside.Layout.{IsSealed}
 use Rattle.lerc_encode.proofs.Extremes.{all_least_fits, all_greatest_fits}
@@ -44,7 +44,7 @@ base_of r version step asked rows cols depth valid kind least greatest e1 e2 e3 
     }
 
 -- and with its side and size
-pub laid_out : (b : Header) (r : Pixels) → IsBase b r → (side size : ℕ) → side ≡ side_at (ending r b.version b.step) → size ≡ head_length b.version + length (behind_head r b.version b.step)
+pub laid_out : (b : Header) (r : Pixels) → IsBase b r → (side size : ℕ) → side ≡ side_at (ending r b.version b.step) → size ≡ head_length b.version + length (mask_and_image r b.version b.step)
     → ◌≡◌ {A = Header} (record { version = b.version; checksum = b.checksum; rows = b.rows; cols = b.cols; depth = b.depth; valid = b.valid; side = side; size = size; kind = b.kind; step = b.step; least = to_z w64 (of_z w64 b.least); greatest = to_z w64 (of_z w64 b.greatest) })
     (header_with r b.version b.step 0)
 unfolding header_with header_of
@@ -72,8 +72,8 @@ unfolding mask_part
 length_part r = length-append (little_bytes 4 (length (mask_runs_of (marks_of r)))) (mask_runs_of (marks_of r))
 
 pub behind_length : (r : Pixels) (version : Version) (step runs image : ℕ) → runs ≡ length (mask_runs_of (marks_of r)) → image ≡ length (image_bytes r version step (ending r version step))
-    → 4 + runs + image ≡ length (behind_head r version step)
-unfolding behind_head
+    → 4 + runs + image ≡ length (mask_and_image r version step)
+unfolding mask_and_image
 behind_length r version step runs image e f =
     let part = length_part r in
     let joined = length-append (mask_part (marks_of r)) (image_bytes r version step (ending r version step)) in
@@ -81,8 +81,8 @@ behind_length r version step runs image e f =
 
 -- a mask, and an image behind it
 pub behind_written : (r : Pixels) (version : Version) (step front : ℕ) (first second rest : List ℕ) → length first ≡ front → first ≡ mask_part (marks_of r) → second ≡ image_bytes r version step (ending r version step)
-    → put_mid front (length (first ++ rest) - front) (first ++ rest) second ≡ behind_head r version step
-unfolding behind_head
+    → put_mid front (length (first ++ rest) - front) (first ++ rest) second ≡ mask_and_image r version step
+unfolding mask_and_image
 behind_written r version step front first second rest long a b =
     end_written first rest second front (length (first ++ rest) - front) long (let l = length-append first rest in omega (arith, l, long))
     ∙ (λ t. a t ++ b t)
@@ -121,8 +121,8 @@ other_sum : (r : Pixels) (version : Version) (step sum : ℕ) → header_with r 
 unfolding header_with header_of
 other_sum r version step sum = refl
 
-pub sealed_is : (r : Pixels) (version : Version) (step : ℕ) (h : Header) (behind blob : List ℕ) → h ≡ header_with r version step 0 → behind ≡ behind_head r version step → IsSealed h behind blob → blob ≡ choice r version step
-unfolding choice checksum_of
+pub sealed_is : (r : Pixels) (version : Version) (step : ℕ) (h : Header) (behind blob : List ℕ) → h ≡ header_with r version step 0 → behind ≡ mask_and_image r version step → IsSealed h behind blob → blob ≡ chosen_blob r version step
+unfolding chosen_blob checksum_of
 sealed_is r version step h behind blob e f s =
     s ∙ (λ t. head_bytes (record (e t) { checksum = sum_of (drop 14 (head_bytes (e t) ++ f t)) }) ++ f t)
-    ∙ ap (λ (x : Header). head_bytes x ++ behind_head r version step) (sym (other_sum r version step (sum_of (drop 14 (head_bytes (header_with r version step 0) ++ behind_head r version step)))))
+    ∙ ap (λ (x : Header). head_bytes x ++ mask_and_image r version step) (sym (other_sum r version step (sum_of (drop 14 (head_bytes (header_with r version step 0) ++ mask_and_image r version step)))))

@@ -8,22 +8,22 @@ use Rattle.raster_values.specs.PixelType.{bytes_of}
 use Rattle.raster_values.specs.Flat.{marks_of}
 use Rattle.lerc_header.specs.declared.header.Version.{Version}
 use Rattle.lerc_header.specs.declared.header.Version.TheVariants.{V3, V4}
-use Rattle.lerc_encode.specs.Ranges.{front_bytes, is_bare, is_level}
+use Rattle.lerc_encode.specs.Ranges.{lists_bytes, has_equal_ranges, is_constant, is_empty}
 use Rattle.lerc_encode.specs.Masks.{packed, are_alike, mask_runs_of, mask_part}
 use Rattle.mask_runs.specs.Chosen.{chosen_runs}
-use Rattle.lerc_encode.specs.Images.{sweep, is_v4, bare, level, coded, image_bytes, form_bytes, chosen_form, ending}
-use Rattle.lerc_encode.specs.Choice.{behind_head}
+use Rattle.lerc_encode.specs.Images.{sweep, is_v4, empty, constant, ranges, coded, image_bytes, coded_form_bytes, chosen_coded_form, ending}
+use Rattle.lerc_encode.specs.Choice.{mask_and_image}
 use Rattle.lerc_encode.specs.Sizes.{BlobsAreSmall}
 use Rattle.lerc_encode.proofs.Packing.{long_marks, length_packed, runs_small}
 use Rattle.lerc_encode.proofs.Forming.{length_front, length_sweep}
 use Rattle.lerc_encode.proofs.Encoded.{chosen_few, valid_few, length_choice, head_few}
 
-front_small : (r : Pixels) (version : Version) → length (front_bytes r version) ≤ 2 * (r.depth * bytes_of r.kind)
+front_small : (r : Pixels) (version : Version) → length (lists_bytes r version) ≤ 2 * (r.depth * bytes_of r.kind)
 front_small r V3 = omega arith
 front_small r V4 = let e = length_front r in omega (arith, e)
 
-sweep_small : (r : Pixels) → IsRaster r → (version : Version) (step : ℕ) → length (form_bytes r version step sweep) ≤ 1 + r.rows * r.cols * r.depth * bytes_of r.kind
-unfolding form_bytes
+sweep_small : (r : Pixels) → IsRaster r → (version : Version) (step : ℕ) → length (coded_form_bytes r version step sweep) ≤ 1 + r.rows * r.cols * r.depth * bytes_of r.kind
+unfolding coded_form_bytes
 sweep_small r is version step =
     let size = length_sweep r is (valid_count r) r.depth (bytes_of r.kind) refl refl refl in
     let few : valid_count r * r.depth * bytes_of r.kind ≤ r.rows * r.cols * r.depth * bytes_of r.kind = mul-le-mul_right (bytes_of r.kind) (mul-le-mul_right r.depth (valid_few r is)) in
@@ -31,16 +31,17 @@ sweep_small r is version step =
 
 image_small : (r : Pixels) → IsRaster r → (version : Version) (step : ℕ) → length (image_bytes r version step (ending r version step)) ≤ 2 * (r.depth * bytes_of r.kind) + (1 + r.rows * r.cols * r.depth * bytes_of r.kind)
 unfolding ending
-image_small r is version step = by (is_bare r) (is_v4 version && is_level r)
+image_small r is version step = by (is_empty r) (is_constant r) (is_v4 version && has_equal_ranges r)
   where
-    by : (b c : Bool) → length (image_bytes r version step (if b then bare else (if c then level else coded (chosen_form r version step)))) ≤ 2 * (r.depth * bytes_of r.kind) + (1 + r.rows * r.cols * r.depth * bytes_of r.kind)
-    by true c = omega arith
-    by false true = let f = front_small r version in omega (arith, f)
-    by false false =
+    by : (b d c : Bool) → length (image_bytes r version step (if b then empty else (if d then constant else (if c then ranges else coded (chosen_coded_form r version step))))) ≤ 2 * (r.depth * bytes_of r.kind) + (1 + r.rows * r.cols * r.depth * bytes_of r.kind)
+    by true d c = omega arith
+    by false true c = omega arith
+    by false false true = let f = front_small r version in omega (arith, f)
+    by false false false =
         let front = front_small r version in
         let form = chosen_few r version step in
         let most = sweep_small r is version step in
-        let joined : length (front_bytes r version ++ form_bytes r version step (chosen_form r version step)) ≡ length (front_bytes r version) + length (form_bytes r version step (chosen_form r version step)) = length-append (front_bytes r version) (form_bytes r version step (chosen_form r version step)) in
+        let joined : length (lists_bytes r version ++ coded_form_bytes r version step (chosen_coded_form r version step)) ≡ length (lists_bytes r version) + length (coded_form_bytes r version step (chosen_coded_form r version step)) = length-append (lists_bytes r version) (coded_form_bytes r version step (chosen_coded_form r version step)) in
         omega (arith, front, form, most, joined)
 
 runs_few : (r : Pixels) → IsRaster r → length (mask_runs_of (marks_of r)) ≤ 3 * ((r.rows * r.cols + 7) / 8) + 2
@@ -55,7 +56,7 @@ runs_few r is = by (are_alike (marks_of r))
         omega (arith, a, b)
 
 pub small : BlobsAreSmall
-unfolding behind_head mask_part
+unfolding mask_and_image mask_part
 small r version step is =
     let image = image_small r is version step in
     let runs = runs_few r is in

@@ -20,9 +20,10 @@ use Rattle.micro_block.proofs.Written.{raw_stands, nothing_off}
 use Rattle.lerc_grammar.specs.Image.{Ends, top_of, HasMode, IsBlocksMode, IsCoded, value_count}
 use Rattle.lerc_grammar.specs.Image as grammar
 use Rattle.lerc_grammar.specs.Blocks.{coded_blocks, block_frame, coded_values, all_blocks, AreBlocks}
-use Rattle.lerc_encode.specs.Ranges.{greatest_value, depth_values, leasts, greatests, front_of}
+use Rattle.lerc_encode.specs.Ranges.{greatest_value, depth_values, leasts, greatests}
+use Rattle.lerc_encode.specs.inside.Fronts.{front_of}
 use Rattle.lerc_encode.specs.Heads.{header_of}
-use Rattle.lerc_encode.specs.Images.{Form, sweep, blocks_8, blocks_16, delta, plain, side_of, has_mode, may_be_delta, may_be_plain, blocks_bytes, coded_bytes, mode_bytes, form_bytes}
+use Rattle.lerc_encode.specs.Images.{CodedForm, sweep, blocks_8, blocks_16, delta, plain, side_of, has_mode, may_be_delta, may_be_plain, blocks_bytes, coded_bytes, mode_bytes, coded_form_bytes}
 use Rattle.lerc_encode.specs.inside.Suits.{Suits, IsBeside}
 use Rattle.lerc_encode.proofs.Extremes.{all_of, greatest_above, greatest_in_range, value_among, value_of_all, values_in_range, depth_in_range, length_values}
 use Rattle.lerc_encode.proofs.SymbolForms.{delta_form, plain_form}
@@ -112,7 +113,7 @@ suits r is version step side size sum some above below =
 -- ---- each form stands
 
 -- the raster for which a form stands
-abbrev pub raster_of : Pixels → Version → ℕ → ℕ → ℕ → Form → Pixels
+abbrev pub raster_of : Pixels → Version → ℕ → ℕ → ℕ → CodedForm → Pixels
 raster_of r version step size sum sweep = r
 raster_of r version step size sum delta = r
 raster_of r version step size sum plain = r
@@ -157,16 +158,16 @@ sweep_form r is version step size sum =
     grammar.sweep (values_bytes r.kind (values_of r.pixels)) refl (raw_stands r.kind (values_of r.pixels) (all_of (InRange r.kind) (values_of r.pixels) (values_in_range r is))) (length_values r is)
 
 -- the form may be taken
-abbrev pub MayBe : Pixels → Version → ℕ → Form → Type 0
+abbrev pub MayBe : Pixels → Version → ℕ → CodedForm → Type 0
 MayBe r version step sweep = Unit {0}
 MayBe r version step blocks_8 = Unit {0}
 MayBe r version step blocks_16 = Unit {0}
 MayBe r version step delta = may_be_delta r step ≡ true
 MayBe r version step plain = may_be_plain r version step ≡ true
 
-pub form_stands : (r : Pixels) → IsRaster r → (version : Version) (step size sum : ℕ) → 0 < step → (form : Form) → MayBe r version step form
-    → IsCoded (header_of r version step (side_of form) size sum) (front_of r version) (form_bytes r version step form) (raster_of r version step size sum form)
-unfolding form_bytes
+pub form_stands : (r : Pixels) → IsRaster r → (version : Version) (step size sum : ℕ) → 0 < step → (form : CodedForm) → MayBe r version step form
+    → IsCoded (header_of r version step (side_of form) size sum) (front_of r version) (coded_form_bytes r version step form) (raster_of r version step size sum form)
+unfolding coded_form_bytes
 form_stands r is version step size sum some sweep may = sweep_form r is version step size sum
 form_stands r is version step size sum some blocks_8 may = block_form r is version step 8 size sum some (omega arith) (omega arith)
 form_stands r is version step size sum some blocks_16 may = block_form r is version step 16 size sum some (omega arith) (omega arith)
@@ -178,14 +179,14 @@ form_stands r is version step size sum some plain may = plain_form r is version 
 pub near_itself : (r : Pixels) (step : ℕ) → IsBeside r r step
 near_itself r step = record { shape = record { kind = refl; rows = refl; cols = refl; depth = refl }; marks = refl; each = λ k d h m low. nothing_off step (value_in r d k) }
 
-pub form_sound : (r : Pixels) → IsRaster r → (version : Version) (step size sum : ℕ) → 0 < step → (form : Form) → IsRaster (raster_of r version step size sum form)
+pub form_sound : (r : Pixels) → IsRaster r → (version : Version) (step size sum : ℕ) → 0 < step → (form : CodedForm) → IsRaster (raster_of r version step size sum form)
 form_sound r is version step size sum some sweep = is
 form_sound r is version step size sum some delta = is
 form_sound r is version step size sum some plain = is
 form_sound r is version step size sum some blocks_8 = kept_sound _ _ r (suits r is version step 8 size sum some (omega arith) (omega arith))
 form_sound r is version step size sum some blocks_16 = kept_sound _ _ r (suits r is version step 16 size sum some (omega arith) (omega arith))
 
-pub form_near : (r : Pixels) → IsRaster r → (version : Version) (step size sum : ℕ) → 0 < step → (form : Form) → IsBeside r (raster_of r version step size sum form) step
+pub form_near : (r : Pixels) → IsRaster r → (version : Version) (step size sum : ℕ) → 0 < step → (form : CodedForm) → IsBeside r (raster_of r version step size sum form) step
 unfolding header_of
 form_near r is version step size sum some sweep = near_itself r step
 form_near r is version step size sum some delta = near_itself r step

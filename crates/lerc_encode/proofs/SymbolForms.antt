@@ -16,7 +16,7 @@ use Rattle.lerc_grammar.specs.Image.{HasMode, IsCoded}
 use Rattle.lerc_grammar.specs.Image as grammar
 use Rattle.lerc_encode.specs.Codings.{coding_bytes, have_codes}
 use Rattle.lerc_encode.specs.Heads.{header_of}
-use Rattle.lerc_encode.specs.Ranges.{front_of}
+use Rattle.lerc_encode.specs.inside.Fronts.{front_of}
 use Rattle.lerc_encode.specs.Images.{all_deltas, has_mode, is_v4, may_be_delta, may_be_plain}
 use Rattle.lerc_encode.proofs.Kept.{length_flat}
 use Rattle.lerc_encode.proofs.TableBytes.{coding_stands}

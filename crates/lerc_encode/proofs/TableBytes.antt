@@ -25,7 +25,7 @@ use Rattle.huff_codes.proofs.Filling.{all_coded}
 use Rattle.huff_codes.proofs.Counted.{counted_have_lengths}
 use Rattle.huff_codes.proofs.WrittenBack.{written_are_words}
 use Rattle.huff_codes.proofs.Uses.{are_lengths}
-use Rattle.lerc_encode.specs.Codings.{code_lengths, coding_bytes, counts_of, have_codes, reach_from, run_from, shortest_run, symbol_codes, table_bytes, table_codes, words_of}
+use Rattle.lerc_encode.specs.Codings.{code_lengths, coding_bytes, counts_of, have_codes, reach_from, run_from, shortest_run, symbol_codes, code_table_bytes, table_codes, filled_words}
 use Rattle.lerc_encode.proofs.WordBytes.{back_bytes_are, filled_is, symbol_words, table_words, words-long}
 
 -- ---- the shortest range
@@ -136,22 +136,22 @@ run_is lengths = taken_run lengths _ (is_first_least (λ (run : SymbolRange). ru
 
 -- ---- the table
 
-pub table_written : (lengths : List ℕ) → IsWrittenTable lengths (table_bytes lengths)
-unfolding table_bytes
+pub table_written : (lengths : List ℕ) → IsWrittenTable lengths (code_table_bytes lengths)
+unfolding code_table_bytes
 table_written lengths = record {
   range = shortest_run lengths;
-  words = words_of (word_count (length (table_codes lengths))) (table_codes lengths);
+  words = filled_words (word_count (length (table_codes lengths))) (table_codes lengths);
   run = run_is lengths;
   joined = refl;
   filled = table_words (canonical_codes lengths) (symbols_in (shortest_run lengths).first (shortest_run lengths).count);
 }
 
-pub length_table : (lengths : List ℕ) (size : ℕ) → AreLengths lengths → IsTableSize lengths size → size ≡ length (table_bytes lengths)
-unfolding table_bytes
+pub length_table : (lengths : List ℕ) (size : ℕ) → AreLengths lengths → IsTableSize lengths size → size ≡ length (code_table_bytes lengths)
+unfolding code_table_bytes
 length_table lengths size h is =
     let run = shortest_run lengths in
     let list = simple_bytes (run_lengths lengths run) in
-    let words = words_of (word_count (length (table_codes lengths))) (table_codes lengths) in
+    let words = filled_words (word_count (length (table_codes lengths))) (table_codes lengths) in
     let e = is run (run_is lengths) in
     let long = words-long (word_count (length (table_codes lengths))) (table_codes lengths) in
     let bits : length (table_codes lengths) ≡ sum (run_lengths lengths run) = run_bits lengths run h in
@@ -161,17 +161,17 @@ length_table lengths size h is =
     let b = length-append list words in
     omega (arith, e, long, count, head, a, b)
 
-pub table_is : (lengths bytes : List ℕ) → AreBytes bytes → IsWrittenTable lengths bytes → bytes ≡ table_bytes lengths
-unfolding table_bytes
+pub table_is : (lengths bytes : List ℕ) → AreBytes bytes → IsWrittenTable lengths bytes → bytes ≡ code_table_bytes lengths
+unfolding code_table_bytes
 table_is lengths bytes are w =
     let run : w.range ≡ shortest_run lengths = one_run lengths w.range (shortest_run lengths) w.run (run_is lengths) in
     let list = simple_bytes (run_lengths lengths w.range) in
     let words_are : AreBytes w.words = back_bytes_are list w.words (back_bytes_are (table_head w.range) (list ++ w.words) (subst AreBytes w.joined are)) in
     let bits = joined_codes (canonical_codes lengths) (symbols_in w.range.first w.range.count) in
-    let words : w.words ≡ words_of (word_count (length bits)) bits = filled_is (word_count (length bits)) bits w.words (omega arith) words_are w.filled in
+    let words : w.words ≡ filled_words (word_count (length bits)) bits = filled_is (word_count (length bits)) bits w.words (omega arith) words_are w.filled in
     w.joined ∙ ap (λ (u : List ℕ). table_head w.range ++ (list ++ u)) words
     ∙ ap (λ (x : SymbolRange). table_head x ++ (simple_bytes (run_lengths lengths x)
-    ++ words_of (word_count (length (joined_codes (canonical_codes lengths) (symbols_in x.first x.count)))) (joined_codes (canonical_codes lengths) (symbols_in x.first x.count)))) run
+    ++ filled_words (word_count (length (joined_codes (canonical_codes lengths) (symbols_in x.first x.count)))) (joined_codes (canonical_codes lengths) (symbols_in x.first x.count)))) run
 
 -- ---- symbols and their lengths
 
@@ -249,14 +249,14 @@ unfolding coding_bytes
 coding_stands n symbols long are h =
     let lengths = code_lengths symbols in
     let codes = canonical_codes lengths in
-    let words = words_of (word_count (length (symbol_codes symbols)) + 1) (symbol_codes symbols) in
+    let words = filled_words (word_count (length (symbol_codes symbols)) + 1) (symbol_codes symbols) in
     let used = (used_of symbols h).lengths in
     record {
-      front = table_bytes lengths;
+      front = code_table_bytes lengths;
       rest = words;
       value = codes;
       joined = refl;
-      stands = table_from lengths (table_bytes lengths) used (table_written lengths);
+      stands = table_from lengths (code_table_bytes lengths) used (table_written lengths);
       follows = subst (λ m. AreWords codes m words symbols) long (written_are_words codes symbols words (all_coded lengths symbols used are (symbols_coded symbols are h)) (symbol_words codes symbols));
     }
 
@@ -266,7 +266,7 @@ length_coding symbols table words h is e =
     let bits = symbol_codes symbols in
     let front = length_table (code_lengths symbols) table (used_of symbols h).lengths is in
     let back = words-long (word_count (length bits) + 1) bits in
-    let joined = length-append (table_bytes (code_lengths symbols)) (words_of (word_count (length bits) + 1) bits) in
+    let joined = length-append (code_table_bytes (code_lengths symbols)) (filled_words (word_count (length bits) + 1) bits) in
     omega (arith, front, back, joined, e)
 
 pub coding_is : (symbols table words : List ℕ) → AreBytes table → AreBytes words → IsWrittenTable (code_lengths symbols) table → AreWritten (canonical_codes (code_lengths symbols)) symbols words → table ++ words ≡ coding_bytes symbols

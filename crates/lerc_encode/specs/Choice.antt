@@ -12,22 +12,22 @@ use Rattle.lerc_encode.specs.Images.{ending, image_bytes, side_at}
 use Rattle.lerc_encode.specs.Masks.{mask_part}
 
 -- the mask and the image
-unfoldable pub behind_head : Pixels → Version → ℕ → List ℕ
-behind_head r version step =
+unfoldable pub mask_and_image : Pixels → Version → ℕ → List ℕ
+mask_and_image r version step =
     mask_part (marks_of r) ++ image_bytes r version step (ending r version step)
 
 -- the header with a checksum
 unfoldable pub header_with : Pixels → Version → ℕ → ℕ → Header
 header_with r version step checksum =
     header_of r version step (side_at (ending r version step))
-    (head_length version + length (behind_head r version step)) checksum
+    (head_length version + length (mask_and_image r version step)) checksum
 
 -- the checksum of the bytes behind it, which say nothing of it
 unfoldable pub checksum_of : Pixels → Version → ℕ → ℕ
 checksum_of r version step =
-    sum_of (drop 14 (head_bytes (header_with r version step 0) ++ behind_head r version step))
+    sum_of (drop 14 (head_bytes (header_with r version step 0) ++ mask_and_image r version step))
 
-unfoldable pub choice : Pixels → Version → ℕ → List ℕ
-choice r version step =
+unfoldable pub chosen_blob : Pixels → Version → ℕ → List ℕ
+chosen_blob r version step =
     head_bytes (header_with r version step (checksum_of r version step))
-    ++ behind_head r version step
+    ++ mask_and_image r version step

@@ -1,5 +1,8 @@
 -- Symbols as code words, in bytes: their counts and the lengths of their codes, the code table, and
 -- the words.
+-- What the bytes of a table and of words are is said by the relations of huff_codes: a law,
+-- `codings_are_written`, says that those below are the ones in these relations, and no others are.
+-- So nobody has to follow how they are made.
 use Rattle.std.specs.Prelude.{ℕ, zero, suc, ◌+◌, ◌-◌, ◌*◌, ◌%◌, ◌^◌, Bool, false, ◌&&◌, nat_eq, nat_le, if◌then◌else◌, List, [], ◌∷◌, ◌++◌, length, slice_index, take, drop, replicate, map, unwrap_or, Some}
 use Rattle.std.specs.List.{list_all, range_with_len}
 use Rattle.byteorder.specs.Endian.{little_bytes}
@@ -16,18 +19,18 @@ use Rattle.huff_codes.specs.declared.table.SymbolRange.{SymbolRange}
 -- ---- words of bits
 
 -- the number of these bits, the highest of them first
-unfoldable pub number_of : List Bool → ℕ
-number_of [] = 0
-number_of (bit ∷ bits) = (if bit then 1 else 0) * 2 ^ length bits + number_of bits
+unfoldable pub bits_number : List Bool → ℕ
+bits_number [] = 0
+bits_number (bit ∷ bits) = (if bit then 1 else 0) * 2 ^ length bits + bits_number bits
 
 -- the first 32 bits, filled up with zeros
 abbrev pub word_in_front : List Bool → List Bool
 word_in_front bits = take 32 (bits ++ replicate 32 false)
 
 -- so many 32-bit little-endian words, with these bits in front, each word's highest bit first
-unfoldable pub words_of : ℕ → List Bool → List ℕ
-words_of zero bits = []
-words_of (suc n) bits = little_bytes 4 (number_of (word_in_front bits)) ++ words_of n (drop 32 bits)
+unfoldable pub filled_words : ℕ → List Bool → List ℕ
+filled_words zero bits = []
+filled_words (suc n) bits = little_bytes 4 (bits_number (word_in_front bits)) ++ filled_words n (drop 32 bits)
 
 -- ---- the code table
 
@@ -53,11 +56,11 @@ table_codes lengths =
     (symbols_in (shortest_run lengths).first (shortest_run lengths).count)
 
 -- the numbers in front, the lengths as a simple list, and the codes in words
-unfoldable pub table_bytes : List ℕ → List ℕ
-table_bytes lengths =
+unfoldable pub code_table_bytes : List ℕ → List ℕ
+code_table_bytes lengths =
     table_head (shortest_run lengths)
     ++ (simple_bytes (run_lengths lengths (shortest_run lengths))
-    ++ words_of (word_count (length (table_codes lengths))) (table_codes lengths))
+    ++ filled_words (word_count (length (table_codes lengths))) (table_codes lengths))
 
 -- ---- symbols
 
@@ -77,5 +80,5 @@ symbol_codes symbols = joined_codes (canonical_codes (code_lengths symbols)) sym
 -- the code table, the words of the symbols, and one further word
 unfoldable pub coding_bytes : List ℕ → List ℕ
 coding_bytes symbols =
-    table_bytes (code_lengths symbols)
-    ++ words_of (word_count (length (symbol_codes symbols)) + 1) (symbol_codes symbols)
+    code_table_bytes (code_lengths symbols)
+    ++ filled_words (word_count (length (symbol_codes symbols)) + 1) (symbol_codes symbols)

@@ -1,9 +1,9 @@
 -- What the bytes of an encoded raster are.
 use Rattle.std.specs.Prelude.{◌≡◌, ◌<◌, ℕ, List}
-use Rattle.raster_values.specs.Raster.{Pixels, IsRaster}
+use Rattle.raster_values.specs.Raster.{Pixels}
 use Rattle.lerc_header.specs.declared.header.Version.{Version}
 use Rattle.lerc_header.specs.declared.header.Version.TheVariants.{V3}
-use Rattle.lerc_header.specs.Head.{HeadAt, IsTwiceError}
+use Rattle.lerc_header.specs.Head.{HeadAt}
 use Rattle.lerc_header.specs.declared.header.Header.{Header}
 use Rattle.lerc_grammar.specs.Blob.{Blob}
 use Rattle.lerc_grammar.specs.Near.{Near}
@@ -11,12 +11,6 @@ use Rattle.lerc_grammar.specs.Near.{Near}
 -- the version has no place for the raster's depths
 abbrev pub NeedsV4 : Version → Pixels → Type 0
 NeedsV4 version r = (version ≡ V3) × (1 < r.depth)
-
--- a raster that a blob of this version can hold, and a step that a header can declare
-pub record IsAsked (r : Pixels) (version : Version) (step : ℕ) : Type 0 where
-  pub sound : IsRaster r
-  pub step_allowed : IsTwiceError step
-  pub flat : version ≡ V3 → r.depth ≡ 1
 
 -- The bytes are a blob of exactly one raster, and that one is near the given one: of one type and
 -- shape, with the same valid pixels, and each value within half a step.

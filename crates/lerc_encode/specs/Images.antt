@@ -12,7 +12,7 @@ use Rattle.micro_block.specs.Choice.{block_bytes}
 use Rattle.delta_mode.specs.Deltas.{deltas, plain as plain_symbols}
 use Rattle.lerc_grammar.specs.Blocks.{block_col, coded_blocks, coded_values}
 use Rattle.lerc_encode.specs.Heads.{header_of}
-use Rattle.lerc_encode.specs.Ranges.{front_bytes, is_bare, is_level}
+use Rattle.lerc_encode.specs.Ranges.{lists_bytes, has_equal_ranges, is_constant, is_empty}
 use Rattle.lerc_encode.specs.Codings.{coding_bytes, have_codes}
 
 -- the bytes of coded block number k
@@ -40,29 +40,29 @@ is_v4 V4 = true
 
 -- ---- the forms of the values, in order
 
-pub data Form : Type 0 where
-  sweep : Form
-  blocks_8 : Form
-  blocks_16 : Form
-  delta : Form
-  plain : Form
+pub data CodedForm : Type 0 where
+  sweep : CodedForm
+  blocks_8 : CodedForm
+  blocks_16 : CodedForm
+  delta : CodedForm
+  plain : CodedForm
 
 -- the side that the header says
-abbrev pub side_of : Form → ℕ
+abbrev pub side_of : CodedForm → ℕ
 side_of sweep = 8
 side_of blocks_8 = 8
 side_of blocks_16 = 16
 side_of delta = 8
 side_of plain = 8
 
-unfoldable pub form_bytes : Pixels → Version → ℕ → Form → List ℕ
-form_bytes r version step sweep = 1 ∷ values_bytes r.kind (values_of r.pixels)
-form_bytes r version step blocks_8 =
+unfoldable pub coded_form_bytes : Pixels → Version → ℕ → CodedForm → List ℕ
+coded_form_bytes r version step sweep = 1 ∷ values_bytes r.kind (values_of r.pixels)
+coded_form_bytes r version step blocks_8 =
     0 ∷ (mode_bytes r step ++ blocks_bytes (header_of r version step 8 0 0) r)
-form_bytes r version step blocks_16 =
+coded_form_bytes r version step blocks_16 =
     0 ∷ (mode_bytes r step ++ blocks_bytes (header_of r version step 16 0 0) r)
-form_bytes r version step delta = 0 ∷ 1 ∷ coding_bytes (all_deltas r)
-form_bytes r version step plain = 0 ∷ 2 ∷ coding_bytes (plain_symbols r)
+coded_form_bytes r version step delta = 0 ∷ 1 ∷ coding_bytes (all_deltas r)
+coded_form_bytes r version step plain = 0 ∷ 2 ∷ coding_bytes (plain_symbols r)
 
 -- differences and plain symbols in code words: where a mode byte stands and the symbols have codes;
 -- plain symbols in version 4
@@ -73,36 +73,41 @@ abbrev pub may_be_plain : Pixels → Version → ℕ → Bool
 may_be_plain r version step =
     (has_mode r step && is_v4 version) && have_codes (plain_symbols r)
 
-abbrev pub forms : Pixels → Version → ℕ → List (Option Form)
-forms r version step =
+abbrev pub coded_forms : Pixels → Version → ℕ → List (Option CodedForm)
+coded_forms r version step =
     Some sweep ∷ Some blocks_8 ∷ Some blocks_16 ∷ allowed (may_be_delta r step) delta
     ∷ allowed (may_be_plain r version step) plain ∷ []
 
 -- the first of those with the fewest bytes
-unfoldable pub chosen_form : Pixels → Version → ℕ → Form
-chosen_form r version step =
-    unwrap_or (first_least (λ form. length (form_bytes r version step form)) (forms r version step))
+unfoldable pub chosen_coded_form : Pixels → Version → ℕ → CodedForm
+chosen_coded_form r version step =
+    unwrap_or (first_least (λ form. length (coded_form_bytes r version step form)) (coded_forms r version step))
     sweep
 
--- ---- how the image ends: before the lists, behind them, or with the values in a form
+-- ---- how the image ends: before the lists, behind them, or with the values in a form; these are the
+-- images of the format, the last one those with coded values
 
 pub data Ending : Type 0 where
-  bare : Ending
-  level : Ending
-  coded : Form → Ending
+  empty : Ending
+  constant : Ending
+  ranges : Ending
+  coded : CodedForm → Ending
 
 unfoldable pub ending : Pixels → Version → ℕ → Ending
 ending r version step =
-    if is_bare r then bare
-    else (if is_v4 version && is_level r then level
-    else coded (chosen_form r version step))
+    if is_empty r then empty
+    else (if is_constant r then constant
+    else (if is_v4 version && has_equal_ranges r then ranges
+    else coded (chosen_coded_form r version step)))
 
 abbrev pub side_at : Ending → ℕ
-side_at bare = 8
-side_at level = 8
+side_at empty = 8
+side_at constant = 8
+side_at ranges = 8
 side_at (coded form) = side_of form
 
 abbrev pub image_bytes : Pixels → Version → ℕ → Ending → List ℕ
-image_bytes r version step bare = []
-image_bytes r version step level = front_bytes r version
-image_bytes r version step (coded form) = front_bytes r version ++ form_bytes r version step form
+image_bytes r version step empty = []
+image_bytes r version step constant = []
+image_bytes r version step ranges = lists_bytes r version
+image_bytes r version step (coded form) = lists_bytes r version ++ coded_form_bytes r version step form

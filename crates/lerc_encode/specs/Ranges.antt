@@ -1,5 +1,5 @@
 -- The least and the greatest values of a raster, and the lists in front of an image.
-use Rattle.std.specs.Prelude.{ℕ, ℤ, pos, Bool, ◌||◌, nat_eq, List, [], ◌∷◌, ◌++◌, map, fold, Option, Some, None}
+use Rattle.std.specs.Prelude.{ℕ, ℤ, pos, Bool, nat_eq, List, [], ◌∷◌, ◌++◌, map, fold}
 use Rattle.std.specs.Int.{int_max}
 use Rattle.std.specs.Ordering.{int_eq}
 use Rattle.std.specs.Cmp.Lexicographic.{pointwise}
@@ -9,7 +9,6 @@ use Rattle.raster_values.specs.Grid.{values_bytes}
 use Rattle.lerc_header.specs.declared.header.Version.{Version}
 use Rattle.lerc_header.specs.declared.header.Version.TheVariants.{V3, V4}
 use Rattle.micro_block.specs.Choice.{least_value}
-use Rattle.lerc_grammar.specs.Image.{Ends}
 pub use Rattle.raster_values.specs.Flat.{at_depth}
 unfoldable pub use Rattle.raster_values.specs.Flat.{depth_values}
 
@@ -26,22 +25,20 @@ abbrev pub greatests : Pixels → List ℤ
 greatests r = map (λ d. greatest_value (depth_values r d)) (range_with_len 0 r.depth)
 
 -- the lists that stand behind the mask in version 4, and none in version 3
-abbrev pub front_of : Pixels → Version → Option Ends
-front_of r V3 = None
-front_of r V4 = Some (record { least = leasts r; greatest = greatests r })
-
-abbrev pub front_bytes : Pixels → Version → List ℕ
-front_bytes r V3 = []
-front_bytes r V4 = values_bytes r.kind (leasts r ++ greatests r)
+abbrev pub lists_bytes : Pixels → Version → List ℕ
+lists_bytes r V3 = []
+lists_bytes r V4 = values_bytes r.kind (leasts r ++ greatests r)
 
 -- ---- images that end early
 
--- no pixel is valid, or all values are one
-abbrev pub is_bare : Pixels → Bool
-is_bare r =
-    nat_eq (valid_count r) 0
-    || int_eq (least_value (values_of r.pixels)) (greatest_value (values_of r.pixels))
+-- no pixel is valid
+abbrev pub is_empty : Pixels → Bool
+is_empty r = nat_eq (valid_count r) 0
 
--- each depth has one value
-abbrev pub is_level : Pixels → Bool
-is_level r = pointwise int_eq (leasts r) (greatests r)
+-- all values are one
+abbrev pub is_constant : Pixels → Bool
+is_constant r = int_eq (least_value (values_of r.pixels)) (greatest_value (values_of r.pixels))
+
+-- each depth has one value, so that the two lists are equal
+abbrev pub has_equal_ranges : Pixels → Bool
+has_equal_ranges r = pointwise int_eq (leasts r) (greatests r)

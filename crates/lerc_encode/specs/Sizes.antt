@@ -4,7 +4,7 @@ use Rattle.raster_values.specs.declared.kind.PixelType.{PixelType}
 use Rattle.raster_values.specs.PixelType.{bytes_of}
 use Rattle.raster_values.specs.Raster.{Pixels, IsRaster}
 use Rattle.lerc_header.specs.declared.header.Version.{Version}
-use Rattle.lerc_encode.specs.Choice.{choice}
+use Rattle.lerc_encode.specs.Choice.{chosen_blob}
 
 -- The header and the length of the mask; the mask in runs of the worst kind, which take three bytes
 -- for each of its own, and two behind them; a least and a greatest value for each depth; and the
@@ -15,4 +15,4 @@ greatest_size kind rows cols depth = 70 + (3 * ((rows * cols + 7) / 8) + 2)
 
 abbrev pub BlobsAreSmall : Type 0
 BlobsAreSmall = (r : Pixels) (version : Version) (step : ℕ) → IsRaster r
-    → length (choice r version step) ≤ greatest_size r.kind r.rows r.cols r.depth
+    → length (chosen_blob r version step) ≤ greatest_size r.kind r.rows r.cols r.depth

@@ -1,4 +1,6 @@
 -- The words of private functions alone: no public clause cites them.
+pub mod Asked
+pub mod Fronts
 pub mod Blocked
 pub mod Coded
 pub mod Choosing

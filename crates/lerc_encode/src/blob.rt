@@ -1,11 +1,12 @@
 //! The chosen blob of a raster.
 
-ghost use Rattle.std.specs.Prelude.{◌≡◌, ◌+◌, ◌^◌, ◌<◌, ◌≤◌, ◌↔◌, ◌++◌, ℕ, IfOk, IsErrOf, IsTrue, OnErr, OnOk, drop, length};
+ghost use Rattle.std.specs.Prelude.{◌≡◌, ◌+◌, ◌^◌, ◌<◌, ◌≤◌, ◌↔◌, ◌++◌, ℕ, IfOk, IsErrOf, OnErr, OnOk, drop, length};
 ghost use Rattle.lerc_header.specs.declared.header.Version.TheVariants.{V3};
 ghost use Rattle.lerc_header.specs.Head.{head_length};
 ghost use Rattle.lerc_header.specs.Written.{IsHeader, head_bytes};
-ghost use Rattle.lerc_encode.specs.Choice.{behind_head, choice, header_with};
-ghost use Rattle.lerc_encode.specs.Encoded.{Declares, IsAsked, IsEncodedOnce};
+ghost use Rattle.lerc_encode.specs.Choice.{mask_and_image, chosen_blob, header_with};
+ghost use Rattle.lerc_encode.specs.Encoded.{Declares, IsEncodedOnce};
+ghost use Rattle.lerc_encode.specs.inside.Asked.{IsAsked};
 ghost use Rattle.lerc_encode.specs.inside.Choosing.{AreRanges, IsBase};
 ghost use Rattle.lerc_encode.specs.inside.Layout.{IsPlan, IsSealed};
 
@@ -13,7 +14,7 @@ use crate::choosing::{Ending, ending_of};
 use crate::images::{image_len, side_of, write_image};
 use crate::masks::{mask_of, runs_size, write_mask};
 use crate::ranging::{Ranges, ranges_of, whole_range};
-use lerc_header::{Header, Step, Version, checksum, write_header};
+use lerc_header::{Header, Step, Version, needs_v4, sum_behind, write_header};
 use outside_io::Bytes;
 use raster_values::Raster;
 use std::alloc::{AllocError, Global};
@@ -102,7 +103,7 @@ fn plan_of(alloc: Global, raster: &Raster, version: Version, step: u64) -> Resul
 fn behind_len(plan: &Plan, raster: &Raster) -> usize
     requires { IsPlan raster.now plan.now.base.version plan.now.base.step plan.now }
     ensures value { result
-        ≡ length (behind_head raster.now plan.now.base.version plan.now.base.step) }
+        ≡ length (mask_and_image raster.now plan.now.base.version plan.now.base.step) }
     ensures few { result ≤ 73924615 }
 {
     4 + plan.runs + image_len(&plan.ending, &plan.base, raster)
@@ -112,8 +113,8 @@ fn behind_len(plan: &Plan, raster: &Raster) -> usize
 fn write_behind(plan: &Plan, raster: &Raster, out: &mut [u8])
     requires plan { IsPlan raster.now plan.now.base.version plan.now.base.step plan.now }
     requires room { length out.old
-        ≡ length (behind_head raster.now plan.now.base.version plan.now.base.step) }
-    ensures { out.new ≡ behind_head raster.now plan.now.base.version plan.now.base.step }
+        ≡ length (mask_and_image raster.now plan.now.base.version plan.now.base.step) }
+    ensures { out.new ≡ mask_and_image raster.now plan.now.base.version plan.now.base.step }
 {
     let front = (4 + plan.runs).min(out.len());
     write_mask(raster, &plan.mask, plan.runs, &mut out[..front]);
@@ -130,7 +131,7 @@ fn write_behind(plan: &Plan, raster: &Raster, out: &mut [u8])
 fn header_of(plan: &Plan, raster: &Raster, size: usize) -> Header
     requires plan { IsPlan raster.now plan.now.base.version plan.now.base.step plan.now }
     requires size { size ≡ head_length plan.now.base.version
-        + length (behind_head raster.now plan.now.base.version plan.now.base.step) }
+        + length (mask_and_image raster.now plan.now.base.version plan.now.base.step) }
     requires few { size < 2 ^ 32 }
     ensures { result ≡ header_with raster.now plan.now.base.version plan.now.base.step 0 }
 {
@@ -169,7 +170,7 @@ fn seal(header: &Header, blob: &mut [u8])
     ensures { IsSealed header.now (drop (head_length header.now.version) blob.old) blob.new }
 {
     put_header(header, blob);
-    let sum = checksum(&blob[14..]);
+    let sum = sum_behind(blob);
     put_header(&with_sum(header, sum), blob);
 }
 
@@ -178,8 +179,8 @@ fn fill(plan: &Plan, raster: &Raster, blob: &mut [u8])
     requires asked { IsAsked raster.now plan.now.base.version plan.now.base.step }
     requires plan { IsPlan raster.now plan.now.base.version plan.now.base.step plan.now }
     requires room { length blob.old ≡ head_length plan.now.base.version
-        + length (behind_head raster.now plan.now.base.version plan.now.base.step) }
-    ensures { blob.new ≡ choice raster.now plan.now.base.version plan.now.base.step }
+        + length (mask_and_image raster.now plan.now.base.version plan.now.base.step) }
+    ensures { blob.new ≡ chosen_blob raster.now plan.now.base.version plan.now.base.step }
 {
     let size = blob.len();
     let head = plan.base.version.head_length().min(size);
@@ -195,23 +196,13 @@ fn blob_of(
     step: u64,
 ) -> Result<Vec<u8>, AllocError>
     requires { IsAsked raster.now version step }
-    ensures { IfOk result (λ blob. blob.items ≡ choice raster.now version step) }
+    ensures { IfOk result (λ blob. blob.items ≡ chosen_blob raster.now version step) }
 {
     let plan = plan_of(alloc, raster, version, step)?;
     let size = version.head_length() + behind_len(&plan, raster);
     let mut blob = vec![in alloc; 0u8; size]?;
     fill(&plan, raster, &mut blob);
     Ok(blob)
-}
-
-/// Whether the version has no place for the raster's depths.
-fn needs_v4(version: Version, raster: &Raster) -> bool
-    ensures { IsTrue result ↔ ((version ≡ V3) × (1 < raster.now.depth)) }
-{
-    match version {
-        Version::V3 => raster.depth() > 1,
-        Version::V4 => false,
-    }
 }
 
 /// The blob of a raster, in this version and with this step between values that it can tell.
@@ -227,13 +218,12 @@ pub fn encode(
 ) -> Result<Bytes, EncodeFault>
     ensures depth { IsErrOf result EncodeFault.DepthNeedsV4
         ↔ ((version ≡ V3) × (1 < raster.now.depth)) }
-    ensures chosen { IfOk result (λ blob. blob ≡ choice raster.now version step) }
+    ensures chosen { IfOk result (λ blob. blob ≡ chosen_blob raster.now version step) }
     ensures few { IfOk result (λ blob. length blob ≤ 134217728) }
     ensures decodes { IfOk result (λ blob. IsEncodedOnce blob raster.now step) }
     ensures declares { IfOk result (λ blob. Declares blob version step) }
 {
-    let _rows = raster.rows();
-    if needs_v4(version, raster) {
+    if needs_v4(version, raster.depth()) {
         return Err(EncodeFault::DepthNeedsV4);
     }
     let blob = blob_of(alloc, raster, version, step.get())?;
@@ -273,17 +263,16 @@ pub fn encode_over(
     ensures depth { IsErrOf result LayFault.DepthNeedsV4
         ↔ ((version ≡ V3) × (1 < raster.now.depth)) }
     ensures room { (n : ℕ) → IsErrOf result (LayFault.NoRoom n)
-        → (n ≡ length (choice raster.now version step)) × ((length out.old < n)
-        × IsEncodedOnce (choice raster.now version step) raster.now step) }
+        → (n ≡ length (chosen_blob raster.now version step)) × ((length out.old < n)
+        × IsEncodedOnce (chosen_blob raster.now version step) raster.now step) }
     ensures few { IfOk result (λ n. n ≤ 134217728) }
     ensures kept { OnErr result (out.new ≡ out.old) }
-    ensures size { IfOk result (λ n. n ≡ length (choice raster.now version step)) }
-    ensures laid { IfOk result (λ n. out.new ≡ choice raster.now version step ++ drop n out.old) }
-    ensures decodes { OnOk result (IsEncodedOnce (choice raster.now version step) raster.now step) }
-    ensures declares { OnOk result (Declares (choice raster.now version step) version step) }
+    ensures size { IfOk result (λ n. n ≡ length (chosen_blob raster.now version step)) }
+    ensures laid { IfOk result (λ n. out.new ≡ chosen_blob raster.now version step ++ drop n out.old) }
+    ensures decodes { OnOk result (IsEncodedOnce (chosen_blob raster.now version step) raster.now step) }
+    ensures declares { OnOk result (Declares (chosen_blob raster.now version step) version step) }
 {
-    let _rows = raster.rows();
-    if needs_v4(version, raster) {
+    if needs_v4(version, raster.depth()) {
         return Err(LayFault::DepthNeedsV4);
     }
     let plan = plan_of(alloc, raster, version, step.get())?;

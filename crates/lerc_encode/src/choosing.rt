@@ -29,10 +29,12 @@ pub(crate) struct Chosen {
 /// How an image ends.
 #[derive(Drop)]
 pub(crate) enum Ending {
-    /// Before the lists: no pixel is valid, or all values are one.
-    Bare,
-    /// Behind the lists: each depth has one value.
-    Level,
+    /// Before the lists: no pixel is valid.
+    Empty,
+    /// Before the lists: all values are one.
+    Constant,
+    /// Behind the lists, which are equal: each depth has one value.
+    Ranges,
     /// With the values in a form.
     Coded(Chosen),
 }
@@ -100,19 +102,28 @@ fn choose(alloc: Global, base: &Header, raster: &Raster) -> Result<Chosen, Alloc
     })
 }
 
-/// Whether no pixel is valid, or all values are one.
-fn is_bare(base: &Header, raster: &Raster) -> bool
+/// Whether no pixel is valid.
+fn is_empty(base: &Header, raster: &Raster) -> bool
     requires { IsBase base.now raster.now }
-    ensures { result ≡ ranges.is_bare raster.now }
+    ensures { result ≡ ranges.is_empty raster.now }
 {
-    base.valid == 0 || base.least == base.greatest
+    base.valid == 0
+}
+
+/// Whether all values are one.
+fn is_constant(base: &Header, raster: &Raster) -> bool
+    requires { IsBase base.now raster.now }
+    ensures { result ≡ ranges.is_constant raster.now }
+{
+    base.least == base.greatest
 }
 
 /// Whether each depth has one value.
-fn is_level(found: &Ranges, raster: &Raster) -> bool
+fn has_equal_ranges(found: &Ranges, raster: &Raster) -> bool
     requires { AreRanges raster.now found.now }
-    ensures { result ≡ ranges.is_level raster.now }
+    ensures { result ≡ ranges.has_equal_ranges raster.now }
 {
+    // for the proof: `depth` ensures that the raster is a lawful one
     let _depth = raster.depth();
     let (leasts, greatests) = (found.leasts.as_slice(), found.greatests.as_slice());
     leasts == greatests
@@ -121,11 +132,11 @@ fn is_level(found: &Ranges, raster: &Raster) -> bool
 /// Whether the image ends behind the lists.
 fn ends_behind_lists(version: Version, found: &Ranges, raster: &Raster) -> bool
     requires { AreRanges raster.now found.now }
-    ensures { result ≡ (is_v4 version && ranges.is_level raster.now) }
+    ensures { result ≡ (is_v4 version && ranges.has_equal_ranges raster.now) }
 {
     match version {
         Version::V3 => false,
-        Version::V4 => is_level(found, raster),
+        Version::V4 => has_equal_ranges(found, raster),
     }
 }
 
@@ -140,11 +151,14 @@ pub(crate) fn ending_of(
     requires ranges { AreRanges raster.now found.now }
     ensures { IfOk result (IsEnding raster.now base.now.version base.now.step) }
 {
-    if is_bare(base, raster) {
-        return Ok(Ending::Bare);
+    if is_empty(base, raster) {
+        return Ok(Ending::Empty);
+    }
+    if is_constant(base, raster) {
+        return Ok(Ending::Constant);
     }
     if ends_behind_lists(base.version, found, raster) {
-        return Ok(Ending::Level);
+        return Ok(Ending::Ranges);
     }
     Ok(Ending::Coded(choose(alloc, base, raster)?))
 }

@@ -9,8 +9,8 @@ ghost use Rattle.raster_values.specs.Raster.{values_of};
 ghost use Rattle.lerc_grammar.specs.Blocks.{coded_blocks};
 ghost use Rattle.delta_mode.specs.Deltas.{plain};
 ghost use Rattle.lerc_encode.specs.Codings.{coding_bytes};
-ghost use Rattle.lerc_encode.specs.Images.{all_deltas, blocks_bytes, form_bytes, mode_bytes};
-ghost use Rattle.lerc_encode.specs.Ranges.{front_bytes};
+ghost use Rattle.lerc_encode.specs.Images.{all_deltas, blocks_bytes, coded_form_bytes, mode_bytes};
+ghost use Rattle.lerc_encode.specs.Ranges.{lists_bytes};
 ghost use Rattle.lerc_encode.specs.inside.Blocked.{AreFlags, IsBlocked, IsMeasured};
 ghost use Rattle.lerc_encode.specs.inside.Coded.{AreThere, IsLying};
 ghost use Rattle.lerc_encode.specs.inside.Choosing.{AreRanges, IsBase, IsChosen, named};
@@ -71,6 +71,7 @@ fn write_sweep(raster: &Raster, out: &mut [u8])
         ≡ length (1 ∷ values_bytes raster.now.kind (values_of raster.now.pixels)) }
     ensures { out.new ≡ 1 ∷ values_bytes raster.now.kind (values_of raster.now.pixels) }
 {
+    // for the proof: `kind` ensures that the raster is a lawful one
     let _kind = raster.kind();
     out[0] = 1;
     raster.value_bytes(&mut out[1..]);
@@ -128,9 +129,9 @@ fn write_plain_form(plains: &Symbols, raster: &Raster, out: &mut [u8])
 pub(crate) fn write_form(chosen: &Chosen, base: &Header, raster: &Raster, out: &mut [u8])
     requires base { IsBase base.now raster.now }
     requires chosen { IsChosen raster.now base.now.version base.now.step chosen.now }
-    requires room { length out.old ≡ length (form_bytes raster.now base.now.version base.now.step
+    requires room { length out.old ≡ length (coded_form_bytes raster.now base.now.version base.now.step
         (named chosen.now.form)) }
-    ensures { out.new ≡ form_bytes raster.now base.now.version base.now.step
+    ensures { out.new ≡ coded_form_bytes raster.now base.now.version base.now.step
         (named chosen.now.form) }
 {
     match chosen.form {
@@ -158,7 +159,7 @@ fn write_values(kind: PixelType, values: &[i64], out: &mut [u8])
 
 /// How many bytes the lists in front of an image take.
 pub(crate) fn front_len(version: Version, raster: &Raster) -> usize
-    ensures value { result ≡ length (front_bytes raster.now version) }
+    ensures value { result ≡ length (lists_bytes raster.now version) }
     ensures few { result ≤ 524288 }
 {
     match version {
@@ -170,8 +171,8 @@ pub(crate) fn front_len(version: Version, raster: &Raster) -> usize
 /// Writes both lists.
 fn write_lists(ranges: &Ranges, raster: &Raster, out: &mut [u8])
     requires ranges { AreRanges raster.now ranges.now }
-    requires room { length out.old ≡ length (front_bytes raster.now V4) }
-    ensures { out.new ≡ front_bytes raster.now V4 }
+    requires room { length out.old ≡ length (lists_bytes raster.now V4) }
+    ensures { out.new ≡ lists_bytes raster.now V4 }
 {
     let kind = raster.kind();
     let half = out.len() / 2;
@@ -182,8 +183,8 @@ fn write_lists(ranges: &Ranges, raster: &Raster, out: &mut [u8])
 /// Writes the lists in front of an image, if the version has them.
 pub(crate) fn write_front(version: Version, ranges: &Ranges, raster: &Raster, out: &mut [u8])
     requires ranges { AreRanges raster.now ranges.now }
-    requires room { length out.old ≡ length (front_bytes raster.now version) }
-    ensures { out.new ≡ front_bytes raster.now version }
+    requires room { length out.old ≡ length (lists_bytes raster.now version) }
+    ensures { out.new ≡ lists_bytes raster.now version }
 {
     match version {
         Version::V3 => {}

@@ -34,8 +34,8 @@ pub(crate) fn image_len(end: &Ending, base: &Header, raster: &Raster) -> usize
     ensures few { result ≤ 67633153 }
 {
     match end {
-        Ending::Bare => 0,
-        Ending::Level => front_len(base.version, raster),
+        Ending::Empty | Ending::Constant => 0,
+        Ending::Ranges => front_len(base.version, raster),
         Ending::Coded(chosen) => front_len(base.version, raster) + chosen.size,
     }
 }
@@ -57,8 +57,8 @@ pub(crate) fn write_image(
         (ending raster.now base.now.version base.now.step) }
 {
     match end {
-        Ending::Bare => {}
-        Ending::Level => write_front(base.version, found, raster, out),
+        Ending::Empty | Ending::Constant => {}
+        Ending::Ranges => write_front(base.version, found, raster, out),
         Ending::Coded(chosen) => {
             let front = front_len(base.version, raster);
             write_front(base.version, found, raster, &mut out[..front]);

@@ -12,4 +12,4 @@ mod masks;
 mod ranging;
 
 pub use blob::{EncodeFault, LayFault, encode, encode_over};
-pub use laws::blobs_are_small;
+pub use laws::{blobs_are_small, codings_are_written};

@@ -37,6 +37,7 @@ pub(crate) fn runs_size(raster: &Raster, mask: &[u8]) -> usize
     ensures value { result ≡ length (mask_runs_of (marks_of raster.now)) }
     ensures few { result ≤ 6291458 }
 {
+    // for the proof: `rows` ensures that the raster is a lawful one
     let _rows = raster.rows();
     if is_alike(raster) {
         return 0;
@@ -52,6 +53,7 @@ pub(crate) fn write_mask(raster: &Raster, mask: &[u8], size: usize, out: &mut [u
     requires room { length out.old ≡ 4 + size }
     ensures { out.new ≡ mask_part (marks_of raster.now) }
 {
+    // for the proof: `rows` ensures that the raster is a lawful one
     let _rows = raster.rows();
     LittleEndian::write_u32(out, size as u32);
     if size > 0 {

@@ -1,11 +1,12 @@
 //! Laws of the definitions.
 
-ghost use Rattle.lerc_grammar.specs.Laws.{NoTwoRasters, OneFirstFault, OneVerdict, SomeVerdict, OneWholeVerdict, SomeWholeVerdict, VerdictStays};
+ghost use Rattle.lerc_grammar.specs.Laws.{NoTwoRasters, RastersArePrevious, OneFirstFault, OneVerdict, SomeVerdict, OneWholeVerdict, SomeWholeVerdict, VerdictStays};
 ghost use Rattle.lerc_grammar.specs.Near.{NearItself, NearBothWays, NearJoined, NearWider, NearestIsSame};
 
-/// A law: no bytes have two rasters.
+/// A law: behind one raster no bytes have two rasters.
 pub fn no_two_rasters()
-    ensures { NoTwoRasters }
+    ensures one { NoTwoRasters }
+    ensures previous { RastersArePrevious }
 {}
 
 /// A law: bytes have one first fault at most.

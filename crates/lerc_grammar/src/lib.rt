@@ -10,4 +10,4 @@ pub use laws::{
     one_whole_verdict, some_verdict, some_whole_verdict, verdicts_stay,
 };
 pub use outlining::outline;
-pub use parts::{ImageForm, MaskForm, Outline, image_part, mask_part};
+pub use parts::{ImageForm, MaskForm, Outline, image_part, mask_part, place_behind};

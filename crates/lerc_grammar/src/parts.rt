@@ -4,16 +4,15 @@ ghost use Rattle.std.specs.Prelude.{◌≡◌, ◌≢◌, ◌^◌, ℕ, pos, ◌
 ghost use Rattle.raster_values.specs.PixelType.{bytes_of};
 ghost use Rattle.first_fault.specs.Faults.{choice, ends, none};
 ghost use Rattle.lerc_header.specs.Head.{HeadAt, i32_at, head_length};
-ghost use Rattle.lerc_grammar.specs.Mask.{IsAlike, mask_faults_of};
+ghost use Rattle.lerc_grammar.specs.Mask.{IsAlike, mask_faults_of, taken_faults};
 ghost use Rattle.lerc_grammar.specs.Image.{Ends, HasMode, IsBare, behind_zero, coded_of, front_faults, greatest_mode, image_faults_of, mode_of, outside};
-ghost use Rattle.lerc_grammar.specs.Outline.{IsFormOf, IsImageForm, IsMaskForm, image_part_faults, image_place, mask_part_faults};
+ghost use Rattle.lerc_grammar.specs.Outline.{IsFormOf, IsImageForm, IsMaskForm, IsMaskFormAfter, image_part_faults, image_place, mask_part_faults};
 ghost use Rattle.lerc_header.specs.declared.fault.BlobFault.{BlobFault};
 ghost use Rattle.lerc_grammar.specs.declared.parts.ImageForm.{ImageForm};
 ghost use Rattle.lerc_grammar.specs.declared.parts.MaskForm.{MaskForm};
 ghost use Rattle.lerc_grammar.specs.inside.Spans.{IsFormBehind, IsFormTold, IsFrontSpan, IsMaskSpan, IsZeroTold};
 
-use byteorder::{ByteOrder, LittleEndian};
-use lerc_header::{BlobFault, BlobReason, Header, Version};
+use lerc_header::{BlobFault, BlobReason, Header, Version, signed_at};
 
 /// The form of a blob's mask.
 #[derive(Clone, Copy, Debug, PartialEq, Eq)]
@@ -24,6 +23,8 @@ pub enum MaskForm {
     Full,
     /// `len` bytes of runs, the first of them at the place `at`.
     Runs { at: u64, len: u32 },
+    /// The mask of the blob before.
+    Previous,
 }
 
 /// The form of a blob's image. `at` is the place of the first byte of what tells the values.
@@ -71,15 +72,6 @@ fn later(fault: BlobFault, by: usize) -> BlobFault
     }
 }
 
-/// The signed number in the first four bytes.
-#[tactic(auto, unfolding(lerc_header::specs::Head::i32_at))]
-fn number_in_front(rest: &[u8]) -> i32
-    requires { 4 ≤ length rest.now }
-    ensures { result ≡ i32_at rest.now 0 }
-{
-    LittleEndian::read_i32(rest)
-}
-
 /// Whether no pixel or every pixel is valid.
 fn are_alike(pixels: u64, valid: u64) -> bool
     ensures { IsTrue result ↔ IsAlike pixels valid }
@@ -87,18 +79,40 @@ fn are_alike(pixels: u64, valid: u64) -> bool
     valid == 0 || valid == pixels
 }
 
+/// No runs, where some pixels are valid and some are not: the mask is the one before, where there is
+/// one and as many of its pixels are valid.
+fn taken_span(valid: u32, before: Option<u32>) -> Result<u32, BlobFault>
+    ensures ok { IfOk result (λ n. (n ≡ 0) × (before ≡ Some valid)) }
+    ensures fault { IfErr result (λ f. taken_faults before valid f.place f.reason) }
+    ensures near { IfErr result (λ f. f.place ≡ 0) }
+{
+    let Some(counted) = before else {
+        return refused(BlobReason::MaskMissing, 0);
+    };
+    if counted != valid {
+        return refused(
+            BlobReason::BadMaskCount {
+                header: valid,
+                counted,
+            },
+            0,
+        );
+    }
+    Ok(0)
+}
+
 /// How many bytes of runs stand behind the mask's length.
-fn mask_span(rest: &[u8], pixels: u64, valid: u64) -> Result<u32, BlobFault>
-    ensures ok { IfOk result (λ n. IsMaskSpan pixels valid rest.now n) }
+fn mask_span(rest: &[u8], pixels: u64, valid: u32, before: Option<u32>) -> Result<u32, BlobFault>
+    ensures ok { IfOk result (λ n. IsMaskSpan before pixels valid rest.now n) }
     ensures fault { IfErr result (λ f.
-        mask_faults_of (λ runs. none) pixels valid rest.now f.place f.reason) }
+        mask_faults_of before (λ runs. none) pixels valid rest.now f.place f.reason) }
     ensures near { IfErr result (λ f. f.place ≤ 4) }
 {
     if rest.len() < 4 {
         return refused(BlobReason::PastEnd, 0);
     }
-    let number = number_in_front(rest);
-    let alike = are_alike(pixels, valid);
+    let number = signed_at(rest, 0);
+    let alike = are_alike(pixels, u64::from(valid));
     if number < 0 || (alike && number != 0) {
         return refused(BlobReason::BadMaskLength, 0);
     }
@@ -106,7 +120,7 @@ fn mask_span(rest: &[u8], pixels: u64, valid: u64) -> Result<u32, BlobFault>
         return Ok(0);
     }
     if number == 0 {
-        return refused(BlobReason::MaskMissing, 0);
+        return taken_span(valid, before);
     }
     let size = number as u32;
     if size as usize > rest.len() - 4 {
@@ -116,15 +130,15 @@ fn mask_span(rest: &[u8], pixels: u64, valid: u64) -> Result<u32, BlobFault>
 }
 
 /// The form of the mask, or what is wrong with it first.
-fn first_mask_form(blob: &[u8], header: &Header) -> Result<MaskForm, BlobFault>
+fn first_mask_form(blob: &[u8], header: &Header, before: Option<u32>) -> Result<MaskForm, BlobFault>
     requires long { head_length header.now.version ≤ length blob.now }
-    ensures ok { IfOk result (λ form. IsMaskForm header.now blob.now form) }
+    ensures ok { IfOk result (λ form. IsMaskFormAfter before header.now blob.now form) }
     ensures fault { IfErr result (λ f.
-        mask_part_faults header.now blob.now f.place f.reason) }
+        mask_part_faults before header.now blob.now f.place f.reason) }
 {
     let head = header.version.head_length();
     let pixels = u64::from(header.rows) * u64::from(header.cols);
-    let len = match mask_span(&blob[head..], pixels, u64::from(header.valid)) {
+    let len = match mask_span(&blob[head..], pixels, header.valid, before) {
         Ok(len) => len,
         Err(fault) => return Err(later(fault, head)),
     };
@@ -133,6 +147,9 @@ fn first_mask_form(blob: &[u8], header: &Header) -> Result<MaskForm, BlobFault>
     }
     if u64::from(header.valid) == pixels {
         return Ok(MaskForm::Full);
+    }
+    if len == 0 {
+        return Ok(MaskForm::Previous);
     }
     Ok(MaskForm::Runs {
         at: head as u64 + 4,
@@ -143,16 +160,17 @@ fn first_mask_form(blob: &[u8], header: &Header) -> Result<MaskForm, BlobFault>
 /// The form of the mask, or what is wrong first with its length.
 ///
 /// It tests the length and that the runs lie within the blob, and does not look inside them. It
-/// takes no memory.
-pub fn mask_part(blob: &[u8], header: &Header) -> Result<MaskForm, BlobFault>
+/// takes no memory. `before` is how many pixels are valid in the raster of the blob before, where it
+/// has the same rows and columns.
+pub fn mask_part(blob: &[u8], header: &Header, before: Option<u32>) -> Result<MaskForm, BlobFault>
     requires head { HeadAt blob.now header.now }
     requires size { length blob.now ≡ header.now.size }
     ensures ok { (form : MaskForm) →
-        (result ≡ Ok form) ↔ IsMaskForm header.now blob.now form }
+        (result ≡ Ok form) ↔ IsMaskFormAfter before header.now blob.now form }
     ensures fault { (f : BlobFault) →
-        (result ≡ Err f) ↔ mask_part_faults header.now blob.now f.place f.reason }
+        (result ≡ Err f) ↔ mask_part_faults before header.now blob.now f.place f.reason }
 {
-    first_mask_form(blob, header)
+    first_mask_form(blob, header, before)
 }
 
 /// How many bytes each of the two lists takes in version 4.
@@ -336,8 +354,8 @@ fn form_at(rest: &[u8], header: &Header, place: usize) -> Result<ImageForm, Blob
     }
 }
 
-/// The place behind a mask of this form.
-fn place_behind(header: &Header, mask: &MaskForm) -> usize
+/// The place behind a mask of this form, at which the image begins.
+pub fn place_behind(header: &Header, mask: &MaskForm) -> usize
     ensures value { result ≡ image_place header.now mask.now }
     ensures few { result < 2 ^ 33 }
 {
@@ -346,6 +364,7 @@ fn place_behind(header: &Header, mask: &MaskForm) -> usize
         MaskForm::Empty => head,
         MaskForm::Full => head,
         MaskForm::Runs { len, .. } => head + len as usize,
+        MaskForm::Previous => head,
     }
 }
 

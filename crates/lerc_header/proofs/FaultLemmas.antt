@@ -68,6 +68,13 @@ pub in_key_tests : (behind : Version → Faults BlobReason) (bytes : List ℕ) (
 in_key_tests behind bytes V3 key version p r w = inl (key, inl (version, w))
 in_key_tests behind bytes V4 key version p r w = inl (key, inr (not_three bytes version, inl (version, w)))
 
+-- what is wrong with key and version is wrong first, whatever is behind them
+pub key_in_tests : (behind : Version → Faults BlobReason) (bytes : List ℕ) (p : ℕ) (r : BlobReason) → key_faults bytes p r → key_tests behind bytes p r
+key_in_tests behind bytes p r (inl (key, inl (three, never))) = absurd never
+key_in_tests behind bytes p r (inl (key, inr (three, inl (four, never)))) = absurd never
+key_in_tests behind bytes p r (inl (key, inr (three, inr (four, is)))) = inl (key, inr (three, inr (four, is)))
+key_in_tests behind bytes p r (inr is) = inr is
+
 pub empty-key_tests : (behind : Version → Faults BlobReason) (bytes : List ℕ) (v : Version) → HasKey bytes → HasVersion bytes v → IsEmpty (behind v) → IsEmpty (key_tests behind bytes)
 empty-key_tests behind bytes V3 key version e =
     empty-choice (HasKey bytes) _ (wrong BadKey 0) key (empty-choice (HasVersion bytes V3) (behind V3) _ version e)

@@ -10,14 +10,14 @@ use Rattle.double_bits.proofs.OneHalf.{one_half}
 use Rattle.lerc_header.specs.declared.header.Version.{Version}
 use Rattle.lerc_header.specs.declared.header.Version.TheVariants.{V3, V4}
 use Rattle.lerc_header.specs.declared.header.Header.{Header}
-use Rattle.lerc_header.specs.Head.{HeadAt, HasRange, RangeAt, i32_at, double_at, shift, number_of, depth_at}
+use Rattle.lerc_header.specs.Head.{HeadAt, HasRange, RangeAt, i32_at, double_at, shift, version_number, depth_at}
 
 -- ---- at most one header
 
 pub number_once : (a b : ℕ) (z : ℤ) → z ≡ pos a → z ≡ pos b → a ≡ b
 number_once a b z f g = let e : pos a ≡ pos b = sym f ∙ g in cc
 
-version_once : (v w : Version) → number_of v ≡ number_of w → v ≡ w
+version_once : (v w : Version) → version_number v ≡ version_number w → v ≡ w
 version_once V3 V3 e = refl
 version_once V3 V4 e = absurd (omega arith)
 version_once V4 V3 e = absurd (omega arith)

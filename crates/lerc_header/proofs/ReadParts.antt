@@ -15,10 +15,10 @@ use Rattle.lerc_header.specs.declared.header.Header.{Header}
 use Rattle.lerc_header.specs.declared.reading.Shape.{Shape}
 use Rattle.lerc_header.specs.declared.reading.Counts.{Counts}
 use Rattle.lerc_header.specs.Head.{HeadAt, RangeAt, i32_at, double_at, shift}
-use Rattle.lerc_header.specs.HeadFaults.{HasKind, pixels_at, values_at, HasLeast, HasEnds, HasNone, field_faults, header_faults}
+use Rattle.lerc_header.specs.HeadFaults.{HasKind, pixels_at, values_at, HasLeast, HasEnds, HasNone, HasKey, HasVersion, field_faults, key_faults, header_faults}
 use Rattle.lerc_header.specs.inside.Parts.{IsShapeAt, AreCountsAt, IsStepAt}
 use Rattle.lerc_header.specs.inside.Tails.{count_faults, kind_faults, step_faults, range_faults}
-use Rattle.lerc_header.proofs.FaultLemmas.{code_below, single-header, empty-header}
+use Rattle.lerc_header.proofs.FaultLemmas.{code_below, single-header, single-key, empty-header, empty-key, one_version}
 use Rattle.lerc_header.proofs.HeadLemmas.{number_once, kind_once, one_head}
 
 pub shift_below : (v : Version) → shift v ≤ 4
@@ -150,4 +150,21 @@ exact_err bytes (Ok g) has fault f = (λ is. cc, λ w. absurd (empty-header byte
 exact_err bytes (Err g) has fault f = (
   λ is. let same : g ≡ f = cc in subst (IsFaultOf bytes) same fault,
   λ w. let one = single-header bytes g.place f.place g.reason f.reason fault w in λ i. Err (record { reason = one.1 i; place = one.0 i }),
+)
+
+-- the same of key and version
+pub key_exact_ok : (bytes : List ℕ) (r : Result Version BlobFault) → IfOk r (λ v. HasKey bytes × HasVersion bytes v) → IfErr r (λ f. key_faults bytes f.place f.reason)
+    → (v : Version) → (r ≡ Ok v) ↔ (HasKey bytes × HasVersion bytes v)
+key_exact_ok bytes (Ok w) has fault v = (
+  λ is. let same : w ≡ v = cc in subst (λ u. HasKey bytes × HasVersion bytes u) same has,
+  λ both. ap Ok (one_version bytes w v has.1 both.1),
+)
+key_exact_ok bytes (Err f) has fault v = (λ is. cc, λ both. absurd (empty-key bytes v both.0 both.1 f.place f.reason fault))
+
+pub key_exact_err : (bytes : List ℕ) (r : Result Version BlobFault) → IfOk r (λ v. HasKey bytes × HasVersion bytes v) → IfErr r (λ f. key_faults bytes f.place f.reason)
+    → (f : BlobFault) → (r ≡ Err f) ↔ key_faults bytes f.place f.reason
+key_exact_err bytes (Ok v) has fault f = (λ is. cc, λ w. absurd (empty-key bytes v has.0 has.1 f.place f.reason w))
+key_exact_err bytes (Err g) has fault f = (
+  λ is. let same : g ≡ f = cc in subst (λ (e : BlobFault). key_faults bytes e.place e.reason) same fault,
+  λ w. let one = single-key bytes g.place f.place g.reason f.reason fault w in λ i. Err (record { reason = one.1 i; place = one.0 i }),
 )

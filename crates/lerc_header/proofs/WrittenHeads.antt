@@ -20,7 +20,7 @@ use Rattle.double_bits.proofs.HalfBits.{half_stands, half_fits}
 use Rattle.lerc_header.specs.declared.header.Version.{Version}
 use Rattle.lerc_header.specs.declared.header.Version.TheVariants.{V3, V4}
 use Rattle.lerc_header.specs.declared.header.Header.{Header}
-use Rattle.lerc_header.specs.Head.{HeadAt, RangeAt, i32_at, u32_at, double_at, number_of, shift, head_length, depth_at}
+use Rattle.lerc_header.specs.Head.{HeadAt, RangeAt, i32_at, u32_at, double_at, version_number, shift, head_length, depth_at}
 use Rattle.lerc_header.specs.Written.{IsHeader, AreEnds, depth_bytes, shape_bytes, counts_bytes, doubles_bytes, field_bytes, head_bytes}
 use Rattle.lerc_header.proofs.FaultLemmas.{code_below}
 
@@ -103,7 +103,7 @@ same_twice z small =
 -- the bytes from each field on
 record HasTails (h : Header) (bytes t : List ℕ) : Type 0 where
   pub key : bytes ≡ codes "Lerc2 " ++ drop 6 bytes
-  pub version : drop 6 bytes ≡ little_bytes 4 (number_of h.version) ++ drop 10 bytes
+  pub version : drop 6 bytes ≡ little_bytes 4 (version_number h.version) ++ drop 10 bytes
   pub checksum : drop 10 bytes ≡ little_bytes 4 h.checksum ++ drop 14 bytes
   pub rows : drop 14 bytes ≡ little_bytes 4 h.rows ++ drop 18 bytes
   pub cols : drop 18 bytes ≡ little_bytes 4 h.cols ++ drop 22 bytes
@@ -143,7 +143,7 @@ has_tails h bytes t is =
     let at_greatest = next bytes b12 (b13 ++ t) (46 + s) (54 + s) at_least (omega arith) in
     record {
       key = is ∙ ap (λ u. codes "Lerc2 " ++ u) (sym (ap (drop 6) is));
-      version = ap (drop 6) is ∙ ap (λ u. little_bytes 4 (number_of h.version) ++ u) (sym (ap (drop 10) is));
+      version = ap (drop 6) is ∙ ap (λ u. little_bytes 4 (version_number h.version) ++ u) (sym (ap (drop 10) is));
       checksum = ap (drop 10) is ∙ ap (λ u. little_bytes 4 h.checksum ++ u) (sym (ap (drop 14) is));
       rows = ap (drop 14) is ∙ ap (λ u. little_bytes 4 h.rows ++ u) (sym (ap (drop 18) is));
       cols = ap (drop 18) is ∙ ap (λ u. little_bytes 4 h.cols ++ u) (sym (ap (drop 22) is));
@@ -157,7 +157,7 @@ has_tails h bytes t is =
       greatest = at_greatest;
     }
 
-number_small : (v : Version) → number_of v < 2 ^ 31
+number_small : (v : Version) → version_number v < 2 ^ 31
 number_small V3 = omega arith
 number_small V4 = omega arith
 
@@ -203,7 +203,7 @@ head_stands h t is =
     record {
       long = omega (arith, length-append (head_bytes h) t, length-head h);
       key = ap (take 6) tails.key ∙ take_at (codes "Lerc2 ") (drop 6 bytes) 6 refl;
-      version = i32_there bytes (drop 10 bytes) 6 (number_of h.version) (number_small h.version) tails.version;
+      version = i32_there bytes (drop 10 bytes) 6 (version_number h.version) (number_small h.version) tails.version;
       checksum = sym (u32_there bytes (drop 14 bytes) 10 h.checksum is.checksum_fits tails.checksum);
       rows = i32_there bytes (drop 18 bytes) 14 h.rows (omega (arith, few.rows_few)) tails.rows;
       cols = i32_there bytes (drop 22 bytes) 18 h.cols (omega (arith, few.cols_few)) tails.cols;

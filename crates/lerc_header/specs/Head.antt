@@ -25,9 +25,9 @@ double_at bytes place = little_number 8 (drop place bytes)
 
 -- ---- what depends on the version
 
-abbrev pub number_of : Version → ℕ
-number_of V3 = 3
-number_of V4 = 4
+abbrev pub version_number : Version → ℕ
+version_number V3 = 3
+version_number V4 = 4
 
 -- how much further on the fields behind cols stand: version 4 has the depth before them
 abbrev pub shift : Version → ℕ
@@ -71,7 +71,7 @@ RangeAt bytes place kind valid least greatest =
 pub record HeadAt (bytes : List ℕ) (h : Header) : Type 0 where
   pub long : head_length h.version ≤ length bytes
   pub key : take 6 bytes ≡ codes "Lerc2 "
-  pub version : i32_at bytes 6 ≡ pos (number_of h.version)
+  pub version : i32_at bytes 6 ≡ pos (version_number h.version)
   pub checksum : h.checksum ≡ u32_at bytes 10
   pub rows : i32_at bytes 14 ≡ pos h.rows
   pub cols : i32_at bytes 18 ≡ pos h.cols

@@ -9,7 +9,7 @@ use Rattle.lerc_header.specs.declared.header.Version.{Version}
 use Rattle.lerc_header.specs.declared.header.Version.TheVariants.{V3, V4}
 use Rattle.lerc_header.specs.declared.fault.BlobReason.{BlobReason}
 use Rattle.lerc_header.specs.declared.fault.BlobReason.TheVariants.{Truncated, BadKey, BadVersion, BadRows, BadCols, BadDepth, TooLarge, BadCount, BadBlockSize, BadBlobSize, FloatPixels, BadType, BadError, BadRange}
-use Rattle.lerc_header.specs.Head.{i32_at, double_at, number_of, shift, head_length, depth_at, IsTwiceError}
+use Rattle.lerc_header.specs.Head.{i32_at, double_at, version_number, shift, head_length, depth_at, IsTwiceError}
 
 -- ---- key and version
 
@@ -17,7 +17,7 @@ abbrev pub HasKey : List ℕ → Type 0
 HasKey bytes = take 6 bytes ≡ codes "Lerc2 "
 
 abbrev pub HasVersion : List ℕ → Version → Type 0
-HasVersion bytes v = i32_at bytes 6 ≡ pos (number_of v)
+HasVersion bytes v = i32_at bytes 6 ≡ pos (version_number v)
 
 -- what is wrong with key and version, or with what is behind a version
 abbrev pub key_tests : (Version → Faults BlobReason) → List ℕ → Faults BlobReason

@@ -8,7 +8,7 @@ use Rattle.double_bits.specs.Bits.{half_bits}
 use Rattle.lerc_header.specs.declared.header.Version.{Version}
 use Rattle.lerc_header.specs.declared.header.Version.TheVariants.{V3, V4}
 use Rattle.lerc_header.specs.declared.header.Header.{Header}
-use Rattle.lerc_header.specs.Head.{number_of, head_length, IsTwiceError}
+use Rattle.lerc_header.specs.Head.{version_number, head_length, IsTwiceError}
 
 -- the least and the greatest of the valid values are values of the type, in order; both are 0
 -- where no pixel is valid
@@ -57,7 +57,7 @@ field_bytes h = shape_bytes h ++ (counts_bytes h ++ doubles_bytes h)
 
 abbrev pub front_bytes : Header → List ℕ
 front_bytes h =
-    codes "Lerc2 " ++ (little_bytes 4 (number_of h.version) ++ little_bytes 4 h.checksum)
+    codes "Lerc2 " ++ (little_bytes 4 (version_number h.version) ++ little_bytes 4 h.checksum)
 
 unfoldable pub head_bytes : Header → List ℕ
 head_bytes h = front_bytes h ++ field_bytes h

@@ -1,6 +1,6 @@
 //! The checksum of a blob.
 
-ghost use Rattle.std.specs.Prelude.{◌≡◌, ◌+◌, ◌*◌, ◌/◌, ◌<◌, ◌≤◌, length, sum, slice_index};
+ghost use Rattle.std.specs.Prelude.{◌≡◌, ◌+◌, ◌*◌, ◌/◌, ◌<◌, ◌≤◌, length, drop, sum, slice_index};
 ghost use Rattle.lerc_header.specs.Checksum.{words, weighted, folded, groups_of, sum_of};
 
 // The words of a group: no sum of 32 bits overflows within one.
@@ -78,4 +78,12 @@ pub fn checksum(bytes: &[u8]) -> u32
         sum2 += sum1;
     }
     (fold(sum2) << 16) | fold(sum1)
+}
+
+/// The checksum of a blob's bytes: of those from 14 on, which follow the field itself.
+pub fn sum_behind(blob: &[u8]) -> u32
+    requires { 14 ≤ length blob.now }
+    ensures { result ≡ sum_of (drop 14 blob.now) }
+{
+    checksum(&blob[14..])
 }

@@ -1,7 +1,9 @@
 //! What the header of a blob says.
 
-ghost use Rattle.std.specs.Prelude.{◌≡◌};
-ghost use Rattle.lerc_header.specs.Head.{head_length, shift};
+ghost use Rattle.std.specs.Prelude.{◌≡◌, ◌<◌, ◌↔◌, IsTrue, pos};
+ghost use Rattle.lerc_header.specs.declared.header.Version.{Version};
+ghost use Rattle.lerc_header.specs.declared.header.Version.TheVariants.{V3};
+ghost use Rattle.lerc_header.specs.Head.{head_length, version_number, shift};
 
 use raster_values::PixelType;
 
@@ -13,6 +15,28 @@ pub enum Version {
 }
 
 impl Version {
+    /// The version that a number names: 3 or 4.
+    pub fn of_number(number: i64) -> Option<Version>
+        ensures { (version : Version) → (result ≡ Some version)
+            ↔ (number ≡ pos (version_number version)) }
+    {
+        match number {
+            3 => Some(Version::V3),
+            4 => Some(Version::V4),
+            _ => None,
+        }
+    }
+
+    /// The number of the version.
+    pub fn number(self) -> u32
+        ensures { result ≡ version_number self }
+    {
+        match self {
+            Version::V3 => 3,
+            Version::V4 => 4,
+        }
+    }
+
     /// How many bytes a header of this version takes.
     pub fn head_length(self) -> usize
         ensures { result ≡ head_length self }
@@ -31,6 +55,16 @@ impl Version {
             Version::V3 => 0,
             Version::V4 => 4,
         }
+    }
+}
+
+/// Whether the version has no place for so many depths.
+pub fn needs_v4(version: Version, depth: u32) -> bool
+    ensures { IsTrue result ↔ ((version ≡ V3) × (1 < depth)) }
+{
+    match version {
+        Version::V3 => depth > 1,
+        Version::V4 => false,
     }
 }
 

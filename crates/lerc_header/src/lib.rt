@@ -5,23 +5,29 @@
 //! with one, and else the first of its fields that fails.
 #![tactic(auto)]
 
+/// The key, with which every blob begins.
+pub(crate) const KEY: [u8; 6] = *b"Lerc2 ";
+
 mod fault;
 mod fletcher;
 mod header;
 mod laws;
+mod limits;
 mod numbers;
 mod reading;
 mod step;
 mod writing;
 
 pub use fault::{BlobFault, BlobReason};
-pub use fletcher::checksum;
-pub use header::{Header, Version};
+pub use fletcher::{checksum, sum_behind};
+pub use header::{Header, Version, needs_v4};
 pub use laws::{
     bytes_have_a_header_or_a_fault, bytes_have_one_first_fault, bytes_have_one_header,
-    first_faults_stay, head_bytes_are_a_header, headers_depend_on_their_bytes,
-    headers_have_no_fault, headers_of_bytes_are_headers,
+    fields_stand_or_fail, first_faults_stay, head_bytes_are_a_header,
+    headers_depend_on_their_bytes, headers_have_no_fault, headers_of_bytes_are_headers,
 };
-pub use reading::read_header;
+pub use limits::is_shape;
+pub use numbers::signed_at;
+pub use reading::{kind_of, read_header, read_version};
 pub use step::Step;
 pub use writing::write_header;

@@ -16,7 +16,7 @@ pub(crate) fn unsigned_at(bytes: &[u8], place: usize) -> u32
 
 /// The signed number of four bytes at a place.
 #[tactic(auto, unfolding(crate::specs::Head::i32_at))]
-pub(crate) fn signed_at(bytes: &[u8], place: usize) -> i32
+pub fn signed_at(bytes: &[u8], place: usize) -> i32
     requires { place + 4 ≤ length bytes.now }
     ensures { result ≡ i32_at bytes.now place }
 {

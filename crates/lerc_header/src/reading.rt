@@ -9,26 +9,21 @@ ghost use Rattle.lerc_header.specs.declared.fault.BlobFault.{BlobFault};
 ghost use Rattle.lerc_header.specs.declared.header.Header.{Header};
 ghost use Rattle.lerc_header.specs.declared.header.Version.{Version};
 ghost use Rattle.lerc_header.specs.Head.{i32_at, double_at, shift, head_length, depth_at, IsTwiceError, RangeAt, HeadAt};
-ghost use Rattle.lerc_header.specs.HeadFaults.{HasKey, HasVersion, HasKind, IsWithin, field_faults, whole_faults, header_faults};
+ghost use Rattle.lerc_header.specs.HeadFaults.{HasKey, HasVersion, HasKind, IsWithin, field_faults, key_faults, whole_faults, header_faults};
 ghost use Rattle.lerc_header.specs.Written.{IsHeader};
 ghost use Rattle.lerc_header.specs.inside.Parts.{IsShapeAt, AreCountsAt, IsStepAt};
 ghost use Rattle.lerc_header.specs.inside.Tails.{count_faults, kind_faults, step_faults, range_faults};
 
+use crate::KEY;
 use crate::fault::{BlobFault, BlobReason};
 use crate::header::{Header, Version};
+use crate::limits::{GREATEST_DEPTH, is_shape};
 use crate::numbers::{bits_at, signed_at, unsigned_at};
 use double_bits::halves_of;
 use raster_values::PixelType;
 
-const KEY: [u8; 6] = *b"Lerc2 ";
-
 /// How many bytes hold the key and the version.
 const FRONT_LENGTH: usize = 10;
-
-const GREATEST_DEPTH: i32 = 65536;
-
-/// How many values a raster may have.
-const GREATEST_VALUES: u64 = 16777216;
 
 /// The header of version 3 and the mask's length behind it.
 const LEAST_SIZE: i32 = 66;
@@ -74,15 +69,6 @@ fn depth_at(version: Version, bytes: &[u8]) -> i32
     }
 }
 
-/// Whether a raster of this shape would have more values than one may have.
-fn is_too_large(shape: &Shape) -> bool
-    requires { 0 < shape.now.depth }
-    ensures { IsTrue result ↔ (16777216 < shape.now.rows * shape.now.cols * shape.now.depth) }
-{
-    let pixels = u64::from(shape.rows) * u64::from(shape.cols);
-    pixels > GREATEST_VALUES || pixels * u64::from(shape.depth) > GREATEST_VALUES
-}
-
 /// Rows, columns and depth, where they are those of a raster.
 fn shape_at(version: Version, bytes: &[u8]) -> Result<Shape, BlobFault>
     requires { head_length version ≤ length bytes.now }
@@ -98,7 +84,7 @@ fn shape_at(version: Version, bytes: &[u8]) -> Result<Shape, BlobFault>
         return refused(BlobReason::BadCols, 18);
     }
     let depth = depth_at(version, bytes);
-    if depth < 1 || depth > GREATEST_DEPTH {
+    if depth < 1 || depth > GREATEST_DEPTH as i32 {
         return refused(BlobReason::BadDepth, 22);
     }
     let shape = Shape {
@@ -106,7 +92,7 @@ fn shape_at(version: Version, bytes: &[u8]) -> Result<Shape, BlobFault>
         cols: cols as u32,
         depth: depth as u32,
     };
-    if is_too_large(&shape) {
+    if !is_shape(shape.rows, shape.cols, shape.depth) {
         return refused(BlobReason::TooLarge, 18 + version.shift());
     }
     Ok(shape)
@@ -148,7 +134,7 @@ fn counts_at(version: Version, bytes: &[u8], shape: &Shape) -> Result<Counts, Bl
 }
 
 /// The pixel type that a number names.
-fn kind_of(code: i32) -> Option<PixelType>
+pub fn kind_of(code: i64) -> Option<PixelType>
     ensures named { (kind : PixelType) → (result ≡ Some kind) ↔ (code ≡ pos (code_of kind)) }
     ensures none { IsNone result ↔ ¬ IsWithin (pos 0) (pos 5) code }
 {
@@ -166,7 +152,7 @@ fn kind_at(version: Version, bytes: &[u8]) -> Result<PixelType, BlobFault>
     if code == 6 || code == 7 {
         return refused(BlobReason::FloatPixels, place);
     }
-    match kind_of(code) {
+    match kind_of(i64::from(code)) {
         Some(kind) => Ok(kind),
         None => refused(BlobReason::BadType, place),
     }
@@ -321,11 +307,34 @@ fn version_at(bytes: &[u8]) -> Option<Version>
     requires { 10 ≤ length bytes.now }
     ensures { (v : Version) → (result ≡ Some v) ↔ HasVersion bytes.now v }
 {
-    match signed_at(bytes, 6) {
-        3 => Some(Version::V3),
-        4 => Some(Version::V4),
-        _ => None,
+    Version::of_number(i64::from(signed_at(bytes, 6)))
+}
+
+/// Key and version in front of the bytes, or the first fault of them, with one clause for each
+/// answer.
+fn key_of(bytes: &[u8]) -> Result<Version, BlobFault>
+    requires { 10 ≤ length bytes.now }
+    ensures ok { IfOk result (λ v. HasKey bytes.now × HasVersion bytes.now v) }
+    ensures fault { IfErr result (λ f. key_faults bytes.now f.place f.reason) }
+{
+    if !has_key(bytes) {
+        return refused(BlobReason::BadKey, 0);
     }
+    match version_at(bytes) {
+        Some(version) => Ok(version),
+        None => refused(BlobReason::BadVersion, 6),
+    }
+}
+
+/// The version of the blob that the bytes begin with, behind its key, or what is wrong with these
+/// two first: `BadKey` at 0, or `BadVersion` at 6. No other byte is looked at.
+pub fn read_version(bytes: &[u8]) -> Result<Version, BlobFault>
+    requires { 10 ≤ length bytes.now }
+    ensures ok { (v : Version) →
+        (result ≡ Ok v) ↔ (HasKey bytes.now × HasVersion bytes.now v) }
+    ensures fault { (f : BlobFault) → (result ≡ Err f) ↔ key_faults bytes.now f.place f.reason }
+{
+    key_of(bytes)
 }
 
 /// The header or its first fault.
@@ -336,13 +345,8 @@ fn first_of(bytes: &[u8]) -> Result<Header, BlobFault>
     if bytes.len() < FRONT_LENGTH {
         return refused(BlobReason::Truncated, bytes.len());
     }
-    if !has_key(bytes) {
-        return refused(BlobReason::BadKey, 0);
-    }
-    match version_at(bytes) {
-        Some(version) => read_whole(version, bytes),
-        None => refused(BlobReason::BadVersion, 6),
-    }
+    let version = key_of(bytes)?;
+    read_whole(version, bytes)
 }
 
 /// The header of version 3 or 4 with which the bytes begin, or its first fault.

@@ -5,15 +5,14 @@ ghost use Rattle.byteorder.specs.Endian.{little_bytes};
 ghost use Rattle.raster_values.specs.PixelType.{code_of};
 ghost use Rattle.double_bits.specs.Bits.{half_bits};
 ghost use Rattle.lerc_header.specs.declared.header.Header.{Header};
-ghost use Rattle.lerc_header.specs.Head.{number_of, shift, head_length, HeadAt};
+ghost use Rattle.lerc_header.specs.Head.{shift, head_length, HeadAt};
 ghost use Rattle.lerc_header.specs.Written.{IsHeader, shape_bytes, counts_bytes, doubles_bytes, front_bytes, head_bytes};
 ghost use Rattle.lerc_header.specs.inside.Laid.{AreLaid};
 
+use crate::KEY;
 use crate::header::{Header, Version};
 use byteorder::{ByteOrder, LittleEndian};
 use double_bits::bits_of;
-
-const KEY: [u8; 6] = *b"Lerc2 ";
 
 /// Lays the key over the front and answers the place behind it.
 fn put_key(out: &mut [u8]) -> usize
@@ -44,16 +43,6 @@ fn put_double(out: &mut [u8], place: usize, bits: u64) -> usize
     place + 8
 }
 
-/// The number of a version.
-fn number(version: Version) -> u32
-    ensures { result ≡ number_of version }
-{
-    match version {
-        Version::V3 => 3,
-        Version::V4 => 4,
-    }
-}
-
 /// Key, version and checksum.
 fn put_front(header: &Header, out: &mut [u8]) -> usize
     requires { 14 ≤ length out.old }
@@ -61,7 +50,7 @@ fn put_front(header: &Header, out: &mut [u8]) -> usize
     ensures behind { result ≡ 14 }
 {
     let place = put_key(out);
-    let place = put_number(out, place, number(header.version));
+    let place = put_number(out, place, header.version.number());
     put_number(out, place, header.checksum)
 }
 

@@ -4,12 +4,12 @@ use Rattle.std.specs.Prelude.{All}
 use Rattle.std.proofs.Math.Nat.{pow-le-pow_right}
 use Rattle.std.proofs.lemmas.List.Elements.{All-from_get_or, All-get_or, All-map, All-weaker}
 use Rattle.bit_stuff.specs.declared.heads.ListHead.{ListHead}
-use Rattle.bit_stuff.specs.Head.{IsHead}
+use Rattle.bit_stuff.specs.Head.{IsListHead}
 use Rattle.bit_stuff.specs.Stuffed.{IsStuffed}
 use Rattle.bit_stuff.proofs.StuffedLaws.{stuffed_below}
 use Rattle.lut_stuff.specs.Lists.{IsList, IsTabled, entry_at, simple, table}
 
-head_narrow : (bytes : List ℕ) (head : ListHead) (used : ℕ) → IsHead bytes head used → head.width ≤ 31
+head_narrow : (bytes : List ℕ) (head : ListHead) (used : ℕ) → IsListHead bytes head used → head.width ≤ 31
 head_narrow bytes head used h = omega (arith, h.width)
 
 numbers_below : (bytes values : List ℕ) (width : ℕ) → width ≤ 31 → IsStuffed bytes width values → All (λ v. v < 2 ^ 31) values

@@ -11,13 +11,13 @@ use Rattle.first_fault.proofs.Decided.{decided_unless}
 use Rattle.bit_stuff.specs.declared.heads.ListHead.{ListHead}
 use Rattle.bit_stuff.specs.declared.heads.ListReason.{ListReason}
 use Rattle.bit_stuff.specs.declared.heads.ListReason.TheVariants.{Cut, BadTable, BadIndex}
-use Rattle.bit_stuff.specs.Head.{IsHead, IsHeadOf, head_faults}
+use Rattle.bit_stuff.specs.Head.{IsListHead, IsListHeadOf, list_head_faults}
 use Rattle.bit_stuff.specs.Simple.{IsSimpleList, binary_digits}
 use Rattle.bit_stuff.specs.Stuffed.{IsStuffed, field_at, number_of_bytes, stuffed_size}
 use Rattle.bit_stuff.proofs.HeadLaws.{head-append, head-take}
 use Rattle.bit_stuff.proofs.HeadParts.{head_decided, head_part, same_front}
 use Rattle.bit_stuff.proofs.StuffedLaws.{some_stuffed, stuffed_unique}
-use Rattle.lut_stuff.specs.Faults.{AreIndexes, body_faults, data_faults, entry_faults, index_faults, list_faults, size_faults, table_faults}
+use Rattle.lut_stuff.specs.Faults.{AreIndexes, list_body_faults, data_faults, entry_faults, index_faults, list_faults, size_faults, list_table_faults}
 use Rattle.lut_stuff.specs.Lists.{IsList, IsListOf, IsTabled, entry_at}
 use Rattle.lut_stuff.specs.Lists.IsList.{simple, table}
 use Rattle.lut_stuff.specs.inside.Indexes.{IsBody}
@@ -31,7 +31,7 @@ pub record IsHeaded (bytes values : List ℕ) : Type 0 where
   pub front : List ℕ
   pub back : List ℕ
   pub joined : bytes ≡ front ++ back
-  pub is_head : IsHeadOf (length values) front head
+  pub is_head : IsListHeadOf (length values) front head
   pub plain : head.table ≡ false
   pub stuffed : IsStuffed back head.width values
 
@@ -42,7 +42,7 @@ headed bytes values (head, (used, u)) =
       front = take used bytes;
       back = drop used bytes;
       joined = sym (take-append-drop used bytes);
-      is_head = (subst (λ (k : ℕ). IsHead (take used bytes) head k) (sym size) (head-take bytes used head used u.is_head (omega arith)), u.count);
+      is_head = (subst (λ (k : ℕ). IsListHead (take used bytes) head k) (sym size) (head-take bytes used head used u.is_head (omega arith)), u.count);
       plain = u.simple;
       stuffed = u.stuffed;
     }
@@ -82,7 +82,7 @@ pub record IsCut (bytes values : List ℕ) : Type 0 where
   pub front : List ℕ
   pub back : List ℕ
   pub joined : bytes ≡ front ++ back
-  pub is_head : IsHeadOf (length values) front head
+  pub is_head : IsListHeadOf (length values) front head
   pub body : IsBody head back values
 
 pub cut : (bytes values : List ℕ) → IsList bytes values → IsCut bytes values
@@ -135,12 +135,12 @@ entries_no_fault n width most a b s es is many u size v within p r w =
     let w1 = passed (stuffed_size most width ≤ length (a ++ (b ++ s))) (moved (stuffed_size most width) (index_faults n most (drop (stuffed_size most width) (a ++ (b ++ s))))) (wrong Cut 0) room p r w in
     indexes_no_fault n most b s is size v within w1.0 r (subst (λ (u : List ℕ). index_faults n most u w1.0 r) rest w1.1.1)
 
-table_no_fault : (n width : ℕ) (a s xs : List ℕ) → length xs ≡ n → IsTabled width a xs → (p : ℕ) (r : ListReason) → table_faults n width (a ++ s) p r → ⊥
+table_no_fault : (n width : ℕ) (a s xs : List ℕ) → length xs ≡ n → IsTabled width a xs → (p : ℕ) (r : ListReason) → list_table_faults n width (a ++ s) p r → ⊥
 table_no_fault n width a s xs size t p r w =
     let most = length t.entries in
     let whole : a ++ s ≡ (most + 1) ∷ (t.entry_bytes ++ (t.index_bytes ++ s)) =
     ap (λ (u : List ℕ). u ++ s) t.joined ∙ ap (λ (u : List ℕ). (most + 1) ∷ u) (append_assoc t.entry_bytes t.index_bytes s) in
-    let w0 : table_faults n width ((most + 1) ∷ (t.entry_bytes ++ (t.index_bytes ++ s))) p r = subst (λ (u : List ℕ). table_faults n width u p r) whole w in
+    let w0 : list_table_faults n width ((most + 1) ∷ (t.entry_bytes ++ (t.index_bytes ++ s))) p r = subst (λ (u : List ℕ). list_table_faults n width u p r) whole w in
     let back = t.entry_bytes ++ (t.index_bytes ++ s) in
     let w1 = passed (0 < length ((most + 1) ∷ back)) (size_faults n width (most + 1) back) (wrong Cut 0) (omega arith) p r w0 in
     let w2 = passed (2 ≤ most + 1) (moved 1 (entry_faults n width (most + 1 - 1) back)) (wrong BadTable 0) (omega (arith, t.some)) p r w1 in
@@ -149,21 +149,21 @@ table_no_fault n width a s xs size t p r w =
     entries_no_fault n width most t.entry_bytes t.index_bytes s t.entries t.indexes refl t.stuffed_entries count t.stuffed_indexes t.within w2.0 r
     (subst (λ (k : ℕ). entry_faults n width k back w2.0 r) less w2.1.1)
 
-body_no_fault : (n : ℕ) (head : ListHead) (a s xs : List ℕ) → length xs ≡ n → IsBody head a xs → (p : ℕ) (r : ListReason) → body_faults n head (a ++ s) p r → ⊥
+body_no_fault : (n : ℕ) (head : ListHead) (a s xs : List ℕ) → length xs ≡ n → IsBody head a xs → (p : ℕ) (r : ListReason) → list_body_faults n head (a ++ s) p r → ⊥
 body_no_fault n head a s xs size (plain clear u) p r w =
     numbers_no_fault n head.width a s xs size u p r
-    (failed (IsTrue head.table) (table_faults n head.width (a ++ s)) (data_faults n head.width (a ++ s)) (λ set. false≢true (sym clear ∙ set)) p r w)
+    (failed (IsTrue head.table) (list_table_faults n head.width (a ++ s)) (data_faults n head.width (a ++ s)) (λ set. false≢true (sym clear ∙ set)) p r w)
 body_no_fault n head a s xs size (tabled set t) p r w =
     table_no_fault n head.width a s xs size t p r
-    (passed (IsTrue head.table) (table_faults n head.width (a ++ s)) (data_faults n head.width (a ++ s)) set p r w)
+    (passed (IsTrue head.table) (list_table_faults n head.width (a ++ s)) (data_faults n head.width (a ++ s)) set p r w)
 
 list_no_fault : (n : ℕ) (a s xs : List ℕ) → IsListOf n a xs → (p : ℕ) (r : ListReason) → list_faults n (a ++ s) p r → ⊥
 unfolding list_faults
 list_no_fault n a s xs (size, list) p r w =
     let c = cut a xs list in
     let whole : a ++ s ≡ c.front ++ (c.back ++ s) = ap (λ (u : List ℕ). u ++ s) c.joined ∙ append_assoc c.front c.back s in
-    let there = behind_it (IsHeadOf n) (head_faults n) (body_faults n) (head_part n) c.front (c.back ++ s) c.head (c.is_head.0, c.is_head.1 ∙ size) p r
-    (subst (λ (u : List ℕ). in_order (IsHeadOf n) (head_faults n) (body_faults n) u p r) whole w) in
+    let there = behind_it (IsListHeadOf n) (list_head_faults n) (list_body_faults n) (head_part n) c.front (c.back ++ s) c.head (c.is_head.0, c.is_head.1 ∙ size) p r
+    (subst (λ (u : List ℕ). in_order (IsListHeadOf n) (list_head_faults n) (list_body_faults n) u p r) whole w) in
     body_no_fault n c.head c.back s xs size c.body there.0 r there.1.1
 
 -- ---- single
@@ -173,7 +173,7 @@ index_single n most rest =
     single-unless (stuffed_size n (binary_digits most) ≤ length rest) Cut 0 (unless (AreIndexes n most (take (stuffed_size n (binary_digits most)) rest)) (wrong BadIndex 0) none)
     (single-unless (AreIndexes n most (take (stuffed_size n (binary_digits most)) rest)) BadIndex 0 none single-none)
 
-table_single : (n width : ℕ) (rest : List ℕ) → IsSingle (table_faults n width rest)
+table_single : (n width : ℕ) (rest : List ℕ) → IsSingle (list_table_faults n width rest)
 table_single n width rest =
     let size = slice_index rest 0 in
     let most = size - 1 in
@@ -185,14 +185,14 @@ table_single n width rest =
     (single-unless (stuffed_size most width ≤ length entries) Cut 0 (moved (stuffed_size most width) (index_faults n most indexes))
     (single-moved (stuffed_size most width) (index_faults n most indexes) (index_single n most indexes)))))
 
-body_single : (n : ℕ) (head : ListHead) (rest : List ℕ) → IsSingle (body_faults n head rest)
+body_single : (n : ℕ) (head : ListHead) (rest : List ℕ) → IsSingle (list_body_faults n head rest)
 body_single n head rest =
-    single-choice (IsTrue head.table) (table_faults n head.width rest) (data_faults n head.width rest) (table_single n head.width rest)
+    single-choice (IsTrue head.table) (list_table_faults n head.width rest) (data_faults n head.width rest) (table_single n head.width rest)
     (single-unless (stuffed_size n head.width ≤ length rest) Cut 0 none single-none)
 
 list_single : (n : ℕ) (bytes : List ℕ) → IsSingle (list_faults n bytes)
 unfolding list_faults
-list_single n bytes = single-in_order (IsHeadOf n) (head_faults n) (body_faults n) (head_part n) (λ head rest. body_single n head rest) bytes
+list_single n bytes = single-in_order (IsListHeadOf n) (list_head_faults n) (list_body_faults n) (head_part n) (λ head rest. body_single n head rest) bytes
 
 pub list_part : (n : ℕ) → IsPart (IsListOf n) (list_faults n)
 list_part n = record {
@@ -288,7 +288,7 @@ later_fault : {Y : Type 0} (n : ℕ) (faults : Faults ListReason) → Y ⊎ HasF
 later_fault n faults (inl y) = inl y
 later_fault n faults (inr w) = inr (record { place = n + w.place; reason = w.reason; fault = (w.place, (refl, w.fault)) })
 
-table_decided : (n : ℕ) (head : ListHead) (rest : List ℕ) → IsTrue head.table → HasBody n head rest ⊎ HasFault (table_faults n head.width rest)
+table_decided : (n : ℕ) (head : ListHead) (rest : List ℕ) → IsTrue head.table → HasBody n head rest ⊎ HasFault (list_table_faults n head.width rest)
 table_decided n head rest set =
     let size = slice_index rest 0 in
     let most = size - 1 in
@@ -312,10 +312,10 @@ data_decided n head rest clear =
       body = plain clear xs.1.1;
     }))
 
-body_decided : (n : ℕ) (head : ListHead) (rest : List ℕ) → HasBody n head rest ⊎ HasFault (body_faults n head rest)
+body_decided : (n : ℕ) (head : ListHead) (rest : List ℕ) → HasBody n head rest ⊎ HasFault (list_body_faults n head rest)
 body_decided n head rest = pick head.table refl
   where
-    pick : (b : Bool) → head.table ≡ b → HasBody n head rest ⊎ HasFault (body_faults n head rest)
+    pick : (b : Bool) → head.table ≡ b → HasBody n head rest ⊎ HasFault (list_body_faults n head rest)
     pick true e = elim (table_decided n head rest e) [
       | inl body ↦ inl body
       | inr w ↦ inr (record { place = w.place; reason = w.reason; fault = inl (e, w.fault) })
@@ -326,7 +326,7 @@ body_decided n head rest = pick head.table refl
     ]
 
 -- a head and its body are a list
-pub body_list : (front back values : List ℕ) (head : ListHead) → IsHeadOf (length values) front head → IsBody head back values → IsList (front ++ back) values
+pub body_list : (front back values : List ℕ) (head : ListHead) → IsListHeadOf (length values) front head → IsBody head back values → IsList (front ++ back) values
 body_list front back values head is_head (plain clear u) =
     let size : length front ≤ length (front ++ back) = omega (arith, length-append front back) in
     simple (head, (length front, record { is_head = head-append front back head (length front) is_head.0; simple = clear; count = is_head.1; stuffed = subst (λ (u : List ℕ). IsStuffed u head.width values) (sym (drop_at front back (length front) refl)) u }))

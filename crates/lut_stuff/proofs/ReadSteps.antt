@@ -9,9 +9,9 @@ use Rattle.bit_stuff.specs.declared.heads.ListReason.TheVariants.{BadIndex}
 use Rattle.bit_stuff.specs.Simple.{binary_digits}
 use Rattle.bit_stuff.specs.Stuffed.{IsStuffed, stuffed_size}
 use Rattle.bit_stuff.specs.declared.heads.ListHead.{ListHead}
-use Rattle.bit_stuff.specs.Head.{IsHead, IsHeadOf, head_faults}
+use Rattle.bit_stuff.specs.Head.{IsListHead, IsListHeadOf, list_head_faults}
 use Rattle.bit_stuff.proofs.HeadLaws.{head-take}
-use Rattle.lut_stuff.specs.Faults.{AreIndexes, body_faults, entry_faults, index_faults, list_faults, table_faults}
+use Rattle.lut_stuff.specs.Faults.{AreIndexes, list_body_faults, entry_faults, index_faults, list_faults, list_table_faults}
 use Rattle.lut_stuff.specs.Lists.{IsList, IsTabled}
 use Rattle.lut_stuff.specs.inside.Indexes.{HasEntries, HasIndexes, IsBody}
 use Rattle.lut_stuff.proofs.Lists.{body_list, list_part}
@@ -51,7 +51,7 @@ table_stands (x ∷ xs) values width used there t =
 
 pub table_wrong : (n width : ℕ) (bytes : List ℕ) (at : ℕ) (r : ListReason) → 0 < length bytes → 2 ≤ slice_index bytes 0
     → (at ≤ length (drop 1 bytes)) × entry_faults n width (slice_index bytes 0 - 1) (drop 1 bytes) at r
-    → (1 + at ≤ length bytes) × table_faults n width bytes (1 + at) r
+    → (1 + at ≤ length bytes) × list_table_faults n width bytes (1 + at) r
 table_wrong n width bytes at r there two w = (omega (arith, length-drop 1 bytes, w.0), inl (there, inl (two, (at, (refl, w.1)))))
 
 -- entries and indexes
@@ -98,24 +98,24 @@ tabled_told n width used size bytes rest table values part r long two behind e i
 pub table_told : (n width size : ℕ) (bytes rest values : List ℕ) (part r : Result ℕ ListFault) → 0 < length bytes → size ≡ slice_index bytes 0 → 2 ≤ size → rest ≡ drop 1 bytes
     → MatchResult part (λ k. r ≡ Ok (1 + k)) (λ f. r ≡ Err (record { reason = f.reason; at = 1 + f.at }))
     → MatchResult part (λ k. (k ≤ length rest) × IsTabled width (size ∷ take k rest) values) (λ f. (f.at ≤ length rest) × entry_faults n width (size - 1) rest f.at f.reason)
-    → MatchResult r (λ k. (k ≤ length bytes) × IsTabled width (take k bytes) values) (λ f. (f.at ≤ length bytes) × table_faults n width bytes f.at f.reason)
+    → MatchResult r (λ k. (k ≤ length bytes) × IsTabled width (take k bytes) values) (λ f. (f.at ≤ length bytes) × list_table_faults n width bytes f.at f.reason)
 table_told n width size bytes rest values part r there first two behind is read =
     told_behind 1 part r (λ k. (k ≤ length rest) × IsTabled width (size ∷ take k rest) values) (λ k. (k ≤ length bytes) × IsTabled width (take k bytes) values)
-    (λ f. (f.at ≤ length rest) × entry_faults n width (size - 1) rest f.at f.reason) (λ f. (f.at ≤ length bytes) × table_faults n width bytes f.at f.reason) is read
+    (λ f. (f.at ≤ length rest) × entry_faults n width (size - 1) rest f.at f.reason) (λ f. (f.at ≤ length bytes) × list_table_faults n width bytes f.at f.reason) is read
     (λ k t. table_stands bytes values width k there
     (subst (λ (m : ℕ). (k ≤ length (drop 1 bytes)) × IsTabled width (m ∷ take k (drop 1 bytes)) values) first (subst (λ (u : List ℕ). (k ≤ length u) × IsTabled width (size ∷ take k u) values) behind t)))
     (λ f w. table_wrong n width bytes f.at f.reason there (omega (arith, first, two))
     (subst (λ (m : ℕ). (f.at ≤ length (drop 1 bytes)) × entry_faults n width (m - 1) (drop 1 bytes) f.at f.reason) first (subst (λ (u : List ℕ). (f.at ≤ length u) × entry_faults n width (size - 1) u f.at f.reason) behind w)))
 
 -- a head and what stands behind it
-pub list_stands : (bytes values : List ℕ) (head : ListHead) (used k : ℕ) → IsHead bytes head used → head.count ≡ length values → (k ≤ length (drop used bytes)) × IsBody head (take k (drop used bytes)) values
+pub list_stands : (bytes values : List ℕ) (head : ListHead) (used k : ℕ) → IsListHead bytes head used → head.count ≡ length values → (k ≤ length (drop used bytes)) × IsBody head (take k (drop used bytes)) values
     → (used + k ≤ length bytes) × IsList (take (used + k) bytes) values
 list_stands bytes values head used k h counted b =
     let size : length (take used bytes) ≡ used = length-take-le used bytes h.within in
-    let front : IsHeadOf (length values) (take used bytes) head = (subst (λ (m : ℕ). IsHead (take used bytes) head m) (sym size) (head-take bytes used head used h (omega arith)), counted) in
+    let front : IsListHeadOf (length values) (take used bytes) head = (subst (λ (m : ℕ). IsListHead (take used bytes) head m) (sym size) (head-take bytes used head used h (omega arith)), counted) in
     (omega (arith, b.0, length-drop used bytes, h.within), subst (λ (u : List ℕ). IsList u values) (sym (take-add used k bytes)) (body_list (take used bytes) (take k (drop used bytes)) values head front b.1))
 
-pub list_wrong : (n used at : ℕ) (bytes : List ℕ) (head : ListHead) (r : ListReason) → IsHead bytes head used → head.count ≡ n → (at ≤ length (drop used bytes)) × body_faults n head (drop used bytes) at r
+pub list_wrong : (n used at : ℕ) (bytes : List ℕ) (head : ListHead) (r : ListReason) → IsListHead bytes head used → head.count ≡ n → (at ≤ length (drop used bytes)) × list_body_faults n head (drop used bytes) at r
     → (used + at ≤ length bytes) × list_faults n bytes (used + at) r
 unfolding list_faults
 list_wrong n used at bytes head r h counted w =
@@ -126,22 +126,22 @@ list_wrong n used at bytes head r h counted w =
         rest = drop used bytes;
         value = head;
         joined = sym (take-append-drop used bytes);
-        stands = (subst (λ (m : ℕ). IsHead (take used bytes) head m) (sym size) (head-take bytes used head used h (omega arith)), counted);
+        stands = (subst (λ (m : ℕ). IsListHead (take used bytes) head m) (sym size) (head-take bytes used head used h (omega arith)), counted);
         later = (at, (ap (λ (m : ℕ). m + at) (sym size), w.1));
       }),
     )
 
-pub list_told : (n used : ℕ) (bytes rest values : List ℕ) (head : ListHead) (part r : Result ℕ ListFault) → IsHead bytes head used → head.count ≡ n → length values ≡ n → rest ≡ drop used bytes
+pub list_told : (n used : ℕ) (bytes rest values : List ℕ) (head : ListHead) (part r : Result ℕ ListFault) → IsListHead bytes head used → head.count ≡ n → length values ≡ n → rest ≡ drop used bytes
     → MatchResult part (λ k. r ≡ Ok (used + k)) (λ f. r ≡ Err (record { reason = f.reason; at = used + f.at }))
-    → MatchResult part (λ k. (k ≤ length rest) × IsBody head (take k rest) values) (λ f. (f.at ≤ length rest) × body_faults n head rest f.at f.reason)
+    → MatchResult part (λ k. (k ≤ length rest) × IsBody head (take k rest) values) (λ f. (f.at ≤ length rest) × list_body_faults n head rest f.at f.reason)
     → MatchResult r (λ k. (k ≤ length bytes) × IsList (take k bytes) values) (λ f. (f.at ≤ length bytes) × list_faults n bytes f.at f.reason)
 list_told n used bytes rest values head part r h counted size behind is read =
     told_behind used part r (λ k. (k ≤ length rest) × IsBody head (take k rest) values) (λ k. (k ≤ length bytes) × IsList (take k bytes) values)
-    (λ f. (f.at ≤ length rest) × body_faults n head rest f.at f.reason) (λ f. (f.at ≤ length bytes) × list_faults n bytes f.at f.reason) is read
+    (λ f. (f.at ≤ length rest) × list_body_faults n head rest f.at f.reason) (λ f. (f.at ≤ length bytes) × list_faults n bytes f.at f.reason) is read
     (λ k b. list_stands bytes values head used k h (counted ∙ sym size) (subst (λ (u : List ℕ). (k ≤ length u) × IsBody head (take k u) values) behind b))
-    (λ f w. list_wrong n used f.at bytes head f.reason h counted (subst (λ (u : List ℕ). (f.at ≤ length u) × body_faults n head u f.at f.reason) behind w))
+    (λ f w. list_wrong n used f.at bytes head f.reason h counted (subst (λ (u : List ℕ). (f.at ≤ length u) × list_body_faults n head u f.at f.reason) behind w))
 
-pub head_wrong : (n : ℕ) (bytes : List ℕ) (p : ℕ) (r : ListReason) → head_faults n bytes p r → list_faults n bytes p r
+pub head_wrong : (n : ℕ) (bytes : List ℕ) (p : ℕ) (r : ListReason) → list_head_faults n bytes p r → list_faults n bytes p r
 unfolding list_faults
 head_wrong n bytes p r w = inl w
 

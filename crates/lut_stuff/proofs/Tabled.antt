@@ -7,7 +7,7 @@ use Rattle.std.proofs.lemmas.Bool.Decides.{leb_tells}
 use borrow.Rule.Slice.PartMut.{put_mid}
 use Rattle.std.proofs.lemmas.List.{append-nil, length-append, length-map}
 use Rattle.std.proofs.lemmas.List.Elements.{All-from_get_or, All-map}
-use Rattle.bit_stuff.specs.Head.{IsHead, IsHeadOf, head_bytes, head_size}
+use Rattle.bit_stuff.specs.Head.{IsListHead, IsListHeadOf, list_head_bytes, head_size}
 use Rattle.bit_stuff.specs.Simple.{binary_digits, greatest_number, width_of}
 use Rattle.bit_stuff.specs.Stuffed.{IsStuffed, stuffed_bytes, stuffed_size}
 use Rattle.bit_stuff.proofs.Buffers.{end_written}
@@ -78,7 +78,7 @@ tabled_is values below some few = record {
   named = map_named (entries_of values) values (λ i lt. entry_named (entries_of values) (get_or values i 0) (entries_rising values) (entries_have values (get_or values i 0) (has_at values i lt)));
 }
 
-pub table_is : (values : List ℕ) → table_bytes values ≡ head_bytes (width_of values) true (length values) ++ tabled_bytes values
+pub table_is : (values : List ℕ) → table_bytes values ≡ list_head_bytes (width_of values) true (length values) ++ tabled_bytes values
 unfolding table_bytes
 table_is values = refl
 
@@ -89,10 +89,10 @@ table_list values small below some few =
     let w = width_of values in
     let narrow : w < 32 = omega (arith, width_of-le 31 values below) in
     let wide : 0 < w = digits_some (greatest_number values) (some_distinct values some) in
-    let front = head_bytes w true n in
-    let whole : IsHead (front ++ []) (record { width = w; table = true; count = n }) (head_size n) = head_bytes-head w true n [] narrow small (λ _. wide) in
-    let head : IsHeadOf n front (record { width = w; table = true; count = n }) =
-    (subst (λ (k : ℕ). IsHead front (record { width = w; table = true; count = n }) k) (sym (length-head_bytes w true n)) (subst (λ (u : List ℕ). IsHead u (record { width = w; table = true; count = n }) (head_size n)) (append-nil front) whole), refl) in
+    let front = list_head_bytes w true n in
+    let whole : IsListHead (front ++ []) (record { width = w; table = true; count = n }) (head_size n) = head_bytes-head w true n [] narrow small (λ _. wide) in
+    let head : IsListHeadOf n front (record { width = w; table = true; count = n }) =
+    (subst (λ (k : ℕ). IsListHead front (record { width = w; table = true; count = n }) k) (sym (length-head_bytes w true n)) (subst (λ (u : List ℕ). IsListHead u (record { width = w; table = true; count = n }) (head_size n)) (append-nil front) whole), refl) in
     subst (λ (u : List ℕ). IsList u values) (sym (table_is values)) (body_list front (tabled_bytes values) values (record { width = w; table = true; count = n }) head (tabled refl (tabled_is values below some few)))
 
 pub length-tabled_bytes : (values : List ℕ) → length (tabled_bytes values) ≡ 1 + stuffed_size (distinct_above_0 values) (width_of values) + stuffed_size (length values) (binary_digits (distinct_above_0 values))
@@ -106,7 +106,7 @@ length-tabled_bytes values =
 
 pub length-table_bytes : (values : List ℕ) → length (table_bytes values) ≡ head_size (length values) + (1 + stuffed_size (distinct_above_0 values) (width_of values) + stuffed_size (length values) (binary_digits (distinct_above_0 values)))
 length-table_bytes values =
-    ap length (table_is values) ∙ length-append (head_bytes (width_of values) true (length values)) (tabled_bytes values)
+    ap length (table_is values) ∙ length-append (list_head_bytes (width_of values) true (length values)) (tabled_bytes values)
     ∙ omega (arith, length-head_bytes (width_of values) true (length values), length-tabled_bytes values)
 
 -- ---- where there is a table
@@ -198,12 +198,12 @@ cons_written x out (y ∷ ys) new k there e room = ap (λ (u : List ℕ). put_mi
 
 -- what `write_list` leaves
 pub list_written : (values es is old out new : List ℕ) (w used : ℕ) → w ≡ width_of values → used ≡ head_size (length values) → es ≡ entries_of values → is ≡ map (index_in (entries_of values)) values
-    → out ≡ head_bytes w true (length values) ++ drop (head_size (length values)) old
+    → out ≡ list_head_bytes w true (length values) ++ drop (head_size (length values)) old
     → new ≡ (length es + 1) ∷ (stuffed_bytes w es ++ stuffed_bytes (binary_digits (length es)) is)
     → put_mid used (length out - used) out new ≡ table_bytes values
 list_written values es is old out new w used chosen size entries indexes head e =
     let n = length values in
-    let front = head_bytes w true n in
+    let front = list_head_bytes w true n in
     let rest = drop (head_size n) old in
     let len : length front ≡ used = length-head_bytes w true n ∙ sym size in
     let tail : new ≡ tabled_bytes values =
@@ -211,7 +211,7 @@ list_written values es is old out new w used chosen size entries indexes head e 
     ∙ ap (λ (k : ℕ). (k + 1) ∷ (stuffed_bytes (width_of values) (entries_of values) ++ stuffed_bytes (binary_digits k) (map (index_in (entries_of values)) values))) (sym (distinct_is values)) in
     ap (λ (xs : List ℕ). put_mid used (length xs - used) xs new) head
     ∙ end_written front rest new used (length (front ++ rest) - used) len (omega (arith, length-append front rest, len))
-    ∙ (λ i. head_bytes (chosen i) true n ++ tail i) ∙ sym (table_is values)
+    ∙ (λ i. list_head_bytes (chosen i) true n ++ tail i) ∙ sym (table_is values)
 
 greatest_has : (xs : List ℕ) → 0 < greatest_number xs → Has (greatest_number xs) xs
 greatest_has [] some = absurd (omega (arith, some))

@@ -5,7 +5,7 @@ use Rattle.first_fault.specs.Faults.{Faults, none, wrong, choice, unless, moved,
 use Rattle.bit_stuff.specs.declared.heads.ListHead.{ListHead}
 use Rattle.bit_stuff.specs.declared.heads.ListReason.{ListReason}
 use Rattle.bit_stuff.specs.declared.heads.ListReason.TheVariants.{Cut, BadTable, BadIndex}
-use Rattle.bit_stuff.specs.Head.{IsHeadOf, head_faults}
+use Rattle.bit_stuff.specs.Head.{IsListHeadOf, list_head_faults}
 use Rattle.bit_stuff.specs.Simple.{binary_digits}
 use Rattle.bit_stuff.specs.Stuffed.{field_at, number_of_bytes, stuffed_size}
 
@@ -37,15 +37,15 @@ size_faults n width size rest =
     unless (2 ≤ size) (wrong BadTable 0) (moved 1 (entry_faults n width (size - 1) rest))
 
 -- the table: its first byte is there, and what it says is right
-abbrev pub table_faults : ℕ → ℕ → List ℕ → Faults ListReason
-table_faults n width rest =
+abbrev pub list_table_faults : ℕ → ℕ → List ℕ → Faults ListReason
+list_table_faults n width rest =
     unless (0 < length rest) (wrong Cut 0) (size_faults n width (slice_index rest 0) (drop 1 rest))
 
 -- what follows the head
-abbrev pub body_faults : ℕ → ListHead → List ℕ → Faults ListReason
-body_faults n head rest =
-    choice (IsTrue head.table) (table_faults n head.width rest) (data_faults n head.width rest)
+abbrev pub list_body_faults : ℕ → ListHead → List ℕ → Faults ListReason
+list_body_faults n head rest =
+    choice (IsTrue head.table) (list_table_faults n head.width rest) (data_faults n head.width rest)
 
 -- the first fault of a list of n numbers
 unfoldable pub list_faults : ℕ → List ℕ → Faults ListReason
-list_faults n = in_order (IsHeadOf n) (head_faults n) (body_faults n)
+list_faults n = in_order (IsListHeadOf n) (list_head_faults n) (list_body_faults n)

@@ -2,7 +2,7 @@
 use Rattle.std.specs.Prelude.{ℕ, ◌≡◌, ◌+◌, ◌<◌, List, ◌∷◌, ◌++◌, length, get_or, map}
 use Rattle.std.specs.Prelude.{All, IsTrue}
 use Rattle.bit_stuff.specs.declared.heads.ListHead.{ListHead}
-use Rattle.bit_stuff.specs.Head.{IsHeadOf}
+use Rattle.bit_stuff.specs.Head.{IsListHeadOf}
 use Rattle.bit_stuff.specs.Simple.{IsSimpleList, binary_digits}
 use Rattle.bit_stuff.specs.Stuffed.{IsStuffed}
 
@@ -29,7 +29,7 @@ pub record IsTabled (width : ℕ) (bytes values : List ℕ) : Type 0 where
 pub data IsList (bytes values : List ℕ) : Type 0 where
   simple : IsSimpleList bytes values → IsList bytes values
   table : (head : ListHead) (front back : List ℕ) → bytes ≡ front ++ back
-      → IsHeadOf (length values) front head → IsTrue head.table → IsTabled head.width back values
+      → IsListHeadOf (length values) front head → IsTrue head.table → IsTabled head.width back values
       → IsList bytes values
 
 -- the bytes are a list of n values

@@ -2,7 +2,7 @@
 use Rattle.std.specs.Prelude.{ℕ, ◌+◌, Bool, ◌&&◌, nat_eq, nat_le, nat_lt, List, ◌∷◌, ◌++◌, length, map, true}
 use Rattle.std.specs.Prelude.{Option, None, Some, if◌then◌else◌}
 use Rattle.std.specs.List.{filter, list_any, range_with_len}
-use Rattle.bit_stuff.specs.Head.{head_bytes}
+use Rattle.bit_stuff.specs.Head.{list_head_bytes}
 use Rattle.bit_stuff.specs.Simple.{binary_digits, greatest_number, width_of}
 use Rattle.bit_stuff.specs.Stuffed.{stuffed_bytes}
 
@@ -25,7 +25,7 @@ index_in entries v = length (filter (λ e. nat_le e v) entries)
 -- the bytes that are chosen for a list in the table form
 unfoldable pub table_bytes : List ℕ → List ℕ
 table_bytes values =
-    head_bytes (width_of values) true (length values)
+    list_head_bytes (width_of values) true (length values)
     ++ (distinct_above_0 values + 1)
     ∷ (stuffed_bytes (width_of values) (entries_of values)
     ++ stuffed_bytes (binary_digits (distinct_above_0 values))

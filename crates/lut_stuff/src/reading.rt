@@ -4,8 +4,8 @@ ghost use Rattle.std.specs.Prelude.{◌≡◌, ◌∷◌, ◌+◌, ◌-◌, ◌^
 ghost use Rattle.std.specs.Prelude.{IsTrue, IsFalse, MatchResult, length, slice_index, take};
 ghost use Rattle.bit_stuff.specs.Stuffed.{IsStuffed, stuffed_size};
 ghost use Rattle.bit_stuff.specs.declared.heads.ListFault.{ListFault};
-ghost use Rattle.lut_stuff.specs.Faults.{body_faults, data_faults, entry_faults, index_faults};
-ghost use Rattle.lut_stuff.specs.Faults.{list_faults, table_faults};
+ghost use Rattle.lut_stuff.specs.Faults.{list_body_faults, data_faults, entry_faults, index_faults};
+ghost use Rattle.lut_stuff.specs.Faults.{list_faults, list_table_faults};
 ghost use Rattle.lut_stuff.specs.Lists.{IsList, IsTabled};
 ghost use Rattle.lut_stuff.specs.inside.Indexes.{AreLookedUp, HasEntries, HasIndexes, IsBody};
 
@@ -126,7 +126,7 @@ fn read_table(bytes: &[u8], width: u32, out: &mut [u32]) -> Result<usize, ListFa
     ensures { MatchResult result
         (λ used. (used ≤ length bytes.now) × IsTabled width (take used bytes.now) out.new)
         (λ f. (f.at ≤ length bytes.now)
-        × table_faults (length out.old) width bytes.now f.at f.reason) }
+        × list_table_faults (length out.old) width bytes.now f.at f.reason) }
 {
     if bytes.is_empty() {
         return refused(ListReason::Cut, 0);
@@ -146,7 +146,7 @@ fn read_body(bytes: &[u8], head: ListHead, out: &mut [u32]) -> Result<usize, Lis
     ensures { MatchResult result
         (λ used. (used ≤ length bytes.now) × IsBody head (take used bytes.now) out.new)
         (λ f. (f.at ≤ length bytes.now)
-        × body_faults (length out.old) head bytes.now f.at f.reason) }
+        × list_body_faults (length out.old) head bytes.now f.at f.reason) }
 {
     if head.table {
         read_table(bytes, head.width, out)

@@ -11,7 +11,7 @@ use Rattle.byteorder.specs.Endian.{twos_complement}
 use Rattle.mask_runs.specs.declared.write.Choice.{Choice}
 use Rattle.mask_runs.specs.declared.write.Choice.TheVariants.{Literal as LiteralOf, Repeat as RepeatOf}
 use Rattle.mask_runs.specs.Runs.{MaskPiece, Literal, Repeat, MaskRun, IsRun, run_content, piece_content, piece_count, piece_body, AreJoinedRuns, Runs}
-use Rattle.mask_runs.specs.Chosen.{equal_bytes, before_repeat, first_piece, pieces_after, chosen_pieces, piece_bytes, chosen_runs}
+use Rattle.mask_runs.specs.Chosen.{AreChosenPieces, equal_bytes, before_repeat, first_piece, pieces_after, chosen_pieces, piece_bytes, chosen_runs}
 use Rattle.mask_runs.specs.inside.Steps.{IsFirstChoice, piece_of, count_in, size_in}
 use Rattle.mask_runs.proofs.Equal.{equal_most, before_some, before_most}
 use Rattle.mask_runs.proofs.Pieces.{size_of_count}
@@ -68,6 +68,28 @@ pieces_go_on (x ∷ mask) some =
     let least = choice.1.least in
     let one_more : suc (length (piece_content (first_piece (x ∷ mask))) - 1) ≡ length (piece_content (first_piece (x ∷ mask))) = omega arith in
     ap (λ pieces. first_piece (x ∷ mask) ∷ pieces) (pieces_after-drop (length (piece_content (first_piece (x ∷ mask))) - 1) mask ∙ ap (λ n. chosen_pieces (drop n (x ∷ mask))) one_more)
+
+-- the chosen pieces are those of the relation, and no others are
+are_chosen_by : (n : ℕ) (mask : List ℕ) → length mask ≤ n → AreChosenPieces (chosen_pieces mask) mask
+are_chosen_by n [] few = refl
+are_chosen_by zero (x ∷ mask) few = absurd (omega (arith, few))
+are_chosen_by (suc n) (x ∷ mask) few =
+    let choice = choice_of (x ∷ mask) (omega arith) in
+    let size : length (piece_content (first_piece (x ∷ mask))) ≡ count_in choice.0 = ap (λ piece. length (piece_content piece)) choice.1.piece ∙ length-content (x ∷ mask) choice.0 choice.1 in
+    let least = choice.1.least in
+    let rest = drop (length (piece_content (first_piece (x ∷ mask)))) (x ∷ mask) in
+    let shorter : length rest ≤ n = omega (arith, length-drop (length (piece_content (first_piece (x ∷ mask)))) (x ∷ mask), size, least, few) in
+    subst (λ (pieces : List MaskPiece). AreChosenPieces pieces (x ∷ mask)) (sym (pieces_go_on (x ∷ mask) (omega arith))) (omega arith, (refl, are_chosen_by n rest shorter))
+
+pub are_chosen : (mask : List ℕ) → AreChosenPieces (chosen_pieces mask) mask
+are_chosen mask = are_chosen_by (length mask) mask (omega arith)
+
+pub only_chosen : (mask : List ℕ) (pieces : List MaskPiece) → AreChosenPieces pieces mask → pieces ≡ chosen_pieces mask
+only_chosen mask [] is = sym (ap chosen_pieces is)
+only_chosen mask (piece ∷ pieces) is =
+    (λ t. is.1.0 t ∷ only_chosen (drop (length (piece_content piece)) mask) pieces is.1.1 t)
+    ∙ ap (λ (p : MaskPiece). first_piece mask ∷ chosen_pieces (drop (length (piece_content p)) mask)) is.1.0
+    ∙ sym (pieces_go_on mask is.0)
 
 -- one piece more is written
 pub runs_more : (mask : List ℕ) (choice : Choice) → 0 < length mask → IsFirstChoice mask choice

@@ -1,5 +1,5 @@
 -- The runs that are written for a mask, of all those that could be.
-use Rattle.std.specs.Prelude.{ℕ, zero, suc, ◌+◌, ◌-◌, min, nat_le, ◌==◌, if◌then◌else◌, List, [], ◌∷◌, ◌++◌, length, take, slice_index, flat_map}
+use Rattle.std.specs.Prelude.{ℕ, zero, suc, ◌≡◌, ◌<◌, ◌+◌, ◌-◌, min, nat_le, ◌==◌, if◌then◌else◌, List, [], ◌∷◌, ◌++◌, length, take, drop, slice_index, flat_map}
 use Rattle.std.specs.List.{prefix_len}
 use Rattle.std.specs.Int.{cast_unsigned, w16}
 use Rattle.byteorder.specs.Endian.{little_bytes}
@@ -23,6 +23,17 @@ first_piece mask = if nat_le 5 (equal_bytes mask)
     then Repeat (min (equal_bytes mask) 32767) (slice_index mask 0)
     else Literal (take (min (before_repeat mask) 32767) mask)
 
+-- The pieces are those that are chosen for a mask: none of no bytes; else its first piece, and then
+-- those that are chosen for what that piece leaves.
+abbrev pub AreChosenPieces : List MaskPiece → List ℕ → Type 0
+AreChosenPieces [] mask = mask ≡ []
+AreChosenPieces (piece ∷ pieces) mask =
+    (0 < length mask) × ((piece ≡ first_piece mask)
+    × AreChosenPieces pieces (drop (length (piece_content piece)) mask))
+
+-- The same pieces as a list: a law, `pieces_are_chosen`, says that they are chosen, and that no
+-- others are. So nobody has to follow how it skips the bytes of a piece.
+
 -- the pieces of a mask without its first n bytes
 abbrev pub pieces_after : ℕ → List ℕ → List MaskPiece
 pieces_after n [] = []
@@ -31,7 +42,6 @@ pieces_after zero (byte ∷ mask) =
     first_piece (byte ∷ mask)
     ∷ pieces_after (length (piece_content (first_piece (byte ∷ mask))) - 1) mask
 
--- the pieces of a mask: its first piece, and then those of the rest
 abbrev pub chosen_pieces : List ℕ → List MaskPiece
 chosen_pieces mask = pieces_after 0 mask
 

@@ -1,9 +1,9 @@
 //! Laws of runs, of their faults and of the chosen pieces.
 
 ghost use Rattle.std.specs.Prelude.{◌≡◌, ◌⊎◌, All, ℕ, ◌<◌, ◌≤◌, List, [], ◌∷◌, length, drop};
-ghost use Rattle.mask_runs.specs.Runs.{Runs, piece_content};
+ghost use Rattle.mask_runs.specs.Runs.{MaskPiece, Runs, piece_content};
 ghost use Rattle.mask_runs.specs.Fault.{FirstRunFault};
-ghost use Rattle.mask_runs.specs.Chosen.{equal_bytes, before_repeat, first_piece, chosen_pieces};
+ghost use Rattle.mask_runs.specs.Chosen.{AreChosenPieces, equal_bytes, before_repeat, first_piece, chosen_pieces};
 
 /// A law: bytes are runs of at most one mask, and go wrong first at one place at most; and bytes
 /// that are runs of a mask go wrong nowhere, as runs of a mask of that length.
@@ -28,6 +28,13 @@ pub fn pieces_go_on()
     ensures none { chosen_pieces [] ≡ [] }
     ensures more { (mask : List ℕ) → 0 < length mask → chosen_pieces mask
         ≡ first_piece mask ∷ chosen_pieces (drop (length (piece_content (first_piece mask))) mask) }
+{}
+
+/// A law: the chosen pieces of a mask are those that are chosen for it, and no others are.
+pub fn pieces_are_chosen()
+    ensures are { (mask : List ℕ) → AreChosenPieces (chosen_pieces mask) mask }
+    ensures only { (mask : List ℕ) (pieces : List MaskPiece) → AreChosenPieces pieces mask →
+        pieces ≡ chosen_pieces mask }
 {}
 
 /// A law: the bytes before the next repeat end at the first place from which five or more are

@@ -9,6 +9,9 @@ mod laws;
 mod read;
 mod write;
 
-pub use laws::{bytes_are_runs_or_go_wrong, pieces_go_on, repeats_are_found, runs_are_determined};
+pub use laws::{
+    bytes_are_runs_or_go_wrong, pieces_are_chosen, pieces_go_on, repeats_are_found,
+    runs_are_determined,
+};
 pub use read::{RunFault, read_runs};
 pub use write::{runs_len, write_runs};

@@ -12,9 +12,9 @@ use Rattle.lut_stuff.proofs.Tabled.{distinct_some, table_size_some}
 use Rattle.micro_block.specs.declared.choosing.Chosen.{Chosen}
 use Rattle.micro_block.specs.declared.spreading.Spread.{Spread}
 use Rattle.micro_block.specs.Choice as choice
-use Rattle.micro_block.specs.Choice.{Form, least_value, quantised_values, is_flat, is_stuffable, forms, chosen_form, form_bytes, block_bytes}
+use Rattle.micro_block.specs.Choice.{Form, May, least_value, quantised_values, is_flat, is_stuffable, forms, chosen_form, form_bytes, block_bytes}
 use Rattle.micro_block.specs.Fewest.{IsFirstLeast}
-use Rattle.micro_block.specs.inside.Forms.{form_at, named, May, IsChosen}
+use Rattle.micro_block.specs.inside.Forms.{form_at, named, IsChosen}
 use Rattle.micro_block.specs.inside.Sizes.{closed_sizes, IsFirst, IsTabledLength}
 use Rattle.micro_block.specs.inside.Stepping.{AreListable, IsSpread, steps_above, values_above}
 use Rattle.micro_block.proofs.Above.{above_in_range, listable}

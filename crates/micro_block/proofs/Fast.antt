@@ -23,11 +23,6 @@ quotient_is x s a low high some =
 pub step_one : (m v : ℤ) → quantised 1 m v ≡ unsigned_abs (v -ℤ m)
 step_one m v = let d = unsigned_abs (v -ℤ m) in omega arith
 
-pub step_even : (e : ℕ) (m v : ℤ) → quantised (2 * e) m v ≡ (unsigned_abs (v -ℤ m) + e) / (2 * e)
-step_even e m v =
-    let d = unsigned_abs (v -ℤ m) in
-    ap (λ n. n / (2 * (2 * e))) (let t : 2 * d + 2 * e ≡ 2 * (d + e) = omega arith in t) ∙ half (d + e) (2 * e)
-
 -- ---- the greatest
 
 div_rises : (x y s : ℕ) → 0 < s → x ≤ y → x / s ≤ y / s

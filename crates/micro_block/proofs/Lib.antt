@@ -14,4 +14,5 @@ mod Chosen
 mod WriteSteps
 mod QuantiseSteps
 mod ShortTables
+mod InPlace
 mod KeptBounds

@@ -27,8 +27,7 @@ use Rattle.lut_stuff.proofs.Tabled.{distinct_some, table_list}
 use Rattle.micro_block.specs.Near.{quantised, stands_for, IsNear}
 use Rattle.micro_block.specs.Block.{offset_types, IsTag, IsOffset, IsBlock, raw, stuffed, zero, constant}
 use Rattle.micro_block.specs.Choice as choice
-use Rattle.micro_block.specs.Choice.{least_value, quantised_values, holds, narrowest, narrow_type, offset_bytes, tag_byte, form_bytes, is_flat, is_stuffable, forms, chosen_form, block_bytes, kept_by, kept, Form}
-use Rattle.micro_block.specs.inside.Forms.{May}
+use Rattle.micro_block.specs.Choice.{least_value, quantised_values, holds, narrowest, narrow_type, offset_bytes, tag_byte, form_bytes, is_flat, is_stuffable, forms, May, chosen_form, block_bytes, kept_by, kept, Form}
 use Rattle.micro_block.proofs.Fewest.{At, at_first}
 use Rattle.micro_block.proofs.Near.{near, exact, above, below}
 

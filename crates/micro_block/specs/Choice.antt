@@ -1,7 +1,7 @@
 -- The block that is written for given values, of all those that could be.
 use Rattle.std.specs.Prelude.{ℕ, ℤ, pos, ◌+◌, ◌*◌, ◌/◌, ◌%◌, ◌^◌, Bool, ◌&&◌, not, nat_eq, nat_le}
 use Rattle.std.specs.Prelude.{nat_lt, int_le, if◌then◌else◌, List, [], ◌∷◌, ◌++◌, length, map}
-use Rattle.std.specs.Prelude.{Option, Some, unwrap_or, unsigned_abs, fold}
+use Rattle.std.specs.Prelude.{◌≡◌, true, Option, Some, unwrap_or, unsigned_abs, fold}
 use Rattle.std.specs.Int.{int_min}
 use Rattle.raster_values.specs.declared.kind.PixelType.{PixelType}
 use Rattle.raster_values.specs.declared.kind.PixelType.TheVariants.{I8, U8, I16, U16, I32, U32}
@@ -89,6 +89,17 @@ forms step values =
     ∷ allowed (not (is_flat step values) && (is_stuffable step values
     && nat_le (distinct_above_0 (quantised_values step values)) 254)) table
     ∷ []
+
+-- what is true of the values where the form may be
+abbrev pub May : ℕ → List ℤ → Form → Type 0
+May step values zero =
+    (is_flat step values && nat_eq (unsigned_abs (least_value values)) 0) ≡ true
+May step values constant = (is_flat step values && nat_lt 0 (length values)) ≡ true
+May step values raw = Unit {0}
+May step values simple = (not (is_flat step values) && is_stuffable step values) ≡ true
+May step values table =
+    (not (is_flat step values) && (is_stuffable step values
+    && nat_le (distinct_above_0 (quantised_values step values)) 254)) ≡ true
 
 -- the first of those with the fewest bytes
 unfoldable pub chosen_form : PixelType → ℕ → ℕ → List ℤ → Form

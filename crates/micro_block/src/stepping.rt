@@ -2,7 +2,7 @@
 
 ghost use Rattle.std.specs.Prelude.{◌≡◌, ◌+◌, ◌-◌, ◌*◌, ◌^◌, ◌<◌, ◌≤◌, length, map, All, IfSome};
 ghost use Rattle.micro_block.specs.Frame.{IsBlockStep};
-ghost use Rattle.micro_block.specs.inside.Products.{IsProduct};
+ghost use Rattle.micro_block.specs.inside.Products.{IsProduct, rounded_steps};
 ghost use Rattle.micro_block.specs.inside.Stepping.{AreStepped, IsRule, steps_above};
 
 /// A product and a shift in place of a division, for numbers below a limit.
@@ -145,13 +145,22 @@ fn multiplied(distance: u32, least: u32, half: u32, product: Product) -> u32
     ((u64::from(distance - least + half) * u64::from(product.factor)) >> product.shift) as u32
 }
 
+/// The number of steps of a distance of any size, rounded to the nearest, halves upwards.
+pub(crate) fn rounded(distance: u64, step: u64) -> u64
+    requires far { distance ≤ 8589934592 }
+    requires step { (0 < step) × (step ≤ 8589934592) }
+    ensures { result ≡ rounded_steps step distance }
+{
+    (2 * distance + step) / (2 * step)
+}
+
 /// The number of steps, by a division.
 fn divided(distance: u32, least: u32, step: u64) -> u32
     requires from { least ≤ distance }
     requires step { (0 < step) × (step ≤ 8589934592) }
     ensures { result ≡ steps_above step least distance }
 {
-    ((2 * u64::from(distance - least) + step) / (2 * step)) as u32
+    rounded(u64::from(distance - least), step) as u32
 }
 
 /// The number of steps of one distance, rounded to the nearest, halves upwards.

@@ -1,5 +1,5 @@
 -- What recovering and opening the bundle answer, and what they leave of the volume.
-use Rattle.std.proofs.Common.{◌≡◌, ℕ, ◌<◌, ◌≤◌, ◌⊎◌, inl, inr, List, Bool, true, false, Option, Some, None, Ok, Err, refl, sym, ap, subst, ◌∙◌, rules, arith}
+use Rattle.std.proofs.Common.{◌≡◌, ℕ, ◌≤◌, ◌⊎◌, inl, inr, List, Bool, true, false, Option, Some, None, Ok, Err, refl, sym, ap, subst, ◌∙◌, rules, arith}
 use Rattle.std.specs.Prelude.{IsTrue}
 use Rattle.std.proofs.lemmas.Bool.{cases_lt}
 use Rattle.outside_io.specs.declared.volume.VolFile.TheVariants.{Bundle, Journal}
@@ -50,7 +50,7 @@ opening_cause (TileTooLarge at len) old new fails same = never fails
 opening_cause (EmptyTile at) old new fails same = never fails
 opening_cause (Full len) old new fails same = never fails
 opening_cause (NotEmpty len) old new fails same = never fails
-opening_cause OutOfMemory old new fails same = never fails
+opening_cause OutOfMemory old new fails same = still (NoMemory ≡ Volume) old new same (λ is. cc)
 opening_cause Stopped old new fails same = never fails
 
 pub tile_cause : (slot : ℕ) (fault : StoreFault) (old new : ℕ) → GetFails fault → (fault ≡ Stopped → ⊥) → FaultFrom fault old new → IsCause (tile_stop_of slot fault ≡ Volume) old new
@@ -112,7 +112,8 @@ open_stops told h done bundle (TileTooLarge at len) fails leaves refuses = absur
 open_stops told h done bundle (EmptyTile at) fails leaves refuses = absurd fails
 open_stops told h done bundle (Full len) fails leaves refuses = absurd fails
 open_stops told h done bundle (NotEmpty len) fails leaves refuses = absurd fails
-open_stops told h done bundle OutOfMemory fails leaves refuses = absurd fails
+open_stops true h done bundle OutOfMemory fails leaves refuses = (done, (bundle, (leaves (search rules), (refuses (search rules), tt))))
+open_stops false h done bundle OutOfMemory fails leaves refuses = tt
 open_stops told h done bundle Stopped fails leaves refuses = absurd fails
 
 -- the bundle that was opened is such
@@ -133,7 +134,7 @@ tile_not_opened files slot Usage stops = absurd stops
 tile_not_opened files slot Source stops = absurd stops
 tile_not_opened files slot Output stops = absurd stops
 tile_not_opened files slot Volume stops = tt
-tile_not_opened files slot NoMemory stops = absurd stops
+tile_not_opened files slot NoMemory stops = stops
 tile_not_opened files slot (Refused (MissingTile row col)) stops = absurd stops
 tile_not_opened files slot (Refused (MissingBytes row col entry got)) stops = absurd stops
 tile_not_opened files slot (Refused (NoBundle place found)) stops = stops
@@ -146,7 +147,7 @@ pub tile_refused : (told : Bool) (h : History) (s : SessionState) (d : Disk) (sl
 tile_refused told h s d slot Device opened fails running refuses = tt
 tile_refused told h s d slot NoTile opened fails running refuses = (refl, refl, of_bundle told h (λ b. (entry_at b slot).size ≡ 0) s d opened refuses)
 tile_refused told h s d slot (Beyond entry got) opened fails running refuses = (refl, refl, fails, of_bundle told h (λ b. IsBeyond b slot entry got) s d opened refuses)
-tile_refused told h s d slot OutOfMemory opened fails running refuses = of_bundle told h (λ b. 0 < (entry_at b slot).size) s d opened refuses
+tile_refused told h s d slot OutOfMemory opened fails running refuses = of_bundle told h (λ b. Unit {0}) s d opened (λ _. tt)
 tile_refused told h s d slot Stopped opened fails running refuses = absurd (running refl)
 tile_refused told h s d slot (BadBundle place found) opened fails running refuses = absurd fails
 tile_refused told h s d slot (BadJournal place found) opened fails running refuses = absurd fails

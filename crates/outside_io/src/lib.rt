@@ -14,6 +14,7 @@ mod volume;
 pub use laws::settled_has_one_image;
 pub use program::{Line, Marks, Report, Word, give_line};
 pub use streams::{
-    Bytes, Failed, MemSink, MemSource, Sink, Source, StdSink, StdSource, give_all, take_all,
+    Bytes, Failed, MemSink, MemSource, Numbers, Sink, Source, StdSink, StdSource, give_all,
+    hold_numbers, take_all,
 };
 pub use volume::{FileVolume, MemVolume, NoVolume, Pick, Piece, Start, VolFile, Volume};

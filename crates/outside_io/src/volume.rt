@@ -6,8 +6,10 @@ ghost use Rattle.outside_io.specs.volume.Disk.{FailedCut, FailedWrite, Struck, c
 ghost use Rattle.outside_io.specs.streams.Faults.{CountsFaults};
 ghost use Rattle.outside_io.specs.volume.History.{History, IsPresent, ReadsAt, Ticks, contents, current};
 
+mod backing;
 mod call_log;
 mod file_volume;
+mod folder;
 mod image;
 mod mem_volume;
 mod no_volume;

@@ -129,3 +129,30 @@ fn writes_until_the_writer_takes_nothing(rt: HostRuntime) {
     same(&rt, "one fault", sink.faults(), 1);
     same(&rt, "all bytes", bytes, *b"abcd");
 }
+
+// Each read fills all that it is given, with its number.
+#[derive(Drop)]
+struct FullReader<'a> {
+    reads: &'a Cell<u8>,
+}
+
+impl Read for FullReader<'_> {
+    fn read(&mut self, buf: &mut [u8]) -> io::Result<usize> {
+        let reads = self.reads.get().wrapping_add(1);
+        self.reads.set(reads);
+        buf.fill(reads);
+        Ok(buf.len())
+    }
+}
+
+#[test]
+fn a_take_is_one_read_whatever_its_length(rt: HostRuntime) {
+    let reads = Cell::new(0);
+    let mut source = StdSource::new(FullReader { reads: &reads });
+    let mut buf = vec![in rt.alloc(); 0; 70_000].expect(&rt, "memory");
+    let wanted = vec![in rt.alloc(); 1; 70_000].expect(&rt, "memory");
+    let found = source.take(buf.as_mut_slice());
+    same(&rt, "count", found, Ok(70_000));
+    same(&rt, "one read", reads.get(), 1);
+    same(&rt, "its bytes", buf.as_slice(), wanted.as_slice());
+}

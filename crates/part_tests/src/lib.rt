@@ -12,9 +12,13 @@ mod code_writing;
 #[cfg(test)]
 mod halves;
 #[cfg(test)]
+mod kernels;
+#[cfg(test)]
 mod lanes;
 #[cfg(test)]
 mod list_forms;
+#[cfg(test)]
+mod prefixes;
 #[cfg(test)]
 mod runs;
 #[cfg(test)]

@@ -6,6 +6,7 @@ ghost use Rattle.bundle_index.specs.Numbers.{u16_at, u64_at};
 ghost use Rattle.side_journal.specs.Says.{Says, mark, mark_at};
 ghost use Rattle.side_journal.specs.Bodies.{IsState};
 
+use crate::second::second_state;
 use crate::{Body, JournalState};
 use bundle_index::{BundleHeader, Entry, Slot};
 use byteorder::{ByteOrder, LittleEndian};
@@ -15,7 +16,7 @@ use outside_io::{Failed, VolFile, Volume};
 const MARK: u64 = 13876173130580556;
 
 /// The least length of a bundle that is not empty.
-const LEAST_LENGTH: u64 = 131136;
+pub(crate) const LEAST_LENGTH: u64 = 131136;
 
 /// The number of the seven bytes behind the gate.
 #[tactic(auto, unfolding(crate::specs::Says::mark_at))]
@@ -40,7 +41,7 @@ fn long_at(bytes: &[u8; 96], place: usize) -> u64
     LittleEndian::read_u64(&bytes[place..])
 }
 
-/// What an open journal says of a tile.
+/// What an open journal of the first form says of a tile.
 fn tile_of(bytes: &[u8; 96]) -> JournalState
     requires marked { mark_at bytes.now ≡ mark }
     requires kind { slice_index bytes.now 8 ≡ 1 }
@@ -72,8 +73,8 @@ fn tile_of(bytes: &[u8; 96]) -> JournalState
     })
 }
 
-/// What a journal of 96 bytes says.
-fn state_of(bytes: &[u8; 96]) -> JournalState
+/// What a journal of the first form says.
+fn first_state(bytes: &[u8; 96]) -> JournalState
     ensures says { Says bytes.now result }
     ensures fits { IsState result }
 {
@@ -102,12 +103,20 @@ pub fn read_journal<V: Volume>(vol: &mut V) -> Result<JournalState, Failed>
     ensures during { IsTrue (V.told vol.old) → During (λ d. d ≡ current (V.history vol.old))
         (V.history vol.old) (V.history vol.new) }
     ensures told { V.told vol.new ≡ V.told vol.old }
+    ensures calls { (V.history vol.new).moment ≤ (V.history vol.old).moment + 2 }
     ensures counted { CountsFaults result (V.faults vol.old) (V.faults vol.new) }
 {
-    if vol.len(VolFile::Journal)? != 96 {
-        return Ok(JournalState::Closed);
+    match vol.len(VolFile::Journal)? {
+        96 => {
+            let mut bytes = [0; 96];
+            vol.read(VolFile::Journal, 0, &mut bytes)?;
+            Ok(first_state(&bytes))
+        }
+        1112 => {
+            let mut bytes = [0; 1112];
+            vol.read(VolFile::Journal, 0, &mut bytes)?;
+            Ok(second_state(&bytes))
+        }
+        _ => Ok(JournalState::Closed),
     }
-    let mut bytes = [0; 96];
-    vol.read(VolFile::Journal, 0, &mut bytes)?;
-    Ok(state_of(&bytes))
 }

@@ -1,9 +1,9 @@
 //! The bytes of the journal, its faults, and what a crash leaves of it.
 
-ghost use Rattle.side_journal.specs.Bodies.{IsBody, IsState};
+ghost use Rattle.side_journal.specs.Bodies.{IsState, IsWritten};
 
 use crate::same::same;
-use crate::stores::{PICKS, expect_bytes, image, start};
+use crate::stores::{PICKS, image, start};
 use outside_io::{Failed, MemVolume, Pick, VolFile, Volume};
 use side_journal::{Body, JournalState, arm, close_gate, open_gate, prepare, read_journal};
 use std::alloc::Global;
@@ -13,7 +13,7 @@ use std::process::Abort;
 fn beside(rt: &impl Abort, alloc: Global, journal: &[u8], stop: Option<u64>) -> MemVolume {
     let bundle = start(rt, alloc, 0, &[]);
     let journal = start(rt, alloc, journal.len() as u64, journal);
-    MemVolume::new(alloc, bundle, journal, Vec::new(alloc), stop, 40, 400).expect(rt, "memory")
+    MemVolume::new(alloc, bundle, journal, Vec::new(alloc), stop, 40, 4000).expect(rt, "memory")
 }
 
 /// What a journal of these bytes says.
@@ -26,7 +26,7 @@ fn state_of(rt: &impl Abort, alloc: Global, journal: &[u8]) -> JournalState
 
 /// Arms the journal with the body; then, by the number of steps, opens it and closes it again.
 fn make<V: Volume>(vol: &mut V, body: &Body, steps: u64) -> Result<(), Failed>
-    requires { IsBody body.now }
+    requires { IsWritten body.now }
 {
     vol.sync(VolFile::Journal)?;
     match read_journal(vol)? {
@@ -62,46 +62,151 @@ fn expect_open(rt: &impl Abort, alloc: Global, vol: &MemVolume, moment: u64, wan
     same(rt, moment, open, wanted);
 }
 
-// The journal of the first put of 66 bytes into the last slot, but for the header, open.
-const FIRST_PUT: [u8; 96] =
+// The journal of the first put of 66 bytes into the last slot, but for the header, open, in the first
+// form and in the second.
+const FIRST_FORM: [u8; 96] =
     *b"\x01LBJRNL1\x01\x00\xff\x3f\x00\x00\x00\x00\x44\x00\x02\x00\x00\x42\x00\x00\x86\x00\x02\x00\
     \x00\x00\x00\x00________________________________________________________________";
 
-/// The body of that journal.
-fn first_body(rt: &impl Abort, alloc: Global) -> Body
-    ensures { IsBody result }
+const FRONT: [u8; 104] =
+    *b"\x01LBJRNL2\x01\x01\x00\x00\x00\x00\x00\x00\x86\x00\x02\x00\x00\x00\x00\x00\
+    ________________________________________________________________\
+    \xff\x3f\x00\x00\x00\x00\x00\x00\x44\x00\x02\x00\x00\x42\x00\x00";
+
+/// That of the second form.
+fn first_put() -> [u8; 1112] {
+    let mut bytes = [0; 1112];
+    bytes[..104].copy_from_slice(&FRONT);
+    bytes
+}
+
+/// What a journal of these bytes says, which is tiles of the second form.
+fn group_body(rt: &impl Abort, alloc: Global, journal: &[u8]) -> Body
+    ensures { IsWritten result }
 {
-    match state_of(rt, alloc, &FIRST_PUT) {
-        JournalState::Open(body) => body,
+    match state_of(rt, alloc, journal) {
+        JournalState::Open(
+            Body::Group {
+                group,
+                length,
+                header,
+            },
+        ) => Body::Group {
+            group,
+            length,
+            header,
+        },
         _ => panic!(rt; "open"),
     }
+}
+
+/// The whole journal is these bytes.
+fn expect_journal<V: Volume>(rt: &impl Abort, vol: &mut V, wanted: &[u8; 1112]) {
+    let mut bytes = [9; 1113];
+    let read = vol.read(VolFile::Journal, 0, &mut bytes);
+    same(rt, "length", read.ok(), Some(1112));
+    same(rt, "bytes", &bytes[..1112] == wanted.as_slice(), true);
 }
 
 #[test]
 fn the_bytes_of_a_put(rt: HostRuntime) {
     let alloc = rt.alloc();
-    let body = first_body(&rt, alloc);
+    let body = group_body(&rt, alloc, &first_put());
     let mut other = beside(&rt, alloc, &[], None);
     same(&rt, "armed", make(&mut other, &body, 0).is_ok(), true);
-    let read = other.read(VolFile::Journal, 0, &mut [9; 97]);
-    same(&rt, "length", read.ok(), Some(96));
-    let mut shut = FIRST_PUT;
+    let mut shut = first_put();
     shut[0] = 0;
-    expect_bytes(&rt, &mut other, VolFile::Journal, 0, &shut);
+    expect_journal(&rt, &mut other, &shut);
 }
 
-/// That journal with two other bytes at `at` is bad, at that place and for that number.
-fn expect_bad(rt: &impl Abort, alloc: Global, at: usize, field: [u8; 2], place: u64, found: u64) {
-    let mut bytes = FIRST_PUT;
-    if at < 95 {
-        bytes[at] = field[0];
-        bytes[at + 1] = field[1];
+#[test]
+fn the_bytes_of_a_build(rt: HostRuntime) {
+    let alloc = rt.alloc();
+    let mut other = beside(&rt, alloc, &FIRST_FORM[1..], None);
+    same(
+        &rt,
+        "armed",
+        make(&mut other, &Body::Build, 0).is_ok(),
+        true,
+    );
+    let mut wanted = [0; 1112];
+    wanted[..9].copy_from_slice(b"\x00LBJRNL2\x02");
+    expect_journal(&rt, &mut other, &wanted);
+}
+
+#[test]
+fn a_closed_journal_of_the_first_form_is_lengthened(rt: HostRuntime) {
+    let alloc = rt.alloc();
+    let mut shut = FIRST_FORM;
+    shut[0] = 0;
+    let mut vol = beside(&rt, alloc, &shut, None);
+    let body = group_body(&rt, alloc, &first_put());
+    same(&rt, "made", make(&mut vol, &body, 1).is_ok(), true);
+    expect_journal(&rt, &mut vol, &first_put());
+    // A sync, 2 calls to read the closed journal, its length, and 2 to write the body: none cuts it.
+    expect_open(&rt, alloc, &vol, 6, 0);
+    expect_open(&rt, alloc, &vol, 8, 4);
+}
+
+/// The journal of sixty-four tiles, each in the slot of its number.
+fn sixty_four() -> [u8; 1112] {
+    let mut bytes = first_put();
+    bytes[9] = 64;
+    for i in 0..64 {
+        bytes[88 + 16 * i] = i as u8;
+        bytes[89 + 16 * i] = 0;
+        bytes[96 + 16 * i] = 0x44;
+        bytes[98 + 16 * i] = 2;
+        bytes[101 + 16 * i] = 1 + i as u8;
     }
-    let bad = match state_of(rt, alloc, &bytes) {
+    bytes
+}
+
+/// The numbers of the slots of a body, and the sizes of their entries, are those of these tiles.
+fn expect_entries(rt: &impl Abort, body: &Body) {
+    let Body::Group { group, .. } = body else {
+        panic!(rt; "a group");
+    };
+    same(rt, "entries", group.len(), 64);
+    for i in 0..group.len() {
+        let (slot, entry) = group.at(i);
+        same(rt, i, (slot.number() as usize, entry.offset), (i, 131140));
+        same(rt, i, entry.size, 1 + i as u32);
+    }
+}
+
+#[test]
+fn sixty_four_records(rt: HostRuntime) {
+    let alloc = rt.alloc();
+    let body = group_body(&rt, alloc, &sixty_four());
+    expect_entries(&rt, &body);
+    let mut vol = beside(&rt, alloc, &[], None);
+    same(&rt, "made", make(&mut vol, &body, 1).is_ok(), true);
+    expect_journal(&rt, &mut vol, &sixty_four());
+}
+
+/// A journal of these bytes with two others at `at` is bad, at that place and for that number.
+fn expect_bad(
+    rt: &impl Abort,
+    alloc: Global,
+    journal: &[u8],
+    at: usize,
+    field: [u8; 2],
+    wanted: (u64, u64),
+) {
+    let mut bytes = [0; 1112];
+    let len = journal.len();
+    if len > 1112 || at > 1110 {
+        panic!(rt; "place {at}");
+    }
+    bytes[..len].copy_from_slice(journal);
+    bytes[at] = field[0];
+    bytes[at + 1] = field[1];
+    let bad = match state_of(rt, alloc, &bytes[..len]) {
         JournalState::Bad { place, found } => Some((place, found)),
         _ => None,
     };
-    same(rt, at, bad, Some((place, found)));
+    same(rt, at, bad, Some(wanted));
 }
 
 /// Whether a journal of these bytes is closed.
@@ -109,18 +214,65 @@ fn is_closed(rt: &impl Abort, alloc: Global, journal: &[u8]) -> bool {
     matches!(&state_of(rt, alloc, journal), JournalState::Closed)
 }
 
+/// Whether it is of one tile, in the first form.
+fn is_tile(rt: &impl Abort, alloc: Global, journal: &[u8]) -> bool {
+    matches!(
+        &state_of(rt, alloc, journal),
+        JournalState::Open(Body::Tile { .. })
+    )
+}
+
 #[test]
-fn the_first_test_that_fails(rt: HostRuntime) {
+fn the_first_test_that_fails_in_the_first_form(rt: HostRuntime) {
     let alloc = rt.alloc();
-    let _whole = first_body(&rt, alloc);
-    expect_bad(&rt, alloc, 1, [b'l', b'B'], 1, 13876173130580588);
-    expect_bad(&rt, alloc, 8, [3, 0], 8, 3);
-    expect_bad(&rt, alloc, 10, [0, 64], 10, 16384);
-    expect_bad(&rt, alloc, 24, [63, 0], 24, 131135);
-    let mut longer = [1; 97];
-    longer[..96].copy_from_slice(&FIRST_PUT);
-    same(&rt, "95 bytes", is_closed(&rt, alloc, &longer[..95]), true);
-    same(&rt, "97 bytes", is_closed(&rt, alloc, &longer), true);
+    same(&rt, "whole", is_tile(&rt, alloc, &FIRST_FORM), true);
+    for (at, field, place, found) in [
+        (1, *b"lB", 1, 13876173130580588),
+        (6, *b"L2", 1, 14157648107291212),
+        (8, [3, 0], 8, 3),
+        (10, [0, 64], 10, 16384),
+        (24, [63, 0], 24, 131135),
+    ] {
+        expect_bad(&rt, alloc, &FIRST_FORM, at, field, (place, found));
+    }
+}
+
+#[test]
+fn the_first_test_that_fails_in_the_second_form(rt: HostRuntime) {
+    let alloc = rt.alloc();
+    for (at, field, place, found) in [
+        (1, *b"lB", 1, 14157648107291244),
+        (6, *b"L1", 1, 13876173130580556),
+        (8, [3, 0], 8, 3),
+        (9, [0, 0], 9, 0),
+        (9, [65, 0], 9, 65),
+        (16, [63, 0], 16, 131135),
+        (88, [0, 64], 88, 16384),
+        (600, [0, 64], 600, 16384),
+        (1096, [255, 255], 1096, 65535),
+    ] {
+        expect_bad(&rt, alloc, &sixty_four(), at, field, (place, found));
+    }
+}
+
+#[test]
+fn each_slot_is_tested_before_the_length(rt: HostRuntime) {
+    let alloc = rt.alloc();
+    let mut bytes = sixty_four();
+    bytes[16] = 63;
+    expect_bad(&rt, alloc, &bytes, 1096, [0, 64], (1096, 16384));
+    bytes[9] = 63;
+    expect_bad(&rt, alloc, &bytes, 1096, [0, 64], (16, 131135));
+}
+
+#[test]
+fn journals_of_other_lengths_are_closed(rt: HostRuntime) {
+    let alloc = rt.alloc();
+    let mut longer = [1; 1113];
+    longer[..1112].copy_from_slice(&first_put());
+    for len in [0, 1, 95, 97, 1111, 1113] {
+        same(&rt, len, is_closed(&rt, alloc, &longer[..len]), true);
+    }
 }
 
 /// Where `prepare` and `arm` are stopped at that call, no image of a moment has an open journal.

@@ -3,6 +3,8 @@
 mod building;
 mod crashes;
 mod failing;
+mod groups;
+mod order;
 mod putting;
 mod refusals;
 

@@ -11,7 +11,7 @@ use Rattle.raster_values.specs.declared.reading.GridReason.TheVariants.{Truncate
 use Rattle.raster_values.proofs.GridDecided.{grids_are_decided}
 use Rattle.tile_stream.specs.declared.tile.TileReason.{TileReason}
 use Rattle.tile_stream.specs.declared.tile.TileReason.TheVariants.{BadTileMark, BadSlot, Grid}
-use Rattle.tile_stream.specs.Tile.{IsTile, IsTileHead, TilesAreDecided, col_faults, cut, head_faults, of_grid, row_faults, tile_faults}
+use Rattle.tile_stream.specs.Tile.{IsTile, IsTileHead, TilesAreDecided, col_faults, tile_cut, tile_head_faults, of_grid, row_faults, tile_faults}
 
 at_most : (m n : ℕ) → (m ≤ n) ⊎ (¬ (m ≤ n))
 at_most m n = by (cases_lt n m)
@@ -37,14 +37,14 @@ head_there bytes long mark row col = record {
   stands = record { size = three_bytes bytes long; mark = mark; row = row; col = col; slot_is = refl };
 }
 
-head_decided : IsDecided IsTileHead head_faults
+head_decided : IsDecided IsTileHead tile_head_faults
 head_decided bytes are =
     let head = take 3 bytes in
-    decided_unless (1 ≤ length head) (cut head) (unless (get_or head 0 0 ≡ 84) (wrong BadTileMark 0) (row_faults head)) (at_most 1 (length head)) (the_fault (Grid Truncated) (length head))
+    decided_unless (1 ≤ length head) (tile_cut head) (unless (get_or head 0 0 ≡ 84) (wrong BadTileMark 0) (row_faults head)) (at_most 1 (length head)) (the_fault (Grid Truncated) (length head))
     (λ one. decided_unless (get_or head 0 0 ≡ 84) (wrong BadTileMark 0) (row_faults head) (cases_eq (get_or head 0 0) 84) (the_fault BadTileMark 0)
-    (λ mark. decided_unless (2 ≤ length head) (cut head) (unless (get_or head 1 0 ≤ 127) (wrong BadSlot 1) (col_faults head)) (at_most 2 (length head)) (the_fault (Grid Truncated) (length head))
+    (λ mark. decided_unless (2 ≤ length head) (tile_cut head) (unless (get_or head 1 0 ≤ 127) (wrong BadSlot 1) (col_faults head)) (at_most 2 (length head)) (the_fault (Grid Truncated) (length head))
     (λ two. decided_unless (get_or head 1 0 ≤ 127) (wrong BadSlot 1) (col_faults head) (at_most (get_or head 1 0) 127) (the_fault BadSlot 1)
-    (λ row. decided_unless (3 ≤ length head) (cut head) (unless (get_or head 2 0 ≤ 127) (wrong BadSlot 2) none) (at_most 3 (length head)) (the_fault (Grid Truncated) (length head))
+    (λ row. decided_unless (3 ≤ length head) (tile_cut head) (unless (get_or head 2 0 ≤ 127) (wrong BadSlot 2) none) (at_most 3 (length head)) (the_fault (Grid Truncated) (length head))
     (λ three. decided_unless (get_or head 2 0 ≤ 127) (wrong BadSlot 2) none (at_most (get_or head 2 0) 127) (the_fault BadSlot 2)
     (λ col. inl (head_there bytes three mark row col)))))))
 
@@ -74,7 +74,7 @@ tile_there bytes j = record {
 }
 
 pub tiles_decided : TilesAreDecided
-tiles_decided bytes are = by (decided_in_order IsTileHead head_faults Behind (λ slot behind. of_grid (grid_faults behind)) head_decided grid_decided bytes are)
+tiles_decided bytes are = by (decided_in_order IsTileHead tile_head_faults Behind (λ slot behind. of_grid (grid_faults behind)) head_decided grid_decided bytes are)
   where
     by : Joined IsTileHead Behind bytes ⊎ HasFault (tile_faults bytes) → InFront IsTile bytes ⊎ HasFault (tile_faults bytes)
     by (inl j) = inl (tile_there bytes j)

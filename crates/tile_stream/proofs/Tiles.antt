@@ -18,7 +18,8 @@ use Rattle.tile_stream.specs.declared.tile.Tile.{Tile}
 use Rattle.tile_stream.specs.declared.tile.TileReason.{TileReason}
 use Rattle.tile_stream.specs.declared.tile.TileReason.TheVariants.{BadTileMark, BadSlot, Grid}
 use Rattle.tile_stream.specs.declared.tile.TileStop.TheVariants.{Fault}
-use Rattle.tile_stream.specs.Tile.{IsTile, IsTileHead, IsToldStop, TilesAreParts, TookTile, col_faults, cut, head_faults, mark_faults, of_grid, row_faults, stop_of, tile_faults}
+use Rattle.tile_stream.specs.Tile.{IsTile, IsTileHead, IsToldStop, TilesAreParts, TookTile, col_faults, tile_cut, tile_head_faults, tile_mark_faults, of_grid, row_faults, tile_faults}
+use Rattle.tile_stream.specs.inside.Stops.{stop_of}
 
 -- ---- the head
 
@@ -30,16 +31,16 @@ head_once a b s t x y ha hb e =
     let same : a ≡ b = split_heads a b s t 3 ha.size hb.size e in
     (same, ha.slot_is ∙ ap (λ (u : List ℕ). 128 * get_or u 1 0 + get_or u 2 0) same ∙ sym hb.slot_is)
 
-no_head_fault : (a : List ℕ) (x : ℕ) (p : ℕ) (r : TileReason) → IsTileHead a x → mark_faults a p r → ⊥
+no_head_fault : (a : List ℕ) (x : ℕ) (p : ℕ) (r : TileReason) → IsTileHead a x → tile_mark_faults a p r → ⊥
 no_head_fault a x p r h w =
-    let t1 = passed (1 ≤ length a) (unless (get_or a 0 0 ≡ 84) (wrong BadTileMark 0) (row_faults a)) (cut a) (omega (arith, h.size)) p r w in
+    let t1 = passed (1 ≤ length a) (unless (get_or a 0 0 ≡ 84) (wrong BadTileMark 0) (row_faults a)) (tile_cut a) (omega (arith, h.size)) p r w in
     let t2 = passed (get_or a 0 0 ≡ 84) (row_faults a) (wrong BadTileMark 0) h.mark p r t1 in
-    let t3 = passed (2 ≤ length a) (unless (get_or a 1 0 ≤ 127) (wrong BadSlot 1) (col_faults a)) (cut a) (omega (arith, h.size)) p r t2 in
+    let t3 = passed (2 ≤ length a) (unless (get_or a 1 0 ≤ 127) (wrong BadSlot 1) (col_faults a)) (tile_cut a) (omega (arith, h.size)) p r t2 in
     let t4 = passed (get_or a 1 0 ≤ 127) (col_faults a) (wrong BadSlot 1) h.row p r t3 in
-    let t5 = passed (3 ≤ length a) (unless (get_or a 2 0 ≤ 127) (wrong BadSlot 2) none) (cut a) (omega (arith, h.size)) p r t4 in
+    let t5 = passed (3 ≤ length a) (unless (get_or a 2 0 ≤ 127) (wrong BadSlot 2) none) (tile_cut a) (omega (arith, h.size)) p r t4 in
     passed (get_or a 2 0 ≤ 127) none (wrong BadSlot 2) h.col p r t5
 
-one_mark : (a : List ℕ) → IsSingle (mark_faults a)
+one_mark : (a : List ℕ) → IsSingle (tile_mark_faults a)
 one_mark a =
     let col : IsSingle (col_faults a) = single-unless (3 ≤ length a) (Grid Truncated) (length a) (unless (get_or a 2 0 ≤ 127) (wrong BadSlot 2) none) (single-unless (get_or a 2 0 ≤ 127) BadSlot 2 none single-none) in
     let row : IsSingle (row_faults a) = single-unless (2 ≤ length a) (Grid Truncated) (length a) (unless (get_or a 1 0 ≤ 127) (wrong BadSlot 1) (col_faults a)) (single-unless (get_or a 1 0 ≤ 127) BadSlot 1 (col_faults a) col) in
@@ -52,10 +53,10 @@ head_of_all bytes rest few end = elim (cases_lt (length bytes) 3) [
   | inr all ↦ take_at bytes rest 3 (let e : length bytes ≡ 3 = omega arith in e)
 ]
 
-head_part : IsPart IsTileHead head_faults
+head_part : IsPart IsTileHead tile_head_faults
 head_part = record {
   once = head_once;
-  either = λ a s x p r h w. no_head_fault a x p r h (subst (λ (u : List ℕ). mark_faults u p r) (head_of_all a s (let few : length a ≤ 3 = omega (arith, h.size) in few) (λ fewer. absurd (let no : ⊥ = omega (arith, h.size) in no))) w);
+  either = λ a s x p r h w. no_head_fault a x p r h (subst (λ (u : List ℕ). tile_mark_faults u p r) (head_of_all a s (let few : length a ≤ 3 = omega (arith, h.size) in few) (λ fewer. absurd (let no : ⊥ = omega (arith, h.size) in no))) w);
   single = λ bytes. one_mark (take 3 bytes);
 }
 
@@ -86,20 +87,20 @@ tile_part = record {
   once = tile_once;
   either = λ a s x p r is w.
       let split : a ++ s ≡ is.head ++ (is.grid ++ s) = ap (λ (u : List ℕ). u ++ s) is.joined ∙ append_assoc is.head is.grid s in
-      let behind = behind_it IsTileHead head_faults (λ slot rest. of_grid (grid_faults rest)) head_part is.head (is.grid ++ s) x.slot is.head_is p r (subst (λ (u : List ℕ). tile_faults u p r) split w) in
+      let behind = behind_it IsTileHead tile_head_faults (λ slot rest. of_grid (grid_faults rest)) head_part is.head (is.grid ++ s) x.slot is.head_is p r (subst (λ (u : List ℕ). tile_faults u p r) split w) in
       no_grid_fault is.grid s x.raster behind.0 r is.grid_is behind.1.1;
-  single = λ bytes. single-in_order IsTileHead head_faults (λ slot rest. of_grid (grid_faults rest)) head_part (λ slot rest. single-of_grid (grid_faults rest) (grids_are_parts.single rest)) bytes;
+  single = λ bytes. single-in_order IsTileHead tile_head_faults (λ slot rest. of_grid (grid_faults rest)) head_part (λ slot rest. single-of_grid (grid_faults rest) (grids_are_parts.single rest)) bytes;
 }
 
 -- ---- taking
 
 -- what is wrong in the head, of which these bytes were taken
 pub head_told : (old new : Option (List ℕ)) (at p place : ℕ) (reason : TileReason) (bytes : List ℕ) → TookBytes old new bytes → 0 < length bytes → length bytes ≤ 3 → place ≡ at + p
-    → ((rest : List ℕ) → new ≡ Some rest → length bytes < 3 → rest ≡ []) → mark_faults bytes p reason → IsToldStop old at (Fault (record { reason = reason; place = place }))
+    → ((rest : List ℕ) → new ≡ Some rest → length bytes < 3 → rest ≡ []) → tile_mark_faults bytes p reason → IsToldStop old at (Fault (record { reason = reason; place = place }))
 head_told None new at p place reason bytes took some few is end w = tt
 head_told (Some left) new at p place reason bytes (rest, (joined, then)) some few is end w =
     let all : take 3 (bytes ++ rest) ≡ bytes = head_of_all bytes rest few (end rest then) in
-    let fault : tile_faults (bytes ++ rest) p reason = inl (subst (λ (u : List ℕ). mark_faults u p reason) (sym all) w) in
+    let fault : tile_faults (bytes ++ rest) p reason = inl (subst (λ (u : List ℕ). tile_mark_faults u p reason) (sym all) w) in
     ((let size : length left ≡ length (bytes ++ rest) = ap length joined in omega (arith, length-append bytes rest)), (p, (is, subst (λ (u : List ℕ). tile_faults u p reason) (sym joined) fault)))
 
 -- what is wrong in the grid, the head having been taken

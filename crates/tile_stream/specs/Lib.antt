@@ -4,3 +4,4 @@ pub use Rattle.first_fault.specs.Faults
 pub use Rattle.first_fault.specs.Parts
 pub mod Tile
 pub mod Stream
+pub mod inside

@@ -7,8 +7,6 @@ use Rattle.outside_io.specs.streams.Faults.{FailedBetween}
 use Rattle.raster_values.specs.ReadGrid.{IsGrid, TookBytes, grid_faults}
 use Rattle.raster_values.specs.declared.reading.GridReason.{GridReason}
 use Rattle.raster_values.specs.declared.reading.GridReason.TheVariants.{Truncated}
-use Rattle.raster_values.specs.declared.reading.GridStop.{GridStop}
-use Rattle.raster_values.specs.declared.reading.GridStop.TheVariants.{Fault as GridFault, Source as GridSource, OutOfMemory as GridMemory}
 use Rattle.tile_stream.specs.declared.tile.Tile.{Tile}
 use Rattle.tile_stream.specs.declared.tile.TileReason.{TileReason}
 use Rattle.tile_stream.specs.declared.tile.TileReason.TheVariants.{BadTileMark, BadSlot, Grid}
@@ -32,26 +30,26 @@ pub record IsTile (bytes : List ℕ) (tile : Tile) : Type 0 where
   pub grid_is : IsGrid grid tile.raster
 
 -- the bytes end before the field does
-abbrev pub cut : List ℕ → Faults TileReason
-cut bytes = wrong (Grid Truncated) (length bytes)
+abbrev pub tile_cut : List ℕ → Faults TileReason
+tile_cut bytes = wrong (Grid Truncated) (length bytes)
 
 -- what is wrong in the first three bytes, of which there may be fewer
 abbrev pub col_faults : List ℕ → Faults TileReason
 col_faults head =
-    unless (3 ≤ length head) (cut head) (unless (get_or head 2 0 ≤ 127) (wrong BadSlot 2) none)
+    unless (3 ≤ length head) (tile_cut head) (unless (get_or head 2 0 ≤ 127) (wrong BadSlot 2) none)
 
 abbrev pub row_faults : List ℕ → Faults TileReason
 row_faults head =
-    unless (2 ≤ length head) (cut head)
+    unless (2 ≤ length head) (tile_cut head)
     (unless (get_or head 1 0 ≤ 127) (wrong BadSlot 1) (col_faults head))
 
-abbrev pub mark_faults : List ℕ → Faults TileReason
-mark_faults head =
-    unless (1 ≤ length head) (cut head)
+abbrev pub tile_mark_faults : List ℕ → Faults TileReason
+tile_mark_faults head =
+    unless (1 ≤ length head) (tile_cut head)
     (unless (get_or head 0 0 ≡ 84) (wrong BadTileMark 0) (row_faults head))
 
-abbrev pub head_faults : List ℕ → Faults TileReason
-head_faults bytes = mark_faults (take 3 bytes)
+abbrev pub tile_head_faults : List ℕ → Faults TileReason
+tile_head_faults bytes = tile_mark_faults (take 3 bytes)
 
 -- what is wrong in a grid, as a fault of its tile
 abbrev pub of_grid : Faults GridReason → Faults TileReason
@@ -62,13 +60,7 @@ of_grid faults place (Grid reason) = faults place reason
 -- What is wrong first in bytes that do not begin with a tile.
 abbrev pub tile_faults : List ℕ → Faults TileReason
 tile_faults bytes =
-    in_order IsTileHead head_faults (λ slot behind. of_grid (grid_faults behind)) bytes
-
--- a stop of a grid, as one of its tile
-abbrev pub stop_of : GridStop → TileStop
-stop_of (GridFault f) = Fault (record { reason = Grid f.reason; place = f.place })
-stop_of GridSource = Source
-stop_of GridMemory = OutOfMemory
+    in_order IsTileHead tile_head_faults (λ slot behind. of_grid (grid_faults behind)) bytes
 
 -- ---- what a read leaves
 

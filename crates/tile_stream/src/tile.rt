@@ -1,6 +1,7 @@
 ghost use Rattle.std.specs.Prelude.{◌≡◌, ℕ, ◌+◌, ◌^◌, ◌<◌, ◌≤◌, List, None, Some, IfOk, IfErr, OnErr, MatchResult, length};
 ghost use Rattle.raster_values.specs.ReadGrid.{TookSome};
-ghost use Rattle.tile_stream.specs.Tile.{CountsTileStop, IsTile, IsTileHead, IsToldStop, TookTile, mark_faults, stop_of};
+ghost use Rattle.tile_stream.specs.Tile.{CountsTileStop, IsTile, IsTileHead, IsToldStop, TookTile, tile_mark_faults};
+ghost use Rattle.tile_stream.specs.inside.Stops.{stop_of};
 
 use bundle_index::Slot;
 use outside_io::{Failed, Source, take_all};
@@ -71,7 +72,7 @@ fn fault(reason: TileReason, place: usize) -> TileFault
 fn slot_of(head: &[u8]) -> Result<Slot, TileFault>
     requires { length head.now ≤ 3 }
     ensures { MatchResult result (λ slot. IsTileHead head.now slot)
-        (λ f. mark_faults head.now f.place f.reason × (f.place ≤ 3)) }
+        (λ f. tile_mark_faults head.now f.place f.reason × (f.place ≤ 3)) }
 {
     let cut = fault(TileReason::Grid(GridReason::Truncated), head.len());
     if head.is_empty() {

@@ -10,7 +10,7 @@ use Rattle.outside_io.specs.streams.Source.{IsAtEnd}
 use Rattle.raster_values.specs.ReadGrid.{TookBytes, TookSome}
 use Rattle.raster_values.proofs.Taken.{ended, took_join, took_more, took_none}
 use Rattle.lerc_header.specs.declared.header.Version.{Version}
-use Rattle.lerc_encode.specs.Choice.{choice}
+use Rattle.lerc_encode.specs.Choice.{chosen_blob}
 use Rattle.lerc_encode.specs.Encoded.{IsEncodedOnce, NeedsV4}
 use Rattle.bundle_store.specs.declared.tile_rec.TileRec.{TileRec}
 use Rattle.bundle_store.specs.Build.{EachFits}
@@ -78,7 +78,7 @@ so_far_more v step old mid new before after s a few = record {
   stream = stream_push s.front a.bytes s.tiles a.tile s.stream a.takes.tile;
   took = took_join old mid new s.front a.bytes s.took a.takes.took;
   pass = pass_push v step s.tiles a.tile s.pass (follows v step old mid new before after s a few);
-  encoded = All-push (λ t. IsEncodedOnce (choice t.raster v step) t.raster step) s.tiles a.tile s.encoded a.made.encoded;
+  encoded = All-push (λ t. IsEncodedOnce (chosen_blob t.raster v step) t.raster step) s.tiles a.tile s.encoded a.made.encoded;
   updates_are = a.updates ∙ ap (λ (us : List TileRec). us ++ update_of v step a.tile ∷ []) s.updates_are ∙ sym (updates_push v step s.tiles a.tile);
   place_is = omega (arith, a.place, s.place_is, length-append s.front a.bytes);
   place_below = omega (arith, a.place, a.size, s.place_below, length-append s.tiles (a.tile ∷ []));
@@ -146,10 +146,10 @@ blob_some bytes t step e =
     let all : length bytes ≡ length (parts.head ++ (parts.mask ++ parts.image)) = ap length join.joined in
     omega (arith, all, join.head_ends, length-append parts.head (parts.mask ++ parts.image))
 
-fits : (v : Version) (step : ℕ) (t : Tile) → IsEncodedOnce (choice t.raster v step) t.raster step → Passes v step t → (0 < length (choice t.raster v step)) × (length (choice t.raster v step) < 16777216)
-fits v step t e p = let small = p.small in (blob_some (choice t.raster v step) t step e, (let low : length (choice t.raster v step) < 16777216 = omega (arith, small) in low))
+fits : (v : Version) (step : ℕ) (t : Tile) → IsEncodedOnce (chosen_blob t.raster v step) t.raster step → Passes v step t → (0 < length (chosen_blob t.raster v step)) × (length (chosen_blob t.raster v step) < 16777216)
+fits v step t e p = let small = p.small in (blob_some (chosen_blob t.raster v step) t step e, (let low : length (chosen_blob t.raster v step) < 16777216 = omega (arith, small) in low))
 
-all_fit_of : (v : Version) (step : ℕ) (tiles : List Tile) → All (λ t. IsEncodedOnce (choice t.raster v step) t.raster step) tiles → All (Passes v step) tiles → EachFits (updates_of v step tiles)
+all_fit_of : (v : Version) (step : ℕ) (tiles : List Tile) → All (λ t. IsEncodedOnce (chosen_blob t.raster v step) t.raster step) tiles → All (Passes v step) tiles → EachFits (updates_of v step tiles)
 all_fit_of v step tiles encoded pass i below =
     All-get_or (λ (u : TileRec). (0 < length u.bytes) × (length u.bytes < 16777216)) (updates_of v step tiles) i (record { slot = 0; bytes = [] }) below
     (All-map (λ (u : TileRec). (0 < length u.bytes) × (length u.bytes < 16777216)) (update_of v step) tiles (λ k d less. fits v step (get_or tiles k d) (encoded k d less) (pass k d less)))

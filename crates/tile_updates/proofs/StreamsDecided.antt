@@ -5,7 +5,7 @@ use Rattle.std.proofs.lemmas.List.{append-nil, get_or-append-add}
 use Rattle.first_fault.specs.Parts.{AreBytes, InFront, HasFault}
 use Rattle.lerc_header.specs.declared.header.Version.{Version}
 use Rattle.lerc_header.specs.declared.header.Version.TheVariants.{V3, V4}
-use Rattle.lerc_encode.specs.Choice.{choice}
+use Rattle.lerc_encode.specs.Choice.{chosen_blob}
 use Rattle.lerc_encode.specs.Encoded.{NeedsV4}
 use Rattle.bundle_store.specs.declared.tile_rec.TileRec.{TileRec}
 use Rattle.raster_values.specs.Raster.{Pixels}
@@ -46,13 +46,13 @@ next_tile v step before place rest f few = deep (needs_v4 v f.value.raster)
     much p (inl more) = inl (KeptTooMuch (length before), (few, (is (IsTooMuch v step before) (record { passes = p; much = more }), refl)))
     much p (inr less) = inr (record { few = few; passes = p; kept = less })
 
-    long : (¬ NeedsV4 v f.value.raster) → (16777215 < length (choice f.value.raster v step)) ⊎ (length (choice f.value.raster v step) ≤ 16777215) → Refusal v step before place rest ⊎ MayFollow v step before f.value
-    long taken (inl more) = inl (TileTooLarge (length before) (length (choice f.value.raster v step)), (few, (is (IsTooLong v step (length (choice f.value.raster v step))) (record { taken = taken; len_is = refl; long = more }), refl)))
+    long : (¬ NeedsV4 v f.value.raster) → (16777215 < length (chosen_blob f.value.raster v step)) ⊎ (length (chosen_blob f.value.raster v step) ≤ 16777215) → Refusal v step before place rest ⊎ MayFollow v step before f.value
+    long taken (inl more) = inl (TileTooLarge (length before) (length (chosen_blob f.value.raster v step)), (few, (is (IsTooLong v step (length (chosen_blob f.value.raster v step))) (record { taken = taken; len_is = refl; long = more }), refl)))
     long taken (inr less) = much (record { taken = taken; small = less }) (cases_lt (2 ^ 30) (kept_bytes (updates_of v step (before ++ f.value ∷ []))))
 
     deep : NeedsV4 v f.value.raster ⊎ (¬ NeedsV4 v f.value.raster) → Refusal v step before place rest ⊎ MayFollow v step before f.value
     deep (inl needs) = inl (DepthNeedsV4 (place + 16), (few, (is (λ t. NeedsV4 v t.raster) needs, refl)))
-    deep (inr not) = long not (cases_lt 16777215 (length (choice f.value.raster v step)))
+    deep (inr not) = long not (cases_lt 16777215 (length (chosen_blob f.value.raster v step)))
 
 -- ---- the tiles
 

@@ -3,7 +3,7 @@
 use Rattle.std.specs.Prelude.{◌≡◌, ℕ, ◌+◌, ◌^◌, ◌<◌, List, [], ◌∷◌, ◌++◌, length, Option, IfSome}
 use Rattle.first_fault.specs.Faults.{moved}
 use Rattle.lerc_header.specs.declared.header.Version.{Version}
-use Rattle.lerc_encode.specs.Choice.{choice}
+use Rattle.lerc_encode.specs.Choice.{chosen_blob}
 use Rattle.lerc_encode.specs.Encoded.{NeedsV4}
 use Rattle.tile_stream.specs.declared.tile.Tile.{Tile}
 use Rattle.tile_stream.specs.Tile.{IsTile, tile_faults}
@@ -24,7 +24,7 @@ pub record HasTile (rest : List ℕ) (Such : Tile → Type 0) : Type 0 where
 -- the tile's blob has so many bytes, more than a bundle can hold
 pub record IsTooLong (v : Version) (step len : ℕ) (t : Tile) : Type 0 where
   pub taken : ¬ NeedsV4 v t.raster
-  pub len_is : len ≡ length (choice t.raster v step)
+  pub len_is : len ≡ length (chosen_blob t.raster v step)
   pub long : 16777215 < len
 
 -- the tile passes, and with its blob the blobs are too long together

@@ -2,7 +2,7 @@
 -- is chosen for its raster.
 use Rattle.std.specs.Prelude.{◌≡◌, ℕ, ◌^◌, ◌≤◌, List, length, map, sum, All, Option, None, Some}
 use Rattle.lerc_header.specs.declared.header.Version.{Version}
-use Rattle.lerc_encode.specs.Choice.{choice}
+use Rattle.lerc_encode.specs.Choice.{chosen_blob}
 use Rattle.lerc_encode.specs.Encoded.{IsEncodedOnce, NeedsV4}
 use Rattle.bundle_store.specs.declared.tile_rec.TileRec.{TileRec}
 use Rattle.tile_stream.specs.declared.tile.Tile.{Tile}
@@ -10,7 +10,7 @@ use Rattle.tile_stream.specs.Stream.{IsStream}
 
 -- the tile's slot, and its blob in this version and with this step
 abbrev pub update_of : Version → ℕ → Tile → TileRec
-update_of v step t = record { slot = t.slot; bytes = choice t.raster v step }
+update_of v step t = record { slot = t.slot; bytes = chosen_blob t.raster v step }
 
 abbrev pub updates_of : Version → ℕ → List Tile → List TileRec
 updates_of v step tiles = map (update_of v step) tiles
@@ -22,7 +22,7 @@ kept_bytes updates = sum (map (λ u. length u.bytes) updates)
 -- the version has a place for the tile's depths, and its blob is one that a bundle can hold
 pub record Passes (v : Version) (step : ℕ) (t : Tile) : Type 0 where
   pub taken : ¬ NeedsV4 v t.raster
-  pub small : length (choice t.raster v step) ≤ 16777215
+  pub small : length (chosen_blob t.raster v step) ≤ 16777215
 
 -- each tile passes, and all together are not too many, nor are their blobs too long
 pub record AllPass (v : Version) (step : ℕ) (tiles : List Tile) : Type 0 where
@@ -48,4 +48,4 @@ OfBytes (Some bytes) P = P bytes
 pub record AreEncoded (v : Version) (step : ℕ) (updates : List TileRec) : Type 0 where
   pub tiles : List Tile
   pub updates_are : updates ≡ updates_of v step tiles
-  pub encoded : All (λ t. IsEncodedOnce (choice t.raster v step) t.raster step) tiles
+  pub encoded : All (λ t. IsEncodedOnce (chosen_blob t.raster v step) t.raster step) tiles

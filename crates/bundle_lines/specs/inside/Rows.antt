@@ -1,13 +1,10 @@
 -- The lines of a row of slots.
-use Rattle.std.specs.Prelude.{ℕ, zero, suc, ◌+◌, ◌*◌, List, [], ◌++◌, get_or}
-use Rattle.bundle_index.specs.declared.entry.Entry.{Entry}
+use Rattle.std.specs.Prelude.{ℕ, zero, suc, ◌+◌, ◌*◌, List, [], ◌++◌}
+use Rattle.bundle_index.specs.Entry.{entry_at}
 use Rattle.bundle_lines.specs.Lines.{list_line}
 
-abbrev pub no_entry : Entry
-no_entry = record { offset = 0; size = 0 }
-
--- the lines of the first slots of a row whose entries these are
-unfoldable pub row_lines : ℕ → List Entry → ℕ → List ℕ
-row_lines row entries zero = []
-row_lines row entries (suc col) =
-    row_lines row entries col ++ list_line (128 * row + col) (get_or entries col no_entry)
+-- the lines of the first slots of a row of the bundle
+unfoldable pub row_lines : List ℕ → ℕ → ℕ → List ℕ
+row_lines bundle row zero = []
+row_lines bundle row (suc col) = row_lines bundle row col ++ list_line (128 * row + col)
+    (entry_at bundle (128 * row + col))

@@ -1,7 +1,5 @@
 -- What the parts of a check give.
-use Rattle.std.specs.Prelude.{◌≡◌, ℕ, ◌+◌, ◌*◌, ◌<◌, ◌≤◌, ◌==◌, Bool, if◌then◌else◌, List, Option, Some, None}
-use Rattle.bundle_index.specs.Entry.{place_of}
-use Rattle.bundle_index.specs.Numbers.{u64_at}
+use Rattle.std.specs.Prelude.{◌≡◌, ℕ, ◌+◌, ◌*◌, ◌≤◌, ◌==◌, Bool, if◌then◌else◌, Option, Some, None}
 use Rattle.bundle_store.specs.declared.check.CheckReport.{CheckReport}
 
 -- so many slots leave the report's numbers below their limits
@@ -21,8 +19,3 @@ pub record NextReport (slot size : ℕ) (is : Bool) (old now : CheckReport) : Ty
   pub bytes : now.bytes ≡ old.bytes + size
   pub bad : now.bad ≡ old.bad + (if is then 1 else 0)
   pub first_bad : now.first_bad ≡ first_bad_with old.first_bad slot is
-
--- the bytes have the words of the bundle's entries from a slot on
-abbrev pub SameEntries : List ℕ → ℕ → List ℕ → Type 0
-SameEntries part first bundle = (i : ℕ) → i < 512 → u64_at part (8 * i) ≡ u64_at bundle
-    (place_of (first + i))

@@ -1,11 +1,10 @@
 -- What the parts of a put, a build and a recovery leave.
-use Rattle.std.specs.Prelude.{◌≡◌, ℕ, ◌≤◌, List, ◌++◌, length}
+use Rattle.std.specs.Prelude.{◌≡◌, ℕ, List, ◌++◌}
 use Rattle.outside_io.specs.volume.Disk.{Disk, IsImage, IsQuiet, IsSettled}
-use Rattle.bundle_index.specs.declared.entry.Entry.{Entry}
-use Rattle.side_journal.specs.Says.{IsOpen, SaysBuild, SaysTile}
-use Rattle.bundle_store.specs.Appended.{with_entry}
+use Rattle.side_journal.specs.Says.{IsOpen, SaysBuild}
 use Rattle.bundle_store.specs.Images.{StandsFor}
-use Rattle.bundle_store.specs.Tiles.{IsReadable, Opens, TileMap}
+use Rattle.bundle_store.specs.Kept.{FrontBytes, Keeps}
+use Rattle.bundle_store.specs.Tiles.{Opens, TileMap}
 
 -- the bytes begin with these
 pub record BeginsWith (front bytes : List ℕ) : Type 0 where
@@ -16,17 +15,6 @@ pub record BeginsWith (front bytes : List ℕ) : Type 0 where
 pub record KeepsFront (old now : Disk) : Type 0 where
   pub journal : now.journal ≡ old.journal
   pub bundle : (c : List ℕ) → IsImage now.bundle c → BeginsWith old.bundle.now c
-
--- a bundle differs from another one under a header and an entry alone
-pub record SameUnder (header : List ℕ) (slot : ℕ) (entry : Entry) (old now : List ℕ) : Type 0 where
-  pub size : length now ≡ length old
-  pub over : with_entry header slot entry now ≡ with_entry header slot entry old
-
--- the journal is as it was, and a crash leaves a bundle that differs under the header and the
--- entry alone
-pub record KeepsUnder (header : List ℕ) (slot : ℕ) (entry : Entry) (old now : Disk) : Type 0 where
-  pub journal : now.journal ≡ old.journal
-  pub bundle : (c : List ℕ) → IsImage now.bundle c → SameUnder header slot entry old.bundle.now c
 
 -- the journal is as it was, whatever the bundle holds
 pub record KeepsJournal (old now : Disk) : Type 0 where
@@ -42,14 +30,6 @@ pub record Extends (old now : Disk) (more : List ℕ) : Type 0 where
   pub journal : now.journal ≡ old.journal
   pub bundle : now.bundle.now ≡ old.bundle.now ++ more
 
--- the journal is of one tile, whose header and entry, laid over the bundle, leave a readable one
-pub record IsUnderWay (bundle journal : List ℕ) (slot : ℕ) (entry : Entry)
-    (header : List ℕ) : Type 0 where
-  pub size : ℕ
-  pub says : SaysTile journal slot entry size header
-  pub within : size ≤ length bundle
-  pub readable : IsReadable (with_entry header slot entry bundle)
-
 -- nothing is pending on a journal that counts, of a bundle that is being built
 pub record IsBegun (d : Disk) : Type 0 where
   pub journal : IsSettled d.journal
@@ -61,8 +41,9 @@ abbrev pub EachKeeps : List ℕ → List ℕ → Disk → Type 0
 EachKeeps bundle journal now = (b j : List ℕ) → IsImage now.bundle b → IsImage now.journal j →
     (map : TileMap) → StandsFor bundle journal map → StandsFor b j map
 
--- a session can be opened here, nothing is pending, and the journal is not open
-pub record IsAtRest (d : Disk) : Type 0 where
+-- a session that keeps this can serve the bundle, nothing is pending, and the journal is not open
+pub record IsAtRest (front : FrontBytes) (d : Disk) : Type 0 where
   pub opens : Opens d.bundle.now
+  pub keeps : Keeps front d.bundle.now
   pub quiet : IsQuiet d
   pub closed : ¬ IsOpen d.journal.now

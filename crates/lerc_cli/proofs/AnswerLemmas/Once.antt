@@ -1,11 +1,11 @@
 -- One command of words, and one answer of a command.
-use Rattle.std.proofs.Common.{◌≡◌, Err, List, ℕ, Option, Some, refl, rules, sym, ap, subst, ◌∙◌}
+use Rattle.std.proofs.Common.{◌≡◌, Err, List, ℕ, None, Option, Some, refl, rules, sym, ap, subst, ◌∙◌}
 use Rattle.std.specs.Prelude.{IsTrue}
 use Rattle.raster_values.specs.Grid.{grid_of}
 use Rattle.raster_values.specs.Raster.{Pixels}
 use Rattle.lerc_header.specs.declared.header.Version.{Version}
 use Rattle.lerc_header.specs.Written.{step_of}
-use Rattle.lerc_encode.specs.Choice.{choice}
+use Rattle.lerc_encode.specs.Choice.{chosen_blob}
 use Rattle.lerc_cli.specs.declared.words.Command.{Command}
 use Rattle.lerc_cli.specs.declared.words.Command.TheVariants.{Encode, Decode, Info, Build, Put, Get, GetRaw, List as ListAll, Check, Recover}
 use Rattle.lerc_cli.specs.declared.refusal.Fault.{Fault}
@@ -41,7 +41,7 @@ SourceOnce c = (input : List ℕ) (files : Option Files) → Once c (given (Some
 
 encode_once : (v : Version) (e : ℕ) → SourceOnce (Encode v e)
 encode_once v e input files n m well well output another a b =
-    (refl, a.1.3 ∙ ap (λ (r : Pixels). choice r v (step_of e)) (one_grid input a.0 b.0 a.1.1 b.1.1) ∙ sym b.1.3)
+    (refl, a.1.3 ∙ ap (λ (r : Pixels). chosen_blob r v (step_of e)) (one_grid input a.0 b.0 a.1.1 b.1.1) ∙ sym b.1.3)
 encode_once v e input files n m well (refused (Input f)) output another a b = absurd (grid_or_refusal v input files a.0 a.1.1 a.1.2 f.place f.reason b.0)
 encode_once v e input files n m (refused (Input f)) well output another a b = absurd (grid_or_refusal v input files b.0 b.1.1 b.1.2 f.place f.reason a.0)
 encode_once v e input files n m (refused (Input f)) (refused (Input g)) output another a b =
@@ -71,9 +71,9 @@ decode_once input files n m (refused (Input f)) (refused (Stream r)) output anot
 
 info_once : SourceOnce Info
 info_once input files n m well well output another a b =
-    let there : IsOutline input a.1.2.0 = subst (λ (u : List ℕ). IsOutline u a.1.2.0) (sym a.1.1) a.1.2.1.0 in
-    let here : IsOutline input b.1.2.0 = subst (λ (u : List ℕ). IsOutline u b.1.2.0) (sym b.1.1) b.1.2.1.0 in
-    (refl, a.1.2.1.1 ∙ ap outline_lines ((one_outline input).once a.1.2.0 b.1.2.0 there here) ∙ sym b.1.2.1.1)
+    let there : IsOutline None input a.1.2.0 = subst (λ (u : List ℕ). IsOutline None u a.1.2.0) (sym a.1.1) a.1.2.1.0 in
+    let here : IsOutline None input b.1.2.0 = subst (λ (u : List ℕ). IsOutline None u b.1.2.0) (sym b.1.1) b.1.2.1.0 in
+    (refl, a.1.2.1.1 ∙ ap outline_lines ((one_outline None input).once a.1.2.0 b.1.2.0 there here) ∙ sym b.1.2.1.1)
 info_once input files n m well (refused (Input f)) output another a b =
     absurd (blob_or_fault input a.1.0.0 f.place b.0.0 (subst (λ (u : List ℕ). Blob u a.1.0.0) (sym a.1.1) a.1.0.1) b.0.1.1)
 info_once input files n m (refused (Input f)) well output another a b =

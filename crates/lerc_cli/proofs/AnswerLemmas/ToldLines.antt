@@ -1,5 +1,5 @@
 -- What `info` leaves behind the blob that it has read.
-use Rattle.std.proofs.Common.{◌≡◌, ℕ, ◌≤◌, List, Option, Ok, Err, refl}
+use Rattle.std.proofs.Common.{◌≡◌, ℕ, ◌≤◌, List, Option, None, Ok, Err, refl}
 use Rattle.std.specs.Prelude.{IfSome}
 use Rattle.outside_io.specs.streams.Faults.{FailedBetween}
 use Rattle.outside_io.specs.streams.Sink.{Holds, HoldsPrefix}
@@ -17,16 +17,16 @@ use Rattle.lerc_cli.specs.inputs.Given.{given}
 use Rattle.lerc_cli.proofs.AnswerLemmas.Outputs.{cut, gave}
 
 -- the lines of a blob
-lines_of : (input : Option (List ℕ)) (files : Option Files) (blob : List ℕ) (o : Outline) → IsBlob blob → IfSome input (λ all. all ≡ blob) → IsOutline blob o → IsOutput Info (given input files) 0 (outline_lines o)
+lines_of : (input : Option (List ℕ)) (files : Option Files) (blob : List ℕ) (o : Outline) → IsBlob blob → IfSome input (λ all. all ≡ blob) → IsOutline None blob o → IsOutput Info (given input files) 0 (outline_lines o)
 lines_of input files blob o is all out = (blob, (is, all, (o, (out, refl))))
 
 pub gave_lines : (input : Option (List ℕ)) (files : Option Files) (blob : List ℕ) (o : Outline) (sink : SinkMove)
-    → IsBlob blob → IfSome input (λ all. all ≡ blob) → IsOutline blob o → Holds sink.held.old sink.held.new (outline_lines o) → sink.faults.new ≡ sink.faults.old → OfOutput Info (given input files) 0 (Ok tt) sink
+    → IsBlob blob → IfSome input (λ all. all ≡ blob) → IsOutline None blob o → Holds sink.held.old sink.held.new (outline_lines o) → sink.faults.new ≡ sink.faults.old → OfOutput Info (given input files) 0 (Ok tt) sink
 gave_lines input files blob o sink is all out holds count =
     gave Info (given input files) (outline_lines o) sink (lines_of input files blob o is all out) holds count
 
 pub cut_lines : (input : Option (List ℕ)) (files : Option Files) (blob : List ℕ) (o : Outline) (sink : SinkMove)
-    → IsBlob blob → IfSome input (λ all. all ≡ blob) → IsOutline blob o → HoldsPrefix sink.held.old sink.held.new (outline_lines o) → sink.faults.old ≤ sink.faults.new → FailedBetween sink.faults.old sink.faults.new
+    → IsBlob blob → IfSome input (λ all. all ≡ blob) → IsOutline None blob o → HoldsPrefix sink.held.old sink.held.new (outline_lines o) → sink.faults.old ≤ sink.faults.new → FailedBetween sink.faults.old sink.faults.new
     → OfOutput Info (given input files) 0 (Err Output) sink
 cut_lines input files blob o sink is all out holds counts failed =
     cut Info (given input files) (outline_lines o) sink (lines_of input files blob o is all out) holds counts failed

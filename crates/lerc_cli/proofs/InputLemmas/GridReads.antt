@@ -29,7 +29,7 @@ use Rattle.lerc_cli.specs.inputs.Given.{given}
 use Rattle.lerc_cli.specs.inside.Grids.{MakesBlob, ReadsGrid, grid_stop_of}
 use Rattle.program_ends.specs.Asks.{AsksOne}
 use Rattle.lerc_grammar.specs.Near.{Near, NearestIsSame}
-use Rattle.lerc_encode.specs.Choice.{choice}
+use Rattle.lerc_encode.specs.Choice.{chosen_blob}
 use Rattle.lerc_encode.specs.Encoded.{Declares, IsEncodedOnce, NeedsV4}
 
 -- ---- how long a grid is
@@ -79,11 +79,11 @@ took_more asked (Some left) mid new (bytes, (rest, (joined, is))) asks = by aske
 
 -- ---- what the blob is
 
-pub encodes : NearestIsSame → (version : Version) (error step : ℕ) (r : Pixels) (blob : List ℕ) → IsRaster r → step ≡ step_of error → blob ≡ choice r version step → Declares blob version step → IsEncodedOnce blob r step
+pub encodes : NearestIsSame → (version : Version) (error step : ℕ) (r : Pixels) (blob : List ℕ) → IsRaster r → step ≡ step_of error → blob ≡ chosen_blob r version step → Declares blob version step → IsEncodedOnce blob r step
     → Encodes version error r blob
 encodes same version error step r blob is said chosen declared once =
     let here = subst (λ (n : ℕ). IsEncodedOnce blob r n) said once in record {
-      chosen = subst (λ (n : ℕ). blob ≡ choice r version n) said chosen;
+      chosen = subst (λ (n : ℕ). blob ≡ chosen_blob r version n) said chosen;
       declared = subst (λ (n : ℕ). Declares blob version n) said declared;
       once = here;
       exact = λ none. sym (same r here.raster is here.blob.0 (subst (λ (n : ℕ). Near r here.raster (step_of n)) none here.near));

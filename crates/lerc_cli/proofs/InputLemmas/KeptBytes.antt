@@ -24,7 +24,7 @@ use Rattle.lerc_cli.proofs.InputLemmas.WholeReads.{reads_fault, reads_leftover}
 
 -- ---- what is known
 
-pub kept_whole : (s : Stage) (taken : List ℕ) (left0 left1 : Option (List ℕ)) → IsStageOf taken s → Follows s (Joins left0 left1 [] taken) → state_at s ≡ Done → IsBlob taken × Joins left0 left1 [] taken
+pub kept_whole : (s : Stage) (taken : List ℕ) (left0 left1 : Option (List ℕ)) → IsStageOf None taken s → Follows s (Joins left0 left1 [] taken) → state_at s ≡ Done → IsBlob taken × Joins left0 left1 [] taken
 kept_whole Key taken left0 left1 stands f is = absurd cc
 kept_whole (Fields v) taken left0 left1 stands f is = absurd cc
 kept_whole (Body h) taken left0 left1 stands f is = absurd cc
@@ -33,7 +33,7 @@ kept_whole (Wrong place reason) taken left0 left1 stands f is = absurd cc
 kept_whole NoMemory taken left0 left1 stands f is = absurd cc
 
 module _ (taken : List ℕ) (left0 left1 : Option (List ℕ)) (b : Begins left0 [] taken) where
-  pub kept_fault : (s : Stage) (fault : BlobFault) → IsStageOf taken s → Follows s (Joins left0 left1 [] taken) → (missing_at s (length taken) ≡ 0) ⊎ IsAtEnd left1
+  pub kept_fault : (s : Stage) (fault : BlobFault) → IsStageOf None taken s → Follows s (Joins left0 left1 [] taken) → (missing_at s (length taken) ≡ 0) ⊎ IsAtEnd left1
       → state_at s ≡ FedRefused fault → IsSized (Err (FromBlob fault)) left0 left1
   kept_fault Key fault stands f end is = absurd cc
   kept_fault (Fields v) fault stands f end is = absurd cc
@@ -45,7 +45,7 @@ module _ (taken : List ℕ) (left0 left1 : Option (List ℕ)) (b : Begins left0 
       subst (λ (x : BlobFault). IsSized (Err (FromBlob x)) left0 left1) same (decoded (Wrong place reason) taken left0 left1 stands f b end)
   kept_fault NoMemory fault stands f end is = absurd cc
 
-  pub kept_memory : (s : Stage) → IsStageOf taken s → Follows s (Joins left0 left1 [] taken) → (missing_at s (length taken) ≡ 0) ⊎ IsAtEnd left1
+  pub kept_memory : (s : Stage) → IsStageOf None taken s → Follows s (Joins left0 left1 [] taken) → (missing_at s (length taken) ≡ 0) ⊎ IsAtEnd left1
       → state_at s ≡ FedMemory → IsSized (Err OutOfMemory) left0 left1
   kept_memory Key stands f end is = absurd cc
   kept_memory (Fields v) stands f end is = absurd cc
@@ -55,7 +55,7 @@ module _ (taken : List ℕ) (left0 left1 : Option (List ℕ)) (b : Begins left0 
   kept_memory NoMemory stands f end is = decoded NoMemory taken left0 left1 stands f b end
 
   -- the source ended before anything was decided
-  pub kept_more : (s : Stage) → IsStageOf taken s → Follows s (Joins left0 left1 [] taken) → (missing_at s (length taken) ≡ 0) ⊎ IsAtEnd left1
+  pub kept_more : (s : Stage) → IsStageOf None taken s → Follows s (Joins left0 left1 [] taken) → (missing_at s (length taken) ≡ 0) ⊎ IsAtEnd left1
       → state_at s ≡ More → IsSized (Err (FromBlob (record { reason = Truncated; place = length taken }))) left0 left1
   kept_more Key stands f end is = decoded Key taken left0 left1 stands f b end
   kept_more (Fields v) stands f end is = decoded (Fields v) taken left0 left1 stands f b end

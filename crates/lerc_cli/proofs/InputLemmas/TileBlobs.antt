@@ -1,5 +1,5 @@
 -- What a decoder that was fed all bytes of a tile says of them.
-use Rattle.std.proofs.Common.{◌≡◌, ℕ, ◌<◌, ◌≤◌, List, ◌++◌, length, take, drop, Result, Ok, Err, refl, ap, subst, ◌∙◌, arith}
+use Rattle.std.proofs.Common.{◌≡◌, ℕ, ◌<◌, ◌≤◌, List, ◌++◌, length, take, drop, None, Result, Ok, Err, refl, ap, subst, ◌∙◌, arith}
 use Rattle.std.proofs.lemmas.List.{length-take-le, take-append-drop, take_all}
 use Rattle.raster_values.specs.Raster.{Pixels}
 use Rattle.lerc_header.specs.declared.fault.BlobReason.TheVariants.{Truncated, Leftover}
@@ -24,7 +24,7 @@ split : (tile taken : List ℕ) (used : ℕ) → taken ≡ take used tile → ta
 split tile taken used is = ap (λ u. u ++ drop used tile) is ∙ take-append-drop used tile
 
 done_stays : (taken rest : List ℕ) (r : Pixels) → IsDone taken r (length taken) → IsDone (taken ++ rest) r (length taken)
-done_stays taken rest r done = verdict_stays taken rest (Done r (length taken)) done (λ is. cc)
+done_stays taken rest r done = verdict_stays None taken rest (Done r (length taken)) done (λ is. cc)
 
 whole : (tile taken : List ℕ) (used : ℕ) (r : Pixels) → used ≤ length tile → taken ≡ take used tile → IsDone taken r (length taken) → Says tile used (Ok r)
 whole tile taken used r within is done =
@@ -39,7 +39,7 @@ cut_off tile taken used is all more =
     let same : taken ≡ tile = is ∙ take_all used tile (omega (arith, all)) in
     cut (subst IsMore same more) (ap length same) refl
 
-pub fed_whole : (tile taken : List ℕ) (stage : Stage) (used : ℕ) → used ≤ length tile → taken ≡ take used tile → IsTold taken stage → (state_at stage ≡ More → used ≡ length tile) → Says tile used (finished_at stage taken)
+pub fed_whole : (tile taken : List ℕ) (stage : Stage) (used : ℕ) → used ≤ length tile → taken ≡ take used tile → IsTold None taken stage → (state_at stage ≡ More → used ≡ length tile) → Says tile used (finished_at stage taken)
 fed_whole tile taken Key used within is told all = cut_off tile taken used is (all refl) told
 fed_whole tile taken (Fields v) used within is told all = cut_off tile taken used is (all refl) told
 fed_whole tile taken (Body h) used within is told all = cut_off tile taken used is (all refl) told

@@ -66,7 +66,7 @@ reads_whole d (Some input) mid new raster (taken, (rest, (j, (e, found)))) asks 
     (raster, subst (λ (u : List ℕ). Blob u d.raster) (sym all) (done_blob taken d.raster found.0))
 
 done_stays : (taken rest : List ℕ) (r : Pixels) → IsDone taken r (length taken) → IsDone (taken ++ rest) r (length taken)
-done_stays taken rest r done = verdict_stays taken rest (Done r (length taken)) done (λ is. cc)
+done_stays taken rest r done = verdict_stays None taken rest (Done r (length taken)) done (λ is. cc)
 
 pub reads_leftover : (d : Decoded) (left mid new : Option (List ℕ)) → IsSized (Ok d) left mid → AsksOne (Ok true) mid new → ReadsBlob left (Err (Refused (Input (record { reason = BlobReasonOf Leftover; place = d.size }))))
 reads_leftover d None mid new told asks = (Leftover, (refl, tt))

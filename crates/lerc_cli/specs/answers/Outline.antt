@@ -1,13 +1,13 @@
 -- The fourteen lines that tell what a blob says of itself.
-use Rattle.std.specs.Prelude.{◌≡◌, ℕ, ℤ, List, [], ◌∷◌, ◌++◌, codes, decimal}
+use Rattle.std.specs.Prelude.{◌≡◌, ℕ, ℤ, List, [], ◌∷◌, ◌++◌, None, codes, decimal}
 use Rattle.std.specs.Fmt.{signed_decimal}
 use Rattle.byteorder.specs.Endian.{little_bytes}
 use Rattle.hex.specs.Hex.{encode_lower}
 use Rattle.command_words.specs.Words.{type_name}
 use Rattle.lerc_header.specs.declared.header.Header.{Header}
-use Rattle.lerc_header.specs.Head.{number_of}
+use Rattle.lerc_header.specs.Head.{version_number}
 use Rattle.lerc_grammar.specs.declared.parts.MaskForm.{MaskForm}
-use Rattle.lerc_grammar.specs.declared.parts.MaskForm.TheVariants.{Empty as NoneValid, Full, Runs}
+use Rattle.lerc_grammar.specs.declared.parts.MaskForm.TheVariants.{Empty as NoneValid, Full, Runs, Previous}
 use Rattle.lerc_grammar.specs.declared.parts.ImageForm.{ImageForm}
 use Rattle.lerc_grammar.specs.declared.parts.ImageForm.TheVariants.{Empty, Constant, Ranges, Sweep, Blocks, Delta, Plain}
 use Rattle.lerc_grammar.specs.declared.parts.Outline.{Outline}
@@ -31,7 +31,7 @@ checksum_line checksum = word_line (codes "checksum") (encode_lower (little_byte
 -- what the header says of the raster's shape: six lines
 abbrev pub shape_lines : Header → List ℕ
 shape_lines h =
-    number_line (codes "version") (number_of h.version)
+    number_line (codes "version") (version_number h.version)
     ++ (word_line (codes "type") (type_name h.kind)
     ++ (number_line (codes "rows") h.rows
     ++ (number_line (codes "cols") h.cols
@@ -53,6 +53,7 @@ abbrev pub mask_line : MaskForm → List ℕ
 mask_line NoneValid = word_line (codes "mask") (codes "empty")
 mask_line Full = word_line (codes "mask") (codes "full")
 mask_line (Runs at len) = number_line (codes "mask runs") len
+mask_line Previous = word_line (codes "mask") (codes "previous")
 
 abbrev pub image_name : ImageForm → List ℕ
 image_name Empty = codes "empty"
@@ -72,4 +73,4 @@ outline_lines o =
 
 -- the bytes are the lines of what these bytes say of themselves
 abbrev pub AreLinesOf : List ℕ → List ℕ → Type 0
-AreLinesOf blob lines = (o : Outline) × (IsOutline blob o × (lines ≡ outline_lines o))
+AreLinesOf blob lines = (o : Outline) × (IsOutline None blob o × (lines ≡ outline_lines o))

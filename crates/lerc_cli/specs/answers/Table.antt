@@ -18,7 +18,7 @@ use Rattle.lerc_header.specs.declared.fault.BlobReason.{BlobReason}
 use Rattle.lerc_header.specs.Written.{step_of}
 use Rattle.lerc_grammar.specs.Blob.{Blob}
 use Rattle.lerc_grammar.specs.Verdict.{WholeFault}
-use Rattle.lerc_encode.specs.Choice.{choice}
+use Rattle.lerc_encode.specs.Choice.{chosen_blob}
 use Rattle.lerc_encode.specs.Encoded.{NeedsV4}
 use Rattle.program_ends.specs.declared.stop.Stop.{Stop}
 use Rattle.program_ends.specs.declared.stop.Stop.TheVariants.{Usage, Source, Output, Volume, OutOfMemory, Refused}
@@ -55,7 +55,7 @@ HoldsBlob bundle slot r = (tile : List ℕ) × (GetGives bundle slot tile × Blo
 abbrev pub IsOutput : Command → Given → ℕ → List ℕ → Type 0
 IsOutput (Encode version error) g n output =
     (r : Pixels) × (IsRaster r × OfInput g (λ bytes. IsGrid bytes r) × (¬ NeedsV4 version r)
-    × (output ≡ choice r version (step_of error)))
+    × (output ≡ chosen_blob r version (step_of error)))
 IsOutput Decode g n output =
     (r : Pixels) × (IsRaster r × OfInput g (λ bytes. Blob bytes r) × (output ≡ grid_of r))
 IsOutput Info g n output =

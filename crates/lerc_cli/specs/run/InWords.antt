@@ -10,7 +10,7 @@ use Rattle.raster_values.specs.ReadGrid.{IsGrid}
 use Rattle.lerc_header.specs.declared.fault.BlobReason.{BlobReason}
 use Rattle.lerc_header.specs.declared.header.Version.{Version}
 use Rattle.lerc_header.specs.Written.{step_of}
-use Rattle.lerc_encode.specs.Choice.{choice}
+use Rattle.lerc_encode.specs.Choice.{chosen_blob}
 use Rattle.lerc_encode.specs.Encoded.{Declares, IsEncodedOnce, NeedsV4}
 use Rattle.lerc_grammar.specs.Blob.{Blob}
 use Rattle.lerc_grammar.specs.Verdict.{WholeFault}
@@ -32,7 +32,7 @@ use Rattle.lerc_cli.specs.answers.Outline.{AreLinesOf}
 -- is a blob of exactly one raster, which is near the given one by the step, and without an error
 -- equal to it.
 pub record Encodes (version : Version) (error : ℕ) (r : Pixels) (blob : List ℕ) : Type 0 where
-  pub chosen : blob ≡ choice r version (step_of error)
+  pub chosen : blob ≡ chosen_blob r version (step_of error)
   pub declared : Declares blob version (step_of error)
   pub once : IsEncodedOnce blob r (step_of error)
   pub exact : error ≡ 0 → once.raster ≡ r

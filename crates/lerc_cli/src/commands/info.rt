@@ -1,6 +1,6 @@
 //! A blob is told of.
 
-ghost use Rattle.std.specs.Prelude.{Option};
+ghost use Rattle.std.specs.Prelude.{None, Option};
 ghost use Rattle.lerc_grammar.specs.Outlines.{IsOutline};
 ghost use Rattle.program_ends.specs.Moves.{sink_move, source_move};
 ghost use Rattle.opened_bundle.specs.Files.{Files};
@@ -20,9 +20,9 @@ use std::alloc::Global;
 /// What a blob says of itself.
 fn outline_of(blob: &[u8]) -> Outline
     requires { IsBlob blob.now }
-    ensures { IsOutline blob.now result }
+    ensures { IsOutline None blob.now result }
 {
-    match outline(blob) {
+    match outline(blob, None) {
         Ok(outline) => outline,
         Err(_) => unreachable!(),
     }

@@ -1,7 +1,7 @@
 //! The lines that tell what a blob says of itself.
 
 ghost use Rattle.std.specs.Prelude.{◌≡◌, ◌+◌, ◌≤◌, ◌++◌, ℕ, OnErr, OnOk, length, codes};
-ghost use Rattle.lerc_header.specs.Head.{number_of};
+ghost use Rattle.lerc_header.specs.Head.{version_number};
 ghost use Rattle.outside_io.specs.streams.Faults.{CountsFaults};
 ghost use Rattle.outside_io.specs.streams.Sink.{Holds, HoldsPrefix};
 ghost use Rattle.lerc_cli.specs.answers.Outline.{checksum_line, word_line, number_line, signed_line, image_name, mask_line, shape_lines, value_lines, outline_lines};
@@ -14,7 +14,7 @@ use outside_io::{Failed, Line, Sink, give_all};
 
 /// The number of a version.
 fn version_number(version: Version) -> u64
-    ensures { result ≡ number_of version }
+    ensures { result ≡ version_number version }
 {
     match version {
         Version::V3 => 3,
@@ -127,6 +127,7 @@ fn add_mask(line: &mut Line, mask: MaskForm)
         MaskForm::Empty => add_word(line, b"mask", b"empty"),
         MaskForm::Full => add_word(line, b"mask", b"full"),
         MaskForm::Runs { len, .. } => add_number(line, b"mask runs", len.into()),
+        MaskForm::Previous => add_word(line, b"mask", b"previous"),
     }
 }
 

@@ -1,5 +1,5 @@
 -- What the parts of a blob leave in the raster, and why there is none.
-use Rattle.std.specs.Prelude.{◌≡◌, ℕ, ℤ, ◌-◌, ◌*◌, List, length, drop, take, Result, OnOk, IfErr}
+use Rattle.std.specs.Prelude.{◌≡◌, ℕ, ℤ, ◌-◌, ◌*◌, Bool, List, length, drop, take, Option, Result, OnOk, IfErr}
 use Rattle.first_fault.specs.Faults.{Faults, moved}
 use Rattle.mask_runs.specs.Runs.{Runs}
 use Rattle.raster_values.specs.declared.kind.PixelType.{PixelType}
@@ -12,8 +12,8 @@ use Rattle.lerc_header.specs.declared.fault.BlobReason.{BlobReason}
 use Rattle.lerc_header.specs.Head.{head_length}
 use Rattle.lerc_header.specs.Checksum.{sum_of}
 use Rattle.lerc_grammar.specs.declared.parts.MaskForm.{MaskForm}
-use Rattle.lerc_grammar.specs.Outline.{image_place}
-use Rattle.lerc_grammar.specs.Mask.{IsMask, mask_size, count_of}
+use Rattle.lerc_grammar.specs.Outline.{IsMaskFormAfter, image_place}
+use Rattle.lerc_grammar.specs.Mask.{Previous, IsMaskAfter, count_before, marks_before, mask_size, count_of}
 use Rattle.lerc_grammar.specs.Image.{IsImage, image_faults, value_count}
 use Rattle.lerc_decode.specs.declared.body.BodyStop.{BodyStop}
 use Rattle.lerc_decode.specs.declared.body.BodyStop.TheVariants.{Fault, OutOfMemory}
@@ -61,10 +61,19 @@ pub record IsSwept (h : Header) (bytes : List ℕ) (r : Pixels) : Type 0 where
 abbrev pub HasSum : Header → List ℕ → Type 0
 HasSum h blob = h.checksum ≡ sum_of (drop 14 blob)
 
+-- the marks of the raster before, where it has the header's rows and columns
+abbrev pub marks_for : Option Previous → Header → Option (List Bool)
+marks_for before h = marks_before before h.rows h.cols
+
+-- the form of the mask behind the blob of the raster before
+abbrev pub IsMaskFormFor : Option Previous → Header → List ℕ → MaskForm → Type 0
+IsMaskFormFor before h blob form = IsMaskFormAfter (count_before (marks_for before h)) h blob form
+
 -- the raster has the header's type and shape, and its valid pixels are those of the mask
-pub record IsMarkedFor (h : Header) (blob : List ℕ) (form : MaskForm) (r : Pixels) : Type 0 where
+pub record IsMarkedFor (before : Option Previous) (h : Header) (blob : List ℕ) (form : MaskForm)
+    (r : Pixels) : Type 0 where
   pub shape : HasHeadShape h r
-  pub mask : IsMask (h.rows * h.cols) h.valid
+  pub mask : IsMaskAfter (marks_for before h) (h.rows * h.cols) h.valid
       (take (image_place h form - head_length h.version) (drop (head_length h.version) blob))
       (marks_of r)
 

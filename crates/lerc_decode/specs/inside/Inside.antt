@@ -12,7 +12,7 @@ abbrev pub taken_of : Inside → List ℕ
 taken_of a = if nat_eq (length a.blob.items) 0 then take a.have a.head else a.blob.items
 
 abbrev pub seen : Inside → Decoding
-seen a = record { taken = taken_of a; stage = stage_of a.progress }
+seen a = record { taken = taken_of a; stage = stage_of a.progress; before = a.before }
 
 -- the bytes are kept in the vector from the whole header on, and before that in the array alone
 abbrev pub IsKept : Inside → Progress → Type 0
@@ -22,7 +22,7 @@ IsKept a (AtBody h) = 0 < length a.blob.items
 IsKept a _ = Unit {0}
 
 pub record IsInside (a : Inside) : Type 0 where
-  pub room : length a.head ≡ 70
-  pub within : a.have ≤ 70
+  pub room : length a.head ≡ 66
+  pub within : a.have ≤ 66
   pub kept : IsKept a a.progress
-  pub stands : IsStageOf (taken_of a) (stage_of a.progress)
+  pub stands : IsStageOf a.before (taken_of a) (stage_of a.progress)

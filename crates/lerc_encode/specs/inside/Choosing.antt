@@ -10,17 +10,17 @@ use Rattle.lerc_encode.specs.Ranges.{leasts, greatests}
 use Rattle.lerc_encode.specs.inside.Coded.{AreCodings}
 use Rattle.lerc_encode.specs.inside.Blocked.{IsMeasured}
 use Rattle.lerc_encode.specs.Images as images
-use Rattle.lerc_encode.specs.Images.{Form, chosen_form, form_bytes, ending}
+use Rattle.lerc_encode.specs.Images.{CodedForm, chosen_coded_form, coded_form_bytes, ending}
 use Rattle.lerc_encode.specs.declared.forms.ValueForm.{ValueForm}
 use Rattle.lerc_encode.specs.declared.forms.ValueForm.TheVariants.{Sweep, SmallBlocks, LargeBlocks, Delta, Plain}
 use Rattle.lerc_encode.specs.declared.blocks.Measured.{Measured}
 use Rattle.lerc_encode.specs.declared.choosing.Chosen.{Chosen}
 use Rattle.lerc_encode.specs.declared.choosing.Ending.{Ending}
-use Rattle.lerc_encode.specs.declared.choosing.Ending.TheVariants.{Bare, Level, Coded}
+use Rattle.lerc_encode.specs.declared.choosing.Ending.TheVariants.{Empty, Constant, Ranges as EqualRanges, Coded}
 use Rattle.lerc_encode.specs.declared.ranging.Ranges.{Ranges}
 
 -- the form of the definitions
-abbrev pub named : ValueForm → Form
+abbrev pub named : ValueForm → CodedForm
 named Sweep = images.sweep
 named SmallBlocks = images.blocks_8
 named LargeBlocks = images.blocks_16
@@ -48,8 +48,8 @@ AreMeasured r version step side LeftOut found =
 -- the form that is chosen, the number of its bytes, the symbols, and the blocks, of which those of
 -- a side that is not chosen may be left out
 pub record IsChosen (r : Pixels) (version : Version) (step : ℕ) (c : Chosen) : Type 0 where
-  pub form : named c.form ≡ chosen_form r version step
-  pub size : c.size ≡ length (form_bytes r version step (chosen_form r version step))
+  pub form : named c.form ≡ chosen_coded_form r version step
+  pub size : c.size ≡ length (coded_form_bytes r version step (chosen_coded_form r version step))
   pub few : c.size ≤ 67108865
   pub codings_are : AreCodings r version step c.codings
   pub small_are : AreMeasured r version step 8 (named c.form ≡ images.blocks_8 → ⊥) c.small
@@ -62,7 +62,8 @@ pub record AreRanges (r : Pixels) (ranges : Ranges) : Type 0 where
 
 -- how the image ends
 abbrev pub IsEnding : Pixels → Version → ℕ → Ending → Type 0
-IsEnding r version step Bare = ending r version step ≡ images.bare
-IsEnding r version step Level = ending r version step ≡ images.level
+IsEnding r version step Empty = ending r version step ≡ images.empty
+IsEnding r version step Constant = ending r version step ≡ images.constant
+IsEnding r version step EqualRanges = ending r version step ≡ images.ranges
 IsEnding r version step (Coded c) =
-    (ending r version step ≡ images.coded (chosen_form r version step)) × IsChosen r version step c
+    (ending r version step ≡ images.coded (chosen_coded_form r version step)) × IsChosen r version step c

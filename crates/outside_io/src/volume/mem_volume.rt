@@ -1,5 +1,6 @@
 ghost use Rattle.std.specs.Prelude.{◌≡◌, ◌↔◌, ℕ, ◌+◌, ◌-◌, ◌^◌, ◌<◌, ◌≤◌, [], None, min, length, IsTrue, IfOk, IsErr, IsSomeAnd, OnOk, OnErr, Contains};
-ghost use Rattle.outside_io.specs.volume.Disk.{FailedCut, FailedWrite, IsDiskImage, Struck, change, file_of, shortened, synced, wrote};
+ghost use Rattle.outside_io.specs.declared.volume.VolFile.TheVariants.{Bundle, Journal};
+ghost use Rattle.outside_io.specs.volume.Disk.{FailedCut, FailedWrite, IsDiskImage, IsQuiet, Struck, change, file_of, shortened, synced, wrote};
 ghost use Rattle.outside_io.specs.streams.Faults.{CountsFaults, one_more};
 ghost use Rattle.outside_io.specs.volume.History.{ReadsAt, Ticks, contents, current};
 ghost use Rattle.outside_io.specs.volume.Pick.{IsPicked};
@@ -81,8 +82,8 @@ impl MemVolume {
         })
     }
 
-    /// One image of that moment, which is not later than the clock, as a new volume with nothing
-    /// pending. It has the same `calls` and `room`, and nothing that makes it fail before them.
+    /// One image of that moment, which is not later than the clock, as a new volume that reads as
+    /// this image, with nothing pending. It has the same `calls` and `room`, and nothing that makes it fail before them.
     /// Want of memory is the only error.
     pub fn crash(&self, alloc: Global, moment: u64, pick: Pick) -> Result<MemVolume, AllocError>
         requires { moment ≤ self.now.clock }
@@ -94,6 +95,9 @@ impl MemVolume {
             ((history_of self.now).disk_at moment).journal (sparse_bytes v.journal)) }
         ensures image { IfOk result (λ v. IsDiskImage ((history_of self.now).disk_at moment)
             (sparse_bytes v.bundle) (sparse_bytes v.journal)) }
+        ensures reads { IfOk result (λ v. (contents Bundle (history_of v) ≡ sparse_bytes v.bundle)
+            × (contents Journal (history_of v) ≡ sparse_bytes v.journal)) }
+        ensures quiet { IfOk result (λ v. IsQuiet (current (history_of v))) }
     {
         let bundle = self.picked(alloc, VolFile::Bundle, moment, pick)?;
         let journal = self.picked(alloc, VolFile::Journal, moment, pick)?;

@@ -3,8 +3,9 @@
 use super::desk::{Counts, Desk, Drawer, Fault, Machine, NONE, Place, opened_and_synced};
 use super::{BOTH, calls, cut, len, other, read, sync, volume_of, write};
 use crate::same::same;
-use outside_io::{Failed, FileVolume, VolFile, Volume};
+use outside_io::{Failed, FileVolume, VolFile, Volume, hold_numbers};
 use std::alloc::Global;
+use std::io::ErrorKind;
 use std::process::Abort;
 use std::rc::Rc;
 
@@ -18,10 +19,13 @@ fn desk_with(rt: &impl Abort, alloc: Global, len: Option<u64>, fault: Fault) -> 
 
 // A volume of that machine. The path of its bundle is this.
 fn volume_on(rt: &impl Abort, alloc: Global, desk: &Rc<Desk>, bundle: &str) -> FileVolume<Machine> {
-    let machine = Machine {
+    volume_of(rt, alloc, machine_of(rt, desk), bundle, "shelf/b.jnl")
+}
+
+fn machine_of(rt: &impl Abort, desk: &Rc<Desk>) -> Machine {
+    Machine {
         desk: desk.clone().expect(rt, "memory"),
-    };
-    volume_of(rt, alloc, machine, bundle, "shelf/j")
+    }
 }
 
 // Each of its calls moves two bytes at most, so five take three of them.
@@ -57,7 +61,7 @@ fn each_call_goes_to_its_own_file_until_all_is_done(rt: HostRuntime) {
         writes_reads_and_cuts(&rt, desk.drawer(Place::File(file)), &mut vol, file);
         same(&rt, "its own file", desk.counts(file), counts);
         same(&rt, "the other file", desk.counts(other(file)), NONE);
-        // The name of the file that was made is synced once.
+        // Its name is synced once.
         let folder = opened_and_synced(1, 1);
         same(&rt, "the folder", desk.folder.counts.get(), folder);
     }
@@ -70,8 +74,85 @@ fn a_write_leaves_what_is_there(rt: HostRuntime) {
         let mut vol = volume_on(&rt, rt.alloc(), &desk, "shelf/b");
         same(&rt, "write", write(&mut vol, file, 0, b"a"), Ok(()));
         same(&rt, "length", len(&mut vol, file), Ok(6));
-        same(&rt, "sync", sync(&mut vol, file), Ok(()));
-        same(&rt, "it was there before", desk.folder.counts.get(), NONE);
+    }
+}
+
+#[test]
+fn a_read_behind_the_end_gives_none(rt: HostRuntime) {
+    let mut buf = [7; 5];
+    for file in BOTH {
+        let desk = desk_with(&rt, rt.alloc(), Some(6), Fault::Nothing);
+        let mut vol = volume_on(&rt, rt.alloc(), &desk, "shelf/b");
+        same(&rt, "the end", read(&mut vol, file, 6, &mut buf), Ok(0));
+        same(
+            &rt,
+            "behind",
+            read(&mut vol, file, 1 << 40, &mut buf),
+            Ok(0),
+        );
+        same(&rt, "buffer", buf, [7; 5]);
+    }
+}
+
+// A place behind 4 GiB.
+const FAR: u64 = (1 << 32) + 9;
+
+#[test]
+fn places_have_more_than_32_bits(rt: HostRuntime) {
+    let mut buf = [0; 2];
+    for file in BOTH {
+        let desk = desk_with(&rt, rt.alloc(), Some(FAR), Fault::Nothing);
+        let mut vol = volume_on(&rt, rt.alloc(), &desk, "shelf/b");
+        let drawer = desk.drawer(Place::File(file));
+        same(&rt, "length", len(&mut vol, file), Ok(FAR));
+        same(&rt, "read", read(&mut vol, file, FAR - 5, &mut buf), Ok(2));
+        same(&rt, "read at", drawer.read_at.get(), FAR - 5);
+        same(&rt, "write", write(&mut vol, file, FAR - 1, b"ab"), Ok(()));
+        same(&rt, "wrote at", drawer.wrote_at.get(), FAR - 1);
+        same(&rt, "written", drawer.len.get(), Some(FAR + 1));
+        same(&rt, "cut", cut(&mut vol, file, FAR - 8), Ok(()));
+        same(&rt, "left", drawer.len.get(), Some(FAR - 8));
+    }
+}
+
+// This file may not be written: it and the other are read and synced, and neither is changed.
+fn may_only_be_read(rt: &impl Abort, alloc: Global, file: VolFile, kind: ErrorKind) {
+    let (number, may_read) = (kind as u8, [true, true, false, false, true]);
+    let desk = desk_with(rt, alloc, Some(6), Fault::Nothing);
+    desk.drawer(Place::File(file)).refusal.set(Some(kind));
+    let mut vol = volume_on(rt, alloc, &desk, "shelf/b");
+    for each in [file, other(file)] {
+        same(rt, number, calls(&mut vol, each), may_read);
+        same(rt, number, write(&mut vol, each, 6, b""), Err(Failed));
+        let counts = desk.counts(each);
+        same(
+            rt,
+            number,
+            (counts.writes, counts.cuts, counts.syncs),
+            (0, 0, 1),
+        );
+    }
+    // Both names are synced, once each.
+    same(
+        rt,
+        number,
+        desk.folder.counts.get(),
+        opened_and_synced(2, 2),
+    );
+}
+
+#[test]
+fn a_file_that_may_only_be_read_is_read_and_synced(rt: HostRuntime) {
+    for file in BOTH {
+        let alloc = rt.alloc();
+        may_only_be_read(&rt, alloc, file, ErrorKind::PermissionDenied);
+        may_only_be_read(&rt, alloc, file, ErrorKind::ReadOnlyFilesystem);
+        // It is not there to be read, or is refused for another reason.
+        let desk = desk_with(&rt, alloc, Some(6), Fault::Nothing);
+        let drawer = desk.drawer(Place::File(file));
+        drawer.refusal.set(Some(ErrorKind::ResourceBusy));
+        let mut vol = volume_on(&rt, alloc, &desk, "shelf/b");
+        same(&rt, "busy", calls(&mut vol, file), [false; 5]);
     }
 }
 
@@ -101,30 +182,31 @@ fn what_the_machine_refuses_is_a_failure(rt: HostRuntime) {
     }
 }
 
-fn new_name_is_synced(
+// The name of a file of this length, or of one that is made, once the machine refuses this.
+fn name_is_synced(
     rt: &impl Abort,
     alloc: Global,
+    len: Option<u64>,
     fault: Fault,
     wanted: Result<(), Failed>,
     folder: Counts,
 ) {
-    let number = fault as u8;
-    let desk = desk_with(rt, alloc, None, fault);
+    let (number, bundle) = (fault as u8, VolFile::Bundle);
+    let desk = desk_with(rt, alloc, len, fault);
     let mut vol = volume_on(rt, alloc, &desk, "shelf/b");
-    same(
-        rt,
-        number,
-        write(&mut vol, VolFile::Bundle, 0, b"a"),
-        Ok(()),
-    );
-    same(rt, number, sync(&mut vol, VolFile::Bundle), wanted);
+    if len.is_none() {
+        same(rt, number, sync(&mut vol, bundle), Ok(()));
+        same(rt, number, desk.folder.counts.get(), NONE);
+        same(rt, number, write(&mut vol, bundle, 0, b"a"), Ok(()));
+    }
+    same(rt, number, sync(&mut vol, bundle), wanted);
     // A sync of the name that failed is made again.
     desk.fault.set(Fault::Nothing);
-    same(rt, number, sync(&mut vol, VolFile::Bundle), Ok(()));
+    same(rt, number, sync(&mut vol, bundle), Ok(()));
     same(rt, number, desk.folder.counts.get(), folder);
 }
 
-// The folder that is synced once a file of this path was made.
+// The folder that is synced where a file of this path is made.
 fn folder_of(rt: &impl Abort, alloc: Global, path: &str) -> &'static str {
     let desk = desk_with(rt, alloc, None, Fault::Nothing);
     let mut vol = volume_on(rt, alloc, &desk, path);
@@ -134,18 +216,62 @@ fn folder_of(rt: &impl Abort, alloc: Global, path: &str) -> &'static str {
 }
 
 #[test]
-fn a_new_name_is_synced_where_the_machine_can(rt: HostRuntime) {
+fn a_name_is_synced_by_whoever_uses_it_first(rt: HostRuntime) {
     for (fault, wanted, opens, syncs) in [
         (Fault::Nothing, Ok(()), 1, 1),
         (Fault::OpenFolder, Ok(()), 1, 0),
         (Fault::FolderCalls, Ok(()), 1, 1),
         (Fault::SyncFolder, Err(Failed), 2, 2),
+        (Fault::ReadLink, Err(Failed), 1, 1),
     ] {
         let folder = opened_and_synced(opens, syncs);
-        new_name_is_synced(&rt, rt.alloc(), fault, wanted, folder);
+        name_is_synced(&rt, rt.alloc(), None, fault, wanted, folder);
+        name_is_synced(&rt, rt.alloc(), Some(6), fault, wanted, folder);
     }
+}
+
+#[test]
+fn the_folder_is_that_of_the_file(rt: HostRuntime) {
+    for (path, folder) in [
+        ("/b", "/"),
+        ("b", "."),
+        ("a/c/b", "a/c"),
+        // A link, and a link to a link.
+        ("shelf/link", "shelf/../far"),
+        ("shelf/chain", "/"),
+    ] {
+        same(&rt, path, folder_of(&rt, rt.alloc(), path), folder);
+    }
+    // Links that do not end.
+    let desk = desk_with(&rt, rt.alloc(), Some(6), Fault::Nothing);
+    let mut vol = volume_on(&rt, rt.alloc(), &desk, "round");
+    same(&rt, "round", sync(&mut vol, VolFile::Bundle), Err(Failed));
+}
+
+// Whether three numbers are held on a machine that refuses this, by which folder, and how often a
+// folder was asked for.
+fn holds(rt: &impl Abort, alloc: Global, fault: Fault) -> (bool, &'static str, u32) {
+    let desk = desk_with(rt, alloc, None, fault);
+    let held = hold_numbers(&machine_of(rt, &desk));
+    let opens = desk.folder.counts.get().opens;
+    (held.is_some(), desk.opened_folder(), opens)
+}
+
+#[test]
+fn three_numbers_are_held_by_a_folder_that_opens(rt: HostRuntime) {
     let alloc = rt.alloc();
-    same(&rt, "/b", folder_of(&rt, alloc, "/b"), "/");
-    same(&rt, "b", folder_of(&rt, alloc, "b"), ".");
-    same(&rt, "a/c/b", folder_of(&rt, alloc, "a/c/b"), "a/c");
+    same(
+        &rt,
+        "root",
+        holds(&rt, alloc, Fault::Nothing),
+        (true, "/", 3),
+    );
+    same(
+        &rt,
+        "here",
+        holds(&rt, alloc, Fault::OpenRoot),
+        (true, ".", 3),
+    );
+    let (is_held, _, _) = holds(&rt, alloc, Fault::OpenFolder);
+    same(&rt, "none", is_held, false);
 }

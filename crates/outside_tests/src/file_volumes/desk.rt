@@ -7,6 +7,7 @@ use std::cell::Cell;
 use std::fs::{Metadata, OpenFile, OpenOptions};
 use std::io;
 use std::io::{ErrorKind, Read, Seek, SeekFrom, Write};
+use std::path::PathBuf;
 use std::rc::Rc;
 use std::rt::Files;
 
@@ -22,6 +23,8 @@ pub(crate) enum Fault {
     Cut,
     Sync,
     OpenFolder,
+    OpenRoot,
+    ReadLink,
     SyncFolder,
     FolderCalls,
 }
@@ -61,6 +64,11 @@ pub(crate) struct Drawer {
     pub(crate) letter: u8,
     pub(crate) len: Cell<Option<u64>>,
     pub(crate) counts: Cell<Counts>,
+    /// What the machine answers where it is to be opened for writing.
+    pub(crate) refusal: Cell<Option<ErrorKind>>,
+    /// Where the last read and the last write began.
+    pub(crate) read_at: Cell<u64>,
+    pub(crate) wrote_at: Cell<u64>,
 }
 
 impl Drawer {
@@ -69,6 +77,9 @@ impl Drawer {
             letter,
             len: Cell::new(len),
             counts: Cell::new(NONE),
+            refusal: Cell::new(None),
+            read_at: Cell::new(0),
+            wrote_at: Cell::new(0),
         }
     }
 
@@ -88,6 +99,11 @@ impl Drawer {
         if fault == refusal {
             return Err(error(ErrorKind::PermissionDenied));
         }
+        if let Some(kind) = self.refusal.get() {
+            if how.asks_write() {
+                return Err(error(kind));
+            }
+        }
         let is_there = self.len.get().is_some();
         if !is_there && !how.asks_create() {
             return Err(error(ErrorKind::NotFound));
@@ -106,6 +122,7 @@ pub(crate) enum Folder {
     Root,
     Here,
     Inner,
+    Far,
 }
 
 impl Folder {
@@ -115,6 +132,7 @@ impl Folder {
             Folder::Root => "/",
             Folder::Here => ".",
             Folder::Inner => "a/c",
+            Folder::Far => "shelf/../far",
         }
     }
 }
@@ -128,11 +146,24 @@ pub(crate) enum Place {
 fn place_of(path: &str) -> Option<Place> {
     match path {
         "shelf/b" | "/b" | "b" | "a/c/b" => Some(Place::File(VolFile::Bundle)),
-        "shelf/j" => Some(Place::File(VolFile::Journal)),
+        "shelf/link" | "shelf/chain" | "round" => Some(Place::File(VolFile::Bundle)),
+        "shelf/b.jnl" => Some(Place::File(VolFile::Journal)),
         "shelf" => Some(Place::Folder(Folder::Shelf)),
         "/" => Some(Place::Folder(Folder::Root)),
         "." => Some(Place::Folder(Folder::Here)),
         "a/c" => Some(Place::Folder(Folder::Inner)),
+        "shelf/../far" => Some(Place::Folder(Folder::Far)),
+        _ => None,
+    }
+}
+
+// What the links say.
+fn link_at(path: &str) -> Option<&'static str> {
+    match path {
+        "shelf/link" => Some("../far/b"),
+        "shelf/chain" => Some("next"),
+        "shelf/next" => Some("/b"),
+        "round" => Some("round"),
         _ => None,
     }
 }
@@ -219,6 +250,7 @@ impl Read for Handle {
         if is_late && self.desk.fault.get() == Fault::ReadMidway {
             return Err(error(ErrorKind::Other));
         }
+        self.drawer().read_at.set(self.at);
         let mut counts = self.drawer().counts.get();
         counts.reads = counts.reads.wrapping_add(1);
         self.drawer().counts.set(counts);
@@ -243,6 +275,7 @@ impl Write for Handle {
         if is_late && self.desk.fault.get() == Fault::WriteMidway {
             return Err(error(ErrorKind::StorageFull));
         }
+        self.drawer().wrote_at.set(self.at);
         let mut counts = self.drawer().counts.get();
         counts.writes = counts.writes.wrapping_add(1);
         self.drawer().counts.set(counts);
@@ -318,6 +351,9 @@ impl Files for Machine {
         };
         let desk = self.desk.clone()?;
         if let Place::Folder(folder) = place {
+            if matches!(folder, Folder::Root) && desk.fault.get() == Fault::OpenRoot {
+                return Err(error(ErrorKind::PermissionDenied));
+            }
             desk.opened.set(Some(folder));
         }
         desk.drawer(place).open(how, desk.fault.get())?;
@@ -363,5 +399,15 @@ impl Files for Machine {
 
     fn remove_dir_all<B: Allocator>(&self, _alloc: B, _path: &str) -> io::Result<()> {
         Err(error(ErrorKind::Unsupported))
+    }
+
+    fn read_link<B: Allocator>(&self, alloc: B, path: &str) -> io::Result<PathBuf<B>> {
+        if self.desk.fault.get() == Fault::ReadLink {
+            return Err(error(ErrorKind::Other));
+        }
+        match link_at(path) {
+            Some(text) => Ok(PathBuf::from_str(alloc, text)?),
+            None => Err(error(ErrorKind::InvalidInput)),
+        }
     }
 }

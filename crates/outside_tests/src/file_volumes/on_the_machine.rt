@@ -81,6 +81,33 @@ fn files_of_the_machine_are_written_and_read_back(rt: HostRuntime) {
     }
 }
 
+// A place behind 4 GiB. What is before it is a hole, which takes no room on the disk.
+const FAR: u64 = (1 << 32) + 5;
+
+#[test]
+fn a_file_is_longer_than_4_gib(rt: HostRuntime) {
+    for file in BOTH {
+        is_removed(&rt, file);
+        let mut vol = volume_of_the_machine(&rt, rt);
+        let (mut near, mut far) = ([9; 4], [9; 4]);
+        same(&rt, "write", write(&mut vol, file, FAR, b"abc"), Ok(()));
+        same(&rt, "length", len(&mut vol, file), Ok(FAR + 3));
+        same(&rt, "far", read(&mut vol, file, FAR - 1, &mut far), Ok(4));
+        same(&rt, "far", far, *b"\0abc");
+        same(&rt, "near", read(&mut vol, file, 5, &mut near), Ok(4));
+        same(&rt, "near", near, [0; 4]);
+        same(
+            &rt,
+            "behind",
+            read(&mut vol, file, FAR + 4, &mut far),
+            Ok(0),
+        );
+        same(&rt, "cut", cut(&mut vol, file, FAR + 1), Ok(()));
+        same(&rt, "left", len(&mut vol, file), Ok(FAR + 1));
+        same(&rt, "removed", is_removed(&rt, file), true);
+    }
+}
+
 #[test]
 fn a_folder_is_no_file(rt: HostRuntime) {
     for (file, bundle, journal) in [

@@ -2,8 +2,9 @@ use super::{
     expect_build, expect_entry, expect_length, expect_one_tile, expect_put, expect_tile, two_tiles,
 };
 use crate::same::same;
-use crate::stores::{FRESH, LARGE, SMALL, check_fit, empty_volume, expect_bytes, first_slot};
-use bundle_index::Entry;
+use crate::stores::{
+    FRESH, LARGE, SMALL, check_fit, empty_volume, expect_bytes, first_slot, last_slot,
+};
 use bundle_store::{BuiltSize, Session, StoreFault, TileRec, built_size};
 use outside_io::{VolFile, Volume};
 use std::alloc::Global;
@@ -31,21 +32,6 @@ fn a_build_of_no_tiles(rt: HostRuntime) {
     same(&rt, "index", index_is_zero(&mut vol), true);
 }
 
-/// The row's first entry has these numbers, and its second one is 0.
-fn expect_first_row<V: Volume>(
-    rt: &impl Abort,
-    alloc: Global,
-    vol: &mut V,
-    offset: u64,
-    size: u32,
-) {
-    let mut row = [Entry { offset: 0, size: 0 }; 128];
-    let session = Session::open(alloc, vol).expect(rt, "open");
-    session.row_entries(vol, 0, &mut row).expect(rt, "row");
-    same(rt, "first", row[0], Entry { offset, size });
-    same(rt, "second", row[1], Entry { offset: 0, size: 0 });
-}
-
 #[test]
 fn a_build_keeps_the_last_tile_of_a_slot(rt: HostRuntime) {
     let alloc = rt.alloc();
@@ -55,7 +41,7 @@ fn a_build_keeps_the_last_tile_of_a_slot(rt: HostRuntime) {
     expect_build(&rt, alloc, &mut vol, &two_tiles(&rt, alloc), Ok(()));
     expect_length(&rt, alloc, &mut vol, 131206);
     expect_entry(&rt, alloc, &mut vol, slot, 131140, 66);
-    expect_first_row(&rt, alloc, &mut vol, 131140, 66);
+    expect_entry(&rt, alloc, &mut vol, last_slot(&rt), 0, 0);
     expect_bytes(&rt, &mut vol, VolFile::Bundle, 64, &word);
     expect_tile(&rt, alloc, &mut vol, slot, &SMALL);
 }

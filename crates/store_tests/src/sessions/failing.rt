@@ -3,7 +3,7 @@ ghost use Rattle.std.specs.Prelude.{◌≡◌, true};
 use super::{build, expect_tile, fault_of_get, put, report, two_tiles};
 use crate::same::same;
 use crate::stores::{LARGE, SMALL, failing_volume, first_slot};
-use bundle_index::{Entry, Slot};
+use bundle_index::Slot;
 use bundle_store::{Session, StoreFault, TileRec, recover};
 use outside_io::{MemVolume, Volume};
 use std::alloc::Global;
@@ -18,11 +18,9 @@ fn is_stopped(rt: &impl Abort, at: &str, fault: Option<StoreFault>) {
 fn expect_stopped<V: Volume>(rt: &impl Abort, session: &mut Session, vol: &mut V, slot: Slot)
     requires { session.old.stopped ≡ true }
 {
-    let mut row = [Entry { offset: 0, size: 0 }; 128];
     is_stopped(rt, "length", session.length(vol).err());
     is_stopped(rt, "check", session.check(vol).err());
     is_stopped(rt, "entry", session.entry(vol, slot).err());
-    is_stopped(rt, "row", session.row_entries(vol, 0, &mut row).err());
     is_stopped(rt, "get", session.get(vol, slot).err());
     is_stopped(rt, "put", session.put_blob(vol, slot, &[]).err());
     is_stopped(rt, "build", session.build(vol, &[]).err());
@@ -46,10 +44,10 @@ fn expect_stop(rt: &impl Abort, alloc: Global, number: u64) {
     same(rt, number, put(alloc, &mut vol, slot, &SMALL), Ok(()));
 }
 
-// Recovery and opening make 4 calls, and a first put 44.
+// Recovery and opening make 4 calls, and a first put 27.
 #[test]
 fn a_put_that_fails_stops_its_session(rt: HostRuntime) {
-    for number in 4..48 {
+    for number in 4..31 {
         expect_stop(&rt, rt.alloc(), number);
     }
 }
@@ -64,16 +62,16 @@ fn expect_failed_build(rt: &impl Abort, alloc: Global, tiles: &[TileRec], number
         Err(StoreFault::Device),
     );
     let again = build(alloc, &mut vol, tiles) == Ok(());
-    same(rt, number, again || number == 33, true);
+    same(rt, number, again || number == 18, true);
     expect_tile(rt, alloc, &mut vol, first_slot(rt), &SMALL);
 }
 
-// Recovery and opening make 4 calls, and a build of one tile on an empty file 30. The gate is
-// closed by the call of number 32: where its sync fails, the bundle is whole.
+// Recovery and opening make 4 calls, and a build of one tile on an empty file 15. The gate is
+// closed by the call of number 17: where its sync fails, the bundle is whole.
 #[test]
 fn a_build_that_fails_can_be_made_again(rt: HostRuntime) {
     let tiles = two_tiles(&rt, rt.alloc());
-    for number in 4..34 {
+    for number in 4..19 {
         expect_failed_build(&rt, rt.alloc(), &tiles, number);
     }
 }
@@ -103,11 +101,11 @@ fn expect_failed_get(rt: &impl Abort, alloc: Global, number: u64) {
     expect_tile(rt, alloc, &mut vol, slot, &LARGE);
 }
 
-// A put on an empty file ends with the call of number 47; opening makes 2 calls, a get 2, and a
-// check 34.
+// A put on an empty file ends with the call of number 30; opening makes 3 calls, a get 1, and a
+// check of one tile 2.
 #[test]
 fn a_read_that_fails_is_told(rt: HostRuntime) {
-    for number in 48..52 {
+    for number in 31..35 {
         expect_failed_get(&rt, rt.alloc(), number);
     }
 }
@@ -122,16 +120,16 @@ fn expect_failed_check(rt: &impl Abort, alloc: Global, number: u64) {
 
 #[test]
 fn a_check_that_fails_says_so(rt: HostRuntime) {
-    for number in [48, 49, 50, 51, 65, 81, 82, 83] {
+    for number in 31..36 {
         expect_failed_check(&rt, rt.alloc(), number);
     }
 }
 
-/// Where a put's call of number 43 fails and recovery's of that number, recovery says so, and can
+/// Where a put's call of number 26 fails and recovery's of that number, recovery says so, and can
 /// be made again.
 fn expect_failed_recovery(rt: &impl Abort, alloc: Global, number: u64) {
     let slot = first_slot(rt);
-    let mut vol = failing_volume(rt, alloc, &[43, number]);
+    let mut vol = failing_volume(rt, alloc, &[26, number]);
     same(
         rt,
         number,
@@ -143,11 +141,11 @@ fn expect_failed_recovery(rt: &impl Abort, alloc: Global, number: u64) {
     expect_tile(rt, alloc, &mut vol, slot, &LARGE);
 }
 
-// The put's header is written by the call of number 43, so its journal is open from there on.
+// The put's header is written by the call of number 26, so its journal is open from there on.
 // Recovery then makes ten calls.
 #[test]
 fn a_recovery_that_fails_can_be_made_again(rt: HostRuntime) {
-    for number in 44..54 {
+    for number in 27..37 {
         expect_failed_recovery(&rt, rt.alloc(), number);
     }
 }

@@ -4,8 +4,8 @@ use super::{
 };
 use crate::same::same;
 use crate::stores::{LARGE, SMALL, empty_volume, expect_bytes, first_slot, last_slot, volume};
-use bundle_index::{BundleHeader, Slot};
-use bundle_store::StoreFault;
+use bundle_index::{BundleHeader, Entry, Slot};
+use bundle_store::{Session, StoreFault, recover};
 use outside_io::{MemVolume, VolFile, Volume};
 use std::alloc::Global;
 use std::process::Abort;
@@ -56,22 +56,28 @@ fn a_first_put(rt: HostRuntime) {
     expect_tile(&rt, alloc, &mut vol, last_slot(&rt), &SMALL);
 }
 
-const BODY: [u8; 32] =
-    *b"\x00LBJRNL1\x01\x00\xff\x3f\x00\x00\x00\x00\x44\x00\x02\x00\x00\x42\x00\x00\x86\x00\x02\x00\
-    \x00\x00\x00\x00";
+/// What stands in front of the header in the journal of a first put, and what stands behind it.
+const BODY: [u8; 24] =
+    *b"\x00LBJRNL2\x01\x01\x00\x00\x00\x00\x00\x00\x86\x00\x02\x00\x00\x00\x00\x00";
 
-/// The journal has these bytes, and then those of the bundle's header.
-fn expect_journal<V: Volume>(rt: &impl Abort, vol: &mut V, body: &[u8]) {
+const RECORD: [u8; 16] = *b"\xff\x3f\x00\x00\x00\x00\x00\x00\x44\x00\x02\x00\x00\x42\x00\x00";
+
+/// The journal has these bytes, those of the bundle's header, these, and zeros.
+fn expect_journal<V: Volume>(rt: &impl Abort, vol: &mut V, front: &[u8], behind: &[u8]) {
     let header = header_of(rt, vol);
-    same(rt, "length", vol.len(VolFile::Journal).ok(), Some(96));
-    expect_bytes(rt, vol, VolFile::Journal, 0, body);
-    expect_bytes(rt, vol, VolFile::Journal, 32, &header);
+    same(rt, "length", vol.len(VolFile::Journal).ok(), Some(1112));
+    expect_bytes(rt, vol, VolFile::Journal, 0, front);
+    expect_bytes(rt, vol, VolFile::Journal, 24, &header);
+    expect_bytes(rt, vol, VolFile::Journal, 88, behind);
+    let mut rest = [1; 1008];
+    let got = vol.read(VolFile::Journal, 104, &mut rest).ok();
+    same(rt, "rest", (got, rest == [0; 1008]), (Some(1008), true));
 }
 
 #[test]
 fn the_journal_of_a_first_put(rt: HostRuntime) {
     let mut vol = one_put(&rt, rt.alloc());
-    expect_journal(&rt, &mut vol, &BODY);
+    expect_journal(&rt, &mut vol, &BODY, &RECORD);
 }
 
 #[test]
@@ -161,4 +167,53 @@ fn entries_that_a_check_finds_bad(rt: HostRuntime) {
         &[0x8a, 0, 2, 0, 0, 0x48, 0, 0],
         (2, 144, 0, false),
     );
+}
+
+/// A session that is opened on the volume puts the tile, and has the slot's new entry at the same
+/// moment; a get of another slot finds no tile at that moment, too.
+fn expect_kept_entry<V: Volume>(
+    rt: &impl Abort,
+    alloc: Global,
+    vol: &mut V,
+    tile: &[u8],
+    wanted: Entry,
+) {
+    recover(vol).expect(rt, "recover");
+    let mut session = Session::open(alloc, vol).expect(rt, "open");
+    session.put_blob(vol, last_slot(rt), tile).expect(rt, "put");
+    let moment = vol.moment();
+    same(rt, "entry", session.entry(vol, last_slot(rt)), Ok(wanted));
+    let none = session.get(vol, first_slot(rt)).err();
+    same(rt, "first slot", none, Some(StoreFault::NoTile));
+    same(rt, "moment", vol.moment(), moment);
+}
+
+#[test]
+fn an_entry_after_a_put_takes_no_device_call(rt: HostRuntime) {
+    let alloc = rt.alloc();
+    let mut vol = empty_volume(&rt, alloc);
+    let first = Entry {
+        offset: 131140,
+        size: 66,
+    };
+    let second = Entry {
+        offset: 131210,
+        size: 72,
+    };
+    expect_kept_entry(&rt, alloc, &mut vol, &SMALL, first);
+    expect_kept_entry(&rt, alloc, &mut vol, &LARGE, second);
+}
+
+#[test]
+fn a_tile_above_65535_bytes_is_put_and_got(rt: HostRuntime) {
+    let (alloc, slot) = (rt.alloc(), first_slot(&rt));
+    let mut vol = empty_volume(&rt, alloc);
+    let tile = vec![in alloc; 7; 70_000].expect(&rt, "memory");
+    same(
+        &rt,
+        "put",
+        put(alloc, &mut vol, slot, tile.as_slice()),
+        Ok(()),
+    );
+    expect_tile(&rt, alloc, &mut vol, slot, tile.as_slice());
 }

@@ -4,7 +4,7 @@ use Rattle.outside_io.specs.declared.streams.failed.Failed.{Failed}
 use Rattle.outside_io.specs.streams.Source.{IsAtEnd}
 use Rattle.raster_values.specs.ReadGrid.{TookBytes, TookSome}
 use Rattle.lerc_header.specs.declared.header.Version.{Version}
-use Rattle.lerc_encode.specs.Choice.{choice}
+use Rattle.lerc_encode.specs.Choice.{chosen_blob}
 use Rattle.lerc_encode.specs.Encoded.{IsEncodedOnce, NeedsV4}
 use Rattle.bundle_store.specs.declared.tile_rec.TileRec.{TileRec}
 use Rattle.tile_stream.specs.declared.tile.Tile.{Tile}
@@ -27,13 +27,13 @@ pub record IsRoomy (done : SoFar) : Type 0 where
 pub record IsMade (v : Version) (step kept : ℕ) (t : Tile) (update : TileRec) : Type 0 where
   pub update_is : update ≡ update_of v step t
   pub passes : Passes v step t
-  pub within : kept + length (choice t.raster v step) ≤ 2 ^ 30
-  pub encoded : IsEncodedOnce (choice t.raster v step) t.raster step
+  pub within : kept + length (chosen_blob t.raster v step) ≤ 2 ^ 30
+  pub encoded : IsEncodedOnce (chosen_blob t.raster v step) t.raster step
 
 -- the tile passes, and with its blob there are too many bytes
 pub record IsAbove (v : Version) (step kept : ℕ) (t : Tile) : Type 0 where
   pub passes : Passes v step t
-  pub above : 2 ^ 30 < kept + length (choice t.raster v step)
+  pub above : 2 ^ 30 < kept + length (chosen_blob t.raster v step)
 
 -- a whole tile is refused so
 abbrev pub RefusesTile : Version → ℕ → SoFar → Tile → StreamStop → Type 0
@@ -62,7 +62,7 @@ pub record AddsTile (v : Version) (step : ℕ) (old new : Option (List ℕ))
   pub made : IsMade v step before.kept tile (update_of v step tile)
   pub updates : after.updates.items ≡ before.updates.items ++ update_of v step tile ∷ []
   pub place : after.place ≡ before.place + length bytes
-  pub kept : after.kept ≡ before.kept + length (choice tile.raster v step)
+  pub kept : after.kept ≡ before.kept + length (chosen_blob tile.raster v step)
 
 abbrev pub AddsOne : Version → ℕ → Option (List ℕ) → Option (List ℕ) → SoFar → SoFar → Bool →
     Type 0
@@ -107,7 +107,7 @@ pub record IsSoFar (v : Version) (step : ℕ) (old now : Option (List ℕ)) (don
   pub stream : IsStream front tiles
   pub took : TookBytes old now front
   pub pass : AllPass v step tiles
-  pub encoded : All (λ t. IsEncodedOnce (choice t.raster v step) t.raster step) tiles
+  pub encoded : All (λ t. IsEncodedOnce (chosen_blob t.raster v step) t.raster step) tiles
   pub updates_are : done.updates.items ≡ updates_of v step tiles
   pub place_is : done.place ≡ length front
   pub place_below : done.place ≤ 83886100 * length tiles

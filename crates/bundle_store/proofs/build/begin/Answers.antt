@@ -1,12 +1,12 @@
-use Rattle.std.proofs.Common.{◌≡◌, inl, refl, ℕ, suc, List, [], ◌∷◌, drop, get_or, length, sym, ap, ◌∙◌, subst, arith}
+use Rattle.std.proofs.Common.{◌≡◌, inl, inr, refl, ℕ, suc, List, [], ◌∷◌, drop, get_or, length, sym, ap, ◌∙◌, subst, arith}
 use Rattle.std.proofs.lemmas.Result.{IfOk-from_err, on_ok_weaker}
 use Rattle.outside_io.specs.volume.Disk.{Disk, File, settled}
 use Rattle.outside_io.specs.volume.History.{current}
 use Rattle.outside_io.proofs.VolumeLemmas.Moments.{during_end, during_join, during_map}
 use Rattle.side_journal.specs.declared.body.Body.TheVariants.{Build}
-use Rattle.side_journal.specs.Says.{SaysBuild}
+use Rattle.side_journal.specs.Says.{IsWhole, SaysBuild}
 use Rattle.side_journal.specs.Bodies.{build_bytes}
-use Rattle.side_journal.proofs.Spells.{length-body_bytes, says_behind, says_body}
+use Rattle.side_journal.proofs.Spells.{build_whole, length-body_bytes, says_behind, says_body}
 use Rattle.bundle_store.specs.Images.{EachImage}
 use Rattle.bundle_store.specs.Tiles.{no_tiles}
 use Rattle.bundle_store.proofs.Recovering.{tiles_empty}
@@ -47,7 +47,7 @@ returns-clause-bundle g c = λ told.
 pub open_gate-requires-clause-whole : goal.open_gate-requires-clause-whole
 open_gate-requires-clause-whole g c = λ told.
     let told_1 = sym c.arm.ensures.told ∙ told in
-    ap (λ (d : Disk). length d.journal.now) (c.in_ok-arm.ensures.done told_1) ∙ ap (λ (n : ℕ). suc n) (length-body_bytes Build tt)
+    inr (ap (λ (d : Disk). length d.journal.now) (c.in_ok-arm.ensures.done told_1) ∙ ap (λ (n : ℕ). suc n) (length-body_bytes Build tt))
 
 pub returns-clause-journal : goal.returns-clause-journal
 returns-clause-journal g c = λ told.
@@ -59,10 +59,10 @@ returns-clause-journal g c = λ told.
     on_ok_weaker c.open_gate.result (λ is.
     let now = ap (λ (d : Disk). d.journal) is in
     let bytes = ap (λ (f : File). f.now) now in
-    let moved = says_behind next.journal.now (1 ∷ drop 1 next.journal.now) (length-gated 1 next.journal.now says.whole) refl Build says in
+    let moved = says_behind next.journal.now (1 ∷ drop 1 next.journal.now) (length-gated 1 next.journal.now (build_whole next.journal.now says)) refl Build says in
     record {
       journal = now ∙ ap settled (sym bytes);
-      opened = record { whole = ap length bytes ∙ moved.whole; gate = λ shut. absurd (omega (arith, shut, ap (λ (l : List ℕ). get_or l 0 0) bytes)) };
+      opened = record { whole = subst (λ (l : List ℕ). IsWhole (length l)) (sym bytes) (build_whole (1 ∷ drop 1 next.journal.now) moved); gate = λ shut. absurd (omega (arith, shut, ap (λ (l : List ℕ). get_or l 0 0) bytes)) };
       says = subst SaysBuild (sym bytes) moved;
     }) (c.open_gate.ensures.done (c.arm.ensures.told ∙ told_1))
 
@@ -80,7 +80,7 @@ returns-clause-images g c = λ told.
     let journal_2 : next.journal.now ≡ 0 ∷ build_bytes = ap (λ (d : Disk). d.journal.now) done in
     let says : SaysBuild next.journal.now = subst SaysBuild (sym journal_2) (says_body 0 Build tt tt) in
     let bundle_2 = ap (λ (d : Disk). d.bundle) done ∙ bundle_1 in
-    let opening = during_map _ Pass _ _ (λ d. in_gate [] next.journal.now Build no_tiles (λ map. map ≡ no_tiles) next d says.whole says (inl refl) tiles_empty refl refl bundle_2 refl) (c.open_gate.ensures.during (c.arm.ensures.told ∙ told_1)) in
+    let opening = during_map _ Pass _ _ (λ d. in_gate [] next.journal.now Build no_tiles (λ map. map ≡ no_tiles) next d (build_whole next.journal.now says) says (inl refl) tiles_empty refl refl bundle_2 refl) (c.open_gate.ensures.during (c.arm.ensures.told ∙ told_1)) in
     during_join Pass _ _ _ arming opening
 
 pub returns-in_err-prepare-clause-journal : goal.returns-in_err-prepare-clause-journal

@@ -4,6 +4,7 @@ use Rattle.outside_io.specs.volume.Disk.{Disk, File, IsSettled, settled}
 use Rattle.outside_io.specs.volume.History.{current}
 use Rattle.outside_io.proofs.VolumeLemmas.Moments.{during_end, during_join, during_map}
 use Rattle.side_journal.specs.declared.body.Body.TheVariants.{Build}
+use Rattle.side_journal.specs.Says.{IsWhole}
 use Rattle.bundle_store.specs.inside.Parts.{IsBegun, KeepsJournal}
 use Rattle.bundle_store.specs.inside.Table.{table_map}
 use Rattle.bundle_store.specs.Images.{EachImage, EmptyOr}
@@ -48,7 +49,7 @@ returns-clause-images g c = λ told.
     let bundle = c.in_ok-lay_out.ensures.bundle told_1 in
     let kept : KeepsJournal next last = during_end (KeepsJournal next) (g.V.Volume.history c.begin.new.vol) (g.V.Volume.history c.lay_out.new.vol) (c.lay_out.ensures.during told_1) in
     let journal = ap (λ (f : File). f.now) kept.journal in
-    let closing = during_map _ Pass _ _ (λ d. in_gate (layout map) next.journal.now Build no_tiles (EmptyOr map) last d begun.says.whole begun.says (inr (layout_bundle map c.requires.tiles)) (inr (layout_tiles map c.requires.tiles)) refl (inl refl) bundle journal) (c.close_gate.ensures.during (c.lay_out.ensures.told ∙ told_1)) in
+    let closing = during_map _ Pass _ _ (λ d. in_gate (layout map) next.journal.now Build no_tiles (EmptyOr map) last d begun.opened.whole begun.says (inr (layout_bundle map c.requires.tiles)) (inr (layout_tiles map c.requires.tiles)) refl (inl refl) bundle journal) (c.close_gate.ensures.during (c.lay_out.ensures.told ∙ told_1)) in
     during_join Pass _ _ _ laying closing
 
 pub close_gate-requires-clause-whole : goal.close_gate-requires-clause-whole
@@ -56,7 +57,7 @@ close_gate-requires-clause-whole g c = λ told_2.
     let told_1 = sym c.lay_out.ensures.told ∙ told_2 in
     let begun = c.in_ok-begin.ensures.journal (sym c.begin.ensures.told ∙ told_1) in
     let kept = during_end _ _ _ (c.lay_out.ensures.during told_1) in
-    ap (λ (f : File). length f.now) kept.journal ∙ begun.opened.whole
+    subst IsWhole (sym (ap (λ (f : File). length f.now) kept.journal)) begun.opened.whole
 
 pub close_gate-requires-clause-settled : goal.close_gate-requires-clause-settled
 close_gate-requires-clause-settled g c = λ told_2.

@@ -35,7 +35,7 @@ returns-clause-images g c = λ told.
 pub returns-clause-rest : goal.returns-clause-rest
 returns-clause-rest g c = λ told.
     let map = table_map c.args.tiles.now c.args.table.now in
-    holds_rest (layout map) (current (g.V.Volume.history c.build_empty.new.vol)) (opens_layout map c.requires.tiles) (c.in_ok-build_empty.ensures.done (c.len.ensures.told ∙ told))
+    holds_rest (layout map) c.build_empty.new.front (current (g.V.Volume.history c.build_empty.new.vol)) (opens_layout map c.requires.tiles) c.in_ok-build_empty.ensures.keeps (c.in_ok-build_empty.ensures.done (c.len.ensures.told ∙ told))
 
 pub returns-in_err-build_empty-clause-images : goal.returns-in_err-build_empty-clause-images
 returns-in_err-build_empty-clause-images g c = λ told.
@@ -77,9 +77,10 @@ returns-clause-beside g c = λ told some.
 
 pub returns-then-len-ne0-clause-rest : goal.returns-then-len-ne0-clause-rest
 returns-then-len-ne0-clause-rest g c = λ told.
-    subst IsAtRest (sym (c.len.ensures.disk told))
+    subst (IsAtRest c.args.front.now) (sym (c.len.ensures.disk told))
     (record {
       opens = c.requires.opens told;
+      keeps = c.requires.keeps told;
       quiet = c.requires.quiet told;
       closed = c.requires.closed told;
     })

@@ -1,4 +1,5 @@
-use Rattle.std.proofs.Common.{◌≡◌, inl, inr, length, sym, ap, ◌∙◌, subst}
+use Rattle.std.proofs.lemmas.Result.{on_ok_weaker}
+use Rattle.std.proofs.Common.{◌≡◌, inl, inr, ℕ, List, length, sym, ap, ◌∙◌, subst}
 use Rattle.outside_io.specs.volume.Disk.{File}
 use Rattle.outside_io.specs.volume.History.{current}
 use Rattle.outside_io.proofs.VolumeLemmas.Moments.{during_join, during_map}
@@ -6,6 +7,8 @@ use Rattle.bundle_store.specs.Images.{EachImage, WithOrWithout}
 use Rattle.bundle_store.specs.Tiles.{IsBundle, TileMap, tiles}
 use Rattle.bundle_store.proofs.Standing.{weaker}
 use Rattle.bundle_store.specs.Images.{EmptyOr}
+use Rattle.bundle_store.specs.Appended.{bundle_with_tile}
+use Rattle.bundle_store.specs.Kept.{Keeps}
 use Rattle.bundle_store.specs.Layout.{layout}
 use Rattle.bundle_store.specs.Tiles.{no_tiles}
 use Rattle.bundle_store.proofs.Layouts.{layout_bundle, layout_tiles, length-nothing, nothing_fits}
@@ -31,3 +34,14 @@ returns-clause-images g c = λ told.
     let none : tiles next.bundle.now ≡ no_tiles = ap tiles bundle ∙ layout_tiles no_tiles nothing_fits in
     let putting = during_map _ (EachImage Either) _ _ (λ d each. subst (λ (m : TileMap). EachImage (WithOrWithout c.args.slot c.args.tile.now m) d) none (each (subst IsBundle (sym bundle) (layout_bundle no_tiles nothing_fits)))) (c.put_on_bundle.ensures.images (c.build_empty.ensures.told ∙ told)) in
     during_join (EachImage Either) _ _ _ building putting
+
+pub put_on_bundle-requires-clause-keeps : goal.put_on_bundle-requires-clause-keeps
+put_on_bundle-requires-clause-keeps g c = λ told.
+    let done = c.in_ok-build_empty.ensures.done (sym c.build_empty.ensures.told ∙ told) in
+    subst (Keeps c.build_empty.new.front) (sym (ap (λ (f : File). f.now) done.bundle_is)) c.in_ok-build_empty.ensures.keeps
+
+pub returns-clause-keeps : goal.returns-clause-keeps
+returns-clause-keeps g c = λ told.
+    let done = c.in_ok-build_empty.ensures.done told in
+    let bundle = ap (λ (f : File). f.now) done.bundle_is in
+    on_ok_weaker c.put_on_bundle.result (λ keeps. subst (λ (b : List ℕ). Keeps c.put_on_bundle.new.front (bundle_with_tile b c.args.slot c.args.tile.now)) bundle keeps) (c.put_on_bundle.ensures.keeps (c.build_empty.ensures.told ∙ told))

@@ -14,6 +14,7 @@ use Rattle.bundle_store.proofs.Recovering.{tiles_empty}
 use Rattle.bundle_store.specs.inside.Parts.{IsAtRest}
 use Rattle.bundle_store.specs.Tiles.{Opens}
 use Rattle.bundle_store.specs.Appended.{bundle_with_tile}
+use Rattle.bundle_store.specs.Kept.{Keeps}
 use Rattle.bundle_store.specs.Layout.{layout}
 use Rattle.bundle_store.proofs.PutLaws.{on_bundle}
 use Rattle.bundle_store.proofs.Rests.{holds_rest, opens_nothing, opens_put}
@@ -112,18 +113,23 @@ returns-then-len-tile-clause-kept g c = λ told.
 
 pub returns-then-len-tile-clause-rest : goal.returns-then-len-tile-clause-rest
 returns-then-len-tile-clause-rest g c = λ told.
-    subst IsAtRest (sym (c.len.ensures.disk told)) (record { opens = c.requires.opens told; quiet = c.requires.quiet told; closed = c.requires.closed told })
+    subst (IsAtRest c.args.front.now) (sym (c.len.ensures.disk told)) (record { opens = c.requires.opens told; keeps = c.requires.keeps told; quiet = c.requires.quiet told; closed = c.requires.closed told })
 
 pub returns-in_ok-put_on_nothing-clause-rest : goal.returns-in_ok-put_on_nothing-clause-rest
 returns-in_ok-put_on_nothing-clause-rest g c = λ told.
-    holds_rest (bundle_with_tile (layout no_tiles) c.args.slot c.args.tile.now) (current (g.V.Volume.history c.put_on_nothing.new.vol))
-    (opens_nothing c.args.tile.now c.args.slot c.in_ok-put_on_nothing.ensures.slot c.requires.some c.requires.size) (c.in_ok-put_on_nothing.ensures.done (c.len.ensures.told ∙ told))
+    holds_rest (bundle_with_tile (layout no_tiles) c.args.slot c.args.tile.now) c.put_on_nothing.new.front (current (g.V.Volume.history c.put_on_nothing.new.vol))
+    (opens_nothing c.args.tile.now c.args.slot c.in_ok-put_on_nothing.ensures.slot c.requires.some c.requires.size) (c.in_ok-put_on_nothing.ensures.keeps (c.len.ensures.told ∙ told)) (c.in_ok-put_on_nothing.ensures.done (c.len.ensures.told ∙ told))
 
 pub returns-in_ok-put_on_bundle-clause-rest : goal.returns-in_ok-put_on_bundle-clause-rest
 returns-in_ok-put_on_bundle-clause-rest g c = λ told.
     let next = current (g.V.Volume.history c.len.new.self) in
     let opens : Opens next.bundle.now = subst (λ (d : Disk). Opens d.bundle.now) (sym (c.len.ensures.disk told)) (c.requires.opens told) in
     let size : length next.bundle.now ≡ c.in_ok-len.len = ap (λ (d : Disk). length d.bundle.now) (c.len.ensures.disk told) ∙ sym (c.in_ok-len.ensures.answer told) in
-    holds_rest (bundle_with_tile next.bundle.now c.args.slot c.args.tile.now) (current (g.V.Volume.history c.put_on_bundle.new.vol))
+    holds_rest (bundle_with_tile next.bundle.now c.args.slot c.args.tile.now) c.put_on_bundle.new.front (current (g.V.Volume.history c.put_on_bundle.new.vol))
     (opens_put next.bundle.now c.args.tile.now c.args.slot opens (λ zero. c.if-len-eq0.false (sym size ∙ zero)) c.put_on_bundle.ensures.slot c.requires.some c.requires.size (omega (arith, size, c.if-len-tile.false)))
-    (c.in_ok-put_on_bundle.ensures.done (c.len.ensures.told ∙ told))
+    (c.in_ok-put_on_bundle.ensures.keeps (c.len.ensures.told ∙ told)) (c.in_ok-put_on_bundle.ensures.done (c.len.ensures.told ∙ told))
+
+pub put_on_bundle-requires-clause-keeps : goal.put_on_bundle-requires-clause-keeps
+put_on_bundle-requires-clause-keeps g c = λ told_1.
+    let told = sym c.len.ensures.told ∙ told_1 in
+    subst (λ (d : Disk). Keeps c.args.front.now d.bundle.now) (sym (c.len.ensures.disk told)) (c.requires.keeps told)

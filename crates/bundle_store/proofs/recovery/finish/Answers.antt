@@ -14,7 +14,7 @@ returns-in-Closed-clause-images g c = λ told.
 pub returns-in-Tile-clause-images : goal.returns-in-Tile-clause-images
 returns-in-Tile-clause-images g c = λ told.
     keeps_finishing _ _ _ (c.requires.quiet told) (c.read_journal.ensures.during told)
-    (c.finish_tile.ensures.images (c.read_journal.ensures.told ∙ told))
+    (c.finish_group.ensures.images (c.read_journal.ensures.told ∙ told))
 
 pub returns-in_err-empty-in-Build-clause-images : goal.returns-in_err-empty-in-Build-clause-images
 returns-in_err-empty-in-Build-clause-images g c = λ told.

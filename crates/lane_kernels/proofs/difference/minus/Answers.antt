@@ -1,25 +1,20 @@
-use Rattle.std.proofs.Common.{ℤ, pos, ◌-ℤ◌, get_or, ap, ◌∙◌, arith}
-use Rattle.std.proofs.lemmas.Int.{ints, to_z-of_z}
-use mir.Syntax.{w64}
-use Rattle.lane_kernels.proofs.Caps.{reread}
-use Rattle.lane_kernels.proofs.Mapped.{mapped-more, mapped-all}
+use Rattle.std.proofs.Common.{◌≡◌, ◌+◌, ◌≤◌, take, drop, length, map, ap, ◌∙◌, sym, arith, ◌-ℤ◌}
+use Rattle.std.proofs.lemmas.List.Elements.{recursion_from_All, All-take, All-drop}
+use Rattle.lane_kernels.proofs.Eight.{IsSmall, same_bits, asks_all, eight_more}
 use Rattle.lane_kernels.proofs.difference.minus.Goals as goal
 
-pub loop-i-preserved : goal.loop-i-preserved
-loop-i-preserved c =
-    let values = c.args.values.now in
-    let difference = λ (v : ℤ). v -ℤ reread c.args.least in
-    let value = get_or values c.loop-i.i (pos 0) in
-    let small = c.requires.small c.loop-i.i (pos 0) c.loop-i-test.true in
-    let same = to_z-of_z w64 value (omega (arith, ints, small)) in
-    let exact = to_z-of_z w64 (difference (reread value)) (omega (arith, ints, small, same)) in
-    mapped-more difference values c.loop-i.out (pos 0) _ c.loop-i.i
-    c.loop-i-test.true (omega arith) c.loop-i.invariant (exact ∙ ap difference same)
+pub overflow_sub-out : goal.overflow_sub-out
+overflow_sub-out c =
+    asks_all c.args.least (take 8 (drop c.loop-at.at c.args.values.now)) 8 c.requires.small_least
+    (recursion_from_All IsSmall _ (All-take IsSmall 8 (drop c.loop-at.at c.args.values.now) (All-drop IsSmall c.loop-at.at c.args.values.now c.requires.small)))
 
-pub returns : goal.returns
-returns c =
-    let difference = λ (v : ℤ). v -ℤ reread c.args.least in
-    let all =
-    mapped-all difference c.args.values.now c.loop-i.out c.loop-i.i
-    (omega arith) (omega arith) c.loop-i.invariant in
-    simp (to_z-of_z w64 c.args.least c.ranges.least) at all
+pub loop-at-preserved : goal.loop-at-preserved
+loop-at-preserved c =
+    let values = c.args.values.now in
+    let bits = same_bits c.args.least c.requires.small_least in
+    let before : take c.loop-at.at c.loop-at.out ≡ map (λ v. v -ℤ c.args.least) (take c.loop-at.at values) = c.loop-at.invariant.1 ∙ ap (λ y. map (λ v. v -ℤ y) (take c.loop-at.at values)) bits in
+    let within : c.loop-at.at + 8 ≤ length values = omega arith in (
+      within,
+      eight_more c.args.least values c.loop-at.out c.loop-at.at (c.loop-at.auto.out ∙ c.requires.lengths) within c.requires.small_least c.requires.small before
+          ∙ ap (λ y. map (λ v. v -ℤ y) (take (c.loop-at.at + 8) values)) (sym bits),
+    )

@@ -1,30 +1,29 @@
-use Rattle.std.proofs.Common.{◌≡◌, ◌+◌, take, get_or, pos, ap, ◌∙◌, subst, arith, rules}
-use Rattle.std.specs.Int.{int_min, int_max}
-use Rattle.std.proofs.lemmas.Int.{ints, to_z-of_z}
-use Rattle.std.proofs.lemmas.List.{take_all}
-use mir.Syntax.{w64}
-use mir.Val.{SFits, to_z}
+use Rattle.std.proofs.Common.{◌≡◌, ◌*◌, ◌/◌, length, take, ap, ◌∙◌, sym, subst, rules, to_z, of_z}
+use Rattle.std.specs.Prelude.{fold}
+use Rattle.std.specs.Int.{int_min, int_max, w64}
+use Rattle.std.proofs.lemmas.Int.{to_z-of_z}
 use Rattle.lane_kernels.specs.Kernels.{IsLeast, IsGreatest}
-use Rattle.lane_kernels.proofs.Bounds.{IsLeast-more, IsGreatest-more, range-unique}
+use Rattle.lane_kernels.proofs.Bounds.{range-unique}
+use Rattle.lane_kernels.proofs.Folds.{parts_joined, least_of_list, greatest_of_list}
 use Rattle.lane_kernels.proofs.extremes.range.Goals as goal
-
-pub loop-value-preserved : goal.loop-value-preserved
-loop-value-preserved c =
-    let rest = c.in_ok-first.rest.now in
-    let value = get_or rest c.loop-value.value-index (pos 0) in
-    let fits : SFits w64 value = search rules in
-    let exact = to_z-of_z w64 value fits in
-    let least =
-    to_z-of_z w64 c.min-least.result (omega (arith, ints)) ∙ c.min-least.ensures.value ∙ ap (int_min (to_z w64 c.loop-value.least-bits)) exact in
-    let greatest =
-    to_z-of_z w64 c.max-greatest.result (omega (arith, ints)) ∙ c.max-greatest.ensures.value ∙ ap (int_max (to_z w64 c.loop-value.greatest-bits)) exact in (
-      IsLeast-more c.args.values.now rest c.in_ok-first.first.now _ _ c.loop-value.value-index c.in_ok-first.ensures.cases.0 c.loop-value-test.true least c.loop-value.invariant.0,
-      IsGreatest-more c.args.values.now rest c.in_ok-first.first.now _ _ c.loop-value.value-index c.in_ok-first.ensures.cases.0 c.loop-value-test.true greatest c.loop-value.invariant.1,
-    )
 
 pub returns-clause-found : goal.returns-clause-found
 returns-clause-found c =
     let values = c.args.values.now in
-    let whole : take (c.loop-value.value-index + 1) values ≡ values = take_all (c.loop-value.value-index + 1) values (omega (arith, c.in_ok-first.ensures.cases.1)) in
-    λ least greatest. range-unique values (to_z w64 c.loop-value.least-bits) (to_z w64 c.loop-value.greatest-bits) least greatest
-    (subst (λ xs. IsLeast xs (to_z w64 c.loop-value.least-bits) × IsGreatest xs (to_z w64 c.loop-value.greatest-bits)) whole c.loop-value.invariant)
+    let first = c.in_ok-first.field-0.now in
+    let ends = c.ends_of_eights-least in
+    let whole = length values / 8 * 8 in
+    let is_first : to_z w64 (of_z w64 first) ≡ first = to_z-of_z w64 first (search rules) in
+    let low : to_z w64 (of_z w64 ends.result.0) ≡ fold int_min first (take whole values) =
+    to_z-of_z w64 ends.result.0 (search rules) ∙ ends.ensures.least ∙ ap (λ v. fold int_min v c.split_at.result.0.now) is_first ∙ ap (fold int_min first) c.split_at.ensures.front in
+    let high : to_z w64 (of_z w64 ends.result.1) ≡ fold int_max first (take whole values) =
+    to_z-of_z w64 ends.result.1 (search rules) ∙ ends.ensures.greatest ∙ ap (λ v. fold int_max v c.split_at.result.0.now) is_first ∙ ap (fold int_max first) c.split_at.ensures.front in
+    let least : to_z w64 (of_z w64 c.least_from.result) ≡ fold int_min first values =
+    to_z-of_z w64 c.least_from.result (search rules) ∙ c.least_from.ensures ∙ ap (λ v. fold int_min v c.split_at.result.1.now) low
+    ∙ ap (fold int_min (fold int_min first (take whole values))) c.split_at.ensures.back ∙ parts_joined int_min first values whole in
+    let greatest : to_z w64 (of_z w64 c.greatest_from.result) ≡ fold int_max first values =
+    to_z-of_z w64 c.greatest_from.result (search rules) ∙ c.greatest_from.ensures ∙ ap (λ v. fold int_max v c.split_at.result.1.now) high
+    ∙ ap (fold int_max (fold int_max first (take whole values))) c.split_at.ensures.back ∙ parts_joined int_max first values whole in
+    let low_is : IsLeast values (to_z w64 (of_z w64 c.least_from.result)) = subst (IsLeast values) (sym least) (least_of_list first values (search rules) (search rules)) in
+    let high_is : IsGreatest values (to_z w64 (of_z w64 c.greatest_from.result)) = subst (IsGreatest values) (sym greatest) (greatest_of_list first values (search rules) (search rules)) in
+    λ l g. range-unique values _ _ l g (low_is, high_is)

@@ -7,5 +7,5 @@ use Rattle.lerc_decode.proofs.body.body.Goals as goal
 
 pub returns-then-header-computed-clause-fault : goal.returns-then-header-computed-clause-fault
 returns-then-header-computed-clause-fault c =
-    subst (λ r. IfErr r (IsStopOf (blob_faults c.args.header.now c.args.blob.now))) (sym c.stopped.ensures)
-    (bad_sum c.args.header.now c.args.blob.now c.sum_behind-computed.result c.sum_behind-computed.ensures c.if-header-computed.true)
+    subst (λ r. IfErr r (IsStopOf (blob_faults c.args.before.now c.args.header.now c.args.blob.now))) (sym c.stopped.ensures)
+    (bad_sum c.args.before.now c.args.header.now c.args.blob.now c.sum_behind-computed.result c.sum_behind-computed.ensures c.if-header-computed.true)

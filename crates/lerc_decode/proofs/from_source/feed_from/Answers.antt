@@ -22,8 +22,9 @@ loop-got-preserved g c = record {
   begins = begins_more c.loop-got.decoder.stage (g.S.Source.left c.args.src.now) (g.S.Source.left c.loop-got.src) c.args.decoder.now.taken c.loop-got.decoder.taken c.feed_once.new.decoder.taken
       (λ e. let none : work_left c.loop-got.decoder ≡ 0 = ap (λ (s : Stage). work_at s (length c.loop-got.decoder.taken)) e in absurd (omega (arith, none, c.if-got-eq0.false, c.in_ok-got.ensures.less (omega (arith, c.if-got-eq0.false)))))
       c.loop-got.invariant.fed c.in_ok-got.ensures.begins;
-  few = λ none. few_more c.loop-got.decoder.stage _ _ _ _ c.loop-got.decoder.taken _ none c.loop-got.invariant.stands c.loop-got.invariant.fed (omega arith) c.feed_once.ensures.taken (c.loop-got.invariant.few none);
+  few = λ none. few_more c.loop-got.decoder.before c.loop-got.decoder.stage _ _ _ _ c.loop-got.decoder.taken _ none c.loop-got.invariant.stands c.loop-got.invariant.fed (omega arith) c.feed_once.ensures.taken (c.loop-got.invariant.few none);
   faults = c.in_ok-got.ensures.counted ∙ c.loop-got.invariant.faults;
+  before = c.feed_once.ensures.before ∙ c.loop-got.invariant.before;
 }
 
 pub loop-got-init : goal.loop-got-init
@@ -33,10 +34,11 @@ loop-got-init g c = record {
   begins = begins_same _ _;
   few = λ none. takes_none _ _;
   faults = refl;
+  before = refl;
 }
 
 pub returns-in_err-got-clause-taken : goal.returns-in_err-got-clause-taken
-returns-in_err-got-clause-taken g c = λ none. few_more c.loop-got.decoder.stage _ _ _ _ c.loop-got.decoder.taken _ none c.loop-got.invariant.stands c.loop-got.invariant.fed (omega arith) c.feed_once.ensures.taken (c.loop-got.invariant.few none)
+returns-in_err-got-clause-taken g c = λ none. few_more c.loop-got.decoder.before c.loop-got.decoder.stage _ _ _ _ c.loop-got.decoder.taken _ none c.loop-got.invariant.stands c.loop-got.invariant.fed (omega arith) c.feed_once.ensures.taken (c.loop-got.invariant.few none)
 
 pub returns-then-got-eq0-clause-taken : goal.returns-then-got-eq0-clause-taken
-returns-then-got-eq0-clause-taken g c = λ none. few_more c.loop-got.decoder.stage _ _ _ _ c.loop-got.decoder.taken _ none c.loop-got.invariant.stands c.loop-got.invariant.fed (omega arith) c.feed_once.ensures.taken (c.loop-got.invariant.few none)
+returns-then-got-eq0-clause-taken g c = λ none. few_more c.loop-got.decoder.before c.loop-got.decoder.stage _ _ _ _ c.loop-got.decoder.taken _ none c.loop-got.invariant.stands c.loop-got.invariant.fed (omega arith) c.feed_once.ensures.taken (c.loop-got.invariant.few none)

@@ -4,8 +4,8 @@ use Rattle.raster_values.specs.Raster.{Pixels}
 use Rattle.lerc_header.specs.declared.header.Version.{Version}
 use Rattle.lerc_header.specs.Head.{head_length}
 use Rattle.lerc_encode.specs.declared.blob.Plan.{Plan}
-use Rattle.lerc_encode.specs.Choice.{choice}
-use Rattle.lerc_encode.specs.Encoded.{IsAsked}
+use Rattle.lerc_encode.specs.Choice.{chosen_blob}
+use Rattle.lerc_encode.specs.inside.Asked.{IsAsked}
 use Rattle.lerc_encode.specs.inside.Layout.{IsPlan}
 use Rattle.lerc_encode.proofs.blob.blob_of.Goals as goal
 
@@ -50,4 +50,4 @@ returns c =
     let long : length c.fill.new.blob ≡ c.in_ok-blob.blob.len =
     c.fill.auto.blob ∙ c.deref_mut.ensures.len in
     take_at c.fill.new.blob _ c.in_ok-blob.blob.len long ∙ c.fill.ensures
-    ∙ (λ t. choice c.args.raster.now (is.version_is t) (is.step_is t))
+    ∙ (λ t. chosen_blob c.args.raster.now (is.version_is t) (is.step_is t))

@@ -7,23 +7,23 @@ use Rattle.lerc_encode.proofs.blob.encode.Goals as goal
 
 pub blob_of-requires : goal.blob_of-requires
 blob_of-requires c =
-    asked_of c.args.raster.now c.args.version c.get.result c.needs_v4.result c.rows-rows.ensures.sound c.get.ensures.allowed c.if-needs_v4.false c.needs_v4.ensures
+    asked_of c.args.raster.now c.args.version c.get.result c.needs_v4.result c.depth.result c.depth.ensures.value c.depth.ensures.sound c.get.ensures.allowed c.if-needs_v4.false c.needs_v4.ensures
 
 pub returns-clause-few : goal.returns-clause-few
 returns-clause-few c =
-    let asked = asked_of c.args.raster.now c.args.version c.get.result c.needs_v4.result c.rows-rows.ensures.sound c.get.ensures.allowed c.if-needs_v4.false c.needs_v4.ensures in
+    let asked = asked_of c.args.raster.now c.args.version c.get.result c.needs_v4.result c.depth.result c.depth.ensures.value c.depth.ensures.sound c.get.ensures.allowed c.if-needs_v4.false c.needs_v4.ensures in
     subst (λ (bytes : List ℕ). length bytes ≤ 134217728) (sym (c.from_vec.ensures ∙ c.in_ok-blob.ensures)) (few c.args.raster.now c.args.version c.get.result asked)
 
 pub returns-clause-decodes : goal.returns-clause-decodes
 returns-clause-decodes c =
     let r = c.args.raster.now in
-    let asked = asked_of r c.args.version c.get.result c.needs_v4.result c.rows-rows.ensures.sound c.get.ensures.allowed c.if-needs_v4.false c.needs_v4.ensures in
+    let asked = asked_of r c.args.version c.get.result c.needs_v4.result c.depth.result c.depth.ensures.value c.depth.ensures.sound c.get.ensures.allowed c.if-needs_v4.false c.needs_v4.ensures in
     subst (λ step. IsEncodedOnce c.from_vec.result r step) c.get.ensures.step
     (subst (λ (bytes : List ℕ). IsEncodedOnce bytes r c.get.result) (sym (c.from_vec.ensures ∙ c.in_ok-blob.ensures)) (encoded_once r c.args.version c.get.result asked (checksum_below r c.args.version c.get.result)))
 
 pub returns-clause-declares : goal.returns-clause-declares
 returns-clause-declares c =
     let r = c.args.raster.now in
-    let asked = asked_of r c.args.version c.get.result c.needs_v4.result c.rows-rows.ensures.sound c.get.ensures.allowed c.if-needs_v4.false c.needs_v4.ensures in
+    let asked = asked_of r c.args.version c.get.result c.needs_v4.result c.depth.result c.depth.ensures.value c.depth.ensures.sound c.get.ensures.allowed c.if-needs_v4.false c.needs_v4.ensures in
     subst (λ step. Declares c.from_vec.result c.args.version step) c.get.ensures.step
     (subst (λ (bytes : List ℕ). Declares bytes c.args.version c.get.result) (sym (c.from_vec.ensures ∙ c.in_ok-blob.ensures)) (declares r c.args.version c.get.result asked (checksum_below r c.args.version c.get.result)))

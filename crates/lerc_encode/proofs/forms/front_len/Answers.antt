@@ -1,10 +1,10 @@
 use Rattle.std.proofs.Common.{ap, sym, ◌∙◌, length}
 use Rattle.raster_values.specs.PixelType.{bytes_of}
-use Rattle.lerc_encode.specs.Ranges.{front_bytes}
+use Rattle.lerc_encode.specs.Ranges.{lists_bytes}
 use Rattle.lerc_encode.proofs.Forming.{front_long}
 use Rattle.lerc_encode.proofs.forms.front_len.Goals as goal
 
 pub returns-in-V4-clause-value : goal.returns-in-V4-clause-value
 returns-in-V4-clause-value c =
     front_long c.args.raster.now c.depth.result c.bytes.result c.depth.ensures.value (c.bytes.ensures ∙ ap bytes_of c.kind.ensures.value)
-    ∙ ap (λ v. length (front_bytes c.args.raster.now v)) (sym c.in-V4.is)
+    ∙ ap (λ v. length (lists_bytes c.args.raster.now v)) (sym c.in-V4.is)

@@ -7,7 +7,7 @@ use Rattle.lerc_encode.specs.Heads.{header_of}
 use Rattle.lerc_encode.specs.Images as images
 use Rattle.lerc_encode.specs.Images.{all_deltas}
 use Rattle.lerc_encode.specs.declared.forms.ValueForm.TheVariants.{Delta, Plain}
-use Rattle.lerc_encode.specs.Images.{form_bytes}
+use Rattle.lerc_encode.specs.Images.{coded_form_bytes}
 use Rattle.lerc_encode.specs.inside.Choosing.{named}
 use Rattle.lerc_encode.specs.declared.forms.ValueForm.{ValueForm}
 use Rattle.lerc_encode.proofs.Forming.{base_blocked, large_blocked, large_header, sweep_is, small_is, large_is}
@@ -31,7 +31,7 @@ pub write_sweep-requires : goal.write_sweep-requires
 write_sweep-requires c =
     let h = c.args.base.now in
     let r = c.args.raster.now in
-    c.requires.room ∙ ap (λ (f : ValueForm). length (form_bytes r h.version h.step (named f))) c.in-Sweep.is ∙ sym (ap length (sweep_is r h.version h.step))
+    c.requires.room ∙ ap (λ (f : ValueForm). length (coded_form_bytes r h.version h.step (named f))) c.in-Sweep.is ∙ sym (ap length (sweep_is r h.version h.step))
 
 pub write_block_form-requires-clause-blocked : goal.write_block_form-requires-clause-blocked
 write_block_form-requires-clause-blocked c = base_blocked c.args.base.now c.args.raster.now c.requires.base
@@ -47,7 +47,7 @@ pub write_block_form-requires-clause-room : goal.write_block_form-requires-claus
 write_block_form-requires-clause-room c =
     let h = c.args.base.now in
     let r = c.args.raster.now in
-    c.requires.room ∙ ap (λ (f : ValueForm). length (form_bytes r h.version h.step (named f))) c.in-SmallBlocks.is ∙ sym (ap length (small_is h r c.requires.base))
+    c.requires.room ∙ ap (λ (f : ValueForm). length (coded_form_bytes r h.version h.step (named f))) c.in-SmallBlocks.is ∙ sym (ap length (small_is h r c.requires.base))
 
 pub write_block_form-requires-in-LargeBlocks-clause-blocked : goal.write_block_form-requires-in-LargeBlocks-clause-blocked
 write_block_form-requires-in-LargeBlocks-clause-blocked c = large_blocked c.args.base.now c.with_large.result c.args.raster.now c.requires.base c.with_large.ensures
@@ -63,25 +63,25 @@ pub write_block_form-requires-in-LargeBlocks-clause-room : goal.write_block_form
 write_block_form-requires-in-LargeBlocks-clause-room c =
     let h = c.args.base.now in
     let r = c.args.raster.now in
-    c.requires.room ∙ ap (λ (f : ValueForm). length (form_bytes r h.version h.step (named f))) c.in-LargeBlocks.is ∙ sym (ap length (large_is h c.with_large.result r c.requires.base c.with_large.ensures))
+    c.requires.room ∙ ap (λ (f : ValueForm). length (coded_form_bytes r h.version h.step (named f))) c.in-LargeBlocks.is ∙ sym (ap length (large_is h c.with_large.result r c.requires.base c.with_large.ensures))
 
 pub returns-in-Sweep : goal.returns-in-Sweep
 returns-in-Sweep c =
     let h = c.args.base.now in
     let r = c.args.raster.now in
-    c.write_sweep.ensures ∙ sweep_is r h.version h.step ∙ ap (λ (f : ValueForm). form_bytes r h.version h.step (named f)) (sym c.in-Sweep.is)
+    c.write_sweep.ensures ∙ sweep_is r h.version h.step ∙ ap (λ (f : ValueForm). coded_form_bytes r h.version h.step (named f)) (sym c.in-Sweep.is)
 
 pub returns-in-SmallBlocks : goal.returns-in-SmallBlocks
 returns-in-SmallBlocks c =
     let h = c.args.base.now in
     let r = c.args.raster.now in
-    c.write_block_form.ensures ∙ small_is h r c.requires.base ∙ ap (λ (f : ValueForm). form_bytes r h.version h.step (named f)) (sym c.in-SmallBlocks.is)
+    c.write_block_form.ensures ∙ small_is h r c.requires.base ∙ ap (λ (f : ValueForm). coded_form_bytes r h.version h.step (named f)) (sym c.in-SmallBlocks.is)
 
 pub returns-in-LargeBlocks : goal.returns-in-LargeBlocks
 returns-in-LargeBlocks c =
     let h = c.args.base.now in
     let r = c.args.raster.now in
-    c.write_block_form-in-LargeBlocks.ensures ∙ large_is h c.with_large.result r c.requires.base c.with_large.ensures ∙ ap (λ (f : ValueForm). form_bytes r h.version h.step (named f)) (sym c.in-LargeBlocks.is)
+    c.write_block_form-in-LargeBlocks.ensures ∙ large_is h c.with_large.result r c.requires.base c.with_large.ensures ∙ ap (λ (f : ValueForm). coded_form_bytes r h.version h.step (named f)) (sym c.in-LargeBlocks.is)
 
 pub write_delta_form-requires-clause-there : goal.write_delta_form-requires-clause-there
 write_delta_form-requires-clause-there c = deltas_there c.args.raster.now c.args.base.now.version c.args.base.now.step c.args.chosen.now c.requires.chosen c.in-Delta.is
@@ -90,13 +90,13 @@ pub write_delta_form-requires-clause-room : goal.write_delta_form-requires-claus
 write_delta_form-requires-clause-room c =
     let h = c.args.base.now in
     let r = c.args.raster.now in
-    c.requires.room ∙ ap (λ (f : ValueForm). length (form_bytes r h.version h.step (named f))) c.in-Delta.is ∙ sym (ap length (delta_is r h.version h.step))
+    c.requires.room ∙ ap (λ (f : ValueForm). length (coded_form_bytes r h.version h.step (named f))) c.in-Delta.is ∙ sym (ap length (delta_is r h.version h.step))
 
 pub returns-in-Delta : goal.returns-in-Delta
 returns-in-Delta c =
     let h = c.args.base.now in
     let r = c.args.raster.now in
-    c.write_delta_form.ensures ∙ delta_is r h.version h.step ∙ ap (λ (f : ValueForm). form_bytes r h.version h.step (named f)) (sym c.in-Delta.is)
+    c.write_delta_form.ensures ∙ delta_is r h.version h.step ∙ ap (λ (f : ValueForm). coded_form_bytes r h.version h.step (named f)) (sym c.in-Delta.is)
 
 pub write_plain_form-requires-clause-there : goal.write_plain_form-requires-clause-there
 write_plain_form-requires-clause-there c = plains_there c.args.raster.now c.args.base.now.version c.args.base.now.step c.args.chosen.now c.requires.chosen c.in-Plain.is
@@ -105,10 +105,10 @@ pub write_plain_form-requires-clause-room : goal.write_plain_form-requires-claus
 write_plain_form-requires-clause-room c =
     let h = c.args.base.now in
     let r = c.args.raster.now in
-    c.requires.room ∙ ap (λ (f : ValueForm). length (form_bytes r h.version h.step (named f))) c.in-Plain.is ∙ sym (ap length (plain_is r h.version h.step))
+    c.requires.room ∙ ap (λ (f : ValueForm). length (coded_form_bytes r h.version h.step (named f))) c.in-Plain.is ∙ sym (ap length (plain_is r h.version h.step))
 
 pub returns-in-Plain : goal.returns-in-Plain
 returns-in-Plain c =
     let h = c.args.base.now in
     let r = c.args.raster.now in
-    c.write_plain_form.ensures ∙ plain_is r h.version h.step ∙ ap (λ (f : ValueForm). form_bytes r h.version h.step (named f)) (sym c.in-Plain.is)
+    c.write_plain_form.ensures ∙ plain_is r h.version h.step ∙ ap (λ (f : ValueForm). coded_form_bytes r h.version h.step (named f)) (sym c.in-Plain.is)

@@ -11,8 +11,8 @@ returns-then-cols-lt1-clause-fault c = search rules
 pub returns-then-depth-lt1-clause-fault : goal.returns-then-depth-lt1-clause-fault
 returns-then-depth-lt1-clause-fault c = search rules
 
-pub returns-then-is_too_large-clause-fault : goal.returns-then-is_too_large-clause-fault
-returns-then-is_too_large-clause-fault c = search rules
+pub returns-then-not-is_shape-clause-fault : goal.returns-then-not-is_shape-clause-fault
+returns-then-not-is_shape-clause-fault c = search rules
 
 pub returns-clause-fault : goal.returns-clause-fault
 returns-clause-fault c = search rules

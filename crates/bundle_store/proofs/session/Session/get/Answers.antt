@@ -1,21 +1,23 @@
-use Rattle.std.proofs.Common.{◌≡◌, ◌≢◌, ℕ, ◌≤◌, List, [], ◌++◌, length, drop, take, sym, subst, ap, ◌∙◌, arith}
+use Rattle.std.proofs.Common.{◌≡◌, ◌≢◌, false, ℕ, ◌≤◌, List, [], ◌++◌, length, drop, take, sym, subst, ap, ◌∙◌, arith}
 use Rattle.std.proofs.lemmas.List.{append-nil, drop_all, length-drop, length-take-le}
 use Rattle.std.proofs.Math.Seq.{take-append_seam}
 use Rattle.outside_io.specs.declared.volume.VolFile.TheVariants.{Bundle}
-use Rattle.outside_io.specs.volume.Disk.{Disk}
-use Rattle.outside_io.specs.volume.History.{ReadsAt, contents, current}
-use Rattle.outside_io.proofs.VolumeLemmas.Moments.{during_end}
+use Rattle.outside_io.specs.volume.History.{ReadsAt, contents}
 use Rattle.bundle_index.specs.Entry.{entry_at}
 use Rattle.bundle_index.specs.declared.entry.Entry.{Entry}
-use Rattle.bundle_store.specs.Session.{GetGives}
+use Rattle.bundle_store.specs.Kept.{FrontBytes, Keeps}
+use Rattle.bundle_store.specs.Session.{GetGives, SessionState}
 use Rattle.bundle_store.proofs.Region.{gives_tile, tile_none, tiles_at}
 use Rattle.bundle_store.proofs.session.Session.get.Goals as goal
 
 pub returns-then-entry-eq0-clause-none : goal.returns-then-entry-eq0-clause-none
 returns-then-entry-eq0-clause-none g c = λ told none.
     let b = contents Bundle (g.V.Volume.history c.args.vol.now) in
-    let size : (entry_at b c.args.slot).size ≡ 0 = ap (λ (e : Entry). e.size) (sym (c.in_ok-entry.ensures.value told)) ∙ c.if-entry-eq0.true in
-    tiles_at b c.args.slot c.read_entry.ensures.slot ∙ tile_none b (entry_at b c.args.slot) size
+    let running : c.args.self.now.stopped ≡ false = sym (ap (λ (s : SessionState). s.stopped) c.self.view_is) ∙ c.if-self.false in
+    let keeps : Keeps c.self.inside.front b = subst (λ (f : FrontBytes). Keeps f b) (sym (ap (λ (s : SessionState). s.front) c.self.view_is)) (c.requires.serves told running).keeps in
+    let entry : c.entry-entry.result ≡ entry_at b c.args.slot = c.entry-entry.ensures.value b keeps in
+    let size : (entry_at b c.args.slot).size ≡ 0 = ap (λ (e : Entry). e.size) (sym entry) ∙ c.if-entry-eq0.true in
+    tiles_at b c.args.slot c.entry-entry.ensures.slot ∙ tile_none b (entry_at b c.args.slot) size
 
 -- a read of as many bytes as the entry names
 read_gives : (b : List ℕ) (slot got : ℕ) (e : Entry) (old buf : List ℕ) → e ≡ entry_at b slot
@@ -45,28 +47,25 @@ given_size b slot tile gives =
 
 pub returns-clause-ok : goal.returns-clause-ok
 returns-clause-ok g c = λ told.
-    let old = g.V.Volume.history c.args.vol.now in
-    let e = c.in_ok-entry.entry in
+    let b = contents Bundle (g.V.Volume.history c.args.vol.now) in
+    let running : c.args.self.now.stopped ≡ false = sym (ap (λ (s : SessionState). s.stopped) c.self.view_is) ∙ c.if-self.false in
+    let keeps : Keeps c.self.inside.front b = subst (λ (f : FrontBytes). Keeps f b) (sym (ap (λ (s : SessionState). s.front) c.self.view_is)) (c.requires.serves told running).keeps in
+    let entry : c.entry-entry.result ≡ entry_at b c.args.slot = c.entry-entry.ensures.value b keeps in
+    let e = c.entry-entry.result in
     let buf = c.read.new.buf in
-    let still = during_end (λ d. d ≡ current old) old _ (c.read_entry.ensures.during told) in
     let got = c.in_ok-got.got in
     let zeros = c.deref_mut.result.now in
-    let read = subst (λ (d : Disk). ReadsAt d.bundle.now e.offset got zeros buf)
-    still (c.in_ok-got.ensures.answer (c.read_entry.ensures.told ∙ told)) in
-    let size : length zeros ≡ e.size =
-    c.deref_mut.ensures.len ∙ c.in_ok-resize.ensures.len in
-    let gives = read_gives (current old).bundle.now c.args.slot got e zeros buf
-    (c.in_ok-entry.ensures.value told) c.if-entry-eq0.false read size c.if-got-size.false in
+    let read : ReadsAt b e.offset got zeros buf = c.in_ok-got.ensures.answer told in
+    let size : length zeros ≡ e.size = c.deref_mut.ensures.len ∙ c.in_ok-resize.ensures.len in
+    let gives = read_gives b c.args.slot got e zeros buf entry c.if-entry-eq0.false read size c.if-got-size.false in
     let rest = drop (length buf) c.resize.new.self.items in
-    let size_is = ap (λ (x : Entry). x.size) (c.in_ok-entry.ensures.value told) in
-    let long = sym (given_size (current old).bundle.now c.args.slot buf gives) in
+    let size_is = ap (λ (x : Entry). x.size) entry in
+    let long = sym (given_size b c.args.slot buf gives) in
     let len : c.resize.new.self.len ≡ length buf = c.in_ok-resize.ensures.len ∙ size_is ∙ long in
-    let whole : c.from_vec.result ≡ buf =
-    c.from_vec.ensures ∙ ap (λ (n : ℕ). take n (buf ++ rest)) len ∙ take-append_seam buf rest in
-    subst (GetGives (current old).bundle.now c.args.slot) (sym whole) gives
+    let whole : c.from_vec.result ≡ buf = c.from_vec.ensures ∙ ap (λ (n : ℕ). take n (buf ++ rest)) len ∙ take-append_seam buf rest in
+    subst (GetGives b c.args.slot) (sym whole) gives
 
 pub returns-clause-tile : goal.returns-clause-tile
 returns-clause-tile g c = λ told.
     let b = contents Bundle (g.V.Volume.history c.args.vol.now) in
-    let gives = returns-clause-ok g c told in
-    gives_tile b c.args.slot c.from_vec.result c.read_entry.ensures.slot gives
+    gives_tile b c.args.slot c.from_vec.result c.entry-entry.ensures.slot (returns-clause-ok g c told)

@@ -7,7 +7,7 @@ returns-clause-taken c =
     taken_all c.args.self.now c.feed_key-key.new.self c.feed_fields-fields.new.self c.feed_body-body.new.self c.args.piece.now _ _ _ c.feed_key-key.ensures.taken c.feed_fields-fields.ensures.taken c.feed_body-body.ensures.taken
 
 pub returns-clause-verdict : goal.returns-clause-verdict
-returns-clause-verdict c = told_of c.feed_body-body.new.self.taken c.feed_body-body.new.self.stage c.feed_body-body.ensures.sound
+returns-clause-verdict c = told_of c.feed_body-body.new.self.before c.feed_body-body.new.self.taken c.feed_body-body.new.self.stage c.feed_body-body.ensures.sound
 
 pub returns-clause-whole : goal.returns-clause-whole
 returns-clause-whole c = λ more.

@@ -1,4 +1,5 @@
-use Rattle.std.proofs.Common.{◌≡◌, ℕ, ◌<◌, ◌∙◌, List, ◌++◌, length, take, refl, sym, ap, subst, arith}
+use Rattle.std.proofs.Common.{rules, ◌≡◌, ℕ, ◌<◌, ◌≤◌, ◌∙◌, List, ◌++◌, length, take, Option, refl, sym, ap, subst, arith}
+use Rattle.lerc_grammar.specs.Mask.{Previous}
 use Rattle.std.proofs.lemmas.List.{length-append, length-take-le}
 use Rattle.lerc_header.specs.declared.header.Header.{Header}
 use Rattle.lerc_decode.specs.Decoding.{Decoding, IsStageOf}
@@ -7,8 +8,9 @@ use Rattle.lerc_decode.specs.declared.decoder.Progress.{Progress}
 use Rattle.lerc_decode.specs.declared.decoder.Progress.TheVariants.{Body as AtBody}
 use Rattle.lerc_decode.specs.inside.Inside.{seen, taken_of}
 use Rattle.lerc_decode.specs.inside.Stages.{stage_of}
-use Rattle.lerc_decode.specs.inside.Steps.{StepsBody}
-use Rattle.lerc_decode.proofs.Steps.{body_head, body_goes_on, body_taken, taken_body}
+use Rattle.lerc_decode.specs.inside.Steps.{StepsBody, UsesBody}
+use Rattle.lerc_decode.specs.States.{missing_at}
+use Rattle.lerc_decode.proofs.Steps.{body_head, body_goes_on, body_taken, stood, takes_nothing, taken_body}
 use Rattle.lerc_decode.proofs.decoder.Decoder.feed_body.Goals as goal
 use Rattle.lerc_decode.proofs.decoder.Decoder.feed_body.Goals.{in-Done-2, in-Key-2}
 
@@ -41,6 +43,7 @@ returns-then-len-size-clause-taken c =
       within = omega (arith, c.min-used.ensures);
       taken = ap (λ (d : Decoding). d.taken) new ∙ taken.1
           ∙ ap (λ (d : Decoding). d.taken ++ more) c.self.view_is;
+      before = ap (λ (d : Decoding). d.before) new ∙ ap (λ (d : Decoding). d.before) c.self.view_is;
     }
 
 pub returns-then-len-size-clause-sound : goal.returns-then-len-size-clause-sound
@@ -54,16 +57,18 @@ returns-then-len-size-clause-sound c =
     ] in
     let taken = body_taken c.self.inside b c.in-Body.header more c.in-Body.is c.self.invariant
     c.if-not-grow.ensures in
-    subst (λ (d : Decoding). IsStageOf d.taken d.stage) (sym new)
-    (subst (λ (u : List ℕ). IsStageOf u (stage_of b.progress))
+    subst (λ (d : Decoding). IsStageOf d.before d.taken d.stage) (sym new)
+    (subst (λ (u : List ℕ). IsStageOf b.before u (stage_of b.progress))
     (c.deref.ensures.value ∙ sym taken.0) c.after_body.ensures.sound)
 
 at_body : (p : Progress) (h : Header) (old : Decoding) (taken piece : List ℕ) (used : ℕ)
-    → p ≡ AtBody h → used ≡ length piece
-    → StepsBody (stage_of p) old (record { taken = taken; stage = stage_of p }) piece used
-at_body p h old taken piece used is all =
+    (before : Option Previous) → p ≡ AtBody h → used ≡ length piece
+    → StepsBody (stage_of p) old (record { taken = taken; stage = stage_of p; before = before })
+    piece used
+at_body p h old taken piece used before is all =
     subst (λ (q : Progress).
-    StepsBody (stage_of q) old (record { taken = taken; stage = stage_of q }) piece used)
+    StepsBody (stage_of q) old (record { taken = taken; stage = stage_of q; before = before })
+    piece used)
     (sym is) all
 
 pub returns-else-len-size-clause-steps : goal.returns-else-len-size-clause-steps
@@ -84,4 +89,16 @@ returns-else-len-size-clause-steps c =
       ap length c.if-not-grow.ensures,
     ) in
     subst (λ (d : Decoding). StepsBody d.stage d (seen b) piece used) c.self.view_is
-    (at_body a.progress c.in-Body.header (seen a) (taken_of b) piece used c.in-Body.is all)
+    (at_body a.progress c.in-Body.header (seen a) (taken_of b) piece used a.before c.in-Body.is all)
+
+pub returns-in_default : goal.returns-in_default
+returns-in_default c =
+    let d = c.args.self.now in
+    let steps : StepsBody d.stage d d c.args.piece.now 0 = search rules in
+    let exact : length c.args.piece.now ≤ missing_at d.stage (length d.taken) → UsesBody d.stage d.stage c.args.piece.now 0 = search rules in
+    record {
+      taken = takes_nothing d c.args.piece.now;
+      steps = steps;
+      exact = exact;
+      sound = stood c.self.inside d c.self.view_is c.self.invariant;
+    }

@@ -1,0 +1,14 @@
+use Rattle.std.proofs.Common.{◌≡◌, ◌≤◌, length, IsTrue}
+use Rattle.outside_io.specs.declared.volume.VolFile.TheVariants.{Bundle}
+use Rattle.outside_io.specs.volume.Disk.{IsSettled}
+use Rattle.outside_io.specs.volume.History.{contents, current}
+use Rattle.bundle_store.specs.GroupPuts.{AreSlots}
+use Rattle.bundle_store.proofs.GroupWrites.{IsLaying}
+use Rattle.bundle_store.proofs.overlay.write_all_over.Given as goal
+
+abbrev pub invariant-loop-i : goal.invariant-loop-i
+invariant-loop-i g l = record {
+  so_far : IsTrue (g.V.Volume.told l.fn.vol) → IsLaying l.header l.group (g.V.Volume.history l.fn.vol) (g.V.Volume.history l.vol) l.i;
+  told : g.V.Volume.told l.vol ≡ g.V.Volume.told l.fn.vol;
+  counted : g.V.Volume.faults l.vol ≡ g.V.Volume.faults l.fn.vol;
+}

@@ -1,0 +1,207 @@
+//! Tiles put at once: their entries, the body of their journal, and the put.
+
+ghost use Rattle.std.specs.Prelude.{◌≡◌, ◌⊎◌, ◌+◌, ◌^◌, ◌<◌, ◌≤◌, ◌∷◌, ◌++◌, ℕ, List, [], length, take, IsTrue, IsErrOf, IfErr, OnOk};
+ghost use Rattle.outside_io.specs.declared.volume.VolFile.TheVariants.{Bundle, Journal};
+ghost use Rattle.outside_io.specs.volume.Disk.{IsQuiet};
+ghost use Rattle.outside_io.specs.streams.Faults.{CountsFaults};
+ghost use Rattle.outside_io.specs.volume.History.{During, contents, current};
+ghost use Rattle.side_journal.specs.Says.{IsOpen};
+ghost use Rattle.side_journal.specs.declared.body.Body.TheVariants.{Group as OfGroup};
+ghost use Rattle.bundle_store.specs.Appended.{bundle_with_tile};
+ghost use Rattle.bundle_store.specs.Build.{EachFits};
+ghost use Rattle.bundle_store.specs.Causes.{CountsDevice, OnRefusal, UnlessDevice};
+ghost use Rattle.bundle_store.specs.GroupPuts.{AllOrNone, AreTilesIn, NoRoom, OnFull, bundle_after_puts, bundle_with_tiles, group_records, new_entries};
+ghost use Rattle.bundle_store.specs.Images.{EachImage, HoldsClosed};
+ghost use Rattle.bundle_store.specs.Kept.{Keeps};
+ghost use Rattle.bundle_store.specs.Layout.{layout};
+ghost use Rattle.bundle_store.specs.Session.{GroupFails};
+ghost use Rattle.bundle_store.specs.Tiles.{IsBundle, IsReadable, Opens, no_tiles, tiles};
+ghost use Rattle.bundle_store.specs.inside.Grouped.{IsFullOf};
+ghost use Rattle.bundle_store.specs.inside.Parts.{IsAtRest};
+
+use crate::build::build_empty;
+use crate::front::Front;
+use crate::group_commit::commit_group;
+use crate::put::GREATEST_LENGTH;
+use crate::{StoreFault, TileRec};
+use bundle_index::Entry;
+use outside_io::{Failed, VolFile, Volume};
+use side_journal::{Body, Group};
+
+/// Adds the entry of a tile, whose record is to stand at `end`, to the group, and to what is kept
+/// of the bundle.
+fn add_tile(front: &mut Front, end: u64, tile: &TileRec, group: &mut Group)
+    requires some { 0 < length tile.now.bytes }
+    requires size { length tile.now.bytes < 2 ^ 24 }
+    requires room { end + 4 + length tile.now.bytes ≤ 2 ^ 40 }
+    requires most { length group.old < 64 }
+    ensures slot { tile.now.slot < 16384 }
+    ensures group { group.new ≡ group.old ++ new_entries end (tile.now ∷ []) }
+    ensures keeps { (bundle : List ℕ) → 131136 ≤ length bundle → end ≡ length bundle →
+        Keeps front.old bundle →
+        Keeps front.new (bundle_with_tile bundle tile.now.slot tile.now.bytes) }
+{
+    let old = front.entry(tile.slot);
+    let size = tile.bytes.len() as u32;
+    let entry = Entry {
+        offset: end + 4,
+        size,
+    };
+    let header = front.header().after_put(old, size, end + 4 + size as u64);
+    front.put(&header, tile.slot, entry);
+    group.push(tile.slot, entry);
+}
+
+/// The body of a journal of the tiles, whose records are to stand behind `len` bytes. `front` has
+/// the header and the index of the bundle without them, and then with them.
+fn body_of_tiles(front: &mut Front, len: u64, tiles: &[TileRec]) -> Body
+    requires fit { EachFits tiles.now }
+    requires most { length tiles.now ≤ 64 }
+    requires room { len + length (group_records tiles.now) ≤ 2 ^ 40 }
+    ensures body { result ≡ OfGroup (new_entries len tiles.now)
+        (len + length (group_records tiles.now)) front.new.header }
+    ensures tiles { AreTilesIn tiles.now }
+    ensures header { length front.new.header ≡ 64 }
+    ensures keeps { (bundle : List ℕ) → 131136 ≤ length bundle → len ≡ length bundle →
+        Keeps front.old bundle → Keeps front.new (bundle_with_tiles bundle tiles.now) }
+{
+    let mut group = Group::new();
+    let mut end = len;
+    for i in 0..tiles.len() {
+        add_tile(front, end, &tiles[i], &mut group);
+        end += 4 + tiles[i].bytes.len() as u64;
+    }
+    Body::Group {
+        group,
+        length: end,
+        header: front.header(),
+    }
+}
+
+/// Puts the tiles on a bundle of `len` bytes, of which `front` has the header and the index, before
+/// and after.
+fn put_tiles_on_bundle<V: Volume>(
+    vol: &mut V,
+    len: u64,
+    front: &mut Front,
+    updates: &[TileRec],
+) -> Result<(), Failed>
+    requires some { 1 ≤ length updates.now }
+    requires most { length updates.now ≤ 64 }
+    requires fit { EachFits updates.now }
+    requires room { len + length (group_records updates.now) ≤ 2 ^ 40 }
+    requires least { IsTrue (V.told vol.old) → 131136 ≤ len }
+    requires len { IsTrue (V.told vol.old) → len ≡ length (contents Bundle (V.history vol.old)) }
+    requires keeps { IsTrue (V.told vol.old) → Keeps front.old (contents Bundle
+        (V.history vol.old)) }
+    requires quiet { IsTrue (V.told vol.old) → IsQuiet (current (V.history vol.old)) }
+    requires closed { IsTrue (V.told vol.old) → ¬ IsOpen (contents Journal (V.history vol.old)) }
+    ensures done { IsTrue (V.told vol.old) →
+        OnOk result (HoldsClosed (bundle_with_tiles (contents Bundle
+        (V.history vol.old)) updates.now) (current (V.history vol.new))) }
+    ensures keeps { IsTrue (V.told vol.old) → OnOk result (Keeps front.new (bundle_with_tiles
+        (contents Bundle (V.history vol.old)) updates.now)) }
+    ensures tiles { AreTilesIn updates.now }
+    ensures images { IsTrue (V.told vol.old) →
+        During (λ d. IsBundle (contents Bundle (V.history vol.old))
+        → EachImage (AllOrNone updates.now (tiles (contents Bundle (V.history vol.old)))) d)
+        (V.history vol.old) (V.history vol.new) }
+    ensures told { V.told vol.new ≡ V.told vol.old }
+    ensures counted { CountsFaults result (V.faults vol.old) (V.faults vol.new) }
+{
+    let body = body_of_tiles(front, len, updates);
+    commit_group(vol, len, updates, &body)
+}
+
+/// Puts the tiles on an empty file, which is first made a bundle of no tiles.
+fn put_tiles_on_nothing<V: Volume>(
+    vol: &mut V,
+    front: &mut Front,
+    updates: &[TileRec],
+) -> Result<(), Failed>
+    requires some { 1 ≤ length updates.now }
+    requires most { length updates.now ≤ 64 }
+    requires fit { EachFits updates.now }
+    requires room { 131136 + length (group_records updates.now) ≤ 2 ^ 40 }
+    requires empty { IsTrue (V.told vol.old) → contents Bundle (V.history vol.old) ≡ [] }
+    requires quiet { IsTrue (V.told vol.old) → IsQuiet (current (V.history vol.old)) }
+    requires closed { IsTrue (V.told vol.old) → ¬ IsOpen (contents Journal (V.history vol.old)) }
+    ensures done { IsTrue (V.told vol.old) →
+        OnOk result (HoldsClosed (bundle_with_tiles (layout no_tiles) updates.now)
+        (current (V.history vol.new))) }
+    ensures keeps { IsTrue (V.told vol.old) →
+        OnOk result (Keeps front.new (bundle_with_tiles (layout no_tiles) updates.now)) }
+    ensures tiles { OnOk result (AreTilesIn updates.now) }
+    ensures images { IsTrue (V.told vol.old) →
+        During (EachImage (AllOrNone updates.now no_tiles)) (V.history vol.old)
+        (V.history vol.new) }
+    ensures told { V.told vol.new ≡ V.told vol.old }
+    ensures counted { CountsFaults result (V.faults vol.old) (V.faults vol.new) }
+{
+    build_empty(vol, &[], &[], &mut [], front)?;
+    put_tiles_on_bundle(vol, 131136, front, updates)
+}
+
+/// Whether there is room for the tiles behind `len` bytes. Full, with the length that the tiles
+/// before the first one without room leave.
+fn room_for(len: u64, updates: &[TileRec]) -> Result<(), StoreFault>
+    requires fit { EachFits updates.now }
+    requires some { 1 ≤ length updates.now }
+    ensures room { OnOk result (len + length (group_records updates.now) ≤ 2 ^ 40) }
+    ensures full { IfErr result (λ f. IsFullOf len updates.now f) }
+{
+    let mut end = len;
+    for i in 0..updates.len() {
+        let size = updates[i].bytes.len() as u64;
+        if end > GREATEST_LENGTH - 4 - size {
+            return Err(StoreFault::Full { len: end });
+        }
+        end += 4 + size;
+    }
+    Ok(())
+}
+
+/// Puts the tiles, if there is room for them; `front` has the bundle's header and index, before and
+/// after.
+pub(crate) fn put_tiles<V: Volume>(
+    vol: &mut V,
+    front: &mut Front,
+    updates: &[TileRec],
+) -> Result<(), StoreFault>
+    requires some { 1 ≤ length updates.now }
+    requires most { length updates.now ≤ 64 }
+    requires fit { EachFits updates.now }
+    requires opens { IsTrue (V.told vol.old) → Opens (contents Bundle (V.history vol.old)) }
+    requires keeps { IsTrue (V.told vol.old) → Keeps front.old (contents Bundle
+        (V.history vol.old)) }
+    requires quiet { IsTrue (V.told vol.old) → IsQuiet (current (V.history vol.old)) }
+    requires closed { IsTrue (V.told vol.old) → ¬ IsOpen (contents Journal (V.history vol.old)) }
+    ensures done { IsTrue (V.told vol.old) →
+        OnOk result (HoldsClosed (bundle_after_puts (contents Bundle
+        (V.history vol.old)) updates.now) (current (V.history vol.new))) }
+    ensures room { IsTrue (V.told vol.old) → OnOk result (length (contents Bundle
+        (V.history vol.old)) + length (group_records updates.now) ≤ 2 ^ 40) }
+    ensures full { IsTrue (V.told vol.old) → IfErr result (λ f. OnFull (λ len. NoRoom
+        (length (contents Bundle (V.history vol.old))) updates.now len) f) }
+    ensures kept { IsTrue (V.told vol.old) → OnRefusal result
+        (During (λ d. d ≡ current (V.history vol.old)) (V.history vol.old) (V.history vol.new)) }
+    ensures rest { IsTrue (V.told vol.old) → UnlessDevice result
+        (IsAtRest front.new (current (V.history vol.new))) }
+    ensures answers { IfErr result (λ f. GroupFails updates.now f) }
+    ensures running { ¬ IsErrOf result StoreFault.Stopped }
+    ensures images { IsTrue (V.told vol.old) →
+        During (λ d. IsReadable (contents Bundle (V.history vol.old))
+        → EachImage (AllOrNone updates.now (tiles (contents Bundle (V.history vol.old)))) d)
+        (V.history vol.old) (V.history vol.new) }
+    ensures told { V.told vol.new ≡ V.told vol.old }
+    ensures counted { CountsDevice result (V.faults vol.old) (V.faults vol.new) }
+{
+    let len = vol.len(VolFile::Bundle)?;
+    room_for(len, updates)?;
+    if len == 0 {
+        put_tiles_on_nothing(vol, front, updates)?;
+    } else {
+        put_tiles_on_bundle(vol, len, front, updates)?;
+    }
+    Ok(())
+}

@@ -1,0 +1,133 @@
+//! A table of what the first eight bits of code words tell.
+
+ghost use Rattle.std.specs.Prelude.{◌≡◌, ℕ, ◌<◌, ◌≤◌, List, Bool, length, get_or, MatchOption, ⊤};
+ghost use Rattle.std.specs.Prelude.{IfSome};
+ghost use Rattle.huff_codes.specs.Bits.{bits_of};
+ghost use Rattle.huff_codes.specs.Prefixes.{ArePrefixes, IsLook};
+ghost use Rattle.huff_codes.specs.Words.{IsStuck};
+ghost use Rattle.huff_codes.specs.declared.prefixes.Look.TheVariants.{Nothing};
+ghost use Rattle.huff_codes.specs.inside.Reading.{IsNext};
+ghost use Rattle.huff_codes.specs.inside.Stored.{IsAhead};
+
+use crate::codes::{Ahead, Codes};
+use std::marker::Model;
+
+/// What the next eight bits tell.
+#[derive(Clone, Copy, Debug, PartialEq, Eq)]
+pub enum Look {
+    /// The code of a symbol stands in front of them.
+    Symbol {
+        /// The symbol.
+        symbol: u8,
+        /// How many bits its code has.
+        length: u32,
+    },
+    /// A code of more than eight bits begins with them.
+    Longer,
+    /// Neither: no code begins so.
+    Nothing,
+}
+
+/// For each byte what its eight bits tell, the highest first. A contract sees the list of the 256
+/// looks.
+#[derive(Drop)]
+pub struct Prefixes {
+    looks: [Look; 256],
+}
+
+impl Model for Prefixes {
+    ghost use Rattle.std.specs.Prelude.{◌≡◌, List, length};
+    ghost use Rattle.huff_codes.specs.declared.prefixes.Look.{Look};
+
+    ghost Value = { List Look };
+
+    ghost view = { λ p. p.looks };
+
+    ghost invariant = { λ p. length p.looks ≡ 256 };
+}
+
+/// The eight bits of a byte.
+fn byte_ahead(byte: u8) -> Ahead
+    ensures { IsAhead result (bits_of 8 byte) }
+{
+    Ahead {
+        word: u32::from(byte) << 24,
+        count: 8,
+    }
+}
+
+/// What the eight bits of a byte tell.
+fn look_of(codes: &Codes, byte: u8) -> Look
+    ensures { IsLook codes.now byte result }
+{
+    codes.know();
+    let next = byte_ahead(byte);
+    match codes.next(next) {
+        Some((symbol, length)) => Look::Symbol { symbol, length },
+        None => {
+            if codes.is_cut(next) {
+                Look::Longer
+            } else {
+                Look::Nothing
+            }
+        }
+    }
+}
+
+impl Prefixes {
+    /// The table of the codes.
+    pub fn of(codes: &Codes) -> Prefixes
+        ensures { ArePrefixes codes.now result }
+    {
+        let mut looks = [Look::Nothing; 256];
+        for byte in 0..256 {
+            looks[byte] = look_of(codes, byte as u8);
+        }
+        Prefixes { looks }
+    }
+
+    /// What the eight bits of a byte tell.
+    pub fn look(&self, byte: u8) -> Look
+        ensures { result ≡ get_or self.now byte Nothing }
+    {
+        self.looks[usize::from(byte)]
+    }
+}
+
+/// The symbol whose code stands in front of the next eight bits, where the table tells one, and how
+/// many bits that takes.
+#[inline(always)]
+fn short_symbol(prefixes: &Prefixes, next: Ahead) -> Option<(u8, u32)>
+    ensures found { (codes : List (List Bool)) (left : List Bool) → ArePrefixes codes prefixes.now
+        → IsAhead next left → IfSome result (λ r. IsNext codes left r.0 r.1) }
+    ensures short { (codes : List (List Bool)) → ArePrefixes codes prefixes.now
+        → IfSome result (λ r. r.1 ≤ 8) }
+{
+    if next.count < 8 {
+        return None;
+    }
+    match prefixes.look((next.word >> 24) as u8) {
+        Look::Symbol { symbol, length } => Some((symbol, length)),
+        Look::Longer | Look::Nothing => None,
+    }
+}
+
+/// The symbol whose code the next bits begin with, and how many bits that takes: by the table, and
+/// where it tells none, by the codes.
+pub(crate) fn symbol_ahead(
+    codes: &Codes,
+    prefixes: &Option<Prefixes>,
+    next: Ahead,
+) -> Option<(u8, u32)>
+    requires { IfSome prefixes.now (λ p. ArePrefixes codes.now p) }
+    ensures found { (left : List Bool) → IsAhead next left
+        → MatchOption result (IsStuck codes.now left) (λ r. IsNext codes.now left r.0 r.1) }
+    ensures short { MatchOption result ⊤ (λ r. r.1 ≤ 32) }
+{
+    if let Some(table) = prefixes {
+        if let Some(found) = short_symbol(table, next) {
+            return Some(found);
+        }
+    }
+    codes.next(next)
+}

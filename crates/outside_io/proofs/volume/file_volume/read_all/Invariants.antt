@@ -1,8 +1,0 @@
-use Rattle.std.proofs.Common.{◌≤◌, ◌-◌, length}
-use Rattle.outside_io.proofs.volume.file_volume.read_all.Given as goal
-
-abbrev pub invariant-loop-count : goal.invariant-loop-count
-invariant-loop-count g l = l.count ≤ length l.buf
-
-abbrev pub decreases-loop-count : goal.decreases-loop-count
-decreases-loop-count g l = length l.buf - l.count

@@ -1,0 +1,80 @@
+//! The folder that names a file of the machine.
+
+use std::alloc::Global;
+use std::fs::{File, OpenFile};
+use std::io::ErrorKind;
+use std::path::PathBuf;
+use std::rt::Files;
+
+// How many links in a row the machine follows to open a file.
+const MOST_LINKS: u32 = 40;
+
+/// Puts the names in the folder of the file of this path on the disk: where the path is a link,
+/// those in the folder of the file that it leads to. A machine that lets no folder be opened or
+/// synced has to be trusted with them.
+pub(super) fn sync_name<R: Files>(files: &R, path: &String) -> Option<()> {
+    match end_of_links(files, *path.allocator(), path.as_str())? {
+        Some(target) => sync_folder(files, folder_of(target.as_str())),
+        None => sync_folder(files, folder_of(path.as_str())),
+    }
+}
+
+// Where the links end that begin at this path; Some(None) where it is none. None where the machine
+// refuses, and memory where there is a link.
+fn end_of_links<R: Files>(files: &R, alloc: Global, path: &str) -> Option<Option<PathBuf>> {
+    let mut end: Option<PathBuf> = None;
+    for _ in 0..MOST_LINKS {
+        let at = match &end {
+            Some(link) => link.as_str(),
+            None => path,
+        };
+        match files.read_link(alloc, at) {
+            Ok(text) => end = Some(led_to(alloc, at, text.as_str())?),
+            Err(error) if is_no_link(error.kind()) => return Some(end),
+            Err(_) => return None,
+        }
+    }
+    None
+}
+
+// The path that the link of this path leads to. What it says begins in its own folder, unless it is
+// absolute.
+fn led_to(alloc: Global, link: &str, text: &str) -> Option<PathBuf> {
+    let mut path = PathBuf::from_str(alloc, link).ok()?;
+    path.set_file_name(text).ok()?;
+    Some(path)
+}
+
+// The answers of a machine where there is no link, or no name any more, or which has no links.
+fn is_no_link(kind: ErrorKind) -> bool {
+    kind == ErrorKind::InvalidInput || kind == ErrorKind::NotFound || kind == ErrorKind::Unsupported
+}
+
+fn sync_folder<R: Files>(files: &R, folder: &str) -> Option<()> {
+    let synced = match File::open(files, folder) {
+        Ok(folder) => folder.sync_all(),
+        Err(error) => Err(error),
+    };
+    match synced {
+        Ok(()) => Some(()),
+        Err(error) if is_no_folder_call(error.kind()) => Some(()),
+        Err(_) => None,
+    }
+}
+
+// The answers of a machine that opens or syncs no folder.
+fn is_no_folder_call(kind: ErrorKind) -> bool {
+    kind == ErrorKind::PermissionDenied
+        || kind == ErrorKind::IsADirectory
+        || kind == ErrorKind::InvalidInput
+        || kind == ErrorKind::Unsupported
+}
+
+// The folder that names the file of this path.
+fn folder_of(path: &str) -> &str {
+    match path.rsplit_once('/') {
+        Some(("", _)) => "/",
+        Some((folder, _)) => folder,
+        None => ".",
+    }
+}
