@@ -12,7 +12,7 @@ ghost use Rattle.lerc_cli.specs.words.Commands.{IsSpelled, IsNoCommand};
 
 use crate::dispatch::run;
 use outside_io::{Sink, Source, Volume};
-use program_ends::{Arguments, exit_code, end_without_memory, words_from};
+use program_ends::{Arguments, end_without_memory, exit_code, words_from};
 use std::alloc::Global;
 use std::process::ExitCode;
 

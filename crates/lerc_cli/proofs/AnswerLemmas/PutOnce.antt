@@ -135,5 +135,5 @@ put_once v e w bytes f n m (refused r) (refused s) output another a b =
     one_put_refusal v e w bytes f n m (Refused r) (Refused s) (own_refused r) (own_refused s) (refusal_of (Put v e w) (all_told bytes f) n r output a) (refusal_of (Put v e w) (all_told bytes f) m s another b) in (
       ap (λ (x : Stop Refusal). Err x) same.0,
       cut_once v e w bytes f n output another (so_far v e w (all_told bytes f) n r output a)
-      (subst (λ (k : ℕ). IsPutSoFar (Put v e w) (all_told bytes f) k another) (sym same.1) (so_far v e w (all_told bytes f) m s another b)),
+          (subst (λ (k : ℕ). IsPutSoFar (Put v e w) (all_told bytes f) k another) (sym same.1) (so_far v e w (all_told bytes f) m s another b)),
     )

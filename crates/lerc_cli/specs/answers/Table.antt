@@ -163,6 +163,7 @@ CutByStore (Build version error workers) g n output = (n ≡ 0) × (output ≡ [
 CutByStore (Put version error workers) g n output =
     IsPutSoFar (Put version error workers) g n output
 CutByStore c g n output = output ≡ []
+
 -- where memory may be wanted
 abbrev pub MayWant : Command → Given → Type 0
 MayWant (Encode version error) g = Unit {0}

@@ -51,7 +51,11 @@ pub fn recover<K: Sink, V: Volume>(out: &mut K, vol: &mut V) -> Result<(), Stop<
 }
 
 /// Gives a line for each tile of the bundle, by slot number.
-pub fn list<K: Sink, V: Volume>(alloc: Global, out: &mut K, vol: &mut V) -> Result<(), Stop<Refusal>>
+pub fn list<K: Sink, V: Volume>(
+    alloc: Global,
+    out: &mut K,
+    vol: &mut V,
+) -> Result<(), Stop<Refusal>>
     ensures output { (input : Option (List ℕ)) → OfOutput Command.List
         (given input (files_of (V.told vol.old) (V.history vol.old))) 0 result
         (sink_move K.held K.faults out.old out.new) }
@@ -68,7 +72,11 @@ pub fn list<K: Sink, V: Volume>(alloc: Global, out: &mut K, vol: &mut V) -> Resu
 }
 
 /// Checks the bundle, and gives the lines of what was found.
-pub fn check<K: Sink, V: Volume>(alloc: Global, out: &mut K, vol: &mut V) -> Result<(), Stop<Refusal>>
+pub fn check<K: Sink, V: Volume>(
+    alloc: Global,
+    out: &mut K,
+    vol: &mut V,
+) -> Result<(), Stop<Refusal>>
     ensures output { (input : Option (List ℕ)) → OfOutput Command.Check
         (given input (files_of (V.told vol.old) (V.history vol.old))) 0 result
         (sink_move K.held K.faults out.old out.new) }

@@ -15,7 +15,11 @@ use raster_values::grid_write;
 use std::alloc::Global;
 
 /// Reads one blob from the source, and gives its grid to the output.
-pub fn decode<S: Source, K: Sink>(alloc: Global, src: &mut S, out: &mut K) -> Result<(), Stop<Refusal>>
+pub fn decode<S: Source, K: Sink>(
+    alloc: Global,
+    src: &mut S,
+    out: &mut K,
+) -> Result<(), Stop<Refusal>>
     ensures source { OfSource Command.Decode result (source_move S.left S.faults src.old src.new) }
     ensures output { (files : Option Files)
         → OfOutput Command.Decode (given (S.left src.old) files) 0 result (sink_move K.held K.faults out.old out.new) }

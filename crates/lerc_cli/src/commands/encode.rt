@@ -21,7 +21,12 @@ use raster_values::Raster;
 use std::alloc::Global;
 
 /// The blob that is chosen for a raster.
-fn blob_of(alloc: Global, raster: &Raster, version: Version, error: u32) -> Result<Bytes, Stop<Refusal>>
+fn blob_of(
+    alloc: Global,
+    raster: &Raster,
+    version: Version,
+    error: u32,
+) -> Result<Bytes, Stop<Refusal>>
     requires { IsRaster raster.now }
     ensures { MakesBlob version error raster.now result }
 {

@@ -30,7 +30,11 @@ fn outline_of(blob: &[u8]) -> Outline
 
 /// Reads one blob from the source whole, and gives the fourteen lines of what it says of itself to
 /// the output. The blob is decoded before anything is given.
-pub fn info<S: Source, K: Sink>(alloc: Global, src: &mut S, out: &mut K) -> Result<(), Stop<Refusal>>
+pub fn info<S: Source, K: Sink>(
+    alloc: Global,
+    src: &mut S,
+    out: &mut K,
+) -> Result<(), Stop<Refusal>>
     ensures source { OfSource Command.Info result (source_move S.left S.faults src.old src.new) }
     ensures output { (files : Option Files)
         → OfOutput Command.Info (given (S.left src.old) files) 0 result (sink_move K.held K.faults out.old out.new) }
