@@ -73,7 +73,7 @@ tile_ends input files slot tile Source reads decodes = absurd decodes
 tile_ends input files slot tile Output reads decodes = absurd decodes
 tile_ends input files slot tile Volume reads decodes = absurd decodes
 tile_ends input files slot tile OutOfMemory reads decodes =
-    (bundle_map files (λ b. GetGives b slot tile) (λ b. 0 < (entry_at b slot).size) (λ b gives. gives.some) reads, refl, refl)
+    (bundle_map files (λ b. GetGives b slot tile) (λ b. Unit {0}) (λ b gives. tt) reads, refl, refl)
 tile_ends input files slot tile (Refused (Store refusal)) reads decodes = absurd decodes
 tile_ends input files slot tile (Refused (Stream refusal)) reads decodes = absurd decodes
 

@@ -1,7 +1,8 @@
 -- How the commands end that tell of the whole bundle.
-use Rattle.std.proofs.Common.{◌≡◌, ℕ, ◌≤◌, ◌*◌, List, [], Bool, Option, Ok, Err, inl, inr, refl, sym, ap, subst, ◌∙◌, rules}
+use Rattle.std.proofs.Common.{◌≡◌, ℕ, ◌≤◌, ◌*◌, List, [], Bool, Option, Ok, Err, refl, sym, ap, subst, ◌∙◌, rules}
 use Rattle.std.specs.Prelude.{IsTrue}
 use Rattle.outside_io.specs.declared.volume.VolFile.TheVariants.{Bundle, Journal}
+use Rattle.outside_io.specs.declared.Failed.{Failed}
 use Rattle.outside_io.specs.streams.Faults.{FailedBetween, IsCause}
 use Rattle.outside_io.specs.streams.Sink.{Holds, HoldsPrefix}
 use Rattle.outside_io.specs.volume.Disk.{Disk}
@@ -40,8 +41,8 @@ list_ends : (input : Option (List ℕ)) (files : Option Files) (stop : Stop Stor
 list_ends input files Usage stops = absurd stops
 list_ends input files Source stops = absurd stops
 list_ends input files Output stops = absurd stops
-list_ends input files Volume stops = (search rules, inl refl)
-list_ends input files OutOfMemory stops = absurd stops
+list_ends input files Volume stops = (search rules, refl)
+list_ends input files OutOfMemory stops = (stops, refl, refl)
 list_ends input files (Refused r) stops = (stops, refl)
 
 pub list_stopped : (K : Type 0) (held : K → Option (List ℕ)) (faults : K → ℕ) (out out_new : K) (input : Option (List ℕ)) (files : Option Files) (stop : Stop StoreRefusal)
@@ -53,7 +54,7 @@ check_ends input files Usage stops = absurd stops
 check_ends input files Source stops = absurd stops
 check_ends input files Output stops = absurd stops
 check_ends input files Volume stops = (search rules, refl)
-check_ends input files OutOfMemory stops = absurd stops
+check_ends input files OutOfMemory stops = (stops, refl, refl)
 check_ends input files (Refused r) stops = (stops, refl)
 
 pub check_stopped : (K : Type 0) (held : K → Option (List ℕ)) (faults : K → ℕ) (out out_new : K) (input : Option (List ℕ)) (files : Option Files) (stop : Stop StoreRefusal)
@@ -88,22 +89,18 @@ line_volume (Ok x) old new c = record { counts = c.counts; failed = λ is. absur
 line_volume (Err LineOutput) old new c = record { counts = c.counts; failed = λ is. absurd cc; rose = λ rose. absurd (let no = c.rose rose in cc) }
 line_volume (Err LineVolume) old new c = record { counts = c.counts; failed = λ is. c.failed refl; rose = λ rose. refl }
 
-pub listed : (input : Option (List ℕ)) (told told_mid : Bool) (h : History) (s : SessionState) (d : Disk) (r : LineEnd) (from to : ℕ) (sink : SinkMove)
-    → told_mid ≡ told → (IsTrue told → IsOpened s (contents Bundle h) (contents Journal h) d) → ListGave told_mid d.bundle.now r from to sink.held.old sink.held.new → IsCause (r ≡ Err LineOutput) sink.faults.old sink.faults.new
-    → OfOutput ListAll (given input (files_of told h)) 0 (end_of r) sink
-listed input told told_mid h s d (Ok x) from to sink tells opened (lines, (is, holds)) cause = record {
-  cause = line_output (Ok x) sink.faults.old sink.faults.new cause;
-  gave = (lines, (of_bundle told h (λ b. lines ≡ listing b 16384) s d opened (λ t. is (tells ∙ t)), holds));
-  idle = λ never. absurd never;
-}
-listed input told told_mid h s d (Err LineVolume) from to sink tells opened (k, (below, when, (lines, (is, holds)))) cause = record {
-  cause = line_output (Err LineVolume) sink.faults.old sink.faults.new cause;
-  gave = (lines, ((search rules, inr (128 * k, of_bundle told h (λ b. lines ≡ listing b (128 * k)) s d opened (λ t. is (tells ∙ t)))), holds));
-  idle = λ never. absurd never;
-}
-listed input told told_mid h s d (Err LineOutput) from to sink tells opened (k, (below, (lines, (is, holds)))) cause = record {
-  cause = line_output (Err LineOutput) sink.faults.old sink.faults.new cause;
-  gave = (lines, ((128 * k, of_bundle told h (λ b. lines ≡ listing b (128 * k)) s d opened (λ t. is (tells ∙ t))), holds));
+pub list_gave : (input : Option (List ℕ)) (told told_mid : Bool) (h : History) (s : SessionState) (d : Disk) (sink : SinkMove)
+    → told_mid ≡ told → (IsTrue told → IsOpened s (contents Bundle h) (contents Journal h) d) → ListGave told_mid d.bundle.now (Ok tt) sink.held.old sink.held.new → sink.faults.new ≡ sink.faults.old
+    → OfOutput ListAll (given input (files_of told h)) 0 (Ok tt) sink
+list_gave input told told_mid h s d sink tells opened (lines, (is, holds)) count =
+    gave ListAll (given input (files_of told h)) lines sink (of_bundle told h (λ b. lines ≡ listing b 16384) s d opened (λ t. is (tells ∙ t))) holds count
+
+pub list_cut : (input : Option (List ℕ)) (told told_mid : Bool) (h : History) (s : SessionState) (d : Disk) (failed : Failed) (sink : SinkMove)
+    → told_mid ≡ told → (IsTrue told → IsOpened s (contents Bundle h) (contents Journal h) d) → ListGave told_mid d.bundle.now (Err failed) sink.held.old sink.held.new
+    → sink.faults.old ≤ sink.faults.new → FailedBetween sink.faults.old sink.faults.new → OfOutput ListAll (given input (files_of told h)) 0 (Err Output) sink
+list_cut input told told_mid h s d failed sink tells opened (k, (below, (lines, (is, holds)))) counts failure = record {
+  cause = record { counts = counts; failed = λ _. failure; rose = λ _. refl };
+  gave = (lines, ((k, (below, of_bundle told h (λ b. lines ≡ listing b (128 * k)) s d opened (λ t. is (tells ∙ t)))), holds));
   idle = λ never. absurd never;
 }
 

@@ -134,7 +134,7 @@ unopened_ends v e w g us Usage of stops = absurd stops
 unopened_ends v e w g us Source of stops = absurd stops
 unopened_ends v e w g us Output of stops = absurd stops
 unopened_ends v e w g us Volume of stops = (search rules, (refl, refl))
-unopened_ends v e w g us OutOfMemory of stops = absurd stops
+unopened_ends v e w g us OutOfMemory of stops = (tt, refl, refl)
 unopened_ends v e w g us (Refused r) of stops = ((refl, inr (inl (us, (of, (r, (refl, stops)))))), (refl, refl))
 
 pub unopened_output : (v : Version) (e w : ℕ) (g : Given) (us : List TileRec) (K : Type 0) (held : K → Option (List ℕ)) (faults : K → ℕ) (out out_new : K) (stop : Stop StoreRefusal) → out_new ≡ out

@@ -168,12 +168,12 @@ volume_idle c g n end sink V told history faults vol idle out =
     (record { some = λ _. no_updates c g (idle_makes c idle); none = λ _. refl })
 
 -- memory was refused to a command
-memory : (c : Command) (same P : Type 0) → P → OnAnswer (Err OutOfMemory) c same P
+pub memory : (c : Command) (same P : Type 0) → P → OnAnswer (Err OutOfMemory) c same P
 memory (Encode version error) same P p = p
 memory Decode same P p = p
 memory Info same P p = p
 memory (Build version error workers) same P p = inr p
-memory (Put version error workers) same P p = p
+memory (Put version error workers) same P p = inr p
 memory (Get slot) same P p = p
 memory (GetRaw slot) same P p = p
 memory ListAll same P p = p

@@ -46,6 +46,7 @@ use Rattle.lerc_cli.specs.inside.Opening.{of_store}
 use Rattle.lerc_cli.proofs.AnswerLemmas.Stores.{store_output, store_source}
 use Rattle.lerc_cli.proofs.CrashLemmas.Idle.{clash, untouched}
 use Rattle.lerc_cli.proofs.CrashLemmas.Resting.{rests_put}
+use Rattle.lerc_cli.proofs.CrashLemmas.Unopened.{memory_still}
 use Rattle.lerc_cli.proofs.AnswerLemmas.Outputs.{stopped}
 
 -- ---- reading the updates
@@ -86,24 +87,25 @@ any_early_ends v e w g stop (inl is) = subst (λ (s : Stop Refusal). Answers (Pu
 any_early_ends v e w g stop (inr (s, (is, tells))) =
     subst (λ (x : Stop Refusal). Answers (Put v e w) g 0 (Err x) []) (sym is) (early_ends v e w g s (s, (refl, tells)))
 
--- neither the output nor the volume failed, and no update was made
+-- Neither the output nor the volume failed, and no update was made. The volume was not called, or
+-- memory was refused.
 record IsQuietStop (v : Version) (e w : ℕ) (stop : Stop Refusal) : Type 0 where
   output : stop ≡ Output → ⊥
   volume : stop ≡ Volume → ⊥
-  early : IsTrue (is_early (Put v e w) (Err stop))
+  early : (stop ≡ OutOfMemory) ⊎ IsTrue (is_early (Put v e w) (Err stop))
   none : IsFalse (has_updates (Err stop))
 
 quiet_stop : (v : Version) (e w : ℕ) (s : StreamStop) → IsQuietStop v e w (stream_stop_of s)
-quiet_stop v e w ManyTiles = record { output = λ is. cc; volume = λ is. cc; early = search rules; none = refl }
-quiet_stop v e w (TileFaultOf f) = record { output = λ is. cc; volume = λ is. cc; early = search rules; none = refl }
-quiet_stop v e w (DeepTile at) = record { output = λ is. cc; volume = λ is. cc; early = search rules; none = refl }
-quiet_stop v e w (LargeTile at len) = record { output = λ is. cc; volume = λ is. cc; early = search rules; none = refl }
-quiet_stop v e w (MuchKept at) = record { output = λ is. cc; volume = λ is. cc; early = search rules; none = refl }
-quiet_stop v e w StreamSource = record { output = λ is. cc; volume = λ is. cc; early = search rules; none = refl }
-quiet_stop v e w StreamMemory = record { output = λ is. cc; volume = λ is. cc; early = search rules; none = refl }
+quiet_stop v e w ManyTiles = record { output = λ is. cc; volume = λ is. cc; early = inr (search rules); none = refl }
+quiet_stop v e w (TileFaultOf f) = record { output = λ is. cc; volume = λ is. cc; early = inr (search rules); none = refl }
+quiet_stop v e w (DeepTile at) = record { output = λ is. cc; volume = λ is. cc; early = inr (search rules); none = refl }
+quiet_stop v e w (LargeTile at len) = record { output = λ is. cc; volume = λ is. cc; early = inr (search rules); none = refl }
+quiet_stop v e w (MuchKept at) = record { output = λ is. cc; volume = λ is. cc; early = inr (search rules); none = refl }
+quiet_stop v e w StreamSource = record { output = λ is. cc; volume = λ is. cc; early = inr (search rules); none = refl }
+quiet_stop v e w StreamMemory = record { output = λ is. cc; volume = λ is. cc; early = inl refl; none = refl }
 
 any_quiet : (v : Version) (e w : ℕ) (g : Given) (stop : Stop Refusal) → Early v e g stop → IsQuietStop v e w stop
-any_quiet v e w g stop (inl is) = subst (λ (s : Stop Refusal). IsQuietStop v e w s) (sym is) (record { output = λ is. cc; volume = λ is. cc; early = search rules; none = refl })
+any_quiet v e w g stop (inl is) = subst (λ (s : Stop Refusal). IsQuietStop v e w s) (sym is) (record { output = λ is. cc; volume = λ is. cc; early = inl refl; none = refl })
 any_quiet v e w g stop (inr (s, (is, tells))) = subst (λ (x : Stop Refusal). IsQuietStop v e w x) (sym is) (quiet_stop v e w s)
 
 pub early_output : (v : Version) (e w : ℕ) (g : Given) (K : Type 0) (held : K → Option (List ℕ)) (faults : K → ℕ) (out out_new : K) (stop : Stop Refusal) → out_new ≡ out → Early v e g stop
@@ -115,8 +117,11 @@ pub early_volume : (v : Version) (e w : ℕ) (g : Given) (stop : Stop Refusal) (
     → OfVolume (Put v e w) g (Err stop) [] (volume_move told history faults vol vol)
 early_volume v e w g stop V told history faults vol early =
     let q = any_quiet v e w g stop early in
-    untouched (Put v e w) g (Err stop) V told history faults vol q.early (λ is_volume. q.volume (let same_stop : stop ≡ Volume = cc in same_stop))
-    (record { some = λ yes_. absurd (clash (has_updates (Err stop)) yes_ q.none); none = λ _. refl })
+    elim q.early [
+      | inl so ↦ subst (λ (s : Stop Refusal). OfVolume (Put v e w) g (Err s) [] (volume_move told history faults vol vol)) (sym so) (memory_still (Put v e w) g V told history faults vol (search rules))
+      | inr so ↦ untouched (Put v e w) g (Err stop) V told history faults vol so (λ is_volume. q.volume (let same_stop : stop ≡ Volume = cc in same_stop))
+          (record { some = λ yes_. absurd (clash (has_updates (Err stop)) yes_ q.none); none = λ _. refl })
+    ]
 
 -- ---- the bundle was not opened
 
@@ -125,7 +130,7 @@ unopened_ends v e w g us Usage of stops = absurd stops
 unopened_ends v e w g us Source of stops = absurd stops
 unopened_ends v e w g us Output of stops = absurd stops
 unopened_ends v e w g us Volume of stops = (search rules, inl (refl, refl))
-unopened_ends v e w g us OutOfMemory of stops = absurd stops
+unopened_ends v e w g us OutOfMemory of stops = (tt, refl, refl)
 unopened_ends v e w g us (Refused r) of stops = (inr (inl (refl, (us, (of, (r, (refl, stops)))))), inl (refl, refl))
 
 pub not_output : (files : Option Files) (stop : Stop StoreRefusal) → OpeningStops files stop → of_store stop ≡ Output → ⊥

@@ -1,5 +1,5 @@
 -- What a command answers: the rows of one table. Each relation below has one case for each command.
-use Rattle.std.specs.Prelude.{◌≡◌, ◌⊎◌, ℕ, ◌+◌, ◌^◌, ◌<◌, ◌≤◌, take, List, [], length, Option, Some, Ok, Err, IsTrue}
+use Rattle.std.specs.Prelude.{◌≡◌, ◌⊎◌, ℕ, ◌+◌, ◌*◌, ◌^◌, ◌<◌, ◌≤◌, take, List, [], length, Option, Some, Ok, Err, IsTrue}
 use Rattle.bundle_index.specs.Entry.{entry_at}
 use Rattle.bundle_store.specs.declared.recovery.Recovery.{Recovery}
 use Rattle.bundle_store.specs.Session.{GetGives}
@@ -130,9 +130,10 @@ IsRefusal Check g n stop = ⊥
 IsRefusal Recover g n (Refused (Store refusal)) = IsUnrecovered g.files refusal
 IsRefusal Recover g n stop = ⊥
 
--- the lines of some of the first slots
+-- the lines of some of the first rows of slots
 abbrev pub IsListed : Option Files → List ℕ → Type 0
-IsListed files output = (slots : ℕ) × OfBundle files (λ bundle. output ≡ listing bundle slots)
+IsListed files output = (rows : ℕ) × ((rows ≤ 128)
+    × OfBundle files (λ bundle. output ≡ listing bundle (128 * rows)))
 
 -- the lines of the updates that are done, and none before the first
 abbrev pub IsPutSoFar : Command → Given → ℕ → List ℕ → Type 0
@@ -154,7 +155,6 @@ abbrev pub CutByVolume : Command → Given → ℕ → List ℕ → Type 0
 CutByVolume (Build version error workers) g n output = (n ≡ 0) × (output ≡ [])
 CutByVolume (Put version error workers) g n output =
     IsPutSoFar (Put version error workers) g n output
-CutByVolume ListAll g n output = (output ≡ []) ⊎ IsListed g.files output
 CutByVolume c g n output = output ≡ []
 
 -- the same where the store refuses
@@ -171,10 +171,10 @@ MayWant Decode g = OfInput g HasHead
 MayWant Info g = OfInput g HasHead
 MayWant (Build version error workers) g = Unit {0}
 MayWant (Put version error workers) g = Unit {0}
-MayWant (Get slot) g = OfBundle g.files (λ bundle. 0 < (entry_at bundle slot).size)
-MayWant (GetRaw slot) g = OfBundle g.files (λ bundle. 0 < (entry_at bundle slot).size)
-MayWant ListAll g = ⊥
-MayWant Check g = ⊥
+MayWant (Get slot) g = OfBundle g.files (λ bundle. Unit {0})
+MayWant (GetRaw slot) g = OfBundle g.files (λ bundle. Unit {0})
+MayWant ListAll g = OfBundle g.files (λ bundle. Unit {0})
+MayWant Check g = OfBundle g.files (λ bundle. Unit {0})
 MayWant Recover g = ⊥
 
 -- The whole answer: how the command ends, how many updates are then done, and what it has meant to

@@ -45,23 +45,22 @@ pub record UpdatesAt (c : Command) (g : Given) (end : End) (updates : List TileR
   pub some : IsTrue (has_updates end) → UpdatesOf c g updates
   pub none : IsFalse (has_updates end) → updates ≡ []
 
--- The volume is not called: the command calls none, or its input was refused, the source failed, or
--- of `put` memory was refused, which it wants only before. `build` may want some behind a recovery.
+-- The volume is not called: the command calls none, or its input was refused, or the source failed.
 abbrev pub is_early : Command → End → Bool
 is_early (Build version error workers) (Err (Refused (Input fault))) = true
 is_early (Build version error workers) (Err Source) = true
 is_early (Build version error workers) (Err (Refused (Stream refusal))) = true
 is_early (Put version error workers) (Err (Refused (Input fault))) = true
 is_early (Put version error workers) (Err Source) = true
-is_early (Put version error workers) (Err OutOfMemory) = true
 is_early (Put version error workers) (Err (Refused (Stream refusal))) = true
 is_early c end = not (calls_volume c)
 
--- Unless the volume failed. Where memory was refused to `build`, the volume may also be as it was,
--- which the first type says.
+-- Unless the volume failed. Where memory was refused to `build` or `put`, the volume may also be as
+-- it was, which the first type says.
 abbrev pub OnAnswer : End → Command → Type 0 → Type 0 → Type 0
 OnAnswer (Err Volume) c same P = Unit {0}
 OnAnswer (Err OutOfMemory) (Build version error workers) same P = same ⊎ P
+OnAnswer (Err OutOfMemory) (Put version error workers) same P = same ⊎ P
 OnAnswer end c same P = P
 
 -- The bundle with these updates done. A build that ended well made one of no updates, too, and so

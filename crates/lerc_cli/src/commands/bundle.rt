@@ -19,7 +19,7 @@ use outside_io::{Sink, Volume};
 use program_ends::Stop;
 use std::alloc::Global;
 
-/// How lines ended, as a command's end.
+/// How a check ended, as a command's end.
 fn end(ended: Result<(), LineStop>) -> Result<(), Stop<Refusal>>
     ensures { result ≡ end_of ended }
 {
@@ -68,7 +68,10 @@ pub fn list<K: Sink, V: Volume>(
         Ok(session) => session,
         Err(stop) => return Err(store_stop(stop)),
     };
-    end(list_all(&session, vol, out))
+    match list_all(&session, vol, out) {
+        Ok(()) => Ok(()),
+        Err(_) => Err(Stop::Output),
+    }
 }
 
 /// Checks the bundle, and gives the lines of what was found.
