@@ -5,8 +5,9 @@
 ghost use Rattle.std.specs.Prelude.{◌<◌, None};
 
 use crate::same::same;
-use lerc_cli::{Arguments, command_words, run};
+use lerc_cli::run;
 use outside_io::{Bytes, MemSink, MemSource, NoVolume, Report, Volume, Word};
+use program_ends::{Arguments, words_from};
 use std::alloc::{AllocError, Global};
 use std::env::FillError;
 use std::process::Abort;
@@ -400,7 +401,7 @@ fn words_are(rt: &impl Abort, words: &[Word], texts: &[&[u8]]) {
 
 /// The words of a command line of these texts are those behind the second.
 fn words_are_behind_two(rt: &(impl Abort + AllocGlobal), texts: &[&[u8]]) {
-    let words = command_words(rt.alloc(), &arguments_of(rt, texts)).expect(rt, "memory");
+    let words = words_from(rt.alloc(), &arguments_of(rt, texts), 2).expect(rt, "memory");
     words_are(rt, &words, texts.get(2..).unwrap_or(&[]));
 }
 

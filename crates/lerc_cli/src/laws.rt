@@ -1,9 +1,9 @@
 //! Laws over the definitions.
 
-ghost use Rattle.lerc_cli.specs.declared.command.Command.{Command};
-ghost use Rattle.lerc_cli.specs.Answer.{AnswersOnce};
-ghost use Rattle.lerc_cli.specs.Command.{SpellsOne};
-ghost use Rattle.lerc_cli.specs.CutRuns.{SurvivesCuts};
+ghost use Rattle.lerc_cli.specs.declared.words.Command.{Command};
+ghost use Rattle.lerc_cli.specs.answers.Table.{AnswersOnce};
+ghost use Rattle.lerc_cli.specs.words.Commands.{SpellsOne};
+ghost use Rattle.lerc_cli.specs.crashes.CutRuns.{SurvivesCuts};
 
 /// Words spell at most one command.
 pub fn one_command()

@@ -1,9 +1,10 @@
 //! The program: `main` makes the objects over the machine and hands them to `serve`. It stands on
-//! `lerc_cli`, which says what the program does, and on `outside_io`.
+//! `lerc_cli`, which says what the program does, on `program_ends` and on `outside_io`.
 #![tactic(auto)]
 
-use lerc_cli::{ProcessArguments, bundle_paths, end_without_memory, serve};
+use lerc_cli::serve;
 use outside_io::{FileVolume, NoVolume, StdSink, StdSource, hold_numbers};
+use program_ends::{ProcessArguments, end_without_memory, paths_at};
 use std::process::ExitCode;
 
 fn main(rt: HostRuntime) -> ExitCode {
@@ -14,7 +15,7 @@ fn main(rt: HostRuntime) -> ExitCode {
     let mut src = StdSource::new(rt.stdin());
     let mut out = StdSink::new(rt.stdout());
     let mut err = StdSink::new(rt.stderr());
-    match bundle_paths(alloc, &args) {
+    match paths_at(alloc, &args, 1) {
         Ok(Some(paths)) if held.is_some() => {
             let mut vol = FileVolume::new(rt, paths.bundle, paths.journal);
             serve(alloc, &args, &mut src, &mut out, &mut err, &mut vol)

@@ -20,4 +20,3 @@ not_asked (Some left) new limit e (m, (few, (within, is))) zero = let none : m �
 pub asked_end : (mid new : Option (List ℕ)) → AsksOne (Ok false) mid new → IsAtEnd new
 asked_end None new asks = subst IsAtEnd (sym asks) tt
 asked_end (Some rest) new asks = subst IsAtEnd (sym asks.1) refl
-

@@ -1,6 +1,7 @@
 -- What a call on the giver of a command line's texts answers. The first argument has all the texts,
 -- None where they are not told.
-use Rattle.std.specs.Prelude.{◌≡◌, ℕ, ◌≤◌, ◌<◌, List, length, take, slice_get, Option, None, Some, IsSomeAnd, Result, Ok, Err}
+use Rattle.std.specs.Prelude.{◌≡◌, ◌⊎◌, ℕ, ◌≤◌, ◌<◌, List, length, take, codes, slice_get, Option, None, Some, IsSomeAnd, Result, Ok, Err}
+use Rattle.std.specs.Str.{IsUtf8}
 use Rattle.std.specs.declared.env.FillError.{FillError}
 use Rattle.std.specs.declared.env.FillError.TheVariants.{NotPresent, TooLong}
 
@@ -12,3 +13,8 @@ GivesText (Some texts) number (Ok n) buf = slice_get texts number ≡ Some (take
 GivesText (Some texts) number (Err NotPresent) buf = length texts ≤ number
 GivesText (Some texts) number (Err TooLong) buf =
     IsSomeAnd (slice_get texts number) (λ text. length buf < length text)
+
+-- The text names no path: there is none, it is `-`, or it is no UTF-8.
+abbrev pub IsNoPath : Option (List ℕ) → Type 0
+IsNoPath None = Unit {0}
+IsNoPath (Some text) = (text ≡ codes "-") ⊎ (¬ IsUtf8 text)

@@ -1,6 +1,6 @@
 //! What is done as a run ends.
 
-ghost use Rattle.std.specs.Prelude.{◌≡◌, ◌≤◌, length};
+ghost use Rattle.std.specs.Prelude.{◌≡◌, ◌≤◌, ◌++◌, ◌∷◌, [], codes, length};
 ghost use Rattle.std.specs.Process.{exit_status};
 ghost use Rattle.outside_io.specs.program.Line.{GivesLine};
 ghost use Rattle.program_ends.specs.Moves.{sink_move};
@@ -77,6 +77,18 @@ pub fn ended_status<R: Refusal, E: Sink>(
             stop.status()
         }
     }
+}
+
+/// What a program ends with that had no memory to begin: the line of that is all that is given.
+pub fn end_without_memory<E: Sink>(err: &mut E) -> ExitCode
+    ensures status { exit_status result ≡ 6 }
+    ensures line { GivesLine (E.held err.old) (E.held err.new) (E.faults err.old)
+        (E.faults err.new) (codes "out of memory" ++ 10 ∷ []) }
+{
+    let mut line = plain(b"out of memory");
+    line.text(b"\n");
+    give_line(err, &line);
+    exit_code(6)
 }
 
 /// What the process ends with.

@@ -1,9 +1,9 @@
 -- The words behind the name of a command.
 use Rattle.std.specs.Prelude.{◌≡◌, ℕ, List}
 use Rattle.lerc_header.specs.declared.header.Version.{Version}
-use Rattle.lerc_cli.specs.declared.command.Command.{Command}
-use Rattle.lerc_cli.specs.declared.command.Command.TheVariants.{Encode, Build, Put, Get, GetRaw}
-use Rattle.lerc_cli.specs.Command.{AreSlotWords, IsVersionWord, IsWithin}
+use Rattle.lerc_cli.specs.declared.words.Command.{Command}
+use Rattle.lerc_cli.specs.declared.words.Command.TheVariants.{Encode, Build, Put, Get, GetRaw}
+use Rattle.command_words.specs.Words.{AreSlotWords, IsVersionWord, IsWithin}
 
 -- the command is `encode` of these two words
 abbrev pub IsEncode : List ℕ → List ℕ → Command → Type 0

@@ -9,14 +9,17 @@ use Rattle.bundle_lines.specs.declared.stop.PutStop.TheVariants.{Output as PutOu
 use Rattle.bundle_lines.specs.Builds.{BuildEnd}
 use Rattle.bundle_lines.specs.Ends.{PutEnd}
 use Rattle.tile_updates.specs.Updates.{IsUpdates, OfBytes}
-use Rattle.lerc_cli.specs.declared.stop.Refusal.TheVariants.{NotEmpty, Full}
-use Rattle.lerc_cli.specs.declared.stop.Stop.{Stop}
-use Rattle.lerc_cli.specs.declared.stop.Stop.TheVariants.{Output, Volume, OutOfMemory, Store}
-use Rattle.lerc_cli.specs.Answer.{IsNoUpdates}
-use Rattle.lerc_cli.specs.Stop.{End}
+use Rattle.program_ends.specs.declared.stop.Stop.{Stop}
+use Rattle.program_ends.specs.declared.stop.Stop.TheVariants.{Output, Volume, OutOfMemory, Refused}
+use Rattle.opened_bundle.specs.declared.refusal.StoreRefusal.TheVariants.{NotEmpty, Full}
+use Rattle.lerc_cli.specs.declared.refusal.Refusal.{Refusal}
+use Rattle.lerc_cli.specs.declared.refusal.Refusal.TheVariants.{Store}
+use Rattle.lerc_cli.specs.inputs.Refused.{IsNoUpdates}
+use Rattle.lerc_cli.specs.answers.Names.{End}
 
 -- the updates of the input, or why there are none
-abbrev pub TakesUpdates : Version → ℕ → Option (List ℕ) → Result (Vec TileRec Global) Stop → Type 0
+abbrev pub TakesUpdates : Version → ℕ → Option (List ℕ) → Result (Vec TileRec Global) (Stop Refusal) →
+    Type 0
 TakesUpdates version error input (Ok us) =
     OfBytes input (λ bytes. IsUpdates version (step_of error) bytes us.items)
 TakesUpdates version error input (Err stop) =
@@ -27,12 +30,12 @@ abbrev pub put_end_of : PutEnd → End
 put_end_of (Ok x) = Ok tt
 put_end_of (Err PutOutput) = Err Output
 put_end_of (Err PutVolume) = Err Volume
-put_end_of (Err (PutFull len)) = Err (Store (Full len))
+put_end_of (Err (PutFull len)) = Err (Refused (Store (Full len)))
 
 -- how a build ended, as an end
 abbrev pub build_end_of : BuildEnd → End
 build_end_of (Ok x) = Ok tt
 build_end_of (Err BuildOutput) = Err Output
 build_end_of (Err BuildVolume) = Err Volume
-build_end_of (Err (BuildNotEmpty len)) = Err (Store (NotEmpty len))
+build_end_of (Err (BuildNotEmpty len)) = Err (Refused (Store (NotEmpty len)))
 build_end_of (Err BuildMemory) = Err OutOfMemory

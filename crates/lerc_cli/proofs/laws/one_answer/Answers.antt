@@ -1,4 +1,4 @@
-use Rattle.lerc_cli.proofs.Once.{answers_once}
+use Rattle.lerc_cli.proofs.AnswerLemmas.Once.{answers_once}
 use Rattle.lerc_cli.proofs.laws.one_answer.Goals as goal
 
 pub returns : goal.returns

@@ -1,4 +1,4 @@
-use Rattle.lerc_cli.proofs.Spelled.{spells_one}
+use Rattle.lerc_cli.proofs.WordLemmas.Spelled.{spells_one}
 use Rattle.lerc_cli.proofs.laws.one_command.Goals as goal
 
 pub returns : goal.returns

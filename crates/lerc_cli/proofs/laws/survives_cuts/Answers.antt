@@ -1,4 +1,4 @@
-use Rattle.lerc_cli.proofs.CutRuns.{survives}
+use Rattle.lerc_cli.proofs.CrashLemmas.CutRuns.{survives}
 use Rattle.lerc_cli.proofs.laws.survives_cuts.Goals as goal
 
 pub returns : goal.returns

@@ -1,0 +1,79 @@
+-- One answer holds of a bundle that files recover to, and of the blob that a tile of it is.
+use Rattle.std.proofs.Common.{◌≡◌, inl, inr, ℕ, ◌-◌, ◌<◌, ◌==◌, nat_lt, Bool, true, false, List, length, Option, Some, None, if◌then◌else◌, Result, Ok, Err, refl, sym, ◌∙◌, ap, subst, arith}
+use Rattle.std.proofs.lemmas.Bool.{cases_lt}
+use Rattle.std.proofs.lemmas.Bool.Decides.{nat_tests}
+use Rattle.raster_values.specs.Raster.{Pixels}
+use Rattle.lerc_header.specs.declared.fault.BlobReason.{BlobReason}
+use Rattle.lerc_grammar.specs.Verdict.{WholeFault}
+use Rattle.lerc_grammar.specs.Blob.{Blob}
+use Rattle.lerc_grammar.proofs.Blobs.{one_raster}
+use Rattle.bundle_index.specs.Entry.{entry_at}
+use Rattle.bundle_index.specs.Header.{header_fault}
+use Rattle.bundle_index.specs.Numbers.{u32_at}
+use Rattle.bundle_index.specs.declared.entry.Entry.{Entry}
+use Rattle.bundle_index.specs.declared.header.HeaderFault.{HeaderFault}
+use Rattle.bundle_store.specs.declared.fault.StoreFault.{StoreFault}
+use Rattle.bundle_store.specs.declared.fault.StoreFault.TheVariants as found
+use Rattle.bundle_store.specs.declared.recovery.Recovery.{Recovery}
+use Rattle.bundle_store.specs.declared.recovery.Recovery.TheVariants.{Closed, Applied, Emptied}
+use Rattle.bundle_store.specs.declared.check.CheckReport.{CheckReport}
+use Rattle.bundle_store.specs.Check.{IsFirstBad, Reports}
+use Rattle.bundle_store.specs.Recover.{Leaves, RecoverySays, Refuses}
+use Rattle.bundle_lines.specs.Lines.{listing}
+use Rattle.bundle_store.specs.Session.{GetGives, IsBeyond, open_fault}
+use Rattle.bundle_store.specs.Tiles.{HasIndex, Opens}
+use Rattle.bundle_store.proofs.OneRecovery.{one_answer, one_left}
+use Rattle.bundle_store.proofs.Opening.{open_by}
+use Rattle.opened_bundle.specs.declared.refusal.StoreRefusal.{StoreRefusal}
+use Rattle.opened_bundle.specs.declared.refusal.StoreRefusal.TheVariants.{NoTile, Beyond, BadBundle, BadJournal, NotEmpty, Full}
+use Rattle.lerc_cli.specs.declared.refusal.StreamRefusal.TheVariants.{TileTooLarge, TooManyTiles, KeptTooMuch}
+use Rattle.opened_bundle.specs.Files.{Files, HasRecovered, OfBundle, OfRecovered}
+use Rattle.lerc_cli.specs.answers.Table.{HoldsBlob}
+use Rattle.opened_bundle.specs.Refusals.{IsMissing, IsOpening, IsUnrecovered}
+use Rattle.opened_bundle.proofs.OneBundle.{both, same_tile, tile_or_missing}
+use Rattle.lerc_cli.proofs.InputLemmas.Whole.{blob_or_fault, one_whole_fault}
+
+-- ---- one listing
+
+pub same_listing : (f : Files) (one two : List ℕ) → OfBundle (Some f) (λ b. one ≡ listing b 16384) → OfBundle (Some f) (λ b. two ≡ listing b 16384) → one ≡ two
+same_listing f one two is so =
+    let same = both f (λ b. one ≡ listing b 16384) (λ b. two ≡ listing b 16384) is so in same.1.0 ∙ sym same.1.1
+
+-- ---- its blob
+
+-- the tile has this first fault
+abbrev HasFault : List ℕ → ℕ → ℕ → BlobReason → Type 0
+HasFault b slot place reason = (t : List ℕ) × (GetGives b slot t × WholeFault t place reason)
+
+pub one_held : (f : Files) (slot : ℕ) (r s : Pixels) → OfBundle (Some f) (λ b. HoldsBlob b slot r) → OfBundle (Some f) (λ b. HoldsBlob b slot s) → r ≡ s
+one_held f slot r s one other =
+    let same = both f (λ b. HoldsBlob b slot r) (λ b. HoldsBlob b slot s) one other in
+    let t = same.1.0 in
+    let u = same.1.1 in
+    one_raster u.0 r s (subst (λ (x : List ℕ). Blob x r) (same_tile same.0 slot t.0 u.0 t.1.0 u.1.0) t.1.1) u.1.1
+
+pub held_or_fault : (f : Files) (slot : ℕ) (r : Pixels) (place : ℕ) (reason : BlobReason) → OfBundle (Some f) (λ b. HoldsBlob b slot r) → OfBundle (Some f) (λ b. HasFault b slot place reason) → ⊥
+held_or_fault f slot r place reason one other =
+    let same = both f (λ b. HoldsBlob b slot r) (λ b. HasFault b slot place reason) one other in
+    let t = same.1.0 in
+    let u = same.1.1 in
+    blob_or_fault u.0 r place reason (subst (λ (x : List ℕ). Blob x r) (same_tile same.0 slot t.0 u.0 t.1.0 u.1.0) t.1.1) u.1.1
+
+held_tile : (f : Files) (slot : ℕ) (r : Pixels) → OfBundle (Some f) (λ b. HoldsBlob b slot r) → (t : List ℕ) × OfBundle (Some f) (λ b. GetGives b slot t)
+held_tile f slot r (done, (bundle, (leaves, (opens, (t, (gives, blob)))))) = (t, (done, (bundle, (leaves, (opens, gives)))))
+
+pub held_or_missing : (f : Files) (slot : ℕ) (r : Pixels) (s : StoreRefusal) → OfBundle (Some f) (λ b. HoldsBlob b slot r) → IsMissing (Some f) slot s → ⊥
+held_or_missing f slot r s held is = let t = held_tile f slot r held in tile_or_missing f slot t.0 s t.1 is
+
+fault_tile : (f : Files) (slot place : ℕ) (reason : BlobReason) → OfBundle (Some f) (λ b. HasFault b slot place reason) → (t : List ℕ) × OfBundle (Some f) (λ b. GetGives b slot t)
+fault_tile f slot place reason (done, (bundle, (leaves, (opens, (t, (gives, fault)))))) = (t, (done, (bundle, (leaves, (opens, gives)))))
+
+pub fault_or_missing : (f : Files) (slot place : ℕ) (reason : BlobReason) (s : StoreRefusal) → OfBundle (Some f) (λ b. HasFault b slot place reason) → IsMissing (Some f) slot s → ⊥
+fault_or_missing f slot place reason s fault is = let t = fault_tile f slot place reason fault in tile_or_missing f slot t.0 s t.1 is
+
+pub one_tile_fault : (f : Files) (slot p q : ℕ) (a b : BlobReason) → OfBundle (Some f) (λ x. HasFault x slot p a) → OfBundle (Some f) (λ x. HasFault x slot q b) → (p ≡ q) × (a ≡ b)
+one_tile_fault f slot p q a b one other =
+    let same = both f (λ x. HasFault x slot p a) (λ x. HasFault x slot q b) one other in
+    let t = same.1.0 in
+    let u = same.1.1 in
+    one_whole_fault u.0 p q a b (subst (λ (x : List ℕ). WholeFault x p a) (same_tile same.0 slot t.0 u.0 t.1.0 u.1.0) t.1.1) u.1.1

@@ -1,0 +1,279 @@
+-- What a run of `put` leaves, by how it ends.
+use Rattle.std.proofs.Common.{◌≡◌, ◌⊎◌, inl, inr, ℕ, ◌≤◌, List, [], length, take, Bool, Option, Result, Ok, Err, refl, sym, ◌∙◌, ap, subst, rules, arith}
+use Rattle.std.specs.Prelude.{IsFalse, IsTrue, Vec}
+use Rattle.std.specs.declared.alloc.Global.{Global}
+use Rattle.std.proofs.lemmas.Bool.{cases_lt}
+use Rattle.outside_io.specs.declared.volume.VolFile.TheVariants.{Bundle, Journal}
+use Rattle.outside_io.specs.streams.Faults.{IsCause}
+use Rattle.outside_io.specs.volume.Disk.{Disk, File}
+use Rattle.outside_io.specs.volume.History.{History, contents, current}
+use Rattle.lerc_header.specs.declared.header.Version.{Version}
+use Rattle.lerc_header.specs.Written.{step_of}
+use Rattle.side_journal.specs.declared.body.JournalState.{JournalState}
+use Rattle.side_journal.specs.declared.body.JournalState.TheVariants.{Closed, Open, Bad}
+use Rattle.side_journal.specs.Says.{IsOpen, Says}
+use Rattle.bundle_store.specs.declared.tile_rec.TileRec.{TileRec}
+use Rattle.bundle_store.specs.Images.{HoldsClosed, Shows}
+use Rattle.bundle_store.specs.Session.{SessionState}
+use Rattle.bundle_store.specs.Tiles.{IsReadable, TileMap, tiles}
+use Rattle.bundle_lines.specs.declared.stop.PutStop.TheVariants.{Output as PutOutput, Volume as PutVolume, Full as PutFull}
+use Rattle.bundle_lines.specs.Ends.{PutEnd, PutGave, UnlessVolume}
+use Rattle.bundle_lines.specs.Lines.{put_lines}
+use Rattle.bundle_lines.specs.Puts.{AreMarks, EndsByRoom, HaveRoom, IsFirstFull, KeepsFullLength, PutsKeep, PutsLeave, bundle_after_puts}
+use Rattle.bundle_lines.proofs.Marked.{puts_join}
+use Rattle.tile_updates.specs.declared.stop.StreamStop.{StreamStop}
+use Rattle.tile_updates.specs.declared.stop.StreamStop.TheVariants.{TooManyTiles as ManyTiles, Fault as TileFaultOf, DepthNeedsV4 as DeepTile, TileTooLarge as LargeTile, KeptTooMuch as MuchKept, Source as StreamSource, OutOfMemory as StreamMemory}
+use Rattle.program_ends.specs.Moves.{Change, SinkMove, sink_move, volume_move}
+use Rattle.lerc_cli.specs.declared.words.Command.TheVariants.{Put}
+use Rattle.program_ends.specs.declared.stop.Stop.{Stop}
+use Rattle.lerc_cli.specs.declared.refusal.Refusal.{Refusal}
+use Rattle.program_ends.specs.declared.stop.Stop.TheVariants.{Usage, Refused, Source, Output, Volume, OutOfMemory}
+use Rattle.lerc_cli.specs.declared.refusal.Refusal.TheVariants.{Input, Store, Stream}
+use Rattle.lerc_cli.specs.answers.Table.{Answers, IsPutSoFar, UpdatesOf}
+use Rattle.opened_bundle.specs.Files.{Files, files_of}
+use Rattle.lerc_cli.specs.inputs.Given.{Given, given}
+use Rattle.lerc_cli.specs.inputs.Refused.{IsNoUpdates, stream_stop_of}
+use Rattle.program_ends.specs.Stop.{Gained}
+use Rattle.lerc_cli.specs.run.Run.{OfOutput, OfVolume, StopsBeforeOutput}
+use Rattle.lerc_cli.specs.answers.Names.{End}
+use Rattle.opened_bundle.specs.Left.{OfReading}
+use Rattle.lerc_cli.specs.crashes.Kept.{OnAnswer, UpdatesAt, has_updates, is_early}
+use Rattle.opened_bundle.specs.Opening.{IsOpened, OpeningStops}
+use Rattle.lerc_cli.specs.inside.Updates.{put_end_of}
+use Rattle.opened_bundle.proofs.BundleOpening.{failed_later, of_bundle}
+use Rattle.opened_bundle.specs.declared.refusal.StoreRefusal.{StoreRefusal}
+use Rattle.lerc_cli.specs.inside.Opening.{of_store}
+use Rattle.lerc_cli.proofs.AnswerLemmas.Stores.{store_output, store_source}
+use Rattle.lerc_cli.proofs.CrashLemmas.Idle.{clash, untouched}
+use Rattle.lerc_cli.proofs.CrashLemmas.Resting.{rests_put}
+use Rattle.lerc_cli.proofs.CrashLemmas.Unopened.{memory_still}
+use Rattle.lerc_cli.proofs.AnswerLemmas.Outputs.{stopped}
+
+-- ---- reading the updates
+
+pub stream_cause : (s : StreamStop) (old new : ℕ) → IsCause (◌≡◌ {A = Result (Vec TileRec Global) StreamStop} (Err s) (Err StreamSource)) old new → IsCause (stream_stop_of s ≡ Source) old new
+stream_cause ManyTiles old new c = record { counts = c.counts; failed = λ is. absurd cc; rose = λ rose. absurd (let bad = c.rose rose in cc) }
+stream_cause (TileFaultOf f) old new c = record { counts = c.counts; failed = λ is. absurd cc; rose = λ rose. absurd (let bad = c.rose rose in cc) }
+stream_cause (DeepTile at) old new c = record { counts = c.counts; failed = λ is. absurd cc; rose = λ rose. absurd (let bad = c.rose rose in cc) }
+stream_cause (LargeTile at len) old new c = record { counts = c.counts; failed = λ is. absurd cc; rose = λ rose. absurd (let bad = c.rose rose in cc) }
+stream_cause (MuchKept at) old new c = record { counts = c.counts; failed = λ is. absurd cc; rose = λ rose. absurd (let bad = c.rose rose in cc) }
+stream_cause StreamSource old new c = record { counts = c.counts; failed = λ is. c.failed refl; rose = λ rose. refl }
+stream_cause StreamMemory old new c = record { counts = c.counts; failed = λ is. absurd cc; rose = λ rose. absurd (let bad = c.rose rose in cc) }
+
+-- neither is so
+pub no_cause : (P Q : Type 0) (old new : ℕ) → (P → ⊥) → (Q → ⊥) → IsCause P old new → IsCause Q old new
+no_cause P Q old new none never c = record { counts = c.counts; failed = λ is. absurd (never is); rose = λ rose. absurd (none (c.rose rose)) }
+
+-- ---- the input has no updates, or memory was refused before the volume was called
+
+early_ends : (v : Version) (e w : ℕ) (g : Given) (s : StreamStop) → IsNoUpdates v (step_of e) g.input (stream_stop_of s) → Answers (Put v e w) g 0 (Err (stream_stop_of s)) []
+early_ends v e w g ManyTiles is = (inl (refl, is), refl)
+early_ends v e w g (TileFaultOf f) is = (inl (refl, is), refl)
+early_ends v e w g (DeepTile at) is = (inl (refl, is), refl)
+early_ends v e w g (LargeTile at len) is = (inl (refl, is), refl)
+early_ends v e w g (MuchKept at) is = (inl (refl, is), refl)
+early_ends v e w g StreamSource is = (search rules, refl, refl)
+early_ends v e w g StreamMemory is = (tt, refl, refl)
+
+memory_ends : (v : Version) (e w : ℕ) (g : Given) → Answers (Put v e w) g 0 (Err OutOfMemory) []
+memory_ends v e w g = (tt, refl, refl)
+
+-- the stop is one of these
+abbrev Early : Version → ℕ → Given → Stop Refusal → Type 0
+Early v e g stop = (stop ≡ OutOfMemory) ⊎ IsNoUpdates v (step_of e) g.input stop
+
+any_early_ends : (v : Version) (e w : ℕ) (g : Given) (stop : Stop Refusal) → Early v e g stop → Answers (Put v e w) g 0 (Err stop) []
+any_early_ends v e w g stop (inl is) = subst (λ (s : Stop Refusal). Answers (Put v e w) g 0 (Err s) []) (sym is) (memory_ends v e w g)
+any_early_ends v e w g stop (inr (s, (is, tells))) =
+    subst (λ (x : Stop Refusal). Answers (Put v e w) g 0 (Err x) []) (sym is) (early_ends v e w g s (s, (refl, tells)))
+
+-- Neither the output nor the volume failed, and no update was made. The volume was not called, or
+-- memory was refused.
+record IsQuietStop (v : Version) (e w : ℕ) (stop : Stop Refusal) : Type 0 where
+  output : stop ≡ Output → ⊥
+  volume : stop ≡ Volume → ⊥
+  early : (stop ≡ OutOfMemory) ⊎ IsTrue (is_early (Put v e w) (Err stop))
+  none : IsFalse (has_updates (Err stop))
+
+quiet_stop : (v : Version) (e w : ℕ) (s : StreamStop) → IsQuietStop v e w (stream_stop_of s)
+quiet_stop v e w ManyTiles = record { output = λ is. cc; volume = λ is. cc; early = inr (search rules); none = refl }
+quiet_stop v e w (TileFaultOf f) = record { output = λ is. cc; volume = λ is. cc; early = inr (search rules); none = refl }
+quiet_stop v e w (DeepTile at) = record { output = λ is. cc; volume = λ is. cc; early = inr (search rules); none = refl }
+quiet_stop v e w (LargeTile at len) = record { output = λ is. cc; volume = λ is. cc; early = inr (search rules); none = refl }
+quiet_stop v e w (MuchKept at) = record { output = λ is. cc; volume = λ is. cc; early = inr (search rules); none = refl }
+quiet_stop v e w StreamSource = record { output = λ is. cc; volume = λ is. cc; early = inr (search rules); none = refl }
+quiet_stop v e w StreamMemory = record { output = λ is. cc; volume = λ is. cc; early = inl refl; none = refl }
+
+any_quiet : (v : Version) (e w : ℕ) (g : Given) (stop : Stop Refusal) → Early v e g stop → IsQuietStop v e w stop
+any_quiet v e w g stop (inl is) = subst (λ (s : Stop Refusal). IsQuietStop v e w s) (sym is) (record { output = λ is. cc; volume = λ is. cc; early = inl refl; none = refl })
+any_quiet v e w g stop (inr (s, (is, tells))) = subst (λ (x : Stop Refusal). IsQuietStop v e w x) (sym is) (quiet_stop v e w s)
+
+pub early_output : (v : Version) (e w : ℕ) (g : Given) (K : Type 0) (held : K → Option (List ℕ)) (faults : K → ℕ) (out out_new : K) (stop : Stop Refusal) → out_new ≡ out → Early v e g stop
+    → OfOutput (Put v e w) g 0 (Err stop) (sink_move held faults out out_new)
+early_output v e w g K held faults out out_new stop same early =
+    stopped (Put v e w) g K held faults out out_new stop (any_early_ends v e w g stop early) same (any_quiet v e w g stop early).output
+
+pub early_volume : (v : Version) (e w : ℕ) (g : Given) (stop : Stop Refusal) (V : Type 0) (told : V → Bool) (history : V → History) (faults : V → ℕ) (vol : V) → Early v e g stop
+    → OfVolume (Put v e w) g (Err stop) [] (volume_move told history faults vol vol)
+early_volume v e w g stop V told history faults vol early =
+    let q = any_quiet v e w g stop early in
+    elim q.early [
+      | inl so ↦ subst (λ (s : Stop Refusal). OfVolume (Put v e w) g (Err s) [] (volume_move told history faults vol vol)) (sym so) (memory_still (Put v e w) g V told history faults vol (search rules))
+      | inr so ↦ untouched (Put v e w) g (Err stop) V told history faults vol so (λ is_volume. q.volume (let same_stop : stop ≡ Volume = cc in same_stop))
+          (record { some = λ yes_. absurd (clash (has_updates (Err stop)) yes_ q.none); none = λ _. refl })
+    ]
+
+-- ---- the bundle was not opened
+
+unopened_ends : (v : Version) (e w : ℕ) (g : Given) (us : List TileRec) (stop : Stop StoreRefusal) → UpdatesOf (Put v e w) g us → OpeningStops g.files stop → Answers (Put v e w) g 0 (Err (of_store stop)) []
+unopened_ends v e w g us Usage of stops = absurd stops
+unopened_ends v e w g us Source of stops = absurd stops
+unopened_ends v e w g us Output of stops = absurd stops
+unopened_ends v e w g us Volume of stops = (search rules, inl (refl, refl))
+unopened_ends v e w g us OutOfMemory of stops = (tt, refl, refl)
+unopened_ends v e w g us (Refused r) of stops = (inr (inl (refl, (us, (of, (r, (refl, stops)))))), inl (refl, refl))
+
+pub not_output : (files : Option Files) (stop : Stop StoreRefusal) → OpeningStops files stop → of_store stop ≡ Output → ⊥
+not_output files stop stops is = let none : OpeningStops files Output = subst (λ (s : Stop StoreRefusal). OpeningStops files s) (store_output stop is) stops in none
+
+pub unopened_output : (v : Version) (e w : ℕ) (g : Given) (us : List TileRec) (K : Type 0) (held : K → Option (List ℕ)) (faults : K → ℕ) (out out_new : K) (stop : Stop StoreRefusal) → out_new ≡ out
+    → UpdatesOf (Put v e w) g us → OpeningStops g.files stop → OfOutput (Put v e w) g 0 (Err (of_store stop)) (sink_move held faults out out_new)
+unopened_output v e w g us K held faults out out_new stop same of stops =
+    stopped (Put v e w) g K held faults out out_new (of_store stop) (unopened_ends v e w g us stop of stops) same (not_output g.files stop stops)
+
+pub not_source : (files : Option Files) (stop : Stop StoreRefusal) → OpeningStops files stop → ◌≡◌ {A = End} (Err (of_store stop)) (Err Source) → ⊥
+not_source files stop stops is =
+    let same : of_store stop ≡ Source = cc in
+    let none : OpeningStops files Source = subst (λ (s : Stop StoreRefusal). OpeningStops files s) (store_source stop same) stops in none
+
+-- ---- the updates were put
+
+pub puts_not_source : (r : PutEnd) → put_end_of r ≡ Err Source → ⊥
+puts_not_source (Ok x) is = absurd cc
+puts_not_source (Err PutOutput) is = absurd cc
+puts_not_source (Err PutVolume) is = absurd cc
+puts_not_source (Err (PutFull len)) is = absurd cc
+
+cut_off : (v : Version) (e w : ℕ) (g : Given) (us : List TileRec) (n : ℕ) → UpdatesOf (Put v e w) g us → n ≤ length us → IsPutSoFar (Put v e w) g n (put_lines (take n us))
+cut_off v e w g us n of within = inr (us, (of, within, refl))
+
+put_output : (r : PutEnd) (old new : ℕ) → IsCause (r ≡ Err PutOutput) old new → IsCause (put_end_of r ≡ Err Output) old new
+put_output (Ok x) old new c = record { counts = c.counts; failed = λ is. absurd cc; rose = λ rose. absurd (let no = c.rose rose in cc) }
+put_output (Err PutOutput) old new c = record { counts = c.counts; failed = λ is. c.failed refl; rose = λ rose. refl }
+put_output (Err PutVolume) old new c = record { counts = c.counts; failed = λ is. absurd cc; rose = λ rose. absurd (let no = c.rose rose in cc) }
+put_output (Err (PutFull len)) old new c = record { counts = c.counts; failed = λ is. absurd cc; rose = λ rose. absurd (let no = c.rose rose in cc) }
+
+put_volume : (r : PutEnd) (old new : ℕ) → IsCause (r ≡ Err PutVolume) old new → IsCause (put_end_of r ≡ Err Volume) old new
+put_volume (Ok x) old new c = record { counts = c.counts; failed = λ is. absurd cc; rose = λ rose. absurd (let no = c.rose rose in cc) }
+put_volume (Err PutOutput) old new c = record { counts = c.counts; failed = λ is. absurd cc; rose = λ rose. absurd (let no = c.rose rose in cc) }
+put_volume (Err PutVolume) old new c = record { counts = c.counts; failed = λ is. c.failed refl; rose = λ rose. refl }
+put_volume (Err (PutFull len)) old new c = record { counts = c.counts; failed = λ is. absurd cc; rose = λ rose. absurd (let no = c.rose rose in cc) }
+
+-- what was given, over the bundle that was opened
+put_gave : (v : Version) (e w : ℕ) (input : Option (List ℕ)) (told : Bool) (h : History) (s : SessionState) (d : Disk) (us : List TileRec) (n : ℕ) (r : PutEnd) (held : Change (Option (List ℕ)))
+    → UpdatesOf (Put v e w) (given input (files_of told h)) us → (IsTrue told → IsOpened s (contents Bundle h) (contents Journal h) d) → (IsTrue told → EndsByRoom r d.bundle.now us n) → KeepsFullLength r us n
+    → PutGave r us n held.old held.new → (output : List ℕ) × (Answers (Put v e w) (given input (files_of told h)) n (put_end_of r) output × Gained (put_end_of r) held output)
+put_gave v e w input told h s d us n (Ok x) held of opened room full (all, holds) =
+    (put_lines us, ((us, (of, all, of_bundle told h (λ b. HaveRoom b us n) s d opened room, refl)), holds))
+put_gave v e w input told h s d us n (Err PutOutput) held of opened room full (some, within, holds) =
+    (put_lines (take n us), (cut_off v e w (given input (files_of told h)) us n of within, holds))
+put_gave v e w input told h s d us n (Err PutVolume) held of opened room full (within, holds) =
+    (put_lines (take n us), ((search rules, cut_off v e w (given input (files_of told h)) us n of (omega (arith, within))), holds))
+put_gave v e w input told h s d us n (Err (PutFull len)) held of opened room full (within, holds) = (
+  put_lines (take n us),
+  (
+    (inr (inr (len, (refl, (us, (of, within, full, of_bundle told h (λ b. IsFirstFull b us n len) s d opened room))))), cut_off v e w (given input (files_of told h)) us n of (omega (arith, within))),
+    holds,
+  ),
+)
+
+never_idle : (r : PutEnd) → (StopsBeforeOutput (put_end_of r) → ⊥)
+never_idle (Ok x) is = is
+never_idle (Err PutOutput) is = is
+never_idle (Err PutVolume) is = is
+never_idle (Err (PutFull len)) is = is
+
+pub put_all_output : (v : Version) (e w : ℕ) (input : Option (List ℕ)) (told : Bool) (h : History) (s : SessionState) (d : Disk) (us : List TileRec) (n : ℕ) (r : PutEnd) (sink : SinkMove)
+    → UpdatesOf (Put v e w) (given input (files_of told h)) us → (IsTrue told → IsOpened s (contents Bundle h) (contents Journal h) d) → (IsTrue told → EndsByRoom r d.bundle.now us n) → KeepsFullLength r us n
+    → PutGave r us n sink.held.old sink.held.new → IsCause (r ≡ Err PutOutput) sink.faults.old sink.faults.new → OfOutput (Put v e w) (given input (files_of told h)) n (put_end_of r) sink
+put_all_output v e w input told h s d us n r sink of opened room full gave cause = record {
+  cause = put_output r sink.faults.old sink.faults.new cause;
+  gave = put_gave v e w input told h s d us n r sink.held of opened room full gave;
+  idle = λ before. absurd (never_idle r before);
+}
+
+-- ---- the volume
+
+-- the journal does not count: the bundle is readable, and these are its tiles
+pub closed_map : (b j : List ℕ) (state : JournalState) (map : TileMap) → ¬ IsOpen j → Says j state → Shows state b map → IsReadable b × (map ≡ tiles b)
+closed_map b j Closed map shut says shows = shows
+closed_map b j (Open body) map shut says shows = absurd (shut says.0)
+closed_map b j (Bad place found) map shut says shows = absurd shows
+
+pub earlier_marks : (marks : List ℕ) (from mid to : ℕ) → from ≤ mid → AreMarks marks mid to → AreMarks marks from to
+earlier_marks marks from mid to first are = record { rising = are.rising; within = λ i lt. (let is = are.within i lt in (omega (arith, first, is.0), is.1)) }
+
+pub joined_cause : (P Q : Type 0) (f f_mid f_new : ℕ) → (P → ⊥) → IsCause P f f_mid → IsCause Q f_mid f_new → IsCause Q f f_new
+joined_cause P Q f f_mid f_new well one two = record {
+  counts = omega (arith, one.counts, two.counts);
+  failed = λ q. failed_later f f_mid f_new one.counts (two.failed q);
+  rose = λ rose. elim (cases_lt f f_mid) [ inl before ↦ absurd (well (one.rose before)) | inr after ↦ two.rose (omega (arith, after, rose)) ];
+}
+
+-- the end of puts has updates, and is not early
+late : (v : Version) (e w : ℕ) (r : PutEnd) → IsTrue (has_updates (put_end_of r))
+late v e w (Ok x) = search rules
+late v e w (Err PutOutput) = search rules
+late v e w (Err PutVolume) = search rules
+late v e w (Err (PutFull len)) = search rules
+
+not_early : (v : Version) (e w : ℕ) (r : PutEnd) → IsTrue (is_early (Put v e w) (put_end_of r)) → ⊥
+not_early v e w (Ok x) is = cc
+not_early v e w (Err PutOutput) is = cc
+not_early v e w (Err PutVolume) is = cc
+not_early v e w (Err (PutFull len)) is = cc
+
+updates_at : (v : Version) (e w : ℕ) (g : Given) (r : PutEnd) (us : List TileRec) → UpdatesOf (Put v e w) g us → UpdatesAt (Put v e w) g (put_end_of r) us
+updates_at v e w g r us of = record { some = λ _. of; none = λ bad. absurd (clash (has_updates (put_end_of r)) (late v e w r) bad) }
+
+on_answer : (v : Version) (e w : ℕ) (r : PutEnd) (same P : Type 0) → UnlessVolume r P → OnAnswer (put_end_of r) (Put v e w) same P
+on_answer v e w (Ok x) same P p = p
+on_answer v e w (Err PutOutput) same P p = p
+on_answer v e w (Err PutVolume) same P p = tt
+on_answer v e w (Err (PutFull len)) same P p = p
+
+unless_map : (r : PutEnd) (P Q : Type 0) → (P → Q) → UnlessVolume r P → UnlessVolume r Q
+unless_map (Ok x) P Q so p = so p
+unless_map (Err PutOutput) P Q so p = so p
+unless_map (Err PutVolume) P Q so p = tt
+unless_map (Err (PutFull len)) P Q so p = so p
+
+pub put_all_volume : (v : Version) (e w : ℕ) (g : Given) (failed : Type 0) (V : Type 0) (told : V → Bool) (history : V → History) (faults : V → ℕ) (vol mid new : V) (s : SessionState) (us : List TileRec) (marks : List ℕ) (r : PutEnd)
+    → UpdatesOf (Put v e w) g us → (failed → ⊥) → OfReading failed (volume_move told history faults vol mid)
+    → (IsTrue (told vol) → IsOpened s (contents Bundle (history vol)) (contents Journal (history vol)) (current (history mid)))
+    → IsCause (r ≡ Err PutVolume) (faults mid) (faults new) → told new ≡ told mid
+    → (s_new : SessionState) → (IsTrue (told mid) → PutsLeave r us marks s_new (history mid) (history new))
+    → OfVolume (Put v e w) g (put_end_of r) marks (volume_move told history faults vol new)
+put_all_volume v e w g failed V told history faults vol mid new s us marks r of well so opened cause tells s_new leaves = record {
+  cause = joined_cause failed (put_end_of r ≡ Err Volume) (faults vol) (faults mid) (faults new) well so.cause (put_volume r (faults mid) (faults new) cause);
+  told = tells ∙ so.told;
+  later = λ t none. absurd (let bad : ⊥ = cc in bad);
+  idle = λ early. absurd (not_early v e w r early);
+  unmarked = λ is. absurd (let bad : ⊥ = cc in bad);
+  marks_are = λ t. earlier_marks marks (history vol).moment (history mid).moment (history new).moment (so.later t) (leaves (so.told ∙ t)).marks_are;
+  marks_at = tt;
+  reads = λ t _. on_answer v e w r _ _ (unless_map r _ _ (λ (held : HoldsClosed (bundle_after_puts (contents Bundle (history mid)) (take (length marks) us)) (current (history new))).
+      let o = opened t in (us, (updates_at v e w g r us of, (contents Bundle (history mid), (inl (o.done, o.leaves), ap (λ (x : File). x.now) held.bundle_is))))) (leaves (so.told ∙ t)).reads);
+  rests = λ t _. rests_put v e w _ (contents Journal (history vol)) (current (history new)) r _ (leaves (so.told ∙ t)).reads;
+  tiles = λ start ready.
+      let o = opened ready.tells in
+      let stands = o.recovered.same start ready.stands in
+      let map = closed_map (contents Bundle (history mid)) (contents Journal (history mid)) stands.state start o.recovered.closed stands.says stands.shows in
+      let t = so.told ∙ ready.tells in (
+        us,
+        (
+          updates_at v e w g r us of,
+          puts_join start us marks (history vol) (history mid) (history new) (leaves t).marks_are (so.tiles start ready) (subst (λ (m : TileMap). PutsKeep m us marks (history mid) (history new)) (sym map.1) ((leaves t).images map.0)),
+        ),
+      );
+}

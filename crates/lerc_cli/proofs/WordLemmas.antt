@@ -1,0 +1,2 @@
+-- Which words spell a command.
+pub mod Spelled

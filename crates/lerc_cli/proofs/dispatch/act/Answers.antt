@@ -1,0 +1,16 @@
+use Rattle.std.proofs.Common.{◌≡◌, refl, sym, ◌∙◌}
+use Rattle.lerc_cli.specs.declared.words.Command.TheVariants.{Encode}
+use Rattle.lerc_cli.proofs.AnswerLemmas.Statuses.{never_usage}
+use Rattle.lerc_cli.proofs.dispatch.act.Goals as goal
+
+pub returns-in-Some-clause-usage : goal.returns-in-Some-clause-usage
+returns-in-Some-clause-usage g c = (
+  λ stopped. absurd (never_usage _ _ _ _ _ c.perform.ensures.output stopped),
+  λ none. absurd (none c.in-Some.command ((c.in-Some.ensures c.in-Some.command).0 refl)),
+)
+
+pub returns-in-Some-clause-blob : goal.returns-in-Some-clause-blob
+returns-in-Some-clause-blob g c = λ version error spelled.
+    let same = sym c.in-Some.is ∙ (c.command_of.ensures (Encode version error)).1 spelled in
+    let is : c.in-Some.command ≡ Encode version error = cc in
+    c.perform.ensures.blob version error is

@@ -1,0 +1,31 @@
+use Rattle.std.proofs.Common.{Ok, Err, subst, sym, Bool}
+use Rattle.program_ends.specs.declared.stop.Stop.{Stop}
+use Rattle.lerc_cli.specs.declared.refusal.Refusal.{Refusal}
+use Rattle.lerc_cli.specs.inside.Grids.{ReadsGrid}
+use Rattle.program_ends.specs.Asks.{AsksOne}
+use Rattle.lerc_cli.proofs.InputLemmas.GridReads.{reads_all, reads_more, told_stop, took_more, took_some}
+use Rattle.lerc_cli.proofs.inputs.grid.read_grid.Goals as goal
+
+pub returns-in-Err-clause-grid : goal.returns-in-Err-clause-grid
+returns-in-Err-clause-grid g c =
+    subst (λ (s : Stop Refusal). ReadsGrid (g.S.Source.left c.args.src.now) (Err s)) (sym c.grid_stop.ensures)
+    (told_stop c.in-Err.fault (g.S.Source.left c.args.src.now) c.in-Err.ensures.fault)
+
+pub returns-in-Ok-true-clause-grid : goal.returns-in-Ok-true-clause-grid
+returns-in-Ok-true-clause-grid g c =
+    subst (λ (s : Stop Refusal). ReadsGrid (g.S.Source.left c.args.src.now) (Err s)) (sym c.leftover.ensures)
+    (reads_more c.in-Ok.raster c.grid_size.result (g.S.Source.left c.args.src.now) (g.S.Source.left c.grid_read.new.src) (g.S.Source.left c.has_more.new.src) c.grid_size.ensures c.in-Ok.ensures.ok
+    (subst (λ (b : Bool). AsksOne (Ok b) (g.S.Source.left c.grid_read.new.src) (g.S.Source.left c.has_more.new.src)) c.in-Ok-true.field-0-test c.in-Ok-true.ensures.asks))
+
+pub returns-in-Ok-true-clause-taken : goal.returns-in-Ok-true-clause-taken
+returns-in-Ok-true-clause-taken g c =
+    took_more (Ok c.in-Ok-true.field-0) (g.S.Source.left c.args.src.now) (g.S.Source.left c.grid_read.new.src) (g.S.Source.left c.has_more.new.src) (took_some c.in-Ok.raster _ _ c.in-Ok.ensures.ok) c.in-Ok-true.ensures.asks
+
+pub returns-in-Ok-false-clause-grid : goal.returns-in-Ok-false-clause-grid
+returns-in-Ok-false-clause-grid g c =
+    reads_all c.in-Ok.raster (g.S.Source.left c.args.src.now) (g.S.Source.left c.grid_read.new.src) (g.S.Source.left c.has_more.new.src) c.in-Ok.ensures.ok
+    (subst (λ (b : Bool). AsksOne (Ok b) (g.S.Source.left c.grid_read.new.src) (g.S.Source.left c.has_more.new.src)) c.in-Ok-false.field-0-test c.in-Ok-false.ensures.asks)
+
+pub returns-in-Ok-false-clause-taken : goal.returns-in-Ok-false-clause-taken
+returns-in-Ok-false-clause-taken g c =
+    took_more (Ok c.in-Ok-false.field-0) (g.S.Source.left c.args.src.now) (g.S.Source.left c.grid_read.new.src) (g.S.Source.left c.has_more.new.src) (took_some c.in-Ok.raster _ _ c.in-Ok.ensures.ok) c.in-Ok-false.ensures.asks

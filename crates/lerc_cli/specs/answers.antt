@@ -1,0 +1,4 @@
+-- What a command answers, and how that is told.
+pub mod Names
+pub mod Outline
+pub mod Table

@@ -1,0 +1,3 @@
+-- What crashes may leave.
+pub mod CutRuns
+pub mod Kept

@@ -1,0 +1,255 @@
+//! The command that the words spell is done, and what it ends with is told.
+
+ghost use Rattle.std.specs.Prelude.{◌≡◌, ◌≢◌, ◌⊎◌, ◌↔◌, ℕ, List, [], Some, Ok, Err, IsTrue, OnOk, length};
+ghost use Rattle.outside_io.specs.program.Line.{GivesLine};
+ghost use Rattle.outside_io.specs.streams.Faults.{IsCause};
+ghost use Rattle.outside_io.specs.streams.Sink.{Holds};
+ghost use Rattle.outside_io.specs.streams.Source.{IsAtEnd};
+ghost use Rattle.outside_io.specs.volume.History.{current};
+ghost use Rattle.lerc_header.specs.declared.header.Version.{Version};
+ghost use Rattle.lerc_header.specs.Written.{step_of};
+ghost use Rattle.bundle_store.specs.Tiles.{TileMap};
+ghost use Rattle.bundle_store.specs.declared.tile_rec.TileRec.{TileRec};
+ghost use Rattle.tile_updates.specs.Updates.{IsUpdates};
+ghost use Rattle.program_ends.specs.Moves.{sink_move, source_move, volume_move};
+ghost use Rattle.program_ends.specs.declared.stop.Stop.{Stop};
+ghost use Rattle.opened_bundle.specs.Files.{files_of};
+ghost use Rattle.opened_bundle.specs.Left.{IsReady, IsShut};
+ghost use Rattle.lerc_cli.specs.answers.Names.{End, line_of, status_at, status_of};
+ghost use Rattle.lerc_cli.specs.answers.Table.{IsAllTold, IsOutput};
+ghost use Rattle.lerc_cli.specs.crashes.Kept.{KeepsTiles, UpdatesAt};
+ghost use Rattle.lerc_cli.specs.declared.refusal.Refusal.{Refusal};
+ghost use Rattle.lerc_cli.specs.declared.words.Command.{Command};
+ghost use Rattle.lerc_cli.specs.inputs.Given.{given};
+ghost use Rattle.lerc_cli.specs.inputs.Refused.{IsBlob};
+ghost use Rattle.lerc_cli.specs.run.InWords.{Builds, GivesBlob, GivesGrid, GivesGridPrefix, GivesLines, IsGridFor, TellsFault, ToldHead};
+ghost use Rattle.lerc_cli.specs.run.Run.{OfSource, OfOutput, OfVolume, OfRun};
+ghost use Rattle.lerc_cli.specs.words.Commands.{IsSpelled, IsNoCommand, calls_volume};
+
+use crate::commands::build::build;
+use crate::commands::bundle::{check, list, recover};
+use crate::commands::decode::decode;
+use crate::commands::encode::encode;
+use crate::commands::get::{get, get_raw};
+use crate::commands::info::info;
+use crate::commands::put::put;
+use crate::refusal::Refusal;
+use crate::words::{Command, USAGE, command_of};
+use outside_io::{Marks, Report, Sink, Source, Volume, Word};
+use program_ends::{Stop, ended_status};
+use std::alloc::Global;
+
+/// Does the command.
+fn perform<S: Source, K: Sink, V: Volume>(
+    alloc: Global,
+    command: Command,
+    src: &mut S,
+    out: &mut K,
+    vol: &mut V,
+    marks: &mut Marks,
+) -> Result<(), Stop<Refusal>>
+    requires { marks.old.marks ≡ [] }
+    ensures source { OfSource command result (source_move S.left S.faults src.old src.new) }
+    ensures output { OfOutput command
+        (given (S.left src.old) (files_of (V.told vol.old) (V.history vol.old)))
+        (length marks.new.marks) result (sink_move K.held K.faults out.old out.new) }
+    ensures volume { OfVolume command
+        (given (S.left src.old) (files_of (V.told vol.old) (V.history vol.old)))
+        result marks.new.marks
+        (volume_move V.told V.history V.faults vol.old vol.new) }
+    ensures blob { (version : Version) (error : ℕ) → command ≡ Command.Encode version error
+        → OnOk result
+        (GivesBlob version error (S.left src.old)
+        (record { old = K.held out.old; new = K.held out.new })) }
+{
+    match command {
+        Command::Encode { version, error } => encode(alloc, version, error, src, out),
+        Command::Decode => decode(alloc, src, out),
+        Command::Info => info(alloc, src, out),
+        Command::Build { version, error, .. } => build(alloc, version, error, src, out, vol, marks),
+        Command::Put { version, error, .. } => put(alloc, version, error, src, out, vol, marks),
+        Command::Get { slot } => get(alloc, slot, out, vol),
+        Command::GetRaw { slot } => get_raw(alloc, slot, out, vol),
+        Command::List => list(alloc, out, vol),
+        Command::Check => check(alloc, out, vol),
+        Command::Recover => recover(out, vol),
+    }
+}
+
+/// Does what the words say.
+fn act<S: Source, K: Sink, V: Volume>(
+    alloc: Global,
+    words: &[Word],
+    src: &mut S,
+    out: &mut K,
+    vol: &mut V,
+    marks: &mut Marks,
+) -> Result<(), Stop<Refusal>>
+    requires { marks.old.marks ≡ [] }
+    ensures usage { (result ≡ Err Stop.Usage) ↔ IsNoCommand words.now }
+    ensures spelled { result ≢ Err Stop.Usage → (c : Command) × IsSpelled c words.now }
+    ensures unused { result ≡ Err Stop.Usage → (src.new ≡ src.old) × (out.new ≡ out.old)
+        × (vol.new ≡ vol.old) × (marks.new ≡ marks.old) }
+    ensures source_cause { IsCause (result ≡ Err Stop.Source)
+        (S.faults src.old) (S.faults src.new) }
+    ensures output_cause { IsCause (result ≡ Err Stop.Output)
+        (K.faults out.old) (K.faults out.new) }
+    ensures volume_cause { IsCause (result ≡ Err Stop.Volume)
+        (V.faults vol.old) (V.faults vol.new) }
+    ensures source { (c : Command) → IsSpelled c words.now → OfSource c result (source_move S.left S.faults src.old src.new) }
+    ensures output { (c : Command) → IsSpelled c words.now → OfOutput c
+        (given (S.left src.old) (files_of (V.told vol.old) (V.history vol.old)))
+        (length marks.new.marks) result (sink_move K.held K.faults out.old out.new) }
+    ensures volume { (c : Command) → IsSpelled c words.now
+        → OfVolume c (given (S.left src.old) (files_of (V.told vol.old) (V.history vol.old)))
+        result marks.new.marks
+        (volume_move V.told V.history V.faults vol.old vol.new) }
+    ensures blob { (version : Version) (error : ℕ)
+        → IsSpelled (Command.Encode version error) words.now → OnOk result
+        (GivesBlob version error (S.left src.old)
+        (record { old = K.held out.old; new = K.held out.new })) }
+{
+    match command_of(words) {
+        Some(command) => perform(alloc, command, src, out, vol, marks),
+        None => Err(Stop::Usage),
+    }
+}
+
+/// Does all that the program does: finds the command of the words, does it, and answers the status
+/// that the program ends with.
+///
+/// `encode` reads one grid, and gives the blob that is chosen for its raster; it refuses a raster
+/// of more than one depth in version 3. `decode` and `info` read one whole blob; then `decode`
+/// gives its grid, and `info` the fourteen lines of what it says of itself. `build` and `put` read
+/// tiles; `build` makes a bundle of each slot's last one in the place of an empty bundle, and `put`
+/// puts the blob of each into its slot. `get`, `list` and `check` tell of the bundle, and `recover`
+/// of what a crash had left; these, `build` and `put` first make that whole.
+///
+/// | status | it comes |
+/// |---|---|
+/// | 0 | where the input and the bundle are what it reads; the output has gained what it gives |
+/// | 1 | exactly where the words are no command; nothing is taken and nothing is given |
+/// | 2 | where the input, or the tile asked for, is not that; the line tells its first fault |
+/// | 3 | exactly where the source failed |
+/// | 4 | exactly where the output failed, which has then gained a prefix of what it was to gain |
+/// | 5 | exactly where the volume failed |
+/// | 6 | where memory was refused; `decode` and `info` want it only behind a lawful header |
+/// | 7 | where the store refuses; the line tells its first refusal |
+///
+/// On a status other than 0 one line is given to `err`. The faults of `err` change nothing. Each
+/// tile that a `put` was told is there has a mark, the moment of that, and each tile of a bundle
+/// that was built has one, the moment of its end; nothing else has one.
+pub fn run<S: Source, K: Sink, E: Sink, V: Volume>(
+    alloc: Global,
+    words: &[Word],
+    src: &mut S,
+    out: &mut K,
+    err: &mut E,
+    vol: &mut V,
+) -> Report
+    // The words come first.
+    ensures usage { (result.status ≡ 1) ↔ IsNoCommand words.now }
+    ensures spelled { result.status ≢ 1 → (c : Command) × IsSpelled c words.now }
+    ensures unused { result.status ≡ 1 → (src.new ≡ src.old) × (out.new ≡ out.old)
+        × (vol.new ≡ vol.old) × (result.marks.marks ≡ []) }
+
+    // An object that fails gives its status, and nothing else gives it.
+    ensures source_failed { IsCause (result.status ≡ 3) (S.faults src.old) (S.faults src.new) }
+    ensures output_failed { IsCause (result.status ≡ 4) (K.faults out.old) (K.faults out.new) }
+    ensures volume_failed { IsCause (result.status ≡ 5) (V.faults vol.old) (V.faults vol.new) }
+
+    // The command that the words spell ends in one way, which says all the rest.
+    ensures ran { (c : Command) → IsSpelled c words.now → OfRun c result.status result.marks.marks
+        (source_move S.left S.faults src.old src.new)
+        (sink_move K.held K.faults out.old out.new)
+        (volume_move V.told V.history V.faults vol.old vol.new)
+        (sink_move E.held E.faults err.old err.new) }
+
+    // Where all that a command reads is told and has an output, it gets that, unless an object
+    // fails or memory is refused.
+    ensures complete { (c : Command) → IsSpelled c words.now
+        → IsAllTold c (given (S.left src.old) (files_of (V.told vol.old) (V.history vol.old)))
+        → (n : ℕ) (output : List ℕ)
+        → IsOutput c
+        (given (S.left src.old) (files_of (V.told vol.old) (V.history vol.old))) n output
+        → result.status ≢ 3 → result.status ≢ 4 → result.status ≢ 5 → result.status ≢ 6
+        → (result.status ≡ 0) × Holds (K.held out.old) (K.held out.new) output }
+
+    // At each moment of the run each image that a crash may leave is sound. It stands for the tiles
+    // that stood as the run began; for `put`, with the first few of its updates done, at least
+    // those that have a mark by then, and at most one more; for `build`, with all done, or with
+    // none as long as none has a mark.
+    ensures kept { (c : Command) → IsSpelled c words.now → (start : TileMap)
+        → IsReady (V.told vol.old) (V.history vol.old) start
+        → (updates : List TileRec) × ((end : End) × ((result.status ≡ status_at end)
+        × UpdatesAt c
+        (given (S.left src.old) (files_of (V.told vol.old) (V.history vol.old))) end updates
+        × KeepsTiles c updates result.marks.marks start (V.history vol.old) (V.history vol.new))) }
+
+    // A command on a bundle that ends well, or whose output alone fails, leaves nothing pending: a
+    // crash then leaves what is read, and the journal is not open.
+    ensures shut { (c : Command) → IsSpelled c words.now → IsTrue (calls_volume c)
+        → IsTrue (V.told vol.old) → (result.status ≡ 0) ⊎ (result.status ≡ 4)
+        → IsShut (current (V.history vol.new)) }
+
+    // One line tells of each stop.
+    ensures no_other_status { (result.status ≡ 0)
+        ⊎ ((stop : Stop Refusal) × (result.status ≡ status_of stop)) }
+    ensures usage_line { result.status ≡ 1
+        → GivesLine (E.held err.old) (E.held err.new) (E.faults err.old) (E.faults err.new)
+        (line_of Stop.Usage) }
+    ensures no_line { result.status ≡ 0 → err.new ≡ err.old }
+
+    // What follows for `encode`.
+    ensures encoded { (version : Version) (error : ℕ)
+        → IsSpelled (Command.Encode version error) words.now → result.status ≡ 0
+        → GivesBlob version error (S.left src.old) (record { old = K.held out.old; new = K.held out.new })
+        × IsAtEnd (S.left src.new) }
+    ensures encoded_exactly { (version : Version) (error : ℕ)
+        → IsSpelled (Command.Encode version error) words.now
+        → (input : List ℕ) → S.left src.old ≡ Some input
+        → (result.status ≡ 0) ⊎ (result.status ≡ 2)
+        → (result.status ≡ 0) ↔ IsGridFor version input }
+    ensures not_encoded { (version : Version) (error : ℕ)
+        → IsSpelled (Command.Encode version error) words.now
+        → result.status ≢ 0 → result.status ≢ 4 → out.new ≡ out.old }
+
+    // What follows for `build`: its updates are those of the input, which are made once.
+    ensures built { (version : Version) (error workers : ℕ)
+        → IsSpelled (Command.Build version error workers) words.now → result.status ≡ 0
+        → (input : List ℕ) → S.left src.old ≡ Some input
+        → (updates : List TileRec) → IsUpdates version (step_of error) input updates
+        → Builds updates (V.told vol.old) (V.history vol.new) result.marks.marks
+        (record { old = K.held out.old; new = K.held out.new }) }
+
+    // What follows for `decode`.
+    ensures exact { IsSpelled Command.Decode words.now
+        → (input : List ℕ) → S.left src.old ≡ Some input
+        → (result.status ≡ 0) ⊎ (result.status ≡ 2) → (result.status ≡ 0) ↔ IsBlob input }
+    ensures decoded { IsSpelled Command.Decode words.now → result.status ≡ 0
+        → GivesGrid (S.left src.old) (record { old = K.held out.old; new = K.held out.new })
+        × IsAtEnd (S.left src.new) }
+    ensures refused { IsSpelled Command.Decode words.now → result.status ≡ 2
+        → TellsFault (S.left src.old) (sink_move E.held E.faults err.old err.new) }
+    ensures cut_short { IsSpelled Command.Decode words.now → result.status ≡ 4
+        → GivesGridPrefix (S.left src.old) (record { old = K.held out.old; new = K.held out.new }) }
+    ensures wanted { IsSpelled Command.Decode words.now → result.status ≡ 6
+        → ToldHead (S.left src.old) }
+    ensures nothing_given { IsSpelled Command.Decode words.now
+        → result.status ≢ 0 → result.status ≢ 4 → out.new ≡ out.old }
+
+    // What follows for `info`.
+    ensures informed_exactly { IsSpelled Command.Info words.now
+        → (input : List ℕ) → S.left src.old ≡ Some input
+        → (result.status ≡ 0) ⊎ (result.status ≡ 2) → (result.status ≡ 0) ↔ IsBlob input }
+    ensures informed { IsSpelled Command.Info words.now → result.status ≡ 0
+        → GivesLines (S.left src.old) (record { old = K.held out.old; new = K.held out.new })
+        × IsAtEnd (S.left src.new) }
+    ensures not_informed { IsSpelled Command.Info words.now
+        → result.status ≢ 0 → result.status ≢ 4 → out.new ≡ out.old }
+{
+    let mut marks = Marks::new(alloc);
+    let ended = act(alloc, words, src, out, vol, &mut marks);
+    let status = ended_status(USAGE, &ended, err);
+    Report { status, marks }
+}

@@ -1,0 +1,4 @@
+//! What is told, as lines of text.
+
+pub(crate) mod outline;
+pub(crate) mod refusals;
