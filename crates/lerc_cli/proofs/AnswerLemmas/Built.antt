@@ -1,8 +1,7 @@
 -- What the end of `build` tells of its output, its bundle and its marks.
-use Rattle.std.proofs.Common.{◌≡◌, ℕ, List, length, replicate, take, Bool, Option, Some, Ok, sym, ap, subst, ◌∙◌, rules, refl, arith}
+use Rattle.std.proofs.Common.{◌≡◌, ℕ, List, length, replicate, take, Option, Some, Ok, sym, ap, subst, ◌∙◌, rules, refl, arith}
 use Rattle.std.proofs.lemmas.List.{take_all}
 use Rattle.outside_io.specs.streams.Sink.{Holds}
-use Rattle.outside_io.specs.volume.History.{History}
 use Rattle.lerc_header.specs.declared.header.Version.{Version}
 use Rattle.lerc_header.specs.Written.{step_of}
 use Rattle.bundle_store.specs.declared.tile_rec.TileRec.{TileRec}

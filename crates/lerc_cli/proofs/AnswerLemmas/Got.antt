@@ -1,10 +1,9 @@
 -- How the commands end that give one tile.
-use Rattle.std.proofs.Common.{◌≡◌, ℕ, ◌<◌, ◌≤◌, List, [], Option, Ok, Err, refl, rules, subst}
+use Rattle.std.proofs.Common.{◌≡◌, ℕ, ◌≤◌, List, [], Option, Ok, Err, refl, rules, subst}
 use Rattle.outside_io.specs.streams.Faults.{FailedBetween}
 use Rattle.outside_io.specs.streams.Sink.{Holds, HoldsPrefix}
 use Rattle.raster_values.specs.Raster.{Pixels}
 use Rattle.raster_values.specs.Grid.{grid_of}
-use Rattle.bundle_index.specs.Entry.{entry_at}
 use Rattle.bundle_store.specs.Session.{GetGives}
 use Rattle.lerc_grammar.specs.Verdict.{WholeFault}
 use Rattle.program_ends.specs.Moves.{SinkMove, sink_move}

@@ -17,9 +17,7 @@ use Rattle.bundle_lines.specs.Lines.{check_lines, listing, recovery_line}
 use Rattle.program_ends.specs.Moves.{SinkMove, sink_move, volume_move}
 use Rattle.lerc_cli.specs.declared.words.Command.TheVariants.{List as ListAll, Check, Recover}
 use Rattle.program_ends.specs.declared.stop.Stop.{Stop}
-use Rattle.lerc_cli.specs.declared.refusal.Refusal.{Refusal}
 use Rattle.program_ends.specs.declared.stop.Stop.TheVariants.{Usage, Refused, Source, Output, Volume, OutOfMemory}
-use Rattle.lerc_cli.specs.declared.refusal.Refusal.TheVariants.{Input, Store, Stream}
 use Rattle.lerc_cli.specs.answers.Table.{Answers}
 use Rattle.opened_bundle.specs.Files.{Files, files_of}
 use Rattle.lerc_cli.specs.run.Run.{OfOutput}

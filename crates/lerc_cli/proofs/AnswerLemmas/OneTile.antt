@@ -1,35 +1,16 @@
 -- One answer holds of a bundle that files recover to, and of the blob that a tile of it is.
-use Rattle.std.proofs.Common.{◌≡◌, inl, inr, ℕ, ◌-◌, ◌<◌, ◌==◌, nat_lt, Bool, true, false, List, length, Option, Some, None, if◌then◌else◌, Result, Ok, Err, refl, sym, ◌∙◌, ap, subst, arith}
-use Rattle.std.proofs.lemmas.Bool.{cases_lt}
-use Rattle.std.proofs.lemmas.Bool.Decides.{nat_tests}
+use Rattle.std.proofs.Common.{◌≡◌, ℕ, List, Some, sym, ◌∙◌, subst}
 use Rattle.raster_values.specs.Raster.{Pixels}
 use Rattle.lerc_header.specs.declared.fault.BlobReason.{BlobReason}
 use Rattle.lerc_grammar.specs.Verdict.{WholeFault}
 use Rattle.lerc_grammar.specs.Blob.{Blob}
 use Rattle.lerc_grammar.proofs.Blobs.{one_raster}
-use Rattle.bundle_index.specs.Entry.{entry_at}
-use Rattle.bundle_index.specs.Header.{header_fault}
-use Rattle.bundle_index.specs.Numbers.{u32_at}
-use Rattle.bundle_index.specs.declared.entry.Entry.{Entry}
-use Rattle.bundle_index.specs.declared.header.HeaderFault.{HeaderFault}
-use Rattle.bundle_store.specs.declared.fault.StoreFault.{StoreFault}
-use Rattle.bundle_store.specs.declared.fault.StoreFault.TheVariants as found
-use Rattle.bundle_store.specs.declared.recovery.Recovery.{Recovery}
-use Rattle.bundle_store.specs.declared.recovery.Recovery.TheVariants.{Closed, Applied, Emptied}
-use Rattle.bundle_store.specs.declared.check.CheckReport.{CheckReport}
-use Rattle.bundle_store.specs.Check.{IsFirstBad, Reports}
-use Rattle.bundle_store.specs.Recover.{Leaves, RecoverySays, Refuses}
 use Rattle.bundle_lines.specs.Lines.{listing}
-use Rattle.bundle_store.specs.Session.{GetGives, IsBeyond, open_fault}
-use Rattle.bundle_store.specs.Tiles.{HasIndex, Opens}
-use Rattle.bundle_store.proofs.OneRecovery.{one_answer, one_left}
-use Rattle.bundle_store.proofs.Opening.{open_by}
+use Rattle.bundle_store.specs.Session.{GetGives}
 use Rattle.opened_bundle.specs.declared.refusal.StoreRefusal.{StoreRefusal}
-use Rattle.opened_bundle.specs.declared.refusal.StoreRefusal.TheVariants.{NoTile, Beyond, BadBundle, BadJournal, NotEmpty, Full}
-use Rattle.lerc_cli.specs.declared.refusal.StreamRefusal.TheVariants.{TileTooLarge, TooManyTiles, KeptTooMuch}
-use Rattle.opened_bundle.specs.Files.{Files, HasRecovered, OfBundle, OfRecovered}
+use Rattle.opened_bundle.specs.Files.{Files, OfBundle}
 use Rattle.lerc_cli.specs.answers.Table.{HoldsBlob}
-use Rattle.opened_bundle.specs.Refusals.{IsMissing, IsOpening, IsUnrecovered}
+use Rattle.opened_bundle.specs.Refusals.{IsMissing}
 use Rattle.opened_bundle.proofs.OneBundle.{both, same_tile, tile_or_missing}
 use Rattle.lerc_cli.proofs.InputLemmas.Whole.{blob_or_fault, one_whole_fault}
 

@@ -11,7 +11,6 @@ use Rattle.tile_updates.specs.declared.stop.StreamStop.TheVariants.{TooManyTiles
 use Rattle.tile_updates.specs.Stops.{IsStreamStop, TellsStop}
 use Rattle.tile_updates.proofs.Refusals.{stops_once, updates_once, updates_or_stop}
 use Rattle.lerc_cli.specs.declared.words.Command.TheVariants.{Put}
-use Rattle.lerc_cli.specs.declared.refusal.Fault.{Fault}
 use Rattle.opened_bundle.specs.declared.refusal.StoreRefusal.{StoreRefusal}
 use Rattle.opened_bundle.specs.declared.refusal.StoreRefusal.TheVariants.{Full}
 use Rattle.program_ends.specs.declared.stop.Stop.{Stop}

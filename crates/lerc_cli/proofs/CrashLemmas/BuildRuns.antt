@@ -23,11 +23,10 @@ use Rattle.tile_updates.specs.declared.stop.StreamStop.TheVariants.{TooManyTiles
 use Rattle.program_ends.specs.Moves.{VolumeMove, sink_move, volume_move}
 use Rattle.lerc_cli.specs.declared.words.Command.TheVariants.{Build}
 use Rattle.opened_bundle.specs.declared.refusal.StoreRefusal.TheVariants.{NotEmpty}
-use Rattle.lerc_cli.specs.declared.refusal.StreamRefusal.TheVariants.{TileTooLarge, TooManyTiles, KeptTooMuch}
 use Rattle.program_ends.specs.declared.stop.Stop.{Stop}
 use Rattle.lerc_cli.specs.declared.refusal.Refusal.{Refusal}
 use Rattle.program_ends.specs.declared.stop.Stop.TheVariants.{Usage, Refused, Source, Output, Volume, OutOfMemory}
-use Rattle.lerc_cli.specs.declared.refusal.Refusal.TheVariants.{Input, Store, Stream}
+use Rattle.lerc_cli.specs.declared.refusal.Refusal.TheVariants.{Store}
 use Rattle.lerc_cli.specs.answers.Table.{Answers, UpdatesOf}
 use Rattle.lerc_cli.specs.inputs.Given.{Given, given}
 use Rattle.lerc_cli.specs.inputs.Refused.{IsNoUpdates, stream_stop_of}

@@ -7,7 +7,7 @@ use Rattle.outside_io.proofs.VolumeLemmas.Images.{only_image}
 use Rattle.outside_io.proofs.VolumeLemmas.Moments.{during_map_at, started}
 use Rattle.bundle_store.specs.Images.{EachImage, StandsFor}
 use Rattle.bundle_store.specs.Tiles.{TileMap}
-use Rattle.program_ends.specs.Moves.{SinkMove, VolumeMove, sink_move, source_move, volume_move}
+use Rattle.program_ends.specs.Moves.{SinkMove, VolumeMove, source_move, volume_move}
 use Rattle.lerc_cli.specs.declared.words.Command.{Command}
 use Rattle.lerc_cli.specs.declared.words.Command.TheVariants.{Encode, Decode, Info, Build, Put, Get, GetRaw, List as ListAll, Check, Recover}
 use Rattle.program_ends.specs.declared.stop.Stop.TheVariants.{Usage, Refused, Source, Output, Volume, OutOfMemory}

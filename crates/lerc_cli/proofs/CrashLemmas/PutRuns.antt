@@ -28,7 +28,6 @@ use Rattle.lerc_cli.specs.declared.words.Command.TheVariants.{Put}
 use Rattle.program_ends.specs.declared.stop.Stop.{Stop}
 use Rattle.lerc_cli.specs.declared.refusal.Refusal.{Refusal}
 use Rattle.program_ends.specs.declared.stop.Stop.TheVariants.{Usage, Refused, Source, Output, Volume, OutOfMemory}
-use Rattle.lerc_cli.specs.declared.refusal.Refusal.TheVariants.{Input, Store, Stream}
 use Rattle.lerc_cli.specs.answers.Table.{Answers, IsPutSoFar, UpdatesOf}
 use Rattle.opened_bundle.specs.Files.{Files, files_of}
 use Rattle.lerc_cli.specs.inputs.Given.{Given, given}

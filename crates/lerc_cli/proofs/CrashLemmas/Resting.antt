@@ -1,15 +1,11 @@
 -- What stands on the disk behind a command on a bundle.
-use Rattle.std.proofs.Common.{◌≡◌, ◌⊎◌, ◌∙◌, ℕ, List, Bool, Ok, Err, inl, inr, refl, sym, ap, subst}
+use Rattle.std.proofs.Common.{◌≡◌, ◌⊎◌, ◌∙◌, ℕ, List, Ok, Err, inl, inr, refl, sym, subst}
 use Rattle.std.specs.Prelude.{IsFalse, IsTrue}
 use Rattle.outside_io.specs.declared.volume.VolFile.TheVariants.{Journal}
-use Rattle.outside_io.specs.volume.Disk.{Disk, IsQuiet, IsSettled}
-use Rattle.outside_io.specs.volume.History.{During, History, contents, current}
-use Rattle.outside_io.proofs.VolumeLemmas.Moments.{during_end}
+use Rattle.outside_io.specs.volume.Disk.{Disk}
+use Rattle.outside_io.specs.volume.History.{contents, current}
 use Rattle.lerc_header.specs.declared.header.Version.{Version}
-use Rattle.bundle_store.specs.declared.recovery.Recovery.{Recovery}
 use Rattle.bundle_store.specs.Images.{HoldsClosed}
-use Rattle.bundle_store.specs.Recover.{IsRecovered, OnBadJournal, RecoverFails, synced_disk}
-use Rattle.bundle_store.specs.Session.{IsReadyToPut, OpenFails, SessionState}
 use Rattle.bundle_lines.specs.declared.stop.LineStop.TheVariants.{Output as LineOutput, Volume as LineVolume}
 use Rattle.bundle_lines.specs.declared.stop.PutStop.TheVariants.{Output as PutOutput, Volume as PutVolume, Full as PutFull}
 use Rattle.bundle_lines.specs.Ends.{LineEnd, PutEnd, UnlessVolume}

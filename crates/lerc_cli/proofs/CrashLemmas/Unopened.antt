@@ -1,5 +1,5 @@
 -- What a command that makes updates leaves of the volume where the bundle was not opened, or no update was to be made.
-use Rattle.std.proofs.Common.{◌≡◌, ℕ, List, [], Bool, Err, inl, refl, sym, rules, arith}
+use Rattle.std.proofs.Common.{◌≡◌, ℕ, List, [], Bool, Err, inl, refl, sym, arith}
 use Rattle.std.specs.Prelude.{IsFalse, IsTrue}
 use Rattle.outside_io.specs.declared.volume.VolFile.TheVariants.{Bundle, Journal}
 use Rattle.outside_io.specs.volume.History.{History, contents, current}
@@ -11,9 +11,8 @@ use Rattle.lerc_cli.specs.declared.words.Command.TheVariants.{Encode, Decode, In
 use Rattle.opened_bundle.specs.declared.refusal.StoreRefusal.{StoreRefusal}
 use Rattle.opened_bundle.specs.declared.refusal.StoreRefusal.TheVariants.{NoTile, Beyond, BadBundle, BadJournal, NotEmpty, Full}
 use Rattle.program_ends.specs.declared.stop.Stop.{Stop}
-use Rattle.lerc_cli.specs.declared.refusal.Refusal.{Refusal}
 use Rattle.program_ends.specs.declared.stop.Stop.TheVariants.{Usage, Refused, Source, Output, Volume, OutOfMemory}
-use Rattle.lerc_cli.specs.declared.refusal.Refusal.TheVariants.{Input, Store, Stream}
+use Rattle.lerc_cli.specs.declared.refusal.Refusal.TheVariants.{Store}
 use Rattle.lerc_cli.specs.inputs.Given.{Given}
 use Rattle.lerc_cli.specs.answers.Table.{UpdatesOf}
 use Rattle.lerc_cli.specs.words.Commands.{makes_updates}

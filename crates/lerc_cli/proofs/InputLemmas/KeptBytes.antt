@@ -1,5 +1,5 @@
 -- What a decoder has taken of a source, by what it knows then.
-use Rattle.std.proofs.Common.{◌≡◌, ℕ, true, false, List, ◌++◌, length, Option, Some, None, Ok, Err, refl, sym, ap, ◌∙◌, subst, [], ◌⊎◌}
+use Rattle.std.proofs.Common.{◌≡◌, ℕ, true, false, List, ◌++◌, length, Option, Some, None, Ok, Err, refl, ap, ◌∙◌, subst, [], ◌⊎◌}
 use Rattle.std.proofs.lemmas.List.{append-nil}
 use Rattle.outside_io.specs.streams.Source.{IsAtEnd}
 use Rattle.lerc_header.specs.declared.fault.BlobFault.{BlobFault}

@@ -4,7 +4,7 @@ use Rattle.std.specs.Prelude.{IsTrue}
 use Rattle.std.proofs.lemmas.List.{append-nil, drop-drop, length-append, length-drop}
 use Rattle.outside_io.specs.streams.Faults.{IsCause}
 use Rattle.outside_io.specs.declared.streams.failed.Failed.{Failed}
-use Rattle.outside_io.specs.streams.Source.{IsAtEnd, TakesFront, TakesUpTo}
+use Rattle.outside_io.specs.streams.Source.{TakesUpTo}
 use Rattle.raster_values.specs.Raster.{Pixels, IsRaster}
 use Rattle.lerc_header.specs.declared.fault.BlobFault.{BlobFault}
 use Rattle.lerc_header.specs.declared.fault.BlobReason.TheVariants.{Leftover}

@@ -1,9 +1,6 @@
 -- Words behind the name of a command: what they stand for is one.
-use Rattle.std.proofs.Common.{◌≡◌, ◌⊎◌, inl, inr, ℕ, ◌+◌, ◌*◌, ◌/◌, ◌%◌, ◌<◌, ◌≤◌, ◌↔◌, List, [], ◌∷◌, get_or, length, Option, Some, None, refl, sym, ap, subst, ◌∙◌, codes, arith}
-use Rattle.std.specs.Prelude.{IfSome}
-use Rattle.outside_io.specs.program.Word.{IsNumber, decimal_value}
+use Rattle.std.proofs.Common.{◌≡◌, ◌⊎◌, inl, inr, ℕ, ◌<◌, ◌≤◌, ◌↔◌, List, [], ◌∷◌, get_or, length, Option, Some, None, refl, sym, ap, subst, ◌∙◌, codes, arith}
 use Rattle.lerc_header.specs.declared.header.Version.{Version}
-use Rattle.lerc_header.specs.declared.header.Version.TheVariants.{V3, V4}
 use Rattle.command_words.proofs.OneWord.{one_number, one_slot, one_version}
 use Rattle.lerc_cli.specs.declared.words.Command.{Command}
 use Rattle.lerc_cli.specs.declared.words.Command.TheVariants.{Encode, Decode, Info, Build, Put, Get, GetRaw, List as ListAll, Check, Recover}

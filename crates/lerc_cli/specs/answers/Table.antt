@@ -1,6 +1,5 @@
 -- What a command answers: the rows of one table. Each relation below has one case for each command.
 use Rattle.std.specs.Prelude.{◌≡◌, ◌⊎◌, ℕ, ◌+◌, ◌*◌, ◌^◌, ◌<◌, ◌≤◌, take, List, [], length, Option, Some, Ok, Err, IsTrue}
-use Rattle.bundle_index.specs.Entry.{entry_at}
 use Rattle.bundle_store.specs.declared.recovery.Recovery.{Recovery}
 use Rattle.bundle_store.specs.Session.{GetGives}
 use Rattle.bundle_store.specs.declared.check.CheckReport.{CheckReport}

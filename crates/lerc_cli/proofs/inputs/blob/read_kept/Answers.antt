@@ -1,14 +1,10 @@
-use Rattle.std.proofs.Common.{◌≡◌, ◌∙◌, ℕ, length, Ok, Err, ap, subst, sym, Bool}
+use Rattle.std.proofs.Common.{Ok, Err, subst, sym, Bool}
 use Rattle.program_ends.specs.declared.stop.Stop.{Stop}
 use Rattle.lerc_cli.specs.declared.refusal.Refusal.{Refusal}
-use Rattle.program_ends.specs.declared.stop.Stop.TheVariants.{Refused}
-use Rattle.lerc_cli.specs.declared.refusal.Refusal.TheVariants.{Input}
-use Rattle.lerc_cli.specs.declared.refusal.Reason.TheVariants.{Blob as BlobReasonOf}
 use Rattle.program_ends.specs.Asks.{AsksOne}
 use Rattle.lerc_cli.specs.inside.Reads.{ReadsBlob}
 use Rattle.lerc_cli.proofs.InputLemmas.KeptBytes.{keeps_fault, keeps_leftover, keeps_whole}
 use Rattle.lerc_cli.proofs.InputLemmas.WholeReads.{takes_more}
-use Rattle.lerc_header.specs.declared.fault.BlobReason.TheVariants.{Leftover}
 use Rattle.lerc_cli.proofs.inputs.blob.read_kept.Goals as goal
 
 pub returns-in-Err-clause-blob : goal.returns-in-Err-clause-blob
