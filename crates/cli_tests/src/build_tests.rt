@@ -89,8 +89,8 @@ fn fails_at(rt: &(impl Abort + AllocGlobal), call: u64) -> bool {
 
 #[test]
 fn a_failing_call_of_a_build_leaves_no_line(rt: HostRuntime) {
-    for call in 0..35 {
-        same(&rt, call, fails_at(&rt, call), call < 34);
+    for call in 0..20 {
+        same(&rt, call, fails_at(&rt, call), call < 19);
     }
 }
 

@@ -141,7 +141,7 @@ fn files_that_are_no_bundle_are_refused(rt: HostRuntime) {
 
 #[test]
 fn a_failing_volume_ends_the_run(rt: HostRuntime) {
-    // Two syncs, the journal's length, the bundle's, its header, the entry and the tile.
+    // Two syncs, the journal's length, the bundle's, its header, its index and the tile.
     for call in 0..7 {
         let mut vol = with_one(&rt, &[call]);
         ends(&rt, &mut vol, &LAST_GRID, (5, 0, b"", VOLUME_FAILED));

@@ -72,20 +72,20 @@ fn put_over(rt: &(impl Abort + AllocGlobal)) -> MemVolume {
     vol
 }
 
-// The recovery and the opening make 5 calls, and the put 19: call number 17 opens the journal's
-// gate, and the next one syncs it; call number 22 closes it, and the last one syncs that.
+// The recovery and the opening make 6 calls, and the put 17: call number 16 opens the journal's
+// gate, and the next one syncs it; call number 21 closes it, and the last one syncs that.
 #[test]
 fn a_crash_at_each_moment_of_a_put_leaves_the_old_or_the_new_tile(rt: HostRuntime) {
     let vol = put_over(&rt);
-    same(&rt, "the last moment", vol.moment(), 24);
+    same(&rt, "the last moment", vol.moment(), 23);
     let old = (b"closed\n".as_slice(), BLOB.as_slice());
     let (applied, new) = (APPLIED, NEW);
     let rows = [
-        (0, 18, [old, old, old, old]),
-        (18, 19, [old, applied, old, applied]),
-        (19, 23, [applied, applied, applied, applied]),
-        (23, 24, [applied, new, new, applied]),
-        (24, 25, [new, new, new, new]),
+        (0, 17, [old, old, old, old]),
+        (17, 18, [old, applied, old, applied]),
+        (18, 22, [applied, applied, applied, applied]),
+        (22, 23, [applied, new, new, applied]),
+        (23, 24, [new, new, new, new]),
     ];
     for (first, end, want) in rows {
         all_recover(&rt, &vol, (first, end), &LAST, want);
@@ -117,7 +117,7 @@ fn is_recovered_again(rt: &(impl Abort + AllocGlobal), vol: &MemVolume, moment: 
 #[test]
 fn a_crash_within_a_recovery_is_recovered_again(rt: HostRuntime) {
     let vol = put_over(&rt);
-    for moment in 19..23 {
+    for moment in 18..22 {
         is_recovered_again(&rt, &vol, moment, Pick::Oldest);
         is_recovered_again(&rt, &vol, moment, Pick::Torn(255));
     }
@@ -149,28 +149,28 @@ fn is_cut_off_again(rt: &(impl Abort + AllocGlobal), vol: &MemVolume, moment: u6
 #[test]
 fn a_put_behind_a_crash_of_a_put_is_cut_off_again(rt: HostRuntime) {
     let vol = put_over(&rt);
-    for moment in 0..25 {
+    for moment in 0..24 {
         is_cut_off_again(&rt, &vol, moment, Pick::Oldest);
         is_cut_off_again(&rt, &vol, moment, Pick::Torn(255));
     }
 }
 
-// The recovery and the opening make 4 calls, and the build 30: call number 11 opens the journal's
-// gate, and the next one syncs it; call number 32 closes it, and the last one syncs that.
+// The recovery and the opening make 4 calls, and the build 15: call number 11 opens the journal's
+// gate, and the next one syncs it; call number 17 closes it, and the last one syncs that.
 #[test]
 fn a_crash_at_each_moment_of_a_build_leaves_all_tiles_or_none(rt: HostRuntime) {
     let mut vol = empty(&rt);
     build_two(&rt, &mut vol);
-    same(&rt, "the last moment", vol.moment(), 34);
+    same(&rt, "the last moment", vol.moment(), 19);
     let none = (b"closed\n".as_slice(), b"".as_slice());
     let emptied = (b"emptied\n".as_slice(), b"".as_slice());
     let whole = (b"closed\n".as_slice(), LISTED);
     let rows = [
         (0, 12, [none, none, none, none]),
         (12, 13, [none, emptied, none, emptied]),
-        (13, 33, [emptied, emptied, emptied, emptied]),
-        (33, 34, [emptied, whole, whole, emptied]),
-        (34, 35, [whole, whole, whole, whole]),
+        (13, 18, [emptied, emptied, emptied, emptied]),
+        (18, 19, [emptied, whole, whole, emptied]),
+        (19, 20, [whole, whole, whole, whole]),
     ];
     for (first, end, want) in rows {
         all_recover(&rt, &vol, (first, end), &["list"], want);

@@ -129,8 +129,8 @@ fn fails_at(rt: &(impl Abort + AllocGlobal), call: u64) -> bool {
 
 #[test]
 fn a_failing_call_of_a_put_leaves_no_line(rt: HostRuntime) {
-    for call in 0..25 {
-        same(&rt, call, fails_at(&rt, call), call < 24);
+    for call in 0..24 {
+        same(&rt, call, fails_at(&rt, call), call < 23);
     }
 }
 

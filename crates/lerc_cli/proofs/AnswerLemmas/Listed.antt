@@ -14,7 +14,7 @@ use Rattle.bundle_store.specs.Session.{SessionState}
 use Rattle.bundle_lines.specs.declared.stop.LineStop.TheVariants.{Output as LineOutput, Volume as LineVolume}
 use Rattle.bundle_lines.specs.Ends.{CheckGave, LineEnd, ListGave}
 use Rattle.bundle_lines.specs.Lines.{check_lines, listing, recovery_line}
-use Rattle.program_ends.specs.Moves.{SinkMove, sink_move}
+use Rattle.program_ends.specs.Moves.{SinkMove, sink_move, volume_move}
 use Rattle.lerc_cli.specs.declared.words.Command.TheVariants.{List as ListAll, Check, Recover}
 use Rattle.program_ends.specs.declared.stop.Stop.{Stop}
 use Rattle.lerc_cli.specs.declared.refusal.Refusal.{Refusal}
@@ -26,7 +26,8 @@ use Rattle.lerc_cli.specs.run.Run.{OfOutput}
 use Rattle.lerc_cli.specs.inputs.Given.{given}
 use Rattle.opened_bundle.specs.Opening.{IsOpened, OpeningStops, Recovers}
 use Rattle.lerc_cli.specs.inside.Opening.{end_of}
-use Rattle.opened_bundle.proofs.BundleOpening.{of_bundle}
+use Rattle.opened_bundle.specs.Left.{OfReading}
+use Rattle.opened_bundle.proofs.BundleOpening.{of_bundle, reads_as}
 use Rattle.opened_bundle.specs.declared.refusal.StoreRefusal.{StoreRefusal}
 use Rattle.lerc_cli.specs.inside.Opening.{of_store}
 use Rattle.lerc_cli.proofs.AnswerLemmas.Stores.{store_output}
@@ -103,6 +104,12 @@ list_cut input told told_mid h s d failed sink tells opened (k, (below, (lines, 
   gave = (lines, ((k, (below, of_bundle told h (λ b. lines ≡ listing b (128 * k)) s d opened (λ t. is (tells ∙ t)))), holds));
   idle = λ never. absurd never;
 }
+
+-- a call more, which leaves the volume alone
+pub reads_still : (P Q V : Type 0) (told : V → Bool) (history : V → History) (faults : V → ℕ) (old mid new : V) → new ≡ mid → (P → ⊥) → (Q → ⊥)
+    → OfReading P (volume_move told history faults old mid) → OfReading Q (volume_move told history faults old new)
+reads_still P Q V told history faults old mid new same never none so =
+    subst (λ (v : V). OfReading Q (volume_move told history faults old v)) (sym same) (reads_as P Q (volume_move told history faults old mid) (λ p. absurd (never p)) (λ q. absurd (none q)) so)
 
 pub checked : (K : Type 0) (held : K → Option (List ℕ)) (faults : K → ℕ) (out out_new : K) (input : Option (List ℕ)) (told told_mid : Bool) (h : History) (s : SessionState) (d : Disk) (r : LineEnd)
     → told_mid ≡ told → (IsTrue told → IsOpened s (contents Bundle h) (contents Journal h) d) → CheckGave told_mid d.bundle.now r (out_new ≡ out) (held out) (held out_new) → IsCause (r ≡ Err LineOutput) (faults out) (faults out_new)
