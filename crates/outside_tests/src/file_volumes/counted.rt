@@ -107,7 +107,7 @@ fn each_read_begins_at_its_own_place(rt: HostRuntime) {
         let desk = desk_with(&rt, rt.alloc(), Some(100), Fault::Nothing);
         let mut vol = volume_on(&rt, rt.alloc(), &desk, "shelf/b");
         let drawer = desk.drawer(Place::File(file));
-        for at in [10, 15, 20, 3] {
+        for at in [10, 15, 20, 20, 3] {
             began(&rt, drawer, &mut vol, file, at);
         }
         same(&rt, "write", write(&mut vol, file, 50, b"ab"), Ok(()));
