@@ -89,7 +89,7 @@ fn an_open_journal_counts_before_each_command(rt: HostRuntime) {
     recovers(&rt, &[b"\x01LBJRNL1\x02", &[0; 87]], b"emptied\n", b"");
     // The same in the second form.
     let front = b"\x01LBJRNL2\x01\x01\0\0\0\0\0\0\x86\0\x02\0\0\0\0\0".as_slice();
-    let record = b"\xff\x3f\0\0\0\0\0\0";
+    let record = b"\xff\x3f\0\0\0\0\0\0".as_slice();
     let group = [front, &HEADER, record, &ENTRY, &[0; 1008]];
     recovers(&rt, &group, b"applied\n", b"127 127 131140 66\n");
     recovers(&rt, &[b"\x01LBJRNL2\x02", &[0; 1103]], b"emptied\n", b"");

@@ -102,10 +102,11 @@ fn group_body(rt: &impl Abort, alloc: Global, journal: &[u8]) -> Body
 
 /// The whole journal is these bytes.
 fn expect_journal<V: Volume>(rt: &impl Abort, vol: &mut V, wanted: &[u8; 1112]) {
-    let mut bytes = [9; 1113];
+    same(rt, "length", vol.len(VolFile::Journal).ok(), Some(1112));
+    let mut bytes = [9; 1112];
     let read = vol.read(VolFile::Journal, 0, &mut bytes);
-    same(rt, "length", read.ok(), Some(1112));
-    same(rt, "bytes", &bytes[..1112] == wanted.as_slice(), true);
+    same(rt, "read", read.ok(), Some(1112));
+    same(rt, "bytes", bytes == *wanted, true);
 }
 
 #[test]

@@ -94,6 +94,29 @@ fn a_read_behind_the_end_gives_none(rt: HostRuntime) {
     }
 }
 
+// A read of five bytes begins at its place: its last piece, of one, lies four behind it.
+fn began(rt: &impl Abort, drawer: &Drawer, vol: &mut FileVolume<Machine>, file: VolFile, at: u64) {
+    let mut buf = [0; 5];
+    same(rt, at, read(vol, file, at, &mut buf), Ok(5));
+    same(rt, at, drawer.read_at.get(), at.wrapping_add(4));
+}
+
+#[test]
+fn each_read_begins_at_its_own_place(rt: HostRuntime) {
+    for file in BOTH {
+        let desk = desk_with(&rt, rt.alloc(), Some(100), Fault::Nothing);
+        let mut vol = volume_on(&rt, rt.alloc(), &desk, "shelf/b");
+        let drawer = desk.drawer(Place::File(file));
+        for at in [10, 15, 20, 20, 3] {
+            began(&rt, drawer, &mut vol, file, at);
+        }
+        same(&rt, "write", write(&mut vol, file, 50, b"ab"), Ok(()));
+        began(&rt, drawer, &mut vol, file, 8);
+        same(&rt, "length", len(&mut vol, file), Ok(100));
+        began(&rt, drawer, &mut vol, file, 13);
+    }
+}
+
 // A place behind 4 GiB.
 const FAR: u64 = (1 << 32) + 9;
 
@@ -171,7 +194,7 @@ fn what_the_machine_refuses_is_a_failure(rt: HostRuntime) {
             (Fault::Nothing, [true; 5]),
             (Fault::Open, [false; 5]),
             (Fault::SeekStart, [true, false, false, true, true]),
-            (Fault::SeekEnd, [false, false, true, false, true]),
+            (Fault::SeekEnd, [false, true, true, false, true]),
             (Fault::ReadMidway, [true, false, true, true, true]),
             (Fault::WriteMidway, [true, true, false, true, true]),
             (Fault::Cut, [true, true, true, false, true]),

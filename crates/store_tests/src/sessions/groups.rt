@@ -1,6 +1,6 @@
 //! Tiles put at once: all of them stand, or none does.
 
-use super::{expect_entry, expect_length, expect_tile, get, put, two_tiles};
+use super::{expect_entry, expect_length, expect_tile, get, put};
 use crate::same::same;
 use crate::stores::{
     FRESH, LARGE, PICKS, SMALL, empty_volume, failing_volume, first_slot, image, last_slot, pair,
@@ -119,8 +119,9 @@ fn a_group_that_fails_stands_whole(rt: HostRuntime) {
 fn the_last_of_two_tiles_in_one_slot_stands(rt: HostRuntime) {
     let alloc = rt.alloc();
     let mut vol = empty_volume(&rt, alloc);
-    let mut tiles = two_tiles(&rt, alloc);
-    tiles.swap(0, 1);
+    let small = tile(&rt, alloc, first_slot(&rt), &SMALL);
+    let large = tile(&rt, alloc, first_slot(&rt), &LARGE);
+    let tiles = pair(&rt, alloc, small, large);
     same(
         &rt,
         "group",

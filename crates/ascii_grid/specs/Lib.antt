@@ -1,0 +1,5 @@
+pub mod Text
+pub mod Tokens
+pub mod Endings
+pub mod Head
+pub mod inside

@@ -1,0 +1,6 @@
+-- What contracts of private functions cite.
+pub mod Cells
+pub mod Heads
+pub mod Reading
+pub mod Stops
+pub mod Steps

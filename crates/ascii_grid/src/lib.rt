@@ -1,0 +1,18 @@
+//! Esri ASCII grids of whole numbers: a text and its grid, and the file `LGA1`, which keeps a grid
+//! with the texts of its corner and its cells. This crate stands on `raster_values`, `outside_io`
+//! and `first_fault`.
+#![tactic(auto)]
+
+mod fault;
+mod grid;
+mod head;
+mod numbers;
+mod text;
+mod token;
+mod window;
+mod words;
+
+pub use fault::{AsciiFault, AsciiReason, AsciiStop};
+pub use grid::{AsciiGrid, Georef};
+pub use text::ascii_read;
+pub use words::Key;

@@ -1,0 +1,8 @@
+//! Tests of ASCII grids, over the public calls of `ascii_grid`. They stand apart from the library so
+//! that it is proved once.
+#![tactic(auto)]
+
+#[cfg(test)]
+mod reading;
+#[cfg(test)]
+mod same;
