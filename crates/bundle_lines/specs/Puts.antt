@@ -40,13 +40,18 @@ EndsByRoom (Err Output) bundle updates n = HaveRoom bundle updates n
 EndsByRoom (Err Volume) bundle updates n = HaveRoom bundle updates n
 EndsByRoom (Err (Full len)) bundle updates n = IsFirstFull bundle updates n len
 
--- The kept length leaves no room for an update, which is none of the first n, whatever the volume
--- tells. Where it tells its files, it is update number n.
+-- the length leaves no room for an update that is none of the first n
+abbrev pub LeavesNoRoom : ℕ → List TileRec → ℕ → Type 0
+LeavesNoRoom len updates n = (i : ℕ)
+    × ((n ≤ i) × (i < length updates) × (2 ^ 40 < len + 4 + length (bytes_at updates i)))
+
+-- The kept length leaves no room for an update without a mark, whatever the volume tells. Where it
+-- tells its files, this is update number n.
 abbrev pub KeepsFullLength : PutEnd → List TileRec → ℕ → Type 0
 KeepsFullLength (Ok x) updates n = Unit {0}
 KeepsFullLength (Err Output) updates n = Unit {0}
 KeepsFullLength (Err Volume) updates n = Unit {0}
-KeepsFullLength (Err (Full len)) updates n = (i : ℕ) × ((n ≤ i) × (i < length updates) × (2 ^ 40 < len + 4 + length (bytes_at updates i)))
+KeepsFullLength (Err (Full len)) updates n = LeavesNoRoom len updates n
 
 -- ---- groups
 
