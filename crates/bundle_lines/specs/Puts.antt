@@ -12,7 +12,6 @@ use Rattle.bundle_store.specs.Session.{IsReadyToPut, SessionState}
 use Rattle.bundle_store.specs.Tiles.{IsReadable, TileMap, tiles}
 use Rattle.bundle_lines.specs.declared.stop.PutStop.TheVariants.{Output, Volume, Full}
 use Rattle.bundle_lines.specs.Ends.{PutEnd, PutGave, UnlessVolume}
-
 -- ---- the bundle
 
 -- the bundle after the updates were put one after the other

@@ -89,11 +89,7 @@ fn put_stop(fault: StoreFault) -> PutStop
 }
 
 /// Puts a group of tiles at once.
-fn commit<V: Volume>(
-    session: &mut Session,
-    vol: &mut V,
-    group: &[TileRec],
-) -> Result<(), PutStop>
+fn commit<V: Volume>(session: &mut Session, vol: &mut V, group: &[TileRec]) -> Result<(), PutStop>
     requires running { session.old.stopped ≡ false }
     requires some { 0 < length group.now }
     requires most { length group.now ≤ 64 }
