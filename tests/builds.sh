@@ -104,7 +104,7 @@ has_sixteen_tiles build
 
 # ---- Many tiles
 
-# The volume fails: the file may have 132,096 bytes, and the record of the fourteenth tile would pass that.
+# The volume fails: the file may have 136,192 bytes, and the records would pass that.
 begins_as none none
 expect 'build: a file that may not grow' 5 nothing "$no_volume" files_are_short disk build 3 0 4 <many
 expect 'recover: after that' 0 emptied '' plainly disk recover

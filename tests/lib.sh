@@ -114,8 +114,8 @@ through_a_link() {
     (cd / && "$room/linked" "$@") >out 2>err
 }
 
-# No file of it grows past 132,096 bytes; a write behind that fails.
-files_are_short() { (trap '' XFSZ && ulimit -f 258 && exec "$program" "$@") >out 2>err; }
+# No file of it grows past 136,192 bytes; a write behind that fails.
+files_are_short() { (trap '' XFSZ && ulimit -f 266 && exec "$program" "$@") >out 2>err; }
 
 # ---- Making files
 

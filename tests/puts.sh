@@ -21,11 +21,20 @@ tile 127 127 tens_deep >deep_tile
 { bytes 54 00 80; } >bad_column_stream
 head -c 21 one_tile >short_stream
 
-# What these make: of the two tiles, and of the first of them; of the one tile, behind another one in its slot.
+# What these make: of the two tiles, which are one group, whose journal names both; of the one tile, behind
+# another one in its slot.
 { header 66 70 131276; index 64 131210 66; record blob; record none_valid; } >put_twice
-{ journal 131210 66 put_twice | head -c 88; bytes 00 00; journal 131210 66 put_twice | tail -c +91; } >put_twice_journal
-{ header 66 0 131206; index 64 131140 66; record blob; } >put_once
-{ journal 131140 66 put_once | head -c 88; bytes 00 00; journal 131140 66 put_once | tail -c +91; } >put_once_journal
+{
+    bytes 00 4c 42 4a 52 4e 4c 32 01 02 00 00 00 00 00 00
+    numbers 8 131276
+    head -c 64 put_twice
+    for place in 131140 131210; do
+        bytes 00 00 00 00 00 00 00 00
+        numbers 5 "$place"
+        numbers 3 66
+    done
+    zeros 992
+} >put_twice_journal
 { header 72 146 131352; index 131128 131286 66; record blob; record steps; record blob; } >bundle_3
 journal 131286 66 bundle_3 >journal_3
 { header 89 0 131229; index 131128 131140 89; record steps_deep; } >bundle_deep
@@ -136,7 +145,7 @@ failures_of() {
 
 failures_of put
 
-# An output that fails after an update leaves the update done, and takes no more.
+# An output that fails after a group leaves the group done, and takes no more.
 for way in output_closed output_full all_but_input; do
     begins_as none none
     case $way in
@@ -144,7 +153,7 @@ for way in output_closed output_full all_but_input; do
         *) line=$no_output ;;
     esac
     expect "put: $way" 4 nothing "$line" "$way" disk put 3 0 1 <two_tiles
-    leaves "put: $way, and the first tile is put" put_once put_once_journal
+    leaves "put: $way, and the group is put" put_twice put_twice_journal
 done
 
 # ---- Tiles of a real size
@@ -227,11 +236,12 @@ many_tiles() {
 
 many_tiles 4000 >many
 
-# The volume fails: the file may have 132,096 bytes, and the record of the fourteenth tile would pass that.
+# The volume fails: the file may have 136,192 bytes. The first 64 tiles end at 135,616, and the records of the next
+# 64 would pass that.
 begins_as none none
-head -n 13 many_puts >some_puts
-head -n 13 many_rows >some_rows
-check_lines 13 858 0 >some_check
+head -n 64 many_puts >some_puts
+head -n 64 many_rows >some_rows
+check_lines 64 4224 0 >some_check
 expect 'put: a file that may not grow' 5 some_puts "$no_volume" files_are_short disk put 3 0 4 <many
 expect 'recover: after that' 0 closed '' plainly disk recover
 expect 'list: after that' 0 some_rows '' plainly disk list
@@ -249,16 +259,20 @@ killed_after() {
     wait "$child" 2>/dev/null
 }
 
-# Whether the bundle, recovered, has the first tiles of the stream and no other: each of which a line was given,
-# and at most one more. `printed` is the number of the lines.
+# Whether the bundle, recovered, has the first tiles of the stream and no other: whole groups of 64 and the rest,
+# those of which a line was given, and at most one more. `printed` is the number of the lines.
 has_first_tiles() {
+    whole=$(((printed + 63) / 64 * 64))
+    [ "$whole" -le 4000 ] || whole=4000
+    more=$((whole + 64))
+    [ "$more" -le 4000 ] || more=4000
     cmp -s -n "$(wc -c <out)" out many_puts || return
     "$program" disk recover >word 2>err || return
     cmp -s word closed || cmp -s word applied || return
     "$program" disk list >rows 2>err || return
     listed=$(wc -l <rows)
     head -n "$listed" many_rows | cmp -s - rows || return
-    [ "$listed" -eq "$printed" ] || [ "$listed" -eq $((printed + 1)) ] || return
+    [ "$listed" -eq "$whole" ] || [ "$listed" -eq "$more" ] || return
     check_lines "$listed" $((66 * listed)) 0 >lines_wanted
     "$program" disk check >lines_given 2>err || return
     cmp -s lines_given lines_wanted || return

@@ -1,15 +1,15 @@
 -- Marks, and what stands at each moment by them.
-use Rattle.std.proofs.Common.{◌≡◌, ℕ, suc, ◌+◌, ◌<◌, ◌≤◌, List, [], ◌∷◌, ◌++◌, length, slice_index, cond, refl, sym, subst, ◌∙◌, inl, inr, arith, nat_le, length-append}
+use Rattle.std.proofs.Common.{◌≡◌, ℕ, zero, suc, ◌+◌, ◌<◌, ◌≤◌, List, [], ◌∷◌, ◌++◌, length, replicate, slice_index, cond, refl, sym, ap, subst, ◌∙◌, inl, inr, arith, nat_le, append_assoc, length-append}
 use Rattle.std.proofs.lemmas.Bool.{cases_lt}
 use Rattle.std.proofs.lemmas.Bool.Decides.{nat_tests}
-use Rattle.std.proofs.lemmas.List.{places}
+use Rattle.std.proofs.lemmas.List.{append-nil, length-replicate, places}
 use Rattle.std.proofs.lemmas.List.Sums.{sum_by-append, sum_by-cons}
 use Rattle.outside_io.specs.volume.History.{History, During}
 use Rattle.bundle_store.specs.declared.tile_rec.TileRec.{TileRec}
 use Rattle.bundle_store.specs.Images.{EachImage}
 use Rattle.bundle_store.specs.Tiles.{TileMap}
 use Rattle.bundle_store.proofs.Standing.{weaker}
-use Rattle.bundle_lines.specs.Puts.{AreMarks, IsAfterSome, PutsKeep, marked}
+use Rattle.bundle_lines.specs.Puts.{AreGroups, AreMarks, AreWhole, InRuns, IsAfterSome, IsNextGroup, PutsKeep, marked}
 
 marked_end : (marks : List ℕ) (mark t : ℕ) → marked (marks ++ mark ∷ []) t ≡ marked marks t + cond (nat_le mark t) 1 0
 marked_end marks mark t = sum_by-append (λ m. cond (nat_le m t) 1 0) marks (mark ∷ []) ∙ (let e : marked marks t + (0 + cond (nat_le mark t) 1 0) ≡ marked marks t + cond (nat_le mark t) 1 0 = omega arith in e)
@@ -71,16 +71,63 @@ marks_more marks from mid to start le are =
       ];
     }
 
+-- ---- a group of marks more
+
+-- one mark more, and then the others of its group
+one_then : (marks : List ℕ) (n mark : ℕ) → marks ++ replicate (suc n) mark ≡ (marks ++ mark ∷ []) ++ replicate n mark
+one_then marks n mark = sym (append_assoc marks (mark ∷ []) (replicate n mark))
+
+pub marked_before_all : (marks : List ℕ) (n mark t : ℕ) → t < mark → marked (marks ++ replicate n mark) t ≡ marked marks t
+marked_before_all marks zero mark t below = ap (λ (x : List ℕ). marked x t) (append-nil marks)
+marked_before_all marks (suc n) mark t below =
+    ap (λ (x : List ℕ). marked x t) (one_then marks n mark) ∙ marked_before_all (marks ++ mark ∷ []) n mark t below ∙ marked_before marks mark t below
+
+marks_all : (marks : List ℕ) (n from to : ℕ) → from ≤ to → AreMarks marks from to → AreMarks (marks ++ replicate n to) from to
+marks_all marks zero from to le are = subst (λ (x : List ℕ). AreMarks x from to) (sym (append-nil marks)) are
+marks_all marks (suc n) from to le are =
+    subst (λ (x : List ℕ). AreMarks x from to) (sym (one_then marks n to)) (marks_all (marks ++ to ∷ []) n from to le (marks_more marks from to to le (omega arith) are))
+
+-- the moment, as the mark of a group
+pub marks_more_all : (marks : List ℕ) (n from mid to : ℕ) → from ≤ mid → mid ≤ to → AreMarks marks from mid → AreMarks (marks ++ replicate n to) from to
+marks_more_all marks n from mid to start le are = marks_all marks n from to (omega (arith, start, le)) (marks_later marks from mid to le are)
+
+groups_more : (b : List ℕ) (us : List TileRec) (ns : List ℕ) (k : ℕ) (marks : List ℕ) (n mark : ℕ) → AreGroups b us k ns → InRuns ns marks → 0 < n → IsNextGroup b us (k + length marks) n
+    → AreGroups b us k (ns ++ n ∷ []) × InRuns (ns ++ n ∷ []) (marks ++ replicate n mark)
+groups_more b us [] k marks n mark are runs some next =
+    let none : k + length marks ≡ k = omega (arith, ap length runs) in (
+      (some, subst (λ (i : ℕ). IsNextGroup b us i n) none next, tt),
+      (mark, ([], (ap (λ (x : List ℕ). x ++ replicate n mark) runs ∙ sym (append-nil (replicate n mark)), refl))),
+    )
+groups_more b us (a ∷ ns) k marks n mark are runs some next =
+    let rest = runs.1.0 in
+    let size : length marks ≡ a + length rest = ap length runs.1.1.0 ∙ length-append (replicate a runs.0) rest ∙ ap (λ (i : ℕ). i + length rest) (length-replicate a runs.0) in
+    let from : k + length marks ≡ k + a + length rest = omega (arith, size) in
+    let more = groups_more b us ns (k + a) rest n mark are.2 runs.1.1.1 some (subst (λ (i : ℕ). IsNextGroup b us i n) from next) in (
+      (are.0, are.1, more.0),
+      (runs.0, (rest ++ replicate n mark, (ap (λ (x : List ℕ). x ++ replicate n mark) runs.1.1.0 ∙ append_assoc (replicate a runs.0) rest (replicate n mark), more.1))),
+    )
+
+-- no group
+pub no_groups : (b : List ℕ) (us : List TileRec) → AreWhole b us []
+no_groups b us = record { sizes = []; groups = tt; runs = refl }
+
+-- one group more
+pub whole_more : (b : List ℕ) (us : List TileRec) (marks : List ℕ) (n mark : ℕ) → 0 < n → IsNextGroup b us (length marks) n → AreWhole b us marks → AreWhole b us (marks ++ replicate n mark)
+whole_more b us marks n mark some next whole =
+    let from : length marks ≡ 0 + length marks = omega arith in
+    let more = groups_more b us whole.sizes 0 marks n mark whole.groups whole.runs some (subst (λ (i : ℕ). IsNextGroup b us i n) from next) in
+    record { sizes = whole.sizes ++ n ∷ []; groups = more.0; runs = more.1 }
+
 -- calls that leave each image as what stood at the start, and then puts
-pub puts_join : (start : TileMap) (us : List TileRec) (marks : List ℕ) (old mid new : History) → AreMarks marks mid.moment new.moment
-    → During (EachImage (λ map. map ≡ start)) old mid → PutsKeep start us marks mid new → PutsKeep start us marks old new
-puts_join start us marks old mid new are during kept = record {
+pub puts_join : (b : List ℕ) (start : TileMap) (us : List TileRec) (marks : List ℕ) (old mid new : History) → AreMarks marks mid.moment new.moment
+    → During (EachImage (λ map. map ≡ start)) old mid → PutsKeep b start us marks mid new → PutsKeep b start us marks old new
+puts_join b start us marks old mid new are during kept = record {
   later = omega (arith, during.later, kept.later);
   past = λ t le. kept.past t (omega (arith, le, during.later)) ∙ during.past t le;
   each = λ t ge le. elim (cases_lt t mid.moment) [
     | inl before ↦ (let none : marked marks t ≡ 0 = marked_none marks mid.moment t (λ i less. (are.within i less).0) before in
-        subst (EachImage (IsAfterSome start us marks t)) (sym (kept.past t (omega (arith, before))))
-        (weaker (λ map. map ≡ start) (IsAfterSome start us marks t) (mid.disk_at t) (λ map same. record { count = 0; least = omega (arith, none); most = omega arith; map_is = same }) (during.each t ge (omega (arith, before)))))
+        subst (EachImage (IsAfterSome b start us marks t)) (sym (kept.past t (omega (arith, before))))
+        (weaker (λ map. map ≡ start) (IsAfterSome b start us marks t) (mid.disk_at t) (λ map same. record { count = 0; count_is = inl (sym none); map_is = same }) (during.each t ge (omega (arith, before)))))
     | inr after ↦ kept.each t after le
   ];
 }

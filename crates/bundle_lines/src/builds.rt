@@ -1,4 +1,4 @@
-ghost use Rattle.std.specs.Prelude.{◌≡◌, ◌↔◌, ◌+◌, ◌<◌, ◌≤◌, false, true, [], length, replicate, IsTrue, IsErrOf, Err};
+ghost use Rattle.std.specs.Prelude.{◌≡◌, ◌↔◌, ◌+◌, ◌<◌, ◌≤◌, ◌++◌, false, true, [], length, replicate, IsTrue, IsErrOf, Err};
 ghost use Rattle.outside_io.specs.declared.volume.VolFile.TheVariants.{Bundle};
 ghost use Rattle.outside_io.specs.streams.Faults.{IsCause};
 ghost use Rattle.outside_io.specs.volume.History.{During, contents, current};
@@ -58,10 +58,10 @@ fn raise<V: Volume>(
 }
 
 /// Adds the same mark so many times.
-fn add_marks(marks: &mut Marks, count: usize, mark: u64)
-    requires none { marks.old.marks ≡ [] }
+pub(crate) fn add_marks(marks: &mut Marks, count: usize, mark: u64)
     requires room { count ≤ marks.old.spare }
-    ensures { marks.new.marks ≡ replicate count mark }
+    ensures marks { marks.new.marks ≡ marks.old.marks ++ replicate count mark }
+    ensures spare { marks.old.spare ≤ marks.new.spare + count }
 {
     for _turn in 0..count {
         marks.add(mark);

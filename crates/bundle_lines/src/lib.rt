@@ -2,8 +2,8 @@
 //! stands on `outside_io`, `bundle_index` and `bundle_store`.
 //!
 //! The contract that the layer above uses: through `put_all`, at each moment each image that a
-//! crash may leave stands for the tiles after as many updates as have a mark by then, or one more,
-//! and the lines given are those of the updates with a mark.
+//! crash may leave stands for the tiles after as many updates as have a mark by then, or also after
+//! the next group of up to 64, whole, and the lines given are those of the updates with a mark.
 #![tactic(auto)]
 
 mod builds;

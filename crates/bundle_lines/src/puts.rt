@@ -1,20 +1,84 @@
-ghost use Rattle.std.specs.Prelude.{◌≡◌, ◌+◌, ◌<◌, ◌≤◌, false, [], length, IsTrue, Err};
+ghost use Rattle.std.specs.Prelude.{◌≡◌, ◌+◌, ◌<◌, ◌≤◌, false, [], length, IsTrue, OnOk, OnErr, Err};
 ghost use Rattle.outside_io.specs.declared.volume.VolFile.TheVariants.{Bundle};
-ghost use Rattle.outside_io.specs.streams.Faults.{IsCause};
+ghost use Rattle.outside_io.specs.streams.Faults.{CountsFaults, IsCause};
+ghost use Rattle.outside_io.specs.streams.Sink.{Holds, HoldsPrefix};
 ghost use Rattle.outside_io.specs.volume.History.{During, contents, current};
 ghost use Rattle.bundle_store.specs.Build.{EachFits};
-ghost use Rattle.bundle_store.specs.Images.{EachImage, WithOrWithout};
-ghost use Rattle.bundle_store.specs.Session.{IsReadyToPut};
+ghost use Rattle.bundle_store.specs.GroupPuts.{AllOrNone};
+ghost use Rattle.bundle_store.specs.Images.{EachImage};
+ghost use Rattle.bundle_store.specs.Session.{IsReadyToPut, Serves};
 ghost use Rattle.bundle_store.specs.Tiles.{IsReadable, tiles};
+ghost use Rattle.bundle_lines.specs.Lines.{put_lines};
 ghost use Rattle.bundle_lines.specs.Puts.{PutsEnd};
-ghost use Rattle.bundle_lines.specs.inside.Turns.{Commits, Turns, stop_of};
+ghost use Rattle.bundle_lines.specs.inside.Turns.{Commits, HasRoomFirst, IsFitting, IsNext, Turns, end_of, stop_of};
 
+use crate::builds::add_marks;
 use crate::lines::give_put;
 use crate::stop::PutStop;
 use bundle_store::{Session, StoreFault, TileRec};
-use outside_io::{Marks, Sink, Volume};
+use outside_io::{Failed, Marks, Sink, Volume};
 
-/// Why puts end where the store refuses one.
+/// The greatest number of tiles that are put at once.
+const MOST: usize = 64;
+
+/// The greatest length of a bundle.
+const GREATEST_LENGTH: u64 = 1 << 40;
+
+/// Where the first record behind a bundle of `len` bytes stands.
+fn first_place(len: u64) -> u64
+    ensures { result ≡ end_of len }
+{
+    if len == 0 { 131136 } else { len }
+}
+
+/// How many of the first tiles there is room for behind a bundle of `len` bytes, of 64 at most.
+fn fitting(len: u64, updates: &[TileRec]) -> usize
+    requires fit { EachFits updates.now }
+    ensures { IsFitting len updates.now result }
+{
+    let mut end = first_place(len);
+    let most = updates.len().min(MOST);
+    for i in 0..most {
+        let _number = updates[i].slot.number();
+        let size = updates[i].bytes.len() as u64;
+        if end > GREATEST_LENGTH - 4 - size {
+            return i;
+        }
+        end += 4 + size;
+    }
+    most
+}
+
+/// How many of the first tiles are put at once: as many as there is room for, of 64 at most.
+fn next_group<V: Volume>(
+    session: &Session,
+    vol: &mut V,
+    updates: &[TileRec],
+) -> Result<usize, PutStop>
+    requires running { session.now.stopped ≡ false }
+    requires some { 0 < length updates.now }
+    requires fit { EachFits updates.now }
+    requires serves { IsTrue (V.told vol.old) →
+        Serves session.now (contents Bundle (V.history vol.old)) }
+    ensures next { IsNext result updates.now (V.told vol.old)
+        (length (contents Bundle (V.history vol.old))) }
+    ensures during { IsTrue (V.told vol.old) → During (λ d. d ≡ current (V.history vol.old))
+        (V.history vol.old) (V.history vol.new) }
+    ensures told { V.told vol.new ≡ V.told vol.old }
+    ensures failed { IsCause (result ≡ Err PutStop.Volume) (V.faults vol.old) (V.faults vol.new) }
+{
+    let len = match session.length(vol) {
+        Ok(len) => len,
+        Err(_) => return Err(PutStop::Volume),
+    };
+    let count = fitting(len, updates);
+    if count == 0 {
+        return Err(PutStop::Full { len });
+    }
+    Ok(count)
+}
+
+/// Why puts end where the store refuses a group.
 fn put_stop(fault: StoreFault) -> PutStop
     ensures { result ≡ stop_of fault }
 {
@@ -24,72 +88,93 @@ fn put_stop(fault: StoreFault) -> PutStop
     }
 }
 
-/// Puts one tile.
-fn commit<V: Volume>(session: &mut Session, vol: &mut V, update: &TileRec) -> Result<(), PutStop>
+/// Puts a group of tiles at once.
+fn commit<V: Volume>(session: &mut Session, vol: &mut V, group: &[TileRec]) -> Result<(), PutStop>
     requires running { session.old.stopped ≡ false }
-    requires some { 0 < length update.now.bytes }
-    requires small { length update.now.bytes < 16777216 }
+    requires some { 0 < length group.now }
+    requires most { length group.now ≤ 64 }
+    requires fit { EachFits group.now }
+    requires first { IsTrue (V.told vol.old) →
+        HasRoomFirst (length (contents Bundle (V.history vol.old))) group.now (length group.now) }
     requires ready { IsTrue (V.told vol.old) →
         IsReadyToPut session.old (current (V.history vol.old)) }
-    ensures commits { Commits result update.now.slot update.now.bytes session.new
-        (V.told vol.old) (V.history vol.old) (V.history vol.new) }
+    ensures commits { Commits result group.now session.new (V.told vol.old) (V.history vol.old)
+        (V.history vol.new) }
     ensures images { IsTrue (V.told vol.old) →
         During (λ d. IsReadable (contents Bundle (V.history vol.old)) →
-        EachImage (WithOrWithout update.now.slot update.now.bytes
-        (tiles (contents Bundle (V.history vol.old)))) d)
+        EachImage (AllOrNone group.now (tiles (contents Bundle (V.history vol.old)))) d)
         (V.history vol.old) (V.history vol.new) }
     ensures told { V.told vol.new ≡ V.told vol.old }
     ensures failed { IsCause (result ≡ Err PutStop.Volume) (V.faults vol.old) (V.faults vol.new) }
 {
-    match session.put_blob(vol, update.slot, update.bytes.as_slice()) {
+    match session.put_group(vol, group) {
         Ok(()) => Ok(()),
         Err(fault) => Err(put_stop(fault)),
     }
 }
 
-/// Puts one tile, keeps its mark, and then gives its line.
-fn put_one<V: Volume, K: Sink>(
+/// Gives the lines of tiles that were put, in their order. It takes no memory.
+fn give_puts<K: Sink>(group: &[TileRec], out: &mut K) -> Result<(), Failed>
+    ensures ok { OnOk result (Holds (K.held out.old) (K.held out.new) (put_lines group.now)) }
+    ensures err { OnErr result (HoldsPrefix (K.held out.old) (K.held out.new)
+        (put_lines group.now)) }
+    ensures counted { CountsFaults result (K.faults out.old) (K.faults out.new) }
+{
+    for update in group {
+        match give_put(update.slot, update.bytes.len(), out) {
+            Ok(()) => {}
+            Err(failed) => return Err(failed),
+        }
+    }
+    Ok(())
+}
+
+/// Puts a group of tiles at once, keeps a mark of each, and then gives their lines.
+fn put_some<V: Volume, K: Sink>(
     session: &mut Session,
     vol: &mut V,
     out: &mut K,
     marks: &mut Marks,
-    update: &TileRec,
+    group: &[TileRec],
 ) -> Result<(), PutStop>
     requires running { session.old.stopped ≡ false }
-    requires some { 0 < length update.now.bytes }
-    requires small { length update.now.bytes < 16777216 }
-    requires room { 0 < marks.old.spare }
+    requires some { 0 < length group.now }
+    requires most { length group.now ≤ 64 }
+    requires fit { EachFits group.now }
+    requires first { IsTrue (V.told vol.old) →
+        HasRoomFirst (length (contents Bundle (V.history vol.old))) group.now (length group.now) }
+    requires room { length group.now ≤ marks.old.spare }
     requires ready { IsTrue (V.told vol.old) →
         IsReadyToPut session.old (current (V.history vol.old)) }
-    ensures turn { Turns result update.now.slot update.now.bytes session.new marks.old.marks
-        marks.new.marks (V.told vol.old) (V.history vol.old) (V.history vol.new) (K.held out.old)
-        (K.held out.new) }
+    ensures turn { Turns result group.now session.new marks.old.marks marks.new.marks
+        (V.told vol.old) (V.history vol.old) (V.history vol.new) (K.held out.old) (K.held out.new) }
     ensures images { IsTrue (V.told vol.old) →
         During (λ d. IsReadable (contents Bundle (V.history vol.old)) →
-        EachImage (WithOrWithout update.now.slot update.now.bytes
-        (tiles (contents Bundle (V.history vol.old)))) d)
+        EachImage (AllOrNone group.now (tiles (contents Bundle (V.history vol.old)))) d)
         (V.history vol.old) (V.history vol.new) }
-    ensures spare { marks.old.spare ≤ marks.new.spare + 1 }
+    ensures spare { marks.old.spare ≤ marks.new.spare + length group.now }
     ensures told { V.told vol.new ≡ V.told vol.old }
     ensures output_failed { IsCause (result ≡ Err PutStop.Output) (K.faults out.old)
         (K.faults out.new) }
     ensures volume_failed { IsCause (result ≡ Err PutStop.Volume) (V.faults vol.old)
         (V.faults vol.new) }
 {
-    match commit(session, vol, update) {
+    match commit(session, vol, group) {
         Ok(()) => {}
         Err(stop) => return Err(stop),
     }
-    marks.add(vol.moment());
-    match give_put(update.slot, update.bytes.len(), out) {
+    add_marks(marks, group.len(), vol.moment());
+    match give_puts(group, out) {
         Ok(()) => Ok(()),
         Err(_) => Err(PutStop::Output),
     }
 }
 
-/// Puts the updates in their order. Each gets a mark, the volume's moment right after its commit,
-/// and then its line is given. It ends at the first that the volume or the room refuses, or whose
-/// line the output does, and takes no memory.
+/// Puts the updates in their order, in groups of up to 64. A group ends before the first tile for
+/// which there is no room. Each update of a group gets the same mark, the volume's moment right
+/// after the group's commit, and then their lines are given. It ends at the first group that the
+/// volume refuses, or whose lines the output does, and before the first tile without room, and
+/// takes no memory.
 pub fn put_all<V: Volume, K: Sink>(
     session: &mut Session,
     vol: &mut V,
@@ -111,11 +196,18 @@ pub fn put_all<V: Volume, K: Sink>(
     ensures volume_failed { IsCause (result ≡ Err PutStop.Volume) (V.faults vol.old)
         (V.faults vol.new) }
 {
-    for update in updates {
-        match put_one(session, vol, out, marks, update) {
+    let mut done = 0;
+    while done < updates.len() {
+        let rest = &updates[done..];
+        let count = match next_group(session, vol, rest) {
+            Ok(count) => count,
+            Err(stop) => return Err(stop),
+        };
+        match put_some(session, vol, out, marks, &rest[..count]) {
             Ok(()) => {}
             Err(stop) => return Err(stop),
         }
+        done += count;
     }
     Ok(())
 }

@@ -3,14 +3,14 @@ mod Counting
 mod Filling
 mod Fresh
 mod Fronts
-mod GroupEntries
+pub mod GroupEntries
 mod GroupStanding
 mod GroupWrites
 mod Grouping
 mod Keeping
 mod Kept
 pub mod PutLaws
-mod Layouts
+pub mod Layouts
 mod Numbering
 pub mod OneRecovery
 pub mod Opening

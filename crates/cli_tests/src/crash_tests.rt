@@ -72,20 +72,20 @@ fn put_over(rt: &(impl Abort + AllocGlobal)) -> MemVolume {
     vol
 }
 
-// The recovery and the opening make 6 calls, and the put 17: call number 16 opens the journal's
-// gate, and the next one syncs it; call number 21 closes it, and the last one syncs that.
+// The recovery and the opening make 6 calls, and the put 18: call number 17 opens the journal's
+// gate, and the next one syncs it; call number 22 closes it, and the last one syncs that.
 #[test]
 fn a_crash_at_each_moment_of_a_put_leaves_the_old_or_the_new_tile(rt: HostRuntime) {
     let vol = put_over(&rt);
-    same(&rt, "the last moment", vol.moment(), 23);
+    same(&rt, "the last moment", vol.moment(), 24);
     let old = (b"closed\n".as_slice(), BLOB.as_slice());
     let (applied, new) = (APPLIED, NEW);
     let rows = [
-        (0, 17, [old, old, old, old]),
-        (17, 18, [old, applied, old, applied]),
-        (18, 22, [applied, applied, applied, applied]),
-        (22, 23, [applied, new, new, applied]),
-        (23, 24, [new, new, new, new]),
+        (0, 18, [old, old, old, old]),
+        (18, 19, [old, applied, old, applied]),
+        (19, 23, [applied, applied, applied, applied]),
+        (23, 24, [applied, new, new, applied]),
+        (24, 25, [new, new, new, new]),
     ];
     for (first, end, want) in rows {
         all_recover(&rt, &vol, (first, end), &LAST, want);
@@ -117,7 +117,7 @@ fn is_recovered_again(rt: &(impl Abort + AllocGlobal), vol: &MemVolume, moment: 
 #[test]
 fn a_crash_within_a_recovery_is_recovered_again(rt: HostRuntime) {
     let vol = put_over(&rt);
-    for moment in 18..22 {
+    for moment in 19..23 {
         is_recovered_again(&rt, &vol, moment, Pick::Oldest);
         is_recovered_again(&rt, &vol, moment, Pick::Torn(255));
     }
@@ -149,7 +149,7 @@ fn is_cut_off_again(rt: &(impl Abort + AllocGlobal), vol: &MemVolume, moment: u6
 #[test]
 fn a_put_behind_a_crash_of_a_put_is_cut_off_again(rt: HostRuntime) {
     let vol = put_over(&rt);
-    for moment in 0..24 {
+    for moment in 0..25 {
         is_cut_off_again(&rt, &vol, moment, Pick::Oldest);
         is_cut_off_again(&rt, &vol, moment, Pick::Torn(255));
     }

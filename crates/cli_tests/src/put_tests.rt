@@ -102,23 +102,61 @@ fn a_put_over_a_tile_writes_these_places(rt: HostRuntime) {
 /// Three tiles for two slots.
 const THREE_TILES: [&[u8]; 6] = [b"\x54\0\0", &GRID, b"\x54\0\x01", &GRID, b"\x54\0\0", &GRID];
 
-/// Three marks rise from above 0 to this moment.
-fn rise_to(rt: &impl Abort, marks: &Marks, moment: u64) {
-    let (first, second) = (mark_at(rt, marks, 0), mark_at(rt, marks, 1));
-    same(rt, "the first mark is above 0", first > 0, true);
-    same(rt, "the second is above it", second > first, true);
-    same(rt, "the last is above both", moment > second, true);
-    same(rt, "the last is the moment", mark_at(rt, marks, 2), moment);
+/// All of the marks from one number to another, the last left out, are this one.
+fn are(rt: &impl Abort, marks: &Marks, numbers: (usize, usize), mark: u64) {
+    for number in numbers.0..numbers.1 {
+        same(rt, number, mark_at(rt, marks, number), mark);
+    }
 }
 
 #[test]
-fn three_tiles_have_rising_marks(rt: HostRuntime) {
+fn three_tiles_have_one_mark(rt: HostRuntime) {
     let mut vol = empty(&rt);
     let output = b"put 0 0 66\nput 0 1 66\nput 0 0 66\n";
     let marks = marks_of(&rt, &mut vol, &PUT, &THREE_TILES, 3, output);
-    rise_to(&rt, &marks, vol.moment());
+    are(&rt, &marks, (0, 3), vol.moment());
     let slack = b"\x46\0\0\0\0\0\0\0\x12\x01\x02\0\0\0\0\0";
     holds(&rt, &mut vol, VolFile::Bundle, 131346, &[(16, slack)]);
+}
+
+/// The stream of a tile of one pixel for each of the first 65 slots, and the lines of their updates.
+fn sixty_five(rt: &(impl Abort + AllocGlobal)) -> (Vec<u8>, Vec<u8>) {
+    let mut stream = Vec::new(rt.alloc());
+    let mut lines = Vec::new(rt.alloc());
+    for col in 0..65u8 {
+        let line = format!(in rt.alloc(); "put 0 {col} 66\n").expect(rt, "memory");
+        stream
+            .extend_from_slice(&[0x54, 0, col])
+            .expect(rt, "memory");
+        stream.extend_from_slice(&GRID).expect(rt, "memory");
+        lines
+            .extend_from_slice(line.as_bytes())
+            .expect(rt, "memory");
+    }
+    (stream, lines)
+}
+
+#[test]
+fn sixty_five_tiles_are_two_groups(rt: HostRuntime) {
+    let mut vol = empty(&rt);
+    let (stream, lines) = sixty_five(&rt);
+    let marks = marks_of(&rt, &mut vol, &PUT, &[&stream], 65, &lines);
+    let first = mark_at(&rt, &marks, 0);
+    same(&rt, "the first mark", first < vol.moment(), true);
+    are(&rt, &marks, (0, 64), first);
+    are(&rt, &marks, (64, 65), vol.moment());
+    holds(&rt, &mut vol, VolFile::Bundle, 135686, &[]);
+}
+
+#[test]
+fn the_last_of_two_tiles_in_a_slot_stands(rt: HostRuntime) {
+    let mut vol = empty(&rt);
+    let tiles: [&[u8]; 4] = [b"\x54\0\0", &GRID, b"\x54\0\0", &TENS];
+    let done = (0, 2, b"put 0 0 66\nput 0 0 72\n".as_slice(), b"".as_slice());
+    fed(&rt, &mut vol, &PUT_WITHIN_1, &tiles, &[], done);
+    let slack = b"\x46\0\0\0\0\0\0\0\xd2\0\x02\0\0\0\0\0";
+    holds(&rt, &mut vol, VolFile::Bundle, 131282, &[(16, slack)]);
+    gives(&rt, &mut vol, &["get", "0", "0", "raw"], &STEPS);
 }
 
 /// Whether a put fails at this call of the volume, and then gives no line.
@@ -129,8 +167,8 @@ fn fails_at(rt: &(impl Abort + AllocGlobal), call: u64) -> bool {
 
 #[test]
 fn a_failing_call_of_a_put_leaves_no_line(rt: HostRuntime) {
-    for call in 0..24 {
-        same(&rt, call, fails_at(&rt, call), call < 23);
+    for call in 0..25 {
+        same(&rt, call, fails_at(&rt, call), call < 24);
     }
 }
 

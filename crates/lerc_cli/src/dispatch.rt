@@ -176,9 +176,9 @@ pub fn run<S: Source, K: Sink, E: Sink, V: Volume>(
         → (result.status ≡ 0) × Holds (K.held out.old) (K.held out.new) output }
 
     // At each moment of the run each image that a crash may leave is sound. It stands for the tiles
-    // that stood as the run began; for `put`, with the first few of its updates done, at least
-    // those that have a mark by then, and at most one more; for `build`, with all done, or with
-    // none as long as none has a mark.
+    // that stood as the run began; for `put`, with the first few of its updates done, those that
+    // have a mark by then, or also the next group of up to 64, whole; for `build`, with all done, or
+    // with none as long as none has a mark.
     ensures kept { (c : Command) → IsSpelled c words.now → (start : TileMap)
         → IsReady (V.told vol.old) (V.history vol.old) start
         → (updates : List TileRec) × ((end : End) × ((result.status ≡ status_at end)

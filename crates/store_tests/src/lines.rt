@@ -1,4 +1,4 @@
-//! Worked lines and marks, what a crash leaves at each moment of two puts, and objects that fail.
+//! Worked lines and marks, what a crash leaves at each moment of a group, and objects that fail.
 
 ghost use Rattle.std.specs.Prelude.{◌≡◌, ◌≤◌, [], false, length, IsTrue};
 ghost use Rattle.outside_io.specs.volume.History.{current};
@@ -14,7 +14,7 @@ use bundle_lines::{
     BuildStop, PutStop, build_all, give_built, give_recovery, give_report, list_all, put_all,
 };
 use bundle_store::{CheckReport, Recovery, Session, StoreFault, TileRec, recover};
-use outside_io::{Bytes, Marks, MemSink, MemVolume, Pick, Sink, Volume};
+use outside_io::{Bytes, Marks, MemSink, MemVolume, Pick, Sink, VolFile, Volume};
 use std::alloc::Global;
 use std::process::Abort;
 
@@ -149,12 +149,12 @@ fn two_marks(rt: &impl Abort, marks: &Marks) -> (u64, u64) {
 const TWO_PUTS: &[u8] = b"put 0 0 66\nput 127 127 72\n";
 
 #[test]
-fn two_puts_have_their_marks_and_lines(rt: HostRuntime) {
+fn two_tiles_have_one_mark_and_their_lines(rt: HostRuntime) {
     let alloc = rt.alloc();
     let mut vol = empty_volume(&rt, alloc);
     let marks = expect_puts(&rt, alloc, &mut vol, 100, Ok(()), TWO_PUTS);
     let (first, second) = two_marks(&rt, &marks);
-    same(&rt, "first mark", first < second, true);
+    same(&rt, "first mark", first, vol.moment());
     same(&rt, "second mark", second, vol.moment());
 }
 
@@ -170,8 +170,6 @@ fn a_build_has_one_line_and_its_marks_one_moment(rt: HostRuntime) {
     let marks = expect_built(&rt, alloc, &mut vol, 100, again, b"");
     same(&rt, "marks again", marks.len(), 0);
 }
-
-const LISTED_ONE: &[u8] = b"0 0 131140 66\n";
 
 const LISTED_TWO: &[u8] = b"0 0 131140 66\n127 127 131210 72\n";
 
@@ -206,8 +204,8 @@ fn recovered_len(
     len_of(session.get(&mut image, slot))
 }
 
-/// An image of a moment, once recovered, has the tiles that have a mark by then, and the second
-/// never without the first.
+/// An image of a moment, once recovered, has the tiles that have a mark by then, and both of them or
+/// none.
 fn expect_marked(
     rt: &impl Abort,
     alloc: Global,
@@ -230,7 +228,7 @@ fn expect_marked(
         large == 72 || (moment < marks.1 && large == 0),
         true,
     );
-    same(rt, moment, large == 0 || small == 66, true);
+    same(rt, moment, small == 66, large == 72);
 }
 
 /// So does each image of each moment.
@@ -250,21 +248,109 @@ fn a_crash_leaves_what_has_a_mark(rt: HostRuntime) {
     expect_all_marked(&rt, alloc, &vol, two_marks(&rt, &marks));
 }
 
-/// Where the call of that number fails, two puts leave so many marks and these lines.
-fn expect_lines(rt: &impl Abort, alloc: Global, number: u64, done: usize, lines: &[u8]) {
-    let mut vol = failing_volume(rt, alloc, &[number]);
-    let marks = expect_puts(rt, alloc, &mut vol, 100, Err(PutStop::Volume), lines);
-    same(rt, number, marks.len(), done);
+/// Small tiles for the first slots, so many.
+fn small_tiles(rt: &impl Abort, alloc: Global, count: u8) -> Vec<TileRec> {
+    let mut tiles = Vec::new(alloc);
+    for col in 0..count {
+        let slot = Slot::of(0, col).expect(rt, "slot");
+        tiles
+            .push(tile(rt, alloc, slot, &SMALL))
+            .expect(rt, "memory");
+    }
+    tiles
 }
 
-// Recovery and opening make 4 calls on an empty file, a first put 27, and a second put 14.
+/// A put of so many of them ends so, and has so many marks and lines. It answers the marks.
+fn expect_small<V: Volume>(
+    rt: &impl Abort,
+    alloc: Global,
+    vol: &mut V,
+    count: u8,
+    wanted: Result<(), PutStop>,
+    done: usize,
+) -> Marks {
+    let mut out = sink(rt, alloc, 2000);
+    let tiles = small_tiles(rt, alloc, count);
+    let (end, marks) = put(rt, alloc, vol, &mut out, &tiles);
+    same(rt, "end", end, wanted);
+    same(rt, "marks", marks.len(), done);
+    same(rt, "lines", line_count(out.held()) as usize, done);
+    marks
+}
+
+/// How many of the marks are this one.
+fn count_of(marks: &Marks, mark: u64) -> u32 {
+    let mut count = 0u32;
+    for i in 0..marks.len() {
+        if marks.at(i) == mark {
+            count = count.wrapping_add(1);
+        }
+    }
+    count
+}
+
+/// The first mark.
+fn first_mark(rt: &impl Abort, marks: &Marks) -> u64 {
+    if marks.len() == 0 {
+        panic!(rt; "no mark");
+    }
+    marks.at(0)
+}
+
+/// A volume into which 65 tiles were put, and the mark of the first 64.
+fn two_groups(rt: &impl Abort, alloc: Global) -> (MemVolume, u64) {
+    let mut vol = empty_volume(rt, alloc);
+    let marks = expect_small(rt, alloc, &mut vol, 65, Ok(()), 65);
+    let first = first_mark(rt, &marks);
+    same(rt, "the first mark", first < vol.moment(), true);
+    same(rt, "marks of the first group", count_of(&marks, first), 64);
+    same(rt, "last marks", count_of(&marks, vol.moment()), 1);
+    (vol, first)
+}
+
+#[test]
+fn sixty_five_tiles_are_two_groups(rt: HostRuntime) {
+    let alloc = rt.alloc();
+    let (mut vol, _first) = two_groups(&rt, alloc);
+    let len = vol.len(VolFile::Bundle).expect(&rt, "length");
+    same(&rt, "length", len, 135686);
+}
+
+/// An image of a moment, once recovered, lists 64 tiles or 65.
+fn lists_a_group(rt: &impl Abort, alloc: Global, vol: &MemVolume, moment: u64, pick: Pick) {
+    let mut image = image(rt, alloc, vol, moment, pick);
+    recover(&mut image).expect(rt, "recover");
+    let out = expect_list(rt, alloc, &mut image, 2000, true);
+    let listed = line_count(out.held());
+    same(rt, moment, listed == 64 || listed == 65, true);
+}
+
+#[test]
+fn behind_the_first_mark_its_group_stands(rt: HostRuntime) {
+    let alloc = rt.alloc();
+    let (vol, first) = two_groups(&rt, alloc);
+    for moment in first..vol.moment() {
+        for pick in PICKS {
+            lists_a_group(&rt, alloc, &vol, moment, pick);
+        }
+    }
+}
+
+/// Where the call of that number fails, a put of 65 tiles leaves so many marks and lines.
+fn expect_done(rt: &impl Abort, alloc: Global, number: u64, done: usize) {
+    let mut vol = failing_volume(rt, alloc, &[number]);
+    expect_small(rt, alloc, &mut vol, 65, Err(PutStop::Volume), done);
+}
+
+// The recovery and the opening make 4 calls on an empty file.
 #[test]
 fn a_volume_that_fails_leaves_the_lines_of_the_marks(rt: HostRuntime) {
     let alloc = rt.alloc();
-    expect_lines(&rt, alloc, 4, 0, b"");
-    expect_lines(&rt, alloc, 30, 0, b"");
-    expect_lines(&rt, alloc, 31, 1, &TWO_PUTS[..11]);
-    expect_lines(&rt, alloc, 44, 1, &TWO_PUTS[..11]);
+    let (vol, first) = two_groups(&rt, alloc);
+    expect_done(&rt, alloc, 4, 0);
+    expect_done(&rt, alloc, first.saturating_sub(1), 0);
+    expect_done(&rt, alloc, first, 64);
+    expect_done(&rt, alloc, vol.moment().saturating_sub(1), 64);
 }
 
 /// Puts of two tiles fail at an output of so many bytes, which then has these lines, and leave a
@@ -276,10 +362,10 @@ fn expect_cut(rt: &impl Abort, alloc: Global, room: usize, lines: &[u8], listing
 }
 
 #[test]
-fn an_output_that_fails_leaves_its_update(rt: HostRuntime) {
+fn an_output_that_fails_leaves_its_group(rt: HostRuntime) {
     let alloc = rt.alloc();
-    expect_cut(&rt, alloc, 0, b"", LISTED_ONE);
-    expect_cut(&rt, alloc, 10, b"put 0 0 66", LISTED_ONE);
+    expect_cut(&rt, alloc, 0, b"", LISTED_TWO);
+    expect_cut(&rt, alloc, 10, b"put 0 0 66", LISTED_TWO);
     expect_cut(&rt, alloc, 11, b"put 0 0 66\n", LISTED_TWO);
     expect_cut(&rt, alloc, 25, b"put 0 0 66\nput 127 127 72", LISTED_TWO);
 }
@@ -291,6 +377,15 @@ fn the_first_update_without_room_ends_the_puts(rt: HostRuntime) {
     let full = PutStop::Full { len: 1099511627776 };
     let marks = expect_puts(&rt, alloc, &mut vol, 100, Err(full), &TWO_PUTS[..11]);
     same(&rt, "marks", marks.len(), 1);
+}
+
+#[test]
+fn a_group_ends_before_the_first_tile_without_room(rt: HostRuntime) {
+    let alloc = rt.alloc();
+    let mut vol = volume(&rt, alloc, 1099511627776 - 210, &FRESH, &[], &[]);
+    let full = PutStop::Full { len: 1099511627776 };
+    let marks = expect_small(&rt, alloc, &mut vol, 5, Err(full), 3);
+    same(&rt, "marks", count_of(&marks, first_mark(&rt, &marks)), 3);
 }
 
 /// How many lines these bytes end.

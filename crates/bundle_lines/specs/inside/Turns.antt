@@ -1,65 +1,92 @@
--- One put after the other, and all so far.
-use Rattle.std.specs.Prelude.{◌≡◌, ℕ, ◌+◌, ◌^◌, ◌<◌, ◌≤◌, List, [], ◌∷◌, ◌++◌, length, take, Option, Bool, true, false, IsTrue, Ok, Err}
+-- One group after the other, and all so far.
+use Rattle.std.specs.Prelude.{◌≡◌, ◌⊎◌, ℕ, ◌+◌, ◌^◌, ◌<◌, ◌≤◌, ◌==◌, if◌then◌else◌, List, ◌++◌, length, replicate, take, Option, Bool, false, IsTrue, Result, Ok, Err}
 use Rattle.outside_io.specs.declared.volume.VolFile.TheVariants.{Bundle}
 use Rattle.outside_io.specs.streams.Sink.{Holds, HoldsPrefix}
 use Rattle.outside_io.specs.volume.History.{History, contents, current}
 use Rattle.bundle_store.specs.declared.fault.StoreFault.{StoreFault}
 use Rattle.bundle_store.specs.declared.fault.StoreFault.TheVariants.{Full as StoreFull}
 use Rattle.bundle_store.specs.declared.tile_rec.TileRec.{TileRec}
-use Rattle.bundle_store.specs.Appended.{bundle_after_put}
-use Rattle.bundle_store.specs.Build.{map_after}
+use Rattle.bundle_store.specs.Build.{bytes_at, map_after}
+use Rattle.bundle_store.specs.GroupPuts.{AreTilesIn, bundle_after_puts, group_records}
 use Rattle.bundle_store.specs.Images.{HoldsClosed}
 use Rattle.bundle_store.specs.Session.{IsReadyToPut, SessionState}
 use Rattle.bundle_store.specs.Tiles.{IsReadable, tiles}
 use Rattle.bundle_lines.specs.declared.stop.PutStop.{PutStop}
 use Rattle.bundle_lines.specs.declared.stop.PutStop.TheVariants.{Output, Volume, Full}
 use Rattle.bundle_lines.specs.Ends.{PutEnd}
-use Rattle.bundle_lines.specs.Lines.{put_line_of, put_lines}
-use Rattle.bundle_lines.specs.Puts.{AreMarks, HaveRoom, PutsKeep, bundle_after_puts}
+use Rattle.bundle_lines.specs.Lines.{put_lines}
+use Rattle.bundle_lines.specs.Puts.{AreMarks, AreWhole, HaveRoom, PutsKeep}
 
 -- why puts end where the store refuses one
 abbrev pub stop_of : StoreFault → PutStop
 stop_of (StoreFull len) = Full len
 stop_of fault = Volume
 
--- a tile was put
-pub record IsPut (slot : ℕ) (blob : List ℕ) (s : SessionState) (told : Bool) (old new : History)
+-- where the first record behind a bundle of so many bytes stands: an empty one gets a header and an
+-- index first
+abbrev pub end_of : ℕ → ℕ
+end_of len = if len == 0 then 131136 else len
+
+-- there is room for the first n tiles behind a bundle of so many bytes, and they have slots
+pub record HasRoomFirst (len : ℕ) (updates : List TileRec) (n : ℕ) : Type 0 where
+  pub room : (i : ℕ) → i < n
+      → end_of len + length (group_records (take i updates)) + 4 + length (bytes_at updates i) ≤ 2 ^ 40
+  pub tiles : AreTilesIn (take n updates)
+
+-- So many of the tiles are put at once behind a bundle of so many bytes, 64 at most.
+pub record IsFitting (len : ℕ) (updates : List TileRec) (n : ℕ) : Type 0 where
+  pub most : n ≤ 64
+  pub within : n ≤ length updates
+  pub first : HasRoomFirst len updates n
+  pub ends : (n ≡ 64) ⊎ ((n ≡ length updates)
+      ⊎ (2 ^ 40 < end_of len + length (group_records (take n updates)) + 4 + length (bytes_at updates n)))
+
+-- How many of the tiles are put next: some, behind a bundle of so many bytes where the volume tells
+-- it, or there is no room for the first.
+abbrev pub IsNext : Result ℕ PutStop → List TileRec → Bool → ℕ → Type 0
+IsNext (Ok n) updates told size =
+    (0 < n) × (n ≤ 64) × (n ≤ length updates) × (IsTrue told → IsFitting size updates n)
+IsNext (Err Output) updates told size = ⊥
+IsNext (Err Volume) updates told size = Unit {0}
+IsNext (Err (Full len)) updates told size =
+    (2 ^ 40 < len + 4 + length (bytes_at updates 0)) × (IsTrue told → len ≡ size)
+
+-- a group was put
+pub record IsPut (group : List TileRec) (s : SessionState) (told : Bool) (old new : History)
     : Type 0 where
   pub running : s.stopped ≡ false
-  pub room : IsTrue told → length (contents Bundle old) + 4 + length blob ≤ 2 ^ 40
   pub holds : IsTrue told →
-      HoldsClosed (bundle_after_put (contents Bundle old) slot blob) (current new)
+      HoldsClosed (bundle_after_puts (contents Bundle old) group) (current new)
   pub ready : IsTrue told → IsReadyToPut s (current new)
 
--- there was no room for a tile, and nothing was done
-pub record IsNotPut (len : ℕ) (blob : List ℕ) (s : SessionState) (told : Bool) (old new : History)
-    : Type 0 where
+-- there was no room for a tile of the group, over a volume that tells nothing
+pub record IsNotPut (len : ℕ) (group : List TileRec) (s : SessionState) (told : Bool) : Type 0 where
   pub running : s.stopped ≡ false
-  pub full : 2 ^ 40 < len + 4 + length blob
-  pub len_is : IsTrue told → len ≡ length (contents Bundle old)
-  pub same : IsTrue told → current new ≡ current old
-  pub ready : IsTrue told → IsReadyToPut s (current new)
+  pub number : ℕ
+  pub within : number < length group
+  pub full : 2 ^ 40 < len + 4 + length (bytes_at group number)
+  pub untold : IsTrue told → ⊥
 
-abbrev pub Commits : PutEnd → ℕ → List ℕ → SessionState → Bool → History → History → Type 0
-Commits (Ok x) slot blob s told old new = IsPut slot blob s told old new
-Commits (Err Output) slot blob s told old new = ⊥
-Commits (Err Volume) slot blob s told old new = s.stopped ≡ true
-Commits (Err (Full len)) slot blob s told old new = IsNotPut len blob s told old new
+abbrev pub Commits : PutEnd → List TileRec → SessionState → Bool → History → History → Type 0
+Commits (Ok x) group s told old new = IsPut group s told old new
+Commits (Err Output) group s told old new = ⊥
+Commits (Err Volume) group s told old new = Unit {0}
+Commits (Err (Full len)) group s told old new = IsNotPut len group s told
 
--- The tile was put, has its mark, and its line was given or cut short; or there is neither mark nor
--- line of it.
-abbrev pub Turns : PutEnd → ℕ → List ℕ → SessionState → List ℕ → List ℕ → Bool → History → History
+-- The group was put, each of its tiles has the same mark, and then their lines were given or cut
+-- short; or there is neither mark nor line of it.
+abbrev pub Turns : PutEnd → List TileRec → SessionState → List ℕ → List ℕ → Bool → History → History
     → Option (List ℕ) → Option (List ℕ) → Type 0
-Turns (Ok x) slot blob s marks marks_new told old new held held_new =
-    (slot < 16384) × (marks_new ≡ marks ++ new.moment ∷ []) × IsPut slot blob s told old new
-    × Holds held held_new (put_line_of slot (length blob))
-Turns (Err Output) slot blob s marks marks_new told old new held held_new =
-    (slot < 16384) × (marks_new ≡ marks ++ new.moment ∷ []) × IsPut slot blob s told old new
-    × HoldsPrefix held held_new (put_line_of slot (length blob))
-Turns (Err Volume) slot blob s marks marks_new told old new held held_new =
-    (marks_new ≡ marks) × (held_new ≡ held) × (s.stopped ≡ true)
-Turns (Err (Full len)) slot blob s marks marks_new told old new held held_new =
-    (marks_new ≡ marks) × (held_new ≡ held) × IsNotPut len blob s told old new
+Turns (Ok x) group s marks marks_new told old new held held_new =
+    (marks_new ≡ marks ++ replicate (length group) new.moment) × IsPut group s told old new
+    × Holds held held_new (put_lines group)
+Turns (Err Output) group s marks marks_new told old new held held_new =
+    (marks_new ≡ marks ++ replicate (length group) new.moment) × IsPut group s told old new
+    × HoldsPrefix held held_new (put_lines group)
+Turns (Err Volume) group s marks marks_new told old new held held_new =
+    (marks_new ≡ marks) × (held_new ≡ held)
+Turns (Err (Full len)) group s marks marks_new told old new held held_new =
+    (marks_new ≡ marks) × (held_new ≡ held) × IsNotPut len group s told
 
 -- what a volume that tells its files has after the first k updates
 pub record PutsStand (updates : List TileRec) (k : ℕ) (marks : List ℕ) (s : SessionState)
@@ -69,13 +96,14 @@ pub record PutsStand (updates : List TileRec) (k : ℕ) (marks : List ℕ) (s : 
   pub room : HaveRoom (contents Bundle old) updates k
   pub later : old.moment ≤ new.moment
   pub marks_are : AreMarks marks old.moment new.moment
+  pub groups : AreWhole (contents Bundle old) updates marks
   pub readable : IsReadable (contents Bundle old) →
       IsReadable (bundle_after_puts (contents Bundle old) (take k updates))
   pub map_is : IsReadable (contents Bundle old) →
       tiles (bundle_after_puts (contents Bundle old) (take k updates))
       ≡ map_after (tiles (contents Bundle old)) (take k updates)
   pub images : IsReadable (contents Bundle old) →
-      PutsKeep (tiles (contents Bundle old)) updates marks old new
+      PutsKeep (contents Bundle old) (tiles (contents Bundle old)) updates marks old new
 
 -- the first k updates are done, with their marks and lines
 pub record PutsSoFar (updates : List TileRec) (k : ℕ) (marks : List ℕ) (s : SessionState)

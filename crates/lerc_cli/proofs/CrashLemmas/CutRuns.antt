@@ -1,5 +1,5 @@
 -- Runs that crashes cut off leave what stands for the tiles after some updates of each.
-use Rattle.std.proofs.Common.{◌≡◌, ℕ, ◌≤◌, List, [], ◌∷◌, take, Bool, true, false, refl, rules, sym, ap, subst, ◌∙◌, arith}
+use Rattle.std.proofs.Common.{◌≡◌, ℕ, ◌≤◌, List, [], ◌∷◌, take, Bool, true, false, refl, inl, inr, rules, sym, ap, subst, ◌∙◌, arith}
 use Rattle.std.specs.Prelude.{IsFalse, IsTrue}
 use Rattle.std.proofs.lemmas.List.{take_all}
 use Rattle.outside_io.specs.declared.volume.VolFile.TheVariants.{Journal}
@@ -46,8 +46,10 @@ module _ (g : Given) (end : End) (us : List TileRec) (marks : List ℕ) (start :
       let sound = kept.each t from to b j image.bundle image.journal in
       (sound.passes.count, (sound.passes.least, subst (StandsFor b j) sound.passes.map_is sound.stands))
   stands_cut (Put version error workers) at kept =
-      let sound = kept.each t from to b j image.bundle image.journal in
-      (sound.passes.count, (sound.passes.least, subst (StandsFor b j) sound.passes.map_is sound.stands))
+      let sound = kept.1.2.each t from to b j image.bundle image.journal in
+      let count = sound.passes.count in
+      let least : marked marks t ≤ count = elim sound.passes.count_is [ inl same ↦ omega (arith, same) | inr more ↦ omega (arith, more.1.1) ] in
+      (count, (least, subst (StandsFor b j) sound.passes.map_is sound.stands))
   stands_cut (Get slot) at kept = stands_same (Get slot) (λ is. is) at kept
   stands_cut (GetRaw slot) at kept = stands_same (GetRaw slot) (λ is. is) at kept
   stands_cut ListAll at kept = stands_same ListAll (λ is. is) at kept

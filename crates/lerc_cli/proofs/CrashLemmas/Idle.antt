@@ -5,7 +5,7 @@ use Rattle.outside_io.specs.declared.volume.VolFile.TheVariants.{Bundle, Journal
 use Rattle.outside_io.specs.volume.History.{History, contents, current}
 use Rattle.outside_io.proofs.VolumeLemmas.Images.{only_image}
 use Rattle.outside_io.proofs.VolumeLemmas.Moments.{during_map_at, started}
-use Rattle.bundle_store.specs.Images.{EachImage, StandsFor}
+use Rattle.bundle_store.specs.Images.{EachImage, Shows, StandsFor}
 use Rattle.bundle_store.specs.Tiles.{TileMap}
 use Rattle.program_ends.specs.Moves.{SinkMove, VolumeMove, source_move, volume_move}
 use Rattle.lerc_cli.specs.declared.words.Command.{Command}
@@ -17,13 +17,20 @@ use Rattle.lerc_cli.specs.answers.Names.{End}
 use Rattle.lerc_cli.specs.inputs.Given.{Given}
 use Rattle.lerc_cli.specs.answers.Table.{Answers, UpdatesOf}
 use Rattle.lerc_cli.specs.run.Run.{MarksAt, OfOutput, OfSource, OfVolume, TakesFor}
-use Rattle.opened_bundle.specs.Left.{IsReady, KeepsStart, OfReading}
+use Rattle.opened_bundle.specs.Left.{IsLeft, IsReady, KeepsStart, OfReading}
 use Rattle.lerc_cli.specs.crashes.Kept.{KeepsTiles, OnAnswer, Rests, UpdatesAt, bundle_after, is_early}
 use Rattle.outside_io.specs.volume.Disk.{Disk}
 use Rattle.bundle_store.specs.declared.tile_rec.TileRec.{TileRec}
 use Rattle.bundle_lines.specs.Builds.{BuildKeeps, IsAllOrNone}
+use Rattle.side_journal.specs.Says.{Says}
+use Rattle.side_journal.specs.declared.body.Body.{Body}
+use Rattle.side_journal.specs.declared.body.Body.TheVariants.{Tile, Build as Nothing, Group}
+use Rattle.side_journal.specs.declared.body.JournalState.{JournalState}
+use Rattle.side_journal.specs.declared.body.JournalState.TheVariants.{Closed, Open, Bad}
+use Rattle.bundle_store.specs.LaidOver.{with_body}
+use Rattle.bundle_store.specs.declared.recovery.Recovery.TheVariants.{Closed as RecoveredClosed, Applied, Emptied}
 use Rattle.bundle_lines.specs.Puts.{IsAfterSome, PutsKeep}
-use Rattle.bundle_lines.proofs.Marked.{no_marks}
+use Rattle.bundle_lines.proofs.Marked.{no_groups, no_marks}
 
 -- no test is both
 pub clash : (b : Bool) → IsTrue b → IsFalse b → ⊥
@@ -41,11 +48,23 @@ stays start told h ready = started (EachImage (λ map. map ≡ start)) h (λ b j
     })
 
 -- a map that is the one at the start is one after no updates
-none_put : (us : List TileRec) (start : TileMap) (t : ℕ) (d : Disk) → EachImage (λ map. map ≡ start) d → EachImage (IsAfterSome start us [] t) d
-none_put us start t d each = λ b j ib ij. let is = each b j ib ij in record { map = is.map; stands = is.stands; passes = record { count = 0; least = omega arith; most = omega arith; map_is = is.passes } }
+none_put : (b : List ℕ) (us : List TileRec) (start : TileMap) (t : ℕ) (d : Disk) → EachImage (λ map. map ≡ start) d → EachImage (IsAfterSome b start us [] t) d
+none_put b us start t d each = λ c j ic ij. let is = each c j ic ij in record { map = is.map; stands = is.stands; passes = record { count = 0; count_is = inl refl; map_is = is.passes } }
 
-pub keeps_unmarked : (us : List TileRec) (start : TileMap) (old new : History) → KeepsStart start old new → PutsKeep start us [] old new
-keeps_unmarked us start old new kept = during_map_at (λ _ d. EachImage (λ map. map ≡ start) d) (λ t d. EachImage (IsAfterSome start us [] t) d) old new (λ t d _ _ each. none_put us start t d each) kept
+keeps_unmarked : (b : List ℕ) (us : List TileRec) (start : TileMap) (old new : History) → KeepsStart start old new → PutsKeep b start us [] old new
+keeps_unmarked b us start old new kept = during_map_at (λ _ d. EachImage (λ map. map ≡ start) d) (λ t d. EachImage (IsAfterSome b start us [] t) d) old new (λ t d _ _ each. none_put b us start t d each) kept
+
+-- from files that stand for a map, a recovery leaves a bundle
+left_by : (b j : List ℕ) (state : JournalState) (map : TileMap) → Says j state → Shows state b map → (left : List ℕ) × IsLeft b j left
+left_by b j Closed map says shows = (b, inl (RecoveredClosed, (says, refl)))
+left_by b j (Open Nothing) map says shows = ([], inl (Emptied, (says.0, says.1, refl)))
+left_by b j (Open (Tile slot entry size header)) map says shows =
+    let body : Body = Tile slot entry size header in
+    (with_body body b, inl (Applied, (record { opened = says.0; body = body; says = says.1; tiles = tt; within = shows.0 }, refl)))
+left_by b j (Open (Group entries size header)) map says shows =
+    let body : Body = Group entries size header in
+    (with_body body b, inl (Applied, (record { opened = says.0; body = body; says = says.1; tiles = tt; within = shows.0 }, refl)))
+left_by b j (Bad place found) map says shows = absurd shows
 
 -- the same of a build
 none_built : (us : List TileRec) (start : TileMap) (t : ℕ) (d : Disk) → EachImage (λ map. map ≡ start) d → EachImage (IsAllOrNone start us [] t) d
@@ -55,17 +74,20 @@ pub keeps_unbuilt : (us : List TileRec) (start : TileMap) (old new : History) �
 keeps_unbuilt us start old new kept = during_map_at (λ _ d. EachImage (λ map. map ≡ start) d) (λ t d. EachImage (IsAllOrNone start us [] t) d) old new (λ t d _ _ each. none_built us start t d each) kept
 
 -- none of these updates has a mark
-pub keeps_without_marks : (c : Command) (us : List TileRec) (start : TileMap) (old new : History) → KeepsStart start old new → KeepsTiles c us [] start old new
-keeps_without_marks (Encode version error) us start old new kept = kept
-keeps_without_marks Decode us start old new kept = kept
-keeps_without_marks Info us start old new kept = kept
-keeps_without_marks (Build version error workers) us start old new kept = keeps_unbuilt us start old new kept
-keeps_without_marks (Put version error workers) us start old new kept = keeps_unmarked us start old new kept
-keeps_without_marks (Get slot) us start old new kept = kept
-keeps_without_marks (GetRaw slot) us start old new kept = kept
-keeps_without_marks ListAll us start old new kept = kept
-keeps_without_marks Check us start old new kept = kept
-keeps_without_marks Recover us start old new kept = kept
+pub keeps_without_marks : (c : Command) (us : List TileRec) (start : TileMap) (told : Bool) (old new : History) → IsReady told old start → KeepsStart start old new → KeepsTiles c us [] start old new
+keeps_without_marks (Encode version error) us start told old new ready kept = kept
+keeps_without_marks Decode us start told old new ready kept = kept
+keeps_without_marks Info us start told old new ready kept = kept
+keeps_without_marks (Build version error workers) us start told old new ready kept = keeps_unbuilt us start old new kept
+keeps_without_marks (Put version error workers) us start told old new ready kept =
+    let stands = ready.stands in
+    let left = left_by (contents Bundle old) (contents Journal old) stands.state start stands.says stands.shows in
+    (left.0, (left.1, no_groups left.0 us, keeps_unmarked left.0 us start old new kept))
+keeps_without_marks (Get slot) us start told old new ready kept = kept
+keeps_without_marks (GetRaw slot) us start told old new ready kept = kept
+keeps_without_marks ListAll us start told old new ready kept = kept
+keeps_without_marks Check us start told old new ready kept = kept
+keeps_without_marks Recover us start told old new ready kept = kept
 
 -- a command that makes no updates has none
 no_updates : (c : Command) (g : Given) → IsFalse (makes_updates c) → UpdatesOf c g []
@@ -156,7 +178,7 @@ untouched c g end V told history faults vol early well at = record {
   marks_at = none_at c (history vol).moment;
   reads = λ tells late. absurd (clash (is_early c end) early late);
   rests = λ tells late. absurd (clash (is_early c end) early late);
-  tiles = λ start ready. ([], (at, keeps_without_marks c [] start (history vol) (history vol) (stays start (told vol) (history vol) ready)));
+  tiles = λ start ready. ([], (at, keeps_without_marks c [] start (told vol) (history vol) (history vol) ready (stays start (told vol) (history vol) ready)));
 }
 
 -- the volume of a command that does not call it
@@ -206,7 +228,7 @@ reading_volume c g end vol calls none so rests = record {
   reads = λ tells late. answers end c vol.same _ (λ well.
       ([], (record { some = λ _. no_updates c g none; none = λ _. refl }, (contents Bundle vol.history.new, (so.reads tells well, sym (same_bundle c end (contents Bundle vol.history.new) [] none))))));
   rests = λ tells late. answers end c vol.same _ (λ well. rests tells);
-  tiles = λ start ready. ([], (record { some = λ _. no_updates c g none; none = λ _. refl }, keeps_without_marks c [] start vol.history.old vol.history.new (so.tiles start ready)));
+  tiles = λ start ready. ([], (record { some = λ _. no_updates c g none; none = λ _. refl }, keeps_without_marks c [] start vol.told.old vol.history.old vol.history.new ready (so.tiles start ready)));
 }
 
 -- nothing was taken

@@ -272,7 +272,15 @@ put_all_volume v e w g failed V told history faults vol mid new s us marks r of 
         us,
         (
           updates_at v e w g r us of,
-          puts_join start us marks (history vol) (history mid) (history new) (leaves t).marks_are (so.tiles start ready) (subst (λ (m : TileMap). PutsKeep m us marks (history mid) (history new)) (sym map.1) ((leaves t).images map.0)),
+          (
+            contents Bundle (history mid),
+            (
+              inl (o.done, o.leaves),
+              (leaves t).groups,
+              puts_join (contents Bundle (history mid)) start us marks (history vol) (history mid) (history new) (leaves t).marks_are (so.tiles start ready)
+                  (subst (λ (m : TileMap). PutsKeep (contents Bundle (history mid)) m us marks (history mid) (history new)) (sym map.1) ((leaves t).images map.0)),
+            ),
+          ),
         ),
       );
 }

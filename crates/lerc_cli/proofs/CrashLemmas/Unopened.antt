@@ -77,7 +77,7 @@ memory_still c g V told history faults vol makes = record {
   marks_at = none_at c (history vol).moment;
   reads = λ tells late. still_wanted c (vol ≡ vol) _ makes refl;
   rests = λ tells late. still_wanted c (vol ≡ vol) _ makes refl;
-  tiles = λ start ready. ([], (none_wanted c g, keeps_without_marks c [] start (history vol) (history vol) (stays start (told vol) (history vol) ready)));
+  tiles = λ start ready. ([], (none_wanted c g, keeps_without_marks c [] start (told vol) (history vol) (history vol) ready (stays start (told vol) (history vol) ready)));
 }
 
 -- the volume was called
@@ -113,7 +113,7 @@ module _ (c : Command) (g : Given) (vol : VolumeMove) where
     marks_at = none_at c vol.history.new.moment;
     reads = λ t _. ([], (none_made, (contents Bundle vol.history.new, (so.reads t well, sym (refused_bundle c r (contents Bundle vol.history.new))))));
     rests = λ t _. rests t;
-    tiles = λ start ready. ([], (none_made, keeps_without_marks c [] start vol.history.old vol.history.new (so.tiles start ready)));
+    tiles = λ start ready. ([], (none_made, keeps_without_marks c [] start vol.told.old vol.history.old vol.history.new ready (so.tiles start ready)));
   }
     where
       none_made : UpdatesAt c g (Err (Refused (Store r))) []
@@ -131,7 +131,7 @@ module _ (c : Command) (g : Given) (vol : VolumeMove) where
     marks_at = none_at c vol.history.new.moment;
     reads = λ t _. memory c vol.same _ ([], (none_wanted c g, (contents Bundle vol.history.new, (so.reads t well, sym (memory_bundle c (contents Bundle vol.history.new))))));
     rests = λ t _. memory c vol.same _ (shut t);
-    tiles = λ start ready. ([], (none_wanted c g, keeps_without_marks c [] start vol.history.old vol.history.new (so.tiles start ready)));
+    tiles = λ start ready. ([], (none_wanted c g, keeps_without_marks c [] start vol.told.old vol.history.old vol.history.new ready (so.tiles start ready)));
   }
 
   -- recovery or opening was refused, or the volume failed, and then updates may be done
@@ -151,7 +151,7 @@ module _ (c : Command) (g : Given) (vol : VolumeMove) where
     marks_at = none_at c vol.history.new.moment;
     reads = λ t _. tt;
     rests = λ t _. tt;
-    tiles = λ start ready. (us, (record { some = λ _. of; none = λ is. absurd (let bad : ⊥ = cc in bad) }, keeps_without_marks c us start vol.history.old vol.history.new (so.tiles start ready)));
+    tiles = λ start ready. (us, (record { some = λ _. of; none = λ is. absurd (let bad : ⊥ = cc in bad) }, keeps_without_marks c us start vol.told.old vol.history.old vol.history.new ready (so.tiles start ready)));
   }
   unopened_volume us (Refused (BadBundle place found)) makes of stops so rests =
       refused_volume (BadBundle place found) (◌≡◌ {A = Stop StoreRefusal} (Refused (BadBundle place found)) Volume) (λ is. cc) refl ((late c makes).bundle place found) so rests

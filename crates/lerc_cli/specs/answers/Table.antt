@@ -8,7 +8,7 @@ use Rattle.bundle_store.specs.declared.tile_rec.TileRec.{TileRec}
 use Rattle.bundle_store.specs.Build.{bytes_at}
 use Rattle.bundle_lines.specs.Builds.{built_line_of}
 use Rattle.bundle_lines.specs.Lines.{check_lines, listing, put_lines, recovery_line}
-use Rattle.bundle_lines.specs.Puts.{HaveRoom, IsFirstFull}
+use Rattle.bundle_lines.specs.Puts.{HaveRoom, IsFirstFull, LeavesNoRoom}
 use Rattle.tile_updates.specs.Updates.{IsUpdates, OfBytes}
 use Rattle.raster_values.specs.Raster.{Pixels, IsRaster}
 use Rattle.raster_values.specs.Grid.{grid_of}
@@ -86,11 +86,12 @@ abbrev pub IsNotEmpty : Command → Given → Stop Refusal → Type 0
 IsNotEmpty c g stop = (len : ℕ) × ((stop ≡ Refused (Store (NotEmpty len))) × ((updates : List TileRec)
     × (UpdatesOf c g updates × (0 < len) × OfBundle g.files (λ bundle. len ≡ length bundle))))
 
--- there is no room for update number n, as it is put, and there is for those before it
+-- There is no room for update number n, as it is put, and there is for those before it. Over a
+-- volume that tells nothing, the kept length leaves no room for that one or a later one.
 abbrev pub IsFull : Command → Given → ℕ → Stop Refusal → Type 0
 IsFull c g n stop = (len : ℕ) × ((stop ≡ Refused (Store (Full len))) × ((updates : List TileRec)
     × (UpdatesOf c g updates × (n < length updates)
-    × (2 ^ 40 < len + 4 + length (bytes_at updates n))
+    × LeavesNoRoom len updates n
     × OfBundle g.files (λ bundle. IsFirstFull bundle updates n len))))
 
 -- This is the first fault of the bytes that the slot's entry names, which are to be one blob.

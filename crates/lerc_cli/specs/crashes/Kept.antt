@@ -1,17 +1,18 @@
 -- What a crash may leave at each moment of a run, and what the bundle reads as behind it.
 use Rattle.std.specs.Prelude.{◌≡◌, ◌⊎◌, ℕ, List, [], Bool, true, false, not, IsFalse, IsTrue, Result, Ok, Err}
+use Rattle.outside_io.specs.declared.volume.VolFile.TheVariants.{Bundle, Journal}
 use Rattle.outside_io.specs.volume.Disk.{Disk, IsQuiet}
-use Rattle.outside_io.specs.volume.History.{History}
+use Rattle.outside_io.specs.volume.History.{History, contents}
 use Rattle.bundle_store.specs.Tiles.{TileMap}
 use Rattle.bundle_store.specs.declared.tile_rec.TileRec.{TileRec}
 use Rattle.bundle_store.specs.Build.{last_tiles}
 use Rattle.bundle_store.specs.Layout.{layout}
 use Rattle.bundle_lines.specs.Builds.{BuildKeeps}
-use Rattle.bundle_lines.specs.Puts.{PutsKeep, bundle_after_puts}
+use Rattle.bundle_lines.specs.Puts.{AreWhole, PutsKeep, bundle_after_puts}
 use Rattle.program_ends.specs.declared.stop.Stop.{Stop}
 use Rattle.program_ends.specs.declared.stop.Stop.TheVariants.{Source, Output, Volume, OutOfMemory, Refused}
 use Rattle.opened_bundle.specs.declared.refusal.StoreRefusal.TheVariants.{BadJournal, Full}
-use Rattle.opened_bundle.specs.Left.{IsShut, KeepsStart}
+use Rattle.opened_bundle.specs.Left.{IsLeft, IsShut, KeepsStart}
 use Rattle.lerc_cli.specs.declared.words.Command.{Command}
 use Rattle.lerc_cli.specs.declared.words.Command.TheVariants.{Build, Put}
 use Rattle.lerc_cli.specs.declared.refusal.Refusal.{Refusal}
@@ -22,14 +23,16 @@ use Rattle.lerc_cli.specs.answers.Names.{End}
 use Rattle.lerc_cli.specs.answers.Table.{UpdatesOf}
 
 -- At each moment each image is sound. For `put` it stands for the tiles that stood at the start
--- with the first few updates done: at least those with a mark by then, and at most one more. For
--- `build` all are done, or none that has a mark by then. For any other command it stands for the
--- tiles at the start.
+-- with the first few updates done: those with a mark by then, or also the next group, whole. The
+-- groups are of up to 64, over the bundle that a recovery leaves; the updates with a mark are whole
+-- groups, and the marks of one are equal. For `build` all are done, or none that has a mark by
+-- then. For any other command it stands for the tiles at the start.
 abbrev pub KeepsTiles : Command → List TileRec → List ℕ → TileMap → History → History → Type 0
 KeepsTiles (Build version error workers) updates marks start old new =
     BuildKeeps start updates marks old new
-KeepsTiles (Put version error workers) updates marks start old new =
-    PutsKeep start updates marks old new
+KeepsTiles (Put version error workers) updates marks start old new = (bundle : List ℕ)
+    × (IsLeft (contents Bundle old) (contents Journal old) bundle
+    × AreWhole bundle updates marks × PutsKeep bundle start updates marks old new)
 KeepsTiles c updates marks start old new = KeepsStart start old new
 
 -- the command came as far as its updates: the input was read, and no refusal stood before the first

@@ -1,4 +1,4 @@
-//! The tiles of an input are put into the bundle, one by one.
+//! The tiles of an input are put into the bundle, in groups.
 
 ghost use Rattle.std.specs.Prelude.{◌≡◌, ℕ, [], length};
 ghost use Rattle.program_ends.specs.Moves.{sink_move, source_move, volume_move};
@@ -31,8 +31,8 @@ fn put_end(ended: Result<(), PutStop>) -> Result<(), Stop<Refusal>>
     }
 }
 
-/// Reads a whole input of tiles, and puts each into its slot. A tile is put before its mark is
-/// kept, and its mark is kept before its line is given.
+/// Reads a whole input of tiles, and puts each into its slot, up to 64 at once. A group is put
+/// before its marks are kept, and these are kept before its lines are given.
 pub fn put<S: Source, K: Sink, V: Volume>(
     alloc: Global,
     version: Version,

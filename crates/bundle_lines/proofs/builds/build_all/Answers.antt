@@ -1,4 +1,4 @@
-use Rattle.std.proofs.Common.{◌≡◌, ap, ◌∙◌, replicate, length, refl}
+use Rattle.std.proofs.Common.{◌≡◌, ap, ◌∙◌, ◌++◌, replicate, length, refl}
 use Rattle.outside_io.specs.volume.History.{current}
 use Rattle.outside_io.proofs.VolumeLemmas.Moments.{started}
 use Rattle.bundle_lines.proofs.Raised.{refused_gave, refused_length, refused_marks, refused_output, refused_reads, keeps_marked, keeps_still}
@@ -9,11 +9,11 @@ returns-in-Err-clause-images g c = λ told readable. keeps_still c.args.updates.
 
 pub returns-in-Ok-give_built-clause-images : goal.returns-in-Ok-give_built-clause-images
 returns-in-Ok-give_built-clause-images g c = λ told readable.
-    keeps_marked c.args.updates.now _ _ _ (c.add_marks.ensures ∙ ap (λ m. replicate (length c.args.updates.now) m) c.moment.ensures) (c.in-Ok-raise.ensures.raises told) (c.raise.ensures.images told readable)
+    keeps_marked c.args.updates.now _ _ _ (c.add_marks.ensures.marks ∙ ap (λ x. x ++ replicate (length c.args.updates.now) c.moment.result) c.requires.none ∙ ap (λ m. replicate (length c.args.updates.now) m) c.moment.ensures) (c.in-Ok-raise.ensures.raises told) (c.raise.ensures.images told readable)
 
 pub returns-in-Err-give_built-clause-images : goal.returns-in-Err-give_built-clause-images
 returns-in-Err-give_built-clause-images g c = λ told readable.
-    keeps_marked c.args.updates.now _ _ _ (c.add_marks.ensures ∙ ap (λ m. replicate (length c.args.updates.now) m) c.moment.ensures) (c.in-Ok-raise.ensures.raises told) (c.raise.ensures.images told readable)
+    keeps_marked c.args.updates.now _ _ _ (c.add_marks.ensures.marks ∙ ap (λ x. x ++ replicate (length c.args.updates.now) c.moment.result) c.requires.none ∙ ap (λ m. replicate (length c.args.updates.now) m) c.moment.ensures) (c.in-Ok-raise.ensures.raises told) (c.raise.ensures.images told readable)
 
 pub returns-in-Err-raise-clause-gave : goal.returns-in-Err-raise-clause-gave
 returns-in-Err-raise-clause-gave g c =
@@ -61,11 +61,8 @@ raise-requires-clause-fit g c = c.requires.fit
 pub raise-requires-clause-ready : goal.raise-requires-clause-ready
 raise-requires-clause-ready g c = c.requires.ready
 
-pub add_marks-requires-clause-none : goal.add_marks-requires-clause-none
-add_marks-requires-clause-none g c = c.requires.none
-
-pub add_marks-requires-clause-room : goal.add_marks-requires-clause-room
-add_marks-requires-clause-room g c = c.requires.room
+pub add_marks-requires : goal.add_marks-requires
+add_marks-requires g c = record { room = c.requires.room }
 
 pub returns-in-Err-raise-clause-volume_failed : goal.returns-in-Err-raise-clause-volume_failed
 returns-in-Err-raise-clause-volume_failed g c = c.in-Err-raise.ensures.failed

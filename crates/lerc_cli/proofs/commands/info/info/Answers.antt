@@ -11,6 +11,10 @@ pub returns-in-Ok-give_outline-clause-output : goal.returns-in-Ok-give_outline-c
 returns-in-Ok-give_outline-clause-output g c = λ files.
     gave_lines _ files c.in-Ok.decoder.taken c.outline_of.result _ c.in-Ok.ensures.blob.0 c.in-Ok.ensures.blob.1 (rw c.bytes.ensures at c.outline_of.ensures) c.in-Ok-give_outline.ensures.ok c.in-Ok-give_outline.ensures.counted
 
+pub returns-in-Ok-give_outline-clause-source : goal.returns-in-Ok-give_outline-clause-source
+returns-in-Ok-give_outline-clause-source g c =
+    source_read _ _ _ _ (search rules) (λ e. absurd cc) (λ e. absurd cc) c.in-Ok.ensures.source c.in-Ok.ensures.taken c.in-Ok.ensures.end
+
 pub returns-clause-source : goal.returns-clause-source
 returns-clause-source g c =
     source_read _ _ _ _ (search rules) (λ e. absurd cc) (λ e. absurd cc) c.in-Ok.ensures.source c.in-Ok.ensures.taken c.in-Ok.ensures.end
