@@ -2,4 +2,5 @@ pub mod Text
 pub mod Tokens
 pub mod Endings
 pub mod Head
+pub mod Stopping
 pub mod inside

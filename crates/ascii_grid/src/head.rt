@@ -3,7 +3,7 @@ ghost use Rattle.ascii_grid.specs.Tokens.{Spot};
 ghost use Rattle.ascii_grid.specs.Head.{HasAll, IsInteger, IsText, IsValue, Pair, Says, text_faults, value_faults};
 ghost use Rattle.ascii_grid.specs.inside.Heads.{HeadRead, Keeps, SizeStops, has_five, has_key, missing};
 ghost use Rattle.ascii_grid.specs.inside.Reading.{Left};
-ghost use Rattle.ascii_grid.specs.inside.Stops.{CountsStop};
+ghost use Rattle.ascii_grid.specs.Stopping.{CountsStop};
 ghost use Rattle.ascii_grid.specs.declared.words.Key.{Key};
 
 use crate::fault::{AsciiReason, AsciiStop, stop};

@@ -4,7 +4,7 @@ ghost use Rattle.raster_values.specs.Raster.{blank};
 ghost use Rattle.ascii_grid.specs.Tokens.{Spot};
 ghost use Rattle.ascii_grid.specs.inside.Cells.{Begun, CellTaken, CellsTaken};
 ghost use Rattle.ascii_grid.specs.inside.Reading.{Left};
-ghost use Rattle.ascii_grid.specs.inside.Stops.{CountsStop};
+ghost use Rattle.ascii_grid.specs.Stopping.{CountsStop};
 
 use crate::fault::{AsciiReason, AsciiStop, stop};
 use crate::token::{Token, demand, next_token};

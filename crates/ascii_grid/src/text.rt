@@ -4,7 +4,7 @@ ghost use Rattle.raster_values.specs.Raster.{blank};
 ghost use Rattle.ascii_grid.specs.Head.{HasAll, Pair, Says, SaysNumber, SaysText};
 ghost use Rattle.ascii_grid.specs.Text.{AsciiRead, IsGeo, IsNodata};
 ghost use Rattle.ascii_grid.specs.inside.Heads.{Keeps, KeepsNumber, KeepsText};
-ghost use Rattle.ascii_grid.specs.inside.Stops.{CountsStop};
+ghost use Rattle.ascii_grid.specs.Stopping.{CountsStop};
 
 use crate::fault::AsciiStop;
 use crate::grid::{AsciiGrid, Georef};
