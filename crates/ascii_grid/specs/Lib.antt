@@ -2,5 +2,6 @@ pub mod Text
 pub mod Tokens
 pub mod Endings
 pub mod Head
+pub mod Canon
 pub mod Stopping
 pub mod inside

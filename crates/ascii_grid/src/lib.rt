@@ -3,15 +3,18 @@
 //! and `first_fault`.
 #![tactic(auto)]
 
+mod canon;
 mod fault;
 mod grid;
 mod head;
 mod numbers;
+mod page;
 mod text;
 mod token;
 mod window;
 mod words;
 
+pub use canon::ascii_write;
 pub use fault::{AsciiFault, AsciiReason, AsciiStop};
 pub use grid::{AsciiGrid, Georef};
 pub use text::ascii_read;
