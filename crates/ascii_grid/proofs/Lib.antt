@@ -7,3 +7,5 @@ mod ReadSteps
 mod TextSteps
 mod TokenLists
 mod Windows
+mod WordTokens
+mod CanonSteps
