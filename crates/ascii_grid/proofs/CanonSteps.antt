@@ -18,7 +18,7 @@ use Rattle.ascii_grid.specs.declared.grid.Georef.{Georef}
 use Rattle.ascii_grid.specs.Tokens.{Spot, limit}
 use Rattle.ascii_grid.specs.Head.{ArePairs, BeginsWithLetter, HasAll, IsInteger, IsText, IsValue, Pair, Says, SaysKey, SaysNumber, flat, name_of, quantity_of}
 use Rattle.ascii_grid.specs.Text.{AreCells, IsAscii, IsCell, IsGeo, IsNodata}
-use Rattle.ascii_grid.specs.Canon.{IsLawful, Word, canon, canon_words, end_of, head_words, line, number_of, number_words, spelled, x_key, y_key}
+use Rattle.ascii_grid.specs.Canon.{IsApart, IsLawful, Word, canon, canon_words, end_of, head_words, line, number_of, number_words, spelled, x_key, y_key}
 use Rattle.ascii_grid.proofs.DigitSteps.{integer_few, one_integer}
 use Rattle.ascii_grid.proofs.TokenLists.{spot}
 use Rattle.ascii_grid.proofs.WordTokens.{AreWords, IsWord, dark_by, decimal_digits, digits_dark, end_blank, number_word, signed_integer, spots, spots_long, text_word, words_tokens}
@@ -33,15 +33,12 @@ range_small U16 z h = omega (arith, ints)
 range_small I32 z h = omega (arith, ints)
 range_small U32 z h = omega (arith, ints)
 
-abbrev Apart : ℤ → Option (List ℤ) → Type 0
-Apart nodata p = IfSome p (λ values. get_or values 0 (pos 0) ≢ nodata)
-
 number_small : (kind : PixelType) (nodata : ℤ) (p : Option (List ℤ)) → unsigned_abs nodata < 10000000000 → IsPixel kind 1 p → unsigned_abs (number_of nodata p) < 10000000000
 number_small kind nodata None small is = small
 number_small kind nodata (Some []) small is = absurd (let bad : ⊥ = omega (arith, is.0) in bad)
 number_small kind nodata (Some (v ∷ vs)) small is = range_small kind v (All-head (InRange kind) v vs is.1)
 
-cell_is : (kind : PixelType) (nodata : ℤ) (p : Option (List ℤ)) → unsigned_abs nodata < 10000000000 → IsPixel kind 1 p → Apart nodata p → IsCell kind nodata (signed_decimal (number_of nodata p)) p
+cell_is : (kind : PixelType) (nodata : ℤ) (p : Option (List ℤ)) → unsigned_abs nodata < 10000000000 → IsPixel kind 1 p → IsApart nodata p → IsCell kind nodata (signed_decimal (number_of nodata p)) p
 cell_is kind nodata None small is apart = (nodata, (signed_integer nodata small, inl (refl, refl)))
 cell_is kind nodata (Some []) small is apart = absurd (let bad : ⊥ = omega (arith, is.0) in bad)
 cell_is kind nodata (Some (v ∷ [])) small is apart =
@@ -49,11 +46,11 @@ cell_is kind nodata (Some (v ∷ [])) small is apart =
     (v, (signed_integer v (range_small kind v near), inr (apart, (near, refl))))
 cell_is kind nodata (Some (v ∷ w ∷ vs)) small is apart = absurd (let bad : ⊥ = omega (arith, is.0) in bad)
 
-pub cells_are : (kind : PixelType) (nodata : ℤ) (cols k p : ℕ) (ps : List (Option (List ℤ))) → unsigned_abs nodata < 10000000000 → All (IsPixel kind 1) ps → All (Apart nodata) ps → AreCells kind nodata (spots p (number_words nodata cols k ps)) ps
+pub cells_are : (kind : PixelType) (nodata : ℤ) (cols k p : ℕ) (ps : List (Option (List ℤ))) → unsigned_abs nodata < 10000000000 → All (IsPixel kind 1) ps → All (IsApart nodata) ps → AreCells kind nodata (spots p (number_words nodata cols k ps)) ps
 cells_are kind nodata cols k p [] small is apart = tt
 cells_are kind nodata cols k p (q ∷ qs) small is apart =
-    (cell_is kind nodata q small (All-head (IsPixel kind 1) q qs is) (All-head (Apart nodata) q qs apart),
-    cells_are kind nodata cols (suc k) (p + length (signed_decimal (number_of nodata q)) + 1) qs small (All-tail (IsPixel kind 1) q qs is) (All-tail (Apart nodata) q qs apart))
+    (cell_is kind nodata q small (All-head (IsPixel kind 1) q qs is) (All-head (IsApart nodata) q qs apart),
+    cells_are kind nodata cols (suc k) (p + length (signed_decimal (number_of nodata q)) + 1) qs small (All-tail (IsPixel kind 1) q qs is) (All-tail (IsApart nodata) q qs apart))
 
 pub numbers_are_words : (kind : PixelType) (nodata : ℤ) (cols k : ℕ) (ps : List (Option (List ℤ))) → unsigned_abs nodata < 10000000000 → All (IsPixel kind 1) ps → AreWords (number_words nodata cols k ps)
 numbers_are_words kind nodata cols k [] small is = tt
@@ -239,7 +236,7 @@ canon_is g lawful sound =
     let few_rows : r.rows ≤ 16777216 = omega (arith, le-mul_of_pos_right r.rows sound.shape.cols_above, few) in
     let few_cols : r.cols ≤ 16777216 = omega (arith, le-mul_of_pos_right r.cols sound.shape.rows_above, few, mul_comm r.rows r.cols) in
     let each : All (IsPixel r.kind 1) r.pixels = All-from_get_or (IsPixel r.kind 1) r.pixels None (λ k less. subst (λ (d : ℕ). IsPixel r.kind d (get_or r.pixels k None)) lawful.depth (sound.each k less)) in
-    let small = lawful.nodata in
+    let small = lawful.geo.nodata in
     let cols_ = decimal_digits r.cols (omega (arith, few_cols)) in
     let rows_ = decimal_digits r.rows (omega (arith, few_rows)) in
     let icols : IsInteger (decimal r.cols) (pos r.cols) = (r.cols, inl (cols_, refl)) in
@@ -254,18 +251,18 @@ canon_is g lawful sound =
     let t6 = after t5 Nodata (signed_decimal g.geo.nodata) in
     let words : AreWords (canon_words g) = (
       key_word Cols, (digits_word (decimal r.cols) cols_.some cols_.digits, (key_word Rows, (digits_word (decimal r.rows) rows_.some rows_.digits,
-      (key_word (x_key g.geo.x_centre), (text_word g.geo.x lawful.x, (key_word (y_key g.geo.y_centre), (text_word g.geo.y lawful.y,
-      (key_word Cell, (text_word g.geo.cell lawful.cell, (key_word Nodata, (number_word g.geo.nodata 10 small refl, numbers_are_words r.kind g.geo.nodata r.cols 0 r.pixels small each)))))))))))
+      (key_word (x_key g.geo.x_centre), (text_word g.geo.x lawful.geo.x, (key_word (y_key g.geo.y_centre), (text_word g.geo.y lawful.geo.y,
+      (key_word Cell, (text_word g.geo.cell lawful.geo.cell, (key_word Nodata, (number_word g.geo.nodata 10 small refl, numbers_are_words r.kind g.geo.nodata r.cols 0 r.pixels small each)))))))))))
     ) in
     let short = numbers_short r.kind g.geo.nodata r.cols 0 r.pixels small each in
     record {
       tokens = spots 0 (canon_words g);
       pairs = six g.geo.x_centre g.geo.y_centre (decimal r.cols) (decimal r.rows) g.geo.x g.geo.y g.geo.cell (signed_decimal g.geo.nodata) 0 q t2 t3 t4 t5;
       numbers = spots t6 numbers;
-      short = total g (length (spelled numbers)) cols_.few rows_.few lawful.x.few lawful.y.few lawful.cell.few nodata_few (omega arith) (omega (arith, short, sound.places, few));
+      short = total g (length (spelled numbers)) cols_.few rows_.few lawful.geo.x.few lawful.geo.y.few lawful.geo.cell.few nodata_few (omega arith) (omega (arith, short, sound.places, few));
       cut = words_tokens (canon_words g) words;
       joined = refl;
-      stand = six_stand g.geo.x_centre g.geo.y_centre r.cols r.rows g.geo.x g.geo.y g.geo.cell g.geo.nodata 0 q t2 t3 t4 t5 sound.shape.cols_above sound.shape.rows_above few_cols few_rows few lawful.x lawful.y lawful.cell small;
+      stand = six_stand g.geo.x_centre g.geo.y_centre r.cols r.rows g.geo.x g.geo.y g.geo.cell g.geo.nodata 0 q t2 t3 t4 t5 sound.shape.cols_above sound.shape.rows_above few_cols few_rows few lawful.geo.x lawful.geo.y lawful.geo.cell small;
       all = six_all g.geo.x_centre g.geo.y_centre (decimal r.cols) (decimal r.rows) g.geo.x g.geo.y g.geo.cell (signed_decimal g.geo.nodata) 0 q t2 t3 t4 t5;
       geo = six_geo g.geo (decimal r.cols) (decimal r.rows) 0 q t2 t3 t4 t5 small;
       rows = inr (inl (refl, irows));

@@ -4,17 +4,25 @@ use Rattle.std.specs.Fmt.{signed_decimal}
 use Rattle.ascii_grid.specs.declared.words.Key.{Key}
 use Rattle.ascii_grid.specs.declared.words.Key.TheVariants.{Cols, Rows, XCorner, XCenter, YCorner, YCenter, Cell, Nodata}
 use Rattle.ascii_grid.specs.declared.grid.AsciiGrid.{AsciiGrid}
+use Rattle.ascii_grid.specs.declared.grid.Georef.{Georef}
 use Rattle.ascii_grid.specs.Head.{IsText, name_of}
 
--- What a grid has that a text can say: depth 1, three texts, a nodata value of at most ten digits,
--- and no valid value equal to it.
+-- the three texts are such, and the nodata value has at most ten digits
+pub record IsLawfulGeo (geo : Georef) : Type 0 where
+  pub x : IsText geo.x
+  pub y : IsText geo.y
+  pub cell : IsText geo.cell
+  pub nodata : unsigned_abs geo.nodata < 10000000000
+
+-- a valid pixel's value is not nodata
+abbrev pub IsApart : ℤ → Option (List ℤ) → Type 0
+IsApart nodata p = IfSome p (λ values. get_or values 0 (pos 0) ≢ nodata)
+
+-- What a grid has that a text can say.
 pub record IsLawful (g : AsciiGrid) : Type 0 where
   pub depth : g.raster.depth ≡ 1
-  pub x : IsText g.geo.x
-  pub y : IsText g.geo.y
-  pub cell : IsText g.geo.cell
-  pub nodata : unsigned_abs g.geo.nodata < 10000000000
-  pub apart : All (λ p. IfSome p (λ values. get_or values 0 (pos 0) ≢ g.geo.nodata)) g.raster.pixels
+  pub geo : IsLawfulGeo g.geo
+  pub apart : All (IsApart g.geo.nodata) g.raster.pixels
 
 -- a word, and the byte behind it
 pub record Word : Type 0 where

@@ -45,7 +45,7 @@ returns-clause-ok g c =
     (rw (c.x_name.ensures, c.as_slice.ensures) at c.in_ok-text_line.ensures.ok) (waits_join (g.K.Sink.held c.text_line.new.sink) (g.K.Sink.held c.text_line-2.new.sink) (g.K.Sink.held c.number_line.new.sink) c.text_line.new.page c.text_line-2.new.page c.number_line.new.page (line (y_key c.args.grid.now.geo.y_centre) c.args.grid.now.geo.y) ((line Cell c.args.grid.now.geo.cell) ++ (line Nodata (signed_decimal c.args.grid.now.geo.nodata)))
     (rw (c.y_name.ensures, c.as_slice-2.ensures) at c.in_ok-text_line-2.ensures.ok) (waits_join (g.K.Sink.held c.text_line-2.new.sink) (g.K.Sink.held c.text_line-3.new.sink) (g.K.Sink.held c.number_line.new.sink) c.text_line-2.new.page c.text_line-3.new.page c.number_line.new.page (line Cell c.args.grid.now.geo.cell) (line Nodata (signed_decimal c.args.grid.now.geo.nodata))
     (rw c.as_slice-3.ensures at c.in_ok-text_line-3.ensures.ok) h))))))
-    (rw (to_z-of_z w64 c.args.grid.now.geo.nodata (fits c.args.grid.now.geo.nodata c.requires.nodata)) at c.number_line.ensures.ok)
+    (rw (to_z-of_z w64 c.args.grid.now.geo.nodata (fits c.args.grid.now.geo.nodata c.requires.geo.nodata)) at c.number_line.ensures.ok)
 
 pub returns-clause-err : goal.returns-clause-err
 returns-clause-err g c =
@@ -55,4 +55,4 @@ returns-clause-err g c =
     (rw (c.x_name.ensures, c.as_slice.ensures) at c.in_ok-text_line.ensures.ok) (breaks_later (g.K.Sink.held c.text_line.new.sink) (g.K.Sink.held c.text_line-2.new.sink) (g.K.Sink.held c.number_line.new.sink) c.text_line.new.page c.text_line-2.new.page (line (y_key c.args.grid.now.geo.y_centre) c.args.grid.now.geo.y) ((line Cell c.args.grid.now.geo.cell) ++ (line Nodata (signed_decimal c.args.grid.now.geo.nodata)))
     (rw (c.y_name.ensures, c.as_slice-2.ensures) at c.in_ok-text_line-2.ensures.ok) (breaks_later (g.K.Sink.held c.text_line-2.new.sink) (g.K.Sink.held c.text_line-3.new.sink) (g.K.Sink.held c.number_line.new.sink) c.text_line-2.new.page c.text_line-3.new.page (line Cell c.args.grid.now.geo.cell) (line Nodata (signed_decimal c.args.grid.now.geo.nodata))
     (rw c.as_slice-3.ensures at c.in_ok-text_line-3.ensures.ok) h))))))
-    (rw (to_z-of_z w64 c.args.grid.now.geo.nodata (fits c.args.grid.now.geo.nodata c.requires.nodata)) at c.number_line.ensures.err)
+    (rw (to_z-of_z w64 c.args.grid.now.geo.nodata (fits c.args.grid.now.geo.nodata c.requires.geo.nodata)) at c.number_line.ensures.err)
