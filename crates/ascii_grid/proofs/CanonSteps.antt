@@ -48,15 +48,17 @@ cell_is kind nodata (Some (v ∷ w ∷ vs)) small is apart = absurd (let bad : �
 
 pub cells_are : (kind : PixelType) (nodata : ℤ) (cols k p : ℕ) (ps : List (Option (List ℤ))) → unsigned_abs nodata < 10000000000 → All (IsPixel kind 1) ps → All (IsApart nodata) ps → AreCells kind nodata (spots p (number_words nodata cols k ps)) ps
 cells_are kind nodata cols k p [] small is apart = tt
-cells_are kind nodata cols k p (q ∷ qs) small is apart =
-    (cell_is kind nodata q small (All-head (IsPixel kind 1) q qs is) (All-head (IsApart nodata) q qs apart),
-    cells_are kind nodata cols (suc k) (p + length (signed_decimal (number_of nodata q)) + 1) qs small (All-tail (IsPixel kind 1) q qs is) (All-tail (IsApart nodata) q qs apart))
+cells_are kind nodata cols k p (q ∷ qs) small is apart = (
+  cell_is kind nodata q small (All-head (IsPixel kind 1) q qs is) (All-head (IsApart nodata) q qs apart),
+  cells_are kind nodata cols (suc k) (p + length (signed_decimal (number_of nodata q)) + 1) qs small (All-tail (IsPixel kind 1) q qs is) (All-tail (IsApart nodata) q qs apart),
+)
 
 pub numbers_are_words : (kind : PixelType) (nodata : ℤ) (cols k : ℕ) (ps : List (Option (List ℤ))) → unsigned_abs nodata < 10000000000 → All (IsPixel kind 1) ps → AreWords (number_words nodata cols k ps)
 numbers_are_words kind nodata cols k [] small is = tt
-numbers_are_words kind nodata cols k (q ∷ qs) small is =
-    (number_word (number_of nodata q) (end_of cols k) (number_small kind nodata q small (All-head (IsPixel kind 1) q qs is)) (end_blank cols k),
-    numbers_are_words kind nodata cols (suc k) qs small (All-tail (IsPixel kind 1) q qs is))
+numbers_are_words kind nodata cols k (q ∷ qs) small is = (
+  number_word (number_of nodata q) (end_of cols k) (number_small kind nodata q small (All-head (IsPixel kind 1) q qs is)) (end_blank cols k),
+  numbers_are_words kind nodata cols (suc k) qs small (All-tail (IsPixel kind 1) q qs is),
+)
 
 pub numbers_long : (nodata : ℤ) (cols k : ℕ) (ps : List (Option (List ℤ))) → length (number_words nodata cols k ps) ≡ length ps
 numbers_long nodata cols k [] = refl
@@ -138,16 +140,24 @@ six_stand xc yc cols rows x y cell nodata p q r s t u some_cols some_rows few_co
     let qx = x_quantity xc in
     let qy = y_quantity yc in
     let icols : IsInteger (decimal cols) (pos cols) = (cols, inl (decimal_digits cols (omega (arith, few_cols)), refl)) in
-    let irows : IsInteger (decimal rows) (pos rows) = (rows, inl (decimal_digits rows (omega (arith, few_rows)), refl)) in
-    (
+    let irows : IsInteger (decimal rows) (pos rows) = (rows, inl (decimal_digits rows (omega (arith, few_rows)), refl)) in (
       (begins Cols, (refl, ((λ h. h), record { size = cols; spelled = icols; some = some_cols; within = λ m h. absurd h }))),
       (
-        (begins Rows, (refl, ((λ h. omega (arith, h)), record {
-          size = rows;
-          spelled = irows;
-          some = some_rows;
-          within = λ m h. first_number cols rows m few icols h;
-        }))),
+        (
+          begins Rows,
+          (
+            refl,
+            (
+              (λ h. omega (arith, h)),
+              record {
+                size = rows;
+                spelled = irows;
+                some = some_rows;
+                within = λ m h. first_number cols rows m few icols h;
+              },
+            ),
+          ),
+        ),
         (
           (begins (x_key xc), (refl, ((λ h. omega (arith, h, qx)), x_value xc _ x xs))),
           (
@@ -250,9 +260,29 @@ canon_is g lawful sound =
     let t5 = after t4 Cell g.geo.cell in
     let t6 = after t5 Nodata (signed_decimal g.geo.nodata) in
     let words : AreWords (canon_words g) = (
-      key_word Cols, (digits_word (decimal r.cols) cols_.some cols_.digits, (key_word Rows, (digits_word (decimal r.rows) rows_.some rows_.digits,
-      (key_word (x_key g.geo.x_centre), (text_word g.geo.x lawful.geo.x, (key_word (y_key g.geo.y_centre), (text_word g.geo.y lawful.geo.y,
-      (key_word Cell, (text_word g.geo.cell lawful.geo.cell, (key_word Nodata, (number_word g.geo.nodata 10 small refl, numbers_are_words r.kind g.geo.nodata r.cols 0 r.pixels small each)))))))))))
+      key_word Cols,
+      (
+        digits_word (decimal r.cols) cols_.some cols_.digits,
+        (
+          key_word Rows,
+          (
+            digits_word (decimal r.rows) rows_.some rows_.digits,
+            (
+              key_word (x_key g.geo.x_centre),
+              (
+                text_word g.geo.x lawful.geo.x,
+                (
+                  key_word (y_key g.geo.y_centre),
+                  (
+                    text_word g.geo.y lawful.geo.y,
+                    (key_word Cell, (text_word g.geo.cell lawful.geo.cell, (key_word Nodata, (number_word g.geo.nodata 10 small refl, numbers_are_words r.kind g.geo.nodata r.cols 0 r.pixels small each)))),
+                  ),
+                ),
+              ),
+            ),
+          ),
+        ),
+      ),
     ) in
     let short = numbers_short r.kind g.geo.nodata r.cols 0 r.pixels small each in
     record {

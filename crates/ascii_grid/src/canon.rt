@@ -44,12 +44,7 @@ fn y_name(centre: bool) -> Key
 }
 
 /// Adds a line of a keyword and a text.
-fn text_line<K: Sink>(
-    page: &mut Page,
-    sink: &mut K,
-    key: Key,
-    value: &[u8],
-) -> Result<(), Failed>
+fn text_line<K: Sink>(page: &mut Page, sink: &mut K, key: Key, value: &[u8]) -> Result<(), Failed>
     requires { length value.now ≤ 40 }
     ensures ok { OnOk result (Waits (K.held sink.old) (K.held sink.new) page.old page.new
         (line key value.now)) }
@@ -62,12 +57,7 @@ fn text_line<K: Sink>(
 }
 
 /// Adds a line of a keyword and a number.
-fn number_line<K: Sink>(
-    page: &mut Page,
-    sink: &mut K,
-    key: Key,
-    value: i64,
-) -> Result<(), Failed>
+fn number_line<K: Sink>(page: &mut Page, sink: &mut K, key: Key, value: i64) -> Result<(), Failed>
     ensures ok { OnOk result (Waits (K.held sink.old) (K.held sink.new) page.old page.new
         (line key (signed_decimal value))) }
     ensures err { OnErr result (Breaks (K.held sink.old) (K.held sink.new) page.old
