@@ -2,6 +2,7 @@ mod HeadFaultSteps
 mod HeadSteps
 mod CellSteps
 mod DigitSteps
+mod OneFault
 mod OneText
 mod PageSteps
 mod ReadSteps

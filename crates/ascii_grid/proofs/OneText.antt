@@ -80,7 +80,7 @@ cells_behind kind nodata [] ps are = tt
 cells_behind kind nodata (t ∷ ts) [] are = absurd are
 cells_behind kind nodata (t ∷ ts) (p ∷ ps) are = number_no_letter t.bytes are.0.0 are.0.1.0
 
-heads_are : (t u : Spot) (ts us : List Spot) → ◌≡◌ {A = List Spot} (t ∷ ts) (u ∷ us) → (t ≡ u) × (ts ≡ us)
+pub heads_are : (t u : Spot) (ts us : List Spot) → ◌≡◌ {A = List Spot} (t ∷ ts) (u ∷ us) → (t ≡ u) × (ts ≡ us)
 heads_are t u ts us e = (cc, cc)
 
 pub pairs_are : (before ps qs : List Pair) (ts us : List Spot) → ArePairs before ps → ArePairs before qs → IsBehind ts → IsBehind us → flat ps ++ ts ≡ flat qs ++ us → (ps ≡ qs) × (ts ≡ us)
@@ -156,7 +156,7 @@ one_cells kind nodata (t ∷ ts) (p ∷ ps) (q ∷ qs) a b =
     let later = one_cells kind nodata ts ps qs a.1 b.1 in
     λ i. first i ∷ later i
 
-pos_same : (a b : ℕ) → pos a ≡ pos b → a ≡ b
+pub pos_same : (a b : ℕ) → pos a ≡ pos b → a ≡ b
 pos_same a b e = cc
 
 pub one_grid : (text : List ℕ) (kind : PixelType) (g h : AsciiGrid) → IsAscii text kind g → IsAscii text kind h → g ≡ h
