@@ -1,5 +1,5 @@
 -- Numbers as pixels, one by one.
-use Rattle.std.proofs.Common.{◌≡◌, ◌≢◌, ℕ, ℤ, pos, suc, ◌+◌, ◌-◌, ◌*◌, ◌/◌, ◌%◌, ◌<◌, ◌≤◌, true, List, [], ◌∷◌, ◌++◌, length, get_or, set, replicate, Option, None, Some, Ok, Err, unwrap_or, refl, sym, ap, ◌∙◌, subst, arith, append_assoc, ◌⊎◌, inl, inr}
+use Rattle.std.proofs.Common.{All, ◌≡◌, ◌≢◌, ℕ, ℤ, pos, suc, ◌+◌, ◌-◌, ◌*◌, ◌/◌, ◌%◌, ◌<◌, ◌≤◌, true, List, [], ◌∷◌, ◌++◌, length, get_or, set, replicate, Option, None, Some, Ok, Err, unwrap_or, refl, sym, ap, ◌∙◌, subst, arith, append_assoc, ◌⊎◌, inl, inr}
 use Rattle.std.proofs.Math.Nat.{mul_comm, mul-le-mul_right}
 use Rattle.std.proofs.lemmas.List.{append-nil, get_or_at, set_at, length_push}
 use Rattle.raster_values.specs.declared.kind.PixelType.{PixelType}
@@ -11,8 +11,10 @@ use Rattle.ascii_grid.specs.declared.fault.AsciiStop.{AsciiStop}
 use Rattle.ascii_grid.specs.declared.fault.AsciiStop.TheVariants.{Fault, Source, OutOfMemory}
 use Rattle.ascii_grid.specs.Tokens.{Spot}
 use Rattle.ascii_grid.specs.Head.{IsInteger}
+use Rattle.std.proofs.lemmas.List.Elements.{All-push}
+use Rattle.ascii_grid.specs.Canon.{IsApart}
 use Rattle.ascii_grid.specs.Text.{AreCells, IsCell, cell_faults}
-use Rattle.ascii_grid.specs.inside.Cells.{Begun, CellTaken, CellsTaken}
+use Rattle.ascii_grid.specs.inside.Cells.{Begun, CellTaken, CellsTaken, IsFairSoFar}
 use Rattle.ascii_grid.specs.inside.Reading.{Held, TakesNext}
 use Rattle.ascii_grid.specs.inside.Steps.{Demanded, NextTaken}
 use Rattle.ascii_grid.proofs.DigitSteps.{integer_few, one_integer}
@@ -202,3 +204,18 @@ begun_blank r is = record { same = refl; pixels = is ∙ ap (λ (n : ℕ). repli
 
 pub some_area : (rows cols : ℕ) → 0 < rows → 0 < cols → 0 < rows * cols
 some_area rows cols a b = omega (arith, mul-le-mul_right cols (let one : 1 ≤ rows = omega (arith, a) in one), b)
+
+-- ---- no value is nodata
+
+cell_apart : (kind : PixelType) (nodata : ℤ) (bytes : List ℕ) (p : Option (List ℤ)) → IsCell kind nodata bytes p → IsApart nodata p
+cell_apart kind nodata bytes p (n, (is, inl (same, none))) = subst (IsApart nodata) (sym none) tt
+cell_apart kind nodata bytes p (n, (is, inr (other, (near, some)))) = subst (IsApart nodata) (sym some) other
+
+pub fair_step : (nodata : ℤ) (t : Spot) (blank old new : Pixels) (k : ℕ) → IsFairSoFar blank old nodata k → CellTaken (Ok tt) nodata t old new k → IsFairSoFar blank new nodata (k + 1)
+fair_step nodata t blank old new k (cells, (size, (begun, all))) (p, (is, more)) =
+    (cells ++ p ∷ [], (length_push cells p ∙ ap (λ (j : ℕ). j + 1) size, (more blank cells size begun, All-push (IsApart nodata) cells p all (cell_apart old.kind nodata t.bytes p is))))
+
+pub fair_all : (nodata : ℤ) (blank now : Pixels) (k : ℕ) → IsFairSoFar blank now nodata k → k ≡ blank.rows * blank.cols → All (IsApart nodata) now.pixels
+fair_all nodata blank now k (cells, (size, (begun, all))) whole =
+    let none : blank.rows * blank.cols - length cells ≡ 0 = omega (arith, size, whole) in
+    subst (All (IsApart nodata)) (sym (begun.pixels ∙ ap (λ (j : ℕ). cells ++ replicate j None) none ∙ append-nil cells)) all

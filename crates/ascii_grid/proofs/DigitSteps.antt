@@ -7,7 +7,7 @@ use Rattle.std.proofs.lemmas.Int.Digits.{digits_value_more, digits_value-lt}
 use Rattle.std.proofs.Math.Nat.{pow-le-pow_right}
 use Rattle.std.specs.Char.{digit_value}
 use Rattle.std.specs.Str.Parse.{AllDigits, digits_value}
-use Rattle.std.specs.Prelude.{◌==◌}
+use Rattle.std.specs.Prelude.{◌==◌, unsigned_abs}
 use Rattle.outside_io.specs.program.Word.{IsDigit}
 use Rattle.ascii_grid.specs.Head.{AreDigits, IsInteger}
 
@@ -52,6 +52,21 @@ one_integer bytes y z (m, inr a) (n, inl b) = absurd (minus_no_digits bytes a.0 
 one_integer bytes y z (m, inr a) (n, inr b) =
     let same : a.0 ≡ b.0 = tail_is 45 45 a.0 b.0 (sym a.1.0 ∙ b.1.0) in
     a.1.1.1 ∙ ap (λ (k : ℕ). neg_ℤ (pos k)) (one_digits b.0 m n (subst (λ (u : List ℕ). AreDigits u m) same a.1.1.0) b.1.1.0) ∙ sym b.1.1.1
+
+-- it has ten digits at most
+pub integer_small : (bytes : List ℕ) (z : ℤ) → IsInteger bytes z → unsigned_abs z < 10000000000
+integer_small bytes z (n, inl a) =
+    let below = digits_below bytes 10 a.0.few a.0.digits in
+    let less : n < 10000000000 = omega (arith, below, a.0.value) in
+    subst (λ (y : ℤ). unsigned_abs y < 10000000000) (sym a.1) less
+integer_small bytes z (n, inr a) =
+    let below = digits_below a.0 10 a.1.1.0.few a.1.1.0.digits in
+    let less : n < 10000000000 = omega (arith, below, a.1.1.0.value) in
+    subst (λ (y : ℤ). unsigned_abs y < 10000000000) (sym a.1.1.1) (negated n less)
+  where
+    negated : (m : ℕ) → m < 10000000000 → unsigned_abs (neg_ℤ (pos m)) < 10000000000
+    negated zero h = omega arith
+    negated (suc m) h = h
 
 -- they are few
 pub integer_few : (bytes : List ℕ) (z : ℤ) → IsInteger bytes z → length bytes ≤ 11

@@ -2,7 +2,12 @@ mod HeadFaultSteps
 mod HeadSteps
 mod CellSteps
 mod DigitSteps
+mod OneFault
+mod OneText
+mod PageSteps
 mod ReadSteps
 mod TextSteps
 mod TokenLists
 mod Windows
+mod WordTokens
+mod CanonSteps

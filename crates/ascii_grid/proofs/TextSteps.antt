@@ -98,7 +98,7 @@ are_tokens p (b ∷ rest) = by (are_tokens (suc p) rest) (is_blank b) refl
 
 -- ---- short tokens are looked at whole
 
-abbrev AreShort : List Spot → Type 0
+abbrev pub AreShort : List Spot → Type 0
 AreShort [] = Unit {0}
 AreShort (t ∷ ts) = (length t.bytes < 33) × AreShort ts
 
@@ -119,12 +119,12 @@ unseen (t ∷ all) (x ∷ xs) is (few, short) =
     let both = front_is (seen t) x (map seen all) xs is in
     λ i. unseen_one t x both.0 few i ∷ unseen all xs both.1 short i
 
-short_pairs : (before ps : List Pair) (rest : List Spot) → ArePairs before ps → AreShort rest → AreShort (flat ps ++ rest)
+pub short_pairs : (before ps : List Pair) (rest : List Spot) → ArePairs before ps → AreShort rest → AreShort (flat ps ++ rest)
 short_pairs before [] rest are short = short
 short_pairs before (p ∷ ps) rest (one, more) short =
     (key_few p.word.bytes p.key one.1.0, (value_few before p.key p.value.bytes one.1.1.1, short_pairs (before ++ p ∷ []) ps rest more short))
 
-short_cells : (kind : PixelType) (nodata : ℤ) (ts : List Spot) (ps : List (Option (List ℤ))) → AreCells kind nodata ts ps → AreShort ts
+pub short_cells : (kind : PixelType) (nodata : ℤ) (ts : List Spot) (ps : List (Option (List ℤ))) → AreCells kind nodata ts ps → AreShort ts
 short_cells kind nodata [] [] are = tt
 short_cells kind nodata [] (q ∷ ps) are = absurd are
 short_cells kind nodata (u ∷ ts) [] are = absurd are

@@ -1,9 +1,9 @@
 ghost use Rattle.std.specs.Prelude.{◌≡◌, ◌↔◌, ◌++◌, ◌∷◌, ◌*◌, ◌<◌, ◌≤◌, [], ℕ, ℤ, pos, List, IfOk, IfErr, IfSome, IfNone, OnOk, IsTrue, false};
 ghost use Rattle.ascii_grid.specs.Tokens.{Spot};
 ghost use Rattle.ascii_grid.specs.Head.{HasAll, IsInteger, IsText, IsValue, Pair, Says, text_faults, value_faults};
-ghost use Rattle.ascii_grid.specs.inside.Heads.{HeadRead, Keeps, SizeStops, has_five, has_key, missing};
+ghost use Rattle.ascii_grid.specs.inside.Heads.{HeadRead, IsFair, Keeps, SizeStops, has_five, has_key, missing};
 ghost use Rattle.ascii_grid.specs.inside.Reading.{Left};
-ghost use Rattle.ascii_grid.specs.inside.Stops.{CountsStop};
+ghost use Rattle.ascii_grid.specs.Stopping.{CountsStop};
 ghost use Rattle.ascii_grid.specs.declared.words.Key.{Key};
 
 use crate::fault::{AsciiReason, AsciiStop, stop};
@@ -107,6 +107,7 @@ fn take_value(head: &mut Head, key: Key, value: Token) -> Result<(), AsciiReason
     ensures err { (ps : List Pair) → Keeps head.old ps → IfErr result
         (λ reason. value_faults ps key value value.place reason) }
     ensures fewer { OnOk result (missing head.new < missing head.old) }
+    ensures fair { IsFair head.old → OnOk result (IsFair head.new) }
 {
     match key {
         Key::Cols => head.cols = Some(size_of(value.bytes(), head.rows)?),
@@ -143,6 +144,7 @@ pub(crate) fn read_head<S: Source>(
 ) -> Result<(Head, Token), AsciiStop>
     ensures read { (total : ℕ) (tokens : List Spot) → Left (S.left src.old) window.old total tokens
         → HeadRead result (S.left src.new) window.new total tokens }
+    ensures fair { IfOk result (λ r. IsFair r.0 × IsTrue (has_five r.0)) }
     ensures counted { CountsStop result (S.faults src.old) (S.faults src.new) }
 {
     let mut head = Head {

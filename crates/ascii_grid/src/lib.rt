@@ -3,16 +3,21 @@
 //! and `first_fault`.
 #![tactic(auto)]
 
+mod canon;
 mod fault;
 mod grid;
 mod head;
+mod laws;
 mod numbers;
+mod page;
 mod text;
 mod token;
 mod window;
 mod words;
 
+pub use canon::ascii_write;
 pub use fault::{AsciiFault, AsciiReason, AsciiStop};
 pub use grid::{AsciiGrid, Georef};
+pub use laws::{canon_stands, one_fault, one_grid};
 pub use text::ascii_read;
 pub use words::Key;

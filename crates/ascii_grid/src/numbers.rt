@@ -1,10 +1,11 @@
-ghost use Rattle.std.specs.Prelude.{◌≡◌, ◌*◌, ◌<◌, ◌≤◌, ◌∷◌, ◌++◌, ℕ, ℤ, List, [], length, MatchBool};
+ghost use Rattle.std.specs.Prelude.{◌≡◌, ◌*◌, ◌<◌, ◌≤◌, ◌∷◌, ◌++◌, ℕ, ℤ, List, [], length, MatchBool, OnOk, All};
 ghost use Rattle.raster_values.specs.PixelType.{InRange};
 ghost use Rattle.raster_values.specs.Raster.{blank};
 ghost use Rattle.ascii_grid.specs.Tokens.{Spot};
+ghost use Rattle.ascii_grid.specs.Canon.{IsApart};
 ghost use Rattle.ascii_grid.specs.inside.Cells.{Begun, CellTaken, CellsTaken};
 ghost use Rattle.ascii_grid.specs.inside.Reading.{Left};
-ghost use Rattle.ascii_grid.specs.inside.Stops.{CountsStop};
+ghost use Rattle.ascii_grid.specs.Stopping.{CountsStop};
 
 use crate::fault::{AsciiReason, AsciiStop, stop};
 use crate::token::{Token, demand, next_token};
@@ -59,6 +60,8 @@ pub(crate) fn read_cells<S: Source>(
     ensures read { (total : ℕ) (rest : List Spot)
         → (length first.bytes < 33 → Left (S.left src.old) window.old total rest)
         → CellsTaken result total nodata (first ∷ rest) raster.old raster.new }
+    ensures apart { OnOk result (All (IsApart nodata) raster.new.pixels) }
+    ensures shape { OnOk result (raster.new ≡ record raster.old { pixels = raster.new.pixels }) }
     ensures counted { CountsStop result (S.faults src.old) (S.faults src.new) }
 {
     let count = raster.rows() * raster.cols();

@@ -1,10 +1,11 @@
-ghost use Rattle.std.specs.Prelude.{◌≡◌, ℕ, pos, List, IfOk, IfErr, IfSome, Some, None, FitsSigned};
+ghost use Rattle.std.specs.Prelude.{◌≡◌, ℕ, pos, List, IfOk, IfErr, IfSome, Some, None, FitsSigned, IsTrue, ◌<◌, unsigned_abs};
 ghost use Rattle.std.specs.Int.{w64};
 ghost use Rattle.raster_values.specs.Raster.{blank};
 ghost use Rattle.ascii_grid.specs.Head.{HasAll, Pair, Says, SaysNumber, SaysText};
+ghost use Rattle.ascii_grid.specs.Canon.{IsLawful, IsLawfulGeo};
 ghost use Rattle.ascii_grid.specs.Text.{AsciiRead, IsGeo, IsNodata};
-ghost use Rattle.ascii_grid.specs.inside.Heads.{Keeps, KeepsNumber, KeepsText};
-ghost use Rattle.ascii_grid.specs.inside.Stops.{CountsStop};
+ghost use Rattle.ascii_grid.specs.inside.Heads.{IsFair, Keeps, KeepsNumber, KeepsText, has_five};
+ghost use Rattle.ascii_grid.specs.Stopping.{CountsStop};
 
 use crate::fault::AsciiStop;
 use crate::grid::{AsciiGrid, Georef};
@@ -30,6 +31,7 @@ fn held(alloc: Global, bytes: &[u8]) -> Result<Bytes, AsciiStop>
 fn copied(alloc: Global, text: &Option<Token>) -> Result<Bytes, AsciiStop>
     ensures ok { (ps : List Pair) (q : ℕ) → KeepsText text.now ps q → Says ps q
         → IfOk result (λ copy. SaysText ps q copy) }
+    ensures copy { IfSome text.now (λ t. IfOk result (λ copy. copy ≡ t.bytes)) }
     ensures err { IfErr result (λ e. e ≡ AsciiStop.OutOfMemory) }
 {
     match text {
@@ -42,6 +44,8 @@ fn copied(alloc: Global, text: &Option<Token>) -> Result<Bytes, AsciiStop>
 fn nodata_of(number: Option<i64>) -> i64
     ensures value { (ps : List Pair) → KeepsNumber number ps 5 → IsNodata ps result }
     ensures fits { FitsSigned w64 result }
+    ensures small { IfSome number (λ n. unsigned_abs n < 10000000000)
+        → unsigned_abs result < 10000000000 }
 {
     match number {
         Some(number) => number,
@@ -54,6 +58,8 @@ fn georef(alloc: Global, head: &Head) -> Result<Georef, AsciiStop>
     ensures ok { (ps : List Pair) → Keeps head.now ps → HasAll ps
         → IfOk result (λ geo. IsGeo ps geo) }
     ensures fits { IfOk result (λ geo. FitsSigned w64 geo.nodata) }
+    ensures lawful { IsFair head.now → IsTrue (has_five head.now)
+        → IfOk result (λ geo. IsLawfulGeo geo) }
     ensures err { IfErr result (λ e. e ≡ AsciiStop.OutOfMemory) }
 {
     let x = copied(alloc, &head.x)?;
@@ -111,6 +117,7 @@ pub fn ascii_read<S: Source>(
     kind: PixelType,
 ) -> Result<AsciiGrid, AsciiStop>
     ensures read { IfSome (S.left src.old) (λ text. AsciiRead result kind text) }
+    ensures lawful { IfOk result (λ g. IsLawful g) }
     ensures counted { CountsStop result (S.faults src.old) (S.faults src.new) }
 {
     let mut window = Window::new();

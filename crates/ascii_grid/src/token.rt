@@ -1,7 +1,7 @@
 ghost use Rattle.std.specs.Prelude.{◌≡◌, ◌↔◌, ℕ, ◌+◌, ◌<◌, ◌≤◌, ◌∷◌, ◌++◌, [], List, IsTrue, IfOk, IfErr, OnOk, length, true};
 ghost use Rattle.ascii_grid.specs.inside.Reading.{Ahead, Left};
 ghost use Rattle.ascii_grid.specs.inside.Steps.{Demanded, NextTaken, Skipped, WordTaken};
-ghost use Rattle.ascii_grid.specs.inside.Stops.{CountsStop};
+ghost use Rattle.ascii_grid.specs.Stopping.{CountsStop};
 ghost use Rattle.ascii_grid.specs.Tokens.{Spot, is_blank, limit};
 
 use crate::fault::{AsciiReason, AsciiStop, stop};

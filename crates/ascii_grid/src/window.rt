@@ -1,6 +1,7 @@
 ghost use Rattle.std.specs.Prelude.{◌≡◌, ℕ, ◌+◌, ◌<◌, ◌≤◌, ◌∷◌, ◌++◌, [], List, Option, IfOk, IfErr, IfSome, IfNone, OnOk, Some, None, Ok, length};
 ghost use Rattle.ascii_grid.specs.inside.Reading.{Ahead};
-ghost use Rattle.ascii_grid.specs.inside.Stops.{CountsStop, IsTooLong};
+ghost use Rattle.ascii_grid.specs.Stopping.{CountsStop};
+ghost use Rattle.ascii_grid.specs.inside.Stops.{IsTooLong};
 ghost use Rattle.ascii_grid.specs.Tokens.{limit};
 
 use crate::fault::{AsciiReason, AsciiStop, stop};

@@ -6,3 +6,7 @@
 mod reading;
 #[cfg(test)]
 mod same;
+#[cfg(test)]
+mod texts;
+#[cfg(test)]
+mod writing;

@@ -1,32 +1,11 @@
 //! Texts and their grids, each first fault with its place, and a source that fails.
 
 use crate::same::same;
-use ascii_grid::{AsciiFault, AsciiGrid, AsciiReason, AsciiStop, ascii_read};
-use outside_io::{Bytes, MemSource};
+use crate::texts::{ROW, read};
+use ascii_grid::{AsciiFault, AsciiGrid, AsciiReason, AsciiStop};
 use raster_values::PixelType;
 use std::alloc::Global;
 use std::process::Abort;
-
-const ROW: &[u8] =
-    b"ncols 2\nnrows 1\nxllcorner 0.5\nyllcorner -10\ncellsize 30\nNODATA_value -9999\n7 -9999\n";
-
-/// The text is read in pieces of so many bytes; the calls with these numbers fail.
-fn read(
-    rt: &impl Abort,
-    alloc: Global,
-    text: &[u8],
-    kind: PixelType,
-    piece: u8,
-    failing: &[u8],
-) -> Result<AsciiGrid, AsciiStop> {
-    let bytes = Bytes::of(alloc, text).expect(rt, "memory");
-    let failing = Bytes::of(alloc, failing).expect(rt, "memory");
-    if piece == 0 {
-        panic!(rt; "piece");
-    }
-    let mut src = MemSource::new(bytes, piece as usize, failing);
-    ascii_read(alloc, &mut src, kind)
-}
 
 /// The shape of a grid that was read, and its first pixel's value.
 type Told = Result<(u32, u32, u32, i64), AsciiStop>;

@@ -1,15 +1,21 @@
 -- What the reader of numbers leaves.
-use Rattle.std.specs.Prelude.{◌≡◌, ℕ, ℤ, ◌-◌, ◌*◌, ◌≤◌, List, [], ◌∷◌, ◌++◌, length, replicate, Option, None, Result, Ok, Err}
+use Rattle.std.specs.Prelude.{◌≡◌, ℕ, ℤ, ◌-◌, ◌*◌, ◌≤◌, List, [], ◌∷◌, ◌++◌, length, replicate, Option, None, Result, Ok, Err, All}
 use Rattle.raster_values.specs.Raster.{Pixels}
 use Rattle.ascii_grid.specs.declared.fault.AsciiStop.{AsciiStop}
 use Rattle.ascii_grid.specs.declared.fault.AsciiStop.TheVariants.{Fault, Source, OutOfMemory}
 use Rattle.ascii_grid.specs.Tokens.{Spot, limit}
+use Rattle.ascii_grid.specs.Canon.{IsApart}
 use Rattle.ascii_grid.specs.Text.{AreCells, IsCell, NumberFaults, cell_faults}
 
 -- the raster has these first pixels, and no other valid ones
 pub record Begun (blank now : Pixels) (cells : List (Option (List ℤ))) : Type 0 where
   pub same : now ≡ record blank { pixels = now.pixels }
   pub pixels : now.pixels ≡ cells ++ replicate (blank.rows * blank.cols - length cells) None
+
+-- so many first pixels, no value of which is nodata, whatever the source tells
+abbrev pub IsFairSoFar : Pixels → Pixels → ℤ → ℕ → Type 0
+IsFairSoFar blank now nodata k = (cells : List (Option (List ℤ))) × ((length cells ≡ k)
+    × (Begun blank now cells × All (IsApart nodata) cells))
 
 -- a cell more, or what is wrong with it
 abbrev pub CellTaken : Result Unit AsciiStop → ℤ → Spot → Pixels → Pixels → ℕ → Type 0

@@ -1,5 +1,5 @@
 -- What the code keeps of pairs.
-use Rattle.std.specs.Prelude.{◌≡◌, ◌⊎◌, ◌↔◌, ℕ, ℤ, pos, ◌*◌, ◌+◌, ◌<◌, ◌≤◌, Bool, ◌&&◌, IsTrue, List, [], ◌∷◌, ◌++◌, length, Option, None, Some, Result, Ok, Err, is_some}
+use Rattle.std.specs.Prelude.{◌≡◌, ◌⊎◌, ◌↔◌, ℕ, ℤ, pos, ◌*◌, ◌+◌, ◌<◌, ◌≤◌, Bool, ◌&&◌, IsTrue, List, [], ◌∷◌, ◌++◌, length, Option, None, Some, Result, Ok, Err, is_some, IfSome, unsigned_abs}
 use Rattle.ascii_grid.specs.Tokens.{Spot}
 use Rattle.ascii_grid.specs.Endings.{ending}
 use Rattle.ascii_grid.specs.Head.{ArePairs, BeginsWithLetter, HasAll, HeadFaults, IsInteger, IsText, Pair, Says, SaysKey, SaysNumber, SaysText, flat}
@@ -36,6 +36,13 @@ pub record Keeps (h : Head) (ps : List Pair) : Type 0 where
   pub y_centre : IsTrue h.y_centre ↔ SaysKey ps YCenter
   pub cell : KeepsText h.cell ps 4
   pub nodata : KeepsNumber h.nodata ps 5
+
+-- what there is of texts and of nodata is lawful, whatever the source tells
+pub record IsFair (h : Head) : Type 0 where
+  pub x : IfSome h.x (λ t. IsText t.bytes)
+  pub y : IfSome h.y (λ t. IsText t.bytes)
+  pub cell : IfSome h.cell (λ t. IsText t.bytes)
+  pub nodata : IfSome h.nodata (λ n. unsigned_abs n < 10000000000)
 
 -- whether the quantity of a key is there
 abbrev pub has_key : Head → Key → Bool

@@ -11,7 +11,7 @@ no_key : (key : Key) → ◌≡◌ {A = Option Key} None (Some key) → ⊥
 no_key key e = cc
 
 pub loop-word-init : goal.loop-word-init
-loop-word-init g c = record { faults = refl; so_far = λ total tokens left. ([], (tokens, (tt, (refl, (keeps_none, left))))) }
+loop-word-init g c = record { faults = refl; fair = record { x = tt; y = tt; cell = tt; nodata = tt }; so_far = λ total tokens left. ([], (tokens, (tt, (refl, (keeps_none, left))))) }
 
 pub returns-in_err-word-clause-read : goal.returns-in_err-word-clause-read
 returns-in_err-word-clause-read g c = λ total tokens left.
@@ -84,6 +84,7 @@ returns-in-Err-clause-read g c = λ total tokens left.
 pub loop-word-preserved : goal.loop-word-preserved
 loop-word-preserved g c = record {
   faults = c.in_ok-value.ensures.counted ∙ c.in_ok-word.ensures.counted ∙ c.loop-word.invariant.faults;
+  fair = (rw c.in_default-take_value.is at c.take_value.ensures).fair c.loop-word.invariant.fair;
   so_far = λ total tokens left.
       let so = c.loop-word.invariant.so_far total tokens left in
       let next = c.in_ok-word.ensures.next total so.1.0 so.1.1.1.1.1 in

@@ -4,7 +4,7 @@ use Rattle.std.proofs.lemmas.Result.{err_from_is_err_and}
 use Rattle.ascii_grid.specs.Head.{IsInteger, Pair, quantity_of}
 use Rattle.ascii_grid.specs.declared.words.Key.TheVariants.{XCorner, XCenter, YCorner, YCenter}
 use Rattle.ascii_grid.specs.inside.Heads.{has_key}
-use Rattle.ascii_grid.proofs.DigitSteps.{no_some}
+use Rattle.ascii_grid.proofs.DigitSteps.{integer_small, no_some}
 use Rattle.ascii_grid.proofs.HeadSteps.{cell_more, cols_more, flag_false, flag_true, has_not, is_size, nodata_more, rows_more, size_wrong, x_more, y_more}
 use Rattle.ascii_grid.proofs.head.take_value.Goals as goal
 
@@ -85,3 +85,9 @@ pub returns-in-Some-clause-stands : goal.returns-in-Some-clause-stands
 returns-in-Some-clause-stands c = λ ps keeps.
     let number = rw c.bytes-in-Nodata.ensures.value at ((c.integer_of.ensures.value c.in-Some.number).0 c.in-Some.is) in
     rw c.in-Nodata.is (c.in-Some.number, number)
+
+pub returns-in-Some-clause-fair : goal.returns-in-Some-clause-fair
+returns-in-Some-clause-fair c = λ fair.
+    let number = rw c.bytes-in-Nodata.ensures.value at ((c.integer_of.ensures.value c.in-Some.number).0 c.in-Some.is) in
+    let same = to_z-of_z w64 c.in-Some.number (rw c.in-Some.is at c.integer_of.ensures.fits) in
+    record { x = fair.x; y = fair.y; cell = fair.cell; nodata = rw same (integer_small c.args.value.bytes c.in-Some.number number) }

@@ -1,9 +1,11 @@
-use Rattle.std.proofs.Common.{◌≡◌, ◌∙◌, ◌+◌, ◌*◌, ◌++◌, ◌∷◌, [], refl, ap, arith, List, w64}
+use Rattle.std.proofs.Common.{◌≡◌, ◌∙◌, ◌+◌, ◌*◌, ◌++◌, ◌∷◌, [], refl, ap, arith, List, w64, to_z, of_z, sym}
 use Rattle.std.proofs.lemmas.Int.{to_z-of_z}
 use Rattle.std.proofs.lemmas.Result.{err_from_is_err_and}
 use Rattle.raster_values.specs.Raster.{Pixels}
+use Rattle.std.proofs.lemmas.List.Elements.{All-nil}
+use Rattle.ascii_grid.specs.Canon.{IsApart}
 use Rattle.ascii_grid.specs.Tokens.{Spot}
-use Rattle.ascii_grid.proofs.CellSteps.{Progress, begun_blank, cell_step, cells_done, number_bad, number_end, number_last, number_over, some_area, token_short}
+use Rattle.ascii_grid.proofs.CellSteps.{Progress, begun_blank, cell_step, cells_done, number_bad, number_end, number_last, number_over, fair_all, fair_step, some_area, token_short}
 use Rattle.ascii_grid.proofs.numbers.read_cells.Goals as goal
 
 pub loop-done-init : goal.loop-done-init
@@ -15,6 +17,7 @@ loop-done-init g c =
       count = area;
       below = omega (arith, area, some_area r.rows r.cols c.rows.ensures.sound.shape.rows_above c.rows.ensures.sound.shape.cols_above);
       shape = refl;
+      fair = ([], (refl, (begun_blank r (ap (λ (x : Pixels). x.pixels) c.requires), All-nil (IsApart (to_z w64 (of_z w64 c.args.nodata))))));
       so_far = λ total rest left. ([], (rest, ([], (refl, (tt, (begun_blank r (ap (λ (x : Pixels). x.pixels) c.requires), (refl, left)))))));
     }
 
@@ -45,6 +48,7 @@ loop-done-preserved g c =
       count = inv.count;
       below = omega (arith, inv.below, c.if-done-count.false);
       shape = c.in_ok-take_cell.ensures.shape ∙ ap (λ (r : Pixels). record r { pixels = c.take_cell.new.raster.pixels }) inv.shape;
+      fair = fair_step (to_z w64 (of_z w64 c.args.nodata)) c.loop-done.token c.args.raster.now c.loop-done.raster c.take_cell.new.raster c.loop-done.done inv.fair c.in_ok-take_cell.ensures.taken;
       so_far = λ total rest left.
           let so = rw (to_z-of_z w64 c.args.nodata c.ranges.nodata) at (inv.so_far total rest left) in
           let far : Progress c.args.raster.now c.loop-done.raster c.args.nodata (c.args.first ∷ rest) c.loop-done.done so.0 so.1.1.0 (c.loop-done.token ∷ so.1.0) = record { size = so.1.1.1.0; are = so.1.1.1.1.0; begun = so.1.1.1.1.1.0; joined = so.1.1.1.1.1.1.0 } in
@@ -104,3 +108,9 @@ returns-in-None-clause-read g c = λ total rest left.
     let told = rw c.in-None.is at (c.in_ok-token-2.ensures.next total so.1.0 (so.1.1.1.1.1.1.1 few)) in
     cells_done _ c.next_token.new.window total (c.loop-done.done + 1) c.args.nodata (c.args.first ∷ rest) (so.0 ++ c.loop-done.token ∷ []) so.1.0 c.args.raster.now c.take_cell.new.raster (so.1.1.0 ++ on.0 ∷ [])
     on.1.joined on.1.size (c.if-done-count.true ∙ inv.count) on.1.are on.1.begun told
+
+pub returns-in-None-clause-apart : goal.returns-in-None-clause-apart
+returns-in-None-clause-apart g c =
+    let inv = c.loop-done.invariant in
+    let step = fair_step (to_z w64 (of_z w64 c.args.nodata)) c.loop-done.token c.args.raster.now c.loop-done.raster c.take_cell.new.raster c.loop-done.done inv.fair c.in_ok-take_cell.ensures.taken in
+    rw (to_z-of_z w64 c.args.nodata c.ranges.nodata) at (fair_all (to_z w64 (of_z w64 c.args.nodata)) c.args.raster.now c.take_cell.new.raster (c.loop-done.done + 1) step (c.if-done-count.true ∙ inv.count))

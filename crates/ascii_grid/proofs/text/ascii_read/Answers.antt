@@ -1,4 +1,4 @@
-use Rattle.std.proofs.Common.{ap, Ok, Err, length, w64}
+use Rattle.std.proofs.Common.{◌∙◌, ap, Ok, Err, length, w64}
 use Rattle.std.proofs.lemmas.Int.{to_z-of_z}
 use Rattle.std.proofs.lemmas.Result.{err_from_is_err_and}
 use Rattle.raster_values.specs.Raster.{Pixels}
@@ -27,3 +27,12 @@ returns-clause-read g c = where_told (g.S.Source.left c.args.src.now) (AsciiRead
     let lies = c.in_ok-geo.ensures.ok behind.pairs behind.keeps behind.all in
     text_done (g.S.Source.left c.read_head.new.src) c.read_head.new.window text c.args.kind c.in_ok-head.head c.in_ok-head.first c.in_ok-geo.geo c.in_ok-raster.raster c.read_cells.new.raster behind lies
     c.in_ok-raster.ensures.blank c.in_ok-raster.ensures.sizes.0 c.in_ok-raster.ensures.sizes.1 (rw (to_z-of_z w64 c.in_ok-geo.geo.nodata c.in_ok-geo.ensures.fits) at (c.in_ok-read_cells.ensures.read (length text) behind.rest behind.later)))
+
+pub returns-clause-lawful : goal.returns-clause-lawful
+returns-clause-lawful g c =
+    let fair = c.in_ok-head.ensures.fair in
+    record {
+      depth = ap (λ (r : Pixels). r.depth) c.in_ok-read_cells.ensures.shape ∙ ap (λ (r : Pixels). r.depth) c.in_ok-raster.ensures.blank;
+      geo = c.in_ok-geo.ensures.lawful fair.0 fair.1;
+      apart = rw (to_z-of_z w64 c.in_ok-geo.geo.nodata c.in_ok-geo.ensures.fits) at c.in_ok-read_cells.ensures.apart;
+    }
