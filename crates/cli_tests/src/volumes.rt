@@ -96,7 +96,7 @@ pub(crate) fn long_bundle(rt: &(impl Abort + AllocGlobal), len: u64) -> MemVolum
     let bundle = file_of(rt, len, &FRESH);
     let journal = file_of(rt, 0, &[]);
     let failing = Vec::new(rt.alloc());
-    MemVolume::new(rt.alloc(), bundle, journal, failing, None, 200, 1000).expect(rt, "memory")
+    MemVolume::new(rt.alloc(), bundle, journal, failing, None, 200, 3000).expect(rt, "memory")
 }
 
 /// What a run has to leave: its status, its number of marks, its output and its error output.
