@@ -214,7 +214,7 @@ cells_against total kind ts us p q a b same x y =
     let rows = pos_same x.rows y.rows (one_number x.pairs 1 (pos x.rows) (pos y.rows) x.stand x.rows_are (subst (λ (ps : List Pair). SaysNumber ps 1 (pos y.rows)) back y.rows_are)) in
     let cols = pos_same x.cols y.cols (one_number x.pairs 0 (pos x.cols) (pos y.cols) x.stand x.cols_are (subst (λ (ps : List Pair). SaysNumber ps 0 (pos y.cols)) back y.cols_are)) in
     let moved : NumberFaults total kind x.nodata (x.rows * x.cols) (x.first ∷ x.rest) q b = subst (λ (ts : List Spot). NumberFaults total kind x.nodata (x.rows * x.cols) ts q b) (sym split.1)
-        (subst (λ (n : ℤ). NumberFaults total kind n (x.rows * x.cols) (y.first ∷ y.rest) q b) (sym nodata) (subst (λ (n : ℕ). NumberFaults total kind y.nodata n (y.first ∷ y.rest) q b) (λ i. sym rows i * sym cols i) y.fault)) in
+    (subst (λ (n : ℤ). NumberFaults total kind n (x.rows * x.cols) (y.first ∷ y.rest) q b) (sym nodata) (subst (λ (n : ℕ). NumberFaults total kind y.nodata n (y.first ∷ y.rest) q b) (λ i. sym rows i * sym cols i) y.fault)) in
     let f = x.fault in
     numbers_single total kind x.nodata (x.rows * x.cols) 0 f.before moved.before f.rest moved.rest f.pixels moved.pixels p q a b f.stand moved.stand (sym f.joined ∙ moved.joined) (omega (arith, f.few)) (omega (arith, moved.few))
     (start total kind x.nodata (x.rows * x.cols) (length f.before) f.rest p a f.next) (start total kind x.nodata (x.rows * x.cols) (length moved.before) moved.rest q b moved.next)
