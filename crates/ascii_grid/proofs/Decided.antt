@@ -1,8 +1,8 @@
 -- A text is that of a grid, or it has a fault.
-use Rattle.std.proofs.Common.{◌≡◌, ◌≢◌, ℕ, ℤ, pos, negsuc, zero, suc, ◌+◌, ◌*◌, ◌<◌, ◌≤◌, Bool, true, false, List, [], ◌∷◌, ◌++◌, length, map, Option, None, Some, refl, sym, ap, ◌∙◌, subst, arith, append_assoc, inl, inr, ◌⊎◌, ◌↔◌}
+use Rattle.std.proofs.Common.{◌≡◌, ℕ, ℤ, pos, negsuc, zero, suc, ◌+◌, ◌*◌, ◌<◌, ◌≤◌, Bool, true, false, List, [], ◌∷◌, ◌++◌, length, map, Option, refl, sym, ap, ◌∙◌, subst, arith, append_assoc, inl, inr, ◌⊎◌, ◌↔◌}
 use Rattle.std.specs.Prelude.{IsTrue}
 use Rattle.std.proofs.lemmas.List.{append-nil, length_push}
-use Rattle.first_fault.specs.Faults.{Faults, choice, none, unless, wrong}
+use Rattle.first_fault.specs.Faults.{Faults}
 use Rattle.first_fault.specs.Parts.{HasFault}
 use Rattle.raster_values.specs.declared.kind.PixelType.{PixelType}
 use Rattle.ascii_grid.specs.declared.words.Key.{Key}
@@ -10,10 +10,10 @@ use Rattle.ascii_grid.specs.declared.words.Key.TheVariants.{Cols, Rows, XCorner,
 use Rattle.ascii_grid.specs.declared.fault.AsciiReason.{AsciiReason}
 use Rattle.ascii_grid.specs.declared.fault.AsciiReason.TheVariants.{BadKey, Repeated, Missing, Leftover, TooLong, Truncated}
 use Rattle.ascii_grid.specs.declared.grid.AsciiGrid.{AsciiGrid}
-use Rattle.ascii_grid.specs.Tokens.{AreTokens, Spot, limit, seen, shown}
-use Rattle.ascii_grid.specs.Endings.{ending, too_late}
-use Rattle.ascii_grid.specs.Head.{ArePairs, BeginsWithLetter, Has, HasAll, HeadFaults, IsInteger, IsKey, IsSize, IsText, IsValue, Pair, Says, SaysKey, SaysNumber, SaysText, SomePair, behind_key, flat, next_faults, quantity_of, value_faults}
-use Rattle.ascii_grid.specs.Text.{AreCells, AsciiFaults, CellFaults, IsAscii, IsCell, IsGeo, IsNodata, NumberFaults, cell_faults, next_number}
+use Rattle.ascii_grid.specs.Tokens.{Spot, limit, seen, shown}
+use Rattle.ascii_grid.specs.Endings.{ending}
+use Rattle.ascii_grid.specs.Head.{ArePairs, BeginsWithLetter, Has, HasAll, HeadFaults, IsInteger, IsKey, IsSize, IsValue, Pair, Says, SaysKey, SaysNumber, SaysText, SomePair, behind_key, flat, next_faults, quantity_of, value_faults}
+use Rattle.ascii_grid.specs.Text.{AreCells, AsciiFaults, IsAscii, IsCell, IsNodata, NumberFaults, cell_faults, next_number}
 use Rattle.ascii_grid.specs.inside.Reading.{tokens_of}
 use Rattle.ascii_grid.proofs.CellSteps.{cells_more}
 use Rattle.ascii_grid.proofs.HeadSteps.{NextPair, are_more, joined_more}
