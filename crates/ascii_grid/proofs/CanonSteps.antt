@@ -1,8 +1,8 @@
 -- What is written of a grid is a text of it.
-use Rattle.std.proofs.Common.{◌≡◌, ◌≢◌, ℕ, ℤ, pos, negsuc, neg_ℤ, suc, ◌+◌, ◌*◌, ◌<◌, ◌≤◌, Bool, true, false, List, [], ◌∷◌, ◌++◌, length, get_or, All, Option, None, Some, refl, sym, ap, ◌∙◌, subst, arith, inl, inr, decimal, ◌⊎◌, ◌↔◌}
-use Rattle.std.specs.Prelude.{IfSome, IsTrue, unsigned_abs}
+use Rattle.std.proofs.Common.{◌≡◌, ℕ, ℤ, pos, suc, ◌+◌, ◌*◌, ◌<◌, ◌≤◌, Bool, true, false, List, [], ◌∷◌, ◌++◌, length, get_or, All, Option, None, Some, refl, ap, ◌∙◌, subst, arith, inl, inr, decimal, ◌⊎◌}
+use Rattle.std.specs.Prelude.{IsTrue, unsigned_abs}
 use Rattle.std.proofs.lemmas.Int.{ints}
-use Rattle.std.proofs.lemmas.List.{append-nil, length-append}
+use Rattle.std.proofs.lemmas.List.{length-append}
 use Rattle.std.proofs.lemmas.List.Elements.{All-from_get_or, All-head, All-tail}
 use Rattle.std.proofs.Math.Nat.{le-mul_of_pos_right, le_trans, mul_comm}
 use Rattle.std.specs.Fmt.{signed_decimal}
@@ -15,10 +15,10 @@ use Rattle.ascii_grid.specs.declared.words.Key.{Key}
 use Rattle.ascii_grid.specs.declared.words.Key.TheVariants.{Cols, Rows, XCorner, XCenter, YCorner, YCenter, Cell, Nodata}
 use Rattle.ascii_grid.specs.declared.grid.AsciiGrid.{AsciiGrid}
 use Rattle.ascii_grid.specs.declared.grid.Georef.{Georef}
-use Rattle.ascii_grid.specs.Tokens.{Spot, limit}
-use Rattle.ascii_grid.specs.Head.{ArePairs, BeginsWithLetter, HasAll, IsInteger, IsText, IsValue, Pair, Says, SaysKey, SaysNumber, flat, name_of, quantity_of}
-use Rattle.ascii_grid.specs.Text.{AreCells, IsAscii, IsCell, IsGeo, IsNodata}
-use Rattle.ascii_grid.specs.Canon.{IsApart, IsLawful, Word, canon, canon_words, end_of, head_words, line, number_of, number_words, spelled, x_key, y_key}
+use Rattle.ascii_grid.specs.Tokens.{limit}
+use Rattle.ascii_grid.specs.Head.{ArePairs, BeginsWithLetter, HasAll, IsInteger, IsText, IsValue, Pair, name_of, quantity_of}
+use Rattle.ascii_grid.specs.Text.{AreCells, IsAscii, IsCell, IsGeo}
+use Rattle.ascii_grid.specs.Canon.{IsApart, IsLawful, Word, canon, canon_words, end_of, line, number_of, number_words, spelled, x_key, y_key}
 use Rattle.ascii_grid.proofs.DigitSteps.{integer_few, one_integer}
 use Rattle.ascii_grid.proofs.TokenLists.{spot}
 use Rattle.ascii_grid.proofs.WordTokens.{AreWords, IsWord, dark_by, decimal_digits, digits_dark, end_blank, number_word, signed_integer, spots, spots_long, text_word, words_tokens}

@@ -1,5 +1,7 @@
 mod HeadFaultSteps
 mod HeadSteps
+mod Tests
+mod Decided
 mod CellSteps
 mod DigitSteps
 mod OneFault

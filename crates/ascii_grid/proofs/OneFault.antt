@@ -1,25 +1,24 @@
 -- A text has one first fault, and none where it is that of a grid.
-use Rattle.std.proofs.Common.{◌≡◌, ◌≢◌, ℕ, ℤ, pos, suc, ◌+◌, ◌*◌, ◌<◌, ◌≤◌, List, [], ◌∷◌, ◌++◌, length, map, take, Option, None, Some, refl, sym, ap, ◌∙◌, subst, arith, append_assoc, inl, inr, ◌⊎◌}
+use Rattle.std.proofs.Common.{◌≡◌, ℕ, ℤ, pos, suc, ◌+◌, ◌*◌, ◌<◌, ◌≤◌, List, [], ◌∷◌, ◌++◌, length, map, take, Option, refl, sym, ap, ◌∙◌, subst, arith, append_assoc, inl, inr, ◌⊎◌}
 use Rattle.std.proofs.lemmas.List.{append-nil, take_all}
-use Rattle.first_fault.specs.Faults.{Faults, choice, none, unless, wrong}
+use Rattle.first_fault.specs.Faults.{Faults, none, unless, wrong}
 use Rattle.first_fault.specs.Parts.{IsSingle}
 use Rattle.first_fault.proofs.Parts.{single-choice, single-none, single-unless, single-wrong}
 use Rattle.raster_values.specs.declared.kind.PixelType.{PixelType}
-use Rattle.raster_values.specs.PixelType.{InRange}
 use Rattle.ascii_grid.specs.declared.words.Key.{Key}
 use Rattle.ascii_grid.specs.declared.words.Key.TheVariants.{Cols, Rows, XCorner, XCenter, YCorner, YCenter, Cell, Nodata}
 use Rattle.ascii_grid.specs.declared.fault.AsciiReason.{AsciiReason}
 use Rattle.ascii_grid.specs.declared.fault.AsciiReason.TheVariants.{BadKey, Repeated, Missing, BadText, BadNumber, BadSize, TooLarge, OutOfRange, Leftover, TooLong, Truncated}
 use Rattle.ascii_grid.specs.declared.grid.AsciiGrid.{AsciiGrid}
-use Rattle.ascii_grid.specs.Tokens.{AreTokens, Spot, limit, seen, shown}
+use Rattle.ascii_grid.specs.Tokens.{Spot, limit, seen, shown}
 use Rattle.ascii_grid.specs.Endings.{ending, too_late}
-use Rattle.ascii_grid.specs.Head.{ArePairs, BeginsWithLetter, Has, HasAll, HeadFaults, IsInteger, IsKey, IsSize, IsText, IsValue, KeyFault, Pair, SaysNumber, behind_key, flat, key_faults, next_faults, quantity_of, size_faults, text_faults, value_faults}
+use Rattle.ascii_grid.specs.Head.{ArePairs, BeginsWithLetter, Has, HasAll, HeadFaults, IsInteger, IsKey, IsSize, IsText, IsValue, Pair, SaysNumber, behind_key, flat, key_faults, next_faults, quantity_of, size_faults, text_faults, value_faults}
 use Rattle.ascii_grid.specs.Text.{AreCells, AsciiFaults, CellFaults, IsAscii, IsCell, IsNodata, NumberFaults, cell_faults, next_number}
 use Rattle.ascii_grid.proofs.CellSteps.{some_area}
 use Rattle.ascii_grid.proofs.DigitSteps.{one_integer}
 use Rattle.ascii_grid.proofs.TokenLists.{shown_all}
 use Rattle.ascii_grid.proofs.TextSteps.{AreShort, short_cells, short_pairs}
-use Rattle.ascii_grid.proofs.OneText.{IsBehind, cells_behind, heads_are, one_key, one_nodata, one_number, one_tokens, pairs_are, pos_same}
+use Rattle.ascii_grid.proofs.OneText.{cells_behind, heads_are, one_key, one_nodata, one_number, one_tokens, pairs_are, pos_same}
 
 -- ---- a value
 

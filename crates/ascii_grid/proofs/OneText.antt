@@ -1,5 +1,5 @@
 -- A text has one list of tokens and one grid.
-use Rattle.std.proofs.Common.{◌≡◌, ◌≢◌, ℕ, ℤ, pos, suc, ◌+◌, ◌*◌, ◌<◌, ◌≤◌, Bool, true, false, ◌==◌, List, [], ◌∷◌, ◌++◌, length, map, get_or, All, Option, None, Some, refl, sym, ap, ◌∙◌, subst, arith, append_assoc, inl, inr, ◌⊎◌, ◌↔◌}
+use Rattle.std.proofs.Common.{◌≡◌, ℕ, ℤ, pos, suc, ◌+◌, Bool, true, false, ◌==◌, List, [], ◌∷◌, ◌++◌, length, map, get_or, All, Option, Some, refl, sym, ap, ◌∙◌, subst, arith, inl, inr, ◌↔◌}
 use Rattle.std.specs.Prelude.{IsTrue, if◌then◌else◌}
 use Rattle.std.specs.Char.{to_ascii_lowercase}
 use Rattle.std.proofs.lemmas.List.Elements.{All-head, All-tail}
@@ -9,14 +9,13 @@ use Rattle.raster_values.specs.declared.kind.PixelType.{PixelType}
 use Rattle.ascii_grid.specs.declared.words.Key.{Key}
 use Rattle.ascii_grid.specs.declared.words.Key.TheVariants.{Cols, Rows, XCorner, XCenter, YCorner, YCenter, Cell, Nodata}
 use Rattle.ascii_grid.specs.declared.grid.AsciiGrid.{AsciiGrid}
-use Rattle.ascii_grid.specs.declared.grid.Georef.{Georef}
-use Rattle.ascii_grid.specs.Tokens.{AreTokens, IsBlank, IsDark, Spot}
-use Rattle.ascii_grid.specs.Head.{AreDigits, ArePairs, BeginsWithLetter, Has, HasAll, IsInteger, IsKey, Pair, Says, SaysKey, SaysNumber, SaysText, SomePair, flat, name_of, quantity_of}
-use Rattle.ascii_grid.specs.Text.{AreCells, IsAscii, IsCell, IsGeo, IsNodata}
+use Rattle.ascii_grid.specs.Tokens.{AreTokens, IsBlank, Spot}
+use Rattle.ascii_grid.specs.Head.{AreDigits, ArePairs, BeginsWithLetter, IsInteger, IsKey, Pair, Says, SaysKey, SaysNumber, SaysText, SomePair, flat, name_of, quantity_of}
+use Rattle.ascii_grid.specs.Text.{AreCells, IsAscii, IsCell, IsNodata}
 use Rattle.ascii_grid.specs.inside.Reading.{tokens_of}
 use Rattle.ascii_grid.proofs.DigitSteps.{one_integer}
-use Rattle.ascii_grid.proofs.HeadSteps.{key_says, number_says, push_last, push_left, some_map}
-use Rattle.ascii_grid.proofs.TokenLists.{spot, step_blank, word_front}
+use Rattle.ascii_grid.proofs.HeadSteps.{number_says, push_last, push_left, some_map}
+use Rattle.ascii_grid.proofs.TokenLists.{step_blank, word_front}
 
 -- ---- tokens
 

@@ -111,7 +111,7 @@ unseen_one t u is few =
 front_is : (t u : Spot) (ts us : List Spot) → ◌≡◌ {A = List Spot} (t ∷ ts) (u ∷ us) → (t ≡ u) × (ts ≡ us)
 front_is t u ts us e = (cc, cc)
 
-unseen : (all xs : List Spot) → map seen all ≡ xs → AreShort xs → all ≡ xs
+pub unseen : (all xs : List Spot) → map seen all ≡ xs → AreShort xs → all ≡ xs
 unseen [] [] is short = refl
 unseen [] (x ∷ xs) is short = absurd (let bad : ⊥ = cc in bad)
 unseen (t ∷ all) [] is short = absurd (let bad : ⊥ = cc in bad)

@@ -1,5 +1,5 @@
 -- The one text that is written of a grid.
-use Rattle.std.specs.Prelude.{◌≡◌, ◌≢◌, ℕ, ℤ, pos, suc, ◌%◌, ◌==◌, ◌<◌, unsigned_abs, List, [], ◌∷◌, ◌++◌, Bool, true, false, if◌then◌else◌, get_or, Option, None, Some, IfSome, decimal, All}
+use Rattle.std.specs.Prelude.{◌≡◌, ◌≢◌, ℕ, ℤ, pos, suc, ◌%◌, ◌==◌, ◌<◌, unsigned_abs, List, [], ◌∷◌, ◌++◌, Bool, if◌then◌else◌, get_or, Option, None, Some, IfSome, decimal, All}
 use Rattle.std.specs.Fmt.{signed_decimal}
 use Rattle.ascii_grid.specs.declared.words.Key.{Key}
 use Rattle.ascii_grid.specs.declared.words.Key.TheVariants.{Cols, Rows, XCorner, XCenter, YCorner, YCenter, Cell, Nodata}

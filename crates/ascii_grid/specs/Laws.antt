@@ -1,10 +1,10 @@
 -- What is promised of the definitions.
-use Rattle.std.specs.Prelude.{◌≡◌, ℕ, List}
+use Rattle.std.specs.Prelude.{◌≡◌, ◌⊎◌, ℕ, List}
 use Rattle.raster_values.specs.Raster.{IsRaster}
 use Rattle.ascii_grid.specs.declared.grid.AsciiGrid.{AsciiGrid}
 use Rattle.raster_values.specs.declared.kind.PixelType.{PixelType}
 use Rattle.ascii_grid.specs.Tokens.{AreTokens, Spot}
-use Rattle.first_fault.specs.Parts.{IsSingle}
+use Rattle.first_fault.specs.Parts.{HasFault, IsSingle}
 use Rattle.ascii_grid.specs.declared.fault.AsciiReason.{AsciiReason}
 use Rattle.ascii_grid.specs.Text.{AsciiFaults, IsAscii}
 use Rattle.ascii_grid.specs.Canon.{IsLawful, canon}
@@ -29,3 +29,8 @@ OneFault = (kind : PixelType) (text : List ℕ) → IsSingle (AsciiFaults kind t
 abbrev pub GridHasNoFault : Type 0
 GridHasNoFault = (kind : PixelType) (text : List ℕ) (g : AsciiGrid) (place : ℕ)
     (reason : AsciiReason) → IsAscii text kind g → AsciiFaults kind text place reason → ⊥
+
+-- A text is that of a grid, or it has a first fault.
+abbrev pub IsEither : Type 0
+IsEither = (kind : PixelType) (text : List ℕ) →
+    ((g : AsciiGrid) × IsAscii text kind g) ⊎ HasFault (AsciiFaults kind text)

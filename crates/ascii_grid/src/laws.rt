@@ -1,6 +1,6 @@
 //! Laws over the definitions.
 
-ghost use Rattle.ascii_grid.specs.Laws.{CanonStands, GridHasNoFault, OneFault, OneGrid, OneTokens};
+ghost use Rattle.ascii_grid.specs.Laws.{CanonStands, GridHasNoFault, IsEither, OneFault, OneGrid, OneTokens};
 
 /// What is written of a grid is a text of it.
 pub fn canon_stands()
@@ -17,4 +17,9 @@ pub fn one_grid()
 pub fn one_fault()
     ensures fault { OneFault }
     ensures grid { GridHasNoFault }
+{}
+
+/// A text is that of a grid, or it has a first fault.
+pub fn is_either()
+    ensures { IsEither }
 {}

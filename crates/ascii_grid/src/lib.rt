@@ -18,6 +18,6 @@ mod words;
 pub use canon::ascii_write;
 pub use fault::{AsciiFault, AsciiReason, AsciiStop};
 pub use grid::{AsciiGrid, Georef};
-pub use laws::{canon_stands, one_fault, one_grid};
+pub use laws::{canon_stands, is_either, one_fault, one_grid};
 pub use text::ascii_read;
 pub use words::Key;

@@ -1,4 +1,4 @@
-use Rattle.std.proofs.Common.{ℤ, ◌++◌, decimal, w64, pos, negsuc, arith, FitsSigned}
+use Rattle.std.proofs.Common.{◌++◌, decimal, w64}
 use Rattle.std.proofs.lemmas.Int.{to_z-of_z}
 use Rattle.std.proofs.lemmas.Result.{on_ok_weaker, on_err_weaker}
 use Rattle.std.specs.Fmt.{signed_decimal}

@@ -1,4 +1,4 @@
-use Rattle.std.proofs.Common.{◌<◌, ◌+◌, ◌∙◌, length, w64, sym}
+use Rattle.std.proofs.Common.{◌<◌, ◌∙◌, length, w64, sym}
 use Rattle.std.proofs.lemmas.Int.{to_z-of_z}
 use Rattle.ascii_grid.proofs.PageSteps.{numbers_break, numbers_step, on_err}
 use Rattle.ascii_grid.proofs.canon.write_numbers.Goals as goal
