@@ -22,7 +22,3 @@ returns-clause-source g c =
 pub returns-clause-output : goal.returns-clause-output
 returns-clause-output g c = λ files.
     cut_lines _ files c.in-Ok.decoder.taken c.outline_of.result _ c.in-Ok.ensures.blob.0 c.in-Ok.ensures.blob.1 (rw c.bytes.ensures at c.outline_of.ensures) c.in-Err-give_outline.ensures.err c.in-Err-give_outline.ensures.counted.0 c.in-Err-give_outline.ensures.counted.1
-
-pub returns-in-Ok-give_outline-clause-source : goal.returns-in-Ok-give_outline-clause-source
-returns-in-Ok-give_outline-clause-source g c =
-    source_read _ _ _ _ (search rules) (λ e. absurd cc) (λ e. absurd cc) c.in-Ok.ensures.source c.in-Ok.ensures.taken c.in-Ok.ensures.end
