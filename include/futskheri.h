@@ -104,7 +104,8 @@ uint64_t futskheri_greatest_size(uint32_t kind, uint32_t rows, uint32_t cols, ui
  * mask_size 0: every pixel is valid.
  * OK: *size is the size of the blob. NO_ROOM: *size is the size that the blob would have. Else *size stays;
  * where it is not OK, out stays. The first of these that holds is answered: BAD_KIND, BAD_VERSION, BAD_SHAPE,
- * TOO_LARGE, BAD_SIZES, DEPTH_NEEDS_V4, NO_ROOM; NO_MEMORY may come instead of the last. */
+ * TOO_LARGE, BAD_SIZES, DEPTH_NEEDS_V4, NO_ROOM; NO_MEMORY may come
+ * instead of the last, and instead of OK. */
 uint32_t futskheri_encode(uint32_t kind, uint32_t rows, uint32_t cols, uint32_t depth, uint32_t version,
                           uint32_t error, const void *values, size_t values_size, const uint8_t *mask,
                           size_t mask_size, uint8_t *out, size_t out_size, uint64_t *size);

@@ -11,12 +11,7 @@ trap 'rm -rf "$room"' EXIT
 library=$("$here/bin/build_c") || exit 1
 cc -std=c99 -Wall -Wextra -Werror -I "$here/include" -o "$room/tile" "$here/examples/c/tile.c" "$library" || exit 1
 "$room/tile" >"$room/given" || exit 1
-cat >"$room/wanted" <<'WANTED'
-4 rows, 4 columns, values from 1 to 200
-the same values: yes, mask ff ff
-refused: BadChecksum at 10
-WANTED
-if cmp -s "$room/given" "$room/wanted"; then
+if cmp -s "$room/given" "$here/examples/c/tile.stdout"; then
     echo "c_example: passed"
 else
     echo "c_example: FAILED; it gave" >&2
