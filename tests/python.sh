@@ -1,0 +1,18 @@
+#!/bin/sh
+# Tests python/futskheri.py over out/libfutskheri.so, beside Esri's library where that is installed; skipped with a word
+# where no Python with numpy, or no C compiler, is there. Its last line is 'N passed, M failed'.
+set -u
+here=$(cd "$(dirname "$0")/.." && pwd) || exit 1
+for python in python3 /usr/bin/python3 none; do
+    "$python" -c 'import numpy' >/dev/null 2>&1 && break
+done
+if [ "$python" = none ] || ! command -v cc >/dev/null 2>&1; then
+    echo "python: skipped, no Python with numpy or no C compiler is there"
+    exit 0
+fi
+FUTSKHERI_LIBRARY=$("$here/bin/build_c" shared) || exit 1
+FUTSKHERI_PROGRAM=${1:-$here/bin/lerc_cli}
+PYTHONPATH=$here/python
+PYTHONDONTWRITEBYTECODE=1
+export FUTSKHERI_LIBRARY FUTSKHERI_PROGRAM PYTHONPATH PYTHONDONTWRITEBYTECODE
+exec "$python" "$here/tests/python_cases.py"
