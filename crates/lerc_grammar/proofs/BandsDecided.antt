@@ -23,7 +23,8 @@ use Rattle.lerc_grammar.specs.declared.bands.BandReason.TheVariants.{Blob as OfB
 use Rattle.lerc_grammar.specs.Mask.{Previous, previous_of}
 use Rattle.lerc_grammar.specs.Laws.{IsPrevious}
 use Rattle.lerc_grammar.specs.Blob.{BlobAfter}
-use Rattle.lerc_grammar.specs.Bands.{IsLike, AreLike, MayBeBands, AreBands, BlobsAfter, BandsBlob, last_after, unlike_faults, BandFault, unlike, in_blob, IsBegun, cut_faults, next_faults, BandsVerdict, Decoded, Refused, IsBandsVerdict}
+use Rattle.raster_values.specs.Bands.{IsLike, AreLike, MayBeBands, AreBands}
+use Rattle.lerc_grammar.specs.Bands.{BlobsAfter, BandsBlob, last_after, unlike_faults, BandFault, unlike, in_blob, IsBegun, cut_faults, next_faults, BandsVerdict, Decoded, Refused, IsBandsVerdict}
 use Rattle.lerc_grammar.proofs.Cases.{Decided, decide_le, decide_nat, decide_or, decide_and, decide_empty, its_fault}
 use Rattle.lerc_grammar.proofs.Bytes.{bytes_in_drop}
 use Rattle.lerc_grammar.proofs.BlobDecided.{some_verdict}

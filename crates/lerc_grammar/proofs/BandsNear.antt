@@ -4,7 +4,7 @@ use Rattle.std.proofs.lemmas.List.Elements.{All-nil, All-cons, All-head, All-tai
 use Rattle.raster_values.specs.Raster.{Pixels}
 use Rattle.lerc_grammar.specs.Mask.{previous_of}
 use Rattle.lerc_grammar.specs.Near.{Near, NearEach}
-use Rattle.lerc_grammar.specs.Bands.{IsLike, AreLike}
+use Rattle.raster_values.specs.Bands.{IsLike, AreLike}
 
 pub same_previous : (r s : Pixels) (step : ℕ) → Near r s step → previous_of r ≡ previous_of s
 same_previous r s step n = λ i. record { rows = n.rows i; cols = n.cols i; marks = n.marks i }

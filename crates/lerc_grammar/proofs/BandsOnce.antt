@@ -20,7 +20,8 @@ use Rattle.lerc_grammar.specs.declared.bands.BandReason.{BandReason}
 use Rattle.lerc_grammar.specs.declared.bands.BandReason.TheVariants.{Blob as OfBlob, BadBand}
 use Rattle.lerc_grammar.specs.Mask.{Previous, previous_of}
 use Rattle.lerc_grammar.specs.Blob.{BlobAfter, IsJoinAfter, BlobParts, blob_faults}
-use Rattle.lerc_grammar.specs.Bands.{IsLike, AreLike, MayBeBands, AreBands, BlobsAfter, BandsBlob, last_after, unlike_faults, BandFault, unlike, in_blob, IsBegun, cut_faults, next_faults, Behind, BandsFaultAt, BandsVerdict, Decoded, Refused, IsBandsVerdict}
+use Rattle.raster_values.specs.Bands.{IsLike, AreLike, MayBeBands, AreBands}
+use Rattle.lerc_grammar.specs.Bands.{BlobsAfter, BandsBlob, last_after, unlike_faults, BandFault, unlike, in_blob, IsBegun, cut_faults, next_faults, Behind, BandsFaultAt, BandsVerdict, Decoded, Refused, IsBandsVerdict}
 use Rattle.lerc_grammar.proofs.Verdicts.{done_once, done_head, done_or_fault, one_fault}
 use Rattle.lerc_grammar.specs.Verdict.{IsDoneAfter}
 

@@ -11,7 +11,8 @@ use Rattle.lerc_header.specs.declared.fault.BlobReason.TheVariants.{Truncated, L
 use Rattle.lerc_grammar.specs.declared.bands.BandReason.{BandReason}
 use Rattle.lerc_grammar.specs.declared.bands.BandReason.TheVariants.{Blob as OfBlob}
 use Rattle.lerc_grammar.specs.Verdict.{FirstFaultAfter, IsMoreAfter, IsDoneAfter}
-use Rattle.lerc_grammar.specs.Bands.{MayBeBands, BlobsAfter, BandsBlob, last_after, unlike_faults, HasLikeHead, IsBegun, IsNoBlob, FirstBandsFault, IsLeastFault, BandsVerdict, Decoded, Refused, IsBandsVerdict}
+use Rattle.raster_values.specs.Bands.{MayBeBands}
+use Rattle.lerc_grammar.specs.Bands.{BlobsAfter, BandsBlob, last_after, unlike_faults, HasLikeHead, IsBegun, IsNoBlob, FirstBandsFault, IsLeastFault, BandsVerdict, Decoded, Refused, IsBandsVerdict}
 use Rattle.std.proofs.lemmas.List.Elements.{All-nil}
 use Rattle.lerc_header.proofs.Prefixes.{head_of_take}
 use Rattle.lerc_header.proofs.HeadLemmas.{one_head}

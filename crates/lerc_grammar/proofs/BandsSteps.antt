@@ -19,7 +19,8 @@ use Rattle.lerc_grammar.specs.declared.bands.BandReason.TheVariants.{Blob as OfB
 use Rattle.lerc_grammar.specs.Mask.{Previous}
 use Rattle.lerc_grammar.specs.Blob.{BlobAfter}
 use Rattle.lerc_grammar.specs.Verdict.{FirstFaultAfter, of_key, of_field, of_blob, IsMoreAfter, IsDoneAfter}
-use Rattle.lerc_grammar.specs.Bands.{MayBeBands, AreBands, BlobsAfter, BandsBlob, last_after, unlike_faults, HasLikeHead, BandFault, unlike, in_blob, IsBegun, IsNoBlob, next_decided, cut_faults, next_faults, Behind, FirstBandsFault, IsLeastFault, BandsFaultAt, Decoded, Refused}
+use Rattle.raster_values.specs.Bands.{MayBeBands, AreBands}
+use Rattle.lerc_grammar.specs.Bands.{BlobsAfter, BandsBlob, last_after, unlike_faults, HasLikeHead, BandFault, unlike, in_blob, IsBegun, IsNoBlob, next_decided, cut_faults, next_faults, Behind, FirstBandsFault, IsLeastFault, BandsFaultAt, Decoded, Refused}
 use Rattle.lerc_grammar.specs.BandsReading.{IsBehind, IsInside, IsBetween}
 use Rattle.lerc_grammar.proofs.Verdicts.{fault_stays, no_key_fault, no_field_fault}
 use Rattle.lerc_grammar.proofs.BandsOnce.{band_or_cut, same_chain, one_bands_verdict}

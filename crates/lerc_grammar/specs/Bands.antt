@@ -1,9 +1,10 @@
 -- A tile: the blobs of its bands, one behind the other, what is wrong first where bytes are none,
 -- and the verdict on a whole input.
-use Rattle.std.specs.Prelude.{◌≡◌, ℕ, ◌+◌, ◌*◌, ◌<◌, ◌≤◌, ◌⊎◌, List, [], ◌∷◌, ◌++◌, length, take, codes, Option, None, Some, All}
+use Rattle.std.specs.Prelude.{◌≡◌, ℕ, ◌+◌, ◌*◌, ◌<◌, ◌≤◌, ◌⊎◌, List, [], ◌∷◌, ◌++◌, length, take, codes, Option, None, Some}
 use Rattle.first_fault.specs.Parts.{IsEmpty}
 use Rattle.first_fault.specs.Faults.{Faults, none, wrong, choice, unless, moved, ends}
-use Rattle.raster_values.specs.Raster.{Pixels, IsRaster}
+use Rattle.raster_values.specs.Raster.{Pixels}
+use Rattle.raster_values.specs.Bands.{MayBeBands, AreBands}
 use Rattle.lerc_header.specs.declared.header.Header.{Header}
 use Rattle.lerc_header.specs.Head.{HeadAt, shift}
 use Rattle.lerc_header.specs.HeadFaults.{HasKey}
@@ -14,31 +15,6 @@ use Rattle.lerc_grammar.specs.declared.bands.BandReason.TheVariants.{Blob as OfB
 use Rattle.lerc_grammar.specs.Mask.{Previous, previous_of}
 use Rattle.lerc_grammar.specs.Blob.{BlobAfter}
 use Rattle.lerc_grammar.specs.Verdict.{FirstFaultAfter, IsMoreAfter}
-
--- ---- bands (these first words stand in raster_values)
-
--- two rasters of one type and shape
-pub record IsLike (r s : Pixels) : Type 0 where
-  pub rows : s.rows ≡ r.rows
-  pub cols : s.cols ≡ r.cols
-  pub depth : s.depth ≡ r.depth
-  pub kind : s.kind ≡ r.kind
-
--- all are like the first, and have at most 2 ^ 24 values together
-abbrev pub AreLike : List Pixels → Type 0
-AreLike [] = Unit {0}
-AreLike (r ∷ more) = All (IsLike r) more
-    × ((1 + length more) * (r.rows * r.cols * r.depth) ≤ 16777216)
-
--- at most 16 rasters that may be bands of one tile
-pub record MayBeBands (bands : List Pixels) : Type 0 where
-  pub few : length bands ≤ 16
-  pub sound : All IsRaster bands
-  pub like : AreLike bands
-
--- and at least one
-abbrev pub AreBands : List Pixels → Type 0
-AreBands bands = (0 < length bands) × MayBeBands bands
 
 -- ---- the blobs of bands
 

@@ -5,7 +5,8 @@ use Rattle.lerc_header.specs.declared.fault.BlobReason.TheVariants.{Truncated, L
 use Rattle.lerc_grammar.specs.declared.bands.BandReason.{BandReason}
 use Rattle.lerc_grammar.specs.declared.bands.BandReason.TheVariants.{Blob as OfBlob}
 use Rattle.lerc_grammar.specs.Verdict.{IsMoreAfter}
-use Rattle.lerc_grammar.specs.Bands.{MayBeBands, BlobsAfter, last_after, HasLikeHead, IsBegun, FirstBandsFault, IsLeastFault, BandsVerdict, Decoded, Refused, IsBandsVerdict}
+use Rattle.raster_values.specs.Bands.{MayBeBands}
+use Rattle.lerc_grammar.specs.Bands.{BlobsAfter, last_after, HasLikeHead, IsBegun, FirstBandsFault, IsLeastFault, BandsVerdict, Decoded, Refused, IsBandsVerdict}
 
 -- behind the blobs of bands
 pub record IsBehind (taken : List ℕ) (bands : List Pixels) (front rest : List ℕ) : Type 0 where
