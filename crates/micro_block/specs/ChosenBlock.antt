@@ -1,5 +1,5 @@
 -- The block that is written for given values, of all those that could be.
-use Rattle.std.specs.Prelude.{ℕ, ℤ, pos, ◌+◌, ◌*◌, ◌/◌, ◌%◌, ◌^◌, Bool, ◌×◌, ◌&&◌, not, nat_eq, nat_le}
+use Rattle.std.specs.Prelude.{ℕ, ℤ, pos, ◌+◌, ◌*◌, ◌/◌, ◌%◌, ◌^◌, Bool, ◌&&◌, not, nat_eq, nat_le}
 use Rattle.std.specs.Prelude.{nat_lt, int_le, if◌then◌else◌, List, [], ◌∷◌, ◌++◌, length, map}
 use Rattle.std.specs.Prelude.{◌≡◌, true, Option, Some, unwrap_or, unsigned_abs, fold}
 use Rattle.std.specs.Int.{int_min}

@@ -1,5 +1,5 @@
 -- The first of the least so far, as the sizes come.
-use Rattle.std.specs.Prelude.{ℕ, nat_lt, if◌then◌else◌, ◌×◌, Option, None, Some}
+use Rattle.std.specs.Prelude.{ℕ, nat_lt, if◌then◌else◌, Option, None, Some}
 
 -- the place and the size of the first of the least so far, and one more
 abbrev pub former_of : Option (ℕ × ℕ) → ℕ → Option ℕ → Option (ℕ × ℕ)
