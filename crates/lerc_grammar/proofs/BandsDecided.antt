@@ -1,30 +1,26 @@
 -- A whole input has a verdict of bands.
 use Rattle.std.proofs.Common.{◌≡◌, ℕ, ◌+◌, ◌*◌, ◌<◌, ◌≤◌, zero, suc, List, [], ◌∷◌, ◌++◌, length, get_or, take, drop, Option, None, Some, All, refl, sym, ap, ◌∙◌, subst, arith, ◌⊎◌, inl, inr, codes}
 use Rattle.std.specs.Prelude.{is_some}
-use Rattle.std.proofs.lemmas.Bool.{cases_lt}
-use Rattle.std.proofs.lemmas.List.{length-append, length-map, append_assoc, append-nil, length-take-le, take-append-drop, drop_at}
+use Rattle.std.proofs.lemmas.List.{length-append, length-map, append_assoc, append-nil, take-append-drop, drop_at}
 use Rattle.std.proofs.lemmas.List.Elements.{All-nil, All-cons, All-head, All-tail, All-append}
-use Rattle.first_fault.specs.Faults.{Faults, none, wrong, choice, unless, moved, ends}
+use Rattle.first_fault.specs.Faults.{none, wrong}
 use Rattle.first_fault.specs.Parts.{AreBytes, HasFault, IsEmpty}
 use Rattle.first_fault.proofs.Decided.{decided_unless}
 use Rattle.raster_values.specs.Raster.{Pixels, IsRaster}
 use Rattle.lerc_header.specs.declared.header.Header.{Header}
-use Rattle.lerc_header.specs.declared.header.Version.{Version}
 use Rattle.lerc_header.specs.Head.{HeadAt, shift}
 use Rattle.lerc_header.specs.HeadFaults.{HasKey, header_faults}
 use Rattle.lerc_header.proofs.DecidedHeads.{header_or_fault}
 use Rattle.lerc_header.proofs.HeadLemmas.{kind_once, one_head}
 use Rattle.raster_values.specs.PixelType.{code_of}
 use Rattle.raster_values.specs.declared.kind.PixelType.{PixelType}
-use Rattle.lerc_header.specs.declared.fault.BlobReason.{BlobReason}
 use Rattle.lerc_header.specs.declared.fault.BlobReason.TheVariants.{Truncated, TooLarge, Leftover}
-use Rattle.lerc_grammar.specs.declared.bands.BandReason.{BandReason}
 use Rattle.lerc_grammar.specs.declared.bands.BandReason.TheVariants.{Blob as OfBlob, BadBand}
 use Rattle.lerc_grammar.specs.Mask.{Previous, previous_of}
 use Rattle.lerc_grammar.specs.Laws.{IsPrevious}
 use Rattle.lerc_grammar.specs.Blob.{BlobAfter}
-use Rattle.raster_values.specs.Bands.{IsLike, AreLike, MayBeBands, AreBands}
-use Rattle.lerc_grammar.specs.Bands.{BlobsAfter, BandsBlob, last_after, unlike_faults, BandFault, unlike, in_blob, IsBegun, cut_faults, next_faults, BandsVerdict, Decoded, Refused, IsBandsVerdict}
+use Rattle.raster_values.specs.Bands.{IsLike, AreLike, MayBeBands}
+use Rattle.lerc_grammar.specs.Bands.{BlobsAfter, last_after, unlike_faults, BandFault, unlike, in_blob, IsBegun, cut_faults, next_faults, BandsVerdict, Decoded, Refused, IsBandsVerdict}
 use Rattle.lerc_grammar.proofs.Cases.{Decided, decide_le, decide_nat, decide_or, decide_and, decide_empty, its_fault}
 use Rattle.lerc_grammar.proofs.Bytes.{bytes_in_drop}
 use Rattle.lerc_grammar.proofs.BlobDecided.{some_verdict}
@@ -99,9 +95,10 @@ like_next [] h r sound like is at = (All-nil (IsLike r), (let t : (1 + 0) * (r.r
 like_next (x ∷ more) h r sound (all, size) (rows, (cols, (depth, (kind, fits)))) (hr, (hc, (hd, hk))) =
     let l : IsLike x r = record { rows = sym hr ∙ rows; cols = sym hc ∙ cols; depth = sym hd ∙ depth; kind = sym hk ∙ kind } in
     let n : h.rows * h.cols * h.depth ≡ x.rows * x.cols * x.depth = λ i. rows i * cols i * depth i in
-    let t : 1 + length (more ++ r ∷ []) ≡ 2 + length more = omega (arith, length-append more (r ∷ [])) in
-    (All-append (IsLike x) more (r ∷ []) all (All-cons (IsLike x) r [] l (All-nil (IsLike x))),
-    subst (λ (k : ℕ). k * (x.rows * x.cols * x.depth) ≤ 16777216) (sym t) (subst (λ (k : ℕ). (2 + length more) * k ≤ 16777216) n fits))
+    let t : 1 + length (more ++ r ∷ []) ≡ 2 + length more = omega (arith, length-append more (r ∷ [])) in (
+      All-append (IsLike x) more (r ∷ []) all (All-cons (IsLike x) r [] l (All-nil (IsLike x))),
+      subst (λ (k : ℕ). k * (x.rows * x.cols * x.depth) ≤ 16777216) (sym t) (subst (λ (k : ℕ). (2 + length more) * k ≤ 16777216) n fits),
+    )
 
 pub next_may_be : (bands : List Pixels) (rest : List ℕ) (r : Pixels) (size : ℕ) → MayBeBands bands → length bands < 16 → IsDoneAfter (last_after None bands) rest r size → ((h : Header) → HeadAt rest h → IsHeaderFor bands h) → MayBeBands (bands ++ r ∷ [])
 next_may_be bands rest r size m few done like =

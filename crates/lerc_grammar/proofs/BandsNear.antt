@@ -28,7 +28,8 @@ pub near_like : (rs ss : List Pixels) (step : ℕ) → NearEach rs ss step → A
 near_like [] [] step n like = tt
 near_like [] (s ∷ ss) step n like = absurd n
 near_like (r ∷ rs) [] step n like = absurd n
-near_like (r ∷ rs) (s ∷ ss) step n like =
-    (all_like r s rs ss step n.0 n.1 like.0,
-    subst (λ (k : ℕ). (1 + k) * (s.rows * s.cols * s.depth) ≤ 16777216) (near_long rs ss step n.1)
-    (subst (λ (k : ℕ). (1 + length rs) * k ≤ 16777216) (λ i. n.0.rows i * n.0.cols i * n.0.depth i) like.1))
+near_like (r ∷ rs) (s ∷ ss) step n like = (
+  all_like r s rs ss step n.0 n.1 like.0,
+  subst (λ (k : ℕ). (1 + k) * (s.rows * s.cols * s.depth) ≤ 16777216) (near_long rs ss step n.1)
+      (subst (λ (k : ℕ). (1 + length rs) * k ≤ 16777216) (λ i. n.0.rows i * n.0.cols i * n.0.depth i) like.1),
+)

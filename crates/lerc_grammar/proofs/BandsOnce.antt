@@ -1,27 +1,25 @@
 -- A whole input has one verdict of bands at most.
-use Rattle.std.proofs.Common.{◌≡◌, ℕ, ◌+◌, ◌*◌, ◌<◌, ◌≤◌, suc, List, [], ◌∷◌, ◌++◌, length, take, drop, Option, None, Some, All, refl, sym, ap, ◌∙◌, subst, arith, ◌⊎◌, inl, inr}
+use Rattle.std.proofs.Common.{◌≡◌, ℕ, ◌+◌, ◌*◌, ◌<◌, ◌≤◌, List, [], ◌∷◌, ◌++◌, length, take, Option, None, Some, All, refl, sym, ap, ◌∙◌, subst, arith, ◌⊎◌, inl, inr}
 use Rattle.std.proofs.lemmas.Bool.{cases_lt}
 use Rattle.std.proofs.lemmas.List.Elements.{All-nil, All-cons, All-head, All-tail}
 use Rattle.std.proofs.Math.Nat.{mul-le-mul_right}
-use Rattle.std.proofs.lemmas.List.{length-append, append_assoc, append-nil, take_at, length-take-le}
-use Rattle.first_fault.specs.Faults.{Faults, none, wrong, choice, unless, moved, ends}
+use Rattle.std.proofs.lemmas.List.{length-append, append_assoc, append-nil, take_at}
+use Rattle.first_fault.specs.Faults.{none, wrong, moved, ends}
 use Rattle.first_fault.specs.Parts.{IsSingle, IsEmpty}
 use Rattle.first_fault.proofs.Parts.{single-none, single-wrong, single-choice, single-unless, single-moved, single-ends, empty-choice, empty-moved, same_rest}
 use Rattle.raster_values.specs.Raster.{Pixels, IsRaster}
 use Rattle.lerc_header.specs.declared.header.Header.{Header}
-use Rattle.lerc_header.specs.Head.{HeadAt, head_length, shift}
-use Rattle.lerc_header.specs.HeadFaults.{HasKey, header_faults}
+use Rattle.lerc_header.specs.Head.{HeadAt, shift}
+use Rattle.lerc_header.specs.HeadFaults.{HasKey}
 use Rattle.lerc_header.proofs.HeadLemmas.{one_head}
-use Rattle.lerc_header.proofs.Prefixes.{head_more, head_in_take}
-use Rattle.lerc_header.proofs.FaultLemmas.{empty-header}
-use Rattle.lerc_header.specs.declared.fault.BlobReason.{BlobReason}
+use Rattle.lerc_header.proofs.Prefixes.{head_more}
 use Rattle.lerc_header.specs.declared.fault.BlobReason.TheVariants.{Truncated, TooLarge, Leftover}
 use Rattle.lerc_grammar.specs.declared.bands.BandReason.{BandReason}
 use Rattle.lerc_grammar.specs.declared.bands.BandReason.TheVariants.{Blob as OfBlob, BadBand}
 use Rattle.lerc_grammar.specs.Mask.{Previous, previous_of}
-use Rattle.lerc_grammar.specs.Blob.{BlobAfter, IsJoinAfter, BlobParts, blob_faults}
-use Rattle.raster_values.specs.Bands.{IsLike, AreLike, MayBeBands, AreBands}
-use Rattle.lerc_grammar.specs.Bands.{BlobsAfter, BandsBlob, last_after, unlike_faults, BandFault, unlike, in_blob, IsBegun, cut_faults, next_faults, Behind, BandsFaultAt, BandsVerdict, Decoded, Refused, IsBandsVerdict}
+use Rattle.lerc_grammar.specs.Blob.{BlobAfter}
+use Rattle.raster_values.specs.Bands.{IsLike, AreLike, MayBeBands}
+use Rattle.lerc_grammar.specs.Bands.{BlobsAfter, BandsBlob, last_after, unlike_faults, BandFault, unlike, in_blob, IsBegun, cut_faults, next_faults, BandsFaultAt, BandsVerdict, Decoded, Refused, IsBandsVerdict}
 use Rattle.lerc_grammar.proofs.Verdicts.{done_once, done_head, done_or_fault, one_fault}
 use Rattle.lerc_grammar.specs.Verdict.{IsDoneAfter}
 

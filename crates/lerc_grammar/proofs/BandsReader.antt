@@ -1,25 +1,22 @@
 -- The steps of a reader of bands: where it is, and how each step leaves it.
-use Rattle.std.proofs.Common.{◌≡◌, ℕ, ◌+◌, ◌-◌, ◌*◌, ◌<◌, ◌≤◌, suc, List, [], ◌∷◌, ◌++◌, length, get_or, take, drop, codes, Option, None, Some, refl, sym, ap, ◌∙◌, subst, arith, ◌⊎◌, inl, inr}
+use Rattle.std.proofs.Common.{◌≡◌, ℕ, ◌+◌, ◌-◌, ◌<◌, ◌≤◌, suc, List, [], ◌∷◌, ◌++◌, length, take, codes, None, Some, refl, sym, ap, ◌∙◌, subst, arith, ◌⊎◌, inl, inr}
 use Rattle.std.proofs.lemmas.List.{length-append, append_assoc, append-nil, length-take-le, take_all, take_at}
 use Rattle.std.proofs.Math.Seq.{take-append-add}
 use Rattle.raster_values.specs.Raster.{Pixels, IsRaster}
 use Rattle.lerc_header.specs.declared.header.Header.{Header}
 use Rattle.lerc_header.specs.Head.{HeadAt, head_length}
-use Rattle.lerc_header.specs.HeadFaults.{HasKey}
 use Rattle.lerc_header.specs.declared.fault.BlobReason.{BlobReason}
-use Rattle.lerc_header.specs.declared.fault.BlobReason.TheVariants.{Truncated, Leftover}
+use Rattle.lerc_header.specs.declared.fault.BlobReason.TheVariants.{Leftover}
 use Rattle.lerc_grammar.specs.declared.bands.BandReason.{BandReason}
 use Rattle.lerc_grammar.specs.declared.bands.BandReason.TheVariants.{Blob as OfBlob}
 use Rattle.lerc_grammar.specs.Verdict.{FirstFaultAfter, IsMoreAfter, IsDoneAfter}
-use Rattle.raster_values.specs.Bands.{MayBeBands}
-use Rattle.lerc_grammar.specs.Bands.{BlobsAfter, BandsBlob, last_after, unlike_faults, HasLikeHead, IsBegun, IsNoBlob, FirstBandsFault, IsLeastFault, BandsVerdict, Decoded, Refused, IsBandsVerdict}
+use Rattle.lerc_grammar.specs.Bands.{last_after, unlike_faults, HasLikeHead, IsBegun, IsNoBlob, FirstBandsFault, Refused}
 use Rattle.std.proofs.lemmas.List.Elements.{All-nil}
 use Rattle.lerc_header.proofs.Prefixes.{head_of_take}
 use Rattle.lerc_header.proofs.HeadLemmas.{one_head}
 use Rattle.lerc_grammar.specs.Blob.{BlobAfter}
 use Rattle.lerc_grammar.proofs.BandsOnce.{same_faults}
 use Rattle.lerc_grammar.proofs.More.{more_key}
-use Rattle.lerc_grammar.proofs.Verdicts.{done_head}
 use Rattle.lerc_grammar.specs.BandsReading.{IsBehind, IsInside, IsBetween, Spot, InBlob, BehindBlob, Wrong, NoMemory, IsSpotOf, finished, IsVerdictOf}
 use Rattle.lerc_grammar.proofs.BandsDecided.{last_next, next_may_be, IsHeaderFor}
 use Rattle.lerc_grammar.proofs.BandsSteps.{cut_there, inside_undecided, whole_there, left_there, between_undecided, decided_is, least_of_last, unlike_there, fault_there, left_decided}
@@ -94,15 +91,16 @@ pub step_wrong : (taken piece : List ℕ) (bands : List Pixels) (front rest : Li
     → IsSpotOf (taken ++ piece) (Wrong (length front + p) (OfBlob why))
 step_wrong taken piece bands front rest p why i some begun like fault before still =
     let t = rest ++ piece in
-    let m = length t - 1 in
-    (fault_there (taken ++ piece) bands front t p why (behind_more taken piece bands front rest i.behind) begun like fault,
-    least_of_last (taken ++ piece) (λ q a w. inside_undecided (take (length (taken ++ piece) - 1) (taken ++ piece)) bands front (take m t)
-    (record {
-      behind = record { joined = shorter taken piece front rest i.behind.joined some; may_be = i.behind.may_be; stand = i.behind.stand };
-      begun = still;
-      like = λ h head. like h (head_of_take m t h head);
-      more = before;
-    }) q a w))
+    let m = length t - 1 in (
+      fault_there (taken ++ piece) bands front t p why (behind_more taken piece bands front rest i.behind) begun like fault,
+      least_of_last (taken ++ piece) (λ q a w. inside_undecided (take (length (taken ++ piece) - 1) (taken ++ piece)) bands front (take m t)
+          (record {
+            behind = record { joined = shorter taken piece front rest i.behind.joined some; may_be = i.behind.may_be; stand = i.behind.stand };
+            begun = still;
+            like = λ h head. like h (head_of_take m t h head);
+            more = before;
+          }) q a w),
+    )
 
 -- the header is whole with this piece, and not like the first
 pub step_unlike : (taken piece : List ℕ) (bands : List Pixels) (front rest : List ℕ) (h : Header) (p : ℕ) (a : BandReason) → IsInside taken bands front rest → 0 < length piece → IsBegun bands (rest ++ piece)
@@ -111,17 +109,18 @@ pub step_unlike : (taken piece : List ℕ) (bands : List Pixels) (front rest : L
 step_unlike taken piece bands front rest h p a i some begun head long w before still =
     let t = rest ++ piece in
     let m = length t - 1 in
-    let cut = length-take-le m t (omega arith) in
-    (unlike_there (taken ++ piece) bands front t h p a (behind_more taken piece bands front rest i.behind) begun head w,
-    least_of_last (taken ++ piece) (λ q b w. inside_undecided (take (length (taken ++ piece) - 1) (taken ++ piece)) bands front (take m t)
-    (record {
-      behind = record { joined = shorter taken piece front rest i.behind.joined some; may_be = i.behind.may_be; stand = i.behind.stand };
-      begun = still;
-      like = λ g there. let same : g ≡ h = one_head t g h (head_of_take m t g there) head in
-          let short : head_length h.version ≤ length (take m t) = subst (λ (k : Header). head_length k.version ≤ length (take m t)) same there.long in
-          absurd (omega (arith, short, cut, long, length-append rest piece, some));
-      more = before;
-    }) q b w))
+    let cut = length-take-le m t (omega arith) in (
+      unlike_there (taken ++ piece) bands front t h p a (behind_more taken piece bands front rest i.behind) begun head w,
+      least_of_last (taken ++ piece) (λ q b w. inside_undecided (take (length (taken ++ piece) - 1) (taken ++ piece)) bands front (take m t)
+          (record {
+            behind = record { joined = shorter taken piece front rest i.behind.joined some; may_be = i.behind.may_be; stand = i.behind.stand };
+            begun = still;
+            like = λ g there. let same : g ≡ h = one_head t g h (head_of_take m t g there) head in
+                let short : head_length h.version ≤ length (take m t) = subst (λ (k : Header). head_length k.version ≤ length (take m t)) same there.long in
+                absurd (omega (arith, short, cut, long, length-append rest piece, some));
+            more = before;
+          }) q b w),
+    )
 
 -- ---- bytes behind a blob
 
@@ -151,9 +150,10 @@ step_begin taken bands front rest byte b few key =
 
 -- another byte: nothing more begins
 pub step_left : (taken : List ℕ) (bands : List Pixels) (front rest : List ℕ) (byte : ℕ) → IsBetween taken bands front rest → IsNoBlob bands (rest ++ byte ∷ []) → IsSpotOf (taken ++ byte ∷ []) (Wrong (length front) (OfBlob Leftover))
-step_left taken bands front rest byte b no_ =
-    (left_decided (taken ++ byte ∷ []) bands front (rest ++ byte ∷ []) (behind_more taken (byte ∷ []) bands front rest b.behind) no_,
-    least_of_last (taken ++ byte ∷ []) (λ q a w. between_undecided taken bands front rest b q a (subst (λ (u : List ℕ). FirstBandsFault u q a) back w)))
+step_left taken bands front rest byte b no_ = (
+  left_decided (taken ++ byte ∷ []) bands front (rest ++ byte ∷ []) (behind_more taken (byte ∷ []) bands front rest b.behind) no_,
+  least_of_last (taken ++ byte ∷ []) (λ q a w. between_undecided taken bands front rest b q a (subst (λ (u : List ℕ). FirstBandsFault u q a) back w)),
+)
   where
     back : take (length (taken ++ byte ∷ []) - 1) (taken ++ byte ∷ []) ≡ taken
     back = take_at taken (byte ∷ []) (length (taken ++ byte ∷ []) - 1) (let l = length-append taken (byte ∷ []) in omega (arith, l))

@@ -1,13 +1,10 @@
 -- What a reader of bands knows at each of its steps.
-use Rattle.std.proofs.Common.{◌≡◌, ℕ, ◌+◌, ◌-◌, ◌*◌, ◌<◌, ◌≤◌, List, [], ◌∷◌, ◌++◌, length, take, drop, codes, min, Option, None, Some, refl, sym, ap, ◌∙◌, subst, arith, ◌⊎◌, inl, inr}
+use Rattle.std.proofs.Common.{◌≡◌, ℕ, ◌+◌, ◌-◌, ◌<◌, ◌≤◌, List, [], ◌++◌, length, take, drop, codes, min, None, refl, sym, ap, ◌∙◌, subst, arith, ◌⊎◌, inl, inr}
 use Rattle.std.proofs.lemmas.Bool.{cases_lt}
 use Rattle.std.proofs.lemmas.List.{length-append, append_assoc, append-nil, length-take, take_all, take-append-drop, take-append-le, take-take, take_at}
-use Rattle.first_fault.specs.Faults.{Faults, moved}
 use Rattle.first_fault.specs.Parts.{IsEmpty}
-use Rattle.first_fault.proofs.Parts.{same_rest}
-use Rattle.raster_values.specs.Raster.{Pixels, IsRaster}
+use Rattle.raster_values.specs.Raster.{Pixels}
 use Rattle.lerc_header.specs.declared.header.Header.{Header}
-use Rattle.lerc_header.specs.declared.header.Version.{Version}
 use Rattle.lerc_header.specs.Head.{HeadAt, head_length}
 use Rattle.lerc_header.specs.HeadFaults.{HasKey, HasVersion, key_faults, field_faults}
 use Rattle.lerc_header.proofs.HeadLemmas.{one_head}
@@ -16,11 +13,8 @@ use Rattle.lerc_header.specs.declared.fault.BlobReason.{BlobReason}
 use Rattle.lerc_header.specs.declared.fault.BlobReason.TheVariants.{Truncated, Leftover}
 use Rattle.lerc_grammar.specs.declared.bands.BandReason.{BandReason}
 use Rattle.lerc_grammar.specs.declared.bands.BandReason.TheVariants.{Blob as OfBlob}
-use Rattle.lerc_grammar.specs.Mask.{Previous}
-use Rattle.lerc_grammar.specs.Blob.{BlobAfter}
-use Rattle.lerc_grammar.specs.Verdict.{FirstFaultAfter, of_key, of_field, of_blob, IsMoreAfter, IsDoneAfter}
-use Rattle.raster_values.specs.Bands.{MayBeBands, AreBands}
-use Rattle.lerc_grammar.specs.Bands.{BlobsAfter, BandsBlob, last_after, unlike_faults, HasLikeHead, BandFault, unlike, in_blob, IsBegun, IsNoBlob, next_decided, cut_faults, next_faults, Behind, FirstBandsFault, IsLeastFault, BandsFaultAt, Decoded, Refused}
+use Rattle.lerc_grammar.specs.Verdict.{FirstFaultAfter, of_key, of_field, of_blob}
+use Rattle.lerc_grammar.specs.Bands.{BlobsAfter, BandsBlob, last_after, unlike_faults, HasLikeHead, BandFault, unlike, in_blob, IsBegun, IsNoBlob, next_decided, next_faults, FirstBandsFault, IsLeastFault, BandsFaultAt, Decoded, Refused}
 use Rattle.lerc_grammar.specs.BandsReading.{IsBehind, IsInside, IsBetween}
 use Rattle.lerc_grammar.proofs.Verdicts.{fault_stays, no_key_fault, no_field_fault}
 use Rattle.lerc_grammar.proofs.BandsOnce.{band_or_cut, same_chain, one_bands_verdict}
