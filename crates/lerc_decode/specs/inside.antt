@@ -1,3 +1,6 @@
+pub mod Bands
+pub mod BandsFeeding
+pub mod BandsStages
 pub mod Before
 pub mod Blocks
 pub mod Body
@@ -6,3 +9,4 @@ pub mod Feeding
 pub mod Inside
 pub mod Stages
 pub mod Steps
+pub mod Turns

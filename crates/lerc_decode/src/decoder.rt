@@ -4,9 +4,9 @@ ghost use Rattle.std.specs.Prelude.{◌≡◌, ◌<◌, ◌≤◌, ◌+◌, ◌-
 ghost use Rattle.lerc_header.specs.Head.{HeadAt, head_length};
 ghost use Rattle.lerc_header.specs.HeadFaults.{HasKey, HasVersion};
 ghost use Rattle.lerc_grammar.specs.Mask.{Previous, previous_of};
-ghost use Rattle.lerc_decode.specs.Decoding.{Key, HasTaken, IsSame, IsStageOf};
+ghost use Rattle.lerc_decode.specs.Decoding.{Key, Whole, HasTaken, IsSame, IsStageOf};
 ghost use Rattle.lerc_decode.specs.inside.Steps.{StepsKey, StepsFields, StepsBody};
-ghost use Rattle.lerc_decode.specs.inside.Stages.{stage_of, KeepsHead, HasEnded};
+ghost use Rattle.lerc_decode.specs.inside.Stages.{stage_of, header_in, KeepsHead, HasEnded};
 ghost use Rattle.lerc_decode.specs.States.{state_at, missing_at, IsTold, HasStopped, IsFinished, IsUsed};
 ghost use Rattle.lerc_decode.specs.inside.Steps.{UsesKey, UsesFields, UsesBody};
 
@@ -306,6 +306,29 @@ impl Decoder {
             Progress::Done(_) => 0,
             Progress::Refused(_) => 0,
             Progress::OutOfMemory => 0,
+        }
+    }
+
+    /// The header, once it is whole and while the blob is not.
+    pub(crate) fn header(&self) -> Option<Header>
+        ensures { result ≡ header_in self.now.stage }
+    {
+        match &self.progress {
+            Progress::Body(header) => Some(*header),
+            _ => None,
+        }
+    }
+
+    /// The raster of the whole blob, and its bytes.
+    pub(crate) fn ended(self) -> (Raster, Vec<u8>)
+        requires { state_at self.stage ≡ FedState.Done }
+        ensures raster { self.stage ≡ Whole result.0 }
+        ensures bytes { result.1.items ≡ self.taken }
+    {
+        let Decoder { blob, progress, .. } = self;
+        match progress {
+            Progress::Done(raster) => (raster, blob),
+            _ => unreachable!(),
         }
     }
 

@@ -20,8 +20,8 @@ use Rattle.raster_values.proofs.Spelled.{few_bytes}
 use Rattle.raster_values.proofs.Views.{zero_in_range}
 use Rattle.lerc_header.specs.declared.header.Header.{Header}
 use Rattle.micro_block.specs.Fewest.{first_least}
-use Rattle.micro_block.specs.Choice as micro
-use Rattle.micro_block.specs.Choice.{block_bytes, chosen_form, form_bytes, forms}
+use Rattle.micro_block.specs.ChosenBlock as micro
+use Rattle.micro_block.specs.ChosenBlock.{block_bytes, chosen_form, written_form_bytes, forms}
 use Rattle.micro_block.proofs.Fewest.{IsTaken, is_first_least}
 use Rattle.lerc_grammar.specs.Blocks.{blocks_across, blocks_down, coded_blocks, block_depth, block_row, block_col}
 use Rattle.lerc_encode.specs.inside.Blocked.{IsBlocked}
@@ -113,8 +113,8 @@ block_gathered h r is kind same out rest row col side d n e joined =
 
 -- ---- how long
 
-length_raw : (kind : PixelType) (col step : ℕ) (values : List ℤ) → length (form_bytes kind col step values micro.raw) ≡ 1 + length values * bytes_of kind
-unfolding form_bytes
+length_raw : (kind : PixelType) (col step : ℕ) (values : List ℤ) → length (written_form_bytes kind col step values micro.raw) ≡ 1 + length values * bytes_of kind
+unfolding written_form_bytes
 length_raw kind col step values = let long = length-values_bytes kind values in omega (arith, long)
 
 -- the raw form is always there
@@ -122,10 +122,10 @@ pub chosen_few : (kind : PixelType) (col step : ℕ) (values : List ℤ) → len
 unfolding block_bytes chosen_form
 chosen_few kind col step values = few (first_least size (forms step values)) (is_first_least size (forms step values))
   where
-    size : micro.Form → ℕ
-    size form = length (form_bytes kind col step values form)
+    size : micro.WrittenForm → ℕ
+    size form = length (written_form_bytes kind col step values form)
 
-    few : (taken : Option micro.Form) → IsTaken (λ form. length (form_bytes kind col step values form)) (forms step values) taken → length (form_bytes kind col step values (unwrap_or taken micro.raw)) ≤ 1 + length values * bytes_of kind
+    few : (taken : Option micro.WrittenForm) → IsTaken (λ form. length (written_form_bytes kind col step values form)) (forms step values) taken → length (written_form_bytes kind col step values (unwrap_or taken micro.raw)) ≤ 1 + length values * bytes_of kind
     few None h = let long = length_raw kind col step values in omega (arith, long)
     few (Some form) h = let low = h.1.least 2 micro.raw refl in let long = length_raw kind col step values in omega (arith, low, long)
 

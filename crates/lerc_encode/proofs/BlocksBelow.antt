@@ -18,8 +18,8 @@ use Rattle.raster_values.specs.Grid.{values_bytes}
 use Rattle.raster_values.specs.Raster.{Pixels}
 use Rattle.raster_values.proofs.Every.{Every, every_append, every_flat_map}
 use Rattle.lerc_header.specs.declared.header.Header.{Header}
-use Rattle.micro_block.specs.Choice as choice
-use Rattle.micro_block.specs.Choice.{Form, May, block_bytes, chosen_form, form_bytes, holds, is_flat, is_stuffable, least_value, narrow_type, narrowest, offset_bytes, quantised_values, tag_byte}
+use Rattle.micro_block.specs.ChosenBlock as micro
+use Rattle.micro_block.specs.ChosenBlock.{WrittenForm, May, block_bytes, chosen_form, written_form_bytes, holds, is_flat, is_stuffable, least_value, narrow_type, narrowest, narrow_code, offset_bytes, quantised_values, tag_byte}
 use Rattle.micro_block.proofs.Written.{chosen_may, left, right}
 use Rattle.lerc_grammar.specs.Blocks.{block_col, coded_blocks, coded_values}
 use Rattle.lerc_encode.specs.Images.{blocks_bytes, coded_bytes}
@@ -73,18 +73,22 @@ table_below xs low few =
 
 -- ---- blocks
 
-either : (b : Bool) (m n : ℕ) → m ≤ 3 → n ≤ 3 → (if b then m else n) ≤ 3
-either true m n h k = h
-either false m n h k = k
+pick : (P : ℕ × PixelType → Type 0) (b : Bool) (x y : ℕ × PixelType) → P x → P y → P (if b then x else y)
+pick P true x y h k = h
+pick P false x y h k = k
 
-narrow_few : (kind : PixelType) (v : ℤ) → narrowest kind v ≤ 3
+abbrev HasCode : ℕ × PixelType → Type 0
+HasCode named = named.0 ≤ 3
+
+narrow_few : (kind : PixelType) (v : ℤ) → HasCode (narrowest kind v)
 narrow_few I8 v = omega arith
 narrow_few U8 v = omega arith
-narrow_few I16 v = either (holds I8 v) 2 _ (omega arith) (either (holds U8 v) 1 0 (omega arith) (omega arith))
-narrow_few U16 v = either (holds U8 v) 1 0 (omega arith) (omega arith)
+narrow_few I16 v = pick HasCode (holds I8 v) (2, I8) _ (omega arith) (pick HasCode (holds U8 v) (1, U8) (0, I16) (omega arith) (omega arith))
+narrow_few U16 v = pick HasCode (holds U8 v) (1, U8) (0, U16) (omega arith) (omega arith)
 narrow_few I32 v =
-    either (holds U8 v) 3 _ (omega arith) (either (holds I16 v) 2 _ (omega arith) (either (holds U16 v) 1 0 (omega arith) (omega arith)))
-narrow_few U32 v = either (holds U8 v) 2 _ (omega arith) (either (holds U16 v) 1 0 (omega arith) (omega arith))
+    pick HasCode (holds U8 v) (3, U8) _ (omega arith)
+    (pick HasCode (holds I16 v) (2, I16) _ (omega arith) (pick HasCode (holds U16 v) (1, U16) (0, I32) (omega arith) (omega arith)))
+narrow_few U32 v = pick HasCode (holds U8 v) (2, U8) _ (omega arith) (pick HasCode (holds U16 v) (1, U16) (0, U32) (omega arith) (omega arith))
 
 tag_below : (col form code : ℕ) → form ≤ 3 → code ≤ 3 → tag_byte col form code < 256
 tag_below col form code h k = omega (arith, h, k)
@@ -99,23 +103,23 @@ width_low step values h =
     let few : binary_digits n ≤ 30 = digits-le 30 n (ltb-true n (2 ^ 30) h) in
     omega (arith, few)
 
-form_below : (kind : PixelType) (col step : ℕ) (values : List ℤ) (form : Form) → May step values form → AreBelow (form_bytes kind col step values form)
-unfolding form_bytes
-form_below kind col step values choice.zero may = (tag_below col 2 0 (omega arith) (omega arith), tt)
-form_below kind col step values choice.constant may =
-    (tag_below col 3 (narrowest kind (least_value values)) (omega arith) (narrow_few kind (least_value values)), offset_below kind (least_value values))
-form_below kind col step values choice.raw may = (tag_below col 0 0 (omega arith) (omega arith), values_below kind values)
-form_below kind col step values choice.simple may =
+form_below : (kind : PixelType) (col step : ℕ) (values : List ℤ) (form : WrittenForm) → May step values form → AreBelow (written_form_bytes kind col step values form)
+unfolding written_form_bytes
+form_below kind col step values micro.zero may = (tag_below col 2 0 (omega arith) (omega arith), tt)
+form_below kind col step values micro.constant may =
+    (tag_below col 3 (narrow_code kind (least_value values)) (omega arith) (narrow_few kind (least_value values)), offset_below kind (least_value values))
+form_below kind col step values micro.raw may = (tag_below col 0 0 (omega arith) (omega arith), values_below kind values)
+form_below kind col step values micro.simple may =
     let stuffable = right (not (is_flat step values)) (is_stuffable step values) may in (
-      tag_below col 1 (narrowest kind (least_value values)) (omega arith) (narrow_few kind (least_value values)),
+      tag_below col 1 (narrow_code kind (least_value values)) (omega arith) (narrow_few kind (least_value values)),
       joined (offset_bytes kind (least_value values)) (simple_bytes (quantised_values step values)) (offset_below kind (least_value values)) (simple_below (quantised_values step values) (width_low step values stuffable)),
     )
-form_below kind col step values choice.table may =
+form_below kind col step values micro.table may =
     let few = nat_le (distinct_above_0 (quantised_values step values)) 254 in
     let both = right (not (is_flat step values)) (is_stuffable step values && few) may in
     let stuffable = left (is_stuffable step values) few both in
     let low = leb-true (distinct_above_0 (quantised_values step values)) 254 (right (is_stuffable step values) few both) in (
-      tag_below col 1 (narrowest kind (least_value values)) (omega arith) (narrow_few kind (least_value values)),
+      tag_below col 1 (narrow_code kind (least_value values)) (omega arith) (narrow_few kind (least_value values)),
       joined (offset_bytes kind (least_value values)) (table_bytes (quantised_values step values)) (offset_below kind (least_value values)) (table_below (quantised_values step values) (width_low step values stuffable) low),
     )
 

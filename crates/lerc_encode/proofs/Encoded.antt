@@ -22,7 +22,7 @@ use Rattle.lerc_header.specs.Head.{HeadAt, head_length, i32_at, IsTwiceError}
 use Rattle.lerc_header.specs.Written.{IsHeader, AreEnds, head_bytes, field_bytes}
 use Rattle.lerc_header.specs.Checksum.{sum_of}
 use Rattle.lerc_header.proofs.WrittenHeads.{length-head, drop-head, head_stands, field-checksum}
-use Rattle.micro_block.specs.Choice as micro
+use Rattle.micro_block.specs.ChosenBlock as micro
 use Rattle.micro_block.specs.Near.{IsNear}
 use Rattle.micro_block.proofs.Fewest.{is_first_least, IsTaken}
 use Rattle.lerc_grammar.specs.Mask.{IsMask, alike, mixed, previous, count_of, IsAlike}

@@ -11,7 +11,7 @@ use Rattle.raster_values.specs.PixelType.{InRange}
 use Rattle.raster_values.specs.Flat.{EachValid, marks_of, value_in}
 use Rattle.lerc_header.specs.declared.header.Version.{Version}
 use Rattle.lerc_header.specs.declared.header.Version.TheVariants.{V3, V4}
-use Rattle.micro_block.specs.Choice as micro
+use Rattle.micro_block.specs.ChosenBlock as micro
 use Rattle.micro_block.proofs.Written.{raw_stands}
 use Rattle.lerc_grammar.specs.Image.{IsBare, IsFront, AreEqual, IsImage}
 use Rattle.lerc_grammar.specs.Image as grammar

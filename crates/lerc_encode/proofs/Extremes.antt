@@ -15,7 +15,7 @@ use mir.Syntax.{w64}
 use mir.Val.{to_z, of_z}
 use Rattle.micro_block.proofs.Written.{zero_of, least_in_range}
 use Rattle.raster_values.proofs.Views.{same_bits}
-use Rattle.micro_block.specs.Choice.{least_value}
+use Rattle.micro_block.specs.ChosenBlock.{least_value}
 use Rattle.lerc_encode.specs.Ranges.{greatest_value, depth_values, at_depth, leasts, greatests}
 use Rattle.lerc_encode.proofs.Members.{Has, at_index, index_of, in_flat_map, in_map, in_range, has_flat_map, has_map, has_range}
 

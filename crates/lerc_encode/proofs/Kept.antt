@@ -15,7 +15,7 @@ use Rattle.raster_values.specs.Flat.{marks_of, value_in, revalued}
 use Rattle.raster_values.proofs.NumberedBlocks.{block_numbered}
 use Rattle.raster_values.proofs.Revalued.{new_shape, new_marks, new_value, new_raster}
 use Rattle.lerc_header.specs.declared.header.Header.{Header}
-use Rattle.micro_block.specs.Choice as micro
+use Rattle.micro_block.specs.ChosenBlock as micro
 use Rattle.micro_block.specs.Frame.{AreWritable}
 use Rattle.micro_block.specs.Block.{IsBlock}
 use Rattle.micro_block.specs.Near.{IsNear}

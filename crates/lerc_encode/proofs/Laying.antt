@@ -16,7 +16,7 @@ use Rattle.lerc_header.specs.Head.{head_length}
 use Rattle.lerc_header.specs.Written.{head_bytes}
 use Rattle.lerc_header.specs.Checksum.{sum_of}
 use Rattle.lerc_header.proofs.WrittenHeads.{length-head}
-use Rattle.micro_block.specs.Choice.{least_value}
+use Rattle.micro_block.specs.ChosenBlock.{least_value}
 use Rattle.raster_values.proofs.Views.{same_bits}
 use Rattle.lerc_encode.specs.Ranges.{greatest_value}
 use Rattle.lerc_encode.specs.Masks.{mask_part, mask_runs_of}

@@ -14,8 +14,8 @@ use Rattle.raster_values.specs.Raster.{Pixels}
 use Rattle.raster_values.specs.Block.{block_count, block_values}
 use Rattle.lerc_header.specs.declared.header.Header.{Header}
 use Rattle.micro_block.specs.declared.context.BlockCtx.{BlockCtx}
-use Rattle.micro_block.specs.Choice as choice
-use Rattle.micro_block.specs.Choice.{block_bytes, chosen_form}
+use Rattle.micro_block.specs.ChosenBlock as micro
+use Rattle.micro_block.specs.ChosenBlock.{block_bytes, chosen_form}
 use Rattle.lerc_grammar.specs.Blocks.{blocks_across, block_col, coded_blocks, coded_values}
 use Rattle.lerc_encode.specs.Images.{coded_bytes}
 use Rattle.lerc_encode.specs.declared.blocks.Spot.{Spot}
@@ -133,10 +133,10 @@ form_there : (h : Header) (r : Pixels) (k : ℕ) (spot : Spot) → IsSpot h k sp
 form_there h r k spot at = (λ t. chosen_form h.kind (at.col t) h.step (block_values r (at.row t) (at.col t) h.side (at.depth t)))
 
 pub table_there : (h : Header) (r : Pixels) (k : ℕ) (spot : Spot) (b : Bool) → IsSpot h k spot → IsTrue b ↔ HasTableAt h r spot → IsTrue b ↔ HasTable h r k
-table_there h r k spot b at is = subst (λ (form : choice.Form). IsTrue b ↔ (form ≡ choice.table)) (form_there h r k spot at) is
+table_there h r k spot b at is = subst (λ (form : micro.WrittenForm). IsTrue b ↔ (form ≡ micro.table)) (form_there h r k spot at) is
 
 pub table_here : (h : Header) (r : Pixels) (k : ℕ) (spot : Spot) (b : Bool) → IsSpot h k spot → IsTrue b ↔ HasTable h r k → IsTrue b ↔ HasTableAt h r spot
-table_here h r k spot b at is = subst (λ (form : choice.Form). IsTrue b ↔ (form ≡ choice.table)) (sym (form_there h r k spot at)) is
+table_here h r k spot b at is = subst (λ (form : micro.WrittenForm). IsTrue b ↔ (form ≡ micro.table)) (sym (form_there h r k spot at)) is
 
 -- ---- which have a table
 

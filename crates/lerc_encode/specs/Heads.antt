@@ -3,7 +3,7 @@ use Rattle.std.specs.Prelude.{ℕ}
 use Rattle.raster_values.specs.Raster.{Pixels, valid_count, values_of}
 use Rattle.lerc_header.specs.declared.header.Header.{Header}
 use Rattle.lerc_header.specs.declared.header.Version.{Version}
-use Rattle.micro_block.specs.Choice.{least_value}
+use Rattle.micro_block.specs.ChosenBlock.{least_value}
 use Rattle.lerc_encode.specs.Ranges.{greatest_value}
 
 -- with the side of its blocks, the number of its bytes and their checksum

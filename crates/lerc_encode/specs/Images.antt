@@ -8,7 +8,7 @@ use Rattle.lerc_header.specs.declared.header.Header.{Header}
 use Rattle.lerc_header.specs.declared.header.Version.{Version}
 use Rattle.lerc_header.specs.declared.header.Version.TheVariants.{V3, V4}
 use Rattle.micro_block.specs.Fewest.{allowed, first_least}
-use Rattle.micro_block.specs.Choice.{block_bytes}
+use Rattle.micro_block.specs.ChosenBlock.{block_bytes}
 use Rattle.delta_mode.specs.Deltas.{deltas, plain as plain_symbols}
 use Rattle.lerc_grammar.specs.Blocks.{block_col, coded_blocks, coded_values}
 use Rattle.lerc_encode.specs.Heads.{header_of}

@@ -8,7 +8,7 @@ use Rattle.raster_values.specs.Raster.{Pixels, valid_count, values_of}
 use Rattle.raster_values.specs.Grid.{values_bytes}
 use Rattle.lerc_header.specs.declared.header.Version.{Version}
 use Rattle.lerc_header.specs.declared.header.Version.TheVariants.{V3, V4}
-use Rattle.micro_block.specs.Choice.{least_value}
+use Rattle.micro_block.specs.ChosenBlock.{least_value}
 pub use Rattle.raster_values.specs.Flat.{at_depth}
 unfoldable pub use Rattle.raster_values.specs.Flat.{depth_values}
 

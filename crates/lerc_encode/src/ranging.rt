@@ -4,7 +4,7 @@ ghost use Rattle.std.specs.Prelude.{◌≡◌, ◌<◌, All, IfOk, length};
 ghost use Rattle.raster_values.specs.Raster.{values_of};
 ghost use Rattle.raster_values.specs.PixelType.{InRange};
 ghost use Rattle.lane_kernels.specs.Kernels.{IsGreatest, IsLeast};
-ghost use Rattle.micro_block.specs.Choice.{least_value};
+ghost use Rattle.micro_block.specs.ChosenBlock.{least_value};
 ghost use Rattle.lerc_encode.specs.Ranges.{depth_values, greatest_value, greatests, leasts};
 
 use lane_kernels::range;

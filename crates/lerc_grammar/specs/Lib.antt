@@ -1,3 +1,5 @@
+pub mod Bands
+pub mod BandsReading
 pub mod Blob
 pub mod Blocks
 pub mod Codes

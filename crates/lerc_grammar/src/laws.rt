@@ -1,6 +1,6 @@
 //! Laws of the definitions.
 
-ghost use Rattle.lerc_grammar.specs.Laws.{NoTwoRasters, RastersArePrevious, OneFirstFault, OneVerdict, SomeVerdict, OneWholeVerdict, SomeWholeVerdict, VerdictStays};
+ghost use Rattle.lerc_grammar.specs.Laws.{NoTwoRasters, RastersArePrevious, OneFirstFault, OneVerdict, SomeVerdict, OneWholeVerdict, SomeWholeVerdict, VerdictStays, OneBandsVerdict, NoTwoBands, SomeBandsVerdict, BandsFaultStays};
 ghost use Rattle.lerc_grammar.specs.Near.{NearItself, NearBothWays, NearJoined, NearWider, NearestIsSame};
 
 /// A law: behind one raster no bytes have two rasters.
@@ -51,4 +51,20 @@ pub fn near_is_a_distance()
 /// A law: rasters that are near by a step of 1, which stands for no error, are equal.
 pub fn nearest_is_same()
     ensures { NearestIsSame }
+{}
+
+/// A law: a whole input has one verdict of bands at most, and no two lists of bands.
+pub fn one_bands_verdict()
+    ensures one { OneBandsVerdict }
+    ensures bands { NoTwoBands }
+{}
+
+/// A law: a whole input has a verdict of bands.
+pub fn some_bands_verdict()
+    ensures { SomeBandsVerdict }
+{}
+
+/// A law: a fault of bands that is decided is the verdict whatever follows.
+pub fn bands_faults_stay()
+    ensures { BandsFaultStays }
 {}

@@ -15,7 +15,7 @@ use Rattle.raster_values.specs.PixelType.{InRange, type_least}
 use Rattle.micro_block.specs.declared.spreading.Spread.{Spread}
 use Rattle.micro_block.specs.declared.stepping.Rule.{Rule}
 use Rattle.micro_block.specs.declared.stepping.Rule.TheVariants.{Divide}
-use Rattle.micro_block.specs.Choice.{quantised_values}
+use Rattle.micro_block.specs.ChosenBlock.{quantised_values}
 use Rattle.micro_block.specs.Near.{quantised}
 use Rattle.micro_block.specs.inside.Stepping.{AreEndsOf, AreListable, AreStepped, IsRule, IsSpread, steps_above}
 use Rattle.micro_block.proofs.Range.{least_is, most_is as most_is_greatest}

@@ -231,12 +231,17 @@ offset_in kind code bytes v are o = offset_fits kind o.type code v o.coded (spel
 stands_in : (kind : PixelType) (step q : ℕ) (top v : ℤ) → InRange kind top → InRange kind v → InRange kind (stands_for step top v q)
 stands_in kind step q top v ht hv = (omega (arith, ints, clamps, ht, hv), omega (arith, ints, clamps, ht, hv))
 
+-- the values for which bytes stand are the type's
+pub values_in_range : (kind : PixelType) (bytes : List ℕ) (values : List ℤ) → AreBytes bytes → AreValues kind bytes values → All (InRange kind) values
+values_in_range kind bytes values are v =
+    All-from_get_or (InRange kind) values (pos 0) (λ i lt. subst (λ (z : ℤ). InRange kind z) (sym (v.each i lt))
+    (value_fits kind (little_number (bytes_of kind) (drop (i * bytes_of kind) bytes)) (little_from-lt 0 (bytes_of kind) (drop (i * bytes_of kind) bytes) (bytes_drop (i * bytes_of kind) bytes are))))
+
 -- the values of a block are the type's, where its top is
 pub block_in_range : (f : Frame) (bytes : List ℕ) (values : List ℤ) → AreBytes bytes → InRange f.kind f.top → IsBlock f bytes values → All (InRange f.kind) values
 block_in_range f bytes values are top (forms.raw tag code rest joined t count v) =
     let rest_are : AreBytes rest = λ i. subst (λ (u : List ℕ). AreBytes u) joined are (suc i) in
-    All-from_get_or (InRange f.kind) values (pos 0) (λ i lt. subst (λ (z : ℤ). InRange f.kind z) (sym (v.each i lt))
-    (value_fits f.kind (little_number (bytes_of f.kind) (drop (i * bytes_of f.kind) rest)) (little_from-lt 0 (bytes_of f.kind) (drop (i * bytes_of f.kind) rest) (bytes_drop (i * bytes_of f.kind) rest rest_are))))
+    values_in_range f.kind rest values rest_are v
 block_in_range f bytes values are top (forms.stuffed tag code front back offset qs joined t o count list e) =
     let rest_are : AreBytes (front ++ back) = λ i. subst (λ (u : List ℕ). AreBytes u) joined are (suc i) in
     let low : InRange f.kind offset = offset_in f.kind code front offset (front_bytes front back rest_are) o in

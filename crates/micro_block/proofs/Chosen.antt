@@ -11,8 +11,8 @@ use Rattle.lut_stuff.specs.Tables.{distinct_above_0, table_bytes, table_size}
 use Rattle.lut_stuff.proofs.Tabled.{distinct_some, table_size_some}
 use Rattle.micro_block.specs.declared.choosing.Chosen.{Chosen}
 use Rattle.micro_block.specs.declared.spreading.Spread.{Spread}
-use Rattle.micro_block.specs.Choice as choice
-use Rattle.micro_block.specs.Choice.{Form, May, least_value, quantised_values, is_flat, is_stuffable, forms, chosen_form, form_bytes, block_bytes}
+use Rattle.micro_block.specs.ChosenBlock as chosen_block
+use Rattle.micro_block.specs.ChosenBlock.{WrittenForm, May, least_value, quantised_values, is_flat, is_stuffable, forms, chosen_form, written_form_bytes, block_bytes}
 use Rattle.micro_block.specs.Fewest.{IsFirstLeast}
 use Rattle.micro_block.specs.inside.Forms.{form_at, named, IsChosen}
 use Rattle.micro_block.specs.inside.Sizes.{closed_sizes, IsFirst, IsTabledLength}
@@ -22,12 +22,12 @@ use Rattle.micro_block.proofs.Closed.{IsMade, taken_found, taken_plain}
 use Rattle.micro_block.proofs.Written.{allowed_some, some_same, chosen_may, left, right, some_above_0}
 
 -- what stands at a place of the candidates is the form of that place
-pub placed : (step : ℕ) (values : List ℤ) (form : Form) (k : ℕ) → get_or (forms step values) k None ≡ Some form → named (form_at k) ≡ form
-placed step values form zero e = (allowed_some _ choice.zero form e).1
-placed step values form (suc zero) e = (allowed_some _ choice.constant form e).1
-placed step values form (suc (suc zero)) e = some_same choice.raw form e
-placed step values form (suc (suc (suc zero))) e = (allowed_some _ choice.simple form e).1
-placed step values form (suc (suc (suc (suc zero)))) e = (allowed_some _ choice.table form e).1
+pub placed : (step : ℕ) (values : List ℤ) (form : WrittenForm) (k : ℕ) → get_or (forms step values) k None ≡ Some form → named (form_at k) ≡ form
+placed step values form zero e = (allowed_some _ chosen_block.zero form e).1
+placed step values form (suc zero) e = (allowed_some _ chosen_block.constant form e).1
+placed step values form (suc (suc zero)) e = some_same chosen_block.raw form e
+placed step values form (suc (suc (suc zero))) e = (allowed_some _ chosen_block.simple form e).1
+placed step values form (suc (suc (suc (suc zero)))) e = (allowed_some _ chosen_block.table form e).1
 placed step values form (suc (suc (suc (suc (suc k))))) e = absurd (cc)
 
 pub chosen_is : (kind : PixelType) (col step : ℕ) (values : List ℤ) (c : Chosen) (place : ℕ) → IsMade kind col step values place c.size → c.form ≡ form_at place → c.least ≡ least_value values → InRange kind c.least
@@ -46,7 +46,7 @@ chosen_found kind col step ds s tabled c fits is found (place, (at, first)) leas
     chosen_is kind col step vs c place made at (least ∙ is.least_is) (subst (λ (z : ℤ). InRange kind z) (sym least) (above_in_range kind s.least is.least_fits))
 
 -- and where it has no table
-pub chosen_plain : (kind : PixelType) (col step : ℕ) (ds : List ℕ) (s : Spread) (c : Chosen) → IsSpread kind step ds s → (chosen_form kind col step (values_above kind ds) ≡ choice.table → ⊥)
+pub chosen_plain : (kind : PixelType) (col step : ℕ) (ds : List ℕ) (s : Spread) (c : Chosen) → IsSpread kind step ds s → (chosen_form kind col step (values_above kind ds) ≡ chosen_block.table → ⊥)
     → IsFirst kind (length ds) (value_above kind s.least) s.most None c → c.least ≡ value_above kind s.least → IsChosen kind col step (values_above kind ds) c
 chosen_plain kind col step ds s c is plain (place, (at, first)) least =
     let vs = values_above kind ds in
@@ -55,20 +55,20 @@ chosen_plain kind col step ds s c is plain (place, (at, first)) least =
     chosen_is kind col step vs c place made at (least ∙ is.least_is) (subst (λ (z : ℤ). InRange kind z) (sym least) (above_in_range kind s.least is.least_fits))
 
 -- the chosen form is what is written
-pub form_is : (kind : PixelType) (col step : ℕ) (values : List ℤ) (c : Chosen) (form : Form) → IsChosen kind col step values c → named c.form ≡ form → form_bytes kind col step values form ≡ block_bytes kind col step values
+pub form_is : (kind : PixelType) (col step : ℕ) (values : List ℤ) (c : Chosen) (form : WrittenForm) → IsChosen kind col step values c → named c.form ≡ form → written_form_bytes kind col step values form ≡ block_bytes kind col step values
 unfolding block_bytes
-form_is kind col step values c form is e = ap (form_bytes kind col step values) (sym e ∙ is.form)
+form_is kind col step values c form is e = ap (written_form_bytes kind col step values) (sym e ∙ is.form)
 
-pub form_len : (kind : PixelType) (col step : ℕ) (values : List ℤ) (c : Chosen) (form : Form) (n : ℕ) → IsChosen kind col step values c → named c.form ≡ form → n ≡ c.size → n ≡ length (form_bytes kind col step values form)
+pub form_len : (kind : PixelType) (col step : ℕ) (values : List ℤ) (c : Chosen) (form : WrittenForm) (n : ℕ) → IsChosen kind col step values c → named c.form ≡ form → n ≡ c.size → n ≡ length (written_form_bytes kind col step values form)
 form_len kind col step values c form n is e room = room ∙ sym is.size ∙ ap length (sym (form_is kind col step values c form is e))
 
-pub form_may : (kind : PixelType) (col step : ℕ) (values : List ℤ) (c : Chosen) (form : Form) → IsChosen kind col step values c → named c.form ≡ form → May step values form
+pub form_may : (kind : PixelType) (col step : ℕ) (values : List ℤ) (c : Chosen) (form : WrittenForm) → IsChosen kind col step values c → named c.form ≡ form → May step values form
 form_may kind col step values c form is e = subst (May step values) e is.may
 
-simple_few : (step : ℕ) (values : List ℤ) → May step values choice.simple → greatest_number (quantised_values step values) < 2 ^ 30
+simple_few : (step : ℕ) (values : List ℤ) → May step values chosen_block.simple → greatest_number (quantised_values step values) < 2 ^ 30
 simple_few step values h = ltb-true (greatest_number (quantised_values step values)) (2 ^ 30) (right (not (is_flat step values)) (is_stuffable step values) h)
 
-table_may : (step : ℕ) (values : List ℤ) → May step values choice.table → May step values choice.simple
+table_may : (step : ℕ) (values : List ℤ) → May step values chosen_block.table → May step values chosen_block.simple
 table_may step values h =
     let d = nat_le (distinct_above_0 (quantised_values step values)) 254 in
     both (not (is_flat step values)) (is_stuffable step values) (left (not (is_flat step values)) (is_stuffable step values && d) h) (left (is_stuffable step values) d (right (not (is_flat step values)) (is_stuffable step values && d) h))
@@ -78,17 +78,17 @@ table_may step values h =
     both false b e f = absurd (cc)
 
 -- the numbers of steps go into a list, where the form has one
-pub simple_listable : (kind : PixelType) (step : ℕ) (ds : List ℕ) (s : Spread) → length ds ≤ 256 → IsSpread kind step ds s → May step (values_above kind ds) choice.simple → AreListable step s.least s.rule ds
+pub simple_listable : (kind : PixelType) (step : ℕ) (ds : List ℕ) (s : Spread) → length ds ≤ 256 → IsSpread kind step ds s → May step (values_above kind ds) chosen_block.simple → AreListable step s.least s.rule ds
 simple_listable kind step ds s few is may =
     let most = is.most ∙ ap greatest_number is.same in
     let low = simple_few step (values_above kind ds) may in
     listable kind step ds s few is (omega (arith, most, low))
 
-pub tabled_listable : (kind : PixelType) (step : ℕ) (ds : List ℕ) (s : Spread) → length ds ≤ 256 → IsSpread kind step ds s → May step (values_above kind ds) choice.table → AreListable step s.least s.rule ds
+pub tabled_listable : (kind : PixelType) (step : ℕ) (ds : List ℕ) (s : Spread) → length ds ≤ 256 → IsSpread kind step ds s → May step (values_above kind ds) chosen_block.table → AreListable step s.least s.rule ds
 tabled_listable kind step ds s few is may = simple_listable kind step ds s few is (table_may step (values_above kind ds) may)
 
 -- the table form has a size
-pub has_table : (kind : PixelType) (step : ℕ) (ds : List ℕ) (s : Spread) → IsSpread kind step ds s → May step (values_above kind ds) choice.table
+pub has_table : (kind : PixelType) (step : ℕ) (ds : List ℕ) (s : Spread) → IsSpread kind step ds s → May step (values_above kind ds) chosen_block.table
     → table_size (map (steps_above step s.least) ds) ≡ Some (length (table_bytes (map (steps_above step s.least) ds)))
 has_table kind step ds s is may =
     let values = values_above kind ds in
@@ -99,9 +99,9 @@ has_table kind step ds s is may =
     subst (λ (us : List ℕ). table_size us ≡ Some (length (table_bytes us))) (sym is.same) (table_size_some qs some few)
 
 -- a table is chosen where it may be
-pub may_table : (kind : PixelType) (col step : ℕ) (values : List ℤ) → chosen_form kind col step values ≡ choice.table → May step values choice.table
+pub may_table : (kind : PixelType) (col step : ℕ) (values : List ℤ) → chosen_form kind col step values ≡ chosen_block.table → May step values chosen_block.table
 may_table kind col step values e = subst (May step values) e (chosen_may kind col step values)
 
-pub table_block : (kind : PixelType) (col step : ℕ) (values : List ℤ) → chosen_form kind col step values ≡ choice.table → form_bytes kind col step values choice.table ≡ block_bytes kind col step values
+pub table_block : (kind : PixelType) (col step : ℕ) (values : List ℤ) → chosen_form kind col step values ≡ chosen_block.table → written_form_bytes kind col step values chosen_block.table ≡ block_bytes kind col step values
 unfolding block_bytes
-table_block kind col step values e = ap (form_bytes kind col step values) (sym e)
+table_block kind col step values e = ap (written_form_bytes kind col step values) (sym e)

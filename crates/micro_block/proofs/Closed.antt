@@ -16,8 +16,8 @@ use Rattle.micro_block.specs.inside.Sizes.{closed_sizes, table_form, tabled_size
 use Rattle.lut_stuff.specs.Tables.{distinct_above_0, table_bytes, table_size}
 use Rattle.lut_stuff.proofs.Tabled.{distinct_some}
 use Rattle.std.proofs.lemmas.Bool.{cases_lt, lt-ltb}
-use Rattle.micro_block.specs.Choice as choice
-use Rattle.micro_block.specs.Choice.{Form, least_value, quantised_values, narrow_type, offset_bytes, form_bytes, forms, is_flat, is_stuffable, chosen_form, block_bytes}
+use Rattle.micro_block.specs.ChosenBlock as chosen_block
+use Rattle.micro_block.specs.ChosenBlock.{WrittenForm, least_value, quantised_values, narrow_type, offset_bytes, written_form_bytes, forms, is_flat, is_stuffable, chosen_form, block_bytes}
 use Rattle.micro_block.proofs.Fewest.{IsTaken, is_first_least}
 use Rattle.micro_block.proofs.Steps.{by_sizes, sized}
 use Rattle.micro_block.proofs.Written.{allowed_some}
@@ -30,20 +30,20 @@ and_false : (b : Bool) → (b && false) ≡ false
 and_false true = refl
 and_false false = refl
 
-abbrev pub size_of : PixelType → ℕ → ℕ → List ℤ → Form → ℕ
-size_of kind col step values form = length (form_bytes kind col step values form)
+abbrev pub size_of : PixelType → ℕ → ℕ → List ℤ → WrittenForm → ℕ
+size_of kind col step values form = length (written_form_bytes kind col step values form)
 
-pub length_constant : (kind : PixelType) (col step : ℕ) (values : List ℤ) → size_of kind col step values choice.constant ≡ 1 + bytes_of (narrow_type kind (least_value values))
-unfolding form_bytes offset_bytes
+pub length_constant : (kind : PixelType) (col step : ℕ) (values : List ℤ) → size_of kind col step values chosen_block.constant ≡ 1 + bytes_of (narrow_type kind (least_value values))
+unfolding written_form_bytes offset_bytes
 length_constant kind col step values = let e = length-value_bytes (narrow_type kind (least_value values)) (least_value values) in omega (arith, e)
 
-pub length_raw : (kind : PixelType) (col step : ℕ) (values : List ℤ) → size_of kind col step values choice.raw ≡ 1 + length values * bytes_of kind
-unfolding form_bytes
+pub length_raw : (kind : PixelType) (col step : ℕ) (values : List ℤ) → size_of kind col step values chosen_block.raw ≡ 1 + length values * bytes_of kind
+unfolding written_form_bytes
 length_raw kind col step values = let e = length-values_bytes kind values in omega (arith, e)
 
 length_simple : (kind : PixelType) (col step : ℕ) (values : List ℤ)
-    → size_of kind col step values choice.simple ≡ 1 + (bytes_of (narrow_type kind (least_value values)) + (head_size (length values) + stuffed_size (length values) (binary_digits (greatest_number (quantised_values step values)))))
-unfolding form_bytes offset_bytes
+    → size_of kind col step values chosen_block.simple ≡ 1 + (bytes_of (narrow_type kind (least_value values)) + (head_size (length values) + stuffed_size (length values) (binary_digits (greatest_number (quantised_values step values)))))
+unfolding written_form_bytes offset_bytes
 length_simple kind col step values =
     let e = length-value_bytes (narrow_type kind (least_value values)) (least_value values) in
     let l = length-simple_bytes (quantised_values step values) in
@@ -52,12 +52,12 @@ length_simple kind col step values =
     ap suc (length-append (offset_bytes kind (least_value values)) (simple_bytes (quantised_values step values)) ∙ ap (λ k. k + length (simple_bytes (quantised_values step values))) e ∙ ap (λ k. bytes_of (narrow_type kind (least_value values)) + k) (l ∙ both))
     ∙ (let t : suc (bytes_of (narrow_type kind (least_value values)) + (head_size (length values) + stuffed_size (length values) (width_of (quantised_values step values)))) ≡ 1 + (bytes_of (narrow_type kind (least_value values)) + (head_size (length values) + stuffed_size (length values) (width_of (quantised_values step values)))) = omega arith in t)
 
-pub length_zero : (kind : PixelType) (col step : ℕ) (values : List ℤ) → size_of kind col step values choice.zero ≡ 1
-unfolding form_bytes
+pub length_zero : (kind : PixelType) (col step : ℕ) (values : List ℤ) → size_of kind col step values chosen_block.zero ≡ 1
+unfolding written_form_bytes
 length_zero kind col step values = refl
 
-length_table : (kind : PixelType) (col step : ℕ) (values : List ℤ) → size_of kind col step values choice.table ≡ table_form kind (least_value values) (length (table_bytes (quantised_values step values)))
-unfolding form_bytes offset_bytes
+length_table : (kind : PixelType) (col step : ℕ) (values : List ℤ) → size_of kind col step values chosen_block.table ≡ table_form kind (least_value values) (length (table_bytes (quantised_values step values)))
+unfolding written_form_bytes offset_bytes
 length_table kind col step values =
     let e = length-value_bytes (narrow_type kind (least_value values)) (least_value values) in
     ap suc (length-append (offset_bytes kind (least_value values)) (table_bytes (quantised_values step values)) ∙ ap (λ k. k + length (table_bytes (quantised_values step values))) e)
@@ -69,8 +69,8 @@ some_above g h = elim (cases_lt 0 g) [ inl some ↦ some | inr none ↦ absurd (
     zero_test : (g : ℕ) → g ≡ 0 → not (nat_eq g 0) ≡ true → ⊥
     zero_test g e h = let t : true ≡ false = sym h ∙ ap (λ k. not (nat_eq k 0)) e in cc
 
-tabled_by : (size : Form → ℕ) (kind : PixelType) (m : ℤ) (len d : ℕ) (a b c : Bool) → size choice.table ≡ table_form kind m len → (a ≡ true → nat_lt 0 d ≡ true)
-    → option_map (table_form kind m) (if a && b then (if nat_lt 0 d && c then Some len else None) else None) ≡ option_map size (allowed (a && (b && c)) choice.table)
+tabled_by : (size : WrittenForm → ℕ) (kind : PixelType) (m : ℤ) (len d : ℕ) (a b c : Bool) → size chosen_block.table ≡ table_form kind m len → (a ≡ true → nat_lt 0 d ≡ true)
+    → option_map (table_form kind m) (if a && b then (if nat_lt 0 d && c then Some len else None) else None) ≡ option_map size (allowed (a && (b && c)) chosen_block.table)
 tabled_by size kind m len d false b c e some = refl
 tabled_by size kind m len d true false c e some = refl
 tabled_by size kind m len d true true false e some = ap (λ t. option_map (table_form kind m) (if t && false then Some len else None)) (some refl)
@@ -79,10 +79,10 @@ tabled_by size kind m len d true true true e some = ap (λ t. option_map (table_
 pub closed : (kind : PixelType) (col step : ℕ) (values : List ℤ) → closed_sizes kind (length values) (least_value values) (greatest_number (quantised_values step values)) (tabled_size step values) ≡ map (option_map (size_of kind col step values)) (forms step values)
 closed kind col step values =
     let size = size_of kind col step values in
-    λ i. sized_allowed size (is_flat step values && nat_eq (unsigned_abs (least_value values)) 0) choice.zero 1 (length_zero kind col step values) i
-    ∷ sized_allowed size (is_flat step values && nat_lt 0 (length values)) choice.constant _ (length_constant kind col step values) i
+    λ i. sized_allowed size (is_flat step values && nat_eq (unsigned_abs (least_value values)) 0) chosen_block.zero 1 (length_zero kind col step values) i
+    ∷ sized_allowed size (is_flat step values && nat_lt 0 (length values)) chosen_block.constant _ (length_constant kind col step values) i
     ∷ Some (sym (length_raw kind col step values) i)
-    ∷ sized_allowed size (not (is_flat step values) && is_stuffable step values) choice.simple _ (length_simple kind col step values) i
+    ∷ sized_allowed size (not (is_flat step values) && is_stuffable step values) chosen_block.simple _ (length_simple kind col step values) i
     ∷ tabled_by size kind (least_value values) (length (table_bytes (quantised_values step values))) (distinct_above_0 (quantised_values step values)) (not (is_flat step values)) (is_stuffable step values) (nat_le (distinct_above_0 (quantised_values step values)) 254)
     (length_table kind col step values) (λ t. lt-ltb 0 (distinct_above_0 (quantised_values step values)) (distinct_some (quantised_values step values) (some_above (greatest_number (quantised_values step values)) t))) i
     ∷ []
@@ -95,11 +95,11 @@ chosen_at kind col step values k n is =
     let on = subst (λ sizes. IsFirstLeast (λ m. m) sizes k n) (closed kind col step values) is in
     some_there (get_or (forms step values) k None) refl (sym (sized (size_of kind col step values) (forms step values) k) ∙ on.there) on
   where
-    some_there : (c : Option Form) → get_or (forms step values) k None ≡ c → option_map (size_of kind col step values) (get_or (forms step values) k None) ≡ Some n
+    some_there : (c : Option WrittenForm) → get_or (forms step values) k None ≡ c → option_map (size_of kind col step values) (get_or (forms step values) k None) ≡ Some n
         → IsFirstLeast (λ m. m) (map (option_map (size_of kind col step values)) (forms step values)) k n
-        → get_or (forms step values) k None ≡ Some (unwrap_or (first_least (size_of kind col step values) (forms step values)) choice.raw)
+        → get_or (forms step values) k None ≡ Some (unwrap_or (first_least (size_of kind col step values) (forms step values)) chosen_block.raw)
     some_there None e there on = absurd (let t : None ≡ Some n = sym (ap (option_map (size_of kind col step values)) e) ∙ there in cc)
-    some_there (Some form) e there on = e ∙ ap (λ c. Some (unwrap_or c choice.raw)) (sym (by_sizes (size_of kind col step values) (forms step values) k n form e on))
+    some_there (Some form) e there on = e ∙ ap (λ c. Some (unwrap_or c chosen_block.raw)) (sym (by_sizes (size_of kind col step values) (forms step values) k n form e on))
 
 -- and its length is that size
 pub chosen_size : (kind : PixelType) (col step : ℕ) (values : List ℤ) (k n : ℕ) → IsFirstLeast (λ m. m) (closed_sizes kind (length values) (least_value values) (greatest_number (quantised_values step values)) (tabled_size step values)) k n
@@ -108,7 +108,7 @@ unfolding block_bytes
 chosen_size kind col step values k n is =
     let on = subst (λ sizes. IsFirstLeast (λ m. m) sizes k n) (closed kind col step values) is in
     let at = chosen_at kind col step values k n is in
-    same_some (length (form_bytes kind col step values (chosen_form kind col step values))) n
+    same_some (length (written_form_bytes kind col step values (chosen_form kind col step values))) n
     (sym (ap (option_map (size_of kind col step values)) at) ∙ sym (sized (size_of kind col step values) (forms step values) k) ∙ on.there)
   where
     same_some : (a b : ℕ) → Some a ≡ Some b → a ≡ b
@@ -220,7 +220,7 @@ taken_found kind col step values least most tabled k p least_is most_is tabled_i
 
 -- without a table, where none is chosen
 pub taken_plain : (kind : PixelType) (col step : ℕ) (values : List ℤ) (least : ℤ) (most k p : ℕ)
-    → least ≡ least_value values → most ≡ greatest_number (quantised_values step values) → (chosen_form kind col step values ≡ choice.table → ⊥)
+    → least ≡ least_value values → most ≡ greatest_number (quantised_values step values) → (chosen_form kind col step values ≡ chosen_block.table → ⊥)
     → IsFirstLeast (λ m. m) (closed_sizes kind (length values) least most None) k p → IsMade kind col step values k p
 taken_plain kind col step values least most k p least_is most_is plain is = by (tabled_size step values) refl
   where
@@ -237,7 +237,7 @@ taken_plain kind col step values least most k p least_is most_is plain is = by (
     by (Some m) e = elim (cases_lt (table_form kind (least_value values) m) p) [
       | inl shorter ↦
           let t = put (Some m) 4 (table_form kind (least_value values) m) e (shorter_taken kind (length values) (greatest_number (quantised_values step values)) (least_value values) m k p shorter known) in
-          absurd (plain (sym (allowed_some _ choice.table (chosen_form kind col step values) t.0).1))
+          absurd (plain (sym (allowed_some _ chosen_block.table (chosen_form kind col step values) t.0).1))
       | inr longer ↦ put (Some m) k p e (longer_left_out kind (length values) (greatest_number (quantised_values step values)) (least_value values) m k p longer known)
     ]
 
@@ -246,6 +246,6 @@ pub block_short : (kind : PixelType) (col step : ℕ) (values : List ℤ) → le
 unfolding block_bytes chosen_form
 block_short kind col step values = taken (first_least (size_of kind col step values) (forms step values)) (is_first_least (size_of kind col step values) (forms step values))
   where
-    taken : (o : Option Form) → IsTaken (size_of kind col step values) (forms step values) o → length (form_bytes kind col step values (unwrap_or o choice.raw)) ≤ 1 + length values * bytes_of kind
-    taken None none = absurd (none 2 choice.raw refl)
-    taken (Some form) (k, is) = let le = is.least 2 choice.raw refl in let raw = length_raw kind col step values in omega (arith, le, raw)
+    taken : (o : Option WrittenForm) → IsTaken (size_of kind col step values) (forms step values) o → length (written_form_bytes kind col step values (unwrap_or o chosen_block.raw)) ≤ 1 + length values * bytes_of kind
+    taken None none = absurd (none 2 chosen_block.raw refl)
+    taken (Some form) (k, is) = let le = is.least 2 chosen_block.raw refl in let raw = length_raw kind col step values in omega (arith, le, raw)

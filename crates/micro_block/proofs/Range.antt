@@ -6,7 +6,7 @@ use Rattle.std.proofs.lemmas.Int.{ints, clamps, to_z-of_z}
 use Rattle.std.proofs.lemmas.List.Elements.{All-head, All-tail}
 use Rattle.lane_kernels.specs.Kernels.{IsLeast, IsGreatest, IsSmall}
 use Rattle.bit_stuff.specs.Simple.{greatest_number}
-use Rattle.micro_block.specs.Choice.{least_value, quantised_values}
+use Rattle.micro_block.specs.ChosenBlock.{least_value, quantised_values}
 use Rattle.micro_block.specs.Near.{quantised}
 use Rattle.micro_block.proofs.Written.{least_below}
 use mir.Syntax.{w64}

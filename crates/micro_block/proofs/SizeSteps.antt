@@ -16,7 +16,7 @@ use Rattle.bit_stuff.proofs.StuffedLaws.{stuffed_size-le}
 use Rattle.lane_kernels.specs.Kernels.{differences}
 use Rattle.lut_stuff.specs.Tables.{distinct_above_0, table_size}
 use Rattle.lut_stuff.proofs.Tabled.{has_size, length-table_bytes}
-use Rattle.micro_block.specs.Choice.{least_value, quantised_values, is_flat, is_stuffable}
+use Rattle.micro_block.specs.ChosenBlock.{least_value, quantised_values, is_flat, is_stuffable}
 use Rattle.micro_block.specs.Near.{quantised}
 use Rattle.micro_block.proofs.Fast.{step_one}
 use Rattle.micro_block.proofs.Written.{each_quantised, least_below}

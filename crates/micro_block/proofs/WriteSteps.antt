@@ -17,8 +17,8 @@ use Rattle.bit_stuff.proofs.Buffers.{end_written}
 use Rattle.lut_stuff.specs.Tables.{table_bytes}
 use Rattle.lut_stuff.proofs.Tabled.{cons_written}
 use borrow.Rule.Slice.PartMut.{put_mid}
-use Rattle.micro_block.specs.Choice as choice
-use Rattle.micro_block.specs.Choice.{least_value, narrowest, narrow_type, offset_bytes, tag_byte, form_bytes, block_bytes, kept}
+use Rattle.micro_block.specs.ChosenBlock as chosen_block
+use Rattle.micro_block.specs.ChosenBlock.{least_value, narrow_code, narrow_type, offset_bytes, tag_byte, written_form_bytes, block_bytes, kept}
 use Rattle.micro_block.specs.Near.{quantised}
 use Rattle.micro_block.specs.Block.{IsBlock}
 use Rattle.micro_block.specs.Frame.{AreWritable, IsBlockCtx, frame_of}
@@ -52,19 +52,19 @@ listed_len t front list = omega (arith, length-append front list)
 
 -- the forms by a number that is the least value
 pub constant_is : (kind : PixelType) (col step : ℕ) (values : List ℤ) (m : ℤ) → m ≡ least_value values
-    → tag_byte col 3 (narrowest kind m) ∷ offset_bytes kind m ≡ form_bytes kind col step values choice.constant
-unfolding form_bytes
-constant_is kind col step values m e = ap (λ (u : ℤ). tag_byte col 3 (narrowest kind u) ∷ offset_bytes kind u) e
+    → tag_byte col 3 (narrow_code kind m) ∷ offset_bytes kind m ≡ written_form_bytes kind col step values chosen_block.constant
+unfolding written_form_bytes
+constant_is kind col step values m e = ap (λ (u : ℤ). tag_byte col 3 (narrow_code kind u) ∷ offset_bytes kind u) e
 
 pub simple_is : (kind : PixelType) (col step : ℕ) (values : List ℤ) (m : ℤ) → m ≡ least_value values
-    → tag_byte col 1 (narrowest kind m) ∷ (offset_bytes kind m ++ simple_bytes (map (quantised step m) values)) ≡ form_bytes kind col step values choice.simple
-unfolding form_bytes
-simple_is kind col step values m e = ap (λ (u : ℤ). tag_byte col 1 (narrowest kind u) ∷ (offset_bytes kind u ++ simple_bytes (map (quantised step u) values))) e
+    → tag_byte col 1 (narrow_code kind m) ∷ (offset_bytes kind m ++ simple_bytes (map (quantised step m) values)) ≡ written_form_bytes kind col step values chosen_block.simple
+unfolding written_form_bytes
+simple_is kind col step values m e = ap (λ (u : ℤ). tag_byte col 1 (narrow_code kind u) ∷ (offset_bytes kind u ++ simple_bytes (map (quantised step u) values))) e
 
 pub table_is : (kind : PixelType) (col step : ℕ) (values : List ℤ) (m : ℤ) → m ≡ least_value values
-    → tag_byte col 1 (narrowest kind m) ∷ (offset_bytes kind m ++ table_bytes (map (quantised step m) values)) ≡ form_bytes kind col step values choice.table
-unfolding form_bytes
-table_is kind col step values m e = ap (λ (u : ℤ). tag_byte col 1 (narrowest kind u) ∷ (offset_bytes kind u ++ table_bytes (map (quantised step u) values))) e
+    → tag_byte col 1 (narrow_code kind m) ∷ (offset_bytes kind m ++ table_bytes (map (quantised step m) values)) ≡ written_form_bytes kind col step values chosen_block.table
+unfolding written_form_bytes
+table_is kind col step values m e = ap (λ (u : ℤ). tag_byte col 1 (narrow_code kind u) ∷ (offset_bytes kind u ++ table_bytes (map (quantised step u) values))) e
 
 -- what is asked of the values, by the context
 pub writable : (ctx : BlockCtx) (values : List ℤ) → IsBlockCtx ctx → length values ≤ 256 → All (InRange ctx.kind) values → All (λ v. v ≤ℤ ctx.top) values → AreWritable (frame_of ctx (length values)) values
@@ -86,14 +86,14 @@ same_steps : (kind : PixelType) (step : ℕ) (ds : List ℕ) (s : Spread) (k : �
 same_steps kind step ds s k is e = is.same ∙ ap (λ (m : ℤ). map (quantised step m) (values_above kind ds)) (sym e)
 
 pub simple_above : (kind : PixelType) (col step : ℕ) (ds : List ℕ) (s : Spread) (k : ℤ) → IsSpread kind step ds s → k ≡ least_value (values_above kind ds)
-    → tag_byte col 1 (narrowest kind k) ∷ (offset_bytes kind k ++ simple_bytes (map (steps_above step s.least) ds)) ≡ form_bytes kind col step (values_above kind ds) choice.simple
+    → tag_byte col 1 (narrow_code kind k) ∷ (offset_bytes kind k ++ simple_bytes (map (steps_above step s.least) ds)) ≡ written_form_bytes kind col step (values_above kind ds) chosen_block.simple
 simple_above kind col step ds s k is e =
-    ap (λ (qs : List ℕ). tag_byte col 1 (narrowest kind k) ∷ (offset_bytes kind k ++ simple_bytes qs)) (same_steps kind step ds s k is e) ∙ simple_is kind col step (values_above kind ds) k e
+    ap (λ (qs : List ℕ). tag_byte col 1 (narrow_code kind k) ∷ (offset_bytes kind k ++ simple_bytes qs)) (same_steps kind step ds s k is e) ∙ simple_is kind col step (values_above kind ds) k e
 
 pub table_above : (kind : PixelType) (col step : ℕ) (ds : List ℕ) (s : Spread) (k : ℤ) → IsSpread kind step ds s → k ≡ least_value (values_above kind ds)
-    → tag_byte col 1 (narrowest kind k) ∷ (offset_bytes kind k ++ table_bytes (map (steps_above step s.least) ds)) ≡ form_bytes kind col step (values_above kind ds) choice.table
+    → tag_byte col 1 (narrow_code kind k) ∷ (offset_bytes kind k ++ table_bytes (map (steps_above step s.least) ds)) ≡ written_form_bytes kind col step (values_above kind ds) chosen_block.table
 table_above kind col step ds s k is e =
-    ap (λ (qs : List ℕ). tag_byte col 1 (narrowest kind k) ∷ (offset_bytes kind k ++ table_bytes qs)) (same_steps kind step ds s k is e) ∙ table_is kind col step (values_above kind ds) k e
+    ap (λ (qs : List ℕ). tag_byte col 1 (narrow_code kind k) ∷ (offset_bytes kind k ++ table_bytes qs)) (same_steps kind step ds s k is e) ∙ table_is kind col step (values_above kind ds) k e
 
 -- the least value, from the least distance, as the code reads it again
 pub least_again : (kind : PixelType) (step : ℕ) (ds : List ℕ) (s : Spread) (z : ℤ) → IsSpread kind step ds s → z ≡ value_above kind s.least → to_z w64 (of_z w64 z) ≡ least_value (values_above kind ds)
@@ -104,17 +104,17 @@ least_fits_again kind step ds s z is e =
     subst (λ (y : ℤ). InRange kind y) (sym (ap (λ (y : ℤ). to_z w64 (of_z w64 y)) e ∙ reread kind (value_above kind s.least) (above_in_range kind s.least is.least_fits))) (above_in_range kind s.least is.least_fits)
 
 pub simple_above_len : (kind : PixelType) (col step : ℕ) (ds : List ℕ) (s : Spread) (k : ℤ) → IsSpread kind step ds s → k ≡ least_value (values_above kind ds)
-    → length (form_bytes kind col step (values_above kind ds) choice.simple) ≡ 1 + (bytes_of (narrow_type kind k) + length (simple_bytes (map (steps_above step s.least) ds)))
+    → length (written_form_bytes kind col step (values_above kind ds) chosen_block.simple) ≡ 1 + (bytes_of (narrow_type kind k) + length (simple_bytes (map (steps_above step s.least) ds)))
 simple_above_len kind col step ds s k is e =
     ap length (sym (simple_above kind col step ds s k is e))
-    ∙ listed_len (tag_byte col 1 (narrowest kind k)) (offset_bytes kind k) (simple_bytes (map (steps_above step s.least) ds))
+    ∙ listed_len (tag_byte col 1 (narrow_code kind k)) (offset_bytes kind k) (simple_bytes (map (steps_above step s.least) ds))
     ∙ ap (λ (n : ℕ). 1 + (n + length (simple_bytes (map (steps_above step s.least) ds)))) (offset_len kind k)
 
 pub table_above_len : (kind : PixelType) (col step : ℕ) (ds : List ℕ) (s : Spread) (k : ℤ) → IsSpread kind step ds s → k ≡ least_value (values_above kind ds)
-    → length (form_bytes kind col step (values_above kind ds) choice.table) ≡ 1 + (bytes_of (narrow_type kind k) + length (table_bytes (map (steps_above step s.least) ds)))
+    → length (written_form_bytes kind col step (values_above kind ds) chosen_block.table) ≡ 1 + (bytes_of (narrow_type kind k) + length (table_bytes (map (steps_above step s.least) ds)))
 table_above_len kind col step ds s k is e =
     ap length (sym (table_above kind col step ds s k is e))
-    ∙ listed_len (tag_byte col 1 (narrowest kind k)) (offset_bytes kind k) (table_bytes (map (steps_above step s.least) ds))
+    ∙ listed_len (tag_byte col 1 (narrow_code kind k)) (offset_bytes kind k) (table_bytes (map (steps_above step s.least) ds))
     ∙ ap (λ (n : ℕ). 1 + (n + length (table_bytes (map (steps_above step s.least) ds)))) (offset_len kind k)
 
 -- a tag, a front and a list are written over the front, and what is behind stays

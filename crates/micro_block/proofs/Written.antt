@@ -26,8 +26,8 @@ use Rattle.lut_stuff.specs.Tables.{distinct_above_0, table_bytes}
 use Rattle.lut_stuff.proofs.Tabled.{distinct_some, table_list}
 use Rattle.micro_block.specs.Near.{quantised, stands_for, IsNear}
 use Rattle.micro_block.specs.Block.{offset_types, IsTag, IsOffset, IsBlock, raw, stuffed, zero, constant}
-use Rattle.micro_block.specs.Choice as choice
-use Rattle.micro_block.specs.Choice.{least_value, quantised_values, holds, narrowest, narrow_type, offset_bytes, tag_byte, form_bytes, is_flat, is_stuffable, forms, May, chosen_form, block_bytes, kept_by, kept, Form}
+use Rattle.micro_block.specs.ChosenBlock as chosen_block
+use Rattle.micro_block.specs.ChosenBlock.{least_value, quantised_values, holds, narrowest, narrow_code, narrow_type, offset_bytes, tag_byte, written_form_bytes, is_flat, is_stuffable, forms, May, chosen_form, block_bytes, kept_by, kept, WrittenForm}
 use Rattle.micro_block.proofs.Fewest.{At, at_first}
 use Rattle.micro_block.proofs.Near.{near, exact, above, below}
 
@@ -75,29 +75,29 @@ held : (kind : PixelType) (v : ℤ) → holds kind v ≡ true → InRange kind v
 held kind v h = (grind (arith, ints), grind (arith, ints))
 
 -- the code names a type that holds the value
-abbrev Fit : PixelType → ℤ → ℕ → PixelType → Type 0
-Fit kind v code type = (code < 4) × ((get_or (offset_types kind) code None ≡ Some type) × InRange type v)
+abbrev Fit : PixelType → ℤ → ℕ × PixelType → Type 0
+Fit kind v named = (named.0 < 4) × ((get_or (offset_types kind) named.0 None ≡ Some named.1) × InRange named.1 v)
 
-pick : (P : ℕ → PixelType → Type 0) (b : Bool) (a c : ℕ) (t u : PixelType) → (b ≡ true → P a t) → P c u → P (if b then a else c) (if b then t else u)
-pick P true a c t u h k = h refl
-pick P false a c t u h k = k
+pick : (P : ℕ × PixelType → Type 0) (b : Bool) (x y : ℕ × PixelType) → (b ≡ true → P x) → P y → P (if b then x else y)
+pick P true x y h k = h refl
+pick P false x y h k = k
 
-fit : (kind : PixelType) (v : ℤ) → InRange kind v → Fit kind v (narrowest kind v) (narrow_type kind v)
+fit : (kind : PixelType) (v : ℤ) → InRange kind v → Fit kind v (narrowest kind v)
 fit I8 v h = (omega arith, (refl, h))
 fit U8 v h = (omega arith, (refl, h))
 fit I16 v h =
-    pick (Fit I16 v) (holds I8 v) 2 (if holds U8 v then 1 else 0) I8 (if holds U8 v then U8 else I16) (λ t. (omega arith, (refl, held I8 v t)))
-    (pick (Fit I16 v) (holds U8 v) 1 0 U8 I16 (λ t. (omega arith, (refl, held U8 v t))) (omega arith, (refl, h)))
-fit U16 v h = pick (Fit U16 v) (holds U8 v) 1 0 U8 U16 (λ t. (omega arith, (refl, held U8 v t))) (omega arith, (refl, h))
+    pick (Fit I16 v) (holds I8 v) (2, I8) (if holds U8 v then (1, U8) else (0, I16)) (λ t. (omega arith, (refl, held I8 v t)))
+    (pick (Fit I16 v) (holds U8 v) (1, U8) (0, I16) (λ t. (omega arith, (refl, held U8 v t))) (omega arith, (refl, h)))
+fit U16 v h = pick (Fit U16 v) (holds U8 v) (1, U8) (0, U16) (λ t. (omega arith, (refl, held U8 v t))) (omega arith, (refl, h))
 fit I32 v h =
-    pick (Fit I32 v) (holds U8 v) 3 (if holds I16 v then 2 else (if holds U16 v then 1 else 0)) U8 (if holds I16 v then I16 else (if holds U16 v then U16 else I32)) (λ t. (omega arith, (refl, held U8 v t)))
-    (pick (Fit I32 v) (holds I16 v) 2 (if holds U16 v then 1 else 0) I16 (if holds U16 v then U16 else I32) (λ t. (omega arith, (refl, held I16 v t)))
-    (pick (Fit I32 v) (holds U16 v) 1 0 U16 I32 (λ t. (omega arith, (refl, held U16 v t))) (omega arith, (refl, h))))
+    pick (Fit I32 v) (holds U8 v) (3, U8) (if holds I16 v then (2, I16) else (if holds U16 v then (1, U16) else (0, I32))) (λ t. (omega arith, (refl, held U8 v t)))
+    (pick (Fit I32 v) (holds I16 v) (2, I16) (if holds U16 v then (1, U16) else (0, I32)) (λ t. (omega arith, (refl, held I16 v t)))
+    (pick (Fit I32 v) (holds U16 v) (1, U16) (0, I32) (λ t. (omega arith, (refl, held U16 v t))) (omega arith, (refl, h))))
 fit U32 v h =
-    pick (Fit U32 v) (holds U8 v) 2 (if holds U16 v then 1 else 0) U8 (if holds U16 v then U16 else U32) (λ t. (omega arith, (refl, held U8 v t)))
-    (pick (Fit U32 v) (holds U16 v) 1 0 U16 U32 (λ t. (omega arith, (refl, held U16 v t))) (omega arith, (refl, h)))
+    pick (Fit U32 v) (holds U8 v) (2, U8) (if holds U16 v then (1, U16) else (0, U32)) (λ t. (omega arith, (refl, held U8 v t)))
+    (pick (Fit U32 v) (holds U16 v) (1, U16) (0, U32) (λ t. (omega arith, (refl, held U16 v t))) (omega arith, (refl, h)))
 
-pub offset_stands : (kind : PixelType) (v : ℤ) → InRange kind v → IsOffset kind (narrowest kind v) (offset_bytes kind v) v
+pub offset_stands : (kind : PixelType) (v : ℤ) → InRange kind v → IsOffset kind (narrow_code kind v) (offset_bytes kind v) v
 unfolding offset_bytes
 offset_stands kind v h =
     let f = fit kind v h in
@@ -180,30 +180,30 @@ no_size v h = omega (arith, ints)
 few_quantised : (f : Frame) (values : List ℤ) → AreWritable f values → length (quantised_values f.step values) < 2 ^ 32
 few_quantised f values w = let long : length (quantised_values f.step values) ≡ length values = length-map values (quantised f.step (least_value values)) in let few = w.few in omega (arith, long, few)
 
-form_stands : (f : Frame) (values : List ℤ) → AreWritable f values → (form : Form) → May f.step values form
-    → IsBlock f (form_bytes f.kind f.col f.step values form) (map (kept_by form f.step f.top (least_value values)) values)
-unfolding form_bytes
-form_stands f values w choice.zero h =
+form_stands : (f : Frame) (values : List ℤ) → AreWritable f values → (form : WrittenForm) → May f.step values form
+    → IsBlock f (written_form_bytes f.kind f.col f.step values form) (map (kept_by form f.step f.top (least_value values)) values)
+unfolding written_form_bytes
+form_stands f values w chosen_block.zero h =
     let m : least_value values ≡ pos 0 = no_size (least_value values) (eqb-true (unsigned_abs (least_value values)) 0 (right (is_flat f.step values) (nat_eq (unsigned_abs (least_value values)) 0) h)) in
     zero (tag_byte f.col 2 0) 0 refl (tag_stands f 2 0 (omega arith) (omega arith)) (flat_kept f values w (left (is_flat f.step values) (nat_eq (unsigned_abs (least_value values)) 0) h) ∙ ap (replicate f.count) m)
-form_stands f values w choice.constant h =
+form_stands f values w chosen_block.constant h =
     let c = least_in_range f.kind values w.in_range in
-    constant (tag_byte f.col 3 (narrowest f.kind (least_value values))) (narrowest f.kind (least_value values)) (offset_bytes f.kind (least_value values)) (least_value values) refl
-    (tag_stands f 3 (narrowest f.kind (least_value values)) (omega arith) (fit f.kind (least_value values) c).0) (offset_stands f.kind (least_value values) c)
+    constant (tag_byte f.col 3 (narrow_code f.kind (least_value values))) (narrow_code f.kind (least_value values)) (offset_bytes f.kind (least_value values)) (least_value values) refl
+    (tag_stands f 3 (narrow_code f.kind (least_value values)) (omega arith) (fit f.kind (least_value values) c).0) (offset_stands f.kind (least_value values) c)
     (flat_kept f values w (left (is_flat f.step values) (nat_lt 0 (length values)) h))
-form_stands f values w choice.raw h =
+form_stands f values w chosen_block.raw h =
     let same : map (λ v. v) values ≡ values = map_same values in
     let long : length (map (λ v. v) values) ≡ length values = length-map values (λ v. v) in
     raw (tag_byte f.col 0 0) 0 (values_bytes f.kind values) refl (tag_stands f 0 0 (omega arith) (omega arith)) (long ∙ sym w.counted) (subst (λ (vs : List ℤ). AreValues f.kind (values_bytes f.kind values) vs) (sym same) (raw_stands f.kind values w.in_range))
-form_stands f values w choice.simple h =
+form_stands f values w chosen_block.simple h =
     let c = least_in_range f.kind values w.in_range in
     let m = least_value values in
     let small : numbers.greatest_number (quantised_values f.step values) < 2 ^ 30 = ltb-true (numbers.greatest_number (quantised_values f.step values)) (2 ^ 30) (right (not (is_flat f.step values)) (is_stuffable f.step values) h) in
-    stuffed (tag_byte f.col 1 (narrowest f.kind m)) (narrowest f.kind m) (offset_bytes f.kind m) (numbers.simple_bytes (quantised_values f.step values)) m (quantised_values f.step values) refl
-    (tag_stands f 1 (narrowest f.kind m) (omega arith) (fit f.kind m c).0) (offset_stands f.kind m c)
+    stuffed (tag_byte f.col 1 (narrow_code f.kind m)) (narrow_code f.kind m) (offset_bytes f.kind m) (numbers.simple_bytes (quantised_values f.step values)) m (quantised_values f.step values) refl
+    (tag_stands f 1 (narrow_code f.kind m) (omega arith) (fit f.kind m c).0) (offset_stands f.kind m c)
     (length-map values (quantised f.step m) ∙ sym w.counted) (lists.simple (simple_bytes-list (quantised_values f.step values) (few_quantised f values w) (all_quantised f.step (2 ^ 31) values (omega (arith, small)))))
     (sym (map-map (stands_for f.step f.top m) (quantised f.step m) values))
-form_stands f values w choice.table h =
+form_stands f values w chosen_block.table h =
     let c = least_in_range f.kind values w.in_range in
     let m = least_value values in
     let parts = right (not (is_flat f.step values)) (is_stuffable f.step values && nat_le (distinct_above_0 (quantised_values f.step values)) 254) h in
@@ -211,8 +211,8 @@ form_stands f values w choice.table h =
     let different : distinct_above_0 (quantised_values f.step values) ≤ 254 = leb-true (distinct_above_0 (quantised_values f.step values)) 254 (right (is_stuffable f.step values) (nat_le (distinct_above_0 (quantised_values f.step values)) 254) parts) in
     let long : length (quantised_values f.step values) ≡ length values = length-map values (quantised f.step m) in
     let few = w.few in
-    stuffed (tag_byte f.col 1 (narrowest f.kind m)) (narrowest f.kind m) (offset_bytes f.kind m) (table_bytes (quantised_values f.step values)) m (quantised_values f.step values) refl
-    (tag_stands f 1 (narrowest f.kind m) (omega arith) (fit f.kind m c).0) (offset_stands f.kind m c)
+    stuffed (tag_byte f.col 1 (narrow_code f.kind m)) (narrow_code f.kind m) (offset_bytes f.kind m) (table_bytes (quantised_values f.step values)) m (quantised_values f.step values) refl
+    (tag_stands f 1 (narrow_code f.kind m) (omega arith) (fit f.kind m c).0) (offset_stands f.kind m c)
     (length-map values (quantised f.step m) ∙ sym w.counted)
     (table_list (quantised_values f.step values) (omega (arith, long, few)) (all_quantised f.step (2 ^ 31) values (omega (arith, small))) (distinct_some (quantised_values f.step values) (some_above_0 (numbers.greatest_number (quantised_values f.step values)) (left (not (is_flat f.step values)) (is_stuffable f.step values && nat_le (distinct_above_0 (quantised_values f.step values)) 254) h))) (omega (arith, different)))
     (sym (map-map (stands_for f.step f.top m) (quantised f.step m) values))
@@ -226,21 +226,21 @@ allowed_some false x y e = absurd (cc)
 pub some_same : {A : Type 0} (x y : A) → Some x ≡ Some y → x ≡ y
 some_same x y e = cc
 
-pub may_be : (step : ℕ) (values : List ℤ) (form : Form) (i : ℕ) → get_or (forms step values) i None ≡ Some form → May step values form
-may_be step values form zero e = let a = allowed_some _ choice.zero form e in subst (May step values) a.1 a.0
-may_be step values form (suc zero) e = let a = allowed_some _ choice.constant form e in subst (May step values) a.1 a.0
-may_be step values form (suc (suc zero)) e = subst (May step values) (some_same choice.raw form e) tt
-may_be step values form (suc (suc (suc zero))) e = let a = allowed_some _ choice.simple form e in subst (May step values) a.1 a.0
-may_be step values form (suc (suc (suc (suc zero)))) e = let a = allowed_some _ choice.table form e in subst (May step values) a.1 a.0
+pub may_be : (step : ℕ) (values : List ℤ) (form : WrittenForm) (i : ℕ) → get_or (forms step values) i None ≡ Some form → May step values form
+may_be step values form zero e = let a = allowed_some _ chosen_block.zero form e in subst (May step values) a.1 a.0
+may_be step values form (suc zero) e = let a = allowed_some _ chosen_block.constant form e in subst (May step values) a.1 a.0
+may_be step values form (suc (suc zero)) e = subst (May step values) (some_same chosen_block.raw form e) tt
+may_be step values form (suc (suc (suc zero))) e = let a = allowed_some _ chosen_block.simple form e in subst (May step values) a.1 a.0
+may_be step values form (suc (suc (suc (suc zero)))) e = let a = allowed_some _ chosen_block.table form e in subst (May step values) a.1 a.0
 may_be step values form (suc (suc (suc (suc (suc i))))) e = absurd (cc)
 
-may_taken : (step : ℕ) (values : List ℤ) (taken : Option Form) → At (forms step values) taken → May step values (unwrap_or taken choice.raw)
+may_taken : (step : ℕ) (values : List ℤ) (taken : Option WrittenForm) → At (forms step values) taken → May step values (unwrap_or taken chosen_block.raw)
 may_taken step values None h = tt
 may_taken step values (Some form) h = may_be step values form h.0 h.1
 
 pub chosen_may : (kind : PixelType) (col step : ℕ) (values : List ℤ) → May step values (chosen_form kind col step values)
 unfolding chosen_form
-chosen_may kind col step values = may_taken step values _ (at_first (λ form. length (form_bytes kind col step values form)) (forms step values))
+chosen_may kind col step values = may_taken step values _ (at_first (λ form. length (written_form_bytes kind col step values form)) (forms step values))
 
 -- ---- the written block
 
@@ -253,12 +253,12 @@ written_stands f values w = form_stands f values w (chosen_form f.kind f.col f.s
 pub nothing_off : (step : ℕ) (v : ℤ) → IsNear step v v
 nothing_off step v = omega (arith, ints)
 
-near_by : (form : Form) (step : ℕ) (v m top : ℤ) → 0 < step → m ≤ℤ v → v ≤ℤ top → IsNear step v (kept_by form step top m v)
-near_by choice.raw step v m top some low high = nothing_off step v
-near_by choice.zero step v m top some low high = near step v m top some low high
-near_by choice.constant step v m top some low high = near step v m top some low high
-near_by choice.simple step v m top some low high = near step v m top some low high
-near_by choice.table step v m top some low high = near step v m top some low high
+near_by : (form : WrittenForm) (step : ℕ) (v m top : ℤ) → 0 < step → m ≤ℤ v → v ≤ℤ top → IsNear step v (kept_by form step top m v)
+near_by chosen_block.raw step v m top some low high = nothing_off step v
+near_by chosen_block.zero step v m top some low high = near step v m top some low high
+near_by chosen_block.constant step v m top some low high = near step v m top some low high
+near_by chosen_block.simple step v m top some low high = near step v m top some low high
+near_by chosen_block.table step v m top some low high = near step v m top some low high
 
 -- what is kept of a value is within half a step of it
 pub kept_near : (f : Frame) (values : List ℤ) → AreWritable f values → (i : ℕ) → i < length values
@@ -266,12 +266,12 @@ pub kept_near : (f : Frame) (values : List ℤ) → AreWritable f values → (i 
 unfolding kept
 kept_near f values w i within = near_by (chosen_form f.kind f.col f.step values) f.step (get_or values i (pos 0)) (least_value values) f.top w.step (least_below values i within) (w.below i within)
 
-between_by : (form : Form) (step : ℕ) (v m top : ℤ) → m ≤ℤ v → v ≤ℤ top → (m ≤ℤ kept_by form step top m v) × (kept_by form step top m v ≤ℤ top)
-between_by choice.raw step v m top low high = (low, high)
-between_by choice.zero step v m top low high = (above step m top (quantised step m v) (omega (arith, ints)), below step m top (quantised step m v))
-between_by choice.constant step v m top low high = (above step m top (quantised step m v) (omega (arith, ints)), below step m top (quantised step m v))
-between_by choice.simple step v m top low high = (above step m top (quantised step m v) (omega (arith, ints)), below step m top (quantised step m v))
-between_by choice.table step v m top low high = (above step m top (quantised step m v) (omega (arith, ints)), below step m top (quantised step m v))
+between_by : (form : WrittenForm) (step : ℕ) (v m top : ℤ) → m ≤ℤ v → v ≤ℤ top → (m ≤ℤ kept_by form step top m v) × (kept_by form step top m v ≤ℤ top)
+between_by chosen_block.raw step v m top low high = (low, high)
+between_by chosen_block.zero step v m top low high = (above step m top (quantised step m v) (omega (arith, ints)), below step m top (quantised step m v))
+between_by chosen_block.constant step v m top low high = (above step m top (quantised step m v) (omega (arith, ints)), below step m top (quantised step m v))
+between_by chosen_block.simple step v m top low high = (above step m top (quantised step m v) (omega (arith, ints)), below step m top (quantised step m v))
+between_by chosen_block.table step v m top low high = (above step m top (quantised step m v) (omega (arith, ints)), below step m top (quantised step m v))
 
 -- it is from the least value of the block up to the top, so in the type's range where the top is
 pub kept_between : (f : Frame) (values : List ℤ) → AreWritable f values → (i : ℕ) → i < length values

@@ -1,7 +1,7 @@
 pub mod Frame
 pub mod Near
 pub mod Fewest
-pub mod Choice
+pub mod ChosenBlock
 pub mod Block
 pub mod Faults
 pub mod inside

@@ -5,3 +5,4 @@ pub mod Forms
 pub mod Products
 pub mod Shorter
 pub mod Stepping
+pub mod SoFar

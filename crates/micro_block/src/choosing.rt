@@ -4,7 +4,7 @@ ghost use Rattle.std.specs.Prelude.{◌≡◌, ◌+◌, ◌*◌, ℕ, ℤ, ◌�
 ghost use Rattle.std.specs.Prelude.{IsTrue, IfSome};
 ghost use Rattle.raster_values.specs.Distance.{IsDistance, value_above};
 ghost use Rattle.raster_values.specs.PixelType.{InRange, bytes_of};
-ghost use Rattle.micro_block.specs.Choice as choice;
+ghost use Rattle.micro_block.specs.ChosenBlock as chosen_block;
 ghost use Rattle.micro_block.specs.Frame.{IsBlockCtx, IsBlockStep};
 ghost use Rattle.micro_block.specs.inside.Sizes.{IsFirst, IsTabledLength};
 ghost use Rattle.micro_block.specs.inside.Forms as inside;
@@ -36,7 +36,7 @@ pub(crate) enum BlockForm {
 impl BlockForm {
     /// Whether it is the form with a table.
     fn is_table(self) -> bool
-        ensures { IsTrue result ↔ (named self ≡ choice.table) }
+        ensures { IsTrue result ↔ (named self ≡ chosen_block.table) }
     {
         match self {
             BlockForm::Table => true,
@@ -105,7 +105,7 @@ pub(crate) fn choose_plain(distances: &[u32], ctx: &BlockCtx, spread: Spread) ->
     requires few { length distances.now ≤ 256 }
     requires spread { IsSpread ctx.now.kind ctx.now.step distances.now spread }
     requires plain { let values = values_above ctx.now.kind distances.now in
-        choice.chosen_form ctx.now.kind ctx.now.col ctx.now.step values ≢ choice.table }
+        chosen_block.chosen_form ctx.now.kind ctx.now.col ctx.now.step values ≢ chosen_block.table }
     ensures { let values = values_above ctx.now.kind distances.now in
         IsChosen ctx.now.kind ctx.now.col ctx.now.step values result }
 {
@@ -129,10 +129,10 @@ pub fn block_size(distances: &[u32], ctx: &BlockCtx) -> BlockSize
     requires in_range { All (IsDistance ctx.now.kind) distances.now }
     requires capped { All (λ v. v ≤ℤ ctx.now.top) (map (value_above ctx.now.kind) distances.now) }
     ensures length { let values = map (value_above ctx.now.kind) distances.now in
-        result.len ≡ length (choice.block_bytes ctx.now.kind ctx.now.col ctx.now.step values) }
+        result.len ≡ length (chosen_block.block_bytes ctx.now.kind ctx.now.col ctx.now.step values) }
     ensures table { let values = map (value_above ctx.now.kind) distances.now in
         IsTrue result.has_table
-        ↔ (choice.chosen_form ctx.now.kind ctx.now.col ctx.now.step values ≡ choice.table) }
+        ↔ (chosen_block.chosen_form ctx.now.kind ctx.now.col ctx.now.step values ≡ chosen_block.table) }
     ensures short { result.len ≤ 1 + length distances.now * bytes_of ctx.now.kind }
 {
     let chosen = choose(distances, ctx.kind, ctx.step);
@@ -151,7 +151,7 @@ pub fn block_len(values: &[i64], ctx: &BlockCtx) -> usize
     requires in_range { All (InRange ctx.now.kind) values.now }
     requires capped { All (λ v. v ≤ℤ ctx.now.top) values.now }
     ensures length { result
-        ≡ length (choice.block_bytes ctx.now.kind ctx.now.col ctx.now.step values.now) }
+        ≡ length (chosen_block.block_bytes ctx.now.kind ctx.now.col ctx.now.step values.now) }
     ensures short { result ≤ 1 + length values.now * bytes_of ctx.now.kind }
 {
     let mut room = [0; 256];

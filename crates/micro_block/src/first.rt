@@ -1,7 +1,8 @@
 // The first of the fewest.
 
 ghost use Rattle.std.specs.Prelude.{◌≡◌, ℕ, ◌<◌, ◌≤◌, get_or, MatchOption, Some, None};
-ghost use Rattle.micro_block.specs.Fewest.{IsFirstLeast, former_of};
+ghost use Rattle.micro_block.specs.Fewest.{IsFirstLeast};
+ghost use Rattle.micro_block.specs.inside.SoFar.{former_of};
 
 /// The place of the first of the least sizes, of those that are there, and that size. None where
 /// none is there.

@@ -6,7 +6,7 @@ ghost use Rattle.std.specs.Prelude.{get_or, map};
 ghost use Rattle.first_fault.specs.Parts.{AreBytes, IsDecided, IsPart};
 ghost use Rattle.micro_block.specs.Block.{IsBlock};
 ghost use Rattle.micro_block.specs.Faults.{block_faults};
-ghost use Rattle.micro_block.specs.Choice.{Form, block_bytes, kept, least_value};
+ghost use Rattle.micro_block.specs.ChosenBlock.{WrittenForm, block_bytes, kept, least_value};
 ghost use Rattle.micro_block.specs.Fewest.{IsFirstLeast, first_least};
 ghost use Rattle.micro_block.specs.Frame.{AreWritable, Frame};
 ghost use Rattle.micro_block.specs.Near.{IsNear};
@@ -46,6 +46,6 @@ pub fn written_blocks_stand()
 /// What is taken of candidates is the one that is there, not larger than any, and smaller than each
 /// before it.
 pub fn first_least_is_first()
-    ensures { (size : Form → ℕ) (candidates : List (Option Form)) (k : ℕ) (x : Form) →
+    ensures { (size : WrittenForm → ℕ) (candidates : List (Option WrittenForm)) (k : ℕ) (x : WrittenForm) →
         IsFirstLeast size candidates k x → first_least size candidates ≡ Some x }
 {}

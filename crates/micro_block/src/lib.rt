@@ -27,5 +27,5 @@ pub use laws::{
     written_blocks_stand,
 };
 pub use quantising::quantise;
-pub use reading::read_block;
+pub use reading::{read_block, read_values};
 pub use writing::{write_block, write_distances};

@@ -57,11 +57,12 @@ fn offset_type(kind: PixelType, code: u8) -> Option<PixelType>
     }
 }
 
-/// Reads the values that all the bytes stand for.
-fn read_values(bytes: &[u8], kind: PixelType, out: &mut [i64])
-    requires few { length out.old ≤ 1024 }
+/// Reads the values that the bytes stand for, one behind the other: as many as `out` has.
+pub fn read_values(kind: PixelType, bytes: &[u8], out: &mut [i64])
+    requires few { length out.old ≤ 65536 }
     requires size { length bytes.now ≡ length out.old * bytes_of kind }
-    ensures { AreValues kind bytes.now out.new }
+    ensures values { AreValues kind bytes.now out.new }
+    ensures in_range { All (InRange kind) out.new }
 {
     let size = kind.bytes();
     for i in 0..out.len() {
@@ -81,7 +82,7 @@ fn read_raw(bytes: &[u8], ctx: &BlockCtx, out: &mut [i64]) -> Result<usize, Bloc
     if bytes.len() < used {
         return refused(BlockReason::Cut, 0);
     }
-    read_values(&bytes[..used], ctx.kind, out);
+    read_values(ctx.kind, &bytes[..used], out);
     Ok(used)
 }
 

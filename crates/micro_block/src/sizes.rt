@@ -5,7 +5,7 @@ ghost use Rattle.bit_stuff.specs.Head.{head_size};
 ghost use Rattle.bit_stuff.specs.Simple.{binary_digits};
 ghost use Rattle.bit_stuff.specs.Stuffed.{stuffed_size};
 ghost use Rattle.lut_stuff.specs.Tables.{distinct_above_0, table_size};
-ghost use Rattle.micro_block.specs.Choice as choice;
+ghost use Rattle.micro_block.specs.ChosenBlock as chosen_block;
 ghost use Rattle.micro_block.specs.Fewest.{allowed};
 ghost use Rattle.micro_block.specs.inside.Sizes.{closed_sizes, IsTabledLength};
 ghost use Rattle.micro_block.specs.inside.Stepping.{AreListable, IsSpread, steps_above};
@@ -19,51 +19,52 @@ use lut_stuff::table_len;
 use raster_values::PixelType;
 
 fn holds(kind: PixelType, value: i64) -> bool
-    ensures { result ≡ choice.holds kind value }
+    ensures { result ≡ chosen_block.holds kind value }
 {
     kind.least() <= value && value <= kind.greatest()
 }
 
-/// The narrowest type in which the offset may stand.
-pub(crate) fn narrow_type(kind: PixelType, value: i64) -> PixelType
-    ensures { result ≡ choice.narrow_type kind value }
+/// The narrowest type in which the offset may stand, behind its code.
+pub(crate) fn narrowest(kind: PixelType, value: i64) -> (u8, PixelType)
+    ensures named { result ≡ chosen_block.narrowest kind value }
+    ensures code { result.0 < 4 }
 {
     match kind {
-        PixelType::I8 | PixelType::U8 => kind,
+        PixelType::I8 | PixelType::U8 => (0, kind),
         PixelType::I16 => {
             if holds(PixelType::I8, value) {
-                PixelType::I8
+                (2, PixelType::I8)
             } else if holds(PixelType::U8, value) {
-                PixelType::U8
+                (1, PixelType::U8)
             } else {
-                kind
+                (0, kind)
             }
         }
         PixelType::U16 => {
             if holds(PixelType::U8, value) {
-                PixelType::U8
+                (1, PixelType::U8)
             } else {
-                kind
+                (0, kind)
             }
         }
         PixelType::I32 => {
             if holds(PixelType::U8, value) {
-                PixelType::U8
+                (3, PixelType::U8)
             } else if holds(PixelType::I16, value) {
-                PixelType::I16
+                (2, PixelType::I16)
             } else if holds(PixelType::U16, value) {
-                PixelType::U16
+                (1, PixelType::U16)
             } else {
-                kind
+                (0, kind)
             }
         }
         PixelType::U32 => {
             if holds(PixelType::U8, value) {
-                PixelType::U8
+                (2, PixelType::U8)
             } else if holds(PixelType::U16, value) {
-                PixelType::U16
+                (1, PixelType::U16)
             } else {
-                kind
+                (0, kind)
             }
         }
     }
@@ -99,7 +100,7 @@ pub(crate) fn form_sizes(
     ensures { result ≡ closed_sizes kind count least most tabled }
 {
     let flat = most == 0;
-    let offset = narrow_type(kind, least).bytes();
+    let offset = narrowest(kind, least).1.bytes();
     let stuffable = !flat && most < 1 << 30;
     let simple = if stuffable {
         Some(1 + offset + list_size(count, most))

@@ -8,9 +8,9 @@ ghost use Rattle.raster_values.specs.Distance.{IsDistance, value_above};
 ghost use Rattle.raster_values.specs.PixelType.{InRange, bytes_of};
 ghost use Rattle.raster_values.specs.Grid.{values_bytes};
 ghost use Rattle.micro_block.specs.Block.{IsBlock};
-ghost use Rattle.micro_block.specs.Choice as choice;
-ghost use Rattle.micro_block.specs.Choice.{block_bytes, form_bytes, kept, narrowest, offset_bytes};
-ghost use Rattle.micro_block.specs.Choice.{tag_byte};
+ghost use Rattle.micro_block.specs.ChosenBlock as chosen_block;
+ghost use Rattle.micro_block.specs.ChosenBlock.{block_bytes, written_form_bytes, kept, narrow_code, narrow_type, offset_bytes};
+ghost use Rattle.micro_block.specs.ChosenBlock.{tag_byte};
 ghost use Rattle.micro_block.specs.Frame.{IsBlockCtx, frame_of};
 ghost use Rattle.micro_block.specs.Near.{IsNear};
 ghost use Rattle.micro_block.specs.inside.Forms.{IsChosen};
@@ -20,7 +20,7 @@ ghost use Rattle.micro_block.specs.inside.Stepping.{values_above};
 use crate::choosing::{BlockForm, Chosen, block_size, choose_plain};
 use crate::context::BlockCtx;
 use crate::distances::{distances_of, value_of};
-use crate::sizes::narrow_type;
+use crate::sizes::narrowest;
 use crate::spreading::{Spread, spread_of};
 use crate::stepping::{Rule, steps_each};
 use bit_stuff::{digit_count, stuff, write_head};
@@ -36,35 +36,17 @@ fn tag(col: u32, form: u8, code: u8) -> u8
     form + 4 * (col / 8 % 16) as u8 + 64 * code
 }
 
-/// The code of the narrowest type of an offset.
-fn narrow_code(kind: PixelType, narrow: PixelType) -> u8
-    ensures value { (v : ℤ) → narrow ≡ choice.narrow_type kind v → result ≡ narrowest kind v }
-    ensures code { result < 4 }
-{
-    match (kind, narrow) {
-        (PixelType::I16, PixelType::U8) => 1,
-        (PixelType::I16, PixelType::I8) => 2,
-        (PixelType::U16, PixelType::U8) => 1,
-        (PixelType::I32, PixelType::U16) => 1,
-        (PixelType::I32, PixelType::I16) => 2,
-        (PixelType::I32, PixelType::U8) => 3,
-        (PixelType::U32, PixelType::U16) => 1,
-        (PixelType::U32, PixelType::U8) => 2,
-        _ => 0,
-    }
-}
-
 /// Writes the tag and the offset of a form over the front of `out`; how many bytes that took.
 fn write_offset(form: u8, col: u32, kind: PixelType, least: i64, out: &mut [u8]) -> usize
     requires form { form < 4 }
     requires fits { InRange kind least }
-    requires room { 1 + bytes_of (choice.narrow_type kind least) ≤ length out.old }
-    ensures used { result ≡ 1 + bytes_of (choice.narrow_type kind least) }
-    ensures bytes { out.new ≡ tag_byte col form (narrowest kind least)
-        ∷ (offset_bytes kind least ++ drop (1 + bytes_of (choice.narrow_type kind least)) out.old) }
+    requires room { 1 + bytes_of (narrow_type kind least) ≤ length out.old }
+    ensures used { result ≡ 1 + bytes_of (narrow_type kind least) }
+    ensures bytes { out.new ≡ tag_byte col form (narrow_code kind least)
+        ∷ (offset_bytes kind least ++ drop (1 + bytes_of (narrow_type kind least)) out.old) }
 {
-    let narrow = narrow_type(kind, least);
-    out[0] = tag(col, form, narrow_code(kind, narrow));
+    let (code, narrow) = narrowest(kind, least);
+    out[0] = tag(col, form, code);
     narrow.write_value(least, &mut out[1..]);
     1 + narrow.bytes()
 }
@@ -109,8 +91,8 @@ fn write_zero(col: u32, out: &mut [u8])
 /// Writes the constant form.
 fn write_constant(col: u32, kind: PixelType, least: i64, out: &mut [u8])
     requires fits { InRange kind least }
-    requires room { length out.old ≡ 1 + bytes_of (choice.narrow_type kind least) }
-    ensures { out.new ≡ tag_byte col 3 (narrowest kind least) ∷ offset_bytes kind least }
+    requires room { length out.old ≡ 1 + bytes_of (narrow_type kind least) }
+    ensures { out.new ≡ tag_byte col 3 (narrow_code kind least) ∷ offset_bytes kind least }
 {
     write_offset(3, col, kind, least, out);
 }
@@ -212,9 +194,9 @@ fn write_simple_form(distances: &[u32], ctx: &BlockCtx, spread: Spread, out: &mu
     requires spread { IsSpread ctx.now.kind ctx.now.step distances.now spread }
     requires listable { AreListable ctx.now.step spread.least spread.rule distances.now }
     requires room { let values = values_above ctx.now.kind distances.now in length out.old
-        ≡ length (form_bytes ctx.now.kind ctx.now.col ctx.now.step values choice.simple) }
+        ≡ length (written_form_bytes ctx.now.kind ctx.now.col ctx.now.step values chosen_block.simple) }
     ensures { let values = values_above ctx.now.kind distances.now in
-        out.new ≡ form_bytes ctx.now.kind ctx.now.col ctx.now.step values choice.simple }
+        out.new ≡ written_form_bytes ctx.now.kind ctx.now.col ctx.now.step values chosen_block.simple }
 {
     let used = write_offset(1, ctx.col, ctx.kind, value_of(ctx.kind, spread.least), out);
     write_simple_list(distances, spread, ctx.step, &mut out[used..]);
@@ -227,12 +209,12 @@ fn write_table_form(distances: &[u32], ctx: &BlockCtx, spread: Spread, out: &mut
     requires table { let qs = map (steps_above ctx.now.step spread.least) distances.now in
         table_size qs ≡ Some (length (table_bytes qs)) }
     requires room { let values = values_above ctx.now.kind distances.now in
-        length (form_bytes ctx.now.kind ctx.now.col ctx.now.step values choice.table)
+        length (written_form_bytes ctx.now.kind ctx.now.col ctx.now.step values chosen_block.table)
         ≤ length out.old }
     ensures count { let values = values_above ctx.now.kind distances.now in result
-        ≡ length (form_bytes ctx.now.kind ctx.now.col ctx.now.step values choice.table) }
+        ≡ length (written_form_bytes ctx.now.kind ctx.now.col ctx.now.step values chosen_block.table) }
     ensures bytes { let values = values_above ctx.now.kind distances.now in
-        out.new ≡ form_bytes ctx.now.kind ctx.now.col ctx.now.step values choice.table
+        out.new ≡ written_form_bytes ctx.now.kind ctx.now.col ctx.now.step values chosen_block.table
         ++ drop result out.old }
 {
     let (least, rule) = (spread.least, spread.rule);
@@ -249,7 +231,7 @@ fn write_plain(distances: &[u32], ctx: &BlockCtx, spread: Spread, chosen: Chosen
     requires chosen { let values = values_above ctx.now.kind distances.now in
         IsChosen ctx.now.kind ctx.now.col ctx.now.step values chosen }
     requires plain { let values = values_above ctx.now.kind distances.now in
-        choice.chosen_form ctx.now.kind ctx.now.col ctx.now.step values ≢ choice.table }
+        chosen_block.chosen_form ctx.now.kind ctx.now.col ctx.now.step values ≢ chosen_block.table }
     requires room { length out.old ≡ chosen.size }
     ensures { let values = values_above ctx.now.kind distances.now in
         out.new ≡ block_bytes ctx.now.kind ctx.now.col ctx.now.step values }
@@ -274,7 +256,7 @@ pub fn write_distances(distances: &[u32], ctx: &BlockCtx, has_table: bool, out: 
     requires capped { All (λ v. v ≤ℤ ctx.now.top) (map (value_above ctx.now.kind) distances.now) }
     requires table { let values = map (value_above ctx.now.kind) distances.now in
         IsTrue has_table
-        ↔ (choice.chosen_form ctx.now.kind ctx.now.col ctx.now.step values ≡ choice.table) }
+        ↔ (chosen_block.chosen_form ctx.now.kind ctx.now.col ctx.now.step values ≡ chosen_block.table) }
     requires room { let values = map (value_above ctx.now.kind) distances.now in
         length (block_bytes ctx.now.kind ctx.now.col ctx.now.step values) ≤ length out.old }
     ensures count { let values = map (value_above ctx.now.kind) distances.now in

@@ -1,6 +1,7 @@
 pub mod Views
 mod MaskBits
 mod MaskCounts
+mod EqualMasks
 mod Points
 pub mod Same
 mod Places

@@ -12,4 +12,5 @@ pub mod Order
 pub mod Values
 pub mod Flat
 pub mod ReadGrid
+pub mod Bands
 pub mod inside

@@ -6,6 +6,7 @@
 //! them, and `grid_write` gives the one grid of the raster.
 #![tactic(auto)]
 
+mod bands;
 mod blocks;
 mod cells;
 mod grid;
@@ -16,6 +17,7 @@ mod order;
 mod raster;
 mod reading;
 
+pub use bands::Bands;
 pub use grid::grid_write;
 pub use kind::PixelType;
 pub use laws::{

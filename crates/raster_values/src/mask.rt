@@ -136,6 +136,14 @@ fn lay(bytes: &mut Vec<u8>, mask: &[u8])
     all.copy_from_slice(mask);
 }
 
+/// Whether as many bytes have the same bits.
+fn have_same_bits(one: &[u8], other: &[u8]) -> bool
+    requires { length one.now ≡ length other.now }
+    ensures { IsTrue result ↔ ((k : ℕ) → mask_bit one.now k ≡ mask_bit other.now k) }
+{
+    *one == *other
+}
+
 /// How many of `count` bits of a byte from `from` on are 1, the bits counted from the highest.
 fn ones_within(byte: u8, from: usize, count: usize) -> usize
     requires above { 0 < count }
@@ -259,6 +267,13 @@ impl Mask {
         ensures bits { (k : ℕ) → mask_bit result.now k ≡ get_or self.now k false }
     {
         &self.bytes
+    }
+
+    /// Whether two masks are equal.
+    pub fn is_same(&self, other: &Mask) -> bool
+        ensures { IsTrue result ↔ (self.now ≡ other.now) }
+    {
+        self.count == other.count && have_same_bits(&self.bytes, &other.bytes)
     }
 
     /// A mask equal to this one.

@@ -1,4 +1,4 @@
-ghost use Rattle.std.specs.Prelude.{◌≡◌, ◌+◌, ◌-◌, ◌*◌, ◌<◌, ◌≤◌, ◌↔◌, IfOk, OnOk, OnErr, IsErrOf, true, length, min, replicate, ◌++◌, drop, All, pos, false, get_or, ◌/◌, ◌^◌, ℕ, ℤ, [], List, None, IsNone, map, is_some, IfErr};
+ghost use Rattle.std.specs.Prelude.{◌≡◌, ◌+◌, ◌-◌, ◌*◌, ◌<◌, ◌≤◌, ◌↔◌, IfOk, OnOk, OnErr, IsErrOf, true, length, min, replicate, ◌++◌, drop, All, pos, false, get_or, ◌/◌, ◌^◌, ℕ, ℤ, [], List, None, IsNone, map, is_some, IfErr, IsTrue};
 ghost use Rattle.std.specs.List.{count_by};
 ghost use Rattle.outside_io.specs.streams.Faults.{CountsFaults};
 ghost use Rattle.outside_io.specs.streams.Sink.{Holds, HoldsPrefix};
@@ -457,6 +457,13 @@ impl Raster {
         ensures { IsMaskOf self.now out.new }
     {
         out.copy_from_slice(self.marks.bytes());
+    }
+
+    /// Whether the same pixels are valid as in another raster, by their numbers.
+    pub fn has_mask_of(&self, other: &Raster) -> bool
+        ensures { IsTrue result ↔ (marks_of self.now ≡ marks_of other.now) }
+    {
+        self.marks.is_same(&other.marks)
     }
 
     /// The bytes of the values of all pixels, row by row and depth innermost, as they lie in

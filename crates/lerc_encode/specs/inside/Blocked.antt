@@ -4,8 +4,8 @@ use Rattle.raster_values.specs.Raster.{Pixels, IsRaster}
 use Rattle.raster_values.specs.Block.{block_values}
 use Rattle.lerc_header.specs.declared.header.Header.{Header}
 use Rattle.micro_block.specs.Frame.{IsBlockStep}
-use Rattle.micro_block.specs.Choice as choice
-use Rattle.micro_block.specs.Choice.{block_bytes, chosen_form}
+use Rattle.micro_block.specs.ChosenBlock as micro
+use Rattle.micro_block.specs.ChosenBlock.{block_bytes, chosen_form}
 use Rattle.lerc_grammar.specs.Blocks.{block_col, block_depth, block_row, coded_blocks, coded_values}
 use Rattle.lerc_encode.specs.Images.{blocks_bytes}
 use Rattle.lerc_encode.specs.declared.blocks.Spot.{Spot}
@@ -43,10 +43,10 @@ bytes_at h r spot = block_bytes h.kind spot.col h.step (values_at h r spot)
 
 -- a block has a table
 abbrev pub HasTableAt : Header → Pixels → Spot → Type 0
-HasTableAt h r spot = chosen_form h.kind spot.col h.step (values_at h r spot) ≡ choice.table
+HasTableAt h r spot = chosen_form h.kind spot.col h.step (values_at h r spot) ≡ micro.table
 
 abbrev pub HasTable : Header → Pixels → ℕ → Type 0
-HasTable h r k = chosen_form h.kind (block_col h k) h.step (coded_values h r k) ≡ choice.table
+HasTable h r k = chosen_form h.kind (block_col h k) h.step (coded_values h r k) ≡ micro.table
 
 -- of the first n coded blocks, which have a table
 pub record AreFlags (h : Header) (r : Pixels) (n : ℕ) (tables : List Bool) : Type 0 where

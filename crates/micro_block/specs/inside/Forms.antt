@@ -6,8 +6,8 @@ use Rattle.micro_block.specs.declared.choosing.BlockForm.{BlockForm}
 use Rattle.micro_block.specs.declared.choosing.BlockForm.TheVariants.{Zero, Constant, Raw, Simple}
 use Rattle.micro_block.specs.declared.choosing.BlockForm.TheVariants.{Table}
 use Rattle.micro_block.specs.declared.choosing.Chosen.{Chosen}
-use Rattle.micro_block.specs.Choice as choice
-use Rattle.micro_block.specs.Choice.{Form, May, least_value, chosen_form, block_bytes}
+use Rattle.micro_block.specs.ChosenBlock as chosen_block
+use Rattle.micro_block.specs.ChosenBlock.{WrittenForm, May, least_value, chosen_form, block_bytes}
 
 -- the form at a place in their order
 abbrev pub form_at : ℕ → BlockForm
@@ -17,12 +17,12 @@ form_at place =
     else (if nat_eq place 2 then Raw else (if nat_eq place 3 then Simple else Table)))
 
 -- the form of the definitions
-abbrev pub named : BlockForm → Form
-named Zero = choice.zero
-named Constant = choice.constant
-named Raw = choice.raw
-named Simple = choice.simple
-named Table = choice.table
+abbrev pub named : BlockForm → WrittenForm
+named Zero = chosen_block.zero
+named Constant = chosen_block.constant
+named Raw = chosen_block.raw
+named Simple = chosen_block.simple
+named Table = chosen_block.table
 
 -- what is chosen for a block
 pub record IsChosen (kind : PixelType) (col step : ℕ) (values : List ℤ) (c : Chosen) : Type 0 where

@@ -12,8 +12,8 @@ use Rattle.lut_stuff.specs.Tables.{table_size}
 use Rattle.micro_block.specs.Fewest.{allowed, IsFirstLeast}
 use Rattle.micro_block.specs.declared.choosing.Chosen.{Chosen}
 use Rattle.micro_block.specs.inside.Forms.{form_at}
-use Rattle.micro_block.specs.Choice.{narrow_type, quantised_values}
-use Rattle.micro_block.specs.Choice.{is_flat, is_stuffable}
+use Rattle.micro_block.specs.ChosenBlock.{narrow_type, quantised_values}
+use Rattle.micro_block.specs.ChosenBlock.{is_flat, is_stuffable}
 
 -- the length of the list in the table form, where it may stand
 abbrev pub tabled_size : ℕ → List ℤ → Option ℕ

@@ -7,7 +7,7 @@ use Rattle.bit_stuff.specs.Simple.{greatest_number}
 use Rattle.micro_block.specs.declared.stepping.Rule.{Rule}
 use Rattle.micro_block.specs.declared.stepping.Rule.TheVariants.{Subtract, Shift, Multiply, Divide}
 use Rattle.micro_block.specs.declared.spreading.Spread.{Spread}
-use Rattle.micro_block.specs.Choice.{least_value, quantised_values}
+use Rattle.micro_block.specs.ChosenBlock.{least_value, quantised_values}
 use Rattle.micro_block.specs.inside.Products.{IsProduct}
 
 -- the values that are so far above the least of the type

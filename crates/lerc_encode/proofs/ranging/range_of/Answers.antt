@@ -3,7 +3,7 @@ use Rattle.std.proofs.lemmas.Int.{to_z-of_z}
 use mir.Syntax.{w64}
 use mir.Val.{SFits}
 use Rattle.std.specs.Prelude.{is_some}
-use Rattle.micro_block.specs.Choice.{least_value}
+use Rattle.micro_block.specs.ChosenBlock.{least_value}
 use Rattle.lerc_encode.specs.Ranges.{depth_values, greatest_value}
 use Rattle.lerc_encode.proofs.Extremes.{least_is, greatest_is}
 use Rattle.lerc_encode.proofs.ranging.range_of.Goals as goal

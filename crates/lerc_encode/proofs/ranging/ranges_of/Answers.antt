@@ -3,7 +3,7 @@ use Rattle.std.specs.Prelude.{ℤ}
 use Rattle.std.proofs.lemmas.List.FromFn.{map-range_with_len_more}
 use mir.Syntax.{w64}
 use mir.Val.{to_z, of_z}
-use Rattle.micro_block.specs.Choice.{least_value}
+use Rattle.micro_block.specs.ChosenBlock.{least_value}
 use Rattle.raster_values.proofs.Views.{same_bits}
 use Rattle.lerc_encode.specs.Ranges.{depth_values, greatest_value}
 use Rattle.lerc_encode.proofs.Extremes.{depth_least_fits, depth_greatest_fits}

@@ -1,6 +1,6 @@
 use Rattle.std.proofs.Common.{◌≡◌, map}
 use Rattle.std.specs.List.{range_with_len}
-use Rattle.micro_block.specs.Choice.{least_value}
+use Rattle.micro_block.specs.ChosenBlock.{least_value}
 use Rattle.lerc_encode.specs.Ranges.{depth_values, greatest_value}
 use Rattle.lerc_encode.proofs.ranging.ranges_of.Given as goal
 

@@ -5,7 +5,7 @@ use mir.Val.{to_z, of_z}
 use Rattle.raster_values.specs.PixelType.{InRange}
 use Rattle.raster_values.specs.Raster.{values_of}
 use Rattle.raster_values.specs.declared.kind.PixelType.{PixelType}
-use Rattle.micro_block.specs.Choice.{least_value}
+use Rattle.micro_block.specs.ChosenBlock.{least_value}
 use Rattle.raster_values.proofs.Views.{same_bits}
 use Rattle.lerc_encode.specs.Ranges.{greatest_value}
 use Rattle.lerc_encode.proofs.Extremes.{whole_least, whole_greatest, leasts_fit, greatests_fit, all_least_fits, all_greatest_fits}

@@ -1,6 +1,6 @@
 use Rattle.std.proofs.Common.{◌≤ℤ◌, ℤ, List, length, sym, ap, subst, ◌∙◌}
 use Rattle.std.specs.Prelude.{All}
-use Rattle.micro_block.specs.Choice.{block_bytes}
+use Rattle.micro_block.specs.ChosenBlock.{block_bytes}
 use Rattle.micro_block.proofs.Above.{distances_fit, given_back}
 use Rattle.micro_block.proofs.choosing.block_len.Goals as goal
 

@@ -1,4 +1,4 @@
-use Rattle.std.proofs.Common.{◌≡◌, ◌*◌, ◌<◌, ◌+◌, ◌≤◌, ℕ, ℤ, pos, List, get_or, length, drop, ap, ◌∙◌, subst, ◌⊎◌, inl, inr, arith}
+use Rattle.std.proofs.Common.{◌≡◌, ◌*◌, ◌<◌, ◌+◌, ◌≤◌, ℕ, ℤ, pos, List, get_or, length, drop, sym, ap, ◌∙◌, subst, ◌⊎◌, inl, inr, arith}
 use Rattle.std.specs.Prelude.{set}
 use Rattle.std.proofs.lemmas.Bool.{cases_lt}
 use Rattle.std.proofs.lemmas.Int.{ints, to_z-of_z}
@@ -7,7 +7,7 @@ use mir.Syntax.{w64}
 use mir.Val.{SFits}
 use Rattle.byteorder.specs.Endian.{little_number}
 use Rattle.raster_values.specs.PixelType.{bytes_of, value_of}
-use Rattle.micro_block.proofs.BlockSteps.{value_small}
+use Rattle.micro_block.proofs.BlockSteps.{value_small, values_in_range}
 use Rattle.micro_block.proofs.reading.read_values.Goals as goal
 
 more : (out : List ℤ) (i : ℕ) (w : ℤ) (f : ℕ → ℤ) → i < length out → w ≡ f i → ((k : ℕ) → k < i → get_or out k (pos 0) ≡ f k) → (k : ℕ) → k < i + 1 → get_or (set out i w) k (pos 0) ≡ f k
@@ -28,3 +28,8 @@ loop-i-preserved c =
     let spelled = c.read_value.ensures.spelled ∙ ap (λ (u : List ℕ). value_of kind (little_number (bytes_of kind) u)) (take_rest bytes (i * c.bytes-size.result))
     ∙ ap (λ (n : ℕ). value_of kind (little_number (bytes_of kind) (drop (i * n) bytes))) c.bytes-size.ensures in
     more c.loop-i.out i _ at (omega arith) (to_z-of_z w64 c.read_value.result fits ∙ spelled) c.loop-i.invariant
+
+pub returns-clause-in_range : goal.returns-clause-in_range
+returns-clause-in_range c =
+    values_in_range c.args.kind c.args.bytes.now c.loop-i.out (λ i. omega (arith, c.type_inv.bytes i))
+    (record { size = c.requires.size ∙ ap (λ n. n * bytes_of c.args.kind) (sym c.loop-i.auto.out); each = λ k below. c.loop-i.invariant k (omega arith) })

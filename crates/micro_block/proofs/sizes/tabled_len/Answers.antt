@@ -8,7 +8,7 @@ use Rattle.bit_stuff.proofs.Digits.{digits_step}
 use Rattle.lut_stuff.specs.Tables.{distinct_above_0, table_size}
 use Rattle.lut_stuff.proofs.Tabled.{distinct_some}
 use Rattle.micro_block.specs.declared.spreading.Spread.{Spread}
-use Rattle.micro_block.specs.Choice.{quantised_values}
+use Rattle.micro_block.specs.ChosenBlock.{quantised_values}
 use Rattle.micro_block.specs.inside.Shorter.{IsLong}
 use Rattle.micro_block.specs.inside.Sizes.{IsTabledLength}
 use Rattle.micro_block.specs.inside.Stepping.{IsSpread, steps_above, values_above}

@@ -1,7 +1,7 @@
 use Rattle.std.proofs.Common.{◌≤ℤ◌, ◌++◌, ℤ, List, length, take, drop, sym, ap, subst, ◌∙◌, arith}
 use Rattle.std.specs.Prelude.{All}
 use Rattle.micro_block.specs.Block.{IsBlock}
-use Rattle.micro_block.specs.Choice.{block_bytes}
+use Rattle.micro_block.specs.ChosenBlock.{block_bytes}
 use Rattle.micro_block.specs.Frame.{frame_of}
 use Rattle.micro_block.proofs.Above.{distances_fit, given_back}
 use Rattle.micro_block.proofs.WriteSteps.{writable, written_block}

@@ -2,8 +2,9 @@ use Rattle.std.proofs.Common.{◌≡◌, ◌+◌, ◌-◌, ◌++◌, ◌∷◌, 
 use Rattle.std.specs.Prelude.{set}
 use mir.Syntax.{w64}
 use mir.Val.{of_z, to_z}
+use Rattle.raster_values.specs.declared.kind.PixelType.{PixelType}
 use Rattle.raster_values.specs.PixelType.{bytes_of, value_bytes}
-use Rattle.micro_block.specs.Choice.{narrow_type, narrowest, offset_bytes, tag_byte}
+use Rattle.micro_block.specs.ChosenBlock.{narrowest, narrow_type, narrow_code, offset_bytes, tag_byte}
 use Rattle.micro_block.proofs.Range.{reread}
 use Rattle.micro_block.proofs.WriteSteps.{front_written}
 use Rattle.micro_block.proofs.writing.write_offset.Goals as goal
@@ -15,8 +16,9 @@ returns-clause-bytes c =
     let least = c.args.least in
     let old = c.args.out.now in
     let e : to_z w64 (of_z w64 least) ≡ least = reread kind least c.requires.fits in
-    let narrow : c.narrow_type-narrow.result ≡ narrow_type kind least = c.narrow_type-narrow.ensures ∙ ap (narrow_type kind) e in
-    let tagged : c.tag.result ≡ tag_byte c.args.col c.args.form (narrowest kind least) = c.tag.ensures ∙ ap (tag_byte c.args.col c.args.form) (c.narrow_code.ensures.value least narrow) in
+    let found : c.narrowest-code.result ≡ narrowest kind least = c.narrowest-code.ensures.named ∙ ap (narrowest kind) e in
+    let narrow : c.narrowest-code.result.1 ≡ narrow_type kind least = ap (λ (p : ℕ × PixelType). p.1) found in
+    let tagged : c.tag.result ≡ tag_byte c.args.col c.args.form (narrow_code kind least) = c.tag.ensures ∙ ap (λ (p : ℕ × PixelType). tag_byte c.args.col c.args.form p.0) found in
     let behind = take (length (set old 0 c.tag.result) - 1) (drop 1 (set old 0 c.tag.result)) in
     front_written c.tag.result (offset_bytes kind least) old c.write_value.new.out (bytes_of (narrow_type kind least)) (omega (arith, c.requires.room))
     (c.write_value.ensures.bytes ∙ (λ i. value_bytes (narrow i) (e i) ++ drop (bytes_of (narrow i)) behind))

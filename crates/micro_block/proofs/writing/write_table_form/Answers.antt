@@ -4,7 +4,7 @@ use mir.Syntax.{w64}
 use mir.Val.{of_z, to_z}
 use Rattle.lut_stuff.specs.Tables.{table_bytes}
 use Rattle.raster_values.specs.PixelType.{bytes_of}
-use Rattle.micro_block.specs.Choice.{narrow_type, narrowest, offset_bytes, tag_byte}
+use Rattle.micro_block.specs.ChosenBlock.{narrow_type, narrow_code, offset_bytes, tag_byte}
 use Rattle.micro_block.specs.inside.Stepping.{steps_above}
 use Rattle.micro_block.proofs.WriteSteps.{least_again, offset_len, rest_over, table_above, table_above_len}
 use Rattle.micro_block.proofs.writing.write_table_form.Goals as goal
@@ -72,7 +72,7 @@ returns-clause-bytes c =
     let r = c.write_table_list.result in
     let used = c.write_offset-used.result in
     let list = table_bytes (map (steps_above ctx.step s.least) ds) in
-    let written = rest_over (tag_byte ctx.col 1 (narrowest ctx.kind k)) (offset_bytes ctx.kind k) (drop (1 + bytes_of (narrow_type ctx.kind k)) old) c.write_offset-used.new.out c.write_table_list.new.out
+    let written = rest_over (tag_byte ctx.col 1 (narrow_code ctx.kind k)) (offset_bytes ctx.kind k) (drop (1 + bytes_of (narrow_type ctx.kind k)) old) c.write_offset-used.new.out c.write_table_list.new.out
     list used r (omega (arith, c.write_offset-used.ensures.used, offset_len ctx.kind k)) c.write_offset-used.ensures.bytes c.write_table_list.ensures.bytes in
     let behind : drop r (drop (1 + bytes_of (narrow_type ctx.kind k)) old) ≡ drop (used + r) old = ap (λ (n : ℕ). drop r (drop n old)) (sym c.write_offset-used.ensures.used) ∙ drop-drop r used old in
     written ∙ (λ i. table_above ctx.kind ctx.col ctx.step ds s k c.requires.spread (least_again ctx.kind ctx.step ds s c.value_of.result c.requires.spread c.value_of.ensures) i ++ behind i)
