@@ -3,6 +3,7 @@
 use Rattle.std.specs.Prelude.{◌≡◌, ℕ, ◌*◌, ◌<◌, ◌≤◌, List, length, take, Option, Bool, IsTrue, Result, Ok, Err}
 use Rattle.outside_io.specs.declared.Failed.{Failed}
 use Rattle.outside_io.specs.streams.Sink.{Holds, HoldsPrefix}
+use Rattle.bundle_index.specs.Sizes.{slot_count}
 use Rattle.bundle_store.specs.declared.check.CheckReport.{CheckReport}
 use Rattle.bundle_store.specs.declared.tile_rec.TileRec.{TileRec}
 use Rattle.bundle_store.specs.Check.{Reports}
@@ -57,7 +58,7 @@ ListGave told bundle (Err e) old new =
 
 -- where the volume tells its bundle, the report is that of all slots
 abbrev pub IsReport : Bool → List ℕ → CheckReport → Type 0
-IsReport told bundle report = IsTrue told → Reports bundle 16384 report
+IsReport told bundle report = IsTrue told → Reports bundle slot_count report
 
 -- The lines of the report, and where the output failed a prefix of them. Where the volume failed,
 -- the first type holds: the output is as it was.
