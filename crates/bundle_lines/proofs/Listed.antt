@@ -7,7 +7,7 @@ use Rattle.std.proofs.lemmas.Result.{IfOk-from_err}
 use Rattle.outside_io.specs.streams.Sink.{Holds, HoldsPrefix}
 use Rattle.outside_io.proofs.StreamLemmas.Gives.{HoldsPrefix_join, Holds_join, Holds_none}
 use Rattle.bundle_index.specs.Entry.{entry_at}
-use Rattle.bundle_lines.specs.Ends.{IsListing, ListGave}
+use Rattle.bundle_lines.specs.Gave.{IsListing, ListGave}
 use Rattle.bundle_lines.specs.Lines.{list_line, listing}
 use Rattle.bundle_lines.specs.inside.Rows.{row_lines}
 

@@ -3,6 +3,7 @@
 use Rattle.std.specs.Prelude.{◌≡◌, ◌⊎◌, ℕ, ◌<◌, ◌≤◌, List, [], length, replicate, take, Option, Result, Ok, Err}
 use Rattle.outside_io.specs.streams.Sink.{Holds, HoldsPrefix}
 use Rattle.outside_io.specs.volume.History.{History, DuringAt}
+use Rattle.bundle_index.specs.Sizes.{slot_count}
 use Rattle.bundle_store.specs.declared.tile_rec.TileRec.{TileRec}
 use Rattle.bundle_store.specs.Build.{last_tiles, map_after}
 use Rattle.bundle_store.specs.Built.{filled}
@@ -20,7 +21,7 @@ BuildEnd = Result (Unit {0}) BuildStop
 -- the line of the bundle of each slot's last tile
 abbrev pub built_line_of : List TileRec → List ℕ
 built_line_of updates =
-    built_line (filled (last_tiles updates) 16384) (length (layout (last_tiles updates)))
+    built_line (filled (last_tiles updates) slot_count) (length (layout (last_tiles updates)))
 
 -- The line, or where the output failed a prefix of it. By each other end the first type holds: the
 -- output is as it was.

@@ -4,6 +4,7 @@ pub use Rattle.outside_io.specs.streams.Faults
 pub use Rattle.outside_io.specs.streams.Sink
 pub use Rattle.outside_io.specs.volume.Disk
 pub use Rattle.outside_io.specs.volume.History
+pub use Rattle.bundle_index.specs.Sizes
 pub use Rattle.bundle_store.specs.Appended
 pub use Rattle.bundle_store.specs.Build
 pub use Rattle.bundle_store.specs.Built
@@ -13,7 +14,7 @@ pub use Rattle.bundle_store.specs.Layout
 pub use Rattle.bundle_store.specs.Session
 pub use Rattle.bundle_store.specs.Tiles
 pub mod Builds
-pub mod Ends
+pub mod Gave
 pub mod Lines
 pub mod Puts
 pub mod inside

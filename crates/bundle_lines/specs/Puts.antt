@@ -11,7 +11,7 @@ use Rattle.bundle_store.specs.Images.{EachImage, HoldsClosed}
 use Rattle.bundle_store.specs.Session.{IsReadyToPut, SessionState}
 use Rattle.bundle_store.specs.Tiles.{IsReadable, TileMap, tiles}
 use Rattle.bundle_lines.specs.declared.stop.PutStop.TheVariants.{Output, Volume, Full}
-use Rattle.bundle_lines.specs.Ends.{PutEnd, PutGave, UnlessVolume}
+use Rattle.bundle_lines.specs.Gave.{PutEnd, PutGave, UnlessVolume}
 -- ---- the bundle
 
 -- the bundle after the updates were put one after the other

@@ -3,7 +3,7 @@ ghost use Rattle.outside_io.specs.declared.volume.VolFile.TheVariants.{Bundle};
 ghost use Rattle.outside_io.specs.streams.Faults.{IsCause};
 ghost use Rattle.outside_io.specs.volume.History.{During, contents, current};
 ghost use Rattle.bundle_store.specs.Session.{Serves};
-ghost use Rattle.bundle_lines.specs.Ends.{CheckGave};
+ghost use Rattle.bundle_lines.specs.Gave.{CheckGave};
 
 use crate::lines::give_report;
 use crate::stop::LineStop;

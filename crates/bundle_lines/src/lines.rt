@@ -4,6 +4,7 @@ ghost use Rattle.std.specs.Prelude.{◌≡◌, ◌+◌, ◌<◌, ◌≤◌, ◌+
 ghost use Rattle.outside_io.specs.program.Line.{and_number};
 ghost use Rattle.outside_io.specs.streams.Faults.{CountsFaults};
 ghost use Rattle.outside_io.specs.streams.Sink.{Holds, HoldsPrefix};
+ghost use Rattle.bundle_index.specs.Sizes.{slot_count};
 ghost use Rattle.bundle_lines.specs.Lines.{built_line, check_lines, first_line, named_line, put_line_of, recovery_line, slot_text};
 
 use bundle_index::Slot;
@@ -99,7 +100,7 @@ pub(crate) fn give_put<K: Sink>(slot: Slot, size: usize, out: &mut K) -> Result<
     ensures ok { OnOk result (Holds (K.held out.old) (K.held out.new) (put_line_of slot size)) }
     ensures err { OnErr result
         (HoldsPrefix (K.held out.old) (K.held out.new) (put_line_of slot size)) }
-    ensures slot { slot < 16384 }
+    ensures slot { slot < slot_count }
     ensures counted { CountsFaults result (K.faults out.old) (K.faults out.new) }
 {
     let _number = slot.number();

@@ -6,7 +6,7 @@ ghost use Rattle.outside_io.specs.streams.Faults.{CountsFaults};
 ghost use Rattle.outside_io.specs.volume.History.{contents};
 ghost use Rattle.bundle_index.specs.Entry.{entry_at};
 ghost use Rattle.bundle_store.specs.Session.{Serves};
-ghost use Rattle.bundle_lines.specs.Ends.{ListGave};
+ghost use Rattle.bundle_lines.specs.Gave.{ListGave};
 ghost use Rattle.bundle_lines.specs.Lines.{list_line};
 ghost use Rattle.bundle_lines.specs.inside.Rows.{row_lines};
 

@@ -15,6 +15,7 @@ ghost use Rattle.bundle_lines.specs.inside.Turns.{Commits, HasRoomFirst, IsFitti
 use crate::builds::add_marks;
 use crate::lines::give_put;
 use crate::stop::PutStop;
+use bundle_index::INDEX_END;
 use bundle_store::{Session, StoreFault, TileRec};
 use outside_io::{Failed, Marks, Sink, Volume};
 
@@ -28,7 +29,7 @@ const GREATEST_LENGTH: u64 = 1 << 40;
 fn first_place(len: u64) -> u64
     ensures { result ≡ end_of len }
 {
-    if len == 0 { 131136 } else { len }
+    if len == 0 { INDEX_END } else { len }
 }
 
 /// How many of the first tiles there is room for behind a bundle of `len` bytes, of 64 at most.

@@ -1,7 +1,7 @@
 -- A file that only grows: a crash keeps what it held when it was last synced.
-use Rattle.std.proofs.Common.{◌≡◌, ℕ, ◌+◌, ◌<◌, ◌≤◌, List, ◌++◌, length, take, drop, sym, ◌∙◌, ap, arith, take-append-drop}
+use Rattle.std.proofs.Common.{◌≡◌, ℕ, ◌<◌, ◌≤◌, List, ◌++◌, length, take, drop, sym, ◌∙◌, ap, arith, take-append-drop}
 use Rattle.std.proofs.lemmas.List.{length-take-le, places, same_lists}
-use Rattle.outside_io.specs.volume.Disk.{Disk, laid, change, wrote}
+use Rattle.outside_io.specs.volume.Disk.{Disk}
 use Rattle.outside_io.specs.declared.volume.VolFile.TheVariants.{Bundle}
 use Rattle.outside_io.proofs.VolumeLemmas.Limits.{Allowed, Keeps}
 use Rattle.bundle_store.specs.inside.Parts.{BeginsWith, KeepsFront}
@@ -21,8 +21,3 @@ begins front c allowed =
 
 pub keeps_front : (old d : Disk) → Keeps Bundle old (AsLong old.bundle.now) (Within old.bundle.now) d → KeepsFront old d
 keeps_front old d keeps = record { journal = keeps.other; bundle = λ c image. begins old.bundle.now c (keeps.images c image) }
-
-pub length_end : (at : ℕ) (bytes : List ℕ) (old new : Disk) → at ≡ length old.bundle.now → new ≡ change Bundle (wrote at bytes) old → length new.bundle.now ≡ at + length bytes
-length_end at bytes old new end is =
-    let now : new.bundle.now ≡ laid at bytes old.bundle.now = ap (λ (d : Disk). d.bundle.now) is in
-    ap length now ∙ grind (arith, places)

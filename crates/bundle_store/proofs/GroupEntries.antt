@@ -1,14 +1,13 @@
 -- The entries, records and bundles of lists of tiles.
-use Rattle.std.proofs.Common.{◌≡◌, ◌≢◌, inl, inr, refl, ℕ, zero, suc, ◌+◌, ◌-◌, ◌*◌, ◌^◌, ◌<◌, ◌≤◌, List, [], ◌∷◌, ◌++◌, length, get_or, take, sym, ◌∙◌, ap, subst, arith}
-use Rattle.std.proofs.lemmas.List.{append-nil, get_or_default, get_or-take, length-append, length-take-le, same_lists, take_more}
+use Rattle.std.proofs.Common.{◌≡◌, ◌≢◌, inl, refl, ℕ, suc, ◌+◌, ◌-◌, ◌*◌, ◌^◌, ◌<◌, ◌≤◌, List, [], ◌∷◌, ◌++◌, length, get_or, take, sym, ◌∙◌, ap, subst, arith}
+use Rattle.std.proofs.lemmas.List.{get_or_default, get_or-take, length-append, length-take-le, same_lists, take_more}
 use Rattle.outside_io.specs.volume.Disk.{laid}
 use Rattle.outside_io.proofs.VolumeLemmas.Laid.{length-laid, laid_in}
-use Rattle.bundle_index.specs.Entry.{entry_bytes, place_of}
 use Rattle.side_journal.specs.Groups.{AreNew, NewEntry}
 use Rattle.bundle_store.specs.declared.tile_rec.TileRec.{TileRec}
-use Rattle.bundle_store.specs.Appended.{bundle_after_put, bundle_with_tile}
+use Rattle.bundle_store.specs.Appended.{bundle_with_tile}
 use Rattle.bundle_store.specs.Build.{EachFits, bytes_at}
-use Rattle.bundle_store.specs.GroupPuts.{AreSlots, AreTilesIn, HasRoomFor, bundle_after_puts, bundle_with_tiles, group_records, lay_entries, new_entries, with_entries}
+use Rattle.bundle_store.specs.GroupPuts.{AreSlots, AreTilesIn, HasRoomFor, bundle_after_puts, bundle_with_tiles, group_records, new_entries, with_entries}
 use Rattle.bundle_store.specs.Kept.{FrontBytes, Keeps}
 use Rattle.bundle_store.specs.Layout.{layout, record_bytes}
 use Rattle.bundle_store.specs.Tiles.{no_tiles}
@@ -44,6 +43,10 @@ module _ (us : List TileRec) (i : ℕ) (r : TileRec) (is : r ≡ get_or us i r) 
 
   pub within_step : length (group_records (take i us)) + (4 + length r.bytes) ≤ length (group_records us)
   within_step = subst (λ (u : TileRec). length (group_records (take i us)) + (4 + length u.bytes) ≤ length (group_records us)) (sym this) (records_within us i less)
+
+-- the tile of a number, whatever stands for those that are not there
+pub item_is : (us : List TileRec) (i : ℕ) → i < length us → get_or us i nobody ≡ get_or us i (get_or us i nobody)
+item_is us i less = get_or_default us i nobody (get_or us i nobody) less
 
 pub entries_next : (len : ℕ) (us : List TileRec) (u : TileRec) → new_entries len (us ++ u ∷ []) ≡ new_entries len us ++ new_entries (len + length (group_records us)) (u ∷ [])
 entries_next len [] u = ap (λ (n : ℕ). new_entries n (u ∷ [])) (let e : len ≡ len + 0 = omega arith in e)

@@ -1,14 +1,13 @@
 -- What images stand for while tiles are put at once.
-use Rattle.std.proofs.Common.{◌≡◌, inl, inr, refl, ℕ, suc, ◌≤◌, List, [], ◌∷◌, length, get_or, drop, sym, ◌∙◌, ap, subst, arith}
-use Rattle.std.proofs.lemmas.Bool.{cases_eq}
+use Rattle.std.proofs.Common.{◌≡◌, inr, refl, ℕ, suc, ◌≤◌, List, [], ◌∷◌, length, drop, sym, ◌∙◌, ap, subst, arith}
 use Rattle.outside_io.specs.volume.Disk.{Disk, settled}
 use Rattle.side_journal.specs.Bodies.{IsGroup, IsWritten, body_bytes}
 use Rattle.side_journal.specs.Groups.{NewEntry}
 use Rattle.side_journal.specs.declared.body.Body.{Body}
 use Rattle.side_journal.specs.declared.body.Body.TheVariants.{Tile, Build, Group}
-use Rattle.side_journal.specs.declared.body.JournalState.TheVariants.{Closed, Open}
+use Rattle.side_journal.specs.declared.body.JournalState.TheVariants.{Open}
 use Rattle.side_journal.specs.Says.{IsOpen, IsWhole, SaysBody}
-use Rattle.side_journal.specs.Steps.{KeepsBody, SameBehindGate}
+use Rattle.side_journal.specs.Steps.{KeepsBody}
 use Rattle.std.proofs.lemmas.List.{length-drop}
 use Rattle.side_journal.proofs.Gates.{image_is, whole_long}
 use Rattle.side_journal.proofs.Spells.{length-body_bytes, says_behind, says_body}

@@ -1,23 +1,21 @@
 -- The writes of some tiles at once.
-use Rattle.std.proofs.Common.{◌≡◌, ◌⊎◌, inl, inr, refl, ℕ, zero, suc, Result, ◌+◌, ◌<◌, ◌≤◌, List, [], ◌∷◌, ◌++◌, length, get_or, take, drop, sym, ◌∙◌, ap, subst, arith}
+use Rattle.std.proofs.Common.{◌≡◌, ◌⊎◌, inl, inr, refl, ℕ, zero, suc, Result, ◌+◌, ◌<◌, ◌≤◌, List, [], ◌∷◌, ◌++◌, length, get_or, take, drop, sym, ◌∙◌, ap, arith}
 use Rattle.std.specs.Prelude.{OnOk}
 use Rattle.std.proofs.lemmas.List.{append_assoc, append-nil, get_or_default, length-append, take-append-drop, take_all, take_more}
 use Rattle.std.proofs.lemmas.Result.{on_ok_weaker}
-use Rattle.byteorder.specs.Endian.{little_bytes}
 use Rattle.outside_io.specs.declared.volume.VolFile.TheVariants.{Bundle}
-use Rattle.outside_io.specs.volume.Disk.{Disk, File, IsSettled, Struck, change, laid, settled, synced, wrote}
+use Rattle.outside_io.specs.volume.Disk.{Disk, IsSettled, Struck, change, laid, settled, synced, wrote}
 use Rattle.outside_io.specs.volume.History.{During, History, Ticks, contents, current}
-use Rattle.outside_io.proofs.VolumeLemmas.Laid.{length-laid}
-use Rattle.outside_io.proofs.VolumeLemmas.Limits.{Allowed, Keeps, Limits, Run, limits_wrote, run_start, run_during, run_on}
+use Rattle.outside_io.proofs.VolumeLemmas.Limits.{Keeps, Limits, Run, limits_wrote, run_start, run_during, run_on}
 use Rattle.outside_io.proofs.VolumeLemmas.Moments.{during_map}
 use Rattle.bundle_index.specs.Entry.{IsEntry, entry_bytes, place_of}
 use Rattle.bundle_index.proofs.Numbers.{length-entry_bytes}
 use Rattle.bundle_store.specs.declared.tile_rec.TileRec.{TileRec}
 use Rattle.bundle_store.specs.Build.{bytes_at}
-use Rattle.bundle_store.specs.GroupPuts.{AreSlots, group_records, lay_entries, with_entries}
+use Rattle.bundle_store.specs.GroupPuts.{AreSlots, group_records, with_entries}
 use Rattle.side_journal.specs.Groups.{AreNew, NewEntry}
 use Rattle.bundle_store.specs.Layout.{record_bytes}
-use Rattle.bundle_store.specs.inside.Grouped.{KeepsUnderAll, SameUnderAll}
+use Rattle.bundle_store.specs.inside.Grouped.{KeepsUnderAll}
 use Rattle.bundle_store.specs.inside.Parts.{KeepsFront}
 use Rattle.bundle_store.proofs.Building.{laid_end}
 use Rattle.bundle_store.proofs.Fronts.{AsLong, Within, keeps_front}

@@ -1,7 +1,6 @@
 -- Puts at once are puts one after the other.
-use Rattle.std.proofs.Common.{◌≡◌, inl, inr, refl, ℕ, ◌+◌, ◌^◌, ◌<◌, ◌≤◌, List, [], ◌∷◌, ◌++◌, length, take, drop, sym, ◌∙◌, ap, subst, arith}
+use Rattle.std.proofs.Common.{◌≡◌, refl, ℕ, ◌+◌, ◌^◌, ◌<◌, ◌≤◌, List, [], ◌∷◌, ◌++◌, length, take, drop, sym, ◌∙◌, ap, subst, arith}
 use Rattle.std.proofs.lemmas.List.{append_assoc, append-nil, length-append, length-take-le, take-append-drop}
-use Rattle.byteorder.specs.Endian.{little_bytes}
 use Rattle.outside_io.specs.volume.Disk.{laid}
 use Rattle.outside_io.proofs.VolumeLemmas.Laid.{length-laid}
 use Rattle.bundle_index.specs.Entry.{entry_at, entry_bytes, place_of}
@@ -13,7 +12,7 @@ use Rattle.bundle_store.specs.Build.{map_after}
 use Rattle.bundle_store.specs.GroupPuts.{AreSlots, AreTilesIn, HasRoomFor, bundle_with_tiles, group_records, lay_entries, new_entries, with_entries}
 use Rattle.side_journal.specs.Groups.{NewEntry}
 use Rattle.bundle_store.specs.Layout.{record_bytes}
-use Rattle.bundle_store.specs.Tiles.{HasIndex, IsBundle, TileMap, tiles, with_tile}
+use Rattle.bundle_store.specs.Tiles.{HasIndex, IsBundle, TileMap, tiles}
 use Rattle.bundle_store.proofs.Overlays.{header_under, laid_again, laid_append, lay_append, lay_join, length-with_entries, slots_join}
 use Rattle.bundle_store.proofs.Putting.{length-record_bytes, length-with_entry, put_index, put_on_bundle, put_on_tiles}
 

@@ -13,6 +13,7 @@ pub mod PutLaws
 pub mod Layouts
 mod Numbering
 pub mod OneRecovery
+mod OneUpdate
 pub mod Opening
 mod Overlays
 mod Padded

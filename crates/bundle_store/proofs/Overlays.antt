@@ -1,11 +1,10 @@
 -- A header and some entries laid over a bundle.
-use Rattle.std.proofs.Common.{◌≡◌, ◌⊎◌, inl, inr, refl, ℕ, ◌+◌, ◌-◌, ◌*◌, ◌<◌, ◌≤◌, max, List, [], ◌∷◌, ◌++◌, length, get_or, take, drop, sym, ◌∙◌, ap, arith}
+use Rattle.std.proofs.Common.{◌≡◌, ◌⊎◌, inl, inr, refl, ℕ, ◌+◌, ◌<◌, ◌≤◌, List, [], ◌∷◌, ◌++◌, length, get_or, sym, ◌∙◌, ap, arith}
 use Rattle.std.proofs.lemmas.Bool.{cases_lt}
-use Rattle.std.proofs.lemmas.List.{append_assoc, length-append, places, same_lists}
+use Rattle.std.proofs.lemmas.List.{places, same_lists}
 use Rattle.outside_io.specs.volume.Disk.{laid}
 use Rattle.outside_io.proofs.VolumeLemmas.Laid.{length-laid, laid_before, laid_in, laid_after}
 use Rattle.bundle_index.specs.Entry.{entry_bytes, place_of}
-use Rattle.bundle_index.specs.declared.entry.Entry.{Entry}
 use Rattle.bundle_index.proofs.Numbers.{length-entry_bytes}
 use Rattle.bundle_store.specs.GroupPuts.{AreSlots, lay_entries, with_entries}
 use Rattle.side_journal.specs.Groups.{NewEntry}

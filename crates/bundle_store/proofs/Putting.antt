@@ -147,11 +147,6 @@ module _ (b tile : List ℕ) (slot : ℕ) (is : HasIndex b) (below : slot < 1638
     | inr differs ↦ ap (tile_in done) (other_entry other lt differs) ∙ same_tile b done (entry_at b other) (bundle.entries other lt) (omega (arith, length-done, length-whole)) behind ∙ sym (tiles_at b other lt) ∙ sym (with_other slot tile (tiles b) other differs)
   ])
 
--- a put, by its parts
-pub put_is : (b c tile h : List ℕ) (slot : ℕ) (e : Entry) → h ≡ put_header b slot tile → e ≡ put_entry b tile → c ≡ b → with_entry h slot e (c ++ record_bytes tile) ≡ bundle_with_tile b slot tile
-unfolding bundle_with_tile
-put_is b c tile h slot e header_is e_is same = λ i. with_entry (header_is i) slot (e_is i) (same i ++ record_bytes tile)
-
 pub put_index : (b tile : List ℕ) (slot : ℕ) → HasIndex b → slot < 16384 → 0 < length tile → length tile < 2 ^ 24 → length b + 4 + length tile ≤ 2 ^ 40 → HasIndex (bundle_with_tile b slot tile)
 unfolding bundle_with_tile
 put_index b tile slot is below some small room = put_has b tile slot is below some small room

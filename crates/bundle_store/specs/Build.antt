@@ -16,6 +16,10 @@ last_tiles tiles = map_after no_tiles tiles
 abbrev pub bytes_at : List TileRec → ℕ → List ℕ
 bytes_at tiles number = (get_or tiles number (record { slot = 0; bytes = [] })).bytes
 
+-- its slot
+abbrev pub slot_at : List TileRec → ℕ → ℕ
+slot_at tiles number = (get_or tiles number (record { slot = 0; bytes = [] })).slot
+
 -- each tile is one that a bundle can hold
 abbrev pub EachFits : List TileRec → Type 0
 EachFits tiles = (i : ℕ) → i < length tiles → (0 < length (bytes_at tiles i)) ×

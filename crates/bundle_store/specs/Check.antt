@@ -1,5 +1,6 @@
 -- What a check of a bundle finds.
 use Rattle.std.specs.Prelude.{◌≡◌, ℕ, zero, suc, ◌+◌, ◌-◌, ◌<◌, ◌==◌, nat_lt, Bool, true, false, if◌then◌else◌, List, length, Option, Some, None}
+use Rattle.bundle_index.specs.Sizes.{index_end}
 use Rattle.bundle_index.specs.Entry.{entry_at}
 use Rattle.bundle_index.specs.Numbers.{u32_at}
 use Rattle.bundle_index.specs.declared.entry.Entry.{Entry}
@@ -10,7 +11,7 @@ use Rattle.bundle_store.specs.declared.check.CheckReport.{CheckReport}
 abbrev pub is_bad : List ℕ → Entry → Bool
 is_bad bundle e =
     if e.size == 0 then false
-    else (if nat_lt e.offset 131140 then true
+    else (if nat_lt e.offset (index_end + 4) then true
     else (if nat_lt (length bundle) (e.offset + e.size) then true
     else (if u32_at bundle (e.offset - 4) == e.size then false else true)))
 

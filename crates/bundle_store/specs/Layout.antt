@@ -1,5 +1,6 @@
 -- A new bundle of a map.
 use Rattle.std.specs.Prelude.{ℕ, zero, suc, ◌+◌, max, List, [], ◌++◌, length, Option, Some, None}
+use Rattle.bundle_index.specs.Sizes.{index_end, slot_count}
 use Rattle.byteorder.specs.Endian.{little_bytes}
 use Rattle.bundle_index.specs.Entry.{entry_bytes}
 use Rattle.bundle_index.specs.Header.{fresh_header}
@@ -26,7 +27,7 @@ records map (suc slot) = records map slot ++ record_of (map slot)
 -- the entry of a slot whose record stands behind so many bytes of records
 abbrev pub entry_behind : ℕ → Option (List ℕ) → Entry
 entry_behind before None = record { offset = 0; size = 0 }
-entry_behind before (Some tile) = record { offset = 131136 + before + 4; size = length tile }
+entry_behind before (Some tile) = record { offset = index_end + before + 4; size = length tile }
 
 -- the entries of the slots below a number
 unfoldable pub entries : TileMap → ℕ → List ℕ
@@ -41,5 +42,5 @@ greatest_size map (suc slot) = max (greatest_size map slot) (size_of (map slot))
 
 -- the fresh header, the index, and the records by slot without gaps
 unfoldable pub layout : TileMap → List ℕ
-layout map = fresh_header (greatest_size map 16384) (131136 + length (records map 16384)) ++
-    (entries map 16384 ++ records map 16384)
+layout map = fresh_header (greatest_size map slot_count) (index_end + length (records map slot_count)) ++
+    (entries map slot_count ++ records map slot_count)

@@ -2,6 +2,7 @@ pub use Rattle.byteorder.specs.Endian
 pub use Rattle.bundle_index.specs.Entry
 pub use Rattle.bundle_index.specs.Header
 pub use Rattle.bundle_index.specs.Numbers
+pub use Rattle.bundle_index.specs.Sizes
 pub use Rattle.outside_io.specs.volume.Disk
 pub use Rattle.outside_io.specs.streams.Faults
 pub use Rattle.outside_io.specs.volume.History

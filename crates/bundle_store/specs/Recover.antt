@@ -4,7 +4,7 @@ use Rattle.outside_io.specs.volume.Disk.{Disk, IsImage, IsQuiet, settled}
 use Rattle.side_journal.specs.Says.{Fails, IsOpen, IsWrongAt, SaysBody, SaysBuild}
 use Rattle.side_journal.specs.declared.body.Body.{Body}
 use Rattle.bundle_store.specs.declared.fault.StoreFault.{StoreFault}
-use Rattle.bundle_store.specs.declared.fault.StoreFault.TheVariants.{Device, BadBundle, BadJournal, NoTile, Beyond, TileTooLarge, EmptyTile, Full, NotEmpty, OutOfMemory, Stopped}
+use Rattle.bundle_store.specs.declared.fault.StoreFault.TheVariants.{Device, BadJournal}
 use Rattle.bundle_store.specs.declared.recovery.Recovery.{Recovery}
 use Rattle.bundle_store.specs.declared.recovery.Recovery.TheVariants.{Closed, Applied, Emptied}
 use Rattle.bundle_store.specs.Images.{StandsFor}
@@ -41,15 +41,7 @@ RecoverySays bundle journal (Ok Applied) = AppliesTo bundle journal
 RecoverySays bundle journal (Ok Emptied) = IsOpen journal × SaysBuild journal
 RecoverySays bundle journal (Err Device) = Unit {0}
 RecoverySays bundle journal (Err (BadJournal place found)) = Refuses bundle journal place found
-RecoverySays bundle journal (Err (BadBundle place found)) = ⊥
-RecoverySays bundle journal (Err NoTile) = ⊥
-RecoverySays bundle journal (Err (Beyond entry got)) = ⊥
-RecoverySays bundle journal (Err (TileTooLarge at len)) = ⊥
-RecoverySays bundle journal (Err (EmptyTile at)) = ⊥
-RecoverySays bundle journal (Err (Full len)) = ⊥
-RecoverySays bundle journal (Err (NotEmpty len)) = ⊥
-RecoverySays bundle journal (Err OutOfMemory) = ⊥
-RecoverySays bundle journal (Err Stopped) = ⊥
+RecoverySays bundle journal (Err _) = ⊥
 
 -- What a recovery that is not refused has done with these files, and the bundle that it leaves.
 abbrev pub Leaves : List ℕ → List ℕ → Recovery → List ℕ → Type 0
@@ -85,18 +77,8 @@ pub record IsRecovered (bundle journal : List ℕ) (d : Disk) : Type 0 where
 
 -- where recovery is refused for the journal
 abbrev pub OnBadJournal : {X : Type 0} → Result X StoreFault → Type 0 → Type 0
-OnBadJournal (Ok x) P = Unit {0}
-OnBadJournal (Err Device) P = Unit {0}
 OnBadJournal (Err (BadJournal place found)) P = P
-OnBadJournal (Err (BadBundle place found)) P = Unit {0}
-OnBadJournal (Err NoTile) P = Unit {0}
-OnBadJournal (Err (Beyond entry got)) P = Unit {0}
-OnBadJournal (Err (TileTooLarge at len)) P = Unit {0}
-OnBadJournal (Err (EmptyTile at)) P = Unit {0}
-OnBadJournal (Err (Full len)) P = Unit {0}
-OnBadJournal (Err (NotEmpty len)) P = Unit {0}
-OnBadJournal (Err OutOfMemory) P = Unit {0}
-OnBadJournal (Err Stopped) P = Unit {0}
+OnBadJournal _ P = Unit {0}
 
 -- The kept numbers of a refusal of a recovery fail the test of their place, over whatever volume.
 -- That the bundle is shorter than the length found at 16 or 24 is said only where the volume tells its
@@ -104,12 +86,4 @@ OnBadJournal (Err Stopped) P = Unit {0}
 abbrev pub RecoverFails : StoreFault → Type 0
 RecoverFails Device = Unit {0}
 RecoverFails (BadJournal place found) = IsWrongAt place found ⊎ ((place ≡ 16) ⊎ (place ≡ 24))
-RecoverFails (BadBundle place found) = ⊥
-RecoverFails NoTile = ⊥
-RecoverFails (Beyond entry got) = ⊥
-RecoverFails (TileTooLarge at len) = ⊥
-RecoverFails (EmptyTile at) = ⊥
-RecoverFails (Full len) = ⊥
-RecoverFails (NotEmpty len) = ⊥
-RecoverFails OutOfMemory = ⊥
-RecoverFails Stopped = ⊥
+RecoverFails _ = ⊥

@@ -1,11 +1,12 @@
 -- Sessions.
 use Rattle.std.specs.Prelude.{◌≡◌, ◌≢◌, ◌⊎◌, ℕ, ◌+◌, ◌-◌, ◌^◌, ◌<◌, ◌≤◌, ◌==◌, nat_lt, Bool, List, length, take, drop, Option, Some, None, if◌then◌else◌}
+use Rattle.bundle_index.specs.Sizes.{index_end, slot_count}
 use Rattle.bundle_index.specs.Entry.{entry_at}
 use Rattle.bundle_index.specs.Header.{header_fault}
 use Rattle.bundle_index.specs.declared.entry.Entry.{Entry}
 use Rattle.bundle_index.specs.declared.header.HeaderFault.{HeaderFault}
 use Rattle.bundle_store.specs.declared.fault.StoreFault.{StoreFault}
-use Rattle.bundle_store.specs.declared.fault.StoreFault.TheVariants.{Device, BadBundle, BadJournal, NoTile, Beyond, TileTooLarge, EmptyTile, Full, NotEmpty, OutOfMemory, Stopped}
+use Rattle.bundle_store.specs.declared.fault.StoreFault.TheVariants.{Device, BadBundle, NoTile, Beyond, TileTooLarge, EmptyTile, Full, NotEmpty, OutOfMemory, Stopped}
 use Rattle.bundle_store.specs.declared.tile_rec.TileRec.{TileRec}
 use Rattle.outside_io.specs.volume.Disk.{Disk, IsQuiet}
 use Rattle.side_journal.specs.Says.{IsOpen}
@@ -37,7 +38,7 @@ pub record IsReadyToPut (s : SessionState) (d : Disk) : Type 0 where
 abbrev pub open_fault : List ℕ → Option HeaderFault
 open_fault bundle =
     if length bundle == 0 then None
-    else (if nat_lt (length bundle) 131136 then Some
+    else (if nat_lt (length bundle) index_end then Some
     (record { place = length bundle; found = length bundle }) else header_fault bundle)
 
 -- why opening refuses
@@ -45,34 +46,20 @@ abbrev pub OpenRefuses : List ℕ → StoreFault → Type 0
 OpenRefuses bundle Device = Unit {0}
 OpenRefuses bundle (BadBundle at number) = open_fault bundle
     ≡ Some (record { place = at; found = number })
-OpenRefuses bundle (BadJournal at number) = ⊥
-OpenRefuses bundle NoTile = ⊥
-OpenRefuses bundle (Beyond entry got) = ⊥
-OpenRefuses bundle (TileTooLarge at len) = ⊥
-OpenRefuses bundle (EmptyTile at) = ⊥
-OpenRefuses bundle (Full len) = ⊥
-OpenRefuses bundle (NotEmpty len) = ⊥
 OpenRefuses bundle OutOfMemory = Opens bundle
-OpenRefuses bundle Stopped = ⊥
+OpenRefuses bundle _ = ⊥
 
 -- A number that fails the test of its place as a bundle is opened, in whatever bundle.
 abbrev pub IsHeaderFault : ℕ → ℕ → Type 0
 IsHeaderFault place found = ((place ≡ 0) × (found ≢ 3))
-    ⊎ (((place ≡ 4) × (found ≢ 16384)) ⊎ ((place ≡ 12) × (found ≢ 5)))
+    ⊎ (((place ≡ 4) × (found ≢ slot_count)) ⊎ ((place ≡ 12) × (found ≢ 5)))
 
 abbrev pub OpenFails : StoreFault → Type 0
 OpenFails Device = Unit {0}
 OpenFails (BadBundle place found) =
-    ((place ≡ found) × (0 < found) × (found < 131136)) ⊎ IsHeaderFault place found
-OpenFails (BadJournal place found) = ⊥
-OpenFails NoTile = ⊥
-OpenFails (Beyond entry got) = ⊥
-OpenFails (TileTooLarge at len) = ⊥
-OpenFails (EmptyTile at) = ⊥
-OpenFails (Full len) = ⊥
-OpenFails (NotEmpty len) = ⊥
+    ((place ≡ found) × (0 < found) × (found < index_end)) ⊎ IsHeaderFault place found
 OpenFails OutOfMemory = Unit {0}
-OpenFails Stopped = ⊥
+OpenFails _ = ⊥
 
 -- the bytes that the slot's entry names, where they are all there
 pub record GetGives (bundle : List ℕ) (slot : ℕ) (tile : List ℕ) : Type 0 where
@@ -88,58 +75,35 @@ pub record IsBeyond (bundle : List ℕ) (slot : ℕ) (entry : Entry) (got : ℕ)
 -- why a get refuses
 abbrev pub GetRefuses : List ℕ → ℕ → StoreFault → Type 0
 GetRefuses bundle slot Device = Unit {0}
-GetRefuses bundle slot (BadBundle at number) = ⊥
-GetRefuses bundle slot (BadJournal at number) = ⊥
 GetRefuses bundle slot NoTile = (entry_at bundle slot).size ≡ 0
 GetRefuses bundle slot (Beyond entry got) = IsBeyond bundle slot entry got
-GetRefuses bundle slot (TileTooLarge at len) = ⊥
-GetRefuses bundle slot (EmptyTile at) = ⊥
-GetRefuses bundle slot (Full len) = ⊥
-GetRefuses bundle slot (NotEmpty len) = ⊥
 GetRefuses bundle slot OutOfMemory = 0 < (entry_at bundle slot).size
 GetRefuses bundle slot Stopped = Unit {0}
+GetRefuses bundle slot _ = ⊥
 
 -- The kept numbers of a refusal of a get fail the test that they name, of whatever volume.
 abbrev pub GetFails : StoreFault → Type 0
 GetFails Device = Unit {0}
-GetFails (BadBundle at number) = ⊥
-GetFails (BadJournal at number) = ⊥
 GetFails NoTile = Unit {0}
 GetFails (Beyond entry got) = got < entry.size
-GetFails (TileTooLarge at len) = ⊥
-GetFails (EmptyTile at) = ⊥
-GetFails (Full len) = ⊥
-GetFails (NotEmpty len) = ⊥
 GetFails OutOfMemory = Unit {0}
 GetFails Stopped = Unit {0}
+GetFails _ = ⊥
 
 -- why a put of a tile of so many bytes refuses, over whatever volume
 abbrev pub PutFails : ℕ → StoreFault → Type 0
 PutFails size Device = (0 < size) × (size ≤ 16777215)
-PutFails size (BadBundle at number) = ⊥
-PutFails size (BadJournal at number) = ⊥
-PutFails size NoTile = ⊥
-PutFails size (Beyond entry got) = ⊥
 PutFails size (TileTooLarge at len) = (at ≡ 0) × (len ≡ size) × (16777215 < size)
 PutFails size (EmptyTile at) = (at ≡ 0) × (size ≡ 0)
 PutFails size (Full len) = (0 < size) × (size ≤ 16777215) × (2 ^ 40 < len + 4 + size)
-PutFails size (NotEmpty len) = ⊥
-PutFails size OutOfMemory = ⊥
 PutFails size Stopped = Unit {0}
+PutFails size _ = ⊥
 
 -- the length that a refusal keeps, if it keeps one, is the bundle's
 abbrev pub KeepsLength : ℕ → StoreFault → Type 0
 KeepsLength size (Full len) = len ≡ size
 KeepsLength size (NotEmpty len) = len ≡ size
-KeepsLength size Device = Unit {0}
-KeepsLength size (BadBundle at number) = Unit {0}
-KeepsLength size (BadJournal at number) = Unit {0}
-KeepsLength size NoTile = Unit {0}
-KeepsLength size (Beyond entry got) = Unit {0}
-KeepsLength size (TileTooLarge at len) = Unit {0}
-KeepsLength size (EmptyTile at) = Unit {0}
-KeepsLength size OutOfMemory = Unit {0}
-KeepsLength size Stopped = Unit {0}
+KeepsLength size _ = Unit {0}
 
 -- the first tile that no bundle can hold
 pub record IsFirstEmpty (tiles : List TileRec) (at : ℕ) : Type 0 where
@@ -158,27 +122,18 @@ pub record IsFirstLarge (tiles : List TileRec) (at len : ℕ) : Type 0 where
 -- why a build of these tiles refuses, over whatever volume
 abbrev pub BuildFails : List TileRec → StoreFault → Type 0
 BuildFails tiles Device = EachFits tiles
-BuildFails tiles (BadBundle at number) = ⊥
-BuildFails tiles (BadJournal at number) = ⊥
-BuildFails tiles NoTile = ⊥
-BuildFails tiles (Beyond entry got) = ⊥
 BuildFails tiles (TileTooLarge at len) = IsFirstLarge tiles at len
 BuildFails tiles (EmptyTile at) = IsFirstEmpty tiles at
-BuildFails tiles (Full len) = ⊥
 BuildFails tiles (NotEmpty len) = EachFits tiles × (0 < len)
 BuildFails tiles OutOfMemory = EachFits tiles
 BuildFails tiles Stopped = Unit {0}
+BuildFails tiles _ = ⊥
 
 -- why a put of these tiles at once refuses, over whatever volume
 abbrev pub GroupFails : List TileRec → StoreFault → Type 0
 GroupFails tiles Device = EachFits tiles
-GroupFails tiles (BadBundle at number) = ⊥
-GroupFails tiles (BadJournal at number) = ⊥
-GroupFails tiles NoTile = ⊥
-GroupFails tiles (Beyond entry got) = ⊥
 GroupFails tiles (TileTooLarge at len) = IsFirstLarge tiles at len
 GroupFails tiles (EmptyTile at) = IsFirstEmpty tiles at
 GroupFails tiles (Full len) = EachFits tiles × ((size : ℕ) × NoRoom size tiles len)
-GroupFails tiles (NotEmpty len) = ⊥
-GroupFails tiles OutOfMemory = ⊥
 GroupFails tiles Stopped = Unit {0}
+GroupFails tiles _ = ⊥

@@ -1,5 +1,6 @@
 -- Bundles, and the tiles that they hold.
 use Rattle.std.specs.Prelude.{◌≡◌, ◌⊎◌, ℕ, ◌+◌, ◌<◌, ◌≤◌, ◌==◌, nat_lt, List, length, take, drop, Option, Some, None, IfSome, if◌then◌else◌}
+use Rattle.bundle_index.specs.Sizes.{index_end, slot_count}
 use Rattle.bundle_index.specs.Entry.{entry_at}
 use Rattle.bundle_index.specs.Header.{HasHeader}
 use Rattle.bundle_index.specs.declared.entry.Entry.{Entry}
@@ -22,21 +23,21 @@ tile_in bundle e = if e.size == 0 then None else Some (take e.size (drop e.offse
 
 -- the tiles of a bundle
 unfoldable pub tiles : List ℕ → TileMap
-tiles bundle slot = if nat_lt slot 16384 then tile_in bundle (entry_at bundle slot) else None
+tiles bundle slot = if nat_lt slot slot_count then tile_in bundle (entry_at bundle slot) else None
 
 -- an entry names bytes behind the index and within the bundle, if it names any
 abbrev pub IsWithin : List ℕ → Entry → Type 0
-IsWithin bundle e = 0 < e.size → (131136 ≤ e.offset) × (e.offset + e.size ≤ length bundle)
+IsWithin bundle e = 0 < e.size → (index_end ≤ e.offset) × (e.offset + e.size ≤ length bundle)
 
 -- a bundle of at least a header and an index, with a header that a reader takes
 pub record HasIndex (bundle : List ℕ) : Type 0 where
-  pub long : 131136 ≤ length bundle
+  pub long : index_end ≤ length bundle
   pub header : HasHeader bundle
 
 -- the same, and each entry lies within
 pub record IsBundle (bundle : List ℕ) : Type 0 where
   pub index : HasIndex bundle
-  pub entries : (slot : ℕ) → slot < 16384 → IsWithin bundle (entry_at bundle slot)
+  pub entries : (slot : ℕ) → slot < slot_count → IsWithin bundle (entry_at bundle slot)
 
 -- what a session can be opened on: an empty file, or a bundle whose entries are believed
 abbrev pub Opens : List ℕ → Type 0
@@ -47,5 +48,5 @@ IsReadable bundle = (length bundle ≡ 0) ⊎ IsBundle bundle
 
 -- a map of slots to tiles that a bundle can hold: each has at least 1 byte and fewer than 2 ^ 24
 pub record AreTiles (map : TileMap) : Type 0 where
-  pub past : (slot : ℕ) → 16384 ≤ slot → map slot ≡ None
+  pub past : (slot : ℕ) → slot_count ≤ slot → map slot ≡ None
   pub sizes : (slot : ℕ) → IfSome (map slot) (λ tile. (0 < length tile) × (length tile < 16777216))

@@ -3,6 +3,7 @@ ghost use Rattle.outside_io.specs.declared.volume.VolFile.TheVariants.{Bundle, J
 ghost use Rattle.outside_io.specs.volume.Disk.{IsQuiet, settled};
 ghost use Rattle.outside_io.specs.streams.Faults.{CountsFaults};
 ghost use Rattle.outside_io.specs.volume.History.{During, contents, current};
+ghost use Rattle.bundle_index.specs.Sizes.{slot_count};
 ghost use Rattle.side_journal.specs.Says.{IsOpen, SaysBuild};
 ghost use Rattle.bundle_store.specs.inside.Parts.{IsAtRest, IsBegun};
 ghost use Rattle.bundle_store.specs.inside.Table.{HasRoom, IsTable, TilesFail, table_map};
@@ -14,12 +15,20 @@ ghost use Rattle.bundle_store.specs.Kept.{Keeps};
 ghost use Rattle.bundle_store.specs.Layout.{layout};
 ghost use Rattle.bundle_store.specs.Tiles.{AreTiles, Opens, no_tiles};
 
-use crate::front::Front;
-use crate::laying::lay_out;
+pub(crate) mod laying;
+pub(crate) mod size;
+
+use crate::put::updates::Updates;
+use crate::session::front::Front;
 use crate::{StoreFault, TileRec};
+use bundle_index::SLOT_COUNT;
+use laying::lay_out;
 use outside_io::{Failed, VolFile, Volume};
 use side_journal::{Body, arm, close_gate, open_gate, prepare};
 use std::alloc::{AllocError, Global};
+
+/// How many bytes a tile has at most.
+const GREATEST_TILE: usize = 16777215;
 
 /// Opens the journal of a bundle that is being built, beside an empty bundle.
 fn begin<V: Volume>(vol: &mut V) -> Result<(), Failed>
@@ -76,11 +85,12 @@ pub(crate) fn number_tiles(
     tiles: &[TileRec],
 ) -> Result<Vec<Option<usize>>, AllocError>
     ensures table { IfOk result (λ t. IsTable tiles.now t.items) }
-    ensures long { IfOk result (λ t. length t.items ≡ 16384) }
+    ensures long { IfOk result (λ t. length t.items ≡ slot_count) }
     ensures last { IfOk result (λ t. table_map tiles.now t.items ≡ last_tiles tiles.now) }
 {
-    let mut table = Vec::with_capacity(alloc, 16384)?;
-    table.resize(16384, None)?;
+    let slots = SLOT_COUNT as usize;
+    let mut table = Vec::with_capacity(alloc, slots)?;
+    table.resize(slots, None)?;
     for number in 0..tiles.len() {
         let slot = tiles[number].slot.number() as usize;
         table[slot] = Some(number);
@@ -101,16 +111,16 @@ pub(crate) fn record_buffer(alloc: Global, tiles: &[TileRec]) -> Result<Vec<u8>,
 }
 
 /// The first tile that is empty or too large.
-pub(crate) fn check_tiles(tiles: &[TileRec]) -> Result<(), StoreFault>
+pub(crate) fn check_tiles(tiles: &Updates) -> Result<(), StoreFault>
     ensures fits { OnOk result (EachFits tiles.now) }
     ensures answers { IfErr result (λ f. TilesFail tiles.now f) }
 {
     for at in 0..tiles.len() {
-        let len = tiles[at].bytes.len();
+        let len = tiles.bytes(at).len();
         if len == 0 {
             return Err(StoreFault::EmptyTile { at: at as u64 });
         }
-        if len > 16777215 {
+        if len > GREATEST_TILE {
             return Err(StoreFault::TileTooLarge {
                 at: at as u64,
                 len: len as u64,
@@ -152,6 +162,7 @@ pub(crate) fn build_on<V: Volume>(
     ensures rest { IsTrue (V.told vol.old) → UnlessDevice result
         (IsAtRest front.new (current (V.history vol.new))) }
     ensures running { ¬ IsErrOf result StoreFault.Stopped }
+    ensures ample { ¬ IsErrOf result StoreFault.OutOfMemory }
     ensures images { IsTrue (V.told vol.old) → During (λ d. contents Bundle (V.history vol.old)
         ≡ []
         → EachImage (EmptyOr (table_map tiles.now table.now)) d) (V.history vol.old)

@@ -5,12 +5,13 @@ ghost use Rattle.outside_io.specs.declared.volume.VolFile.TheVariants.{Bundle};
 ghost use Rattle.outside_io.specs.streams.Faults.{CountsFaults};
 ghost use Rattle.outside_io.specs.volume.History.{During, contents, current};
 ghost use Rattle.bundle_index.specs.Entry.{IsEntry};
+ghost use Rattle.bundle_index.specs.Sizes.{slot_count};
 ghost use Rattle.bundle_store.specs.Check.{Reports, is_bad};
 ghost use Rattle.bundle_store.specs.Kept.{Keeps};
 ghost use Rattle.bundle_store.specs.inside.Checking.{IsSmall, NextReport};
 
-use crate::front::Front;
-use bundle_index::{Entry, Slot};
+use crate::session::front::Front;
+use bundle_index::{Entry, INDEX_END, SLOT_COUNT, Slot};
 use byteorder::{ByteOrder, LittleEndian};
 use outside_io::{Failed, VolFile, Volume};
 
@@ -28,7 +29,7 @@ pub struct CheckReport {
 }
 
 /// The place of the first tile: behind the header, the index and the tile's own size.
-const FIRST_TILE: u64 = 131140;
+const FIRST_TILE: u64 = INDEX_END + 4;
 
 /// Whether the entry is bad, in a bundle of `len` bytes.
 fn is_bad_entry<V: Volume>(vol: &mut V, entry: Entry, len: u64) -> Result<bool, Failed>
@@ -55,7 +56,7 @@ fn is_bad_entry<V: Volume>(vol: &mut V, entry: Entry, len: u64) -> Result<bool, 
 
 /// The report with one slot more.
 fn with_slot(report: &CheckReport, number: u16, size: u32, bad: bool) -> CheckReport
-    requires number { number < 16384 }
+    requires number { number < slot_count }
     requires size { size < 2 ^ 24 }
     requires small { IsSmall number report.now }
     ensures next { NextReport number size bad report.now result }
@@ -87,10 +88,10 @@ pub(crate) fn check_index<V: Volume>(
         (V.history vol.old)) }
     requires len { IsTrue (V.told vol.old) → len ≡ length (contents Bundle (V.history vol.old)) }
     ensures report { IsTrue (V.told vol.old) →
-        IfOk result (λ r. Reports (contents Bundle (V.history vol.old)) 16384 r) }
+        IfOk result (λ r. Reports (contents Bundle (V.history vol.old)) slot_count r) }
     ensures during { IsTrue (V.told vol.old) → During (λ d. d ≡ current (V.history vol.old))
         (V.history vol.old) (V.history vol.new) }
-    ensures calls { (V.history vol.new).moment ≤ (V.history vol.old).moment + 16384 }
+    ensures calls { (V.history vol.new).moment ≤ (V.history vol.old).moment + slot_count }
     ensures told { V.told vol.new ≡ V.told vol.old }
     ensures counted { CountsFaults result (V.faults vol.old) (V.faults vol.new) }
 {
@@ -100,7 +101,7 @@ pub(crate) fn check_index<V: Volume>(
         bad: 0,
         first_bad: None,
     };
-    for number in 0..16384u16 {
+    for number in 0..SLOT_COUNT {
         let entry = front.numbered(number);
         let bad = is_bad_entry(vol, entry, len)?;
         all = with_slot(&all, number, entry.size, bad);

@@ -4,6 +4,7 @@
 ghost use Rattle.std.specs.Prelude.{◌≡◌, ◌≢◌, ◌++◌, ◌+◌, ◌^◌, ◌<◌, ◌≤◌, ℕ, List, [], Result, Err, length, replicate};
 ghost use Rattle.bundle_index.specs.Entry.{entry_at};
 ghost use Rattle.bundle_index.specs.Header.{fresh_header};
+ghost use Rattle.bundle_index.specs.Sizes.{index_end, slot_count};
 ghost use Rattle.side_journal.specs.Groups.{NewEntry};
 ghost use Rattle.bundle_store.specs.declared.fault.StoreFault.{StoreFault};
 ghost use Rattle.bundle_store.specs.declared.fault.StoreFault.TheVariants.{Device};
@@ -38,10 +39,10 @@ pub fn empty_files_have_no_tiles()
 
 /// A put on a readable bundle leaves a readable one, with the one tile replaced.
 pub fn puts_replace_one_tile()
-    ensures readable { (bundle tile : List ℕ) (slot : ℕ) → IsReadable bundle → slot < 16384 →
+    ensures readable { (bundle tile : List ℕ) (slot : ℕ) → IsReadable bundle → slot < slot_count →
         0 < length tile → length tile < 2 ^ 24 → length bundle + 4 + length tile ≤ 2 ^ 40 →
         IsReadable (bundle_after_put bundle slot tile) }
-    ensures tiles { (bundle tile : List ℕ) (slot : ℕ) → IsReadable bundle → slot < 16384 →
+    ensures tiles { (bundle tile : List ℕ) (slot : ℕ) → IsReadable bundle → slot < slot_count →
         0 < length tile → length tile < 2 ^ 24 → length bundle + 4 + length tile ≤ 2 ^ 40 →
         tiles (bundle_after_put bundle slot tile) ≡ with_tile slot tile (tiles bundle) }
 {}
@@ -49,12 +50,12 @@ pub fn puts_replace_one_tile()
 /// Tiles put at once, by one header and their entries laid over their records, are tiles put one
 /// after the other; laid over twice is laid over once.
 pub fn groups_are_puts()
-    ensures bundle { (bundle : List ℕ) (tiles : List TileRec) → 131136 ≤ length bundle →
+    ensures bundle { (bundle : List ℕ) (tiles : List TileRec) → index_end ≤ length bundle →
         AreTilesIn tiles → (header : List ℕ) × ((length header ≡ 64) ×
         (bundle_with_tiles bundle tiles ≡ with_entries header (new_entries (length bundle) tiles)
         (bundle ++ group_records tiles))) }
     ensures twice { (header bundle : List ℕ) (es : List NewEntry) → length header ≡ 64 →
-        AreSlots es → 131136 ≤ length bundle →
+        AreSlots es → index_end ≤ length bundle →
         with_entries header es (with_entries header es bundle) ≡ with_entries header es bundle }
     ensures readable { (bundle : List ℕ) (us : List TileRec) → IsBundle bundle → AreTilesIn us →
         HasRoomFor (length bundle) us → IsBundle (bundle_with_tiles bundle us) }
@@ -78,19 +79,19 @@ pub fn lists_of_tiles_join()
 
 /// A bundle that opens and has no bad entry is readable.
 pub fn bundles_without_bad_entries_are_readable()
-    ensures { (bundle : List ℕ) → Opens bundle → bad_count bundle 16384 ≡ 0 → IsReadable bundle }
+    ensures { (bundle : List ℕ) → Opens bundle → bad_count bundle slot_count ≡ 0 → IsReadable bundle }
 {}
 
 /// The tiles of a readable bundle are all there.
 pub fn readable_bundles_have_their_tiles()
-    ensures { (bundle : List ℕ) (slot : ℕ) → IsReadable bundle → slot < 16384 →
+    ensures { (bundle : List ℕ) (slot : ℕ) → IsReadable bundle → slot < slot_count →
         0 < (entry_at bundle slot).size →
         (entry_at bundle slot).offset + (entry_at bundle slot).size ≤ length bundle }
 {}
 
 /// The bundle of no tiles is a fresh header and an index of zeros.
 pub fn the_bundle_of_no_tiles_is_fresh()
-    ensures { layout no_tiles ≡ fresh_header 0 131136 ++ replicate 131072 0 }
+    ensures { layout no_tiles ≡ fresh_header 0 index_end ++ replicate 131072 0 }
 {}
 
 /// No two answers of a recovery but Device say something that holds of the same files. So each of

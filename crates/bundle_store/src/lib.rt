@@ -6,25 +6,16 @@
 //! image that a crash may leave stands for the map of tiles before the call or after it.
 #![tactic(auto)]
 
-mod append;
 mod build;
 mod check;
 mod fault;
-mod front;
-mod group_append;
-mod group_commit;
-mod group_put;
 mod laws;
-mod laying;
-mod overlay;
 mod put;
-mod reading;
 mod recovery;
 mod session;
-mod size;
-mod syncs;
 mod tile_rec;
 
+pub use build::size::{BuiltSize, built_size};
 pub use check::CheckReport;
 pub use fault::StoreFault;
 pub use laws::{
@@ -35,5 +26,4 @@ pub use laws::{
 };
 pub use recovery::{Recovery, recover};
 pub use session::Session;
-pub use size::{BuiltSize, built_size};
 pub use tile_rec::TileRec;

@@ -1,217 +1,217 @@
-ghost use Rattle.std.specs.Prelude.{◌≡◌, ◌⊎◌, ◌+◌, ◌^◌, ◌<◌, ◌≤◌, ◌∷◌, ◌++◌, [], length, IsTrue, IsErrOf, IfErr, OnOk};
+//! Tiles put at once: their entries, the body of their journal, and the put.
+
+ghost use Rattle.std.specs.Prelude.{◌≡◌, ◌⊎◌, ◌+◌, ◌^◌, ◌<◌, ◌≤◌, ◌∷◌, ◌++◌, ℕ, List, [], length, take, IsTrue, IsErrOf, IfErr, OnOk};
 ghost use Rattle.outside_io.specs.declared.volume.VolFile.TheVariants.{Bundle, Journal};
-ghost use Rattle.outside_io.specs.volume.Disk.{IsQuiet, IsSettled, settled};
+ghost use Rattle.outside_io.specs.volume.Disk.{IsQuiet};
 ghost use Rattle.outside_io.specs.streams.Faults.{CountsFaults};
 ghost use Rattle.outside_io.specs.volume.History.{During, contents, current};
 ghost use Rattle.side_journal.specs.Says.{IsOpen};
-ghost use Rattle.side_journal.specs.Bodies.{IsWritten, body_bytes};
 ghost use Rattle.side_journal.specs.declared.body.Body.TheVariants.{Group as OfGroup};
-ghost use Rattle.bundle_store.specs.Appended.{bundle_after_put, bundle_with_tile};
-ghost use Rattle.bundle_store.specs.LaidOver.{size_in, with_body};
-ghost use Rattle.bundle_store.specs.inside.Grouped.{IsOfGroup};
-ghost use Rattle.bundle_store.specs.inside.Parts.{IsAtRest};
-ghost use Rattle.bundle_store.specs.Images.{EachImage, HoldsClosed, WithOrWithout};
+ghost use Rattle.bundle_index.specs.Sizes.{index_end, slot_count};
+ghost use Rattle.bundle_store.specs.Appended.{bundle_with_tile};
+ghost use Rattle.bundle_store.specs.Build.{EachFits};
 ghost use Rattle.bundle_store.specs.Causes.{CountsDevice, OnRefusal, UnlessDevice};
-ghost use Rattle.bundle_store.specs.Session.{KeepsLength, PutFails};
+ghost use Rattle.bundle_store.specs.GroupPuts.{AllOrNone, AreTilesIn, NoRoom, OnFull, bundle_after_puts, bundle_with_tiles, group_records, new_entries};
+ghost use Rattle.bundle_store.specs.Images.{EachImage, HoldsClosed};
 ghost use Rattle.bundle_store.specs.Kept.{Keeps};
-ghost use Rattle.bundle_store.specs.Layout.{layout, record_bytes};
+ghost use Rattle.bundle_store.specs.Layout.{layout};
+ghost use Rattle.bundle_store.specs.Session.{GroupFails};
 ghost use Rattle.bundle_store.specs.Tiles.{IsBundle, IsReadable, Opens, no_tiles, tiles};
+ghost use Rattle.bundle_store.specs.inside.Grouped.{IsFullOf};
+ghost use Rattle.bundle_store.specs.inside.Parts.{IsAtRest};
+
+mod append;
+pub(crate) mod overlay;
+pub(crate) mod steps;
+pub(crate) mod updates;
 
 use crate::StoreFault;
-use crate::append::append_record;
 use crate::build::build_empty;
-use crate::front::Front;
-use crate::group_commit::{apply_body, group_of_one};
-use bundle_index::{BundleHeader, Entry, Slot};
+use crate::session::front::Front;
+use bundle_index::{Entry, INDEX_END, Slot};
 use outside_io::{Failed, VolFile, Volume};
-use side_journal::{Body, arm, prepare};
+use side_journal::{Body, Group};
+use steps::commit;
+use updates::Updates;
 
 /// The greatest length of a bundle.
-pub(crate) const GREATEST_LENGTH: u64 = 1099511627776;
+const GREATEST_LENGTH: u64 = 1099511627776;
 
-/// Writes the tile's record behind the bundle's end, and the body into the closed journal. The
-/// bundle's tiles stay.
-fn stage<V: Volume>(vol: &mut V, end: u64, tile: &[u8], body: &Body) -> Result<(), Failed>
+/// Adds the entry of a tile, whose record is to stand at `end`, to the group, and to what is kept
+/// of the bundle.
+fn add_tile(front: &mut Front, end: u64, slot: Slot, tile: &[u8], group: &mut Group)
+    requires some { 0 < length tile.now }
     requires size { length tile.now < 2 ^ 24 }
     requires room { end + 4 + length tile.now ≤ 2 ^ 40 }
-    requires body { IsWritten body.now }
-    requires end { IsTrue (V.told vol.old) → end ≡ length (contents Bundle (V.history vol.old)) }
-    requires bundle { IsTrue (V.told vol.old) → IsSettled (current (V.history vol.old)).bundle }
-    requires journal { IsTrue (V.told vol.old) → IsSettled (current (V.history vol.old)).journal }
-    requires closed { IsTrue (V.told vol.old) → ¬ IsOpen (contents Journal (V.history vol.old)) }
-    ensures done { IsTrue (V.told vol.old) → OnOk result (current (V.history vol.new) ≡ record {
-      bundle = settled (contents Bundle (V.history vol.old) ++ record_bytes tile.now);
-      journal = settled (0 ∷ body_bytes body.now);
-    }) }
-    ensures images { IsTrue (V.told vol.old) →
-        During (λ d. IsBundle (contents Bundle (V.history vol.old))
-        → EachImage (λ map. map ≡ tiles (contents Bundle (V.history vol.old))) d)
-        (V.history vol.old) (V.history vol.new) }
-    ensures told { V.told vol.new ≡ V.told vol.old }
-    ensures counted { CountsFaults result (V.faults vol.old) (V.faults vol.new) }
+    requires most { length group.old < 64 }
+    ensures slot { slot < slot_count }
+    ensures group { group.new ≡ group.old
+        ++ new_entries end (record { slot = slot; bytes = tile.now } ∷ []) }
+    ensures keeps { (bundle : List ℕ) → index_end ≤ length bundle → end ≡ length bundle →
+        Keeps front.old bundle → Keeps front.new (bundle_with_tile bundle slot tile.now) }
 {
-    append_record(vol, end, tile)?;
-    prepare(vol)?;
-    arm(vol, body)
+    let old = front.entry(slot);
+    let size = tile.len() as u32;
+    let entry = Entry {
+        offset: end + 4,
+        size,
+    };
+    let header = front.header().after_put(old, size, end + 4 + size as u64);
+    front.put(&header, slot, entry);
+    group.push(slot, entry);
 }
 
-/// Puts the tile on a bundle of `end` bytes, by the body that names its entry and the bundle's new
-/// header.
-fn commit<V: Volume>(vol: &mut V, end: u64, tile: &[u8], body: &Body) -> Result<(), Failed>
-    requires size { length tile.now < 2 ^ 24 }
-    requires room { end + 4 + length tile.now ≤ 2 ^ 40 }
-    requires body { IsOfGroup body.now }
-    requires names { size_in body.now ≡ end + 4 + length tile.now }
-    requires least { IsTrue (V.told vol.old) → 131136 ≤ end }
-    requires end { IsTrue (V.told vol.old) → end ≡ length (contents Bundle (V.history vol.old)) }
-    requires quiet { IsTrue (V.told vol.old) → IsQuiet (current (V.history vol.old)) }
-    requires closed { IsTrue (V.told vol.old) → ¬ IsOpen (contents Journal (V.history vol.old)) }
-    ensures done { IsTrue (V.told vol.old) → OnOk result (current (V.history vol.new) ≡ record {
-      bundle = settled (with_body body.now (contents Bundle (V.history vol.old)
-          ++ record_bytes tile.now));
-      journal = settled (0 ∷ body_bytes body.now);
-    }) }
-    ensures images { IsTrue (V.told vol.old) →
-        During (λ d. IsBundle (contents Bundle (V.history vol.old)) →
-        IsReadable (with_body body.now (contents Bundle (V.history vol.old)
-        ++ record_bytes tile.now))
-        → EachImage (λ map. (map ≡ tiles (contents Bundle (V.history vol.old))) ⊎
-        (map ≡ tiles (with_body body.now (contents Bundle (V.history vol.old)
-        ++ record_bytes tile.now)))) d)
-        (V.history vol.old) (V.history vol.new) }
-    ensures told { V.told vol.new ≡ V.told vol.old }
-    ensures counted { CountsFaults result (V.faults vol.old) (V.faults vol.new) }
+/// The body of a journal of the tiles, whose records are to stand behind `len` bytes. `front` has
+/// the header and the index of the bundle without them, and then with them.
+fn body_of_tiles(front: &mut Front, len: u64, tiles: &Updates) -> Body
+    requires fit { EachFits tiles.now }
+    requires most { length tiles.now ≤ 64 }
+    requires room { len + length (group_records tiles.now) ≤ 2 ^ 40 }
+    ensures body { result ≡ OfGroup (new_entries len tiles.now)
+        (len + length (group_records tiles.now)) front.new.header }
+    ensures tiles { AreTilesIn tiles.now }
+    ensures header { length front.new.header ≡ 64 }
+    ensures keeps { (bundle : List ℕ) → index_end ≤ length bundle → len ≡ length bundle →
+        Keeps front.old bundle → Keeps front.new (bundle_with_tiles bundle tiles.now) }
 {
-    stage(vol, end, tile, body)?;
-    apply_body(vol, body)
-}
-
-/// The body of a journal of one tile.
-fn body_of_one(slot: Slot, entry: Entry, length: u64, header: BundleHeader) -> Body
-    ensures { result ≡ OfGroup ((slot, entry) ∷ []) length header }
-{
+    let mut group = Group::new();
+    let mut end = len;
+    for i in 0..tiles.len() {
+        let tile = tiles.bytes(i);
+        add_tile(front, end, tiles.slot(i), tile, &mut group);
+        end += 4 + tile.len() as u64;
+    }
     Body::Group {
-        group: group_of_one(slot, entry),
-        length,
-        header,
+        group,
+        length: end,
+        header: front.header(),
     }
 }
 
-/// Puts the tile on a bundle of `len` bytes, of which `front` has the header and the index, before
+/// Puts the tiles on a bundle of `len` bytes, of which `front` has the header and the index, before
 /// and after.
-pub(crate) fn put_on_bundle<V: Volume>(
+fn put_on_bundle<V: Volume>(
     vol: &mut V,
     len: u64,
     front: &mut Front,
-    slot: Slot,
-    tile: &[u8],
+    updates: &Updates,
 ) -> Result<(), Failed>
-    requires some { 0 < length tile.now }
-    requires size { length tile.now < 2 ^ 24 }
-    requires room { len + 4 + length tile.now ≤ 2 ^ 40 }
-    requires least { IsTrue (V.told vol.old) → 131136 ≤ len }
+    requires some { 1 ≤ length updates.now }
+    requires most { length updates.now ≤ 64 }
+    requires fit { EachFits updates.now }
+    requires room { len + length (group_records updates.now) ≤ 2 ^ 40 }
+    requires least { IsTrue (V.told vol.old) → index_end ≤ len }
     requires len { IsTrue (V.told vol.old) → len ≡ length (contents Bundle (V.history vol.old)) }
     requires keeps { IsTrue (V.told vol.old) → Keeps front.old (contents Bundle
         (V.history vol.old)) }
     requires quiet { IsTrue (V.told vol.old) → IsQuiet (current (V.history vol.old)) }
     requires closed { IsTrue (V.told vol.old) → ¬ IsOpen (contents Journal (V.history vol.old)) }
     ensures done { IsTrue (V.told vol.old) →
-        OnOk result (HoldsClosed (bundle_with_tile (contents Bundle
-        (V.history vol.old)) slot tile.now) (current (V.history vol.new))) }
-    ensures keeps { IsTrue (V.told vol.old) → OnOk result (Keeps front.new (bundle_with_tile
-        (contents Bundle (V.history vol.old)) slot tile.now)) }
-    ensures slot { slot < 16384 }
+        OnOk result (HoldsClosed (bundle_with_tiles (contents Bundle
+        (V.history vol.old)) updates.now) (current (V.history vol.new))) }
+    ensures keeps { IsTrue (V.told vol.old) → OnOk result (Keeps front.new (bundle_with_tiles
+        (contents Bundle (V.history vol.old)) updates.now)) }
+    ensures tiles { AreTilesIn updates.now }
     ensures images { IsTrue (V.told vol.old) →
         During (λ d. IsBundle (contents Bundle (V.history vol.old))
-        → EachImage (WithOrWithout slot tile.now (tiles (contents Bundle (V.history vol.old)))) d)
+        → EachImage (AllOrNone updates.now (tiles (contents Bundle (V.history vol.old)))) d)
         (V.history vol.old) (V.history vol.new) }
     ensures told { V.told vol.new ≡ V.told vol.old }
     ensures counted { CountsFaults result (V.faults vol.old) (V.faults vol.new) }
 {
-    let old = front.entry(slot);
-    let size = tile.len() as u32;
-    let entry = Entry {
-        offset: len + 4,
-        size,
-    };
-    let header = front.header().after_put(old, size, len + 4 + size as u64);
-    let body = body_of_one(slot, entry, len + 4 + size as u64, header);
-    commit(vol, len, tile, &body)?;
-    front.put(&header, slot, entry);
-    Ok(())
+    let body = body_of_tiles(front, len, updates);
+    commit(vol, len, updates, &body)
 }
 
-/// Puts the tile on an empty file, which is first made a bundle of no tiles.
-pub(crate) fn put_on_nothing<V: Volume>(
+/// Puts the tiles on an empty file, which is first made a bundle of no tiles.
+fn put_on_nothing<V: Volume>(
     vol: &mut V,
     front: &mut Front,
-    slot: Slot,
-    tile: &[u8],
+    updates: &Updates,
 ) -> Result<(), Failed>
-    requires some { 0 < length tile.now }
-    requires size { length tile.now < 2 ^ 24 }
+    requires some { 1 ≤ length updates.now }
+    requires most { length updates.now ≤ 64 }
+    requires fit { EachFits updates.now }
+    requires room { index_end + length (group_records updates.now) ≤ 2 ^ 40 }
     requires empty { IsTrue (V.told vol.old) → contents Bundle (V.history vol.old) ≡ [] }
     requires quiet { IsTrue (V.told vol.old) → IsQuiet (current (V.history vol.old)) }
     requires closed { IsTrue (V.told vol.old) → ¬ IsOpen (contents Journal (V.history vol.old)) }
     ensures done { IsTrue (V.told vol.old) →
-        OnOk result (HoldsClosed (bundle_with_tile (layout no_tiles) slot tile.now)
+        OnOk result (HoldsClosed (bundle_with_tiles (layout no_tiles) updates.now)
         (current (V.history vol.new))) }
     ensures keeps { IsTrue (V.told vol.old) →
-        OnOk result (Keeps front.new (bundle_with_tile (layout no_tiles) slot tile.now)) }
-    ensures slot { OnOk result (slot < 16384) }
+        OnOk result (Keeps front.new (bundle_with_tiles (layout no_tiles) updates.now)) }
+    ensures tiles { OnOk result (AreTilesIn updates.now) }
     ensures images { IsTrue (V.told vol.old) →
-        During (EachImage (WithOrWithout slot tile.now no_tiles)) (V.history vol.old)
+        During (EachImage (AllOrNone updates.now no_tiles)) (V.history vol.old)
         (V.history vol.new) }
     ensures told { V.told vol.new ≡ V.told vol.old }
     ensures counted { CountsFaults result (V.faults vol.old) (V.faults vol.new) }
 {
     build_empty(vol, &[], &[], &mut [], front)?;
-    put_on_bundle(vol, 131136, front, slot, tile)
+    put_on_bundle(vol, INDEX_END, front, updates)
 }
 
-/// Puts the tile on the bundle, if there is room for it; `front` has the bundle's header and index,
-/// before and after.
-pub(crate) fn put_tile<V: Volume>(
+/// Whether there is room for the tiles behind `len` bytes. Full, with the length that the tiles
+/// before the first one without room leave.
+fn room_for(len: u64, updates: &Updates) -> Result<(), StoreFault>
+    requires fit { EachFits updates.now }
+    requires some { 1 ≤ length updates.now }
+    ensures room { OnOk result (len + length (group_records updates.now) ≤ 2 ^ 40) }
+    ensures full { IfErr result (λ f. IsFullOf len updates.now f) }
+{
+    let mut end = len;
+    for i in 0..updates.len() {
+        let size = updates.bytes(i).len() as u64;
+        if end > GREATEST_LENGTH - 4 - size {
+            return Err(StoreFault::Full { len: end });
+        }
+        end += 4 + size;
+    }
+    Ok(())
+}
+
+/// Puts the tiles, if there is room for them; `front` has the bundle's header and index, before and
+/// after.
+pub(crate) fn put_tiles<V: Volume>(
     vol: &mut V,
     front: &mut Front,
-    slot: Slot,
-    tile: &[u8],
+    updates: &Updates,
 ) -> Result<(), StoreFault>
-    requires some { 0 < length tile.now }
-    requires size { length tile.now < 2 ^ 24 }
+    requires some { 1 ≤ length updates.now }
+    requires most { length updates.now ≤ 64 }
+    requires fit { EachFits updates.now }
     requires opens { IsTrue (V.told vol.old) → Opens (contents Bundle (V.history vol.old)) }
     requires keeps { IsTrue (V.told vol.old) → Keeps front.old (contents Bundle
         (V.history vol.old)) }
     requires quiet { IsTrue (V.told vol.old) → IsQuiet (current (V.history vol.old)) }
     requires closed { IsTrue (V.told vol.old) → ¬ IsOpen (contents Journal (V.history vol.old)) }
     ensures done { IsTrue (V.told vol.old) →
-        OnOk result (HoldsClosed (bundle_after_put (contents Bundle
-        (V.history vol.old)) slot tile.now) (current (V.history vol.new))) }
-    ensures fits { IsTrue (V.told vol.old) →
-        OnOk result (length (contents Bundle (V.history vol.old)) + 4 + length tile.now ≤ 2 ^ 40) }
-    ensures refused { IsTrue (V.told vol.old) →
-        IfErr result (λ f. KeepsLength (length (contents Bundle (V.history vol.old))) f) }
+        OnOk result (HoldsClosed (bundle_after_puts (contents Bundle
+        (V.history vol.old)) updates.now) (current (V.history vol.new))) }
+    ensures room { IsTrue (V.told vol.old) → OnOk result (length (contents Bundle
+        (V.history vol.old)) + length (group_records updates.now) ≤ 2 ^ 40) }
+    ensures full { IsTrue (V.told vol.old) → IfErr result (λ f. OnFull (λ len. NoRoom
+        (length (contents Bundle (V.history vol.old))) updates.now len) f) }
     ensures kept { IsTrue (V.told vol.old) → OnRefusal result
         (During (λ d. d ≡ current (V.history vol.old)) (V.history vol.old) (V.history vol.new)) }
     ensures rest { IsTrue (V.told vol.old) → UnlessDevice result
         (IsAtRest front.new (current (V.history vol.new))) }
-    ensures answers { IfErr result (λ f. PutFails (length tile.now) f) }
+    ensures answers { IfErr result (λ f. GroupFails updates.now f) }
     ensures running { ¬ IsErrOf result StoreFault.Stopped }
     ensures images { IsTrue (V.told vol.old) →
         During (λ d. IsReadable (contents Bundle (V.history vol.old))
-        → EachImage (WithOrWithout slot tile.now (tiles (contents Bundle (V.history vol.old)))) d)
+        → EachImage (AllOrNone updates.now (tiles (contents Bundle (V.history vol.old)))) d)
         (V.history vol.old) (V.history vol.new) }
     ensures told { V.told vol.new ≡ V.told vol.old }
     ensures counted { CountsDevice result (V.faults vol.old) (V.faults vol.new) }
 {
     let len = vol.len(VolFile::Bundle)?;
-    if len > GREATEST_LENGTH - 4 - tile.len() as u64 {
-        return Err(StoreFault::Full { len });
-    }
+    room_for(len, updates)?;
     if len == 0 {
-        put_on_nothing(vol, front, slot, tile)?;
+        put_on_nothing(vol, front, updates)?;
     } else {
-        put_on_bundle(vol, len, front, slot, tile)?;
+        put_on_bundle(vol, len, front, updates)?;
     }
     Ok(())
 }

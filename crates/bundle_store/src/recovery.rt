@@ -12,12 +12,14 @@ ghost use Rattle.bundle_store.specs.Images.{EachImage};
 ghost use Rattle.bundle_store.specs.Recover.{EachStandsForOneOf, IsRecovered, Leaves, OnBadJournal, RecoverFails, RecoverySays, synced_disk};
 ghost use Rattle.bundle_store.specs.Tiles.{no_tiles};
 
+mod syncs;
+
 use crate::StoreFault;
-use crate::group_commit::{group_of_one, redo_group};
-use crate::syncs::{sync_both, wipe};
+use crate::put::steps::{group_of_one, redo};
 use bundle_index::BundleHeader;
 use outside_io::{Failed, VolFile, Volume};
 use side_journal::{Body, Group, JournalState, close_gate, read_journal};
+use syncs::{sync_both, wipe};
 
 /// What recovery has done.
 #[derive(Clone, Copy, Debug, PartialEq, Eq)]
@@ -84,7 +86,7 @@ fn finish_group<V: Volume>(
     if vol.len(VolFile::Bundle)? < size {
         return Err(StoreFault::BadJournal { place, found: size });
     }
-    redo_group(vol, header, group)?;
+    redo(vol, header, group)?;
     Ok(Recovery::Applied)
 }
 

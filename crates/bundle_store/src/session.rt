@@ -1,7 +1,8 @@
-ghost use Rattle.std.specs.Prelude.{◌≡◌, ◌↔◌, ◌⊎◌, ◌+◌, ◌^◌, ◌<◌, ◌≤◌, [], false, true, None, Some, length, IsTrue, IsErrOf, IfOk, IfErr, OnErr, OnOk};
+ghost use Rattle.std.specs.Prelude.{◌≡◌, ◌↔◌, ◌⊎◌, ◌+◌, ◌^◌, ◌<◌, ◌≤◌, ℕ, List, [], false, true, None, Some, length, IsTrue, IsErrOf, IfOk, IfErr, OnErr, OnOk};
 ghost use Rattle.outside_io.specs.declared.volume.VolFile.TheVariants.{Bundle, Journal};
 ghost use Rattle.outside_io.specs.volume.History.{During, contents, current};
 ghost use Rattle.bundle_index.specs.Entry.{entry_at};
+ghost use Rattle.bundle_index.specs.Sizes.{slot_count};
 ghost use Rattle.bundle_store.specs.Causes.{CountsDevice, OnRefusal, UnlessDevice};
 ghost use Rattle.bundle_store.specs.Check.{Reports};
 ghost use Rattle.bundle_store.specs.Appended.{bundle_after_put};
@@ -13,14 +14,17 @@ ghost use Rattle.bundle_store.specs.Images.{EachImage, EmptyOr, HoldsClosed, Wit
 ghost use Rattle.bundle_store.specs.Tiles.{IsReadable, tiles};
 ghost use Rattle.bundle_store.specs.Session.{BuildFails, GetFails, GetGives, GetRefuses, GroupFails, IsReadyToPut, KeepsLength, OpenFails, OpenRefuses, PutFails, Serves};
 
+pub(crate) mod front;
+mod header;
+
 use crate::build::{build_on, check_tiles, number_tiles, record_buffer};
 use crate::check::check_index;
-use crate::front::Front;
-use crate::group_put::put_tiles;
-use crate::put::put_tile;
-use crate::reading::{fault_of, read_header};
+use crate::put::put_tiles;
+use crate::put::updates::Updates;
 use crate::{CheckReport, StoreFault, TileRec};
-use bundle_index::{Entry, Slot};
+use bundle_index::{Entry, INDEX_END, Slot};
+use front::Front;
+use header::{fault_of, read_header};
 use outside_io::{Bytes, VolFile, Volume};
 use std::alloc::Global;
 use std::marker::Model;
@@ -67,7 +71,7 @@ impl Session {
                 front: Front::empty(alloc)?,
             });
         }
-        if len < 131136 {
+        if len < INDEX_END {
             return Err(StoreFault::BadBundle {
                 place: len,
                 found: len,
@@ -120,12 +124,12 @@ impl Session {
         requires serves { IsTrue (V.told vol.old) → self.now.stopped ≡ false →
             Serves self.now (contents Bundle (V.history vol.old)) }
         ensures report { IsTrue (V.told vol.old) →
-            IfOk result (λ r. Reports (contents Bundle (V.history vol.old)) 16384 r) }
+            IfOk result (λ r. Reports (contents Bundle (V.history vol.old)) slot_count r) }
         ensures stopped { IsErrOf result StoreFault.Stopped ↔ (self.now.stopped ≡ true) }
         ensures answers { IfErr result (λ f. (f ≡ StoreFault.Device) ⊎ (f ≡ StoreFault.Stopped)) }
         ensures during { IsTrue (V.told vol.old) → During (λ d. d ≡ current (V.history vol.old))
             (V.history vol.old) (V.history vol.new) }
-        ensures calls { (V.history vol.new).moment ≤ (V.history vol.old).moment + 16385 }
+        ensures calls { (V.history vol.new).moment ≤ (V.history vol.old).moment + 1 + slot_count }
         ensures idle { self.now.stopped ≡ true → vol.new ≡ vol.old }
         ensures told { V.told vol.new ≡ V.told vol.old }
         ensures counted { CountsDevice result (V.faults vol.old) (V.faults vol.new) }
@@ -152,6 +156,13 @@ impl Session {
             return Err(StoreFault::Stopped);
         }
         Ok(self.front.entry(slot))
+    }
+
+    /// The entry at the slot's place, as the session keeps it; that of an empty file is 0.
+    pub fn kept_entry(&self, slot: Slot) -> Entry
+        ensures { (bundle : List ℕ) → Serves self.now bundle → result ≡ entry_at bundle slot }
+    {
+        self.front.entry(slot)
     }
 
     /// The bytes of the slot's tile, by one device call; none where there is no tile. In this order
@@ -197,6 +208,49 @@ impl Session {
         Ok(Bytes::from_vec(tile))
     }
 
+    /// Puts the tiles, in their order.
+    fn put_updates<V: Volume>(&mut self, vol: &mut V, updates: &Updates) -> Result<(), StoreFault>
+        requires some { 1 ≤ length updates.now }
+        requires most { length updates.now ≤ 64 }
+        requires ready { IsTrue (V.told vol.old) → self.old.stopped ≡ false →
+            IsReadyToPut self.old (current (V.history vol.old)) }
+        ensures done { IsTrue (V.told vol.old) →
+            OnOk result (HoldsClosed (bundle_after_puts (contents Bundle
+            (V.history vol.old)) updates.now) (current (V.history vol.new))) }
+        ensures stopped { IsErrOf result StoreFault.Stopped ↔ (self.old.stopped ≡ true) }
+        ensures stops { self.new.stopped ≡ true ↔ ((self.old.stopped ≡ true) ⊎
+            IsErrOf result StoreFault.Device) }
+        ensures answers { IfErr result (λ f. GroupFails updates.now f) }
+        ensures fits { OnOk result (EachFits updates.now) }
+        ensures room { IsTrue (V.told vol.old) → OnOk result (length (contents Bundle
+            (V.history vol.old)) + length (group_records updates.now) ≤ 2 ^ 40) }
+        ensures full { IsTrue (V.told vol.old) → IfErr result (λ f. OnFull (λ len. NoRoom
+            (length (contents Bundle (V.history vol.old))) updates.now len) f) }
+        ensures images { IsTrue (V.told vol.old) → During (λ d. self.old.stopped ≡ false →
+            IsReadable (contents Bundle (V.history vol.old))
+            → EachImage (AllOrNone updates.now
+            (tiles (contents Bundle (V.history vol.old)))) d) (V.history vol.old)
+            (V.history vol.new) }
+        ensures kept { IsTrue (V.told vol.old) → OnRefusal result
+            (During (λ d. d ≡ current (V.history vol.old)) (V.history vol.old)
+            (V.history vol.new)) }
+        ensures ready { IsTrue (V.told vol.old) → self.old.stopped ≡ false → UnlessDevice result
+            (IsReadyToPut self.new (current (V.history vol.new))) }
+        ensures idle { self.old.stopped ≡ true → vol.new ≡ vol.old }
+        ensures told { V.told vol.new ≡ V.told vol.old }
+        ensures counted { CountsDevice result (V.faults vol.old) (V.faults vol.new) }
+    {
+        if self.stopped {
+            return Err(StoreFault::Stopped);
+        }
+        check_tiles(updates)?;
+        let put = put_tiles(vol, &mut self.front, updates);
+        if let Err(StoreFault::Device) = put {
+            self.stopped = true;
+        }
+        put
+    }
+
     /// Puts the tile into the slot. In this order Stopped, EmptyTile, TileTooLarge, Device for the
     /// length, Full, Device. After Device the put stands or does not, and the session is stopped:
     /// `recover` is called, and a new session opened.
@@ -235,23 +289,7 @@ impl Session {
         ensures told { V.told vol.new ≡ V.told vol.old }
         ensures counted { CountsDevice result (V.faults vol.old) (V.faults vol.new) }
     {
-        if self.stopped {
-            return Err(StoreFault::Stopped);
-        }
-        if tile.is_empty() {
-            return Err(StoreFault::EmptyTile { at: 0 });
-        }
-        if tile.len() > 16777215 {
-            return Err(StoreFault::TileTooLarge {
-                at: 0,
-                len: tile.len() as u64,
-            });
-        }
-        let put = put_tile(vol, &mut self.front, slot, tile);
-        if let Err(StoreFault::Device) = put {
-            self.stopped = true;
-        }
-        put
+        self.put_updates(vol, &Updates::one(slot, tile))
     }
 
     /// Puts up to 64 tiles into their slots at once: in their order, so of two in one slot the last
@@ -293,15 +331,7 @@ impl Session {
         ensures told { V.told vol.new ≡ V.told vol.old }
         ensures counted { CountsDevice result (V.faults vol.old) (V.faults vol.new) }
     {
-        if self.stopped {
-            return Err(StoreFault::Stopped);
-        }
-        check_tiles(updates)?;
-        let done = put_tiles(vol, &mut self.front, updates);
-        if let Err(StoreFault::Device) = done {
-            self.stopped = true;
-        }
-        done
+        self.put_updates(vol, &Updates::all(updates))
     }
 
     /// Builds a bundle of each slot's last tile in the place of an empty file. In this order
@@ -338,13 +368,14 @@ impl Session {
         ensures ready { IsTrue (V.told vol.old) → self.old.stopped ≡ false → UnlessDevice result
             (IsReadyToPut self.new (current (V.history vol.new))) }
         ensures idle { self.old.stopped ≡ true → vol.new ≡ vol.old }
+        ensures early { IsErrOf result StoreFault.OutOfMemory → vol.new ≡ vol.old }
         ensures told { V.told vol.new ≡ V.told vol.old }
         ensures counted { CountsDevice result (V.faults vol.old) (V.faults vol.new) }
     {
         if self.stopped {
             return Err(StoreFault::Stopped);
         }
-        check_tiles(tiles)?;
+        check_tiles(&Updates::all(tiles))?;
         let table = number_tiles(self.alloc, tiles)?;
         let mut buffer = record_buffer(self.alloc, tiles)?;
         let built = build_on(

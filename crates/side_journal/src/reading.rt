@@ -8,15 +8,12 @@ ghost use Rattle.side_journal.specs.Bodies.{IsState};
 
 use crate::second::second_state;
 use crate::{Body, JournalState};
-use bundle_index::{BundleHeader, Entry, Slot};
+use bundle_index::{BundleHeader, Entry, INDEX_END, Slot};
 use byteorder::{ByteOrder, LittleEndian};
 use outside_io::{Failed, VolFile, Volume};
 
 /// The number of the bytes LBJRNL1, the lowest first.
 const MARK: u64 = 13876173130580556;
-
-/// The least length of a bundle that is not empty.
-pub(crate) const LEAST_LENGTH: u64 = 131136;
 
 /// The number of the seven bytes behind the gate.
 #[tactic(auto, unfolding(crate::specs::Says::mark_at))]
@@ -57,7 +54,7 @@ fn tile_of(bytes: &[u8; 96]) -> JournalState
         };
     };
     let length = long_at(bytes, 24);
-    if length < LEAST_LENGTH {
+    if length < INDEX_END {
         return JournalState::Bad {
             place: 24,
             found: length,

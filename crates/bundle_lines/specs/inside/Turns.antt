@@ -3,6 +3,7 @@ use Rattle.std.specs.Prelude.{◌≡◌, ◌⊎◌, ℕ, ◌+◌, ◌^◌, ◌<�
 use Rattle.outside_io.specs.declared.volume.VolFile.TheVariants.{Bundle}
 use Rattle.outside_io.specs.streams.Sink.{Holds, HoldsPrefix}
 use Rattle.outside_io.specs.volume.History.{History, contents, current}
+use Rattle.bundle_index.specs.Sizes.{index_end}
 use Rattle.bundle_store.specs.declared.fault.StoreFault.{StoreFault}
 use Rattle.bundle_store.specs.declared.fault.StoreFault.TheVariants.{Full as StoreFull}
 use Rattle.bundle_store.specs.declared.tile_rec.TileRec.{TileRec}
@@ -13,7 +14,7 @@ use Rattle.bundle_store.specs.Session.{IsReadyToPut, SessionState}
 use Rattle.bundle_store.specs.Tiles.{IsReadable, tiles}
 use Rattle.bundle_lines.specs.declared.stop.PutStop.{PutStop}
 use Rattle.bundle_lines.specs.declared.stop.PutStop.TheVariants.{Output, Volume, Full}
-use Rattle.bundle_lines.specs.Ends.{PutEnd}
+use Rattle.bundle_lines.specs.Gave.{PutEnd}
 use Rattle.bundle_lines.specs.Lines.{put_lines}
 use Rattle.bundle_lines.specs.Puts.{AreMarks, AreWhole, HaveRoom, PutsKeep}
 
@@ -25,7 +26,7 @@ stop_of fault = Volume
 -- where the first record behind a bundle of so many bytes stands: an empty one gets a header and an
 -- index first
 abbrev pub end_of : ℕ → ℕ
-end_of len = if len == 0 then 131136 else len
+end_of len = if len == 0 then index_end else len
 
 -- there is room for the first n tiles behind a bundle of so many bytes, and they have slots
 pub record HasRoomFirst (len : ℕ) (updates : List TileRec) (n : ℕ) : Type 0 where

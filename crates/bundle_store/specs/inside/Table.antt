@@ -1,12 +1,13 @@
 -- The table of the number of each slot's last tile, and the map that it shows.
 use Rattle.std.specs.Prelude.{◌≡◌, ℕ, ◌+◌, ◌<◌, ◌≤◌, ◌==◌, if◌then◌else◌, List, length, get_or, Option, Some, None}
+use Rattle.bundle_index.specs.Sizes.{index_end}
 use Rattle.bundle_index.specs.declared.entry.Entry.{Entry}
 use Rattle.bundle_store.specs.declared.tile_rec.TileRec.{TileRec}
 use Rattle.bundle_store.specs.Build.{bytes_at}
 use Rattle.bundle_store.specs.Session.{IsFirstEmpty, IsFirstLarge}
 use Rattle.bundle_store.specs.Tiles.{TileMap}
 use Rattle.bundle_store.specs.declared.fault.StoreFault.{StoreFault}
-use Rattle.bundle_store.specs.declared.fault.StoreFault.TheVariants.{Device, BadBundle, BadJournal, NoTile, Beyond, TileTooLarge, EmptyTile, Full, NotEmpty, OutOfMemory, Stopped}
+use Rattle.bundle_store.specs.declared.fault.StoreFault.TheVariants.{TileTooLarge, EmptyTile}
 
 -- the tile of a number, if there is one
 abbrev pub tile_of_number : List TileRec → Option ℕ → Option (List ℕ)
@@ -31,18 +32,10 @@ HasRoom tiles size = (i : ℕ) → i < length tiles → length (bytes_at tiles i
 abbrev pub entry_of_size : ℕ → ℕ → Entry
 entry_of_size before size =
     if size == 0 then (let e : Entry = record { offset = 0; size = 0 } in e)
-    else record { offset = 131136 + before + 4; size = size }
+    else record { offset = index_end + before + 4; size = size }
 
 -- the first tile that no bundle can hold, and no other cause
 abbrev pub TilesFail : List TileRec → StoreFault → Type 0
 TilesFail tiles (EmptyTile at) = IsFirstEmpty tiles at
 TilesFail tiles (TileTooLarge at len) = IsFirstLarge tiles at len
-TilesFail tiles Device = ⊥
-TilesFail tiles (BadBundle at number) = ⊥
-TilesFail tiles (BadJournal at number) = ⊥
-TilesFail tiles NoTile = ⊥
-TilesFail tiles (Beyond entry got) = ⊥
-TilesFail tiles (Full len) = ⊥
-TilesFail tiles (NotEmpty len) = ⊥
-TilesFail tiles OutOfMemory = ⊥
-TilesFail tiles Stopped = ⊥
+TilesFail tiles _ = ⊥

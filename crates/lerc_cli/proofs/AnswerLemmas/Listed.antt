@@ -12,7 +12,7 @@ use Rattle.bundle_store.specs.declared.recovery.Recovery.{Recovery}
 use Rattle.bundle_store.specs.Check.{Reports}
 use Rattle.bundle_store.specs.Session.{SessionState}
 use Rattle.bundle_lines.specs.declared.stop.LineStop.TheVariants.{Output as LineOutput, Volume as LineVolume}
-use Rattle.bundle_lines.specs.Ends.{CheckGave, LineEnd, ListGave}
+use Rattle.bundle_lines.specs.Gave.{CheckGave, LineEnd, ListGave}
 use Rattle.bundle_lines.specs.Lines.{check_lines, listing, recovery_line}
 use Rattle.program_ends.specs.Moves.{SinkMove, sink_move, volume_move}
 use Rattle.lerc_cli.specs.declared.words.Command.TheVariants.{List as ListAll, Check, Recover}

@@ -17,7 +17,7 @@ use Rattle.bundle_store.specs.Images.{HoldsClosed, Shows}
 use Rattle.bundle_store.specs.Session.{SessionState}
 use Rattle.bundle_store.specs.Tiles.{IsReadable, TileMap, tiles}
 use Rattle.bundle_lines.specs.declared.stop.PutStop.TheVariants.{Output as PutOutput, Volume as PutVolume, Full as PutFull}
-use Rattle.bundle_lines.specs.Ends.{PutEnd, PutGave, UnlessVolume}
+use Rattle.bundle_lines.specs.Gave.{PutEnd, PutGave, UnlessVolume}
 use Rattle.bundle_lines.specs.Lines.{put_lines}
 use Rattle.bundle_lines.specs.Puts.{AreMarks, EndsByRoom, HaveRoom, IsFirstFull, KeepsFullLength, PutsKeep, PutsLeave, bundle_after_puts}
 use Rattle.bundle_lines.proofs.Marked.{puts_join}

@@ -8,7 +8,7 @@ use Rattle.lerc_header.specs.declared.header.Version.{Version}
 use Rattle.bundle_store.specs.Images.{HoldsClosed}
 use Rattle.bundle_lines.specs.declared.stop.LineStop.TheVariants.{Output as LineOutput, Volume as LineVolume}
 use Rattle.bundle_lines.specs.declared.stop.PutStop.TheVariants.{Output as PutOutput, Volume as PutVolume, Full as PutFull}
-use Rattle.bundle_lines.specs.Ends.{LineEnd, PutEnd, UnlessVolume}
+use Rattle.bundle_lines.specs.Gave.{LineEnd, PutEnd, UnlessVolume}
 use Rattle.program_ends.specs.Moves.{VolumeMove}
 use Rattle.lerc_cli.specs.declared.words.Command.{Command}
 use Rattle.lerc_cli.specs.declared.words.Command.TheVariants.{Encode, Decode, Info, Build, Put, Get, GetRaw, List as ListAll, Check, Recover}

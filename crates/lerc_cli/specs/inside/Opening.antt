@@ -7,7 +7,7 @@ use Rattle.lerc_grammar.specs.Verdict.{WholeFault}
 use Rattle.lerc_decode.specs.declared.decoder.DecodeFault.{DecodeFault}
 use Rattle.lerc_decode.specs.declared.decoder.DecodeFault.TheVariants.{Blob as BlobOf, OutOfMemory as NoMemoryOf}
 use Rattle.bundle_lines.specs.declared.stop.LineStop.TheVariants.{Output as LineOutput, Volume as LineVolume}
-use Rattle.bundle_lines.specs.Ends.{LineEnd}
+use Rattle.bundle_lines.specs.Gave.{LineEnd}
 use Rattle.program_ends.specs.declared.stop.Stop.{Stop}
 use Rattle.program_ends.specs.declared.stop.Stop.TheVariants.{Usage, Source, Output, Volume, OutOfMemory, Refused}
 use Rattle.opened_bundle.specs.declared.refusal.StoreRefusal.{StoreRefusal}

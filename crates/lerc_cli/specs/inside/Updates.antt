@@ -7,7 +7,7 @@ use Rattle.bundle_store.specs.declared.tile_rec.TileRec.{TileRec}
 use Rattle.bundle_lines.specs.declared.stop.BuildStop.TheVariants.{Output as BuildOutput, Volume as BuildVolume, NotEmpty as BuildNotEmpty, OutOfMemory as BuildMemory}
 use Rattle.bundle_lines.specs.declared.stop.PutStop.TheVariants.{Output as PutOutput, Volume as PutVolume, Full as PutFull}
 use Rattle.bundle_lines.specs.Builds.{BuildEnd}
-use Rattle.bundle_lines.specs.Ends.{PutEnd}
+use Rattle.bundle_lines.specs.Gave.{PutEnd}
 use Rattle.tile_updates.specs.Updates.{IsUpdates, OfBytes}
 use Rattle.program_ends.specs.declared.stop.Stop.{Stop}
 use Rattle.program_ends.specs.declared.stop.Stop.TheVariants.{Output, Volume, OutOfMemory, Refused}

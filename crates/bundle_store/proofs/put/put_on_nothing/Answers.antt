@@ -3,11 +3,11 @@ use Rattle.std.proofs.Common.{◌≡◌, inl, inr, ℕ, List, length, sym, ap, �
 use Rattle.outside_io.specs.volume.Disk.{File}
 use Rattle.outside_io.specs.volume.History.{current}
 use Rattle.outside_io.proofs.VolumeLemmas.Moments.{during_join, during_map}
-use Rattle.bundle_store.specs.Images.{EachImage, WithOrWithout}
+use Rattle.bundle_store.specs.Images.{EachImage}
 use Rattle.bundle_store.specs.Tiles.{IsBundle, TileMap, tiles}
 use Rattle.bundle_store.proofs.Standing.{weaker}
 use Rattle.bundle_store.specs.Images.{EmptyOr}
-use Rattle.bundle_store.specs.Appended.{bundle_with_tile}
+use Rattle.bundle_store.specs.GroupPuts.{AllOrNone, bundle_with_tiles}
 use Rattle.bundle_store.specs.Kept.{Keeps}
 use Rattle.bundle_store.specs.Layout.{layout}
 use Rattle.bundle_store.specs.Tiles.{no_tiles}
@@ -16,7 +16,7 @@ use Rattle.bundle_store.proofs.put.put_on_nothing.Goals as goal
 
 pub returns-in_err-build_empty-clause-images : goal.returns-in_err-build_empty-clause-images
 returns-in_err-build_empty-clause-images g c = λ told.
-    let Either = WithOrWithout c.args.slot c.args.tile.now no_tiles in
+    let Either = AllOrNone c.args.updates.now no_tiles in
     during_map _ (EachImage Either) _ _ (λ d. weaker (EmptyOr no_tiles) Either d (λ m either. elim either [ inl before ↦ inl before | inr after ↦ inl after ])) (c.build_empty.ensures.images told)
 
 pub put_on_bundle-requires-clause-len : goal.put_on_bundle-requires-clause-len
@@ -26,13 +26,13 @@ put_on_bundle-requires-clause-len g c = λ told.
 
 pub returns-clause-images : goal.returns-clause-images
 returns-clause-images g c = λ told.
-    let Either = WithOrWithout c.args.slot c.args.tile.now no_tiles in
+    let Either = AllOrNone c.args.updates.now no_tiles in
     let building = during_map _ (EachImage Either) _ _ (λ d. weaker (EmptyOr no_tiles) Either d (λ m either. elim either [ inl before ↦ inl before | inr after ↦ inl after ])) (c.build_empty.ensures.images told) in
     let done = c.in_ok-build_empty.ensures.done told in
     let next = current (g.V.Volume.history c.build_empty.new.vol) in
     let bundle : next.bundle.now ≡ layout no_tiles = ap (λ (f : File). f.now) done.bundle_is in
     let none : tiles next.bundle.now ≡ no_tiles = ap tiles bundle ∙ layout_tiles no_tiles nothing_fits in
-    let putting = during_map _ (EachImage Either) _ _ (λ d each. subst (λ (m : TileMap). EachImage (WithOrWithout c.args.slot c.args.tile.now m) d) none (each (subst IsBundle (sym bundle) (layout_bundle no_tiles nothing_fits)))) (c.put_on_bundle.ensures.images (c.build_empty.ensures.told ∙ told)) in
+    let putting = during_map _ (EachImage Either) _ _ (λ d each. subst (λ (m : TileMap). EachImage (AllOrNone c.args.updates.now m) d) none (each (subst IsBundle (sym bundle) (layout_bundle no_tiles nothing_fits)))) (c.put_on_bundle.ensures.images (c.build_empty.ensures.told ∙ told)) in
     during_join (EachImage Either) _ _ _ building putting
 
 pub put_on_bundle-requires-clause-keeps : goal.put_on_bundle-requires-clause-keeps
@@ -44,4 +44,4 @@ pub returns-clause-keeps : goal.returns-clause-keeps
 returns-clause-keeps g c = λ told.
     let done = c.in_ok-build_empty.ensures.done told in
     let bundle = ap (λ (f : File). f.now) done.bundle_is in
-    on_ok_weaker c.put_on_bundle.result (λ keeps. subst (λ (b : List ℕ). Keeps c.put_on_bundle.new.front (bundle_with_tile b c.args.slot c.args.tile.now)) bundle keeps) (c.put_on_bundle.ensures.keeps (c.build_empty.ensures.told ∙ told))
+    on_ok_weaker c.put_on_bundle.result (λ keeps. subst (λ (b : List ℕ). Keeps c.put_on_bundle.new.front (bundle_with_tiles b c.args.updates.now)) bundle keeps) (c.put_on_bundle.ensures.keeps (c.build_empty.ensures.told ∙ told))

@@ -11,15 +11,15 @@ pub returns-in_err-len-clause-images : goal.returns-in_err-len-clause-images
 returns-in_err-len-clause-images g c = λ told.
     keeps_measuring _ _ _ (c.requires.quiet told) c.len.ensures.time (c.len.ensures.disk told)
 
-pub returns-in_err-redo_group-clause-images : goal.returns-in_err-redo_group-clause-images
-returns-in_err-redo_group-clause-images g c = λ told.
+pub returns-in_err-redo-clause-images : goal.returns-in_err-redo-clause-images
+returns-in_err-redo-clause-images g c = λ told.
     keeps_putting c.args.group.now c.args.header.now c.args.size c.args.place _ _ _ _ (c.requires.quiet told) (c.requires.opened told) (c.requires.says told)
-    c.len.ensures.time (c.len.ensures.disk told) (c.redo_group.ensures.images (c.len.ensures.told ∙ told))
+    c.len.ensures.time (c.len.ensures.disk told) (c.redo.ensures.images (c.len.ensures.told ∙ told))
 
 pub returns-clause-images : goal.returns-clause-images
 returns-clause-images g c = λ told.
     keeps_putting c.args.group.now c.args.header.now c.args.size c.args.place _ _ _ _ (c.requires.quiet told) (c.requires.opened told) (c.requires.says told)
-    c.len.ensures.time (c.len.ensures.disk told) (c.redo_group.ensures.images (c.len.ensures.told ∙ told))
+    c.len.ensures.time (c.len.ensures.disk told) (c.redo.ensures.images (c.len.ensures.told ∙ told))
 
 pub returns-clause-done : goal.returns-clause-done
 returns-clause-done g c = λ told.
@@ -32,8 +32,8 @@ returns-clause-done g c = λ told.
     let over = with_entries c.args.header.now c.args.group.now in
     let bundle : (current next).bundle.now ≡ b = ap (λ (d : Disk). d.bundle.now) still in
     let journal : (current next).journal.now ≡ j = ap (λ (d : Disk). d.journal.now) still in
-    let done = c.in_ok-redo_group.ensures.done told_1 in
-    recovered_group b j c.args.group.now c.args.header.now c.args.size c.args.place (current (g.V.Volume.history c.redo_group.new.vol)) (c.requires.opened told) (c.requires.says told)
+    let done = c.in_ok-redo.ensures.done told_1 in
+    recovered_group b j c.args.group.now c.args.header.now c.args.size c.args.place (current (g.V.Volume.history c.redo.new.vol)) (c.requires.opened told) (c.requires.says told)
     (done ∙ (λ i. let x : Disk = record { bundle = settled (over (bundle i)); journal = settled (0 ∷ drop 1 (journal i)) } in x))
 
 pub returns-clause-leaves : goal.returns-clause-leaves
@@ -43,7 +43,7 @@ returns-clause-leaves g c = λ told.
     let next = g.V.Volume.history c.len.new.self in
     let over = with_entries c.args.header.now c.args.group.now in
     let bundle : (current next).bundle.now ≡ b = ap (λ (d : Disk). d.bundle.now) (c.len.ensures.disk told) in
-    let done = c.in_ok-redo_group.ensures.done (c.len.ensures.told ∙ told) in
+    let done = c.in_ok-redo.ensures.done (c.len.ensures.told ∙ told) in
     let these = c.requires.says told in
     let within : size_in these.body ≤ length b = omega (arith, c.if-branch-size.false, c.in_ok-len.ensures.answer told, these.size_is) in (
       record { opened = c.requires.opened told; body = these.body; says = these.says; tiles = lays_tiles these.body c.args.group.now c.args.header.now these.lays; within = within },

@@ -3,6 +3,7 @@ use Rattle.outside_io.specs.volume.Disk.{Disk, File, IsQuiet}
 use Rattle.outside_io.specs.volume.History.{During, History, current}
 use Rattle.outside_io.proofs.VolumeLemmas.Moments.{during_map, started}
 use Rattle.side_journal.specs.Says.{IsOpen}
+use Rattle.bundle_store.specs.Build.{EachFits}
 use Rattle.bundle_store.specs.Images.{EachImage, EmptyOr, HoldsClosed}
 use Rattle.bundle_store.specs.declared.fault.StoreFault.{StoreFault}
 use Rattle.bundle_store.specs.inside.Table.{table_map}
@@ -40,14 +41,14 @@ returns-clause-holds g c = λ told.
     let us = c.args.tiles.now in
     let table = c.in_ok-table.table.items in
     let same = ap (table_map us) c.as_slice.ensures.value in
-    let are = are_shown us table c.in_ok-table.ensures.long c.in_ok-table.ensures.table c.in_ok-check_tiles.ensures.fits in
+    let are = are_shown us table c.in_ok-table.ensures.long c.in_ok-table.ensures.table (subst EachFits c.all.ensures c.in_ok-check_tiles.ensures.fits) in
     holds c.build_on-built.result _ _ (current (g.V.Volume.history c.build_on-built.new.vol)) (subst AreTiles (sym same) are) (same ∙ c.in_ok-table.ensures.last) (c.build_on-built.ensures.done told)
 
 pub build_on-built-requires-clause-tiles : goal.build_on-built-requires-clause-tiles
 build_on-built-requires-clause-tiles g c =
     let us = c.args.tiles.now in
     let table = c.in_ok-table.table.items in
-    let fits = c.in_ok-check_tiles.ensures.fits in
+    let fits = subst EachFits c.all.ensures c.in_ok-check_tiles.ensures.fits in
     subst AreTiles (sym (ap (table_map us) c.as_slice.ensures.value))
     (are_shown us table c.in_ok-table.ensures.long c.in_ok-table.ensures.table fits)
 

@@ -15,8 +15,8 @@ pub returns-then-len-eq0-clause-during : goal.returns-then-len-eq0-clause-during
 returns-then-len-eq0-clause-during g c = λ told.
     keeps_disk _ _ _ c.len.ensures.time (c.len.ensures.disk told)
 
-pub returns-then-len-lt131136-clause-during : goal.returns-then-len-lt131136-clause-during
-returns-then-len-lt131136-clause-during g c = λ told.
+pub returns-then-len-lt-INDEX_END-clause-during : goal.returns-then-len-lt-INDEX_END-clause-during
+returns-then-len-lt-INDEX_END-clause-during g c = λ told.
     keeps_disk _ _ _ c.len.ensures.time (c.len.ensures.disk told)
 
 pub returns-in-Some-clause-refused : goal.returns-in-Some-clause-refused
@@ -25,7 +25,7 @@ returns-in-Some-clause-refused g c = λ told.
     let b = contents Bundle h in
     let same : contents Bundle (g.V.Volume.history c.len.new.self) ≡ b = ap (λ (d : Disk). d.bundle.now) (c.len.ensures.disk told) in
     let header : c.in_ok-header.header ≡ take 64 b = c.in_ok-header.ensures.value (c.len.ensures.told ∙ told) ∙ ap (take 64) same in
-    let long : 131136 ≤ length b = omega (arith, c.in_ok-len.ensures.answer told, c.if-len-lt131136.false) in
+    let long : 131136 ≤ length b = omega (arith, c.in_ok-len.ensures.answer told, c.if-len-lt-INDEX_END.false) in
     sym (opened_fault b c.in_ok-header.header c.fault_of.result long header c.fault_of.ensures.value) ∙ c.in-Some.is
 
 pub returns-in_default-clause-refused : goal.returns-in_default-clause-refused
@@ -34,7 +34,7 @@ returns-in_default-clause-refused g c = λ told.
     let b = contents Bundle h in
     let same : contents Bundle (g.V.Volume.history c.len.new.self) ≡ b = ap (λ (d : Disk). d.bundle.now) (c.len.ensures.disk told) in
     let header : c.in_ok-header.header ≡ take 64 b = c.in_ok-header.ensures.value (c.len.ensures.told ∙ told) ∙ ap (take 64) same in
-    let long : 131136 ≤ length b = omega (arith, c.in_ok-len.ensures.answer told, c.if-len-lt131136.false) in
+    let long : 131136 ≤ length b = omega (arith, c.in_ok-len.ensures.answer told, c.if-len-lt-INDEX_END.false) in
     inr (opened_index b c.in_ok-header.header long header (sym c.fault_of.ensures.value ∙ c.in-None.is))
 
 pub returns-clause-ok : goal.returns-clause-ok
@@ -43,7 +43,7 @@ returns-clause-ok g c = λ told.
     let b = contents Bundle h in
     let same : contents Bundle (g.V.Volume.history c.len.new.self) ≡ b = ap (λ (d : Disk). d.bundle.now) (c.len.ensures.disk told) in
     let header : c.in_ok-header.header ≡ take 64 b = c.in_ok-header.ensures.value (c.len.ensures.told ∙ told) ∙ ap (take 64) same in
-    let long : 131136 ≤ length b = omega (arith, c.in_ok-len.ensures.answer told, c.if-len-lt131136.false) in
+    let long : 131136 ≤ length b = omega (arith, c.in_ok-len.ensures.answer told, c.if-len-lt-INDEX_END.false) in
     let told_2 = c.read_header.ensures.told ∙ c.len.ensures.told ∙ told in
     let same_2 : contents Bundle (g.V.Volume.history c.read_header.new.vol) ≡ b = ap (λ (d : Disk). d.bundle.now) (c.read_header.ensures.disk (c.len.ensures.told ∙ told)) ∙ same in
     record {

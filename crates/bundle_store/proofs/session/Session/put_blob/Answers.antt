@@ -1,42 +1,51 @@
-use Rattle.std.proofs.Common.{◌≡◌, inl, refl, false}
-use Rattle.outside_io.specs.volume.Disk.{Disk}
-use Rattle.outside_io.specs.volume.History.{current}
-use Rattle.outside_io.proofs.VolumeLemmas.Moments.{during_map, started}
-use Rattle.bundle_store.specs.Images.{EachImage, WithOrWithout}
+use Rattle.std.proofs.Common.{◌≡◌, ◌+◌, ◌^◌, ◌≤◌, List, length, false, subst, ap, arith}
+use Rattle.std.specs.Prelude.{IfErr, OnOk}
+use Rattle.std.proofs.lemmas.Result.{on_ok_weaker}
+use Rattle.outside_io.specs.volume.History.{During, current}
+use Rattle.bundle_store.specs.declared.tile_rec.TileRec.{TileRec}
+use Rattle.bundle_store.specs.Build.{EachFits}
+use Rattle.bundle_store.specs.GroupPuts.{AllOrNone, NoRoom, OnFull, bundle_after_puts, group_records}
+use Rattle.bundle_store.specs.Images.{EachImage, HoldsClosed}
+use Rattle.bundle_store.specs.Session.{GroupFails, KeepsLength, PutFails}
 use Rattle.bundle_store.specs.Tiles.{IsReadable, tiles}
-use Rattle.bundle_store.proofs.Standing.{still_good}
+use Rattle.bundle_store.proofs.OneUpdate.{err_both, one_fails, one_fits, one_full, one_room, only}
 use Rattle.bundle_store.proofs.session.Session.put_blob.Goals as goal
 
-pub returns-then-is_empty-clause-images : goal.returns-then-is_empty-clause-images
-returns-then-is_empty-clause-images g c = λ told.
+pub put_updates-requires-clause-some : goal.put_updates-requires-clause-some
+put_updates-requires-clause-some g c = omega (arith, ap length c.one.ensures)
+
+pub put_updates-requires-clause-most : goal.put_updates-requires-clause-most
+put_updates-requires-clause-most g c = omega (arith, ap length c.one.ensures)
+
+pub returns-clause-done : goal.returns-clause-done
+returns-clause-done g c = λ told.
+    let b = (current (g.V.Volume.history c.args.vol.now)).bundle.now in
+    subst (λ (us : List TileRec). OnOk c.put_updates.result (HoldsClosed (bundle_after_puts b us) (current (g.V.Volume.history c.put_updates.new.vol)))) c.one.ensures (c.put_updates.ensures.done told)
+
+pub returns-clause-answers : goal.returns-clause-answers
+returns-clause-answers g c =
+    let fails = subst (λ (us : List TileRec). IfErr c.put_updates.result (λ f. GroupFails us f)) c.one.ensures c.put_updates.ensures.answers in
+    err_both c.put_updates.result (GroupFails (only c.args.slot c.args.tile.now)) (GroupFails (only c.args.slot c.args.tile.now)) (PutFails (length c.args.tile.now)) (λ f is same. one_fails c.args.slot c.args.tile.now f is) fails fails
+
+pub returns-clause-fits : goal.returns-clause-fits
+returns-clause-fits g c =
+    on_ok_weaker c.put_updates.result (one_fits c.args.slot c.args.tile.now) (subst (λ (us : List TileRec). OnOk c.put_updates.result (EachFits us)) c.one.ensures c.put_updates.ensures.fits)
+
+pub returns-clause-room : goal.returns-clause-room
+returns-clause-room g c = λ told.
+    let n = length (current (g.V.Volume.history c.args.vol.now)).bundle.now in
+    on_ok_weaker c.put_updates.result (one_room c.args.slot c.args.tile.now n) (subst (λ (us : List TileRec). OnOk c.put_updates.result (n + length (group_records us) ≤ 2 ^ 40)) c.one.ensures (c.put_updates.ensures.room told))
+
+pub returns-clause-full : goal.returns-clause-full
+returns-clause-full g c = λ told.
+    let n = length (current (g.V.Volume.history c.args.vol.now)).bundle.now in
+    let us = only c.args.slot c.args.tile.now in
+    let fails = subst (λ (l : List TileRec). IfErr c.put_updates.result (λ f. GroupFails l f)) c.one.ensures c.put_updates.ensures.answers in
+    let full = subst (λ (l : List TileRec). IfErr c.put_updates.result (λ f. OnFull (λ len. NoRoom n l len) f)) c.one.ensures (c.put_updates.ensures.full told) in
+    err_both c.put_updates.result (GroupFails us) (OnFull (λ len. NoRoom n us len)) (KeepsLength n) (one_full c.args.slot c.args.tile.now n) fails full
+
+pub returns-clause-images : goal.returns-clause-images
+returns-clause-images g c = λ told.
     let old = g.V.Volume.history c.args.vol.now in
-    let Either = WithOrWithout c.args.slot c.args.tile.now (tiles (current old).bundle.now) in
-    let Pass : Disk → Type 0 = λ d. c.args.self.now.stopped ≡ false → IsReadable (current old).bundle.now → EachImage Either d in
-    started Pass old (λ running readable. still_good Either (current old) (c.requires.ready told running).quiet (c.requires.ready told running).closed readable (inl refl))
-
-pub returns-then-tile-gt16777215-clause-images : goal.returns-then-tile-gt16777215-clause-images
-returns-then-tile-gt16777215-clause-images g c = λ told.
-    let old = g.V.Volume.history c.args.vol.now in
-    let Either = WithOrWithout c.args.slot c.args.tile.now (tiles (current old).bundle.now) in
-    let Pass : Disk → Type 0 = λ d. c.args.self.now.stopped ≡ false → IsReadable (current old).bundle.now → EachImage Either d in
-    started Pass old (λ running readable. still_good Either (current old) (c.requires.ready told running).quiet (c.requires.ready told running).closed readable (inl refl))
-
-pub returns-in-Err-Device-clause-images : goal.returns-in-Err-Device-clause-images
-returns-in-Err-Device-clause-images g c = λ told.
-    during_map _ _ _ _ (λ d each running. each) (c.put_tile-put.ensures.images told)
-
-pub returns-else-tile-gt16777215-2-clause-images : goal.returns-else-tile-gt16777215-2-clause-images
-returns-else-tile-gt16777215-2-clause-images g c = λ told.
-    during_map _ _ _ _ (λ d each running. each) (c.put_tile-put.ensures.images told)
-
-pub returns-then-self-clause-kept : goal.returns-then-self-clause-kept
-returns-then-self-clause-kept g c = λ told.
-    started _ _ refl
-
-pub returns-then-is_empty-clause-kept : goal.returns-then-is_empty-clause-kept
-returns-then-is_empty-clause-kept g c = λ told.
-    started _ _ refl
-
-pub returns-then-tile-gt16777215-clause-kept : goal.returns-then-tile-gt16777215-clause-kept
-returns-then-tile-gt16777215-clause-kept g c = λ told.
-    started _ _ refl
+    let b = (current old).bundle.now in
+    subst (λ (us : List TileRec). During (λ d. c.args.self.now.stopped ≡ false → IsReadable b → EachImage (AllOrNone us (tiles b)) d) old (g.V.Volume.history c.put_updates.new.vol)) c.one.ensures (c.put_updates.ensures.images told)

@@ -1,0 +1,54 @@
+//! The header and the entries of a put, written over the bundle.
+
+ghost use Rattle.std.specs.Prelude.{◌≡◌, ◌+◌, ◌≤◌, length, IsTrue, OnOk};
+ghost use Rattle.outside_io.specs.declared.volume.VolFile.TheVariants.{Bundle};
+ghost use Rattle.outside_io.specs.volume.Disk.{IsSettled, change, settled};
+ghost use Rattle.outside_io.specs.streams.Faults.{CountsFaults};
+ghost use Rattle.outside_io.specs.volume.History.{During, contents, current};
+ghost use Rattle.bundle_index.specs.Entry.{IsEntry, entry_bytes};
+ghost use Rattle.bundle_index.specs.Sizes.{index_end};
+ghost use Rattle.bundle_store.specs.GroupPuts.{with_entries};
+ghost use Rattle.bundle_store.specs.inside.Grouped.{KeepsUnderAll};
+ghost use Rattle.side_journal.specs.Groups.{AreNew};
+
+use bundle_index::{BundleHeader, Entry, entry_place};
+use outside_io::{Failed, VolFile, Volume};
+use side_journal::Group;
+
+/// The bytes of an entry.
+pub(crate) fn spelled(entry: Entry) -> [u8; 8]
+    requires { IsEntry entry }
+    ensures { result ≡ entry_bytes entry }
+{
+    entry.pack().to_le_bytes()
+}
+
+/// Writes the header at the front and each entry at its place, in their order, and syncs the
+/// bundle.
+pub(crate) fn write_all_over<V: Volume>(
+    vol: &mut V,
+    header: &BundleHeader,
+    group: &Group,
+) -> Result<(), Failed>
+    requires new { AreNew group.now }
+    requires long { IsTrue (V.told vol.old) → index_end ≤ length (contents Bundle
+        (V.history vol.old)) }
+    requires settled { IsTrue (V.told vol.old) → IsSettled (current (V.history vol.old)).bundle }
+    ensures done { IsTrue (V.told vol.old) → OnOk result (current (V.history vol.new)
+        ≡ change Bundle (λ f. settled (with_entries header.now group.now f.now))
+        (current (V.history vol.old))) }
+    ensures during { IsTrue (V.told vol.old) → During (KeepsUnderAll header.now group.now
+        (current (V.history vol.old))) (V.history vol.old) (V.history vol.new) }
+    ensures told { V.told vol.new ≡ V.told vol.old }
+    ensures counted { CountsFaults result (V.faults vol.old) (V.faults vol.new) }
+{
+    let front = header.bytes();
+    vol.write(VolFile::Bundle, 0, &front)?;
+    for i in 0..group.len() {
+        let (slot, entry) = group.at(i);
+        let place = entry_place(slot);
+        let word = spelled(entry);
+        vol.write(VolFile::Bundle, place, &word)?;
+    }
+    vol.sync(VolFile::Bundle)
+}
