@@ -160,7 +160,9 @@ impl Session {
 
     /// The entry at the slot's place, as the session keeps it; that of an empty file is 0.
     pub fn kept_entry(&self, slot: Slot) -> Entry
-        ensures { (bundle : List ℕ) → Serves self.now bundle → result ≡ entry_at bundle slot }
+        ensures value { (bundle : List ℕ) → Serves self.now bundle →
+            result ≡ entry_at bundle slot }
+        ensures small { result.size < 16777216 }
     {
         self.front.entry(slot)
     }
@@ -176,6 +178,7 @@ impl Session {
             IfOk result (λ tile. tiles (contents Bundle (V.history vol.old)) slot ≡ Some tile) }
         ensures none { IsTrue (V.told vol.old) → IsErrOf result StoreFault.NoTile →
             tiles (contents Bundle (V.history vol.old)) slot ≡ None }
+        ensures fits { IfOk result (λ tile. (0 < length tile) × (length tile < 16777216)) }
         ensures stopped { IsErrOf result StoreFault.Stopped ↔ (self.now.stopped ≡ true) }
         ensures refused { IsTrue (V.told vol.old) →
             IfErr result (λ f. GetRefuses (contents Bundle (V.history vol.old)) slot f) }
