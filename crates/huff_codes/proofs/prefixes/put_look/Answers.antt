@@ -1,0 +1,1 @@
+use Rattle.huff_codes.proofs.prefixes.put_look.Goals as goal
