@@ -2,10 +2,9 @@
 use Rattle.std.proofs.Common.{◌≡◌, ℕ, ◌+◌, ◌-◌, ◌*◌, ◌/◌, ◌%◌, ◌^◌, ◌<◌, ◌≤◌, ◌⊎◌, Bool, List, [], ◌∷◌, ◌++◌, length, get_or, take, drop, sym, ap, ◌∙◌, subst, inl, inr, arith}
 use Rattle.std.specs.Prelude.{replicate}
 use Rattle.std.proofs.lemmas.Bool.{cases_lt, cases_eq}
-use Rattle.std.proofs.lemmas.List.{length-append, length-replicate, length-take-le, take-take, take-append-drop, take_at, get_or_append_left, get_or-append_right, get_or-take, get_or-drop, get_or-replicate, get_or-set_same, get_or-set_other, append-nil}
-use Rattle.std.proofs.lemmas.Nat.{pow-add, pow_pos, shr_high, shr_below, shr_split, shr-shr, mod_low}
+use Rattle.std.proofs.lemmas.List.{length-append, length-replicate, length-take-le, take-take, take-append-drop, take_at, get_or_append_left, get_or-append_right, get_or-take, get_or-drop, get_or-replicate, append-nil}
+use Rattle.std.proofs.lemmas.Nat.{pow-add, pow_pos, shr_high, shr_below, shr_split, mod_low}
 use Rattle.std.proofs.Math.Nat.{mod-lt, mod-eq_of_lt}
-use Rattle.std.proofs.Math.ListN.{set}
 use borrow.Rule.Slice.PartMut.{put_mid}
 use Rattle.huff_codes.specs.Bits.{bits_of, BeginsWith}
 use Rattle.huff_codes.specs.Codes.{HasCode, IsPrefixFree, code_at}
@@ -13,7 +12,7 @@ use Rattle.huff_codes.specs.Prefixes.{ArePrefixes, IsLook}
 use Rattle.huff_codes.specs.declared.codes.Code.{Code}
 use Rattle.huff_codes.specs.declared.prefixes.Look.{Look}
 use Rattle.huff_codes.specs.declared.prefixes.Look.TheVariants.{Symbol, Longer, Nothing}
-use Rattle.huff_codes.specs.inside.Noted.{Tells, IsNoted, IsNotedBelow, AreNotedBelow}
+use Rattle.huff_codes.specs.inside.Noted.{Tells, IsNoted, AreNotedBelow}
 use Rattle.huff_codes.specs.inside.Spans.{IsLaid}
 use Rattle.huff_codes.specs.inside.Stored.{code_bits}
 use Rattle.huff_codes.proofs.BitLists.{length-bits, take-bits, same_from_bits}
@@ -151,7 +150,7 @@ long_noted codes c s b old new laid long free is small here there =
     out other (inr h) = other (long_out c b laid long small (h.0, sym is ∙ h.1))
 
 pub none_noted : (codes : List (List Bool)) (c : Code) (s b : ℕ) (look : Look) → IsLaid c → c.length ≡ 0 → code_at codes s ≡ code_bits c → IsNoted codes s b look look
-none_noted codes c s b look laid none is = inr (λ tells. omega (arith, tells.coded, ap length is, length-code_bits c laid.low, none), refl)
+none_noted codes c s b look laid none is = inr (λ tells. omega (arith, tells.coded, ap length is, length-code_bits c laid.low, none), λ i. look)
 
 -- ---- all of them
 

@@ -6,7 +6,7 @@ use Rattle.huff_codes.specs.Bits.{word_bits}
 use Rattle.huff_codes.specs.Codes.{code_at, HasCode}
 use Rattle.huff_codes.specs.declared.faults.CodeFault.{CodeFault}
 use Rattle.huff_codes.specs.declared.faults.CodeReason.TheVariants.{Cut, NoCode}
-use Rattle.huff_codes.specs.Words.{joined_codes, word_count, whole_end, AreWords, ArePassed, IsStuck, word_faults}
+use Rattle.huff_codes.specs.Words.{joined_codes, whole_end, AreWords, ArePassed, IsStuck, word_faults}
 use Rattle.huff_codes.specs.Words.{code_cut, no_code, further_cut}
 use Rattle.first_fault.specs.Faults.{wrong}
 use Rattle.huff_codes.specs.inside.Reading.{HaveReached, IsNext, IsStop}

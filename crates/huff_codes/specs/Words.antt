@@ -1,6 +1,6 @@
 -- Code words: the codes of symbols joined, in as few words as hold them, and one further word.
 use Rattle.std.specs.Prelude.{ℕ, ◌≡◌, ◌+◌, ◌*◌, ◌/◌, ◌<◌, Bool, List, [], ◌∷◌, ◌++◌}
-use Rattle.std.specs.Prelude.{length, All, ¬◌}
+use Rattle.std.specs.Prelude.{length, All}
 use Rattle.first_fault.specs.Faults.{Faults, wrong}
 use Rattle.huff_codes.specs.Bits.{word_bits, BeginsWith}
 use Rattle.huff_codes.specs.Codes.{code_at, HasCode}
