@@ -90,7 +90,7 @@ begins_or_not (false ∷ bits) (true ∷ code) = inr (λ h. differ bits code h.0
     differ bits code rest e = cc
 
 -- a symbol that has a code is below 256
-coded_below : (codes : List (List Bool)) (s : ℕ) → length codes ≡ 256 → HasCode codes s → s < 256
+pub coded_below : (codes : List (List Bool)) (s : ℕ) → length codes ≡ 256 → HasCode codes s → s < 256
 coded_below codes s size h = elim (cases_lt s 256) [
   | inl lt ↦ lt
   | inr ge ↦ absurd (let past = ap length (get_or_past codes s [] (omega (arith, ge, size))) in omega (arith, past, h))

@@ -33,3 +33,4 @@ mod Pushing
 pub mod Once
 mod Lookups
 mod Prefixed
+mod Noted

@@ -14,7 +14,7 @@ use Rattle.huff_codes.proofs.BitLists.{length-bits, take-bits}
 use Rattle.huff_codes.proofs.WordLaws.{one_symbol}
 
 -- no code stands in front of eight bits with which a longer one begins
-no_longer : (codes : List (List Bool)) (byte s : ℕ) → IsPrefixFree codes → HasCode codes s → BeginsWith (bits_of 8 byte) (code_at codes s) → IsLonger codes byte → ⊥
+pub no_longer : (codes : List (List Bool)) (byte s : ℕ) → IsPrefixFree codes → HasCode codes s → BeginsWith (bits_of 8 byte) (code_at codes s) → IsLonger codes byte → ⊥
 no_longer codes byte s free coded (rest, front) (t, (long, (more, goes))) =
     let both : code_at codes t ++ [] ≡ code_at codes s ++ (rest ++ more) =
     append-nil (code_at codes t) ∙ goes ∙ ap (λ (bs : List Bool). bs ++ more) front ∙ append_assoc (code_at codes s) rest more in

@@ -5,8 +5,10 @@ use Rattle.std.proofs.lemmas.List.Elements.{All-nil, All-push}
 use Rattle.huff_codes.specs.Bits.{word_bits}
 use Rattle.huff_codes.specs.Codes.{code_at, HasCode}
 use Rattle.huff_codes.specs.declared.faults.CodeFault.{CodeFault}
-use Rattle.huff_codes.specs.declared.faults.CodeReason.TheVariants.{Cut}
-use Rattle.huff_codes.specs.Words.{joined_codes, word_count, whole_end, AreWords, ArePassed, IsStuck, word_faults}
+use Rattle.huff_codes.specs.declared.faults.CodeReason.TheVariants.{Cut, NoCode}
+use Rattle.huff_codes.specs.Words.{joined_codes, whole_end, AreWords, ArePassed, IsStuck, word_faults}
+use Rattle.huff_codes.specs.Words.{code_cut, no_code, further_cut}
+use Rattle.first_fault.specs.Faults.{wrong}
 use Rattle.huff_codes.specs.inside.Reading.{HaveReached, IsNext, IsStop}
 use Rattle.huff_codes.proofs.Windows.{length-word_bits, word-take}
 
@@ -75,26 +77,12 @@ passed codes bytes symbols bit h = record { coded = h.coded; bits = h.bits }
 
 pub stop_fault : (codes : List (List Bool)) (bytes symbols : List ℕ) (bit n : ℕ) (f : CodeFault) → HaveReached codes bytes symbols bit → length symbols < n
     → IsStuck codes (drop bit (word_bits bytes)) → IsStop codes bytes bit (drop bit (word_bits bytes)) f → word_faults codes n bytes f.at f.reason
-stop_fault codes bytes symbols bit n f h few stuck stop = (
-  symbols,
-  (
-    drop bit (word_bits bytes),
-    (
-      passed codes bytes symbols bit h,
-      inl (few, (stuck, subst (λ (k : ℕ). IsStop codes bytes k (drop bit (word_bits bytes)) f) h.takes stop)),
-    ),
-  ),
-)
+stop_fault codes bytes symbols bit n f h few stuck (inl (begun, is)) = code_cut symbols (drop bit (word_bits bytes)) (passed codes bytes symbols bit h) few stuck begun is
+stop_fault codes bytes symbols bit n f h few stuck (inr (none, is)) =
+    no_code symbols (drop bit (word_bits bytes)) (passed codes bytes symbols bit h) few stuck none
+    (subst (λ (k : ℕ). wrong NoCode (4 * (k / 32)) f.at f.reason) h.takes is)
 
 pub end_fault : (codes : List (List Bool)) (bytes symbols : List ℕ) (bit n at : ℕ) → HaveReached codes bytes symbols bit → length symbols ≡ n
     → length bytes < (bit + 31) / 32 * 4 + 4 → at ≡ whole_end bytes → word_faults codes n bytes at Cut
-end_fault codes bytes symbols bit n at h all short is = (
-  symbols,
-  (
-    drop bit (word_bits bytes),
-    (
-      passed codes bytes symbols bit h,
-      inr (all, inr (λ (enough : 4 * word_count (length (joined_codes codes symbols)) + 4 ≤ length bytes). absurd (omega (arith, h.takes, short, enough)), (is, refl))),
-    ),
-  ),
-)
+end_fault codes bytes symbols bit n at h all short is =
+    further_cut symbols (drop bit (word_bits bytes)) (passed codes bytes symbols bit h) all (omega (arith, h.takes, short)) (is, refl)

@@ -1,5 +1,5 @@
 -- Words have one reading, and one first fault.
-use Rattle.std.proofs.Common.{◌≡◌, ℕ, ◌+◌, ◌*◌, ◌/◌, ◌<◌, ◌≤◌, Bool, List, [], ◌∷◌, ◌++◌, length, take, drop, refl, sym, ap, ◌∙◌, subst, inl, inr, arith}
+use Rattle.std.proofs.Common.{◌≡◌, ℕ, ◌+◌, ◌*◌, ◌/◌, ◌<◌, ◌≤◌, ◌⊎◌, Bool, List, [], ◌∷◌, ◌++◌, length, take, drop, refl, sym, ap, ◌∙◌, subst, inl, inr, arith}
 use Rattle.std.specs.Prelude.{All}
 use Rattle.std.proofs.lemmas.Bool.{cases_lt}
 use Rattle.std.proofs.lemmas.List.{length-append, take_at, take-append-le, take-append-drop, append_assoc, append-nil, append_cancel_left, nil_from_length}
@@ -8,10 +8,11 @@ use Rattle.huff_codes.specs.Bits.{word_bits, BeginsWith}
 use Rattle.huff_codes.specs.Codes.{code_at, HasCode, IsPrefixFree}
 use Rattle.huff_codes.specs.declared.faults.CodeReason.{CodeReason}
 use Rattle.huff_codes.specs.declared.faults.CodeReason.TheVariants.{Cut, NoCode}
-use Rattle.first_fault.specs.Faults.{none, wrong}
+use Rattle.first_fault.specs.Faults.{Faults, choice, wrong}
 use Rattle.first_fault.specs.Parts.{IsSingle, IsPart}
-use Rattle.first_fault.proofs.Parts.{single-choice, single-wrong, single-unless, single-none}
-use Rattle.huff_codes.specs.Words.{joined_codes, word_count, whole_end, AreWords, ArePassed, IsStuck, IsBegun, further_faults, passed_faults, word_faults}
+use Rattle.first_fault.proofs.Parts.{single-choice, single-wrong}
+use Rattle.huff_codes.specs.Words.{joined_codes, word_count, whole_end, AreWords, ArePassed, IsStuck, IsBegun, word_faults}
+use Rattle.huff_codes.specs.Words.{code_cut, no_code, further_cut}
 use Rattle.huff_codes.proofs.Windows.{word-take}
 use Rattle.huff_codes.proofs.Reading.{joined_codes-nil, joined_codes-cons}
 
@@ -102,17 +103,42 @@ record IsEnd (codes : List (List Bool)) (n : ℕ) (bytes symbols : List ℕ) (le
   early : length symbols < n → IsStuck codes left
   late : length symbols ≡ n → length bytes < 4 * word_count (length (joined_codes codes symbols)) + 4
 
-end_of : (codes : List (List Bool)) (n : ℕ) (bytes symbols : List ℕ) (left : List Bool) (p : ℕ) (r : CodeReason) → passed_faults codes n bytes symbols left p r → IsEnd codes n bytes symbols left
-end_of codes n bytes symbols left p r (inl (few, (stuck, next))) = record { at_most = omega arith; early = λ _. stuck; late = λ e. absurd (omega arith) }
-end_of codes n bytes symbols left p r (inr (all, further)) = record {
-  at_most = omega arith;
-  early = λ h. absurd (omega arith);
-  late = λ _. too_short (length (joined_codes codes symbols)) further;
+-- the place and the reason at an end
+abbrev Told : List (List Bool) → ℕ → List ℕ → List ℕ → List Bool → Faults CodeReason
+Told codes n bytes symbols left p r =
+    ((length symbols < n) × choice (IsBegun codes left) (wrong Cut (whole_end bytes)) (wrong NoCode (4 * (length (joined_codes codes symbols) / 32))) p r)
+    ⊎ ((length symbols ≡ n) × wrong Cut (whole_end bytes) p r)
+
+-- a fault, as the end of reading that it stands for, with its place and reason
+record IsTold (codes : List (List Bool)) (n : ℕ) (bytes : List ℕ) (p : ℕ) (r : CodeReason) : Type 0 where
+  symbols : List ℕ
+  left : List Bool
+  passed : ArePassed codes bytes symbols left
+  end : IsEnd codes n bytes symbols left
+  told : Told codes n bytes symbols left p r
+
+told_of : (codes : List (List Bool)) (n : ℕ) (bytes : List ℕ) (p : ℕ) (r : CodeReason) → word_faults codes n bytes p r → IsTold codes n bytes p r
+told_of codes n bytes p r (code_cut symbols left passed few stuck begun is) = record {
+  symbols = symbols;
+  left = left;
+  passed = passed;
+  end = record { at_most = omega (arith, few); early = λ _. stuck; late = λ e. absurd (omega (arith, few, e)) };
+  told = inl (few, inl (begun, is));
 }
-  where
-    too_short : (bit : ℕ) → further_faults bytes bit p r → length bytes < 4 * word_count bit + 4
-    too_short bit (inl (enough, is)) = absurd is
-    too_short bit (inr (short, is)) = elim (cases_lt (length bytes) (4 * word_count bit + 4)) [ inl less ↦ less | inr more ↦ absurd (short more) ]
+told_of codes n bytes p r (no_code symbols left passed few stuck none is) = record {
+  symbols = symbols;
+  left = left;
+  passed = passed;
+  end = record { at_most = omega (arith, few); early = λ _. stuck; late = λ e. absurd (omega (arith, few, e)) };
+  told = inl (few, inr (none, is));
+}
+told_of codes n bytes p r (further_cut symbols left passed all short is) = record {
+  symbols = symbols;
+  left = left;
+  passed = passed;
+  end = record { at_most = omega (arith, all); early = λ h. absurd (omega (arith, all, h)); late = λ _. short };
+  told = inr (all, is);
+}
 
 no_end : (codes : List (List Bool)) (n : ℕ) (a x s symbols : List ℕ) (left : List Bool) → IsPrefixFree codes → AreWords codes n a x → ArePassed codes (a ++ s) symbols left → IsEnd codes n (a ++ s) symbols left → ⊥
 no_end codes n a x s symbols left free p passed end =
@@ -127,7 +153,9 @@ no_end codes n a x s symbols left free p passed end =
     ]
 
 pub either : (codes : List (List Bool)) (n : ℕ) (a s x : List ℕ) (p : ℕ) (r : CodeReason) → IsPrefixFree codes → AreWords codes n a x → word_faults codes n (a ++ s) p r → ⊥
-either codes n a s x p r free words (symbols, (left, (passed, fault))) = no_end codes n a x s symbols left free words passed (end_of codes n (a ++ s) symbols left p r fault)
+either codes n a s x p r free words fault =
+    let t = told_of codes n (a ++ s) p r fault in
+    no_end codes n a x s t.symbols t.left free words t.passed t.end
 
 one_end : (codes : List (List Bool)) (n : ℕ) (bytes xs ys : List ℕ) (s t : List Bool) → IsPrefixFree codes → ArePassed codes bytes xs s → ArePassed codes bytes ys t
     → IsEnd codes n bytes xs s → IsEnd codes n bytes ys t → (xs ≡ ys) × (s ≡ t)
@@ -141,20 +169,21 @@ one_end codes n bytes xs ys s t free p q d e =
       ]
     ]
 
-single_passed : (codes : List (List Bool)) (n : ℕ) (bytes symbols : List ℕ) (left : List Bool) → IsSingle (passed_faults codes n bytes symbols left)
-single_passed codes n bytes symbols left p q a b (inl (few, (stuck, f))) (inl (less, (stuck2, g))) =
+single_told : (codes : List (List Bool)) (n : ℕ) (bytes symbols : List ℕ) (left : List Bool) → IsSingle (Told codes n bytes symbols left)
+single_told codes n bytes symbols left p q a b (inl (few, f)) (inl (less, g)) =
     single-choice (IsBegun codes left) (wrong Cut (whole_end bytes)) (wrong NoCode (4 * (length (joined_codes codes symbols) / 32)))
     (single-wrong Cut (whole_end bytes)) (single-wrong NoCode (4 * (length (joined_codes codes symbols) / 32))) p q a b f g
-single_passed codes n bytes symbols left p q a b (inl (few, (stuck, f))) (inr (all, g)) = absurd (omega arith)
-single_passed codes n bytes symbols left p q a b (inr (all, f)) (inl (few, (stuck, g))) = absurd (omega arith)
-single_passed codes n bytes symbols left p q a b (inr (all, f)) (inr (every, g)) =
-    single-unless (4 * word_count (length (joined_codes codes symbols)) + 4 ≤ length bytes) Cut (whole_end bytes) none single-none p q a b f g
+single_told codes n bytes symbols left p q a b (inl (few, f)) (inr (all, g)) = absurd (omega arith)
+single_told codes n bytes symbols left p q a b (inr (all, f)) (inl (few, g)) = absurd (omega arith)
+single_told codes n bytes symbols left p q a b (inr (all, f)) (inr (every, g)) = single-wrong Cut (whole_end bytes) p q a b f g
 
 pub single : (codes : List (List Bool)) (n : ℕ) (bytes : List ℕ) → IsPrefixFree codes → IsSingle (word_faults codes n bytes)
-single codes n bytes free p q a b (xs, (s, (h, f))) (ys, (t, (k, g))) =
-    let same = one_end codes n bytes xs ys s t free h k (end_of codes n bytes xs s p a f) (end_of codes n bytes ys t q b g) in
-    single_passed codes n bytes ys t p q a b
-    (subst (λ (us : List ℕ). passed_faults codes n bytes us t p a) same.0 (subst (λ (bs : List Bool). passed_faults codes n bytes xs bs p a) same.1 f)) g
+single codes n bytes free p q a b f g =
+    let one = told_of codes n bytes p a f in
+    let two = told_of codes n bytes q b g in
+    let same = one_end codes n bytes one.symbols two.symbols one.left two.left free one.passed two.passed one.end two.end in
+    single_told codes n bytes two.symbols two.left p q a b
+    (subst (λ (us : List ℕ). Told codes n bytes us two.left p a) same.0 (subst (λ (bs : List Bool). Told codes n bytes one.symbols bs p a) same.1 one.told)) two.told
 
 -- the words of n symbols, and what may be wrong with them
 pub words_part : (codes : List (List Bool)) (n : ℕ) → IsPrefixFree codes → IsPart (AreWords codes n) (word_faults codes n)

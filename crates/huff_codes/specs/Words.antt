@@ -1,7 +1,7 @@
 -- Code words: the codes of symbols joined, in as few words as hold them, and one further word.
-use Rattle.std.specs.Prelude.{ℕ, ◌≡◌, ◌+◌, ◌*◌, ◌/◌, ◌<◌, ◌≤◌, ◌⊎◌, Bool, List, [], ◌∷◌, ◌++◌}
+use Rattle.std.specs.Prelude.{ℕ, ◌≡◌, ◌+◌, ◌*◌, ◌/◌, ◌<◌, Bool, List, [], ◌∷◌, ◌++◌}
 use Rattle.std.specs.Prelude.{length, All}
-use Rattle.first_fault.specs.Faults.{Faults, none, wrong, choice, unless}
+use Rattle.first_fault.specs.Faults.{Faults, wrong}
 use Rattle.huff_codes.specs.Bits.{word_bits, BeginsWith}
 use Rattle.huff_codes.specs.Codes.{code_at, HasCode}
 use Rattle.huff_codes.specs.declared.faults.CodeReason.{CodeReason}
@@ -42,27 +42,24 @@ IsBegun codes left = (s : ℕ) × (HasCode codes s × BeginsWith (code_at codes 
 abbrev pub whole_end : List ℕ → ℕ
 whole_end bytes = 4 * (length bytes / 4)
 
--- No code comes next, behind so many bits: either the words end within one, or what is left is the
--- front of none, which is told at the word in which it begins.
-abbrev pub next_faults : List (List Bool) → List ℕ → ℕ → List Bool → Faults CodeReason
-next_faults codes bytes bit left =
-    choice (IsBegun codes left) (wrong Cut (whole_end bytes)) (wrong NoCode (4 * (bit / 32)))
+-- What is wrong first with words of n symbols: some symbols stand, and what should follow them does
+-- not.
+pub data WordFault (codes : List (List Bool)) (n : ℕ) (bytes : List ℕ) (place : ℕ)
+    (reason : CodeReason) : Type 0 where
+  -- the words end within a code
+  code_cut : (symbols : List ℕ) (left : List Bool) → ArePassed codes bytes symbols left
+      → length symbols < n → IsStuck codes left → IsBegun codes left
+      → wrong Cut (whole_end bytes) place reason → WordFault codes n bytes place reason
+  -- what is left begins no code, which is told at the word in which it begins
+  no_code : (symbols : List ℕ) (left : List Bool) → ArePassed codes bytes symbols left
+      → length symbols < n → IsStuck codes left → ¬ IsBegun codes left
+      → wrong NoCode (4 * (length (joined_codes codes symbols) / 32)) place reason
+      → WordFault codes n bytes place reason
+  -- all symbols stand, but the further word does not lie whole in the bytes
+  further_cut : (symbols : List ℕ) (left : List Bool) → ArePassed codes bytes symbols left
+      → length symbols ≡ n
+      → length bytes < 4 * word_count (length (joined_codes codes symbols)) + 4
+      → wrong Cut (whole_end bytes) place reason → WordFault codes n bytes place reason
 
--- All symbols are there, which take so many bits, but the further word does not lie in the bytes.
-abbrev pub further_faults : List ℕ → ℕ → Faults CodeReason
-further_faults bytes bit =
-    unless (4 * word_count bit + 4 ≤ length bytes) (wrong Cut (whole_end bytes)) none
-
--- what is wrong behind these symbols, of which n are wanted
-abbrev pub passed_faults : List (List Bool) → ℕ → List ℕ → List ℕ → List Bool → Faults CodeReason
-passed_faults codes n bytes symbols left place reason =
-    ((length symbols < n) × (IsStuck codes left
-    × next_faults codes bytes (length (joined_codes codes symbols)) left place reason))
-    ⊎ ((length symbols ≡ n)
-    × further_faults bytes (length (joined_codes codes symbols)) place reason)
-
--- the first fault of words of n symbols: some symbols stand, and what should follow them does not
 abbrev pub word_faults : List (List Bool) → ℕ → List ℕ → Faults CodeReason
-word_faults codes n bytes place reason =
-    (symbols : List ℕ) × ((left : List Bool) × (ArePassed codes bytes symbols left
-    × passed_faults codes n bytes symbols left place reason))
+word_faults codes n bytes place reason = WordFault codes n bytes place reason

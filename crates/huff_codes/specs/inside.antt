@@ -10,3 +10,4 @@ pub mod Filling
 pub mod Lookup
 pub mod Looking
 pub mod Tallied
+pub mod Noted

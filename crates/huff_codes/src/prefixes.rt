@@ -2,14 +2,16 @@
 
 ghost use Rattle.std.specs.Prelude.{◌≡◌, ℕ, ◌<◌, ◌≤◌, List, Bool, length, get_or, MatchOption, ⊤};
 ghost use Rattle.std.specs.Prelude.{IfSome};
-ghost use Rattle.huff_codes.specs.Bits.{bits_of};
-ghost use Rattle.huff_codes.specs.Prefixes.{ArePrefixes, IsLook};
+ghost use Rattle.huff_codes.specs.Codes.{IsPrefixFree, code_at};
+ghost use Rattle.huff_codes.specs.Prefixes.{ArePrefixes};
 ghost use Rattle.huff_codes.specs.Words.{IsStuck};
 ghost use Rattle.huff_codes.specs.declared.prefixes.Look.TheVariants.{Nothing};
+ghost use Rattle.huff_codes.specs.inside.Noted.{IsNoted};
 ghost use Rattle.huff_codes.specs.inside.Reading.{IsNext};
-ghost use Rattle.huff_codes.specs.inside.Stored.{IsAhead};
+ghost use Rattle.huff_codes.specs.inside.Spans.{IsLaid};
+ghost use Rattle.huff_codes.specs.inside.Stored.{IsAhead, code_bits};
 
-use crate::codes::{Ahead, Codes};
+use crate::codes::{Ahead, Code, Codes};
 use std::marker::Model;
 
 /// What the next eight bits tell.
@@ -46,32 +48,29 @@ impl Model for Prefixes {
     ghost invariant = { λ p. length p.looks ≡ 256 };
 }
 
-/// The eight bits of a byte.
-fn byte_ahead(byte: u8) -> Ahead
-    ensures { IsAhead result (bits_of 8 byte) }
+/// Notes what the code of a symbol tells: at all bytes that it stands in front of, or at the one with
+/// which it begins.
+fn put_look(looks: &mut [Look; 256], code: Code, symbol: u8)
+    requires laid { IsLaid code }
+    requires room { length looks.old ≡ 256 }
+    ensures room { length looks.new ≡ 256 }
+    ensures told { (codes : List (List Bool)) → IsPrefixFree codes
+        → code_at codes symbol ≡ code_bits code → (b : ℕ) → b < 256
+        → IsNoted codes symbol b (get_or looks.old b Nothing) (get_or looks.new b Nothing) }
 {
-    Ahead {
-        word: u32::from(byte) << 24,
-        count: 8,
+    if code.length == 0 {
+        return;
     }
-}
-
-/// What the eight bits of a byte tell.
-fn look_of(codes: &Codes, byte: u8) -> Look
-    ensures { IsLook codes.now byte result }
-{
-    codes.know();
-    let next = byte_ahead(byte);
-    match codes.next(next) {
-        Some((symbol, length)) => Look::Symbol { symbol, length },
-        None => {
-            if codes.is_cut(next) {
-                Look::Longer
-            } else {
-                Look::Nothing
-            }
-        }
+    let from = (code.bits >> 24) as usize;
+    if code.length > 8 {
+        looks[from] = Look::Longer;
+        return;
     }
+    let look = Look::Symbol {
+        symbol,
+        length: code.length,
+    };
+    looks[from..from + (1 << (8 - code.length))].fill(look);
 }
 
 impl Prefixes {
@@ -79,9 +78,10 @@ impl Prefixes {
     pub fn of(codes: &Codes) -> Prefixes
         ensures { ArePrefixes codes.now result }
     {
+        codes.know();
         let mut looks = [Look::Nothing; 256];
-        for byte in 0..256 {
-            looks[byte] = look_of(codes, byte as u8);
+        for s in 0..256 {
+            put_look(&mut looks, codes.code(s), s as u8);
         }
         Prefixes { looks }
     }
@@ -114,20 +114,14 @@ fn short_symbol(prefixes: &Prefixes, next: Ahead) -> Option<(u8, u32)>
 
 /// The symbol whose code the next bits begin with, and how many bits that takes: by the table, and
 /// where it tells none, by the codes.
-pub(crate) fn symbol_ahead(
-    codes: &Codes,
-    prefixes: &Option<Prefixes>,
-    next: Ahead,
-) -> Option<(u8, u32)>
-    requires { IfSome prefixes.now (λ p. ArePrefixes codes.now p) }
+pub(crate) fn symbol_ahead(codes: &Codes, prefixes: &Prefixes, next: Ahead) -> Option<(u8, u32)>
+    requires { ArePrefixes codes.now prefixes.now }
     ensures found { (left : List Bool) → IsAhead next left
         → MatchOption result (IsStuck codes.now left) (λ r. IsNext codes.now left r.0 r.1) }
     ensures short { MatchOption result ⊤ (λ r. r.1 ≤ 32) }
 {
-    if let Some(table) = prefixes {
-        if let Some(found) = short_symbol(table, next) {
-            return Some(found);
-        }
+    match short_symbol(prefixes, next) {
+        Some(found) => Some(found),
+        None => codes.next(next),
     }
-    codes.next(next)
 }

@@ -1,7 +1,7 @@
 //! Reading code words.
 
 ghost use Rattle.std.specs.Prelude.{◌≡◌, ℕ, ◌+◌, ◌-◌, ◌*◌, ◌/◌, ◌%◌, ◌≤◌, ◌<◌, ◌^◌, ◌↔◌, List};
-ghost use Rattle.std.specs.Prelude.{Bool, All, length, drop, take, MatchResult, IfOk, IfSome};
+ghost use Rattle.std.specs.Prelude.{Bool, All, length, drop, take, MatchResult, IfOk};
 ghost use Rattle.std.specs.Prelude.{Ok, Err, ◌++◌};
 ghost use Rattle.huff_codes.specs.declared.faults.CodeFault.{CodeFault};
 ghost use Rattle.huff_codes.specs.Bits.{word_bits};
@@ -168,11 +168,11 @@ fn read_few(bytes: &[u8], entries: &[Entry; 2048], from: Place, out: &mut [u8]) 
 fn read_one(
     bytes: &[u8],
     codes: &Codes,
-    prefixes: &Option<Prefixes>,
+    prefixes: &Prefixes,
     from: Place,
     out: &mut [u8],
 ) -> Result<Place, CodeFault>
-    requires prefixes { IfSome prefixes.now (λ p. ArePrefixes codes.now p) }
+    requires prefixes { ArePrefixes codes.now prefixes.now }
     requires room { from.count < length out.old }
     requires within { from.bit ≤ 32 * (length bytes.now / 4) }
     requires count { length out.old ≤ 2 ^ 24 }
@@ -210,18 +210,6 @@ fn table_for(codes: &Codes, count: usize) -> [Entry; 2048]
     }
 }
 
-/// The table of prefixes to read so many symbols by: none where making it would take
-/// more than some hundredths of the whole.
-fn prefixes_for(codes: &Codes, count: usize) -> Option<Prefixes>
-    ensures { IfSome result (λ p. ArePrefixes codes.now p) }
-{
-    if count < 262144 {
-        None
-    } else {
-        Some(Prefixes::of(codes))
-    }
-}
-
 /// Reads the symbols, with one clause for both answers.
 fn read_all(bytes: &[u8], codes: &Codes, out: &mut [u8]) -> Result<usize, CodeFault>
     requires count { length out.old ≤ 2 ^ 24 }
@@ -231,7 +219,7 @@ fn read_all(bytes: &[u8], codes: &Codes, out: &mut [u8]) -> Result<usize, CodeFa
         (λ f. word_faults codes.now (length out.new) bytes.now f.at f.reason) }
 {
     let entries = table_for(codes, out.len());
-    let prefixes = prefixes_for(codes, out.len());
+    let prefixes = Prefixes::of(codes);
     let mut place = Place { bit: 0, count: 0 };
     while place.count < out.len() {
         let next = read_few(bytes, &entries, place, out);

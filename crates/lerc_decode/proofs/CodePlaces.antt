@@ -12,7 +12,8 @@ use Rattle.huff_codes.specs.declared.faults.CodeReason.{CodeReason}
 use Rattle.huff_codes.specs.declared.faults.CodeReason.TheVariants as code
 use Rattle.huff_codes.specs.Table.{IsRange, IsLengthList, number_faults, end_faults, first_faults, symbols_faults, range_faults, length_faults, code_faults, range_code_faults, table_faults}
 use Rattle.huff_codes.specs.Words.{word_faults}
-use Rattle.huff_codes.specs.Words.{joined_codes, passed_faults, next_faults}
+use Rattle.huff_codes.specs.Words.{ArePassed, joined_codes}
+use Rattle.huff_codes.specs.Words.{code_cut, no_code, further_cut}
 use Rattle.huff_codes.proofs.Windows.{length-word_bits}
 use Rattle.std.specs.Prelude.{IsTrue}
 
@@ -112,16 +113,14 @@ table_within bytes =
 
 -- ---- words
 
-next_within : (codes : List (List Bool)) (bytes : List ℕ) (bit : ℕ) (left : List Bool) → bit ≤ 32 * (length bytes / 4) → AreWithin (next_faults codes bytes bit left) (length bytes)
-next_within codes bytes bit left low p r (inl (begun, w)) = let t : 4 * (length bytes / 4) ≤ length bytes = omega arith in omega (arith, w.0, t)
-next_within codes bytes bit left low p r (inr (none_, w)) = let t : 4 * (bit / 32) ≤ length bytes = omega (arith, low) in omega (arith, w.0, t)
-
-passed_within : (codes : List (List Bool)) (n : ℕ) (bytes symbols : List ℕ) (left : List Bool) → length (joined_codes codes symbols) ≤ 32 * (length bytes / 4) → AreWithin (passed_faults codes n bytes symbols left) (length bytes)
-passed_within codes n bytes symbols left low p r (inl (fewer, (stuck, w))) = next_within codes bytes (length (joined_codes codes symbols)) left low p r w
-passed_within codes n bytes symbols left low p r (inr (all, (inl w))) = absurd w.1
-passed_within codes n bytes symbols left low p r (inr (all, (inr w))) = let t : 4 * (length bytes / 4) ≤ length bytes = omega arith in omega (arith, w.1.0, t)
+passed_long : (codes : List (List Bool)) (bytes symbols : List ℕ) (left : List Bool) → ArePassed codes bytes symbols left → length (joined_codes codes symbols) ≤ 32 * (length bytes / 4)
+passed_long codes bytes symbols left passed =
+    let long : length (joined_codes codes symbols) + length left ≡ 32 * (length bytes / 4) = sym (length-append (joined_codes codes symbols) left) ∙ sym (ap length passed.bits) ∙ length-word_bits bytes in
+    omega (arith, long)
 
 pub words_within : (codes : List (List Bool)) (n : ℕ) (bytes : List ℕ) → AreWithin (word_faults codes n bytes) (length bytes)
-words_within codes n bytes p r (symbols, (left, (passed, w))) =
-    let long : length (joined_codes codes symbols) + length left ≡ 32 * (length bytes / 4) = sym (length-append (joined_codes codes symbols) left) ∙ sym (ap length passed.bits) ∙ length-word_bits bytes in
-    passed_within codes n bytes symbols left (omega (arith, long)) p r w
+words_within codes n bytes p r (code_cut symbols left passed few stuck begun w) = let t : 4 * (length bytes / 4) ≤ length bytes = omega arith in omega (arith, w.0, t)
+words_within codes n bytes p r (no_code symbols left passed few stuck none_ w) =
+    let t : 4 * (length (joined_codes codes symbols) / 32) ≤ length bytes = omega (arith, passed_long codes bytes symbols left passed) in
+    omega (arith, w.0, t)
+words_within codes n bytes p r (further_cut symbols left passed all short w) = let t : 4 * (length bytes / 4) ≤ length bytes = omega arith in omega (arith, w.0, t)

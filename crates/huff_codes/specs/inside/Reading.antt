@@ -1,8 +1,10 @@
 -- Reading one symbol after the other.
-use Rattle.std.specs.Prelude.{ℕ, ◌≡◌, Bool, List, ◌++◌, length, drop, All}
+use Rattle.std.specs.Prelude.{ℕ, ◌≡◌, ◌*◌, ◌/◌, Bool, List, ◌++◌, length, drop, All}
 use Rattle.huff_codes.specs.Bits.{word_bits, BeginsWith}
 use Rattle.huff_codes.specs.Codes.{code_at, HasCode}
-use Rattle.huff_codes.specs.Words.{joined_codes, next_faults}
+use Rattle.first_fault.specs.Faults.{choice, wrong}
+use Rattle.huff_codes.specs.Words.{joined_codes, whole_end, IsBegun}
+use Rattle.huff_codes.specs.declared.faults.CodeReason.TheVariants.{Cut, NoCode}
 use Rattle.huff_codes.specs.declared.faults.CodeFault.{CodeFault}
 
 -- the code of the symbol stands in front of these bits, and has this length
@@ -20,4 +22,6 @@ pub record HaveReached (codes : List (List Bool)) (bytes : List ℕ) (symbols : 
 
 -- the fault of bits that no code stands in front of, behind so many bits
 abbrev pub IsStop : List (List Bool) → List ℕ → ℕ → List Bool → CodeFault → Type 0
-IsStop codes bytes bit left f = next_faults codes bytes bit left f.at f.reason
+IsStop codes bytes bit left f =
+    choice (IsBegun codes left) (wrong Cut (whole_end bytes)) (wrong NoCode (4 * (bit / 32)))
+    f.at f.reason

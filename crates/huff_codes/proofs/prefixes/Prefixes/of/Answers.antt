@@ -1,21 +1,22 @@
-use Rattle.std.proofs.Common.{ℕ, get_or, sym, subst, ◌∙◌, inl, inr, arith}
-use Rattle.std.proofs.lemmas.Bool.{cases_eq}
-use Rattle.std.proofs.lemmas.List.{length-set, get_or-set_same, get_or-set_other}
-use Rattle.std.proofs.Math.ListN.{set}
-use Rattle.huff_codes.specs.Prefixes.{IsLook}
+use Rattle.std.proofs.Common.{◌≡◌, ℕ, subst, arith}
+use Rattle.huff_codes.specs.inside.Noted.{AreNotedBelow}
+use Rattle.std.proofs.lemmas.List.{get_or-replicate, length-replicate}
+use Rattle.std.specs.Prelude.{replicate}
 use Rattle.huff_codes.specs.declared.prefixes.Look.TheVariants.{Nothing}
+use Rattle.huff_codes.proofs.Noted.{noted_none, noted_more, noted_all}
 use Rattle.huff_codes.proofs.prefixes.Prefixes.of.Goals as goal
 
-pub loop-byte-preserved : goal.loop-byte-preserved
-loop-byte-preserved c =
-    let looks = c.loop-byte.looks in
-    let byte = c.loop-byte.byte in
-    let look = c.look_of.result in
-    let codes = c.args.codes.now in (
-      length-set looks byte look ∙ c.loop-byte.invariant.0,
-      λ b lt. elim (cases_eq b byte) [
-        | inl same ↦ subst (λ (k : ℕ). IsLook codes k (get_or (set looks byte look) k Nothing)) (sym same)
-            (subst (IsLook codes byte) (sym (get_or-set_same looks byte look Nothing (omega (arith, c.loop-byte.invariant.0, c.loop-byte-test.true)))) c.look_of.ensures)
-        | inr other ↦ subst (IsLook codes b) (sym (get_or-set_other looks byte b look Nothing other)) (c.loop-byte.invariant.1 b (omega (arith, lt, other)))
-      ],
-    )
+pub loop-s-init : goal.loop-s-init
+loop-s-init c = (length-replicate 256 Nothing, noted_none c.args.codes.now (replicate 256 Nothing) (λ b lt. get_or-replicate 256 b Nothing Nothing lt))
+
+pub loop-s-preserved : goal.loop-s-preserved
+loop-s-preserved c = (
+  c.put_look.ensures.room,
+  noted_more c.args.codes.now c.loop-s.s c.loop-s.looks c.put_look.new.looks c.loop-s.invariant.1
+      (c.put_look.ensures.told c.args.codes.now c.know.ensures.free c.code.ensures.bits),
+)
+
+pub returns : goal.returns
+returns c =
+    let end : c.loop-s.s ≡ 256 = omega arith in
+    noted_all c.args.codes.now c.loop-s.looks c.know.ensures.size c.loop-s.invariant.0 (subst (λ (n : ℕ). AreNotedBelow c.args.codes.now n c.loop-s.looks) end c.loop-s.invariant.1)
