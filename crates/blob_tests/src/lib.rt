@@ -7,6 +7,8 @@ mod band_encoding;
 #[cfg(test)]
 mod bands;
 #[cfg(test)]
+mod bands_grids;
+#[cfg(test)]
 mod coded_decoding;
 #[cfg(test)]
 mod decoding;

@@ -37,8 +37,8 @@ pub record IsBandCount (h : Head) (bytes : List ℕ) (n : ℕ) : Type 0 where
 
 -- the bytes are the grid of these bands
 pub data IsBandsGrid (bytes : List ℕ) (bands : List Pixels) : Type 0 where
-  one : (r : Pixels) → bands ≡ r ∷ [] → IsGrid bytes r → IsBandsGrid bytes bands
-  more : (h : Head) (n : ℕ) (head count behind : List ℕ) → bytes ≡ head ++ (count ++ behind)
+  of_one : (r : Pixels) → bands ≡ r ∷ [] → IsGrid bytes r → IsBandsGrid bytes bands
+  of_more : (h : Head) (n : ℕ) (head count behind : List ℕ) → bytes ≡ head ++ (count ++ behind)
       → IsHead (codes "LGR2") head h → IsBandCount h count n
       → AllNumbered (λ k. IsBandGrid h) n behind bands → IsBandsGrid bytes bands
 

@@ -7,6 +7,7 @@
 #![tactic(auto)]
 
 mod bands;
+mod bands_grid;
 mod blocks;
 mod cells;
 mod grid;
@@ -18,6 +19,7 @@ mod raster;
 mod reading;
 
 pub use bands::Bands;
+pub use bands_grid::{bands_read, bands_size};
 pub use grid::{bands_write, grid_write};
 pub use kind::PixelType;
 pub use laws::{
@@ -28,4 +30,4 @@ pub use laws::{
     values_may_change, writes_one_value,
 };
 pub use raster::{Raster, ShapeFault};
-pub use reading::{GridFault, GridReason, GridStop, bands_read, grid_read};
+pub use reading::{GridFault, GridReason, GridStop, grid_read};

@@ -2,16 +2,14 @@
 
 ghost use Rattle.std.specs.Prelude.{◌≡◌, ℕ, ◌+◌, ◌-◌, ◌*◌, ◌^◌, ◌<◌, ◌≤◌, ◌↔◌, ◌++◌, codes, List, IfOk, IfErr, OnOk, OnErr, IsTrue, MatchResult, length, get_or, take, drop, map, nat_eq};
 ghost use Rattle.raster_values.specs.PixelType.{bytes_of};
-ghost use Rattle.first_fault.specs.Faults.{AllNumbered, InNumbered};
 ghost use Rattle.raster_values.specs.Raster.{IsShape, blank, values_of};
 ghost use Rattle.raster_values.specs.inside.View.{pixels_of};
 ghost use Rattle.raster_values.specs.inside.Ordered.{ChangesMarked};
-ghost use Rattle.raster_values.specs.inside.Heads.{IsSizeFault, front_faults, letters_of};
+ghost use Rattle.raster_values.specs.inside.Heads.{IsSizeFault};
 ghost use Rattle.raster_values.specs.Grid.{values_bytes};
 ghost use Rattle.raster_values.specs.ReadGrid.{IsHead, AreMarks, AreLawful, TookBytes, TookGrid, TookSome, IsToldFault, CountsGridStop, number_at, magic_faults, head_faults, mark_faults, value_faults, behind_head, grid_faults};
-ghost use Rattle.raster_values.specs.BandsGrid.{IsBandCount, IsBandGrid, TookBands, bands_faults, count_faults};
+ghost use Rattle.raster_values.specs.BandsGrid.{IsBandGrid};
 
-use super::bands::Bands;
 use super::cells::Cells;
 use super::kind::PixelType;
 use super::mask::Mask;
@@ -23,10 +21,8 @@ use std::alloc::{AllocError, Global};
 /// How many bytes are taken from a source at once.
 const PIECE: usize = 4096;
 
-/// The letters of the grid of one raster, and of the grid of more bands.
-const ONE: [u8; 4] = *b"LGR1";
-
-const MORE: [u8; 4] = *b"LGR2";
+/// The letters of the grid of one raster.
+pub(super) const ONE: [u8; 4] = *b"LGR1";
 
 /// Why bytes do not begin with a grid.
 #[derive(Clone, Copy, Debug, PartialEq, Eq)]
@@ -103,7 +99,7 @@ pub struct Head {
 }
 
 /// A fault at a place.
-fn fault(reason: GridReason, place: usize) -> GridFault
+pub(super) fn fault(reason: GridReason, place: usize) -> GridFault
     ensures reason { result.reason ≡ reason }
     ensures place { result.place ≡ place }
 {
@@ -141,7 +137,7 @@ fn size_at(bytes: &[u8], at: usize) -> Result<u32, GridFault>
 }
 
 /// The head with these letters that the bytes are, of which 17 are needed and looked at.
-fn head_of(magic: [u8; 4], bytes: &[u8]) -> Result<Head, GridFault>
+pub(super) fn head_of(magic: [u8; 4], bytes: &[u8]) -> Result<Head, GridFault>
     requires { length bytes.now ≤ 17 }
     ensures { MatchResult result (λ h. IsHead magic bytes.now h)
         (λ f. magic_faults magic bytes.now f.place f.reason × (f.place ≤ 17)) }
@@ -174,7 +170,7 @@ fn head_of(magic: [u8; 4], bytes: &[u8]) -> Result<Head, GridFault>
 }
 
 /// A fault whose place counts from `at`.
-fn stop_at(at: u64, fault: GridFault) -> GridStop
+pub(super) fn stop_at(at: u64, fault: GridFault) -> GridStop
     requires { at + fault.place < 2 ^ 64 }
     ensures { result ≡ GridStop.Fault (record { reason = fault.reason; place = at + fault.place }) }
 {
@@ -198,27 +194,6 @@ fn take_head<S: Source>(src: &mut S, at: u64) -> Result<Head, GridStop>
     let n = take_all(src, &mut head)?;
     match head_of(ONE, &head[..n]) {
         Ok(head) => Ok(head),
-        Err(fault) => Err(stop_at(at, fault)),
-    }
-}
-
-/// Takes the head of a grid of bands, and answers too whether the letters are those of more bands
-/// than one, of which the number follows.
-fn take_front<S: Source>(src: &mut S, at: u64) -> Result<(Head, bool), GridStop>
-    requires { at < 2 ^ 60 }
-    ensures ok { IfOk result (λ front. (bytes : List ℕ)
-        × (IsHead (letters_of front.1) bytes front.0
-        × TookBytes (S.left src.old) (S.left src.new) bytes)) }
-    ensures err { IfErr result (λ stop. IsToldFault front_faults (S.left src.old) at stop) }
-    ensures some { OnErr result (TookSome (S.left src.old) (S.left src.new)) }
-    ensures counted { CountsGridStop result (S.faults src.old) (S.faults src.new) }
-{
-    let mut bytes = [0; 17];
-    let n = take_all(src, &mut bytes)?;
-    let more = n >= 4 && bytes[..4] == MORE[..];
-    let magic = if more { MORE } else { ONE };
-    match head_of(magic, &bytes[..n]) {
-        Ok(head) => Ok((head, more)),
         Err(fault) => Err(stop_at(at, fault)),
     }
 }
@@ -334,7 +309,7 @@ fn blank_raster(alloc: Global, head: Head) -> Result<Raster, GridStop>
 }
 
 /// Reads the marks and the values of a raster, which stand behind its head.
-fn read_band<S: Source>(
+pub(super) fn read_band<S: Source>(
     alloc: Global,
     src: &mut S,
     at: u64,
@@ -354,76 +329,6 @@ fn read_band<S: Source>(
     Ok(raster)
 }
 
-/// How many bytes the marks and the values of a raster take.
-fn band_size(raster: &Raster) -> u64
-    ensures value { (h : Head) (bytes : List ℕ) → IsBandGrid h bytes raster.now
-        → length bytes ≡ result }
-    ensures few { result ≤ 83886080 }
-{
-    let pixels = raster.rows() as u64 * raster.cols() as u64;
-    let values = raster.valid_count() as u64 * raster.depth() as u64;
-    pixels + values * raster.kind().bytes() as u64
-}
-
-/// Takes the number of bands that stands behind a head.
-fn take_count<S: Source>(src: &mut S, at: u64, head: Head) -> Result<usize, GridStop>
-    requires at { at < 2 ^ 61 }
-    requires shape { IsShape head.rows head.cols head.depth }
-    ensures ok { IfOk result (λ n. (bytes : List ℕ) × (IsBandCount head bytes n
-        × TookBytes (S.left src.old) (S.left src.new) bytes)) }
-    ensures err { IfErr result (λ stop. IsToldFault (count_faults head) (S.left src.old) at stop) }
-    ensures some { OnErr result (TookSome (S.left src.old) (S.left src.new)) }
-    ensures counted { CountsGridStop result (S.faults src.old) (S.faults src.new) }
-{
-    let mut bytes = [0; 4];
-    let n = take_all(src, &mut bytes)?;
-    if n < 4 {
-        return Err(stop_at(at, fault(GridReason::Truncated, n)));
-    }
-    let count = LittleEndian::read_u32(&bytes);
-    if count < 2 || count > 16 {
-        return Err(stop_at(at, fault(GridReason::BadSize, 0)));
-    }
-    let values = head.rows as u64 * head.cols as u64 * head.depth as u64;
-    if count as u64 * values > 16777216 {
-        return Err(stop_at(at, fault(GridReason::TooLarge, 0)));
-    }
-    Ok(count as usize)
-}
-
-/// Reads so many bands, one behind the other.
-fn read_bands<S: Source>(
-    alloc: Global,
-    src: &mut S,
-    at: u64,
-    head: Head,
-    count: usize,
-) -> Result<Bands, GridStop>
-    requires at { at < 2 ^ 61 }
-    requires shape { IsShape head.rows head.cols head.depth }
-    requires least { 1 ≤ count }
-    requires most { count ≤ 16 }
-    requires small { count * (head.rows * head.cols * head.depth) ≤ 16777216 }
-    ensures ok { IfOk result (λ bands. (bytes : List ℕ)
-        × (AllNumbered (λ k. IsBandGrid head) count bytes bands
-        × TookBytes (S.left src.old) (S.left src.new) bytes)) }
-    ensures err { IfErr result (λ stop. IsToldFault
-        (InNumbered (λ k. IsBandGrid head) (λ k. behind_head head) count)
-        (S.left src.old) at stop) }
-    ensures some { OnErr result (TookSome (S.left src.old) (S.left src.new)) }
-    ensures counted { CountsGridStop result (S.faults src.old) (S.faults src.new) }
-{
-    let first = read_band(alloc, src, at, head)?;
-    let mut place = at + band_size(&first);
-    let mut bands = Bands::of(alloc, first)?;
-    while bands.len() < count {
-        let band = read_band(alloc, src, place, head)?;
-        place += band_size(&band);
-        bands.push(band)?;
-    }
-    Ok(bands)
-}
-
 /// Reads a grid from the source, and takes the grid's bytes alone.
 ///
 /// A fault is the first one of the bytes that are left, its place counted from `at`, the place of
@@ -437,25 +342,4 @@ pub fn grid_read<S: Source>(alloc: Global, src: &mut S, at: u64) -> Result<Raste
 {
     let head = take_head(src, at)?;
     read_band(alloc, src, at + 17, head)
-}
-
-/// Reads a grid of bands from the source, and takes the grid's bytes alone: the grid of one raster,
-/// or of 2 to 16 bands.
-///
-/// A fault is the first one of the bytes that are left, its place counted from `at`, the place of
-/// the first of them. After any refusal some bytes are taken.
-pub fn bands_read<S: Source>(alloc: Global, src: &mut S, at: u64) -> Result<Bands, GridStop>
-    requires { at < 2 ^ 60 }
-    ensures ok { IfOk result (λ bands. TookBands (S.left src.old) (S.left src.new) bands) }
-    ensures fault { IfErr result (λ stop. IsToldFault bands_faults (S.left src.old) at stop) }
-    ensures some { OnErr result (TookSome (S.left src.old) (S.left src.new)) }
-    ensures counted { CountsGridStop result (S.faults src.old) (S.faults src.new) }
-{
-    let (head, more) = take_front(src, at)?;
-    if more {
-        let count = take_count(src, at + 17, head)?;
-        read_bands(alloc, src, at + 21, head, count)
-    } else {
-        read_bands(alloc, src, at + 17, head, 1)
-    }
 }

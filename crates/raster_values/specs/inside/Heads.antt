@@ -1,5 +1,5 @@
 -- The heads of grids.
-use Rattle.std.specs.Prelude.{◌≡◌, ℕ, ◌+◌, ◌<◌, ◌≤◌, Bool, List, codes, length, take, if◌then◌else◌}
+use Rattle.std.specs.Prelude.{◌≡◌, ℕ, ◌+◌, ◌<◌, ◌≤◌, Bool, List, [], ◌∷◌, codes, length, take, if◌then◌else◌}
 use Rattle.first_fault.specs.Faults.{Faults, none, wrong, choice, unless}
 use Rattle.raster_values.specs.declared.reading.GridReason.{GridReason}
 use Rattle.raster_values.specs.declared.reading.GridReason.TheVariants.{BadSize}
@@ -10,6 +10,10 @@ abbrev pub IsSizeFault : List ℕ → ℕ → Faults GridReason
 IsSizeFault bytes at =
     unless (at + 4 ≤ length bytes) (cut bytes)
     (unless (0 < number_at bytes at) (wrong BadSize at) none)
+
+-- `LGR` and one letter more
+abbrev pub letters_with : ℕ → List ℕ
+letters_with letter = 76 ∷ 71 ∷ 82 ∷ letter ∷ []
 
 -- the letters of the grid of one raster, or of more bands
 abbrev pub letters_of : Bool → List ℕ
