@@ -78,7 +78,13 @@ fn a_mask_is_taken_from_the_band_before(rt: HostRuntime) {
     let two: [&[u8]; 2] = [&EIGHT, &EIGHT];
     encodes(&rt, rt.alloc(), "two", &two, &[&RUNS, &NO_MASK]);
     let three: [&[u8]; 3] = [&EIGHT, &EIGHT, &EIGHT];
-    encodes(&rt, rt.alloc(), "three", &three, &[&RUNS, &NO_MASK, &NO_MASK]);
+    encodes(
+        &rt,
+        rt.alloc(),
+        "three",
+        &three,
+        &[&RUNS, &NO_MASK, &NO_MASK],
+    );
 }
 
 #[test]
@@ -89,7 +95,13 @@ fn as_many_pixels_in_other_places_are_another_mask(rt: HostRuntime) {
     encodes(&rt, rt.alloc(), "two", &two, &[&RUNS, other.as_slice()]);
     let third: [&[u8]; 3] = [&OTHER_EIGHT, &EIGHT, &EIGHT];
     let blobs: [&[u8]; 3] = [other.as_slice(), &RUNS, &NO_MASK];
-    encodes(&rt, rt.alloc(), "the third has the second's", &third, &blobs);
+    encodes(
+        &rt,
+        rt.alloc(),
+        "the third has the second's",
+        &third,
+        &blobs,
+    );
     let back: [&[u8]; 3] = [&EIGHT, &OTHER_EIGHT, &EIGHT];
     let blobs: [&[u8]; 3] = [&RUNS, other.as_slice(), &RUNS];
     encodes(&rt, rt.alloc(), "the third has the first's", &back, &blobs);
@@ -104,6 +116,16 @@ fn need_v4(alloc: Global, bands: &Bands, version: Version) -> bool {
 #[test]
 fn version_3_has_one_depth_in_each_band(rt: HostRuntime) {
     let bands = bands_of(&rt, rt.alloc(), &[&TENS_DEEP, &TENS_DEEP]);
-    same(&rt, "version 3", need_v4(rt.alloc(), &bands, Version::V3), true);
-    same(&rt, "version 4", need_v4(rt.alloc(), &bands, Version::V4), false);
+    same(
+        &rt,
+        "version 3",
+        need_v4(rt.alloc(), &bands, Version::V3),
+        true,
+    );
+    same(
+        &rt,
+        "version 4",
+        need_v4(rt.alloc(), &bands, Version::V4),
+        false,
+    );
 }

@@ -66,7 +66,12 @@ fn the_last_of_three_bands(rt: HostRuntime) {
 fn has_fault(rt: &impl Abort, alloc: Global, bytes: &[u8], reason: GridReason, place: u64) {
     let mut src = source(rt, alloc, bytes, 7, b"");
     let want = GridStop::Fault(GridFault { reason, place });
-    same(rt, place, bands_read(alloc, &mut src, 100).err(), Some(want));
+    same(
+        rt,
+        place,
+        bands_read(alloc, &mut src, 100).err(),
+        Some(want),
+    );
 }
 
 #[test]
@@ -130,7 +135,12 @@ fn a_raster_is_read_of_its_own_letters_alone(rt: HostRuntime) {
         reason: GridReason::BadMagic,
         place: 0,
     });
-    same(&rt, "a raster", grid_read(rt.alloc(), &mut src, 0).err(), Some(want));
+    same(
+        &rt,
+        "a raster",
+        grid_read(rt.alloc(), &mut src, 0).err(),
+        Some(want),
+    );
 }
 
 #[test]

@@ -1,6 +1,6 @@
 -- A grid of bands is a part: it is read in one way, and stands or has one first fault. What is
 -- written of bands is their grid.
-use Rattle.std.proofs.Common.{◌≡◌, ℕ, ◌+◌, ◌*◌, ◌<◌, ◌≤◌, suc, List, [], ◌∷◌, ◌++◌, length, get_or, take, refl, sym, ap, ◌∙◌, subst, arith, append_assoc, length-append}
+use Rattle.std.proofs.Common.{◌≡◌, ℕ, ◌+◌, ◌*◌, ◌≤◌, suc, List, [], ◌∷◌, ◌++◌, length, get_or, take, refl, sym, ap, ◌∙◌, subst, arith, append_assoc, length-append}
 use Rattle.std.specs.Prelude.{All, codes}
 use Rattle.std.specs.List.{flat_map}
 use Rattle.std.proofs.lemmas.List.{take-append-le}
@@ -15,7 +15,7 @@ use Rattle.raster_values.specs.declared.reading.Head.{Head}
 use Rattle.raster_values.specs.declared.reading.GridReason.{GridReason}
 use Rattle.raster_values.specs.declared.reading.GridReason.TheVariants.{Truncated, BadSize, TooLarge}
 use Rattle.raster_values.specs.Raster.{Pixels, IsRaster}
-use Rattle.raster_values.specs.Bands.{IsLike, MayBeBands, AreBands}
+use Rattle.raster_values.specs.Bands.{IsLike, AreBands}
 use Rattle.raster_values.specs.Grid.{band_of, bands_grid_of, head_of as written_head}
 use Rattle.raster_values.specs.ReadGrid.{number_at, IsHead, IsGrid, cut, head_faults, behind_head, grid_faults}
 use Rattle.raster_values.specs.BandsGrid.{IsBandGrid, IsBandCount, IsBandsGrid, of_one, of_more, count_faults, behind_more, more_faults, bands_faults, GridsAreOfBands, WrittenBandsStand, BandsGridsAreParts}

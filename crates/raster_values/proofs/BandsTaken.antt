@@ -1,19 +1,19 @@
 -- The grid of bands, taken part by part.
-use Rattle.std.proofs.Common.{◌≡◌, ℕ, ◌+◌, ◌*◌, ◌<◌, ◌≤◌, Bool, true, false, List, [], ◌∷◌, ◌++◌, length, take, Option, None, Some, refl, sym, ap, ◌∙◌, subst, arith, ⊎_elim, inl, inr}
+use Rattle.std.proofs.Common.{◌≡◌, ℕ, ◌+◌, ◌<◌, ◌≤◌, Bool, true, false, List, [], ◌∷◌, ◌++◌, length, take, Option, refl, sym, ap, ◌∙◌, subst, arith, ⊎_elim, inl, inr}
 use Rattle.std.specs.Prelude.{codes, IsTrue}
 use Rattle.std.proofs.lemmas.List.{append-nil, take-append-le}
 use Rattle.std.proofs.lemmas.Bool.{cases_lt, false≢true}
-use Rattle.first_fault.specs.Faults.{none, wrong, unless, Numbered, AllNumbered, InNumbered}
+use Rattle.first_fault.specs.Faults.{Numbered, AllNumbered, InNumbered}
 use Rattle.raster_values.specs.declared.reading.Head.{Head}
 use Rattle.raster_values.specs.declared.reading.GridReason.{GridReason}
 use Rattle.raster_values.specs.declared.reading.GridReason.TheVariants.{Truncated}
 use Rattle.raster_values.specs.declared.reading.GridStop.{GridStop}
 use Rattle.raster_values.specs.Raster.{Pixels}
-use Rattle.raster_values.specs.ReadGrid.{IsHead, IsToldFault, TookBytes, behind_head, grid_faults, head_faults, magic_faults, number_at, cut}
-use Rattle.raster_values.specs.BandsGrid.{IsBandGrid, IsBandCount, IsBandsGrid, of_one, of_more, TookBands, count_faults, behind_more, more_faults, bands_faults}
+use Rattle.raster_values.specs.ReadGrid.{IsHead, IsToldFault, TookBytes, behind_head, magic_faults}
+use Rattle.raster_values.specs.BandsGrid.{IsBandGrid, IsBandCount, of_one, of_more, TookBands, count_faults, behind_more, bands_faults}
 use Rattle.raster_values.specs.inside.Heads.{front_faults, letters_of}
 use Rattle.raster_values.proofs.Taken.{head_fault, told_behind, took_join}
-use Rattle.raster_values.proofs.GridParts.{grid_with, told_so, told_own, told_later}
+use Rattle.raster_values.proofs.GridParts.{grid_with, told_own, told_later}
 use Rattle.raster_values.proofs.BandsGridLaws.{front_letters, other_letters}
 
 -- ---- the head

@@ -1,9 +1,7 @@
-use Rattle.std.proofs.Common.{◌≡◌, ◌+◌, ◌++◌, ◌∷◌, [], ℕ, List, Bool, arith, length, sym, ap, subst}
+use Rattle.std.proofs.Common.{◌≡◌, ◌+◌, ◌++◌, ℕ, List, Bool, arith, sym, subst}
 use Rattle.std.specs.Prelude.{codes}
 use Rattle.std.proofs.lemmas.Result.{err_from_is_err_and, IfOk-weaker, IfErr-weaker, on_err_weaker}
 use Rattle.first_fault.specs.Faults.{AllNumbered, InNumbered}
-use Rattle.raster_values.specs.declared.reading.GridStop.{GridStop}
-use Rattle.raster_values.specs.Raster.{Pixels}
 use Rattle.raster_values.specs.BandsGrid.{IsBandGrid, TookBands, bands_faults}
 use Rattle.raster_values.specs.ReadGrid.{IsHead, IsToldFault, TookBytes, behind_head}
 use Rattle.raster_values.specs.inside.Heads.{front_faults, letters_of}

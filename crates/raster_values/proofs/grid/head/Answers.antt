@@ -1,4 +1,4 @@
-use Rattle.std.proofs.Common.{◌≡◌, ◌∙◌}
+use Rattle.std.proofs.Common.{◌∙◌}
 use Rattle.raster_values.specs.inside.Heads.{letters_with}
 use Rattle.raster_values.proofs.Pack.{same_head}
 use Rattle.raster_values.proofs.grid.head.Goals as goal

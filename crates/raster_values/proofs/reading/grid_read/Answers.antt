@@ -1,8 +1,6 @@
-use Rattle.std.proofs.Common.{◌≡◌, ◌+◌, ◌++◌, ℕ, List, arith, length}
+use Rattle.std.proofs.Common.{◌+◌, ◌++◌, ℕ, List, arith}
 use Rattle.std.specs.Prelude.{codes}
 use Rattle.std.proofs.lemmas.Result.{err_from_is_err_and, IfOk-weaker, IfErr-weaker, on_err_weaker}
-use Rattle.raster_values.specs.declared.reading.GridStop.{GridStop}
-use Rattle.raster_values.specs.Raster.{Pixels}
 use Rattle.raster_values.specs.BandsGrid.{IsBandGrid}
 use Rattle.raster_values.specs.ReadGrid.{IsHead, IsToldFault, TookBytes, TookGrid, behind_head, grid_faults, head_faults}
 use Rattle.raster_values.proofs.Taken.{took_join, took_more}

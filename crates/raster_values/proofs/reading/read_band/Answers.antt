@@ -1,4 +1,4 @@
-use Rattle.std.proofs.Common.{◌≡◌, ◌+◌, ◌*◌, ◌≤◌, ◌++◌, ap, ◌∙◌, sym, subst, arith}
+use Rattle.std.proofs.Common.{◌≡◌, ◌+◌, ◌*◌, ◌++◌, ap, ◌∙◌, sym, subst, arith}
 use Rattle.std.proofs.lemmas.Result.{err_from_is_err_and}
 use Rattle.raster_values.specs.PixelType.{bytes_of}
 use Rattle.raster_values.specs.Raster.{Pixels, valid_count}
@@ -7,7 +7,7 @@ use Rattle.raster_values.specs.ReadGrid.{AreMarks, IsToldFault, count_of, mark_f
 use Rattle.raster_values.proofs.Pack.{on_err}
 use Rattle.raster_values.proofs.Filled.{valid_count-blank}
 use Rattle.raster_values.proofs.Taken.{took_join, took_more}
-use Rattle.raster_values.proofs.GridParts.{count_marks, band_is, told_own, told_later, marks_long, area_few}
+use Rattle.raster_values.proofs.GridParts.{count_marks, band_is, told_own, told_later, marks_long}
 use Rattle.raster_values.proofs.reading.read_band.Goals as goal
 
 pub take_marks-requires-clause-none : goal.take_marks-requires-clause-none
