@@ -3,7 +3,11 @@
 #![tactic(auto)]
 
 #[cfg(test)]
+mod band_encoding;
+#[cfg(test)]
 mod bands;
+#[cfg(test)]
+mod bands_grids;
 #[cfg(test)]
 mod coded_decoding;
 #[cfg(test)]

@@ -1,5 +1,5 @@
--- Every byte of the chosen blob is below 256, so that its checksum fits its field.
-use Rattle.std.proofs.Common.{◌≡◌, ℕ, ◌+◌, ◌^◌, ◌<◌, zero, suc, Bool, true, false, List, [], ◌∷◌, ◌++◌, length, drop, sym, subst, arith}
+-- Every byte of a chosen blob is below 256, so that its checksum fits its field.
+use Rattle.std.proofs.Common.{◌≡◌, ℕ, ◌+◌, ◌^◌, ◌<◌, zero, suc, Bool, true, false, List, [], ◌∷◌, ◌++◌, length, drop, sym, subst, arith, Option}
 use Rattle.std.specs.Prelude.{pos, ◌*ℤ◌, All, ◌&&◌, if◌then◌else◌}
 use Rattle.std.proofs.lemmas.Bool.{and_parts}
 use Rattle.std.proofs.lemmas.List.Elements.{All-from_get_or, All-head, All-tail}
@@ -26,7 +26,8 @@ use Rattle.delta_mode.specs.Deltas.{plain as plain_symbols}
 use Rattle.lerc_encode.specs.Codings.{code_lengths, coding_bytes, have_codes, bits_number, shortest_run, symbol_codes, code_table_bytes, table_codes, word_in_front, filled_words}
 use Rattle.lerc_encode.specs.Heads.{header_of}
 use Rattle.lerc_encode.specs.Ranges.{lists_bytes, greatests, has_equal_ranges, is_constant, is_empty, leasts}
-use Rattle.lerc_encode.specs.Masks.{are_alike, mask_part, mask_runs_of, packed}
+use Rattle.lerc_grammar.specs.Mask.{Previous}
+use Rattle.lerc_encode.specs.Masks.{are_alike, mask_part, mask_runs_of, packed, runs_after, runs_unless, takes_mask}
 use Rattle.lerc_encode.specs.Images.{CodedForm, sweep, blocks_8, blocks_16, delta, plain, empty, constant, ranges, coded, all_deltas, blocks_bytes, chosen_coded_form, ending, coded_form_bytes, has_mode, image_bytes, is_v4, mode_bytes}
 use Rattle.lerc_encode.specs.Choice.{mask_and_image, checksum_of, header_with}
 use Rattle.lerc_encode.proofs.Packing.{packed_below}
@@ -82,9 +83,10 @@ runs_below bytes mask are =
     let front = subst AreBelow (sym are.1.1.spelled) (every_flat_map (λ b. b < 256) spelling runs each) in
     subst AreBelow (sym are.1.0) (joined are.0 end_mark front (omega arith, (omega arith, tt)))
 
-mask_below : (marks : List Bool) → AreBelow (mask_part marks)
-unfolding mask_part mask_runs_of
-mask_below marks = joined (little_bytes 4 (length (if are_alike marks then [] else chosen_runs (packed marks)))) (if are_alike marks then [] else chosen_runs (packed marks)) (little 4 _) (by (are_alike marks))
+unless_below : (taken : Bool) (marks : List Bool) → AreBelow (runs_unless taken marks)
+unfolding mask_runs_of
+unless_below true marks = tt
+unless_below false marks = by (are_alike marks)
   where
     bytes : All (λ byte. byte < 256) (packed marks)
     bytes = All-from_get_or (λ byte. byte < 256) (packed marks) 0 (λ k _. packed_below marks k)
@@ -92,6 +94,10 @@ mask_below marks = joined (little_bytes 4 (length (if are_alike marks then [] el
     by : (b : Bool) → AreBelow (if b then [] else chosen_runs (packed marks))
     by true = tt
     by false = runs_below (chosen_runs (packed marks)) (packed marks) (chosen_are_runs (packed marks) bytes)
+
+mask_below : (runs : List ℕ) → AreBelow runs → AreBelow (mask_part runs)
+unfolding mask_part
+mask_below runs below = joined (little_bytes 4 (length runs)) runs (little 4 (length runs)) below
 
 -- ---- the image
 
@@ -129,10 +135,10 @@ image_below r version step = by (is_empty r) (is_constant r) (is_v4 version && h
     by false false false =
         joined (lists_bytes r version) (coded_form_bytes r version step (chosen_coded_form r version step)) (front_below r version) (form_below r version step (chosen_coded_form r version step) (chosen_may r version step))
 
-behind_below : (r : Pixels) (version : Version) (step : ℕ) → AreBelow (mask_and_image r version step)
+behind_below : (runs : List ℕ) → AreBelow runs → (r : Pixels) (version : Version) (step : ℕ) → AreBelow (mask_and_image runs r version step)
 unfolding mask_and_image
-behind_below r version step =
-    joined (mask_part (marks_of r)) (image_bytes r version step (ending r version step)) (mask_below (marks_of r)) (image_below r version step)
+behind_below runs below r version step =
+    joined (mask_part runs) (image_bytes r version step (ending r version step)) (mask_below runs below) (image_below r version step)
 
 -- ---- the header
 
@@ -155,9 +161,12 @@ fields_below h =
 
 -- ---- the checksum
 
-pub checksum_below : (r : Pixels) (version : Version) (step : ℕ) → checksum_of r version step < 2 ^ 32
+sum_of_below : (runs : List ℕ) → AreBelow runs → (r : Pixels) (version : Version) (step : ℕ) → checksum_of runs r version step < 2 ^ 32
 unfolding checksum_of
-checksum_below r version step =
-    let h = header_with r version step 0 in
-    let bytes = subst AreBelow (sym (covered r version step 0)) (joined (field_bytes h) (mask_and_image r version step) (fields_below h) (behind_below r version step)) in
-    sum_below (drop 14 (head_bytes h ++ mask_and_image r version step)) bytes
+sum_of_below runs below r version step =
+    let h = header_with runs r version step 0 in
+    let bytes = subst AreBelow (sym (covered runs r version step 0)) (joined (field_bytes h) (mask_and_image runs r version step) (fields_below h) (behind_below runs below r version step)) in
+    sum_below (drop 14 (head_bytes h ++ mask_and_image runs r version step)) bytes
+
+pub checksum_below : (before : Option Previous) (r : Pixels) (version : Version) (step : ℕ) → checksum_of (runs_after before r) r version step < 2 ^ 32
+checksum_below before r version step = sum_of_below (runs_after before r) (unless_below (takes_mask before r) (marks_of r)) r version step

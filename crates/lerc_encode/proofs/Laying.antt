@@ -19,10 +19,10 @@ use Rattle.lerc_header.proofs.WrittenHeads.{length-head}
 use Rattle.micro_block.specs.ChosenBlock.{least_value}
 use Rattle.raster_values.proofs.Views.{same_bits}
 use Rattle.lerc_encode.specs.Ranges.{greatest_value}
-use Rattle.lerc_encode.specs.Masks.{mask_part, mask_runs_of}
+use Rattle.lerc_encode.specs.Masks.{mask_part}
 use Rattle.lerc_encode.specs.Heads.{header_of}
 use Rattle.lerc_encode.specs.Images.{ending, image_bytes, side_at}
-use Rattle.lerc_encode.specs.Choice.{mask_and_image, header_with, checksum_of, chosen_blob}
+use Rattle.lerc_encode.specs.Choice.{mask_and_image, header_with, checksum_of, chosen_with}
 use Rattle.lerc_encode.specs.inside.Asked.{IsAsked}
 use Rattle.lerc_encode.specs.inside.Choosing.{IsBase}
 use Rattle.lerc_encode.specs.inside.Layout.{IsSealed}
@@ -44,11 +44,11 @@ base_of r version step asked rows cols depth valid kind least greatest e1 e2 e3 
     }
 
 -- and with its side and size
-pub laid_out : (b : Header) (r : Pixels) → IsBase b r → (side size : ℕ) → side ≡ side_at (ending r b.version b.step) → size ≡ head_length b.version + length (mask_and_image r b.version b.step)
+pub laid_out : (runs : List ℕ) (b : Header) (r : Pixels) → IsBase b r → (side size : ℕ) → side ≡ side_at (ending r b.version b.step) → size ≡ head_length b.version + length (mask_and_image runs r b.version b.step)
     → ◌≡◌ {A = Header} (record { version = b.version; checksum = b.checksum; rows = b.rows; cols = b.cols; depth = b.depth; valid = b.valid; side = side; size = size; kind = b.kind; step = b.step; least = to_z w64 (of_z w64 b.least); greatest = to_z w64 (of_z w64 b.greatest) })
-    (header_with r b.version b.step 0)
+    (header_with runs r b.version b.step 0)
 unfolding header_with header_of
-laid_out b r base side size e f =
+laid_out runs b r base side size e f =
     let is = base.is in
     let low = ap (λ (x : Header). to_z w64 (of_z w64 x.least)) is ∙ same_bits r.kind (least_value (values_of r.pixels)) (all_least_fits r base.sound) in
     let high = ap (λ (x : Header). to_z w64 (of_z w64 x.greatest)) is ∙ same_bits r.kind (greatest_value (values_of r.pixels)) (all_greatest_fits r base.sound) in
@@ -67,23 +67,23 @@ laid_out b r base side size e f =
       greatest = high t;
     }
 
-pub length_part : (r : Pixels) → length (mask_part (marks_of r)) ≡ 4 + length (mask_runs_of (marks_of r))
+pub length_part : (runs : List ℕ) → length (mask_part runs) ≡ 4 + length runs
 unfolding mask_part
-length_part r = length-append (little_bytes 4 (length (mask_runs_of (marks_of r)))) (mask_runs_of (marks_of r))
+length_part runs = length-append (little_bytes 4 (length runs)) runs
 
-pub behind_length : (r : Pixels) (version : Version) (step runs image : ℕ) → runs ≡ length (mask_runs_of (marks_of r)) → image ≡ length (image_bytes r version step (ending r version step))
-    → 4 + runs + image ≡ length (mask_and_image r version step)
+pub behind_length : (runs : List ℕ) (r : Pixels) (version : Version) (step size image : ℕ) → size ≡ length runs → image ≡ length (image_bytes r version step (ending r version step))
+    → 4 + size + image ≡ length (mask_and_image runs r version step)
 unfolding mask_and_image
-behind_length r version step runs image e f =
-    let part = length_part r in
-    let joined = length-append (mask_part (marks_of r)) (image_bytes r version step (ending r version step)) in
+behind_length runs r version step size image e f =
+    let part = length_part runs in
+    let joined = length-append (mask_part runs) (image_bytes r version step (ending r version step)) in
     omega (arith, e, f, part, joined)
 
 -- a mask, and an image behind it
-pub behind_written : (r : Pixels) (version : Version) (step front : ℕ) (first second rest : List ℕ) → length first ≡ front → first ≡ mask_part (marks_of r) → second ≡ image_bytes r version step (ending r version step)
-    → put_mid front (length (first ++ rest) - front) (first ++ rest) second ≡ mask_and_image r version step
+pub behind_written : (runs : List ℕ) (r : Pixels) (version : Version) (step front : ℕ) (first second rest : List ℕ) → length first ≡ front → first ≡ mask_part runs → second ≡ image_bytes r version step (ending r version step)
+    → put_mid front (length (first ++ rest) - front) (first ++ rest) second ≡ mask_and_image runs r version step
 unfolding mask_and_image
-behind_written r version step front first second rest long a b =
+behind_written runs r version step front first second rest long a b =
     end_written first rest second front (length (first ++ rest) - front) long (let l = length-append first rest in omega (arith, l, long))
     ∙ (λ t. a t ++ b t)
 
@@ -105,9 +105,9 @@ put_long n old new low e =
     ∙ end_written (take n old) (drop n old) new n (length old - n) (length-take-le n old low) (let l = length-drop n old in omega (arith, l)))
     ∙ length-append (take n old) new ∙ (let l = length-take-le n old low in omega (arith, l, e))
 
-pub version_with : (r : Pixels) (version : Version) (step sum : ℕ) → head_length (header_with r version step sum).version ≡ head_length version
+pub version_with : (runs : List ℕ) (r : Pixels) (version : Version) (step sum : ℕ) → head_length (header_with runs r version step sum).version ≡ head_length version
 unfolding header_with header_of
-version_with r version step sum = refl
+version_with runs r version step sum = refl
 
 pub sealed : (h g : Header) (old mid new rest : List ℕ) (n sum : ℕ) → g ≡ record h { checksum = sum } → n ≡ head_length h.version → mid ≡ head_bytes h ++ drop n old → sum ≡ sum_of rest → rest ≡ drop 14 mid
     → new ≡ head_bytes g ++ drop (head_length g.version) mid → IsSealed h (drop n old) new
@@ -117,12 +117,12 @@ sealed h g old mid new rest n sum e is first sum_is rest_is second =
     second ∙ (λ t. head_bytes (e t) ++ behind t) ∙ ap (λ k. head_bytes (record h { checksum = k }) ++ drop n old) covered
 
 -- the sealed blob is the chosen one
-other_sum : (r : Pixels) (version : Version) (step sum : ℕ) → header_with r version step sum ≡ record (header_with r version step 0) { checksum = sum }
+other_sum : (runs : List ℕ) (r : Pixels) (version : Version) (step sum : ℕ) → header_with runs r version step sum ≡ record (header_with runs r version step 0) { checksum = sum }
 unfolding header_with header_of
-other_sum r version step sum = refl
+other_sum runs r version step sum = refl
 
-pub sealed_is : (r : Pixels) (version : Version) (step : ℕ) (h : Header) (behind blob : List ℕ) → h ≡ header_with r version step 0 → behind ≡ mask_and_image r version step → IsSealed h behind blob → blob ≡ chosen_blob r version step
-unfolding chosen_blob checksum_of
-sealed_is r version step h behind blob e f s =
+pub sealed_is : (runs : List ℕ) (r : Pixels) (version : Version) (step : ℕ) (h : Header) (behind blob : List ℕ) → h ≡ header_with runs r version step 0 → behind ≡ mask_and_image runs r version step → IsSealed h behind blob → blob ≡ chosen_with runs r version step
+unfolding chosen_with checksum_of
+sealed_is runs r version step h behind blob e f s =
     s ∙ (λ t. head_bytes (record (e t) { checksum = sum_of (drop 14 (head_bytes (e t) ++ f t)) }) ++ f t)
-    ∙ ap (λ (x : Header). head_bytes x ++ mask_and_image r version step) (sym (other_sum r version step (sum_of (drop 14 (head_bytes (header_with r version step 0) ++ mask_and_image r version step)))))
+    ∙ ap (λ (x : Header). head_bytes x ++ mask_and_image runs r version step) (sym (other_sum runs r version step (sum_of (drop 14 (head_bytes (header_with runs r version step 0) ++ mask_and_image runs r version step)))))

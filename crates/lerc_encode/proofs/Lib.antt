@@ -14,9 +14,15 @@ mod Standing
 mod Candidates
 mod Endings
 mod Encoded
+mod TakenMasks
 mod Sums
 mod BlocksBelow
 mod Below
 mod Asked
+mod Own
 mod Laying
+mod Plans
 mod Small
+mod Joining
+mod BandsSmall
+mod PlanSteps

@@ -19,6 +19,7 @@ use Rattle.raster_values.specs.Order.{IsMaskOf, mask_bit, marks_in}
 use Rattle.raster_values.specs.Flat.{marks_of}
 use Rattle.lerc_grammar.specs.Mask.{count_of, mask_size}
 use Rattle.lerc_encode.specs.Masks.{bit_of, mask_byte, packed, are_alike, mask_runs_of, mask_part}
+use Rattle.lerc_encode.specs.inside.Layout.{written_runs}
 
 -- ---- the bytes of a mask
 
@@ -174,30 +175,34 @@ pub mixed_runs : (marks : List Bool) → are_alike marks ≡ false → mask_runs
 unfolding mask_runs_of
 mixed_runs marks e = ap (λ (b : Bool). if b then [] else chosen_runs (packed marks)) e
 
--- where there are runs, they are those of the mask
-pub some_runs : (marks : List Bool) → 0 < length (mask_runs_of marks) → mask_runs_of marks ≡ chosen_runs (packed marks)
-some_runs marks some = by (are_alike marks) refl
-  where
-    by : (b : Bool) → are_alike marks ≡ b → mask_runs_of marks ≡ chosen_runs (packed marks)
-    by true e = absurd (let l = ap length (alike_runs marks e) in omega (arith, l, some))
-    by false e = mixed_runs marks e
+pub written_few : (mask : List ℕ) → length mask ≤ 2097152 → length (written_runs mask) ≤ 6291458
+written_few [] few = omega arith
+written_few (byte ∷ bytes) few = let small = runs_small (byte ∷ bytes) in omega (arith, small, few)
 
-no_bytes : (xs : List ℕ) → length xs ≡ 0 → xs ≡ []
-no_bytes [] e = refl
-no_bytes (x ∷ xs) e = absurd (omega (arith, e))
+pub written_is : (mask : List ℕ) → 0 < length mask → written_runs mask ≡ chosen_runs mask
+written_is [] some = absurd (omega (arith, some))
+written_is (byte ∷ bytes) some = refl
+
+pub written_none : (mask : List ℕ) → length mask ≡ 0 → written_runs mask ≡ []
+written_none [] none = refl
+written_none (byte ∷ bytes) none = absurd (omega (arith, none))
+
+pub packed_runs : (marks : List Bool) → are_alike marks ≡ false → written_runs (packed marks) ≡ mask_runs_of marks
+packed_runs [] e = absurd (cc)
+packed_runs (m ∷ marks) e =
+    let long = length_packed (m ∷ marks) in
+    written_is (packed (m ∷ marks)) (omega (arith, long)) ∙ sym (mixed_runs (m ∷ marks) e)
 
 -- what is written
-pub none_written : (marks : List Bool) (size : ℕ) (out old : List ℕ) → size ≡ length (mask_runs_of marks) → size ≡ 0 → length old ≡ 4 + size → out ≡ little_bytes 4 size ++ drop 4 old → out ≡ mask_part marks
+pub none_written : (size : ℕ) (out old : List ℕ) → size ≡ 0 → length old ≡ 4 + size → out ≡ little_bytes 4 size ++ drop 4 old → out ≡ mask_part []
 unfolding mask_part
-none_written marks size out old is none room wrote =
-    let empty : mask_runs_of marks ≡ [] = no_bytes (mask_runs_of marks) (sym is ∙ none) in
-    wrote ∙ (λ t. little_bytes 4 (is t) ++ drop_all 4 old (omega (arith, room, none)) t) ∙ ap (λ (u : List ℕ). little_bytes 4 (length (mask_runs_of marks)) ++ u) (sym empty)
+none_written size out old none room wrote =
+    wrote ∙ (λ t. little_bytes 4 (none t) ++ drop_all 4 old (omega (arith, room, none)) t)
 
-pub runs_written : (marks : List Bool) (size : ℕ) (out mid new old : List ℕ) → size ≡ length (mask_runs_of marks) → 0 < size → length old ≡ 4 + size → mid ≡ little_bytes 4 size ++ drop 4 old → new ≡ chosen_runs (packed marks)
-    → out ≡ put_mid 4 (length mid - 4) mid new → out ≡ mask_part marks
+pub runs_written : (runs : List ℕ) (size : ℕ) (out mid new old : List ℕ) → size ≡ length runs → length old ≡ 4 + size → mid ≡ little_bytes 4 size ++ drop 4 old → new ≡ runs
+    → out ≡ put_mid 4 (length mid - 4) mid new → out ≡ mask_part runs
 unfolding mask_part
-runs_written marks size out mid new old is some room wrote runs e =
-    let here : new ≡ mask_runs_of marks = runs ∙ sym (some_runs marks (omega (arith, is, some))) in
+runs_written runs size out mid new old is room wrote here e =
     let four : length (little_bytes 4 size) ≡ 4 = refl in
     let long : length mid ≡ 4 + length (drop 4 old) = ap length wrote ∙ length-append (little_bytes 4 size) (drop 4 old) in
     e ∙ ap (λ (xs : List ℕ). put_mid 4 (length mid - 4) xs new) wrote

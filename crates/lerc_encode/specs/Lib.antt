@@ -7,4 +7,5 @@ pub mod Images
 pub mod Choice
 pub mod Encoded
 pub mod Sizes
+pub mod Laws
 pub mod inside

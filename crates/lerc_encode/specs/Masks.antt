@@ -1,9 +1,13 @@
 -- The mask that is written for the marks of pixels.
-use Rattle.std.specs.Prelude.{ℕ, ◌+◌, ◌*◌, Bool, false, ◌||◌, nat_eq, if◌then◌else◌, List, [], ◌++◌, length, get_or, map}
+use Rattle.std.specs.Prelude.{ℕ, ◌+◌, ◌*◌, Bool, false, not, ◌||◌, ◌&&◌, nat_eq, if◌then◌else◌, List, [], ◌++◌, length, get_or, map, Option, Some, None}
+use Rattle.std.specs.Bool.{beq}
+use Rattle.std.specs.Cmp.Lexicographic.{pointwise}
 use Rattle.std.specs.List.{range_with_len}
+use Rattle.raster_values.specs.Raster.{Pixels}
+use Rattle.raster_values.specs.Flat.{marks_of}
 use Rattle.byteorder.specs.Endian.{little_bytes}
 use Rattle.mask_runs.specs.Chosen.{chosen_runs}
-use Rattle.lerc_grammar.specs.Mask.{count_of, mask_size}
+use Rattle.lerc_grammar.specs.Mask.{Previous, count_of, marks_before, mask_size}
 
 -- 1 for a valid pixel
 abbrev pub bit_of : List Bool → ℕ → ℕ
@@ -29,6 +33,28 @@ are_alike marks = nat_eq (count_of marks) 0 || nat_eq (count_of marks) (length m
 unfoldable pub mask_runs_of : List Bool → List ℕ
 mask_runs_of marks = if are_alike marks then [] else chosen_runs (packed marks)
 
--- the number of these bytes, and they
-unfoldable pub mask_part : List Bool → List ℕ
-mask_part marks = little_bytes 4 (length (mask_runs_of marks)) ++ mask_runs_of marks
+-- ---- behind the blob of another raster
+
+-- these are the same marks
+abbrev pub are_same : Option (List Bool) → List Bool → Bool
+are_same None marks = false
+are_same (Some before) marks = pointwise beq before marks
+
+-- The mask of the raster before is taken: that raster has as many rows and columns, the same pixels
+-- are valid, and some are and some are not.
+abbrev pub takes_mask : Option Previous → Pixels → Bool
+takes_mask before r =
+    are_same (marks_before before r.rows r.cols) (marks_of r) && not (are_alike (marks_of r))
+
+-- the runs that are written: none where the mask is taken
+abbrev pub runs_unless : Bool → List Bool → List ℕ
+runs_unless taken marks = if taken then [] else mask_runs_of marks
+
+abbrev pub runs_after : Option Previous → Pixels → List ℕ
+runs_after before r = runs_unless (takes_mask before r) (marks_of r)
+
+-- ---- what is written
+
+-- the number of the runs' bytes, and they
+unfoldable pub mask_part : List ℕ → List ℕ
+mask_part runs = little_bytes 4 (length runs) ++ runs

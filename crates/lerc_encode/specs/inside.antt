@@ -6,3 +6,4 @@ pub mod Coded
 pub mod Choosing
 pub mod Suits
 pub mod Layout
+pub mod Joined

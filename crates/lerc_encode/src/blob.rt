@@ -1,14 +1,16 @@
 //! The chosen blob of a raster.
 
-ghost use Rattle.std.specs.Prelude.{◌≡◌, ◌+◌, ◌^◌, ◌<◌, ◌≤◌, ◌↔◌, ◌++◌, ℕ, IfOk, IsErrOf, OnErr, OnOk, drop, length};
+ghost use Rattle.std.specs.Prelude.{◌≡◌, ◌^◌, ◌<◌, ◌≤◌, ◌↔◌, ◌++◌, ℕ, IfOk, IsErrOf, OnErr, OnOk, drop, length};
+ghost use Rattle.raster_values.specs.Flat.{marks_of};
 ghost use Rattle.lerc_header.specs.declared.header.Version.TheVariants.{V3};
 ghost use Rattle.lerc_header.specs.Head.{head_length};
 ghost use Rattle.lerc_header.specs.Written.{IsHeader, head_bytes};
-ghost use Rattle.lerc_encode.specs.Choice.{mask_and_image, chosen_blob, header_with};
+ghost use Rattle.lerc_encode.specs.Choice.{chosen_blob, header_with};
 ghost use Rattle.lerc_encode.specs.Encoded.{Declares, IsEncodedOnce};
+ghost use Rattle.lerc_encode.specs.Masks.{runs_unless};
 ghost use Rattle.lerc_encode.specs.inside.Asked.{IsAsked};
 ghost use Rattle.lerc_encode.specs.inside.Choosing.{AreRanges, IsBase};
-ghost use Rattle.lerc_encode.specs.inside.Layout.{IsPlan, IsSealed};
+ghost use Rattle.lerc_encode.specs.inside.Layout.{IsPlan, IsPlanOf, IsSealed, planned_behind, planned_blob, planned_runs};
 
 use crate::choosing::{Ending, ending_of};
 use crate::images::{image_len, side_of, write_image};
@@ -43,12 +45,12 @@ impl From<AllocError> for EncodeFault {
 
 /// What is known of a blob before it is written.
 #[derive(Drop)]
-struct Plan {
+pub(crate) struct Plan {
     /// The header so far.
     base: Header,
     /// The least and the greatest value of each depth.
     ranges: Ranges,
-    /// The bytes of the mask, and how many bytes their runs take.
+    /// The bytes of the mask, where its runs are written, and how many bytes these take.
     mask: Vec<u8>,
     runs: usize,
     /// How the image ends.
@@ -80,15 +82,23 @@ fn base_header(raster: &Raster, version: Version, step: u64, found: &Ranges) -> 
     }
 }
 
-/// What is known of the blob of a raster.
-fn plan_of(alloc: Global, raster: &Raster, version: Version, step: u64) -> Result<Plan, AllocError>
+/// What is known of the blob of a raster, whose mask is taken from the raster before or is not.
+pub(crate) fn plan_of(
+    alloc: Global,
+    raster: &Raster,
+    taken: bool,
+    version: Version,
+    step: u64,
+) -> Result<Plan, AllocError>
     requires { IsAsked raster.now version step }
-    ensures { IfOk result (λ p. IsPlan raster.now version step p) }
+    ensures plan { IfOk result (λ p. IsPlan raster.now version step p) }
+    ensures runs { IfOk result (λ p.
+        planned_runs p ≡ runs_unless taken (marks_of raster.now)) }
 {
     let ranges = ranges_of(alloc, raster)?;
-    let mask = mask_of(alloc, raster)?;
+    let mask = mask_of(alloc, raster, taken)?;
     let base = base_header(raster, version, step, &ranges);
-    let runs = runs_size(raster, &mask);
+    let runs = runs_size(&mask);
     let ending = ending_of(alloc, &base, &ranges, raster)?;
     Ok(Plan {
         base,
@@ -101,23 +111,30 @@ fn plan_of(alloc: Global, raster: &Raster, version: Version, step: u64) -> Resul
 
 /// How many bytes stand behind the head.
 fn behind_len(plan: &Plan, raster: &Raster) -> usize
-    requires { IsPlan raster.now plan.now.base.version plan.now.base.step plan.now }
-    ensures value { result
-        ≡ length (mask_and_image raster.now plan.now.base.version plan.now.base.step) }
+    requires { IsPlanOf raster.now plan.now }
+    ensures value { result ≡ length (planned_behind plan.now raster.now) }
     ensures few { result ≤ 73924615 }
 {
     4 + plan.runs + image_len(&plan.ending, &plan.base, raster)
 }
 
+/// How many bytes the blob has.
+pub(crate) fn blob_len(plan: &Plan, raster: &Raster) -> usize
+    requires { IsPlanOf raster.now plan.now }
+    ensures value { result ≡ length (planned_blob plan.now raster.now) }
+    ensures few { result ≤ 73924681 }
+{
+    plan.base.version.head_length() + behind_len(plan, raster)
+}
+
 /// Writes what stands behind the head over all of `out`.
 fn write_behind(plan: &Plan, raster: &Raster, out: &mut [u8])
-    requires plan { IsPlan raster.now plan.now.base.version plan.now.base.step plan.now }
-    requires room { length out.old
-        ≡ length (mask_and_image raster.now plan.now.base.version plan.now.base.step) }
-    ensures { out.new ≡ mask_and_image raster.now plan.now.base.version plan.now.base.step }
+    requires plan { IsPlanOf raster.now plan.now }
+    requires room { length out.old ≡ length (planned_behind plan.now raster.now) }
+    ensures { out.new ≡ planned_behind plan.now raster.now }
 {
     let front = (4 + plan.runs).min(out.len());
-    write_mask(raster, &plan.mask, plan.runs, &mut out[..front]);
+    write_mask(&plan.mask, plan.runs, &mut out[..front]);
     write_image(
         &plan.ending,
         &plan.base,
@@ -129,11 +146,10 @@ fn write_behind(plan: &Plan, raster: &Raster, out: &mut [u8])
 
 /// The header of the blob, with the checksum 0.
 fn header_of(plan: &Plan, raster: &Raster, size: usize) -> Header
-    requires plan { IsPlan raster.now plan.now.base.version plan.now.base.step plan.now }
-    requires size { size ≡ head_length plan.now.base.version
-        + length (mask_and_image raster.now plan.now.base.version plan.now.base.step) }
+    requires plan { IsPlanOf raster.now plan.now }
+    requires size { size ≡ length (planned_blob plan.now raster.now) }
     requires few { size < 2 ^ 32 }
-    ensures { result ≡ header_with raster.now plan.now.base.version plan.now.base.step 0 }
+    ensures { result ≡ header_with (planned_runs plan.now) raster.now plan.now.base.version plan.now.base.step 0 }
 {
     Header {
         side: side_of(&plan.ending, &plan.base, raster),
@@ -174,13 +190,12 @@ fn seal(header: &Header, blob: &mut [u8])
     put_header(&with_sum(header, sum), blob);
 }
 
-/// Writes the chosen blob over all of `blob`, whose length is its size.
+/// Writes the blob over all of `blob`, whose length is its size.
 fn fill(plan: &Plan, raster: &Raster, blob: &mut [u8])
     requires asked { IsAsked raster.now plan.now.base.version plan.now.base.step }
-    requires plan { IsPlan raster.now plan.now.base.version plan.now.base.step plan.now }
-    requires room { length blob.old ≡ head_length plan.now.base.version
-        + length (mask_and_image raster.now plan.now.base.version plan.now.base.step) }
-    ensures { blob.new ≡ chosen_blob raster.now plan.now.base.version plan.now.base.step }
+    requires plan { IsPlanOf raster.now plan.now }
+    requires room { length blob.old ≡ length (planned_blob plan.now raster.now) }
+    ensures { blob.new ≡ planned_blob plan.now raster.now }
 {
     let size = blob.len();
     let head = plan.base.version.head_length().min(size);
@@ -188,8 +203,21 @@ fn fill(plan: &Plan, raster: &Raster, blob: &mut [u8])
     seal(&header_of(plan, raster, size), blob);
 }
 
+/// Lays the blob over the front of `out`, and answers how many bytes it has.
+pub(crate) fn lay(plan: &Plan, raster: &Raster, out: &mut [u8]) -> usize
+    requires asked { IsAsked raster.now plan.now.base.version plan.now.base.step }
+    requires plan { IsPlanOf raster.now plan.now }
+    requires room { length (planned_blob plan.now raster.now) ≤ length out.old }
+    ensures size { result ≡ length (planned_blob plan.now raster.now) }
+    ensures laid { out.new ≡ planned_blob plan.now raster.now ++ drop result out.old }
+{
+    let size = blob_len(plan, raster);
+    fill(plan, raster, &mut out[..size]);
+    size
+}
+
 /// The bytes of the chosen blob.
-fn blob_of(
+pub(crate) fn blob_of(
     alloc: Global,
     raster: &Raster,
     version: Version,
@@ -198,8 +226,8 @@ fn blob_of(
     requires { IsAsked raster.now version step }
     ensures { IfOk result (λ blob. blob.items ≡ chosen_blob raster.now version step) }
 {
-    let plan = plan_of(alloc, raster, version, step)?;
-    let size = version.head_length() + behind_len(&plan, raster);
+    let plan = plan_of(alloc, raster, false, version, step)?;
+    let size = blob_len(&plan, raster);
     let mut blob = vec![in alloc; 0u8; size]?;
     fill(&plan, raster, &mut blob);
     Ok(blob)
@@ -275,8 +303,8 @@ pub fn encode_over(
     if needs_v4(version, raster.depth()) {
         return Err(LayFault::DepthNeedsV4);
     }
-    let plan = plan_of(alloc, raster, version, step.get())?;
-    let size = version.head_length() + behind_len(&plan, raster);
+    let plan = plan_of(alloc, raster, false, version, step.get())?;
+    let size = blob_len(&plan, raster);
     if size > out.len() {
         return Err(LayFault::NoRoom(size));
     }

@@ -4,11 +4,35 @@ ghost use Rattle.std.specs.Prelude.{◌≡◌, ℕ, ◌*◌, ◌≤◌, Bool, Li
 ghost use Rattle.first_fault.specs.Parts.{AreBytes};
 ghost use Rattle.huff_codes.specs.Written.{IsFilled, IsShortestRun, IsWrittenTable};
 ghost use Rattle.lerc_encode.specs.Codings.{code_table_bytes, filled_words, shortest_run};
-ghost use Rattle.lerc_encode.specs.Sizes.{BlobsAreSmall};
+ghost use Rattle.lerc_encode.specs.Laws.{BandsDecode, BandsDeclare, ChoicesDecode, ChoicesDecodeAfter, ChoicesDeclare, MasksAreTaken, OwnIsBehindNone};
+ghost use Rattle.lerc_encode.specs.Sizes.{BandsAreSmall, BlobsAreSmall, TilesAreSmall};
 
-/// A law: no blob is longer than type and shape allow.
+/// A law: no blob is longer than type and shape allow, nor are those of bands together.
 pub fn blobs_are_small()
-    ensures { BlobsAreSmall }
+    ensures blobs { BlobsAreSmall }
+    ensures bands { BandsAreSmall }
+    ensures tiles { TilesAreSmall }
+{}
+
+/// A law: the mask of the raster before is taken exactly where it is the same and has runs.
+pub fn masks_are_taken()
+    ensures taken { MasksAreTaken }
+    ensures own { OwnIsBehindNone }
+{}
+
+/// A law: the chosen blob of every raster is one of exactly one raster, which is near it, and
+/// declares its version and step; behind the blob of another raster, too.
+pub fn choices_decode()
+    ensures own { ChoicesDecode }
+    ensures after { ChoicesDecodeAfter }
+    ensures declare { ChoicesDeclare }
+{}
+
+/// A law: the chosen blobs of bands are those of exactly one list of bands, each near the given one,
+/// and declare their version and step.
+pub fn bands_decode()
+    ensures bands { BandsDecode }
+    ensures declare { BandsDeclare }
 {}
 
 /// A law: the range, the words and the table of a coding are those that the relations of code

@@ -1,9 +1,10 @@
 // The mask of a raster.
 
-ghost use Rattle.std.specs.Prelude.{◌≡◌, ◌+◌, ◌*◌, ◌^◌, ◌<◌, ◌≤◌, IfOk, length};
+ghost use Rattle.std.specs.Prelude.{◌≡◌, ◌+◌, ◌≤◌, IfOk, Some, length};
 ghost use Rattle.raster_values.specs.Flat.{marks_of};
-ghost use Rattle.lerc_encode.specs.Masks.{are_alike, mask_part, mask_runs_of};
-ghost use Rattle.lerc_encode.specs.inside.Layout.{HasMask};
+ghost use Rattle.lerc_grammar.specs.Mask.{previous_of};
+ghost use Rattle.lerc_encode.specs.Masks.{are_alike, mask_part, runs_unless, takes_mask};
+ghost use Rattle.lerc_encode.specs.inside.Layout.{written_runs};
 
 use byteorder::{ByteOrder, LittleEndian};
 use mask_runs::{runs_len, write_runs};
@@ -18,11 +19,24 @@ fn is_alike(raster: &Raster) -> bool
     valid == 0 || valid == raster.rows() * raster.cols()
 }
 
-/// The bytes of a raster's mask, where they are needed: not where pixels are alike.
-pub(crate) fn mask_of(alloc: Global, raster: &Raster) -> Result<Vec<u8>, AllocError>
-    ensures { IfOk result (λ mask. HasMask raster.now mask.items) }
+/// Whether the mask of a raster is taken from the one before, which has the same.
+pub(crate) fn takes_mask(previous: &Raster, raster: &Raster) -> bool
+    ensures { result ≡ takes_mask (Some (previous_of previous.now)) raster.now }
 {
-    if is_alike(raster) {
+    !is_alike(raster)
+        && previous.rows() == raster.rows()
+        && previous.cols() == raster.cols()
+        && previous.has_mask_of(raster)
+}
+
+/// The bytes of a raster's mask, where runs of them are written: not where pixels are alike, nor
+/// where the mask is taken from the raster before.
+pub(crate) fn mask_of(alloc: Global, raster: &Raster, taken: bool) -> Result<Vec<u8>, AllocError>
+    ensures runs { IfOk result (λ mask.
+        written_runs mask.items ≡ runs_unless taken (marks_of raster.now)) }
+    ensures few { IfOk result (λ mask. length mask.items ≤ 2097152) }
+{
+    if taken || is_alike(raster) {
         return Ok(Vec::new(alloc));
     }
     let size = (raster.rows() as usize * raster.cols() as usize + 7) / 8;
@@ -31,32 +45,27 @@ pub(crate) fn mask_of(alloc: Global, raster: &Raster) -> Result<Vec<u8>, AllocEr
     Ok(mask)
 }
 
-/// How many bytes the runs of a mask take: none where no pixel is valid, or every one.
-pub(crate) fn runs_size(raster: &Raster, mask: &[u8]) -> usize
-    requires { HasMask raster.now mask.now }
-    ensures value { result ≡ length (mask_runs_of (marks_of raster.now)) }
+/// How many bytes the runs of a mask take: none where it has no bytes.
+pub(crate) fn runs_size(mask: &[u8]) -> usize
+    requires { length mask.now ≤ 2097152 }
+    ensures value { result ≡ length (written_runs mask.now) }
     ensures few { result ≤ 6291458 }
 {
-    // for the proof: `rows` ensures that the raster is a lawful one
-    let _rows = raster.rows();
-    if is_alike(raster) {
+    if mask.is_empty() {
         return 0;
     }
     runs_len(mask)
 }
 
 /// Writes the length of the mask's runs, and these.
-pub(crate) fn write_mask(raster: &Raster, mask: &[u8], size: usize, out: &mut [u8])
-    requires mask { HasMask raster.now mask.now }
-    requires size { size ≡ length (mask_runs_of (marks_of raster.now)) }
-    requires few { size ≤ 6291458 }
+pub(crate) fn write_mask(mask: &[u8], size: usize, out: &mut [u8])
+    requires few { length mask.now ≤ 2097152 }
+    requires size { size ≡ length (written_runs mask.now) }
     requires room { length out.old ≡ 4 + size }
-    ensures { out.new ≡ mask_part (marks_of raster.now) }
+    ensures { out.new ≡ mask_part (written_runs mask.now) }
 {
-    // for the proof: `rows` ensures that the raster is a lawful one
-    let _rows = raster.rows();
     LittleEndian::write_u32(out, size as u32);
-    if size > 0 {
+    if !mask.is_empty() {
         write_runs(mask, &mut out[4..]);
     }
 }

@@ -3,8 +3,8 @@ use Rattle.std.proofs.Common.{◌≡◌, ℕ, ◌+◌, ◌*◌, ◌<◌, ◌≤�
 use Rattle.std.specs.Prelude.{nat_eq, codes}
 use Rattle.std.proofs.lemmas.List.{length-map, length-take-le, take-append-drop, get_or-drop, get_or-take, get_or_past, length-take, drop_at}
 use Rattle.std.proofs.lemmas.Bool.{cases_lt, cases_eq}
-use Rattle.first_fault.specs.Faults.{none, wrong, unless}
-use Rattle.first_fault.specs.Parts.{AreBytes, InFront, HasFault}
+use Rattle.first_fault.specs.Faults.{Faults, none, wrong, unless, in_order}
+use Rattle.first_fault.specs.Parts.{AreBytes, InFront, HasFault, IsDecided}
 use Rattle.first_fault.proofs.Decided.{decided_unless}
 use Rattle.raster_values.specs.declared.kind.PixelType.{PixelType}
 use Rattle.raster_values.specs.declared.kind.PixelType.TheVariants.{I8, U8, I16, U16, I32, U32}
@@ -12,23 +12,25 @@ use Rattle.raster_values.specs.declared.reading.Head.{Head}
 use Rattle.raster_values.specs.declared.reading.GridReason.{GridReason}
 use Rattle.raster_values.specs.declared.reading.GridReason.TheVariants.{Truncated, BadMagic, BadType, BadSize, TooLarge, BadMark}
 use Rattle.raster_values.specs.PixelType.{code_of, bytes_of}
-use Rattle.raster_values.specs.Raster.{Pixels, IsTooLarge}
+use Rattle.raster_values.specs.Raster.{Pixels, IsShape, IsTooLarge}
 use Rattle.raster_values.specs.Values.{AreValues}
 use Rattle.raster_values.specs.Flat.{pixels_with}
-use Rattle.raster_values.specs.ReadGrid.{number_at, IsHead, AreMarks, count_of, IsGrid, cut, magic_faults, type_faults, rows_faults, cols_faults, depth_faults, shape_faults, AreLawful, IsFirstWrong, mark_faults, grid_faults, GridsAreDecided}
+use Rattle.raster_values.specs.ReadGrid.{number_at, IsHead, AreMarks, count_of, IsGrid, cut, head_faults, behind_head, magic_faults, type_faults, rows_faults, cols_faults, depth_faults, shape_faults, AreLawful, IsFirstWrong, mark_faults, grid_faults, GridsAreDecided}
+use Rattle.raster_values.specs.BandsGrid.{IsBandGrid}
+use Rattle.raster_values.proofs.GridParts.{grid_with}
 use Rattle.raster_values.proofs.Taken.{OnlyMarks, marks_said, said_back, only_lawful}
 use Rattle.raster_values.proofs.Spelled.{values_there}
 use Rattle.raster_values.proofs.Revalued.{in_order_there}
 
 -- ---- tests
 
-at_least : (n m : ℕ) → (n ≤ m) ⊎ (¬ (n ≤ m))
+pub at_least : (n m : ℕ) → (n ≤ m) ⊎ (¬ (n ≤ m))
 at_least n m = ⊎_elim (λ (less : m < n). inr (λ h. let no : ⊥ = omega arith in no)) (λ (enough : n ≤ m). inl enough) (cases_lt m n)
 
 more_than : (n m : ℕ) → (n < m) ⊎ (¬ (n < m))
 more_than n m = at_least (suc n) m
 
-same_lists : (a b : List ℕ) → (a ≡ b) ⊎ (¬ (a ≡ b))
+pub same_lists : (a b : List ℕ) → (a ≡ b) ⊎ (¬ (a ≡ b))
 same_lists [] [] = inl refl
 same_lists [] (y ∷ b) = inr (λ e. let no : ⊥ = omega (arith, ap length e) in no)
 same_lists (x ∷ a) [] = inr (λ e. let no : ⊥ = omega (arith, ap length e) in no)
@@ -61,18 +63,18 @@ kind_there (suc (suc (suc (suc zero)))) h = (I32, refl)
 kind_there (suc (suc (suc (suc (suc zero))))) h = (U32, refl)
 kind_there (suc (suc (suc (suc (suc (suc n)))))) h = absurd (let no : ⊥ = omega arith in no)
 
-wrong_there : (why : GridReason) (at : ℕ) → HasFault (wrong why at)
+pub wrong_there : (why : GridReason) (at : ℕ) → HasFault (wrong why at)
 wrong_there why at = record { place = at; reason = why; fault = (refl, refl) }
 
-decided_shape : (a : List ℕ) (kind : PixelType) → length a ≡ 17 → take 4 a ≡ codes "LGR1" → get_or a 4 0 ≡ code_of kind → 0 < number_at a 5 → 0 < number_at a 9 → 0 < number_at a 13
-    → ((h : Head) × IsHead a h) ⊎ HasFault (shape_faults a)
-decided_shape a kind long magic code rows cols depth =
+decided_shape : (magic a : List ℕ) (kind : PixelType) → length a ≡ 17 → take 4 a ≡ magic → get_or a 4 0 ≡ code_of kind → 0 < number_at a 5 → 0 < number_at a 9 → 0 < number_at a 13
+    → ((h : Head) × IsHead magic a h) ⊎ HasFault (shape_faults a)
+decided_shape magic a kind long letters code rows cols depth =
     decided_unless (¬ IsTooLarge (number_at a 5) (number_at a 9) (number_at a 13)) (wrong TooLarge 13) none (not_too_large (number_at a 5) (number_at a 9) (number_at a 13)) (wrong_there TooLarge 13)
     (λ small. inl (
       record { kind = kind; rows = number_at a 5; cols = number_at a 9; depth = number_at a 13 },
       record {
         size = long;
-        magic = magic;
+        letters = letters;
         kind = code;
         rows = refl;
         cols = refl;
@@ -88,10 +90,10 @@ decided_shape a kind long magic code rows cols depth =
       },
     ))
 
-decided_head : (a : List ℕ) → length a ≤ 17 → ((h : Head) × IsHead a h) ⊎ HasFault (magic_faults a)
-decided_head a few =
-    decided_unless (4 ≤ length a) (cut a) (unless (take 4 a ≡ codes "LGR1") (wrong BadMagic 0) (type_faults a)) (at_least 4 (length a)) (wrong_there Truncated (length a)) (λ _.
-    decided_unless (take 4 a ≡ codes "LGR1") (wrong BadMagic 0) (type_faults a) (same_lists (take 4 a) (codes "LGR1")) (wrong_there BadMagic 0) (λ magic.
+pub decided_head : (magic a : List ℕ) → length a ≤ 17 → ((h : Head) × IsHead magic a h) ⊎ HasFault (magic_faults magic a)
+decided_head magic a few =
+    decided_unless (4 ≤ length a) (cut a) (unless (take 4 a ≡ magic) (wrong BadMagic 0) (type_faults a)) (at_least 4 (length a)) (wrong_there Truncated (length a)) (λ _.
+    decided_unless (take 4 a ≡ magic) (wrong BadMagic 0) (type_faults a) (same_lists (take 4 a) magic) (wrong_there BadMagic 0) (λ letters.
     decided_unless (5 ≤ length a) (cut a) (unless (get_or a 4 0 ≤ 5) (wrong BadType 4) (rows_faults a)) (at_least 5 (length a)) (wrong_there Truncated (length a)) (λ _.
     decided_unless (get_or a 4 0 ≤ 5) (wrong BadType 4) (rows_faults a) (at_least (get_or a 4 0) 5) (wrong_there BadType 4) (λ code.
     decided_unless (9 ≤ length a) (cut a) (unless (0 < number_at a 5) (wrong BadSize 5) (cols_faults a)) (at_least 9 (length a)) (wrong_there Truncated (length a)) (λ _.
@@ -100,7 +102,7 @@ decided_head a few =
     decided_unless (0 < number_at a 9) (wrong BadSize 9) (depth_faults a) (more_than 0 (number_at a 9)) (wrong_there BadSize 9) (λ cols.
     decided_unless (17 ≤ length a) (cut a) (unless (0 < number_at a 13) (wrong BadSize 13) (shape_faults a)) (at_least 17 (length a)) (wrong_there Truncated (length a)) (λ all.
     decided_unless (0 < number_at a 13) (wrong BadSize 13) (shape_faults a) (more_than 0 (number_at a 13)) (wrong_there BadSize 13) (λ depth.
-    decided_shape a (kind_there (get_or a 4 0) code).0 (omega (arith, few, all)) magic (kind_there (get_or a 4 0) code).1 rows cols depth))))))))))
+    decided_shape magic a (kind_there (get_or a 4 0) code).0 (omega (arith, few, all)) letters (kind_there (get_or a 4 0) code).1 rows cols depth))))))))))
 
 -- ---- marks
 
@@ -156,9 +158,9 @@ marks_or_wrong n rest (inl lawful) = marks_or_cut n rest lawful (at_least n (len
 decided_marks : (n : ℕ) (rest : List ℕ) → MarksThere n rest ⊎ HasFault (mark_faults n rest)
 decided_marks n rest = marks_or_wrong n rest (lawful_or_not n rest)
 
--- ---- whole grids
+-- ---- marks and values
 
-behind_are : (n : ℕ) (bytes : List ℕ) → AreBytes bytes → AreBytes (drop n bytes)
+pub behind_are : (n : ℕ) (bytes : List ℕ) → AreBytes bytes → AreBytes (drop n bytes)
 behind_are n bytes are i = let same = get_or-drop n bytes i 0 in omega (arith, same, are (n + i))
 
 front_are : (n : ℕ) (bytes : List ℕ) → AreBytes bytes → AreBytes (take n bytes)
@@ -168,65 +170,79 @@ front_are n bytes are i =
     (λ (past : n ≤ i). let none_ : get_or (take n bytes) i 0 ≡ 0 = get_or_past (take n bytes) i 0 (omega (arith, length-take n bytes)) in omega arith)
     (cases_lt i n)
 
-grid_there : (h : Head) (head marks values : List ℕ) (said : List Bool) → IsHead head h → AreMarks (h.rows * h.cols) marks said → AreBytes values → length values ≡ count_of said * h.depth * bytes_of h.kind
-    → (r : Pixels) × IsGrid (head ++ (marks ++ values)) r
-grid_there h head marks values said stands marks_are are long =
+band_there : (h : Head) (marks values : List ℕ) (said : List Bool) → IsShape h.rows h.cols h.depth → AreMarks (h.rows * h.cols) marks said → AreBytes values → length values ≡ count_of said * h.depth * bytes_of h.kind
+    → (r : Pixels) × IsBandGrid h (marks ++ values) r
+band_there h marks values said shape marks_are are long =
     let vs = values_there h.kind values (count_of said * h.depth) are long in
-    let made = in_order_there h.kind h.rows h.cols h.depth said vs.0 stands.shape marks_are.count vs.1.1.1.0 vs.1.1.0 in (
+    let made = in_order_there h.kind h.rows h.cols h.depth said vs.0 shape marks_are.count vs.1.1.1.0 vs.1.1.0 in (
       record { kind = h.kind; rows = h.rows; cols = h.cols; depth = h.depth; pixels = pixels_with h.depth said vs.0 },
       record {
         raster = made.raster;
-        head = head;
+        shape = refl;
         marks = marks;
         values = values;
         joined = refl;
-        head_of = stands;
         marks_are = subst (λ (ms : List Bool). AreMarks (h.rows * h.cols) marks ms) (sym made.has_marks) marks_are;
         values_are = subst (AreValues h.kind values) (sym made.has_values) vs.1.0;
       },
     )
 
-pub grids_are_decided : GridsAreDecided
-grids_are_decided bytes are = head (decided_head (take 17 bytes) (let few : length (take 17 bytes) ≤ 17 = omega (arith, length-take 17 bytes) in few))
+-- behind a head, the marks and values of a raster stand or have a fault
+pub band_decided : (h : Head) → IsShape h.rows h.cols h.depth → IsDecided (IsBandGrid h) (behind_head h)
+band_decided h shape bytes are = marks (decided_marks (h.rows * h.cols) bytes)
   where
-    values : (h : Head) → IsHead (take 17 bytes) h → (m : MarksThere (h.rows * h.cols) (drop 17 bytes)) → (count_of m.marks * h.depth * bytes_of h.kind ≤ length m.behind) ⊎ (¬ (count_of m.marks * h.depth * bytes_of h.kind ≤ length m.behind))
-        → InFront IsGrid bytes ⊎ HasFault (grid_faults bytes)
-    values h stands m (inl enough) =
+    values : (m : MarksThere (h.rows * h.cols) bytes) → (count_of m.marks * h.depth * bytes_of h.kind ≤ length m.behind) ⊎ (¬ (count_of m.marks * h.depth * bytes_of h.kind ≤ length m.behind))
+        → InFront (IsBandGrid h) bytes ⊎ HasFault (behind_head h bytes)
+    values m (inl enough) =
         let size = count_of m.marks * h.depth * bytes_of h.kind in
-        let from_rest : drop (length m.bytes) (drop 17 bytes) ≡ m.behind = ap (drop (length m.bytes)) m.joined ∙ drop_at m.bytes m.behind (length m.bytes) refl in
-        let are_behind : AreBytes m.behind = subst AreBytes from_rest (behind_are (length m.bytes) (drop 17 bytes) (behind_are 17 bytes are)) in
-        let g = grid_there h (take 17 bytes) m.bytes (take size m.behind) m.marks stands m.stand (front_are size m.behind are_behind) (length-take-le size m.behind enough) in
+        let from_rest : drop (length m.bytes) bytes ≡ m.behind = ap (drop (length m.bytes)) m.joined ∙ drop_at m.bytes m.behind (length m.bytes) refl in
+        let are_behind : AreBytes m.behind = subst AreBytes from_rest (behind_are (length m.bytes) bytes are) in
+        let b = band_there h m.bytes (take size m.behind) m.marks shape m.stand (front_are size m.behind are_behind) (length-take-le size m.behind enough) in
         inl (record {
-          front = take 17 bytes ++ (m.bytes ++ take size m.behind);
+          front = m.bytes ++ take size m.behind;
           rest = drop size m.behind;
-          value = g.0;
-          joined = sym (take-append-drop 17 bytes) ∙ ap (λ u. take 17 bytes ++ u) (m.joined ∙ ap (λ u. m.bytes ++ u) (sym (take-append-drop size m.behind)) ∙ sym (append_assoc m.bytes (take size m.behind) (drop size m.behind)))
-              ∙ sym (append_assoc (take 17 bytes) (m.bytes ++ take size m.behind) (drop size m.behind));
-          stands = g.1;
+          value = b.0;
+          joined = m.joined ∙ ap (λ u. m.bytes ++ u) (sym (take-append-drop size m.behind)) ∙ sym (append_assoc m.bytes (take size m.behind) (drop size m.behind));
+          stands = b.1;
         })
-    values h stands m (inr short) =
+    values m (inr short) =
         inr (record {
-          place = length (take 17 bytes) + (length m.bytes + length m.behind);
+          place = length m.bytes + length m.behind;
           reason = Truncated;
-          fault = inr (record {
-            front = take 17 bytes;
-            rest = drop 17 bytes;
-            value = h;
-            joined = sym (take-append-drop 17 bytes);
-            stands = stands;
-            later = (length m.bytes + length m.behind, (refl, inr (record { front = m.bytes; rest = m.behind; value = m.marks; joined = m.joined; stands = m.stand; later = (length m.behind, (refl, inr (short, (refl, refl)))) })));
-          });
+          fault = inr (record { front = m.bytes; rest = m.behind; value = m.marks; joined = m.joined; stands = m.stand; later = (length m.behind, (refl, inr (short, (refl, refl)))) });
         })
 
-    marks : (h : Head) → IsHead (take 17 bytes) h → MarksThere (h.rows * h.cols) (drop 17 bytes) ⊎ HasFault (mark_faults (h.rows * h.cols) (drop 17 bytes)) → InFront IsGrid bytes ⊎ HasFault (grid_faults bytes)
-    marks h stands (inl m) = values h stands m (at_least (count_of m.marks * h.depth * bytes_of h.kind) (length m.behind))
-    marks h stands (inr w) =
-        inr (record {
-          place = length (take 17 bytes) + w.place;
-          reason = w.reason;
-          fault = inr (record { front = take 17 bytes; rest = drop 17 bytes; value = h; joined = sym (take-append-drop 17 bytes); stands = stands; later = (w.place, (refl, inl w.fault)) });
-        })
+    marks : MarksThere (h.rows * h.cols) bytes ⊎ HasFault (mark_faults (h.rows * h.cols) bytes) → InFront (IsBandGrid h) bytes ⊎ HasFault (behind_head h bytes)
+    marks (inl m) = values m (at_least (count_of m.marks * h.depth * bytes_of h.kind) (length m.behind))
+    marks (inr w) = inr (record { place = w.place; reason = w.reason; fault = inl w.fault })
 
-    head : ((h : Head) × IsHead (take 17 bytes) h) ⊎ HasFault (magic_faults (take 17 bytes)) → InFront IsGrid bytes ⊎ HasFault (grid_faults bytes)
-    head (inl (h, stands)) = marks h stands (decided_marks (h.rows * h.cols) (drop 17 bytes))
+-- ---- whole grids
+
+pub front_short : (bytes : List ℕ) → length (take 17 bytes) ≤ 17
+front_short bytes = omega (arith, length-take 17 bytes)
+
+-- a fault behind the head
+pub fault_after_head : (magic : List ℕ) (faults : Head → List ℕ → Faults GridReason) (h : Head) (bytes : List ℕ) → IsHead magic (take 17 bytes) h → HasFault (faults h (drop 17 bytes))
+    → HasFault (in_order (IsHead magic) (head_faults magic) faults bytes)
+fault_after_head magic faults h bytes stands w = record {
+  place = length (take 17 bytes) + w.place;
+  reason = w.reason;
+  fault = inr (record { front = take 17 bytes; rest = drop 17 bytes; value = h; joined = sym (take-append-drop 17 bytes); stands = stands; later = (w.place, (refl, w.fault)) });
+}
+
+pub grids_are_decided : GridsAreDecided
+grids_are_decided bytes are = head (decided_head (codes "LGR1") (take 17 bytes) (front_short bytes))
+  where
+    band : (h : Head) → IsHead (codes "LGR1") (take 17 bytes) h → InFront (IsBandGrid h) (drop 17 bytes) ⊎ HasFault (behind_head h (drop 17 bytes)) → InFront IsGrid bytes ⊎ HasFault (grid_faults bytes)
+    band h stands (inl f) = inl (record {
+      front = take 17 bytes ++ f.front;
+      rest = f.rest;
+      value = f.value;
+      joined = sym (take-append-drop 17 bytes) ∙ ap (λ u. take 17 bytes ++ u) f.joined ∙ sym (append_assoc (take 17 bytes) f.front f.rest);
+      stands = grid_with (take 17 bytes) f.front h f.value stands f.stands;
+    })
+    band h stands (inr w) = inr (fault_after_head (codes "LGR1") behind_head h bytes stands w)
+
+    head : ((h : Head) × IsHead (codes "LGR1") (take 17 bytes) h) ⊎ HasFault (magic_faults (codes "LGR1") (take 17 bytes)) → InFront IsGrid bytes ⊎ HasFault (grid_faults bytes)
+    head (inl (h, stands)) = band h stands (band_decided h stands.shape (drop 17 bytes) (behind_are 17 bytes are))
     head (inr w) = inr (record { place = w.place; reason = w.reason; fault = inl w.fault })

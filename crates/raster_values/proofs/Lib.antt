@@ -33,6 +33,12 @@ pub mod NumberedBlocks
 mod GivenBlocks
 pub mod GridLaws
 pub mod GridDecided
+pub mod BandLists
+pub mod BandsGridLaws
+pub mod BandsGridDecided
+mod BandsGiven
+mod BandsTaken
+pub mod BandSizes
 mod Repeats
 mod AllCells
 pub mod Distances

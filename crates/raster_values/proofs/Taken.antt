@@ -78,8 +78,8 @@ head_of_all bytes rest few end =
     (λ (all : 17 ≤ length bytes). take_at bytes rest 17 (let e : length bytes ≡ 17 = omega arith in e))
     (cases_lt (length bytes) 17)
 
-pub head_fault : (bytes rest : List ℕ) (p : ℕ) (r : GridReason) → length bytes ≤ 17 → (length bytes < 17 → rest ≡ []) → magic_faults bytes p r → head_faults (bytes ++ rest) p r
-head_fault bytes rest p r few end h = subst (λ xs. magic_faults xs p r) (sym (head_of_all bytes rest few end)) h
+pub head_fault : (magic bytes rest : List ℕ) (p : ℕ) (r : GridReason) → length bytes ≤ 17 → (length bytes < 17 → rest ≡ []) → magic_faults magic bytes p r → head_faults magic (bytes ++ rest) p r
+head_fault magic bytes rest p r few end h = subst (λ xs. magic_faults magic xs p r) (sym (head_of_all bytes rest few end)) h
 
 -- ---- marks
 

@@ -13,4 +13,5 @@ pub mod Values
 pub mod Flat
 pub mod ReadGrid
 pub mod Bands
+pub mod BandsGrid
 pub mod inside

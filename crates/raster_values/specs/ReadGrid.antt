@@ -23,10 +23,10 @@ number_at bytes place = little_number 4 (drop place bytes)
 
 -- ---- the parts of a grid
 
--- the bytes are the head of grids of this type and shape
-pub record IsHead (bytes : List ℕ) (h : Head) : Type 0 where
+-- the bytes are the head, with these four letters, of grids of this type and shape
+pub record IsHead (magic bytes : List ℕ) (h : Head) : Type 0 where
   pub size : length bytes ≡ 17
-  pub magic : take 4 bytes ≡ codes "LGR1"
+  pub letters : take 4 bytes ≡ magic
   pub kind : get_or bytes 4 0 ≡ code_of h.kind
   pub rows : number_at bytes 5 ≡ h.rows
   pub cols : number_at bytes 9 ≡ h.cols
@@ -49,7 +49,7 @@ pub record IsGrid (bytes : List ℕ) (r : Pixels) : Type 0 where
   pub marks : List ℕ
   pub values : List ℕ
   pub joined : bytes ≡ head ++ (marks ++ values)
-  pub head_of : IsHead head
+  pub head_of : IsHead (codes "LGR1") head
       (record { kind = r.kind; rows = r.rows; cols = r.cols; depth = r.depth })
   pub marks_are : AreMarks (r.rows * r.cols) marks (marks_of r)
   pub values_are : AreValues r.kind values (values_of r.pixels)
@@ -86,13 +86,13 @@ type_faults head =
     unless (5 ≤ length head) (cut head)
     (unless (get_or head 4 0 ≤ 5) (wrong BadType 4) (rows_faults head))
 
-abbrev pub magic_faults : List ℕ → Faults GridReason
-magic_faults head =
+abbrev pub magic_faults : List ℕ → List ℕ → Faults GridReason
+magic_faults magic head =
     unless (4 ≤ length head) (cut head)
-    (unless (take 4 head ≡ codes "LGR1") (wrong BadMagic 0) (type_faults head))
+    (unless (take 4 head ≡ magic) (wrong BadMagic 0) (type_faults head))
 
-abbrev pub head_faults : List ℕ → Faults GridReason
-head_faults bytes = magic_faults (take 17 bytes)
+abbrev pub head_faults : List ℕ → List ℕ → Faults GridReason
+head_faults magic bytes = magic_faults magic (take 17 bytes)
 
 -- of n marks those that are there are 0 or 1
 abbrev pub AreLawful : ℕ → List ℕ → Type 0
@@ -126,7 +126,8 @@ behind_head h behind =
 -- What is wrong first in bytes that do not begin with a grid, places counting from the first of
 -- them.
 abbrev pub grid_faults : List ℕ → Faults GridReason
-grid_faults bytes = in_order IsHead head_faults behind_head bytes
+grid_faults bytes = in_order
+    (IsHead (codes "LGR1")) (head_faults (codes "LGR1")) behind_head bytes
 
 -- ---- what a read leaves
 

@@ -7,6 +7,7 @@ pub mod CellList
 pub mod CellView
 pub mod Ordered
 pub mod Heads
+pub mod Sizes
 pub mod TakenRun
 pub mod Bits
 pub mod MaskView

@@ -7,6 +7,7 @@
 #![tactic(auto)]
 
 mod bands;
+mod bands_grid;
 mod blocks;
 mod cells;
 mod grid;
@@ -18,14 +19,15 @@ mod raster;
 mod reading;
 
 pub use bands::Bands;
-pub use grid::grid_write;
+pub use bands_grid::{bands_read, bands_size};
+pub use grid::{bands_write, grid_write};
 pub use kind::PixelType;
 pub use laws::{
-    all_blocks_give, block_has_count, blocks_determine, blocks_partition, by_place,
-    bytes_are_values, cells_are_values, determined, distances_keep_order, distances_stand,
-    given_blocks_are_there, grid_determines, grids_are_parts, in_order_is_a_raster,
-    marks_one_place, numbers_are_places, order_is_one, pouring_is_one, pouring_leaves_others,
-    values_may_change, writes_one_value,
+    all_blocks_give, bands_grids_are_parts, block_has_count, blocks_determine, blocks_partition,
+    by_place, bytes_are_values, cells_are_values, determined, distances_keep_order,
+    distances_stand, given_blocks_are_there, grid_determines, grids_are_parts,
+    in_order_is_a_raster, marks_one_place, numbers_are_places, order_is_one, pouring_is_one,
+    pouring_leaves_others, values_may_change, writes_one_value,
 };
 pub use raster::{Raster, ShapeFault};
 pub use reading::{GridFault, GridReason, GridStop, grid_read};

@@ -1,13 +1,14 @@
 //! Grid files read.
 
-ghost use Rattle.std.specs.Prelude.{◌≡◌, ℕ, ◌+◌, ◌-◌, ◌*◌, ◌^◌, ◌<◌, ◌≤◌, ◌↔◌, ◌++◌, List, IfOk, IfErr, OnOk, OnErr, IsTrue, MatchResult, length, get_or, take, drop, map, nat_eq};
+ghost use Rattle.std.specs.Prelude.{◌≡◌, ℕ, ◌+◌, ◌-◌, ◌*◌, ◌^◌, ◌<◌, ◌≤◌, ◌↔◌, ◌++◌, codes, List, IfOk, IfErr, OnOk, OnErr, IsTrue, MatchResult, length, get_or, take, drop, map, nat_eq};
 ghost use Rattle.raster_values.specs.PixelType.{bytes_of};
-ghost use Rattle.raster_values.specs.Raster.{blank, values_of};
+ghost use Rattle.raster_values.specs.Raster.{IsShape, blank, values_of};
 ghost use Rattle.raster_values.specs.inside.View.{pixels_of};
 ghost use Rattle.raster_values.specs.inside.Ordered.{ChangesMarked};
 ghost use Rattle.raster_values.specs.inside.Heads.{IsSizeFault};
 ghost use Rattle.raster_values.specs.Grid.{values_bytes};
-ghost use Rattle.raster_values.specs.ReadGrid.{IsHead, AreMarks, AreLawful, TookBytes, TookGrid, TookSome, IsToldFault, CountsGridStop, number_at, magic_faults, head_faults, mark_faults, value_faults, grid_faults};
+ghost use Rattle.raster_values.specs.ReadGrid.{IsHead, AreMarks, AreLawful, TookBytes, TookGrid, TookSome, IsToldFault, CountsGridStop, number_at, magic_faults, head_faults, mark_faults, value_faults, behind_head, grid_faults};
+ghost use Rattle.raster_values.specs.BandsGrid.{IsBandGrid};
 
 use super::cells::Cells;
 use super::kind::PixelType;
@@ -15,25 +16,26 @@ use super::mask::Mask;
 use super::raster::Raster;
 use byteorder::{ByteOrder, LittleEndian};
 use outside_io::{Failed, Source, take_all};
-use std::alloc::Global;
+use std::alloc::{AllocError, Global};
 
 /// How many bytes are taken from a source at once.
 const PIECE: usize = 4096;
 
-const MAGIC: [u8; 4] = *b"LGR1";
+/// The letters of the grid of one raster.
+pub(super) const ONE: [u8; 4] = *b"LGR1";
 
 /// Why bytes do not begin with a grid.
 #[derive(Clone, Copy, Debug, PartialEq, Eq)]
 pub enum GridReason {
     /// The bytes end before the grid does.
     Truncated,
-    /// The first four bytes are not `LGR1`.
+    /// The first four bytes are not `LGR1`, nor `LGR2` where bands are read.
     BadMagic,
     /// The type's number is above 5.
     BadType,
-    /// The number of rows, columns or depths is 0.
+    /// The number of rows, columns or depths is 0, or that of bands is not 2 to 16 behind `LGR2`.
     BadSize,
-    /// There are more than 65,536 depths, or more than 2^24 values.
+    /// There are more than 65,536 depths, or more than 2^24 values, in one band or in all.
     TooLarge,
     /// A mark is neither 0 nor 1.
     BadMark,
@@ -67,6 +69,16 @@ impl From<Failed> for GridStop {
     }
 }
 
+impl From<AllocError> for GridStop {
+    ghost use Rattle.raster_values.specs.declared.reading.GridStop.TheVariants.{OutOfMemory};
+
+    ghost from_gives = { λ _ e. e ≡ OutOfMemory };
+
+    fn from(_: AllocError) -> GridStop {
+        GridStop::OutOfMemory
+    }
+}
+
 impl From<GridFault> for GridStop {
     ghost use Rattle.raster_values.specs.declared.reading.GridStop.TheVariants.{Fault};
 
@@ -87,7 +99,7 @@ pub struct Head {
 }
 
 /// A fault at a place.
-fn fault(reason: GridReason, place: usize) -> GridFault
+pub(super) fn fault(reason: GridReason, place: usize) -> GridFault
     ensures reason { result.reason ≡ reason }
     ensures place { result.place ≡ place }
 {
@@ -124,17 +136,17 @@ fn size_at(bytes: &[u8], at: usize) -> Result<u32, GridFault>
     Ok(size)
 }
 
-/// The head that the bytes are, of which 17 are needed and looked at.
-fn head_of(bytes: &[u8]) -> Result<Head, GridFault>
+/// The head with these letters that the bytes are, of which 17 are needed and looked at.
+pub(super) fn head_of(magic: [u8; 4], bytes: &[u8]) -> Result<Head, GridFault>
     requires { length bytes.now ≤ 17 }
-    ensures { MatchResult result (λ h. IsHead bytes.now h)
-        (λ f. magic_faults bytes.now f.place f.reason × (f.place ≤ 17)) }
+    ensures { MatchResult result (λ h. IsHead magic bytes.now h)
+        (λ f. magic_faults magic bytes.now f.place f.reason × (f.place ≤ 17)) }
 {
     let cut = fault(GridReason::Truncated, bytes.len());
     if bytes.len() < 4 {
         return Err(cut);
     }
-    if bytes[..4] != MAGIC[..] {
+    if bytes[..4] != magic[..] {
         return Err(fault(GridReason::BadMagic, 0));
     }
     if bytes.len() < 5 {
@@ -158,7 +170,7 @@ fn head_of(bytes: &[u8]) -> Result<Head, GridFault>
 }
 
 /// A fault whose place counts from `at`.
-fn stop_at(at: u64, fault: GridFault) -> GridStop
+pub(super) fn stop_at(at: u64, fault: GridFault) -> GridStop
     requires { at + fault.place < 2 ^ 64 }
     ensures { result ≡ GridStop.Fault (record { reason = fault.reason; place = at + fault.place }) }
 {
@@ -168,18 +180,19 @@ fn stop_at(at: u64, fault: GridFault) -> GridStop
     })
 }
 
-/// Takes the head of a grid.
+/// Takes the head of a grid of one raster.
 fn take_head<S: Source>(src: &mut S, at: u64) -> Result<Head, GridStop>
     requires { at < 2 ^ 60 }
-    ensures ok { IfOk result (λ h. (bytes : List ℕ) × (IsHead bytes h
+    ensures ok { IfOk result (λ h. (bytes : List ℕ) × (IsHead (codes "LGR1") bytes h
         × TookBytes (S.left src.old) (S.left src.new) bytes)) }
-    ensures err { IfErr result (λ stop. IsToldFault head_faults (S.left src.old) at stop) }
+    ensures err { IfErr result
+        (λ stop. IsToldFault (head_faults (codes "LGR1")) (S.left src.old) at stop) }
     ensures some { OnErr result (TookSome (S.left src.old) (S.left src.new)) }
     ensures counted { CountsGridStop result (S.faults src.old) (S.faults src.new) }
 {
     let mut head = [0; 17];
     let n = take_all(src, &mut head)?;
-    match head_of(&head[..n]) {
+    match head_of(ONE, &head[..n]) {
         Ok(head) => Ok(head),
         Err(fault) => Err(stop_at(at, fault)),
     }
@@ -295,6 +308,27 @@ fn blank_raster(alloc: Global, head: Head) -> Result<Raster, GridStop>
     }
 }
 
+/// Reads the marks and the values of a raster, which stand behind its head.
+pub(super) fn read_band<S: Source>(
+    alloc: Global,
+    src: &mut S,
+    at: u64,
+    head: Head,
+) -> Result<Raster, GridStop>
+    requires at { at < 2 ^ 61 }
+    requires shape { IsShape head.rows head.cols head.depth }
+    ensures ok { IfOk result (λ r. (bytes : List ℕ) × (IsBandGrid head bytes r
+        × TookBytes (S.left src.old) (S.left src.new) bytes)) }
+    ensures err { IfErr result (λ stop. IsToldFault (behind_head head) (S.left src.old) at stop) }
+    ensures some { OnErr result (TookSome (S.left src.old) (S.left src.new)) }
+    ensures counted { CountsGridStop result (S.faults src.old) (S.faults src.new) }
+{
+    let mut raster = blank_raster(alloc, head)?;
+    raster.take_marks(src, at)?;
+    raster.take_values(src, at + head.rows as u64 * head.cols as u64)?;
+    Ok(raster)
+}
+
 /// Reads a grid from the source, and takes the grid's bytes alone.
 ///
 /// A fault is the first one of the bytes that are left, its place counted from `at`, the place of
@@ -307,9 +341,5 @@ pub fn grid_read<S: Source>(alloc: Global, src: &mut S, at: u64) -> Result<Raste
     ensures counted { CountsGridStop result (S.faults src.old) (S.faults src.new) }
 {
     let head = take_head(src, at)?;
-    let mut raster = blank_raster(alloc, head)?;
-    raster.take_marks(src, at + 17)?;
-    let behind = at + 17 + head.rows as u64 * head.cols as u64;
-    raster.take_values(src, behind)?;
-    Ok(raster)
+    read_band(alloc, src, at + 17, head)
 }

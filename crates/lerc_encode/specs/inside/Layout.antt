@@ -1,18 +1,19 @@
 -- What is known of a blob before it is written.
-use Rattle.std.specs.Prelude.{◌≡◌, ℕ, ◌≤◌, false, List, ◌++◌, drop, length}
+use Rattle.std.specs.Prelude.{◌≡◌, ℕ, ◌≤◌, List, [], ◌∷◌, ◌++◌, drop, length}
+use Rattle.mask_runs.specs.Chosen.{chosen_runs}
 use Rattle.lerc_header.specs.Checksum.{sum_of}
 use Rattle.lerc_header.specs.Written.{head_bytes}
 use Rattle.raster_values.specs.Raster.{Pixels}
-use Rattle.raster_values.specs.Flat.{marks_of}
 use Rattle.lerc_header.specs.declared.header.Header.{Header}
 use Rattle.lerc_header.specs.declared.header.Version.{Version}
-use Rattle.lerc_encode.specs.Masks.{are_alike, mask_runs_of, packed}
+use Rattle.lerc_encode.specs.Choice.{chosen_with, mask_and_image}
 use Rattle.lerc_encode.specs.inside.Choosing.{AreRanges, IsBase, IsEnding}
 use Rattle.lerc_encode.specs.declared.blob.Plan.{Plan}
 
--- the bytes are the mask's where pixels are not alike: else nothing is written of them
-abbrev pub HasMask : Pixels → List ℕ → Type 0
-HasMask r mask = are_alike (marks_of r) ≡ false → mask ≡ packed (marks_of r)
+-- the runs of the bytes of a mask, and none of no bytes
+abbrev pub written_runs : List ℕ → List ℕ
+written_runs [] = []
+written_runs (byte ∷ bytes) = chosen_runs (byte ∷ bytes)
 
 -- the header so far, the ranges, the mask with the length of its runs, and how the image ends
 pub record IsPlan (r : Pixels) (version : Version) (step : ℕ) (p : Plan) : Type 0 where
@@ -20,10 +21,24 @@ pub record IsPlan (r : Pixels) (version : Version) (step : ℕ) (p : Plan) : Typ
   pub version_is : p.base.version ≡ version
   pub step_is : p.base.step ≡ step
   pub ranges : AreRanges r p.ranges
-  pub mask : HasMask r p.mask.items
-  pub runs : p.runs ≡ length (mask_runs_of (marks_of r))
+  pub mask_few : length p.mask.items ≤ 2097152
+  pub runs : p.runs ≡ length (written_runs p.mask.items)
   pub few : p.runs ≤ 6291458
   pub ending : IsEnding r version step p.ending
+
+-- for the version and the step that it says
+abbrev pub IsPlanOf : Pixels → Plan → Type 0
+IsPlanOf r p = IsPlan r p.base.version p.base.step p
+
+-- the runs of the mask, what stands behind the head, and all of the blob
+abbrev pub planned_runs : Plan → List ℕ
+planned_runs p = written_runs p.mask.items
+
+abbrev pub planned_behind : Plan → Pixels → List ℕ
+planned_behind p r = mask_and_image (planned_runs p) r p.base.version p.base.step
+
+abbrev pub planned_blob : Plan → Pixels → List ℕ
+planned_blob p r = chosen_with (planned_runs p) r p.base.version p.base.step
 
 -- the bytes are the header with the checksum of what it covers, and what stands behind it
 abbrev pub IsSealed : Header → List ℕ → List ℕ → Type 0

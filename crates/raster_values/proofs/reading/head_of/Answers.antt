@@ -1,5 +1,5 @@
 use Rattle.std.proofs.Common.{◌≡◌, ℕ, ◌*◌, ◌<◌, ◌≤◌, true, false, List, length, get_or, take, sym, refl, nat_eq, subst, arith, rules, inl, inr, ⊎_elim}
-use Rattle.std.specs.Prelude.{codes, not}
+use Rattle.std.specs.Prelude.{not}
 use Rattle.std.specs.Cmp.Lexicographic.{pointwise}
 use Rattle.std.proofs.lemmas.Bool.{cases_lt, false≢true}
 use Rattle.std.proofs.lemmas.Result.{err_from_is_err_and}
@@ -16,16 +16,16 @@ named code none =
     ⊎_elim (λ (lt : 5 < code). absurd (false≢true (sym (none lt)))) (λ (ge : code ≤ 5). ge)
     (cases_lt 5 code)
 
-begins : (bytes : List ℕ) → false ≡ not (pointwise nat_eq (take 4 bytes) (codes "LGR1"))
-    → take 4 bytes ≡ codes "LGR1"
-begins bytes same = search rules
+begins : (magic bytes : List ℕ) → false ≡ not (pointwise nat_eq (take 4 bytes) magic)
+    → take 4 bytes ≡ magic
+begins magic bytes same = search rules
 
 -- what is wrong behind the type is what is wrong first
-behind : (bytes : List ℕ) (place : ℕ) (reason : GridReason) → 5 ≤ length bytes
-    → take 4 bytes ≡ codes "LGR1" → get_or bytes 4 0 ≤ 5
-    → rows_faults bytes place reason → magic_faults bytes place reason
-behind bytes place reason long magic kind h =
-    inl (omega (arith, long), inl (magic, inl (long, inl (kind, h))))
+behind : (magic bytes : List ℕ) (place : ℕ) (reason : GridReason) → 5 ≤ length bytes
+    → take 4 bytes ≡ magic → get_or bytes 4 0 ≤ 5
+    → rows_faults bytes place reason → magic_faults magic bytes place reason
+behind magic bytes place reason long letters kind h =
+    inl (omega (arith, long), inl (letters, inl (long, inl (kind, h))))
 
 rows_wrong : (bytes : List ℕ) (place : ℕ) (reason : GridReason)
     → IsSizeFault bytes 5 place reason → rows_faults bytes place reason
@@ -64,11 +64,11 @@ returns-in_err-rows c =
     let bytes = c.args.bytes.now in
     let f = c.in_err-rows.field-0.0 in
     let p = err_from_is_err_and c.from_residual.result c.from_residual.ensures.1 in
-    let magic : take 4 bytes ≡ codes "LGR1" = begins bytes c.if-ne.ensures in
+    let letters : take 4 bytes ≡ c.args.magic = begins c.args.magic bytes c.if-ne.ensures in
     let kind : get_or bytes 4 0 ≤ 5 = named (get_or bytes 4 0) c.in-Some.ensures.none.1 in
     let wrong = c.in_err-rows.ensures.err in
     rw (p.1, p.2) (
-      behind bytes f.place f.reason (omega arith) magic kind
+      behind c.args.magic bytes f.place f.reason (omega arith) letters kind
           (rows_wrong bytes f.place f.reason wrong),
       near bytes 5 f.place f.reason (omega arith) c.requires wrong,
     )
@@ -79,13 +79,13 @@ returns-in_err-cols c =
     let f = c.in_err-cols.field-0.0 in
     let p =
     err_from_is_err_and c.from_residual-in_err-cols.result c.from_residual-in_err-cols.ensures.1 in
-    let magic : take 4 bytes ≡ codes "LGR1" = begins bytes c.if-ne.ensures in
+    let letters : take 4 bytes ≡ c.args.magic = begins c.args.magic bytes c.if-ne.ensures in
     let kind : get_or bytes 4 0 ≤ 5 = named (get_or bytes 4 0) c.in-Some.ensures.none.1 in
     let rows = c.in_ok-rows.ensures.ok in
     let some : 0 < number_at bytes 5 = omega (arith, rows.1) in
     let wrong = c.in_err-cols.ensures.err in
     rw (p.1, p.2) (
-      behind bytes f.place f.reason (omega arith) magic kind
+      behind c.args.magic bytes f.place f.reason (omega arith) letters kind
           (inl (rows.0, inl (some, cols_wrong bytes f.place f.reason wrong))),
       near bytes 9 f.place f.reason (omega arith) c.requires wrong,
     )
@@ -97,7 +97,7 @@ returns-in_err-depth c =
     let p =
     err_from_is_err_and c.from_residual-in_err-depth.result c.from_residual-in_err-depth.ensures.1
     in
-    let magic : take 4 bytes ≡ codes "LGR1" = begins bytes c.if-ne.ensures in
+    let letters : take 4 bytes ≡ c.args.magic = begins c.args.magic bytes c.if-ne.ensures in
     let kind : get_or bytes 4 0 ≤ 5 = named (get_or bytes 4 0) c.in-Some.ensures.none.1 in
     let rows = c.in_ok-rows.ensures.ok in
     let cols = c.in_ok-cols.ensures.ok in
@@ -105,7 +105,7 @@ returns-in_err-depth c =
     let more : 0 < number_at bytes 9 = omega (arith, cols.1) in
     let wrong = c.in_err-depth.ensures.err in
     rw (p.1, p.2) (
-      behind bytes f.place f.reason (omega arith) magic kind
+      behind c.args.magic bytes f.place f.reason (omega arith) letters kind
           (inl (rows.0, inl (some, inl (cols.0, inl (more, depth_wrong bytes f.place f.reason wrong))))),
       near bytes 13 f.place f.reason (omega arith) c.requires wrong,
     )
@@ -114,7 +114,7 @@ pub returns-then-not-is_allowed : goal.returns-then-not-is_allowed
 returns-then-not-is_allowed c =
     let bytes = c.args.bytes.now in
     let f = c.fault-then-not-is_allowed.result in
-    let magic : take 4 bytes ≡ codes "LGR1" = begins bytes c.if-ne.ensures in
+    let letters : take 4 bytes ≡ c.args.magic = begins c.args.magic bytes c.if-ne.ensures in
     let kind : get_or bytes 4 0 ≤ 5 = named (get_or bytes 4 0) c.in-Some.ensures.none.1 in
     let rows = c.in_ok-rows.ensures.ok in
     let cols = c.in_ok-cols.ensures.ok in
@@ -127,7 +127,7 @@ returns-then-not-is_allowed c =
     rows.1.0 cols.1.0 depth.1.0
     c.if-not-is_allowed.ensures.1 c.fault-then-not-is_allowed.ensures.place
     c.fault-then-not-is_allowed.ensures.reason in (
-      behind bytes f.place f.reason (omega arith) magic kind
+      behind c.args.magic bytes f.place f.reason (omega arith) letters kind
           (inl (rows.0, inl (some, inl (cols.0, inl (more, inl (depth.0, inl (deep, wrong))))))),
       omega (arith, c.fault-then-not-is_allowed.ensures.place),
     )
@@ -140,7 +140,7 @@ returns c =
     let small = c.if-not-is_allowed.ensures.0 refl in
     record {
       size = omega (arith, depth.0, c.requires);
-      magic = begins c.args.bytes.now c.if-ne.ensures;
+      letters = begins c.args.magic c.args.bytes.now c.if-ne.ensures;
       kind = (c.in-Some.ensures.named c.in-Some.kind).0 refl;
       rows = sym rows.1.0;
       cols = sym cols.1.0;
@@ -156,12 +156,12 @@ returns c =
 
 pub returns-then-bytes-lt5 : goal.returns-then-bytes-lt5
 returns-then-bytes-lt5 c =
-    let magic = begins c.args.bytes.now c.if-ne.ensures in
+    let letters = begins c.args.magic c.args.bytes.now c.if-ne.ensures in
     let short : length c.args.bytes.now < 5 = c.if-bytes-lt5.true in
     let cut = c.fault-cut.ensures in (
       inl (
         omega arith,
-        inl (magic, inr ((λ long. omega (arith, long, short)), (cut.place, cut.reason))),
+        inl (letters, inr ((λ long. omega (arith, long, short)), (cut.place, cut.reason))),
       ),
       omega (arith, cut.place, short),
     )
