@@ -6,6 +6,7 @@ root=$(cd "$(dirname "$(readlink -f "${BASH_SOURCE[0]}")")/.." && pwd)
 # The programs: the name of each, and the crate that it is made of.
 programs() {
     echo lerc_cli lerc_main
+    echo ascii_grid ascii_grid_main
 }
 
 crate_of() { programs | awk -v name="$1" '$1 == name { print $2 }'; }

@@ -4,12 +4,17 @@ mod Tests
 mod Decided
 mod CellSteps
 mod DigitSteps
-mod OneFault
-mod OneText
+pub mod OneFault
+pub mod OneText
 mod PageSteps
 mod ReadSteps
 mod TextSteps
 mod TokenLists
 mod Windows
 mod WordTokens
-mod CanonSteps
+pub mod CanonSteps
+mod FieldSteps
+mod ContentSteps
+mod LgaParts
+pub mod LgaLaws
+mod LgaSteps

@@ -153,7 +153,7 @@ test_integer (b ∷ bs) = by (test_digits (b ∷ bs)) (same_nat b 45) (test_digi
     by (inr x) (inr m) y = inr (λ h. no_minus x m h.0 h.1)
     by (inr x) (inl m) (inr y) = inr (λ h. no_digits x y h.0 h.1)
 
-test_text_byte : (b : ℕ) → Tested (IsTextByte b)
+pub test_text_byte : (b : ℕ) → Tested (IsTextByte b)
 test_text_byte b = test_either (test_digit b) (test_either (same_nat b 43) (test_either (same_nat b 45) (test_either (same_nat b 46) (test_either (same_nat b 101) (same_nat b 69)))))
 
 pub test_text : (bytes : List ℕ) → Tested (IsText bytes)
@@ -254,7 +254,7 @@ decided_value ps Nodata v = decided_unless ((n : ℤ) × IsInteger v.bytes n) (w
 
 -- ---- numbers
 
-same_int : (a b : ℤ) → Tested (a ≡ b)
+pub same_int : (a b : ℤ) → Tested (a ≡ b)
 same_int (pos a) (pos b) = by (same_nat a b)
   where
     by : Tested (a ≡ b) → Tested (pos a ≡ pos b)

@@ -6,3 +6,4 @@ pub mod Canon
 pub mod Laws
 pub mod Stopping
 pub mod inside
+pub mod Lga

@@ -5,3 +5,4 @@ pub mod Pages
 pub mod Reading
 pub mod Stops
 pub mod Steps
+pub mod Fields

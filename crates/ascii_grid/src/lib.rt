@@ -8,6 +8,7 @@ mod fault;
 mod grid;
 mod head;
 mod laws;
+mod lga;
 mod numbers;
 mod page;
 mod text;
@@ -18,6 +19,9 @@ mod words;
 pub use canon::ascii_write;
 pub use fault::{AsciiFault, AsciiReason, AsciiStop};
 pub use grid::{AsciiGrid, Georef};
-pub use laws::{canon_stands, is_either, one_fault, one_grid};
+pub use laws::{
+    canon_stands, is_either, lga_is_either, lga_stands, one_fault, one_grid, one_lga, one_lga_fault,
+};
+pub use lga::{lga_read, lga_write};
 pub use text::ascii_read;
 pub use words::Key;

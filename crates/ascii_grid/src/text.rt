@@ -17,7 +17,7 @@ use outside_io::{Bytes, Source};
 use raster_values::{PixelType, Raster};
 use std::alloc::Global;
 
-fn held(alloc: Global, bytes: &[u8]) -> Result<Bytes, AsciiStop>
+pub(crate) fn held(alloc: Global, bytes: &[u8]) -> Result<Bytes, AsciiStop>
     ensures ok { IfOk result (λ copy. copy ≡ bytes.now) }
     ensures err { IfErr result (λ e. e ≡ AsciiStop.OutOfMemory) }
 {
