@@ -66,5 +66,5 @@ tiles_small before (r ∷ more) version step are =
     let total = bands_small before (r ∷ more) version step sound in
     let most : sum_by size_of (r ∷ more) ≤ length (r ∷ more) * size_of r = sum_by-le size_of (size_of r) (r ∷ more) (All-cons (λ x. size_of x ≤ size_of r) r more (omega arith) (like_small r more are.1.like.0)) in
     let bound = few_bands (length (r ∷ more)) (r.rows * r.cols) r.depth (bytes_of r.kind) are.1.few shape.depth_above shape.depth_below (few_bytes r.kind)
-      (let limit = are.1.like.1 in omega (arith, limit)) in
+    (let limit = are.1.like.1 in omega (arith, limit)) in
     omega (arith, total, most, bound)

@@ -127,9 +127,13 @@ bands_once bands version step are asked =
 
 declare_after : (before : Option Previous) (bands : List Pixels) (version : Version) (step : ℕ) → AreAsked bands version step → DeclareEach (chosen_bands before bands version step) bands version step
 declare_after before [] version step asked = refl
-declare_after before (r ∷ more) version step asked =
-    (chosen_after before r version step, (chosen_bands (Some (previous_of r)) more version step,
-    (refl, (after_declares before r version step (All-head (λ r. IsAsked r version step) r more asked), declare_after (Some (previous_of r)) more version step (All-tail (λ r. IsAsked r version step) r more asked)))))
+declare_after before (r ∷ more) version step asked = (
+  chosen_after before r version step,
+  (
+    chosen_bands (Some (previous_of r)) more version step,
+    (refl, (after_declares before r version step (All-head (λ r. IsAsked r version step) r more asked), declare_after (Some (previous_of r)) more version step (All-tail (λ r. IsAsked r version step) r more asked))),
+  ),
+)
 
 pub declare_each : (bands : List Pixels) (version : Version) (step : ℕ) → AreAsked bands version step → DeclareEach (chosen_bands None bands version step) bands version step
 declare_each bands version step asked = declare_after None bands version step asked

@@ -79,9 +79,10 @@ pub laid_next : (bands : List Pixels) (version : Version) (step k place n : ℕ)
     → n ≡ length (planned_blob p r) → new ≡ planned_blob p r ++ rest
     → (place + n ≡ length (chosen_bands None (take (k + 1) bands) version step)) × (take (place + n) (put_mid place (length out - place) out new) ≡ chosen_bands None (take (k + 1) bands) version step)
 laid_next bands version step k place n r p out new rest at here e done low long wrote =
-    let next = next_long bands version step k r p at here in
-    (omega (arith, next, e, long),
-    ap (λ (xs : List ℕ). take (place + n) (put_mid place (length out - place) out xs)) wrote
-    ∙ front_written out (planned_blob p r) rest place (length out - place) n low (sym long)
-    ∙ (λ t. done t ++ planned_after bands version step k r p at t)
-    ∙ sym (chosen_more bands version step k r here))
+    let next = next_long bands version step k r p at here in (
+      omega (arith, next, e, long),
+      ap (λ (xs : List ℕ). take (place + n) (put_mid place (length out - place) out xs)) wrote
+          ∙ front_written out (planned_blob p r) rest place (length out - place) n low (sym long)
+          ∙ (λ t. done t ++ planned_after bands version step k r p at t)
+          ∙ sym (chosen_more bands version step k r here),
+    )

@@ -12,8 +12,8 @@ returns-then-taken-clause-runs c =
     let marks = marks_of c.args.raster.now in
     ap written_runs c.new.ensures.items
     ∙ elim c.then-taken.branch [
-      then-taken-via-then-taken w ↦ ap (λ (b : Bool). runs_unless b marks) (sym w.if-taken.true)
-    | then-taken-via-else-taken+then-is_alike w ↦ sym (alike_runs marks (sym w.is_alike.ensures ∙ w.if-is_alike.true)) ∙ ap (λ (b : Bool). runs_unless b marks) (sym w.if-taken.false)
+      | then-taken-via-then-taken w ↦ ap (λ (b : Bool). runs_unless b marks) (sym w.if-taken.true)
+      | then-taken-via-else-taken+then-is_alike w ↦ sym (alike_runs marks (sym w.is_alike.ensures ∙ w.if-is_alike.true)) ∙ ap (λ (b : Bool). runs_unless b marks) (sym w.if-taken.false)
     ]
 
 pub returns-clause-runs : goal.returns-clause-runs
