@@ -1,15 +1,14 @@
 -- The blobs of bands are no longer than type and shape allow, nor than 2 ^ 27 bytes.
-use Rattle.std.proofs.Common.{◌≡◌, ℕ, ◌+◌, ◌*◌, ◌/◌, ◌≤◌, zero, suc, List, [], ◌∷◌, ◌++◌, length, Option, Some, All, refl, sym, ap, ◌∙◌, subst, arith, length-append}
+use Rattle.std.proofs.Common.{◌≡◌, ℕ, ◌+◌, ◌*◌, ◌/◌, ◌≤◌, List, [], ◌∷◌, length, Some, All, ap, arith, length-append}
 use Rattle.std.specs.Prelude.{sum_by}
 use Rattle.std.proofs.Math.Nat.{mul-le-mul_left, mul-le-mul_right}
 use Rattle.std.proofs.lemmas.List.Elements.{All-nil, All-cons, All-head, All-tail}
 use Rattle.std.proofs.lemmas.List.Sums.{sum_by-cons, sum_by-le}
 use Rattle.raster_values.specs.Raster.{Pixels, IsRaster}
-use Rattle.raster_values.specs.Bands.{AreBands, IsLike}
+use Rattle.raster_values.specs.Bands.{IsLike}
 use Rattle.raster_values.specs.PixelType.{bytes_of}
 use Rattle.raster_values.proofs.Spelled.{few_bytes}
-use Rattle.lerc_header.specs.declared.header.Version.{Version}
-use Rattle.lerc_grammar.specs.Mask.{Previous, previous_of}
+use Rattle.lerc_grammar.specs.Mask.{previous_of}
 use Rattle.lerc_encode.specs.Choice.{chosen_after, chosen_bands}
 use Rattle.lerc_encode.specs.Sizes.{BandsAreSmall, TilesAreSmall, greatest_size}
 use Rattle.lerc_encode.proofs.Small.{after_small}
@@ -66,5 +65,5 @@ tiles_small before (r ∷ more) version step are =
     let total = bands_small before (r ∷ more) version step sound in
     let most : sum_by size_of (r ∷ more) ≤ length (r ∷ more) * size_of r = sum_by-le size_of (size_of r) (r ∷ more) (All-cons (λ x. size_of x ≤ size_of r) r more (omega arith) (like_small r more are.1.like.0)) in
     let bound = few_bands (length (r ∷ more)) (r.rows * r.cols) r.depth (bytes_of r.kind) are.1.few shape.depth_above shape.depth_below (few_bytes r.kind)
-      (let limit = are.1.like.1 in omega (arith, limit)) in
+    (let limit = are.1.like.1 in omega (arith, limit)) in
     omega (arith, total, most, bound)

@@ -1,10 +1,10 @@
 -- The chosen blobs of bands, one band after the other.
-use Rattle.std.proofs.Common.{◌≡◌, ℕ, ◌+◌, ◌-◌, ◌*◌, ◌<◌, Bool, true, false, ◌≤◌, zero, suc, List, [], ◌∷◌, ◌++◌, length, take, Option, None, Some, All, refl, sym, ap, ◌∙◌, subst, arith, length-append}
+use Rattle.std.proofs.Common.{◌≡◌, ℕ, ◌+◌, ◌-◌, ◌<◌, Bool, true, false, ◌≤◌, zero, suc, List, [], ◌∷◌, ◌++◌, length, take, Option, None, Some, All, refl, sym, ap, ◌∙◌, subst, arith, length-append}
 use Rattle.std.specs.Prelude.{slice_get, unwrap_or, IsTrue, ◌↔◌}
 use Rattle.std.proofs.lemmas.List.{append_assoc, append-nil}
 use Rattle.std.proofs.lemmas.List.Elements.{All-nil, All-cons, All-head, All-tail}
 use Rattle.raster_values.specs.Raster.{Pixels, IsRaster}
-use Rattle.raster_values.specs.Bands.{AreBands, AreLike, IsLike}
+use Rattle.raster_values.specs.Bands.{AreBands, IsLike}
 use Rattle.lerc_header.specs.Head.{IsTwiceError}
 use Rattle.lerc_header.specs.declared.header.Version.{Version}
 use Rattle.lerc_header.specs.declared.header.Version.TheVariants.{V3}
@@ -127,9 +127,13 @@ bands_once bands version step are asked =
 
 declare_after : (before : Option Previous) (bands : List Pixels) (version : Version) (step : ℕ) → AreAsked bands version step → DeclareEach (chosen_bands before bands version step) bands version step
 declare_after before [] version step asked = refl
-declare_after before (r ∷ more) version step asked =
-    (chosen_after before r version step, (chosen_bands (Some (previous_of r)) more version step,
-    (refl, (after_declares before r version step (All-head (λ r. IsAsked r version step) r more asked), declare_after (Some (previous_of r)) more version step (All-tail (λ r. IsAsked r version step) r more asked)))))
+declare_after before (r ∷ more) version step asked = (
+  chosen_after before r version step,
+  (
+    chosen_bands (Some (previous_of r)) more version step,
+    (refl, (after_declares before r version step (All-head (λ r. IsAsked r version step) r more asked), declare_after (Some (previous_of r)) more version step (All-tail (λ r. IsAsked r version step) r more asked))),
+  ),
+)
 
 pub declare_each : (bands : List Pixels) (version : Version) (step : ℕ) → AreAsked bands version step → DeclareEach (chosen_bands None bands version step) bands version step
 declare_each bands version step asked = declare_after None bands version step asked

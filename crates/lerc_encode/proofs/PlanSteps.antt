@@ -1,7 +1,6 @@
 -- The plans of bands, one more at a time.
-use Rattle.std.proofs.Common.{◌≡◌, ℕ, ◌+◌, ◌-◌, ◌*◌, ◌<◌, ◌≤◌, zero, suc, List, [], ◌∷◌, ◌++◌, length, take, Option, None, Some, ◌⊎◌, inl, inr, refl, sym, ap, ◌∙◌, subst, arith, length-append}
+use Rattle.std.proofs.Common.{◌≡◌, ℕ, ◌+◌, ◌-◌, ◌≤◌, zero, suc, List, [], ◌∷◌, ◌++◌, length, take, Option, None, Some, ◌⊎◌, inl, inr, refl, sym, ap, ◌∙◌, subst, arith, length-append}
 use Rattle.std.specs.Prelude.{slice_get, unwrap_or}
-use Rattle.std.proofs.lemmas.Bool.{cases_lt}
 use Rattle.std.proofs.lemmas.List.{take_all}
 use borrow.Rule.Slice.PartMut.{put_mid}
 use Rattle.bit_stuff.proofs.Buffers.{front_written}
@@ -12,7 +11,7 @@ use Rattle.lerc_encode.specs.declared.blob.Plan.{Plan}
 use Rattle.lerc_encode.specs.Choice.{chosen_after, chosen_bands}
 use Rattle.lerc_encode.specs.Masks.{runs_after}
 use Rattle.lerc_encode.specs.inside.Joined.{ArePlans, IsPlanAt}
-use Rattle.lerc_encode.specs.inside.Layout.{IsPlan, planned_blob, planned_runs}
+use Rattle.lerc_encode.specs.inside.Layout.{planned_blob}
 use Rattle.lerc_encode.proofs.Joining.{chosen_front, chosen_more}
 use Rattle.lerc_encode.proofs.Plans.{planned_is}
 
@@ -79,9 +78,10 @@ pub laid_next : (bands : List Pixels) (version : Version) (step k place n : ℕ)
     → n ≡ length (planned_blob p r) → new ≡ planned_blob p r ++ rest
     → (place + n ≡ length (chosen_bands None (take (k + 1) bands) version step)) × (take (place + n) (put_mid place (length out - place) out new) ≡ chosen_bands None (take (k + 1) bands) version step)
 laid_next bands version step k place n r p out new rest at here e done low long wrote =
-    let next = next_long bands version step k r p at here in
-    (omega (arith, next, e, long),
-    ap (λ (xs : List ℕ). take (place + n) (put_mid place (length out - place) out xs)) wrote
-    ∙ front_written out (planned_blob p r) rest place (length out - place) n low (sym long)
-    ∙ (λ t. done t ++ planned_after bands version step k r p at t)
-    ∙ sym (chosen_more bands version step k r here))
+    let next = next_long bands version step k r p at here in (
+      omega (arith, next, e, long),
+      ap (λ (xs : List ℕ). take (place + n) (put_mid place (length out - place) out xs)) wrote
+          ∙ front_written out (planned_blob p r) rest place (length out - place) n low (sym long)
+          ∙ (λ t. done t ++ planned_after bands version step k r p at t)
+          ∙ sym (chosen_more bands version step k r here),
+    )

@@ -34,12 +34,7 @@ fn is_taken(bands: &Bands, k: usize) -> bool
 }
 
 /// What is known of the blobs of bands.
-fn plans_of(
-    alloc: Global,
-    bands: &Bands,
-    version: Version,
-    step: u64,
-) -> Result<Plans, AllocError>
+fn plans_of(alloc: Global, bands: &Bands, version: Version, step: u64) -> Result<Plans, AllocError>
     requires { All (λ r. IsAsked r version step) bands.now }
     ensures { IfOk result (λ p.
         ArePlans bands.now version step (length bands.now) p.plans.items p.size) }

@@ -14,4 +14,6 @@ mod ranging;
 
 pub use bands::encode_bands;
 pub use blob::{EncodeFault, LayFault, encode, encode_over};
-pub use laws::{bands_decode, blobs_are_small, choices_decode, codings_are_written, masks_are_taken};
+pub use laws::{
+    bands_decode, blobs_are_small, choices_decode, codings_are_written, masks_are_taken,
+};

@@ -1,7 +1,7 @@
-use Rattle.std.proofs.Common.{◌≡◌, ◌∙◌, List, ℕ, Bool, sym, ap, true, false, arith}
+use Rattle.std.proofs.Common.{◌∙◌, Bool, sym, ap, arith}
 use Rattle.std.proofs.lemmas.List.{take_at}
 use Rattle.raster_values.specs.Flat.{marks_of}
-use Rattle.lerc_encode.specs.Masks.{packed, runs_unless}
+use Rattle.lerc_encode.specs.Masks.{runs_unless}
 use Rattle.lerc_encode.specs.inside.Layout.{written_runs}
 use Rattle.lerc_encode.proofs.Packing.{alike_runs, mask_packed, packed_runs}
 use Rattle.lerc_encode.proofs.masks.mask_of.Goals.{then-taken-via-then-taken, then-taken-via-else-taken+then-is_alike}
@@ -12,8 +12,8 @@ returns-then-taken-clause-runs c =
     let marks = marks_of c.args.raster.now in
     ap written_runs c.new.ensures.items
     ∙ elim c.then-taken.branch [
-      then-taken-via-then-taken w ↦ ap (λ (b : Bool). runs_unless b marks) (sym w.if-taken.true)
-    | then-taken-via-else-taken+then-is_alike w ↦ sym (alike_runs marks (sym w.is_alike.ensures ∙ w.if-is_alike.true)) ∙ ap (λ (b : Bool). runs_unless b marks) (sym w.if-taken.false)
+      | then-taken-via-then-taken w ↦ ap (λ (b : Bool). runs_unless b marks) (sym w.if-taken.true)
+      | then-taken-via-else-taken+then-is_alike w ↦ sym (alike_runs marks (sym w.is_alike.ensures ∙ w.if-is_alike.true)) ∙ ap (λ (b : Bool). runs_unless b marks) (sym w.if-taken.false)
     ]
 
 pub returns-clause-runs : goal.returns-clause-runs
