@@ -1,15 +1,14 @@
 -- The blobs of bands are no longer than type and shape allow, nor than 2 ^ 27 bytes.
-use Rattle.std.proofs.Common.{◌≡◌, ℕ, ◌+◌, ◌*◌, ◌/◌, ◌≤◌, zero, suc, List, [], ◌∷◌, ◌++◌, length, Option, Some, All, refl, sym, ap, ◌∙◌, subst, arith, length-append}
+use Rattle.std.proofs.Common.{◌≡◌, ℕ, ◌+◌, ◌*◌, ◌/◌, ◌≤◌, List, [], ◌∷◌, length, Some, All, ap, arith, length-append}
 use Rattle.std.specs.Prelude.{sum_by}
 use Rattle.std.proofs.Math.Nat.{mul-le-mul_left, mul-le-mul_right}
 use Rattle.std.proofs.lemmas.List.Elements.{All-nil, All-cons, All-head, All-tail}
 use Rattle.std.proofs.lemmas.List.Sums.{sum_by-cons, sum_by-le}
 use Rattle.raster_values.specs.Raster.{Pixels, IsRaster}
-use Rattle.raster_values.specs.Bands.{AreBands, IsLike}
+use Rattle.raster_values.specs.Bands.{IsLike}
 use Rattle.raster_values.specs.PixelType.{bytes_of}
 use Rattle.raster_values.proofs.Spelled.{few_bytes}
-use Rattle.lerc_header.specs.declared.header.Version.{Version}
-use Rattle.lerc_grammar.specs.Mask.{Previous, previous_of}
+use Rattle.lerc_grammar.specs.Mask.{previous_of}
 use Rattle.lerc_encode.specs.Choice.{chosen_after, chosen_bands}
 use Rattle.lerc_encode.specs.Sizes.{BandsAreSmall, TilesAreSmall, greatest_size}
 use Rattle.lerc_encode.proofs.Small.{after_small}

@@ -1,24 +1,18 @@
 -- The chosen blob with some runs of its mask: how long it is, and the raster for which it stands.
-use Rattle.std.proofs.Common.{◌≡◌, ℕ, ◌+◌, ◌*◌, ◌^◌, ◌<◌, ◌≤◌, zero, suc, Bool, true, false, List, [], ◌∷◌, ◌++◌, length, get_or, drop, refl, sym, ap, ◌∙◌, subst, arith, length-append, Option, Some, None, ◌⊎◌, inl, inr}
-use Rattle.std.specs.Prelude.{pos, is_some, unwrap_or, nat_eq, ◌&&◌, ◌||◌, All, if◌then◌else◌}
-use Rattle.std.proofs.lemmas.Bool.{eqb-true, eq-eqb}
-use Rattle.std.proofs.lemmas.Bool.Decides.{nat_tests}
-use Rattle.std.proofs.lemmas.Int.{ints}
+use Rattle.std.proofs.Common.{◌≡◌, ℕ, ◌+◌, ◌*◌, ◌^◌, ◌<◌, ◌≤◌, zero, suc, Bool, true, false, List, [], ◌++◌, length, drop, refl, sym, ap, ◌∙◌, subst, arith, length-append, Option, Some, None, inl, inr}
+use Rattle.std.specs.Prelude.{is_some, unwrap_or, ◌&&◌, if◌then◌else◌}
 use Rattle.std.proofs.lemmas.Nat.{mul-add-lt}
-use Rattle.std.proofs.lemmas.List.{get_or-map, drop-append-le, drop_at}
-use Rattle.byteorder.specs.Numbers.{little_number-reads_back}
+use Rattle.std.proofs.lemmas.List.{get_or-map, drop-append-le}
 use Rattle.std.proofs.lemmas.List.Sums.{count_by-le-length}
 use Rattle.std.proofs.Math.Nat.{mul-le-mul_right, mul-le-mul_left}
-use Rattle.byteorder.specs.Endian.{little_bytes, twos_complement}
-use Rattle.mask_runs.specs.Runs.{Runs}
-use Rattle.mask_runs.proofs.Chosen.{chosen_are_runs}
+use Rattle.byteorder.specs.Endian.{little_bytes}
 use Rattle.raster_values.specs.Raster.{Pixels, IsRaster, value_at, values_of, valid_count}
 use Rattle.raster_values.specs.PixelType.{bytes_of}
 use Rattle.raster_values.specs.Flat.{marks_of, value_in}
 use Rattle.raster_values.proofs.Spelled.{few_bytes}
 use Rattle.lerc_header.specs.declared.header.Version.{Version}
 use Rattle.lerc_header.specs.declared.header.Version.TheVariants.{V3, V4}
-use Rattle.lerc_header.specs.Head.{HeadAt, head_length, i32_at, IsTwiceError}
+use Rattle.lerc_header.specs.Head.{HeadAt, head_length, IsTwiceError}
 use Rattle.lerc_header.specs.Written.{IsHeader, AreEnds, head_bytes, field_bytes}
 use Rattle.lerc_header.specs.Checksum.{sum_of}
 use Rattle.lerc_header.proofs.WrittenHeads.{length-head, drop-head, head_stands, field-checksum}

@@ -1,10 +1,10 @@
 -- The chosen blobs of bands, one band after the other.
-use Rattle.std.proofs.Common.{◌≡◌, ℕ, ◌+◌, ◌-◌, ◌*◌, ◌<◌, Bool, true, false, ◌≤◌, zero, suc, List, [], ◌∷◌, ◌++◌, length, take, Option, None, Some, All, refl, sym, ap, ◌∙◌, subst, arith, length-append}
+use Rattle.std.proofs.Common.{◌≡◌, ℕ, ◌+◌, ◌-◌, ◌<◌, Bool, true, false, ◌≤◌, zero, suc, List, [], ◌∷◌, ◌++◌, length, take, Option, None, Some, All, refl, sym, ap, ◌∙◌, subst, arith, length-append}
 use Rattle.std.specs.Prelude.{slice_get, unwrap_or, IsTrue, ◌↔◌}
 use Rattle.std.proofs.lemmas.List.{append_assoc, append-nil}
 use Rattle.std.proofs.lemmas.List.Elements.{All-nil, All-cons, All-head, All-tail}
 use Rattle.raster_values.specs.Raster.{Pixels, IsRaster}
-use Rattle.raster_values.specs.Bands.{AreBands, AreLike, IsLike}
+use Rattle.raster_values.specs.Bands.{AreBands, IsLike}
 use Rattle.lerc_header.specs.Head.{IsTwiceError}
 use Rattle.lerc_header.specs.declared.header.Version.{Version}
 use Rattle.lerc_header.specs.declared.header.Version.TheVariants.{V3}

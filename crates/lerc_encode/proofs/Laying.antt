@@ -9,7 +9,6 @@ use mir.Val.{to_z, of_z}
 use Rattle.bit_stuff.proofs.Buffers.{end_written}
 use Rattle.raster_values.specs.declared.kind.PixelType.{PixelType}
 use Rattle.raster_values.specs.Raster.{Pixels, values_of, valid_count}
-use Rattle.raster_values.specs.Flat.{marks_of}
 use Rattle.lerc_header.specs.declared.header.Header.{Header}
 use Rattle.lerc_header.specs.declared.header.Version.{Version}
 use Rattle.lerc_header.specs.Head.{head_length}

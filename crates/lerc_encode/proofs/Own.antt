@@ -1,5 +1,5 @@
 -- A raster's own blob: that behind no other.
-use Rattle.std.proofs.Common.{◌≡◌, ℕ, ◌≤◌, List, length, refl, arith, Option, None, Some}
+use Rattle.std.proofs.Common.{◌≡◌, ℕ, ◌≤◌, length, refl, arith, Option, None}
 use Rattle.raster_values.specs.Raster.{Pixels, IsRaster}
 use Rattle.lerc_header.specs.declared.header.Version.{Version}
 use Rattle.lerc_grammar.specs.Mask.{Previous}

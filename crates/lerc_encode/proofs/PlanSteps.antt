@@ -1,7 +1,6 @@
 -- The plans of bands, one more at a time.
-use Rattle.std.proofs.Common.{◌≡◌, ℕ, ◌+◌, ◌-◌, ◌*◌, ◌<◌, ◌≤◌, zero, suc, List, [], ◌∷◌, ◌++◌, length, take, Option, None, Some, ◌⊎◌, inl, inr, refl, sym, ap, ◌∙◌, subst, arith, length-append}
+use Rattle.std.proofs.Common.{◌≡◌, ℕ, ◌+◌, ◌-◌, ◌≤◌, zero, suc, List, [], ◌∷◌, ◌++◌, length, take, Option, None, Some, ◌⊎◌, inl, inr, refl, sym, ap, ◌∙◌, subst, arith, length-append}
 use Rattle.std.specs.Prelude.{slice_get, unwrap_or}
-use Rattle.std.proofs.lemmas.Bool.{cases_lt}
 use Rattle.std.proofs.lemmas.List.{take_all}
 use borrow.Rule.Slice.PartMut.{put_mid}
 use Rattle.bit_stuff.proofs.Buffers.{front_written}
@@ -12,7 +11,7 @@ use Rattle.lerc_encode.specs.declared.blob.Plan.{Plan}
 use Rattle.lerc_encode.specs.Choice.{chosen_after, chosen_bands}
 use Rattle.lerc_encode.specs.Masks.{runs_after}
 use Rattle.lerc_encode.specs.inside.Joined.{ArePlans, IsPlanAt}
-use Rattle.lerc_encode.specs.inside.Layout.{IsPlan, planned_blob, planned_runs}
+use Rattle.lerc_encode.specs.inside.Layout.{planned_blob}
 use Rattle.lerc_encode.proofs.Joining.{chosen_front, chosen_more}
 use Rattle.lerc_encode.proofs.Plans.{planned_is}
 

@@ -1,4 +1,5 @@
-//! Two tiles and the end, each fault of a tile with its place, and a source that fails.
+//! Tiles of one band and of two, and the end; each fault of a tile with its place; and a source
+//! that fails.
 
 use crate::same::same;
 use outside_io::{Bytes, MemSource};
@@ -12,6 +13,10 @@ const TWO: [u8; 44] =
     *b"T\x7f\x7fLGR1\x01\x01\x00\x00\x00\x01\x00\x00\x00\x01\x00\x00\x00\x01\x07T\x7f\x7fLGR1\x01\
     \x01\x00\x00\x00\x01\x00\x00\x00\x01\x00\x00\x00\x01\x07";
 
+// A tile of two bands of one unsigned byte each, 7 and 8, for the last slot.
+const PAIR: [u8; 28] =
+    *b"T\x7f\x7fLGR2\x01\x01\0\0\0\x01\0\0\0\x01\0\0\0\x02\0\0\0\x01\x07\x01\x08";
+
 /// A source of these bytes, five at a time.
 fn source(rt: &impl Abort, alloc: Global, bytes: &[u8], failing: &[u8]) -> MemSource {
     let bytes = Bytes::of(alloc, bytes).expect(rt, "memory");
@@ -19,14 +24,13 @@ fn source(rt: &impl Abort, alloc: Global, bytes: &[u8], failing: &[u8]) -> MemSo
     MemSource::new(bytes, 5, failing)
 }
 
-/// What is found where a tile is read: the slot's number and how many pixels the tile's raster has,
-/// or that there is none.
-type Found = Result<Option<(u16, u32)>, TileStop>;
+/// What is found where a tile is read: the slot's number, how many bands the tile has, and how many
+/// bytes; or that there is none.
+type Found = Result<Option<(u16, usize, u64)>, TileStop>;
 
-/// The slot's number and how many pixels the tile's raster has.
-fn numbers(tile: &Tile) -> (u16, u32) {
-    let pixels = tile.raster.rows().saturating_mul(tile.raster.cols());
-    (tile.slot.number(), pixels)
+/// The slot's number, how many bands the tile has, and how many bytes.
+fn numbers(tile: &Tile) -> (u16, usize, u64) {
+    (tile.slot.number(), tile.bands.len(), tile.size())
 }
 
 /// What is found in a source whose first byte is at the place.
@@ -53,15 +57,15 @@ fn found(rt: &impl Abort, alloc: Global, bytes: &[u8], place: u32) -> Found {
 }
 
 /// Where the two tiles are read from the place on, this is found.
-fn expect_found(rt: &impl Abort, alloc: Global, place: u32, wanted: Option<(u16, u32)>) {
+fn expect_found(rt: &impl Abort, alloc: Global, place: u32, wanted: Option<(u16, usize, u64)>) {
     same(rt, place, found(rt, alloc, &TWO, place), Ok(wanted));
 }
 
 #[test]
 fn two_tiles_and_the_end(rt: HostRuntime) {
     let alloc = rt.alloc();
-    expect_found(&rt, alloc, 0, Some((16383, 1)));
-    expect_found(&rt, alloc, 22, Some((16383, 1)));
+    expect_found(&rt, alloc, 0, Some((16383, 1, 22)));
+    expect_found(&rt, alloc, 22, Some((16383, 1, 22)));
     expect_found(&rt, alloc, 44, None);
 }
 
@@ -106,6 +110,52 @@ fn expect_cut(rt: &impl Abort, alloc: Global, len: usize) {
 fn tiles_that_are_cut(rt: HostRuntime) {
     for len in [1, 2, 3, 21] {
         expect_cut(&rt, rt.alloc(), len);
+    }
+}
+
+#[test]
+fn a_tile_of_two_bands(rt: HostRuntime) {
+    let answer = found(&rt, rt.alloc(), &PAIR, 0);
+    same(&rt, "two bands", answer, Ok(Some((16383, 2, 28))));
+}
+
+/// What is wrong first in the tile of two bands, at that place, where this byte stands there.
+fn expect_band(rt: &impl Abort, alloc: Global, place: usize, byte: u8, reason: GridReason) {
+    let mut bytes = PAIR;
+    if place < 28 {
+        bytes[place] = byte;
+    }
+    let fault = TileFault {
+        reason: TileReason::Grid(reason),
+        place: place as u64,
+    };
+    let stop = found(rt, alloc, &bytes, 0);
+    same(rt, place, stop, Err(TileStop::Fault(fault)));
+}
+
+#[test]
+fn what_is_wrong_first_with_bands(rt: HostRuntime) {
+    let alloc = rt.alloc();
+    expect_band(&rt, alloc, 20, 1, GridReason::BadSize);
+    expect_band(&rt, alloc, 20, 17, GridReason::BadSize);
+    expect_band(&rt, alloc, 24, 2, GridReason::BadMark);
+    expect_band(&rt, alloc, 26, 2, GridReason::BadMark);
+}
+
+/// The tile of two bands, cut to so many bytes, is told at its end.
+fn expect_cut_band(rt: &impl Abort, alloc: Global, len: usize) {
+    let fault = TileFault {
+        reason: TileReason::Grid(GridReason::Truncated),
+        place: len as u64,
+    };
+    let stop = found(rt, alloc, &PAIR[..len.min(28)], 0);
+    same(rt, len, stop, Err(TileStop::Fault(fault)));
+}
+
+#[test]
+fn bands_that_are_cut(rt: HostRuntime) {
+    for len in 3..28 {
+        expect_cut_band(&rt, rt.alloc(), len);
     }
 }
 

@@ -27,6 +27,22 @@ const FIVES_BLOB: [u8; 72] = *b"Lerc2 \x03\0\0\0\xc1\x65\x0a\x31\
 \0\0\0\0\0\0\xe0\x3f\0\0\0\0\0\0\x14\xc0\0\0\0\0\0\0\x14\xc0\
 \x06\0\0\0\x02\0\xef\x80\0\x80";
 
+/// Those pixels and as many of -4, with the same one not valid, as two bands of one tile.
+const BANDS: [u8; 74] = *b"T\x01\x02LGR2\x02\x01\0\0\0\x09\0\0\0\x01\0\0\0\x02\0\0\0\
+\x01\x01\x01\0\x01\x01\x01\x01\x01\
+\xfb\xff\xfb\xff\xfb\xff\xfb\xff\xfb\xff\xfb\xff\xfb\xff\xfb\xff\
+\x01\x01\x01\0\x01\x01\x01\x01\x01\
+\xfc\xff\xfc\xff\xfc\xff\xfc\xff\xfc\xff\xfc\xff\xfc\xff\xfc\xff";
+
+/// The blob of the second of these bands, which takes the mask of the first.
+const FOURS_BLOB: [u8; 66] = *b"Lerc2 \x03\0\0\0\xc0\x5f\x46\x50\
+\x01\0\0\0\x09\0\0\0\x08\0\0\0\x08\0\0\0\x42\0\0\0\x02\0\0\0\
+\0\0\0\0\0\0\xe0\x3f\0\0\0\0\0\0\x10\xc0\0\0\0\0\0\0\x10\xc0\0\0\0\0";
+
+/// Two depths of one unsigned byte, 7 and 8, and two bands of them.
+const DEEP_BANDS: [u8; 30] =
+    *b"T\0\0LGR2\x01\x01\0\0\0\x01\0\0\0\x02\0\0\0\x02\0\0\0\x01\x07\x08\x01\x07\x08";
+
 /// Two depths of one unsigned byte, 7 and 8.
 const DEEP: [u8; 23] = *b"T\0\0LGR1\x01\x01\0\0\0\x01\0\0\0\x02\0\0\0\x01\x07\x08";
 
@@ -86,6 +102,16 @@ fn two_tiles_whatever_the_pieces(rt: HostRuntime) {
 }
 
 #[test]
+fn a_tile_of_two_bands_has_both_blobs(rt: HostRuntime) {
+    let alloc = rt.alloc();
+    let updates = read(&rt, alloc, &BANDS, 7, b"").expect(&rt, "updates");
+    same(&rt, "updates", updates.len(), 1);
+    let mut both = Vec::from_slice(alloc, &FIVES_BLOB).expect(&rt, "memory");
+    both.extend_from_slice(&FOURS_BLOB).expect(&rt, "memory");
+    expect_update(&rt, &updates[0], 130, &both);
+}
+
+#[test]
 fn no_tile_and_no_update(rt: HostRuntime) {
     let updates = read(&rt, rt.alloc(), b"", 1, b"").expect(&rt, "updates");
     same(&rt, "updates", updates.len(), 0);
@@ -124,6 +150,12 @@ fn the_first_refusal_and_its_place(rt: HostRuntime) {
     expect_behind(&rt, alloc, b"T\x7f", fault(cut, 24));
     expect_behind(&rt, alloc, &marked, fault(wrong, 42));
     expect_behind(&rt, alloc, &DEEP, StreamStop::DepthNeedsV4 { place: 38 });
+    expect_behind(
+        &rt,
+        alloc,
+        &DEEP_BANDS,
+        StreamStop::DepthNeedsV4 { place: 38 },
+    );
     expect_stop(&rt, alloc, b"\x55", 1, fault(TileReason::BadTileMark, 0));
     expect_stop(&rt, alloc, b"T\x80", 1, fault(TileReason::BadSlot, 1));
 }

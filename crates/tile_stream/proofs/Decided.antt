@@ -6,9 +6,9 @@ use Rattle.first_fault.specs.Faults.{none, wrong, unless}
 use Rattle.first_fault.specs.Parts.{AreBytes, InFront, HasFault, IsDecided}
 use Rattle.first_fault.proofs.Decided.{Joined, decided_in_order, decided_unless}
 use Rattle.raster_values.specs.Raster.{Pixels}
-use Rattle.raster_values.specs.ReadGrid.{IsGrid, grid_faults}
+use Rattle.raster_values.specs.BandsGrid.{IsBandsGrid, bands_faults}
 use Rattle.raster_values.specs.declared.reading.GridReason.TheVariants.{Truncated}
-use Rattle.raster_values.proofs.GridDecided.{grids_are_decided}
+use Rattle.raster_values.proofs.BandsGridDecided.{bands_grids_are_decided}
 use Rattle.tile_stream.specs.declared.tile.TileReason.{TileReason}
 use Rattle.tile_stream.specs.declared.tile.TileReason.TheVariants.{BadTileMark, BadSlot, Grid}
 use Rattle.tile_stream.specs.Tile.{IsTile, IsTileHead, TilesAreDecided, col_faults, tile_cut, tile_head_faults, of_grid, row_faults, tile_faults}
@@ -50,17 +50,17 @@ head_decided bytes are =
 
 -- ---- the tile
 
--- a grid stands in front
-record Behind (slot : ℕ) (rest : List ℕ) (r : Pixels) : Type 0 where
+-- a grid of bands stands in front
+record Behind (slot : ℕ) (rest : List ℕ) (bands : List Pixels) : Type 0 where
   pub front : List ℕ
   pub behind : List ℕ
   pub joined : rest ≡ front ++ behind
-  pub stands : IsGrid front r
+  pub stands : IsBandsGrid front bands
 
-grid_decided : (slot : ℕ) (rest : List ℕ) → AreBytes rest → ((r : Pixels) × Behind slot rest r) ⊎ HasFault (of_grid (grid_faults rest))
-grid_decided slot rest are = by (grids_are_decided rest are)
+grid_decided : (slot : ℕ) (rest : List ℕ) → AreBytes rest → ((bands : List Pixels) × Behind slot rest bands) ⊎ HasFault (of_grid (bands_faults rest))
+grid_decided slot rest are = by (bands_grids_are_decided rest are)
   where
-    by : InFront IsGrid rest ⊎ HasFault (grid_faults rest) → ((r : Pixels) × Behind slot rest r) ⊎ HasFault (of_grid (grid_faults rest))
+    by : InFront IsBandsGrid rest ⊎ HasFault (bands_faults rest) → ((bands : List Pixels) × Behind slot rest bands) ⊎ HasFault (of_grid (bands_faults rest))
     by (inl f) = inl (f.value, record { front = f.front; behind = f.rest; joined = f.joined; stands = f.stands })
     by (inr w) = inr (record { place = w.place; reason = Grid w.reason; fault = w.fault })
 
@@ -68,13 +68,13 @@ tile_there : (bytes : List ℕ) → Joined IsTileHead Behind bytes → InFront I
 tile_there bytes j = record {
   front = j.first.front ++ j.stands.front;
   rest = j.stands.behind;
-  value = record { slot = j.first.value; raster = j.last };
+  value = record { slot = j.first.value; bands = j.last };
   joined = j.first.joined ∙ ap (λ (u : List ℕ). j.first.front ++ u) j.stands.joined ∙ sym (append_assoc j.first.front j.stands.front j.stands.behind);
   stands = record { head = j.first.front; grid = j.stands.front; joined = refl; head_is = j.first.stands; grid_is = j.stands.stands };
 }
 
 pub tiles_decided : TilesAreDecided
-tiles_decided bytes are = by (decided_in_order IsTileHead tile_head_faults Behind (λ slot behind. of_grid (grid_faults behind)) head_decided grid_decided bytes are)
+tiles_decided bytes are = by (decided_in_order IsTileHead tile_head_faults Behind (λ slot behind. of_grid (bands_faults behind)) head_decided grid_decided bytes are)
   where
     by : Joined IsTileHead Behind bytes ⊎ HasFault (tile_faults bytes) → InFront IsTile bytes ⊎ HasFault (tile_faults bytes)
     by (inl j) = inl (tile_there bytes j)

@@ -1,4 +1,3 @@
 pub mod Decided
-mod Sizes
 pub mod Streams
 pub mod Tiles

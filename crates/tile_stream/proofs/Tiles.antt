@@ -6,13 +6,14 @@ use Rattle.first_fault.specs.Faults.{Faults, none, wrong, unless, moved}
 use Rattle.first_fault.specs.Parts.{IsSingle, IsPart}
 use Rattle.first_fault.proofs.Parts.{single-none, single-unless, single-in_order, passed, behind_it, same_rest}
 use Rattle.raster_values.specs.Raster.{Pixels}
-use Rattle.raster_values.specs.ReadGrid.{IsGrid, IsToldFault, TookBytes, grid_faults}
+use Rattle.raster_values.specs.ReadGrid.{IsToldFault, TookBytes}
+use Rattle.raster_values.specs.BandsGrid.{IsBandsGrid, bands_faults}
 use Rattle.raster_values.specs.declared.reading.GridReason.{GridReason}
 use Rattle.raster_values.specs.declared.reading.GridReason.TheVariants.{Truncated}
 use Rattle.raster_values.specs.declared.reading.GridStop.{GridStop}
 use Rattle.raster_values.specs.declared.reading.GridStop.TheVariants.{Fault as GridFault, Source as GridSource, OutOfMemory as GridMemory}
 use Rattle.outside_io.specs.streams.Source.{IsAtEnd, TakesFront}
-use Rattle.raster_values.proofs.GridLaws.{grids_are_parts}
+use Rattle.raster_values.proofs.BandsGridLaws.{bands_grids_are_parts}
 use Rattle.raster_values.proofs.Taken.{ended, took_join}
 use Rattle.tile_stream.specs.declared.tile.Tile.{Tile}
 use Rattle.tile_stream.specs.declared.tile.TileReason.{TileReason}
@@ -69,27 +70,27 @@ single-of_grid faults one p q BadSlot s x y = absurd x
 single-of_grid faults one p q (Grid r) BadTileMark x y = absurd y
 single-of_grid faults one p q (Grid r) BadSlot x y = absurd y
 
-no_grid_fault : (grid s : List ℕ) (r : Pixels) (p : ℕ) (reason : TileReason) → IsGrid grid r → of_grid (grid_faults (grid ++ s)) p reason → ⊥
-no_grid_fault grid s r p (Grid reason) is w = grids_are_parts.either grid s r p reason is w
-no_grid_fault grid s r p BadTileMark is w = w
-no_grid_fault grid s r p BadSlot is w = w
+no_grid_fault : (grid s : List ℕ) (bands : List Pixels) (p : ℕ) (reason : TileReason) → IsBandsGrid grid bands → of_grid (bands_faults (grid ++ s)) p reason → ⊥
+no_grid_fault grid s bands p (Grid reason) is w = bands_grids_are_parts.either grid s bands p reason is w
+no_grid_fault grid s bands p BadTileMark is w = w
+no_grid_fault grid s bands p BadSlot is w = w
 
 tile_once : (a b s t : List ℕ) (x y : Tile) → IsTile a x → IsTile b y → a ++ s ≡ b ++ t → (a ≡ b) × (x ≡ y)
 tile_once a b s t x y ta tb e =
     let joined : ta.head ++ (ta.grid ++ s) ≡ tb.head ++ (tb.grid ++ t) =
     sym (append_assoc ta.head ta.grid s) ∙ sym (ap (λ (u : List ℕ). u ++ s) ta.joined) ∙ e ∙ ap (λ (u : List ℕ). u ++ t) tb.joined ∙ append_assoc tb.head tb.grid t in
     let heads = head_once ta.head tb.head (ta.grid ++ s) (tb.grid ++ t) x.slot y.slot ta.head_is tb.head_is joined in
-    let grids = grids_are_parts.once ta.grid tb.grid s t x.raster y.raster ta.grid_is tb.grid_is (same_rest ta.head tb.head (ta.grid ++ s) (tb.grid ++ t) heads.0 joined) in
-    (ta.joined ∙ (λ i. heads.0 i ++ grids.0 i) ∙ sym tb.joined, λ i. record { slot = heads.1 i; raster = grids.1 i })
+    let grids = bands_grids_are_parts.once ta.grid tb.grid s t x.bands y.bands ta.grid_is tb.grid_is (same_rest ta.head tb.head (ta.grid ++ s) (tb.grid ++ t) heads.0 joined) in
+    (ta.joined ∙ (λ i. heads.0 i ++ grids.0 i) ∙ sym tb.joined, λ i. record { slot = heads.1 i; bands = grids.1 i })
 
 pub tile_part : TilesAreParts
 tile_part = record {
   once = tile_once;
   either = λ a s x p r is w.
       let split : a ++ s ≡ is.head ++ (is.grid ++ s) = ap (λ (u : List ℕ). u ++ s) is.joined ∙ append_assoc is.head is.grid s in
-      let behind = behind_it IsTileHead tile_head_faults (λ slot rest. of_grid (grid_faults rest)) head_part is.head (is.grid ++ s) x.slot is.head_is p r (subst (λ (u : List ℕ). tile_faults u p r) split w) in
-      no_grid_fault is.grid s x.raster behind.0 r is.grid_is behind.1.1;
-  single = λ bytes. single-in_order IsTileHead tile_head_faults (λ slot rest. of_grid (grid_faults rest)) head_part (λ slot rest. single-of_grid (grid_faults rest) (grids_are_parts.single rest)) bytes;
+      let behind = behind_it IsTileHead tile_head_faults (λ slot rest. of_grid (bands_faults rest)) head_part is.head (is.grid ++ s) x.slot is.head_is p r (subst (λ (u : List ℕ). tile_faults u p r) split w) in
+      no_grid_fault is.grid s x.bands behind.0 r is.grid_is behind.1.1;
+  single = λ bytes. single-in_order IsTileHead tile_head_faults (λ slot rest. of_grid (bands_faults rest)) head_part (λ slot rest. single-of_grid (bands_faults rest) (bands_grids_are_parts.single rest)) bytes;
 }
 
 -- ---- taking
@@ -104,16 +105,16 @@ head_told (Some left) new at p place reason bytes (rest, (joined, then)) some fe
     ((let size : length left ≡ length (bytes ++ rest) = ap length joined in omega (arith, length-append bytes rest)), (p, (is, subst (λ (u : List ℕ). tile_faults u p reason) (sym joined) fault)))
 
 -- what is wrong in the grid, the head having been taken
-pub grid_told : (slot : ℕ) (old mid : Option (List ℕ)) (head : List ℕ) (at next : ℕ) (stop : GridStop) → IsTileHead head slot → TookBytes old mid head → next ≡ at + 3 → IsToldFault grid_faults mid next stop → IsToldStop old at (stop_of stop)
+pub grid_told : (slot : ℕ) (old mid : Option (List ℕ)) (head : List ℕ) (at next : ℕ) (stop : GridStop) → IsTileHead head slot → TookBytes old mid head → next ≡ at + 3 → IsToldFault bands_faults mid next stop → IsToldStop old at (stop_of stop)
 grid_told slot None mid head at next (GridFault f) stands took is w = tt
 grid_told slot None mid head at next GridSource stands took is w = tt
 grid_told slot None mid head at next GridMemory stands took is w = tt
 grid_told slot (Some left) mid head at next GridSource stands took is w = tt
 grid_told slot (Some left) mid head at next GridMemory stands took is w = tt
 grid_told slot (Some left) mid head at next (GridFault f) stands (rest, (joined, then)) is w =
-    behind (subst (λ (o : Option (List ℕ)). IsToldFault grid_faults o next (GridFault f)) then w)
+    behind (subst (λ (o : Option (List ℕ)). IsToldFault bands_faults o next (GridFault f)) then w)
   where
-    behind : moved next (grid_faults rest) f.place f.reason → IsToldStop (Some left) at (stop_of (GridFault f))
+    behind : moved next (bands_faults rest) f.place f.reason → IsToldStop (Some left) at (stop_of (GridFault f))
     behind (p, (there, wrong_)) =
         let size : length left ≡ length (head ++ rest) = ap length joined in
         let fault : tile_faults (head ++ rest) (length head + p) (Grid f.reason) = inr (record { front = head; rest = rest; value = slot; joined = refl; stands = stands; later = (p, (refl, wrong_)) }) in
@@ -128,6 +129,6 @@ none_left (Some left) new n buf zero end took =
     (empty, is ∙ ap Some empty)
 
 -- a head was taken, and a grid behind it
-pub tile_taken : (old mid new : Option (List ℕ)) (head grid : List ℕ) (tile : Tile) → IsTileHead head tile.slot → IsGrid grid tile.raster → TookBytes old mid head → TookBytes mid new grid → TookTile old new (Some tile)
+pub tile_taken : (old mid new : Option (List ℕ)) (head grid : List ℕ) (tile : Tile) → IsTileHead head tile.slot → IsBandsGrid grid tile.bands → TookBytes old mid head → TookBytes mid new grid → TookTile old new (Some tile)
 tile_taken old mid new head grid tile head_is grid_is first second =
     (head ++ grid, (record { head = head; grid = grid; joined = refl; head_is = head_is; grid_is = grid_is }, took_join old mid new head grid first second))

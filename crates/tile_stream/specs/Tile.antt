@@ -4,7 +4,8 @@ use Rattle.std.specs.Prelude.{◌≡◌, ℕ, ◌+◌, ◌*◌, ◌<◌, ◌≤�
 use Rattle.first_fault.specs.Faults.{Faults, none, wrong, unless, moved, in_order}
 use Rattle.first_fault.specs.Parts.{IsPart, IsDecided}
 use Rattle.outside_io.specs.streams.Faults.{FailedBetween}
-use Rattle.raster_values.specs.ReadGrid.{IsGrid, TookBytes, grid_faults}
+use Rattle.raster_values.specs.ReadGrid.{TookBytes}
+use Rattle.raster_values.specs.BandsGrid.{IsBandsGrid, bands_faults}
 use Rattle.raster_values.specs.declared.reading.GridReason.{GridReason}
 use Rattle.raster_values.specs.declared.reading.GridReason.TheVariants.{Truncated}
 use Rattle.tile_stream.specs.declared.tile.Tile.{Tile}
@@ -21,13 +22,13 @@ pub record IsTileHead (bytes : List ℕ) (slot : ℕ) : Type 0 where
   pub col : get_or bytes 2 0 ≤ 127
   pub slot_is : slot ≡ 128 * get_or bytes 1 0 + get_or bytes 2 0
 
--- the bytes are this tile: its head, and behind it its grid
+-- the bytes are this tile: its head, and behind it the grid of its bands
 pub record IsTile (bytes : List ℕ) (tile : Tile) : Type 0 where
   pub head : List ℕ
   pub grid : List ℕ
   pub joined : bytes ≡ head ++ grid
   pub head_is : IsTileHead head tile.slot
-  pub grid_is : IsGrid grid tile.raster
+  pub grid_is : IsBandsGrid grid tile.bands
 
 -- the bytes end before the field does
 abbrev pub tile_cut : List ℕ → Faults TileReason
@@ -60,7 +61,7 @@ of_grid faults place (Grid reason) = faults place reason
 -- What is wrong first in bytes that do not begin with a tile.
 abbrev pub tile_faults : List ℕ → Faults TileReason
 tile_faults bytes =
-    in_order IsTileHead tile_head_faults (λ slot behind. of_grid (grid_faults behind)) bytes
+    in_order IsTileHead tile_head_faults (λ slot behind. of_grid (bands_faults behind)) bytes
 
 -- ---- what a read leaves
 

@@ -1,5 +1,5 @@
 //! Streams of tiles: one tile behind the other up to the input's end, each `T`, its row, its
-//! column and its grid. It stands on `raster_values`, `bundle_index`, `outside_io` and
+//! column and the grid of its bands. It stands on `raster_values`, `bundle_index`, `outside_io` and
 //! `first_fault`.
 //!
 //! The contract that the layer above uses: `next_tile` takes exactly the next tile, or says what

@@ -5,26 +5,23 @@ ghost use Rattle.tile_stream.specs.inside.Stops.{stop_of};
 
 use bundle_index::Slot;
 use outside_io::{Failed, Source, take_all};
-use raster_values::{GridReason, GridStop, Raster, grid_read};
+use raster_values::{Bands, GridReason, GridStop, bands_read, bands_size};
 use std::alloc::Global;
 
-/// A raster and the slot that it goes to.
+/// Bands and the slot that they go to.
 #[derive(Drop)]
 pub struct Tile {
     pub slot: Slot,
-    pub raster: Raster,
+    pub bands: Bands,
 }
 
 impl Tile {
     /// How many bytes the tile has in a stream.
     pub fn size(&self) -> u64
         ensures size { (bytes : List ℕ) → IsTile bytes self.now → result ≡ length bytes }
-        ensures few { result ≤ 83886100 }
+        ensures few { result ≤ 83886104 }
     {
-        let raster = &self.raster;
-        let places = raster.rows() as u64 * raster.cols() as u64;
-        let values = raster.valid_count() as u64 * raster.depth() as u64;
-        20 + places + values * raster.kind().bytes() as u64
+        3 + bands_size(&self.bands)
     }
 }
 
@@ -53,7 +50,7 @@ pub enum TileStop {
     Fault(TileFault),
     /// The source failed.
     Source,
-    /// There is no memory for the raster.
+    /// There is no memory for the bands.
     OutOfMemory,
 }
 
@@ -133,8 +130,8 @@ pub fn next_tile<S: Source>(alloc: Global, src: &mut S, at: u64) -> Result<Optio
             place: at + fault.place,
         })),
     };
-    match grid_read(alloc, src, at + 3) {
-        Ok(raster) => Ok(Some(Tile { slot, raster })),
+    match bands_read(alloc, src, at + 3) {
+        Ok(bands) => Ok(Some(Tile { slot, bands })),
         Err(stop) => Err(grid_stop(stop)),
     }
 }

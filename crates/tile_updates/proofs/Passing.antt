@@ -5,10 +5,9 @@ use Rattle.std.proofs.lemmas.List.{map-append}
 use Rattle.std.proofs.lemmas.List.Sums.{sum_by-append}
 use Rattle.std.proofs.lemmas.List.Elements.{All-nil, All-head, All-tail, All-push}
 use Rattle.lerc_header.specs.declared.header.Version.{Version}
-use Rattle.lerc_encode.specs.Choice.{chosen_blob}
 use Rattle.bundle_store.specs.declared.tile_rec.TileRec.{TileRec}
 use Rattle.tile_stream.specs.declared.tile.Tile.{Tile}
-use Rattle.tile_updates.specs.Updates.{AllPass, Passes, kept_bytes, update_of, updates_of}
+use Rattle.tile_updates.specs.Updates.{AllPass, Passes, kept_bytes, update_of, updates_of, tile_bytes}
 
 all_behind : {X : Type 0} (P : X → Type 0) (xs ys : List X) → All P (xs ++ ys) → All P ys
 all_behind P [] ys h = h
@@ -23,9 +22,9 @@ kept_both us ws =
 pub kept_join : (v : Version) (step : ℕ) (xs ys : List Tile) → kept_bytes (updates_of v step (xs ++ ys)) ≡ kept_bytes (updates_of v step xs) + kept_bytes (updates_of v step ys)
 kept_join v step xs ys = ap kept_bytes (map-append (update_of v step) xs ys) ∙ kept_both (updates_of v step xs) (updates_of v step ys)
 
-pub kept_push : (v : Version) (step : ℕ) (xs : List Tile) (t : Tile) → kept_bytes (updates_of v step (xs ++ t ∷ [])) ≡ kept_bytes (updates_of v step xs) + length (chosen_blob t.raster v step)
+pub kept_push : (v : Version) (step : ℕ) (xs : List Tile) (t : Tile) → kept_bytes (updates_of v step (xs ++ t ∷ [])) ≡ kept_bytes (updates_of v step xs) + length (tile_bytes v step t)
 kept_push v step xs t =
-    let one : kept_bytes (updates_of v step (t ∷ [])) ≡ length (chosen_blob t.raster v step) = omega arith in
+    let one : kept_bytes (updates_of v step (t ∷ [])) ≡ length (tile_bytes v step t) = omega arith in
     kept_join v step xs (t ∷ []) ∙ ap (λ n. kept_bytes (updates_of v step xs) + n) one
 
 pub updates_push : (v : Version) (step : ℕ) (xs : List Tile) (t : Tile) → updates_of v step (xs ++ t ∷ []) ≡ updates_of v step xs ++ update_of v step t ∷ []

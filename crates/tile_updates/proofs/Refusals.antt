@@ -5,7 +5,7 @@ use Rattle.std.proofs.lemmas.List.{append-nil}
 use Rattle.first_fault.specs.Faults.{moved}
 use Rattle.first_fault.proofs.Parts.{single-moved}
 use Rattle.lerc_header.specs.declared.header.Version.{Version}
-use Rattle.lerc_encode.specs.Encoded.{NeedsV4}
+use Rattle.lerc_encode.specs.Encoded.{BandsNeedV4}
 use Rattle.tile_stream.specs.declared.tile.Tile.{Tile}
 use Rattle.tile_stream.specs.declared.tile.TileReason.{TileReason}
 use Rattle.tile_stream.specs.Stream.{IsStream}
@@ -33,7 +33,7 @@ other_tile rest One Two h g =
 pub not_refused : (v : Version) (step : ℕ) (before : List Tile) (place : ℕ) (rest : List ℕ) (stop : StreamStop) → HasTile rest (MayFollow v step before) → IsRefused v step before place rest stop → ⊥
 not_refused v step before place rest TooManyTiles h w = let few = h.such.few in omega (arith, few, w)
 not_refused v step before place rest (Fault f) h (few, w) = no_fault rest (MayFollow v step before) place f.place f.reason h w
-not_refused v step before place rest (DepthNeedsV4 at) h (few, (g, is)) = h.such.passes.taken (other_tile rest (MayFollow v step before) (λ t. NeedsV4 v t.raster) h g)
+not_refused v step before place rest (DepthNeedsV4 at) h (few, (g, is)) = h.such.passes.taken (other_tile rest (MayFollow v step before) (λ t. BandsNeedV4 v t.bands) h g)
 not_refused v step before place rest (TileTooLarge at len) h (few, (g, is)) =
     let long = other_tile rest (MayFollow v step before) (IsTooLong v step len) h g in
     let small = h.such.passes.small in
@@ -64,21 +64,21 @@ one_refusal v step before place rest (Fault f) TooManyTiles (few, a) b = absurd 
 one_refusal v step before place rest (Fault f) (Fault g) (few, a) (less, b) =
     let same = single-moved place (tile_faults rest) (tile_part.single rest) f.place g.place f.reason g.reason a b in
     λ i. Fault (record { reason = same.1 i; place = same.0 i })
-one_refusal v step before place rest (Fault f) (DepthNeedsV4 q) (few, a) (less, (g, b)) = absurd (no_fault rest (λ t. NeedsV4 v t.raster) place f.place f.reason g a)
+one_refusal v step before place rest (Fault f) (DepthNeedsV4 q) (few, a) (less, (g, b)) = absurd (no_fault rest (λ t. BandsNeedV4 v t.bands) place f.place f.reason g a)
 one_refusal v step before place rest (Fault f) (TileTooLarge q m) (few, a) (less, (g, b)) = absurd (no_fault rest (IsTooLong v step m) place f.place f.reason g a)
 one_refusal v step before place rest (Fault f) (KeptTooMuch q) (few, a) (less, (g, b)) = absurd (no_fault rest (IsTooMuch v step before) place f.place f.reason g a)
 one_refusal v step before place rest (Fault f) Source a b = absurd b
 one_refusal v step before place rest (Fault f) OutOfMemory a b = absurd b
 one_refusal v step before place rest (DepthNeedsV4 p) TooManyTiles (few, a) b = absurd (let no : ⊥ = omega (arith, few, b) in no)
-one_refusal v step before place rest (DepthNeedsV4 p) (Fault g) (few, (h, a)) (less, b) = absurd (no_fault rest (λ t. NeedsV4 v t.raster) place g.place g.reason h b)
+one_refusal v step before place rest (DepthNeedsV4 p) (Fault g) (few, (h, a)) (less, b) = absurd (no_fault rest (λ t. BandsNeedV4 v t.bands) place g.place g.reason h b)
 one_refusal v step before place rest (DepthNeedsV4 p) (DepthNeedsV4 q) (few, (h, a)) (less, (g, b)) = ap DepthNeedsV4 (a ∙ sym b)
-one_refusal v step before place rest (DepthNeedsV4 p) (TileTooLarge q m) (few, (h, a)) (less, (g, b)) = absurd ((other_tile rest (λ t. NeedsV4 v t.raster) (IsTooLong v step m) h g).taken h.such)
-one_refusal v step before place rest (DepthNeedsV4 p) (KeptTooMuch q) (few, (h, a)) (less, (g, b)) = absurd ((other_tile rest (λ t. NeedsV4 v t.raster) (IsTooMuch v step before) h g).passes.taken h.such)
+one_refusal v step before place rest (DepthNeedsV4 p) (TileTooLarge q m) (few, (h, a)) (less, (g, b)) = absurd ((other_tile rest (λ t. BandsNeedV4 v t.bands) (IsTooLong v step m) h g).taken h.such)
+one_refusal v step before place rest (DepthNeedsV4 p) (KeptTooMuch q) (few, (h, a)) (less, (g, b)) = absurd ((other_tile rest (λ t. BandsNeedV4 v t.bands) (IsTooMuch v step before) h g).passes.taken h.such)
 one_refusal v step before place rest (DepthNeedsV4 p) Source a b = absurd b
 one_refusal v step before place rest (DepthNeedsV4 p) OutOfMemory a b = absurd b
 one_refusal v step before place rest (TileTooLarge p n) TooManyTiles (few, a) b = absurd (let no : ⊥ = omega (arith, few, b) in no)
 one_refusal v step before place rest (TileTooLarge p n) (Fault g) (few, (h, a)) (less, b) = absurd (no_fault rest (IsTooLong v step n) place g.place g.reason h b)
-one_refusal v step before place rest (TileTooLarge p n) (DepthNeedsV4 q) (few, (h, a)) (less, (g, b)) = absurd (h.such.taken (other_tile rest (IsTooLong v step n) (λ t. NeedsV4 v t.raster) h g))
+one_refusal v step before place rest (TileTooLarge p n) (DepthNeedsV4 q) (few, (h, a)) (less, (g, b)) = absurd (h.such.taken (other_tile rest (IsTooLong v step n) (λ t. BandsNeedV4 v t.bands) h g))
 one_refusal v step before place rest (TileTooLarge p n) (TileTooLarge q m) (few, (h, a)) (less, (g, b)) =
     let other = other_tile rest (IsTooLong v step n) (IsTooLong v step m) h g in
     let ats : p ≡ q = a ∙ sym b in
@@ -89,7 +89,7 @@ one_refusal v step before place rest (TileTooLarge p n) Source a b = absurd b
 one_refusal v step before place rest (TileTooLarge p n) OutOfMemory a b = absurd b
 one_refusal v step before place rest (KeptTooMuch p) TooManyTiles (few, a) b = absurd (let no : ⊥ = omega (arith, few, b) in no)
 one_refusal v step before place rest (KeptTooMuch p) (Fault g) (few, (h, a)) (less, b) = absurd (no_fault rest (IsTooMuch v step before) place g.place g.reason h b)
-one_refusal v step before place rest (KeptTooMuch p) (DepthNeedsV4 q) (few, (h, a)) (less, (g, b)) = absurd (h.such.passes.taken (other_tile rest (IsTooMuch v step before) (λ t. NeedsV4 v t.raster) h g))
+one_refusal v step before place rest (KeptTooMuch p) (DepthNeedsV4 q) (few, (h, a)) (less, (g, b)) = absurd (h.such.passes.taken (other_tile rest (IsTooMuch v step before) (λ t. BandsNeedV4 v t.bands) h g))
 one_refusal v step before place rest (KeptTooMuch p) (TileTooLarge q m) (few, (h, a)) (less, (g, b)) = absurd (short_and_long v step m before h.tile (other_tile rest (IsTooMuch v step before) (IsTooLong v step m) h g) h.such)
 one_refusal v step before place rest (KeptTooMuch p) (KeptTooMuch q) (few, (h, a)) (less, (g, b)) = ap KeptTooMuch (a ∙ sym b)
 one_refusal v step before place rest (KeptTooMuch p) Source a b = absurd b

@@ -10,8 +10,8 @@ use Rattle.outside_io.specs.streams.Source.{IsAtEnd}
 use Rattle.raster_values.specs.ReadGrid.{TookBytes, TookSome}
 use Rattle.raster_values.proofs.Taken.{ended, took_join, took_more, took_none}
 use Rattle.lerc_header.specs.declared.header.Version.{Version}
-use Rattle.lerc_encode.specs.Choice.{chosen_blob}
-use Rattle.lerc_encode.specs.Encoded.{IsEncodedOnce, NeedsV4}
+use Rattle.lerc_grammar.proofs.BandsOne.{bands_some}
+use Rattle.lerc_encode.specs.Encoded.{AreEncodedOnce, BandsNeedV4}
 use Rattle.bundle_store.specs.declared.tile_rec.TileRec.{TileRec}
 use Rattle.bundle_store.specs.Build.{EachFits}
 use Rattle.tile_stream.specs.declared.tile.Tile.{Tile}
@@ -24,7 +24,7 @@ use Rattle.tile_updates.specs.declared.stop.StreamStop.{StreamStop}
 use Rattle.tile_updates.specs.declared.stop.StreamStop.TheVariants.{TooManyTiles, Fault, DepthNeedsV4, TileTooLarge, KeptTooMuch, Source, OutOfMemory}
 use Rattle.tile_updates.specs.declared.updates.SoFar.{SoFar}
 use Rattle.tile_updates.specs.Stops.{HasTile, IsRefused, IsStreamStop, IsTooLong, IsTooMuch, TellsStop}
-use Rattle.tile_updates.specs.Updates.{AreEncoded, IsUpdates, OfBytes, Passes, update_of, updates_of}
+use Rattle.tile_updates.specs.Updates.{AreEncoded, IsUpdates, OfBytes, Passes, update_of, updates_of, tile_bytes}
 use Rattle.tile_updates.specs.inside.SoFar.{AddsTile, AddsOne, AsksOne, IsMade, IsRoomy, IsSoFar, RefusesNext, TakesTile}
 use Rattle.tile_updates.proofs.Passing.{MayFollow, kept_push, none_pass, pass_push, updates_push}
 
@@ -78,7 +78,7 @@ so_far_more v step old mid new before after s a few = record {
   stream = stream_push s.front a.bytes s.tiles a.tile s.stream a.takes.tile;
   took = took_join old mid new s.front a.bytes s.took a.takes.took;
   pass = pass_push v step s.tiles a.tile s.pass (follows v step old mid new before after s a few);
-  encoded = All-push (λ t. IsEncodedOnce (chosen_blob t.raster v step) t.raster step) s.tiles a.tile s.encoded a.made.encoded;
+  encoded = All-push (λ t. AreEncodedOnce (tile_bytes v step t) t.bands step) s.tiles a.tile s.encoded a.made.encoded;
   updates_are = a.updates ∙ ap (λ (us : List TileRec). us ++ update_of v step a.tile ∷ []) s.updates_are ∙ sym (updates_push v step s.tiles a.tile);
   place_is = omega (arith, a.place, s.place_is, length-append s.front a.bytes);
   place_below = omega (arith, a.place, a.size, s.place_below, length-append s.tiles (a.tile ∷ []));
@@ -112,7 +112,7 @@ none_more v step old mid new done false s is (end, same) = record {
 
 -- a tile was taken and encoded, and its update added
 pub adds_tile : (v : Version) (step : ℕ) (old new : Option (List ℕ)) (before after : SoFar) (t : Tile) (update : TileRec) (size : ℕ) → TookTile old new (Some t) → ((bytes : List ℕ) → IsTile bytes t → size ≡ length bytes)
-    → size ≤ 83886100 → IsMade v step before.kept t update → after.updates.items ≡ before.updates.items ++ update ∷ [] → after.place ≡ before.place + size → after.kept ≡ before.kept + length update.bytes → AddsTile v step old new before after
+    → size ≤ 83886104 → IsMade v step before.kept t update → after.updates.items ≡ before.updates.items ++ update ∷ [] → after.place ≡ before.place + size → after.kept ≡ before.kept + length update.bytes → AddsTile v step old new before after
 adds_tile v step old new before after t update size (bytes, (tile, took)) sizes low made updates place kept = record {
   tile = t;
   bytes = bytes;
@@ -139,17 +139,10 @@ all_read v step (Some all) now done s end = whole s.took
 pub all_encoded : (v : Version) (step : ℕ) (old now : Option (List ℕ)) (done : SoFar) → IsSoFar v step old now done → AreEncoded v step done.updates.items
 all_encoded v step old now done s = record { tiles = s.tiles; updates_are = s.updates_are; encoded = s.encoded }
 
-blob_some : (bytes : List ℕ) (t : Tile) (step : ℕ) → IsEncodedOnce bytes t.raster step → 0 < length bytes
-blob_some bytes t step e =
-    let join = e.blob.1.1.1 in
-    let parts = e.blob.1.1.0 in
-    let all : length bytes ≡ length (parts.head ++ (parts.mask ++ parts.image)) = ap length join.joined in
-    omega (arith, all, join.head_ends, length-append parts.head (parts.mask ++ parts.image))
+fits : (v : Version) (step : ℕ) (t : Tile) → AreEncodedOnce (tile_bytes v step t) t.bands step → Passes v step t → (0 < length (tile_bytes v step t)) × (length (tile_bytes v step t) < 16777216)
+fits v step t e p = let small = p.small in (bands_some (tile_bytes v step t) e.rasters e.blobs, (let low : length (tile_bytes v step t) < 16777216 = omega (arith, small) in low))
 
-fits : (v : Version) (step : ℕ) (t : Tile) → IsEncodedOnce (chosen_blob t.raster v step) t.raster step → Passes v step t → (0 < length (chosen_blob t.raster v step)) × (length (chosen_blob t.raster v step) < 16777216)
-fits v step t e p = let small = p.small in (blob_some (chosen_blob t.raster v step) t step e, (let low : length (chosen_blob t.raster v step) < 16777216 = omega (arith, small) in low))
-
-all_fit_of : (v : Version) (step : ℕ) (tiles : List Tile) → All (λ t. IsEncodedOnce (chosen_blob t.raster v step) t.raster step) tiles → All (Passes v step) tiles → EachFits (updates_of v step tiles)
+all_fit_of : (v : Version) (step : ℕ) (tiles : List Tile) → All (λ t. AreEncodedOnce (tile_bytes v step t) t.bands step) tiles → All (Passes v step) tiles → EachFits (updates_of v step tiles)
 all_fit_of v step tiles encoded pass i below =
     All-get_or (λ (u : TileRec). (0 < length u.bytes) × (length u.bytes < 16777216)) (updates_of v step tiles) i (record { slot = 0; bytes = [] }) below
     (All-map (λ (u : TileRec). (0 < length u.bytes) × (length u.bytes < 16777216)) (update_of v step) tiles (λ k d less. fits v step (get_or tiles k d) (encoded k d less) (pass k d less)))
@@ -250,7 +243,7 @@ refused_next v step old now new done (DepthNeedsV4 at) s few w =
     let count = counted v step old now done s in
     let less : length s.tiles < 1048576 = omega (arith, count, few) in
     let place : at ≡ length s.front + 16 = w.refused.1 ∙ ap (λ (n : ℕ). n + 16) s.place_is in
-    taken_refused v step old now new done s (DepthNeedsV4 at) w.tile w.bytes w.takes (λ behind. (less, (has w.bytes behind w.tile (λ t. NeedsV4 v t.raster) w.takes.tile w.refused.0, place)))
+    taken_refused v step old now new done s (DepthNeedsV4 at) w.tile w.bytes w.takes (λ behind. (less, (has w.bytes behind w.tile (λ t. BandsNeedV4 v t.bands) w.takes.tile w.refused.0, place)))
 refused_next v step old now new done (TileTooLarge at len) s few w =
     let count = counted v step old now done s in
     let less : length s.tiles < 1048576 = omega (arith, count, few) in

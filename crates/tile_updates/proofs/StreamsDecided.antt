@@ -5,8 +5,7 @@ use Rattle.std.proofs.lemmas.List.{append-nil, get_or-append-add}
 use Rattle.first_fault.specs.Parts.{AreBytes, InFront, HasFault}
 use Rattle.lerc_header.specs.declared.header.Version.{Version}
 use Rattle.lerc_header.specs.declared.header.Version.TheVariants.{V3, V4}
-use Rattle.lerc_encode.specs.Choice.{chosen_blob}
-use Rattle.lerc_encode.specs.Encoded.{NeedsV4}
+use Rattle.lerc_encode.specs.Encoded.{NeedsV4, BandsNeedV4}
 use Rattle.bundle_store.specs.declared.tile_rec.TileRec.{TileRec}
 use Rattle.raster_values.specs.Raster.{Pixels}
 use Rattle.tile_stream.specs.declared.tile.Tile.{Tile}
@@ -18,7 +17,7 @@ use Rattle.tile_updates.specs.declared.stop.StreamStop.{StreamStop}
 use Rattle.tile_updates.specs.declared.stop.StreamStop.TheVariants.{TooManyTiles, Fault, DepthNeedsV4, TileTooLarge, KeptTooMuch}
 use Rattle.tile_updates.specs.Laws.{StreamsAreDecided}
 use Rattle.tile_updates.specs.Stops.{HasTile, IsRefused, IsStreamStop, IsTooLong, IsTooMuch}
-use Rattle.tile_updates.specs.Updates.{AllPass, IsUpdates, Passes, kept_bytes, updates_of}
+use Rattle.tile_updates.specs.Updates.{AllPass, IsUpdates, Passes, kept_bytes, updates_of, tile_bytes}
 use Rattle.tile_updates.proofs.Passing.{MayFollow, none_pass, pass_push}
 
 -- ---- the next tile
@@ -31,12 +30,16 @@ needs_v4 V3 r = by (cases_lt 1 r.depth)
     by (inl deep) = inl (refl, deep)
     by (inr flat) = inr (λ h. let deep = h.1 in let no : ⊥ = omega (arith, flat, deep) in no)
 
+bands_need_v4 : (v : Version) (bands : List Pixels) → BandsNeedV4 v bands ⊎ (¬ BandsNeedV4 v bands)
+bands_need_v4 v [] = inr (λ h. h)
+bands_need_v4 v (r ∷ more) = needs_v4 v r
+
 -- a tile that follows others is refused, or it passes
 abbrev Refusal : Version → ℕ → List Tile → ℕ → List ℕ → Type 0
 Refusal v step before place rest = (stop : StreamStop) × IsRefused v step before place rest stop
 
 next_tile : (v : Version) (step : ℕ) (before : List Tile) (place : ℕ) (rest : List ℕ) (f : InFront IsTile rest) → length before < 1048576 → Refusal v step before place rest ⊎ MayFollow v step before f.value
-next_tile v step before place rest f few = deep (needs_v4 v f.value.raster)
+next_tile v step before place rest f few = deep (bands_need_v4 v f.value.bands)
   where
     is : (Such : Tile → Type 0) → Such f.value → HasTile rest Such
     is Such such = record { tile = f.value; front = f.front; behind = f.rest; joined = f.joined; stands = f.stands; such = such }
@@ -46,13 +49,13 @@ next_tile v step before place rest f few = deep (needs_v4 v f.value.raster)
     much p (inl more) = inl (KeptTooMuch (length before), (few, (is (IsTooMuch v step before) (record { passes = p; much = more }), refl)))
     much p (inr less) = inr (record { few = few; passes = p; kept = less })
 
-    long : (¬ NeedsV4 v f.value.raster) → (16777215 < length (chosen_blob f.value.raster v step)) ⊎ (length (chosen_blob f.value.raster v step) ≤ 16777215) → Refusal v step before place rest ⊎ MayFollow v step before f.value
-    long taken (inl more) = inl (TileTooLarge (length before) (length (chosen_blob f.value.raster v step)), (few, (is (IsTooLong v step (length (chosen_blob f.value.raster v step))) (record { taken = taken; len_is = refl; long = more }), refl)))
+    long : (¬ BandsNeedV4 v f.value.bands) → (16777215 < length (tile_bytes v step f.value)) ⊎ (length (tile_bytes v step f.value) ≤ 16777215) → Refusal v step before place rest ⊎ MayFollow v step before f.value
+    long taken (inl more) = inl (TileTooLarge (length before) (length (tile_bytes v step f.value)), (few, (is (IsTooLong v step (length (tile_bytes v step f.value))) (record { taken = taken; len_is = refl; long = more }), refl)))
     long taken (inr less) = much (record { taken = taken; small = less }) (cases_lt (2 ^ 30) (kept_bytes (updates_of v step (before ++ f.value ∷ []))))
 
-    deep : NeedsV4 v f.value.raster ⊎ (¬ NeedsV4 v f.value.raster) → Refusal v step before place rest ⊎ MayFollow v step before f.value
-    deep (inl needs) = inl (DepthNeedsV4 (place + 16), (few, (is (λ t. NeedsV4 v t.raster) needs, refl)))
-    deep (inr not) = long not (cases_lt 16777215 (length (chosen_blob f.value.raster v step)))
+    deep : BandsNeedV4 v f.value.bands ⊎ (¬ BandsNeedV4 v f.value.bands) → Refusal v step before place rest ⊎ MayFollow v step before f.value
+    deep (inl needs) = inl (DepthNeedsV4 (place + 16), (few, (is (λ t. BandsNeedV4 v t.bands) needs, refl)))
+    deep (inr not) = long not (cases_lt 16777215 (length (tile_bytes v step f.value)))
 
 -- ---- the tiles
 

@@ -11,12 +11,13 @@ pub enum StreamStop {
     /// A tile has more than one depth, which version 3 has no place for. The place of the input is
     /// that of the number of depths in the tile's grid.
     DepthNeedsV4 { place: u64 },
-    /// The blob of tile number `at` has so many bytes, more than 16,777,215.
+    /// The blobs of the bands of tile number `at` have so many bytes together, more than
+    /// 16,777,215.
     TileTooLarge { at: u64, len: u64 },
-    /// The blobs up to that of tile number `at` have more than 2^30 bytes together.
+    /// The blobs up to those of tile number `at` have more than 2^30 bytes together.
     KeptTooMuch { at: u64 },
     /// The source failed.
     Source,
-    /// There is no memory for a raster, a blob or the list of updates.
+    /// There is no memory for bands, a blob or the list of updates.
     OutOfMemory,
 }

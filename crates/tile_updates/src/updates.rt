@@ -11,7 +11,7 @@ ghost use Rattle.tile_updates.specs.inside.SoFar.{AddsOne, AsksOne, IsMade, IsRo
 
 use crate::StreamStop;
 use bundle_store::TileRec;
-use lerc_encode::{EncodeFault, encode};
+use lerc_encode::{EncodeFault, encode_bands};
 use lerc_header::{Step, Version};
 use outside_io::{Failed, Source, take_all};
 use std::alloc::{AllocError, Global};
@@ -20,7 +20,7 @@ use tile_stream::{Tile, TileStop, next_tile};
 /// How many tiles an input may have.
 const MOST_TILES: usize = 1048576;
 
-/// How many bytes a blob may have in a bundle, and how many all of them may have together.
+/// How many bytes a tile may have in a bundle, and how many all of them may have together.
 const MOST_BYTES: usize = 16777215;
 
 const MOST_KEPT: u64 = 1073741824;
@@ -48,7 +48,7 @@ fn update_of(
     ensures refused { IfErr result (λ stop. RefusesTile version step done.now tile.now stop) }
 {
     let at = done.updates.len() as u64;
-    let bytes = match encode(alloc, &tile.raster, version, step) {
+    let bytes = match encode_bands(alloc, &tile.bands, version, step) {
         Ok(bytes) => bytes,
         Err(EncodeFault::DepthNeedsV4) => return Err(StreamStop::DepthNeedsV4 {
             place: done.place + 16,
@@ -73,7 +73,7 @@ fn update_of(
 /// Adds an update whose tile has so many bytes.
 fn add(done: &mut SoFar, update: TileRec, size: u64) -> Result<(), AllocError>
     requires room { IsRoomy done.old }
-    requires size { size ≤ 83886100 }
+    requires size { size ≤ 83886104 }
     requires small { length update.bytes ≤ 16777215 }
     ensures updates { OnOk result (done.new.updates.items ≡ done.old.updates.items ++ update ∷ []) }
     ensures place { OnOk result (done.new.place ≡ done.old.place + size) }
@@ -135,10 +135,10 @@ fn has_more<S: Source>(src: &mut S) -> Result<bool, Failed>
 }
 
 /// Reads tiles up to the end of the source, and gives the updates that they ask for: for each tile
-/// its slot and its blob, in this version and with this step. Where a tile is refused, nothing
+/// its slot and the blobs of its bands, in this version and with this step. Where a tile is refused, nothing
 /// behind it is looked at.
 ///
-/// One raster is kept at a time, and all the blobs, which have at most 2^30 bytes together. Want of
+/// The bands of one tile are kept at a time, and all the blobs, which have at most 2^30 bytes together. Want of
 /// memory for them is answered where it comes. After an error some bytes of the source are taken.
 pub fn read_updates<S: Source>(
     alloc: Global,

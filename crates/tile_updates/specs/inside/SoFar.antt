@@ -4,8 +4,7 @@ use Rattle.outside_io.specs.declared.streams.failed.Failed.{Failed}
 use Rattle.outside_io.specs.streams.Source.{IsAtEnd}
 use Rattle.raster_values.specs.ReadGrid.{TookBytes, TookSome}
 use Rattle.lerc_header.specs.declared.header.Version.{Version}
-use Rattle.lerc_encode.specs.Choice.{chosen_blob}
-use Rattle.lerc_encode.specs.Encoded.{IsEncodedOnce, NeedsV4}
+use Rattle.lerc_encode.specs.Encoded.{AreEncodedOnce, BandsNeedV4}
 use Rattle.bundle_store.specs.declared.tile_rec.TileRec.{TileRec}
 use Rattle.tile_stream.specs.declared.tile.Tile.{Tile}
 use Rattle.tile_stream.specs.declared.tile.TileStop.TheVariants.{Fault as TileFaultOf}
@@ -15,31 +14,31 @@ use Rattle.tile_updates.specs.declared.stop.StreamStop.{StreamStop}
 use Rattle.tile_updates.specs.declared.stop.StreamStop.TheVariants.{TooManyTiles, Fault, DepthNeedsV4, TileTooLarge, KeptTooMuch, Source, OutOfMemory}
 use Rattle.tile_updates.specs.declared.updates.SoFar.{SoFar}
 use Rattle.tile_updates.specs.Stops.{IsTooLong}
-use Rattle.tile_updates.specs.Updates.{AllPass, Passes, kept_bytes, update_of, updates_of}
+use Rattle.tile_updates.specs.Updates.{AllPass, Passes, kept_bytes, update_of, updates_of, tile_bytes}
 
 -- one tile more can be added
 pub record IsRoomy (done : SoFar) : Type 0 where
   pub few : length done.updates.items < 1048576
-  pub place : done.place ≤ 83886100 * length done.updates.items
+  pub place : done.place ≤ 83886104 * length done.updates.items
   pub kept : done.kept ≤ 2 ^ 30
 
 -- the update of a tile that passes behind blobs of so many bytes
 pub record IsMade (v : Version) (step kept : ℕ) (t : Tile) (update : TileRec) : Type 0 where
   pub update_is : update ≡ update_of v step t
   pub passes : Passes v step t
-  pub within : kept + length (chosen_blob t.raster v step) ≤ 2 ^ 30
-  pub encoded : IsEncodedOnce (chosen_blob t.raster v step) t.raster step
+  pub within : kept + length (tile_bytes v step t) ≤ 2 ^ 30
+  pub encoded : AreEncodedOnce (tile_bytes v step t) t.bands step
 
--- the tile passes, and with its blob there are too many bytes
+-- the tile passes, and with its blobs there are too many bytes
 pub record IsAbove (v : Version) (step kept : ℕ) (t : Tile) : Type 0 where
   pub passes : Passes v step t
-  pub above : 2 ^ 30 < kept + length (chosen_blob t.raster v step)
+  pub above : 2 ^ 30 < kept + length (tile_bytes v step t)
 
 -- a whole tile is refused so
 abbrev pub RefusesTile : Version → ℕ → SoFar → Tile → StreamStop → Type 0
 RefusesTile v step done t TooManyTiles = ⊥
 RefusesTile v step done t (Fault f) = ⊥
-RefusesTile v step done t (DepthNeedsV4 at) = NeedsV4 v t.raster × (at ≡ done.place + 16)
+RefusesTile v step done t (DepthNeedsV4 at) = BandsNeedV4 v t.bands × (at ≡ done.place + 16)
 RefusesTile v step done t (TileTooLarge at len) =
     IsTooLong v step len t × (at ≡ length done.updates.items)
 RefusesTile v step done t (KeptTooMuch at) =
@@ -58,11 +57,11 @@ pub record AddsTile (v : Version) (step : ℕ) (old new : Option (List ℕ))
   pub tile : Tile
   pub bytes : List ℕ
   pub takes : TakesTile old new tile bytes
-  pub size : length bytes ≤ 83886100
+  pub size : length bytes ≤ 83886104
   pub made : IsMade v step before.kept tile (update_of v step tile)
   pub updates : after.updates.items ≡ before.updates.items ++ update_of v step tile ∷ []
   pub place : after.place ≡ before.place + length bytes
-  pub kept : after.kept ≡ before.kept + length (chosen_blob tile.raster v step)
+  pub kept : after.kept ≡ before.kept + length (tile_bytes v step tile)
 
 abbrev pub AddsOne : Version → ℕ → Option (List ℕ) → Option (List ℕ) → SoFar → SoFar → Bool →
     Type 0
@@ -107,8 +106,8 @@ pub record IsSoFar (v : Version) (step : ℕ) (old now : Option (List ℕ)) (don
   pub stream : IsStream front tiles
   pub took : TookBytes old now front
   pub pass : AllPass v step tiles
-  pub encoded : All (λ t. IsEncodedOnce (chosen_blob t.raster v step) t.raster step) tiles
+  pub encoded : All (λ t. AreEncodedOnce (tile_bytes v step t) t.bands step) tiles
   pub updates_are : done.updates.items ≡ updates_of v step tiles
   pub place_is : done.place ≡ length front
-  pub place_below : done.place ≤ 83886100 * length tiles
+  pub place_below : done.place ≤ 83886104 * length tiles
   pub kept_is : done.kept ≡ kept_bytes (updates_of v step tiles)

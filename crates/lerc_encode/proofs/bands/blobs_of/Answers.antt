@@ -1,5 +1,5 @@
-use Rattle.std.proofs.Common.{◌≡◌, ℕ, List, [], ◌∷◌, None, ap, ◌<◌, ◌≤◌, ◌+◌, ◌-◌, ◌∙◌, Some, length, drop, take, sym, subst, arith, length-drop}
-use Rattle.std.specs.Prelude.{slice_get, IfOk}
+use Rattle.std.proofs.Common.{◌≡◌, ℕ, List, [], ◌∷◌, None, ap, ◌<◌, ◌-◌, ◌∙◌, length, drop, sym, subst, arith, length-drop}
+use Rattle.std.specs.Prelude.{IfOk}
 use Rattle.std.proofs.lemmas.List.{length-take-le}
 use Rattle.std.proofs.lemmas.Option.{slice_get_read}
 use Rattle.raster_values.specs.Raster.{Pixels}

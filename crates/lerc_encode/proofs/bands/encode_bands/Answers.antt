@@ -1,4 +1,4 @@
-use Rattle.std.proofs.Common.{◌≡◌, ◌≤◌, ◌∙◌, ℕ, List, None, length, sym, subst, ap}
+use Rattle.std.proofs.Common.{◌≤◌, ◌∙◌, ℕ, List, None, length, sym, subst, ap}
 use Rattle.lerc_encode.specs.Choice.{chosen_bands}
 use Rattle.lerc_encode.specs.Encoded.{AreEncodedOnce, DeclareEach}
 use Rattle.lerc_encode.proofs.Joining.{asked_all, bands_once, declare_each, needs_not}

@@ -1,6 +1,5 @@
-use Rattle.std.proofs.Common.{◌≡◌, ◌+◌, ◌∙◌, ◌++◌, ◌∷◌, [], ap, Bool, None, take, sym, subst, List}
+use Rattle.std.proofs.Common.{◌+◌, ◌∙◌, ap, Bool, sym, subst, List}
 use Rattle.raster_values.specs.Flat.{marks_of}
-use Rattle.lerc_grammar.specs.Bands.{last_after}
 use Rattle.lerc_encode.specs.Masks.{runs_unless}
 use Rattle.lerc_encode.specs.declared.blob.Plan.{Plan}
 use Rattle.lerc_encode.specs.inside.Joined.{ArePlans, IsPlanAt}

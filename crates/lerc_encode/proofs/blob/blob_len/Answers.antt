@@ -1,4 +1,4 @@
-use Rattle.std.proofs.Common.{◌≡◌, ◌+◌, ◌∙◌, sym}
+use Rattle.std.proofs.Common.{◌+◌, ◌∙◌, sym}
 use Rattle.lerc_encode.specs.inside.Layout.{planned_runs}
 use Rattle.lerc_encode.proofs.Encoded.{length_choice}
 use Rattle.lerc_encode.proofs.blob.blob_len.Goals as goal

@@ -1,4 +1,3 @@
-use Rattle.std.proofs.Common.{refl}
 use Rattle.lerc_encode.proofs.TakenMasks.{taken_is, taken_told}
 use Rattle.lerc_encode.proofs.Own.{own_is}
 use Rattle.lerc_encode.proofs.laws.masks_are_taken.Goals as goal

@@ -1,7 +1,7 @@
-use Rattle.std.proofs.Common.{◌≡◌, ◌∙◌, List, ℕ, Bool, sym, ap, true, false, arith}
+use Rattle.std.proofs.Common.{◌∙◌, Bool, sym, ap, arith}
 use Rattle.std.proofs.lemmas.List.{take_at}
 use Rattle.raster_values.specs.Flat.{marks_of}
-use Rattle.lerc_encode.specs.Masks.{packed, runs_unless}
+use Rattle.lerc_encode.specs.Masks.{runs_unless}
 use Rattle.lerc_encode.specs.inside.Layout.{written_runs}
 use Rattle.lerc_encode.proofs.Packing.{alike_runs, mask_packed, packed_runs}
 use Rattle.lerc_encode.proofs.masks.mask_of.Goals.{then-taken-via-then-taken, then-taken-via-else-taken+then-is_alike}

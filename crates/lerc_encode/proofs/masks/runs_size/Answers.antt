@@ -1,5 +1,4 @@
-use Rattle.std.proofs.Common.{◌≡◌, ◌∙◌, ap, length, arith}
-use Rattle.mask_runs.specs.Chosen.{chosen_runs}
+use Rattle.std.proofs.Common.{arith}
 use Rattle.lerc_encode.proofs.Packing.{runs_small}
 use Rattle.lerc_encode.proofs.masks.runs_size.Goals as goal
 
