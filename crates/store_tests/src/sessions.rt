@@ -7,6 +7,7 @@ mod groups;
 mod order;
 mod putting;
 mod refusals;
+mod stops;
 
 use crate::same::same;
 use crate::stores::{LARGE, SMALL, first_slot, pair, tile};

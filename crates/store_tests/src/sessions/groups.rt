@@ -13,7 +13,7 @@ use std::alloc::Global;
 use std::process::Abort;
 
 /// What a put of tiles at once answers, once the volume is recovered.
-fn put_group<V: Volume>(
+pub(super) fn put_group<V: Volume>(
     rt: &impl Abort,
     alloc: Global,
     vol: &mut V,
@@ -51,7 +51,7 @@ fn lens<V: Volume>(rt: &impl Abort, alloc: Global, vol: &mut V) -> [usize; 3] {
 }
 
 /// A tile for each of these slots.
-fn three(rt: &impl Abort, alloc: Global) -> Vec<TileRec> {
+pub(super) fn three(rt: &impl Abort, alloc: Global) -> Vec<TileRec> {
     let first = tile(rt, alloc, first_slot(rt), &LARGE);
     let second = tile(rt, alloc, second_slot(rt), &SMALL);
     let mut tiles = pair(rt, alloc, first, second);

@@ -1,4 +1,6 @@
-use super::{expect_build, expect_entry, expect_length, expect_put, fault_of_get, length};
+use super::{
+    expect_build, expect_entry, expect_length, expect_put, expect_tile, fault_of_get, length,
+};
 use crate::same::same;
 use crate::stores::{SMALL, empty_volume, first_slot, pair, tile, volume};
 use bundle_index::{BundleHeader, Entry};
@@ -161,5 +163,8 @@ fn a_bundle_is_full_past_two_to_the_forty(rt: HostRuntime) {
     let mut vol = bundle_of(&rt, alloc, 1099511627706, [0; 8]);
     expect_put(&rt, alloc, &mut vol, slot, &SMALL, Ok(()));
     expect_entry(&rt, alloc, &mut vol, slot, 1099511627710, 66);
+    expect_tile(&rt, alloc, &mut vol, slot, &SMALL);
+    let fault = StoreFault::Full { len: 1099511627776 };
+    expect_put(&rt, alloc, &mut vol, slot, &[7], Err(fault));
     expect_length(&rt, alloc, &mut vol, 1099511627776);
 }
