@@ -20,8 +20,6 @@ mod put_tests;
 #[cfg(test)]
 mod same;
 #[cfg(test)]
-mod stop_tests;
-#[cfg(test)]
 mod tests;
 #[cfg(test)]
 mod volumes;
