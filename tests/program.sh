@@ -14,11 +14,13 @@ failed=0
 
 . "$here/tests/lib.sh"
 . "$here/tests/codec.sh"
+. "$here/tests/bands.sh"
 . "$here/tests/bundles.sh"
 . "$here/tests/puts.sh"
 . "$here/tests/builds.sh"
 . "$here/tests/edges.sh"
 . "$here/tests/gdal.sh"
+. "$here/tests/liblerc.sh"
 
 echo "$passed passed, $failed failed"
 [ "$failed" -eq 0 ]

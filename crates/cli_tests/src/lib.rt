@@ -4,6 +4,8 @@
 #![tactic(auto)]
 
 #[cfg(test)]
+mod bands_tests;
+#[cfg(test)]
 mod build_tests;
 #[cfg(test)]
 mod bundle_tests;

@@ -2,6 +2,8 @@
 pub mod Answered
 pub mod BuildOnce
 pub mod Built
+pub mod EachLine
+pub mod EachOutlined
 pub mod Encoding
 pub mod Exact
 pub mod Got

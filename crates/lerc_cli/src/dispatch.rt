@@ -8,21 +8,20 @@ ghost use Rattle.outside_io.specs.streams.Source.{IsAtEnd};
 ghost use Rattle.outside_io.specs.volume.History.{current};
 ghost use Rattle.lerc_header.specs.declared.header.Version.{Version};
 ghost use Rattle.lerc_header.specs.Written.{step_of};
-ghost use Rattle.bundle_store.specs.Tiles.{TileMap};
 ghost use Rattle.bundle_store.specs.declared.tile_rec.TileRec.{TileRec};
 ghost use Rattle.tile_updates.specs.Updates.{IsUpdates};
 ghost use Rattle.program_ends.specs.Moves.{sink_move, source_move, volume_move};
 ghost use Rattle.program_ends.specs.declared.stop.Stop.{Stop};
 ghost use Rattle.opened_bundle.specs.Files.{files_of};
-ghost use Rattle.opened_bundle.specs.Left.{IsReady, IsShut};
+ghost use Rattle.opened_bundle.specs.Left.{IsShut};
 ghost use Rattle.lerc_cli.specs.answers.Names.{End, line_of, status_at, status_of};
 ghost use Rattle.lerc_cli.specs.answers.Table.{IsAllTold, IsOutput};
-ghost use Rattle.lerc_cli.specs.crashes.Kept.{KeepsTiles, UpdatesAt};
+ghost use Rattle.lerc_cli.specs.crashes.Kept.{KeepsUpdates};
 ghost use Rattle.lerc_cli.specs.declared.refusal.Refusal.{Refusal};
 ghost use Rattle.lerc_cli.specs.declared.words.Command.{Command};
 ghost use Rattle.lerc_cli.specs.inputs.Given.{given};
-ghost use Rattle.lerc_cli.specs.inputs.Refused.{IsBlob};
-ghost use Rattle.lerc_cli.specs.run.InWords.{Builds, GivesBlob, GivesGrid, GivesGridPrefix, GivesLines, IsGridFor, TellsFault, ToldHead};
+ghost use Rattle.lerc_cli.specs.inputs.Refused.{IsBandsBlob};
+ghost use Rattle.lerc_cli.specs.run.InWords.{Builds, GivesBlobs, GivesGrid, GivesGridPrefix, GivesLines, IsGridFor, TellsFault, ToldHead};
 ghost use Rattle.lerc_cli.specs.run.Run.{OfSource, OfOutput, OfVolume, OfRun};
 ghost use Rattle.lerc_cli.specs.words.Commands.{IsSpelled, IsNoCommand, calls_volume};
 
@@ -57,9 +56,9 @@ fn perform<S: Source, K: Sink, V: Volume>(
         (given (S.left src.old) (files_of (V.told vol.old) (V.history vol.old)))
         result marks.new.marks
         (volume_move V.told V.history V.faults vol.old vol.new) }
-    ensures blob { (version : Version) (error : ℕ) → command ≡ Command.Encode version error
+    ensures blobs { (version : Version) (error : ℕ) → command ≡ Command.Encode version error
         → OnOk result
-        (GivesBlob version error (S.left src.old)
+        (GivesBlobs version error (S.left src.old)
         (record { old = K.held out.old; new = K.held out.new })) }
 {
     match command {
@@ -104,9 +103,9 @@ fn act<S: Source, K: Sink, V: Volume>(
         → OfVolume c (given (S.left src.old) (files_of (V.told vol.old) (V.history vol.old)))
         result marks.new.marks
         (volume_move V.told V.history V.faults vol.old vol.new) }
-    ensures blob { (version : Version) (error : ℕ)
+    ensures blobs { (version : Version) (error : ℕ)
         → IsSpelled (Command.Encode version error) words.now → OnOk result
-        (GivesBlob version error (S.left src.old)
+        (GivesBlobs version error (S.left src.old)
         (record { old = K.held out.old; new = K.held out.new })) }
 {
     match command_of(words) {
@@ -118,12 +117,13 @@ fn act<S: Source, K: Sink, V: Volume>(
 /// Does all that the program does: finds the command of the words, does it, and answers the status
 /// that the program ends with.
 ///
-/// `encode` reads one grid, and gives the blob that is chosen for its raster; it refuses a raster
-/// of more than one depth in version 3. `decode` and `info` read one whole blob; then `decode`
-/// gives its grid, and `info` the fourteen lines of what it says of itself. `build` and `put` read
-/// tiles; `build` makes a bundle of each slot's last one in the place of an empty bundle, and `put`
-/// puts the blob of each into its slot. `get`, `list` and `check` tell of the bundle, and `recover`
-/// of what a crash had left; these, `build` and `put` first make that whole.
+/// `encode` reads one grid of one to 16 bands, and gives the blobs that are chosen for them, one for
+/// each; it refuses more than one depth in version 3. `decode` and `info` read the whole blobs of
+/// bands; then `decode` gives their grid, and `info` the lines of what each says of itself, fourteen
+/// for each. `build` and `put` read tiles; `build` makes a bundle of each slot's last one in the
+/// place of an empty bundle, and `put` puts the blobs of each into its slot. `get`, `list` and
+/// `check` tell of the bundle, and `recover` of what a crash had left; these, `build` and `put`
+/// first make that whole.
 ///
 /// | status | it comes |
 /// |---|---|
@@ -179,12 +179,11 @@ pub fn run<S: Source, K: Sink, E: Sink, V: Volume>(
     // that stood as the run began; for `put`, with the first few of its updates done, those that
     // have a mark by then, or also the next group of up to 64, whole; for `build`, with all done, or
     // with none as long as none has a mark.
-    ensures kept { (c : Command) → IsSpelled c words.now → (start : TileMap)
-        → IsReady (V.told vol.old) (V.history vol.old) start
-        → (updates : List TileRec) × ((end : End) × ((result.status ≡ status_at end)
-        × UpdatesAt c
-        (given (S.left src.old) (files_of (V.told vol.old) (V.history vol.old))) end updates
-        × KeepsTiles c updates result.marks.marks start (V.history vol.old) (V.history vol.new))) }
+    ensures kept { (c : Command) → IsSpelled c words.now
+        → (end : End) × ((result.status ≡ status_at end)
+        × KeepsUpdates c
+        (given (S.left src.old) (files_of (V.told vol.old) (V.history vol.old)))
+        end result.marks.marks (V.told vol.old) (V.history vol.old) (V.history vol.new)) }
 
     // A command on a bundle that ends well, or whose output alone fails, leaves nothing pending: a
     // crash then leaves what is read, and the journal is not open.
@@ -203,7 +202,7 @@ pub fn run<S: Source, K: Sink, E: Sink, V: Volume>(
     // What follows for `encode`.
     ensures encoded { (version : Version) (error : ℕ)
         → IsSpelled (Command.Encode version error) words.now → result.status ≡ 0
-        → GivesBlob version error (S.left src.old) (record { old = K.held out.old; new = K.held out.new })
+        → GivesBlobs version error (S.left src.old) (record { old = K.held out.old; new = K.held out.new })
         × IsAtEnd (S.left src.new) }
     ensures encoded_exactly { (version : Version) (error : ℕ)
         → IsSpelled (Command.Encode version error) words.now
@@ -225,7 +224,7 @@ pub fn run<S: Source, K: Sink, E: Sink, V: Volume>(
     // What follows for `decode`.
     ensures exact { IsSpelled Command.Decode words.now
         → (input : List ℕ) → S.left src.old ≡ Some input
-        → (result.status ≡ 0) ⊎ (result.status ≡ 2) → (result.status ≡ 0) ↔ IsBlob input }
+        → (result.status ≡ 0) ⊎ (result.status ≡ 2) → (result.status ≡ 0) ↔ IsBandsBlob input }
     ensures decoded { IsSpelled Command.Decode words.now → result.status ≡ 0
         → GivesGrid (S.left src.old) (record { old = K.held out.old; new = K.held out.new })
         × IsAtEnd (S.left src.new) }
@@ -241,7 +240,7 @@ pub fn run<S: Source, K: Sink, E: Sink, V: Volume>(
     // What follows for `info`.
     ensures informed_exactly { IsSpelled Command.Info words.now
         → (input : List ℕ) → S.left src.old ≡ Some input
-        → (result.status ≡ 0) ⊎ (result.status ≡ 2) → (result.status ≡ 0) ↔ IsBlob input }
+        → (result.status ≡ 0) ⊎ (result.status ≡ 2) → (result.status ≡ 0) ↔ IsBandsBlob input }
     ensures informed { IsSpelled Command.Info words.now → result.status ≡ 0
         → GivesLines (S.left src.old) (record { old = K.held out.old; new = K.held out.new })
         × IsAtEnd (S.left src.new) }

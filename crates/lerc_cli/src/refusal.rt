@@ -13,13 +13,15 @@ use raster_values::GridReason;
 /// Why an input is refused.
 #[derive(Clone, Copy)]
 pub enum Reason {
-    /// It is not one whole blob.
+    /// It is not the whole blobs of one to 16 bands.
     Blob(BlobReason),
+    /// A blob behind the first has other rows, columns or depths than the first, or another type.
+    BadBand,
     /// It does not begin with a grid.
     Grid(GridReason),
     /// A byte stands behind the grid.
     Leftover,
-    /// The grid's raster has more than one depth, which version 3 has no place for.
+    /// The grid has more than one depth, which version 3 has no place for.
     DepthNeedsV4,
     /// A tile of the input does not begin with its mark.
     BadTileMark,

@@ -18,24 +18,24 @@ pub const USAGE: &[u8] =
 /// What the program is asked to do.
 #[derive(Clone, Copy)]
 pub enum Command {
-    /// Reads one grid, and gives the blob of its raster in this version. Its values may be this far
-    /// from the given ones, and are the given ones where the error is 0.
+    /// Reads one grid, and gives the blobs of its bands in this version. Their values may be this
+    /// far from the given ones, and are the given ones where the error is 0.
     Encode {
         version: Version,
         error: u32,
     },
-    /// Reads one blob, and gives its grid.
+    /// Reads the blobs of bands, and gives their grid.
     Decode,
-    /// Reads one blob, and gives the lines of what it says of itself.
+    /// Reads the blobs of bands, and gives the lines of what each says of itself.
     Info,
-    /// Reads tiles, and builds a bundle of the blob of each slot's last one in the place of an
+    /// Reads tiles, and builds a bundle of the blobs of each slot's last one in the place of an
     /// empty bundle. The number of workers changes nothing of what is given and built.
     Build {
         version: Version,
         error: u32,
         workers: u32,
     },
-    /// Reads tiles, and puts the blob of each into its slot. The number of workers changes nothing
+    /// Reads tiles, and puts the blobs of each into its slot. The number of workers changes nothing
     /// of what is given and put.
     Put {
         version: Version,

@@ -5,25 +5,24 @@ use Rattle.outside_io.specs.streams.Sink.{Holds, HoldsPrefix}
 use Rattle.program_ends.specs.Moves.{Change, SinkMove}
 use Rattle.lerc_cli.specs.declared.words.Command.{Command}
 use Rattle.lerc_cli.specs.declared.words.Command.TheVariants.{Decode}
-use Rattle.lerc_cli.specs.declared.refusal.Reason.TheVariants.{Blob as BlobReasonOf}
 use Rattle.program_ends.specs.declared.stop.Stop.TheVariants.{Usage, Refused, Source, Output, Volume, OutOfMemory}
 use Rattle.lerc_cli.specs.declared.refusal.Refusal.TheVariants.{Input, Store, Stream}
 use Rattle.lerc_cli.specs.answers.Names.{End, status_at, GivesLineOf}
 use Rattle.lerc_cli.specs.answers.Table.{Answers, IsOutput, IsAllTold}
 use Rattle.opened_bundle.specs.Files.{Files}
 use Rattle.lerc_cli.specs.inputs.Given.{Given, given}
-use Rattle.lerc_cli.specs.inputs.Refused.{IsBlob}
+use Rattle.lerc_cli.specs.inputs.Refused.{IsBandsBlob, band_reason_of}
 use Rattle.lerc_cli.specs.run.Run.{OfOutput}
 use Rattle.program_ends.specs.Stop.{Gained}
 use Rattle.lerc_cli.specs.run.InWords.{GivesGrid, GivesGridPrefix, TellsFault, ToldHead}
 use Rattle.lerc_cli.proofs.AnswerLemmas.Statuses.{ok_at, refused_at, output_at, memory_at}
 use Rattle.lerc_cli.proofs.AnswerLemmas.Once.{answers_once}
-use Rattle.lerc_cli.proofs.InputLemmas.Whole.{blob_or_fault}
+use Rattle.lerc_cli.proofs.InputLemmas.Whole.{bands_or_fault}
 
 decides : (input : List ℕ) (files : Option Files) (n status : ℕ) (end : End) (output : List ℕ) → status ≡ status_at end → (status ≡ 0) ⊎ (status ≡ 2)
-    → Answers Decode (given (Some input) files) n end output → (status ≡ 0) ↔ IsBlob input
+    → Answers Decode (given (Some input) files) n end output → (status ≡ 0) ↔ IsBandsBlob input
 decides input files n status (Ok x) output is which e = (λ zero. (e.0, e.1.1), λ b. is)
-decides input files n status (Err (Refused (Input f))) output is which e = (λ zero. absurd (omega arith), λ b. absurd (blob_or_fault input b.0 f.place e.0.0 b.1 e.0.1.1))
+decides input files n status (Err (Refused (Input f))) output is which e = (λ zero. absurd (omega arith), λ b. absurd (bands_or_fault input b.0 f.place e.0.0 b.1 e.0.1.1))
 decides input files n status (Err Usage) output is which e = absurd e
 decides input files n status (Err Source) output is which e = absurd (elim which [ inl z ↦ omega arith | inr z ↦ omega arith ])
 decides input files n status (Err Output) output is which e = absurd (elim which [ inl z ↦ omega arith | inr z ↦ omega arith ])
@@ -33,7 +32,7 @@ decides input files n status (Err (Refused (Store r))) output is which e = absur
 decides input files n status (Err (Refused (Stream r))) output is which e = absurd (elim which [ inl z ↦ omega arith | inr z ↦ omega arith ])
 
 pub exact : (left : Option (List ℕ)) (input : List ℕ) (files : Option Files) (n status : ℕ) (end : End) (sink : SinkMove)
-    → left ≡ Some input → status ≡ status_at end → (status ≡ 0) ⊎ (status ≡ 2) → OfOutput Decode (given left files) n end sink → (status ≡ 0) ↔ IsBlob input
+    → left ≡ Some input → status ≡ status_at end → (status ≡ 0) ⊎ (status ≡ 2) → OfOutput Decode (given left files) n end sink → (status ≡ 0) ↔ IsBandsBlob input
 exact left input files n status end sink told is which out =
     decides input files n status end out.gave.0 is which (subst (λ (x : Option (List ℕ)). Answers Decode (given x files) n end out.gave.0) told out.gave.1.0)
 
@@ -60,11 +59,11 @@ pub refused : (left : Option (List ℕ)) (files : Option Files) (n status : ℕ)
 refused left files n status end sink err is two out line =
     let r = refused_at end (sym is ∙ two) in
     let here = at_end (given left files) n end (Err (Refused (Input r.0))) sink r.1 out in
-    let no_blob = here.gave.1.0.0 in
-    let fault : r.0 ≡ record { reason = BlobReasonOf no_blob.0; place = r.0.place } = λ i. record { reason = no_blob.1.0 i; place = r.0.place } in
-    let there : GivesLineOf (Err (Refused (Input (record { reason = BlobReasonOf no_blob.0; place = r.0.place })))) err =
+    let none = here.gave.1.0.0 in
+    let fault : r.0 ≡ record { reason = band_reason_of none.0; place = r.0.place } = λ i. record { reason = none.1.0 i; place = r.0.place } in
+    let there : GivesLineOf (Err (Refused (Input (record { reason = band_reason_of none.0; place = r.0.place })))) err =
     subst (λ (x : End). GivesLineOf x err) (r.1 ∙ ap (λ x. Err (Refused (Input x))) fault) line in
-    (r.0.place, (no_blob.0, (no_blob.1.1, there)))
+    (r.0.place, (none.0, (none.1.1, there)))
 
 pub wanted : (left : Option (List ℕ)) (files : Option Files) (n status : ℕ) (end : End) (sink : SinkMove)
     → status ≡ status_at end → status ≡ 6 → OfOutput Decode (given left files) n end sink → ToldHead left

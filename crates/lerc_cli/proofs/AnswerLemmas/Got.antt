@@ -3,16 +3,16 @@ use Rattle.std.proofs.Common.{◌≡◌, ℕ, ◌≤◌, List, [], Option, Ok, E
 use Rattle.outside_io.specs.streams.Faults.{FailedBetween}
 use Rattle.outside_io.specs.streams.Sink.{Holds, HoldsPrefix}
 use Rattle.raster_values.specs.Raster.{Pixels}
-use Rattle.raster_values.specs.Grid.{grid_of}
+use Rattle.raster_values.specs.Grid.{bands_grid_of}
 use Rattle.bundle_store.specs.Session.{GetGives}
-use Rattle.lerc_grammar.specs.Verdict.{WholeFault}
+use Rattle.lerc_grammar.specs.Bands.{BandsFaultAt}
 use Rattle.program_ends.specs.Moves.{SinkMove, sink_move}
 use Rattle.lerc_cli.specs.declared.words.Command.TheVariants.{Get, GetRaw}
 use Rattle.program_ends.specs.declared.stop.Stop.{Stop}
 use Rattle.lerc_cli.specs.declared.refusal.Refusal.{Refusal}
 use Rattle.program_ends.specs.declared.stop.Stop.TheVariants.{Usage, Refused, Source, Output, Volume, OutOfMemory}
 use Rattle.lerc_cli.specs.declared.refusal.Refusal.TheVariants.{Input, Store, Stream}
-use Rattle.lerc_cli.specs.answers.Table.{Answers, HoldsBlob, IsOutput}
+use Rattle.lerc_cli.specs.answers.Table.{Answers, HoldsBands, IsOutput}
 use Rattle.opened_bundle.specs.Files.{Files}
 use Rattle.lerc_cli.specs.run.Run.{OfOutput}
 use Rattle.lerc_cli.specs.inputs.Given.{given}
@@ -55,7 +55,7 @@ pub grid_stopped : (K : Type 0) (held : K → Option (List ℕ)) (faults : K →
     → out_new ≡ out → ReadsTile files slot (Err stop) → OfOutput (Get slot) (given input files) 0 (Err (of_store stop)) (sink_move held faults out out_new)
 grid_stopped K held faults out out_new input files slot stop same reads = stopped (Get slot) (given input files) K held faults out out_new (of_store stop) (grid_ends input files slot stop reads) same (not_output files slot stop reads)
 
--- the tile was read, and is no blob
+-- the tile was read, and is not the blobs of bands
 tile_ends : (input : Option (List ℕ)) (files : Option Files) (slot : ℕ) (tile : List ℕ) (stop : Stop Refusal) → ReadsTile files slot (Ok tile) → DecodesTile tile (Err stop) → Answers (Get slot) (given input files) 0 (Err stop) []
 tile_ends input files slot tile Usage reads decodes = absurd decodes
 tile_ends input files slot tile (Refused (Input f)) reads decodes = (
@@ -63,7 +63,7 @@ tile_ends input files slot tile (Refused (Input f)) reads decodes = (
     decodes.0,
     (
       decodes.1.0,
-      bundle_map files (λ b. GetGives b slot tile) (λ b. (t : List ℕ) × (GetGives b slot t × WholeFault t f.place decodes.0)) (λ b gives. (tile, (gives, decodes.1.1))) reads,
+      bundle_map files (λ b. GetGives b slot tile) (λ b. (t : List ℕ) × (GetGives b slot t × BandsFaultAt t f.place decodes.0)) (λ b gives. (tile, (gives, decodes.1.1))) reads,
     ),
   ),
   refl,
@@ -76,23 +76,23 @@ tile_ends input files slot tile OutOfMemory reads decodes =
 tile_ends input files slot tile (Refused (Store refusal)) reads decodes = absurd decodes
 tile_ends input files slot tile (Refused (Stream refusal)) reads decodes = absurd decodes
 
-no_blob_output : (tile : List ℕ) (stop : Stop Refusal) → DecodesTile tile (Err stop) → stop ≡ Output → ⊥
-no_blob_output tile stop decodes is = let none : DecodesTile tile (Err Output) = subst (λ (s : Stop Refusal). DecodesTile tile (Err s)) is decodes in none
+no_bands_output : (tile : List ℕ) (stop : Stop Refusal) → DecodesTile tile (Err stop) → stop ≡ Output → ⊥
+no_bands_output tile stop decodes is = let none : DecodesTile tile (Err Output) = subst (λ (s : Stop Refusal). DecodesTile tile (Err s)) is decodes in none
 
 pub tile_stopped : (K : Type 0) (held : K → Option (List ℕ)) (faults : K → ℕ) (out out_new : K) (input : Option (List ℕ)) (files : Option Files) (slot : ℕ) (tile : List ℕ) (stop : Stop Refusal)
     → out_new ≡ out → ReadsTile files slot (Ok tile) → DecodesTile tile (Err stop) → OfOutput (Get slot) (given input files) 0 (Err stop) (sink_move held faults out out_new)
-tile_stopped K held faults out out_new input files slot tile stop same reads decodes = stopped (Get slot) (given input files) K held faults out out_new stop (tile_ends input files slot tile stop reads decodes) same (no_blob_output tile stop decodes)
+tile_stopped K held faults out out_new input files slot tile stop same reads decodes = stopped (Get slot) (given input files) K held faults out out_new stop (tile_ends input files slot tile stop reads decodes) same (no_bands_output tile stop decodes)
 
-holds_blob : (files : Option Files) (slot : ℕ) (tile : List ℕ) (r : Pixels) (input : Option (List ℕ)) → ReadsTile files slot (Ok tile) → DecodesTile tile (Ok r) → IsOutput (Get slot) (given input files) 0 (grid_of r)
-holds_blob files slot tile r input reads decodes =
-    (r, (decodes.0, bundle_map files (λ b. GetGives b slot tile) (λ b. HoldsBlob b slot r) (λ b gives. (tile, (gives, decodes))) reads, refl))
+holds_bands : (files : Option Files) (slot : ℕ) (tile : List ℕ) (bands : List Pixels) (input : Option (List ℕ)) → ReadsTile files slot (Ok tile) → DecodesTile tile (Ok bands) → IsOutput (Get slot) (given input files) 0 (bands_grid_of bands)
+holds_bands files slot tile bands input reads decodes =
+    (bands, (decodes.0, bundle_map files (λ b. GetGives b slot tile) (λ b. HoldsBands b slot bands) (λ b gives. (tile, (gives, decodes))) reads, refl))
 
-pub grid_gave : (input : Option (List ℕ)) (files : Option Files) (slot : ℕ) (tile : List ℕ) (r : Pixels) (sink : SinkMove)
-    → ReadsTile files slot (Ok tile) → DecodesTile tile (Ok r) → Holds sink.held.old sink.held.new (grid_of r) → sink.faults.new ≡ sink.faults.old → OfOutput (Get slot) (given input files) 0 (Ok tt) sink
-grid_gave input files slot tile r sink reads decodes holds count =
-    gave (Get slot) (given input files) (grid_of r) sink (holds_blob files slot tile r input reads decodes) holds count
+pub grid_gave : (input : Option (List ℕ)) (files : Option Files) (slot : ℕ) (tile : List ℕ) (bands : List Pixels) (sink : SinkMove)
+    → ReadsTile files slot (Ok tile) → DecodesTile tile (Ok bands) → Holds sink.held.old sink.held.new (bands_grid_of bands) → sink.faults.new ≡ sink.faults.old → OfOutput (Get slot) (given input files) 0 (Ok tt) sink
+grid_gave input files slot tile bands sink reads decodes holds count =
+    gave (Get slot) (given input files) (bands_grid_of bands) sink (holds_bands files slot tile bands input reads decodes) holds count
 
-pub grid_cut : (input : Option (List ℕ)) (files : Option Files) (slot : ℕ) (tile : List ℕ) (r : Pixels) (sink : SinkMove)
-    → ReadsTile files slot (Ok tile) → DecodesTile tile (Ok r) → HoldsPrefix sink.held.old sink.held.new (grid_of r) → sink.faults.old ≤ sink.faults.new → FailedBetween sink.faults.old sink.faults.new → OfOutput (Get slot) (given input files) 0 (Err Output) sink
-grid_cut input files slot tile r sink reads decodes holds counts failed =
-    cut (Get slot) (given input files) (grid_of r) sink (holds_blob files slot tile r input reads decodes) holds counts failed
+pub grid_cut : (input : Option (List ℕ)) (files : Option Files) (slot : ℕ) (tile : List ℕ) (bands : List Pixels) (sink : SinkMove)
+    → ReadsTile files slot (Ok tile) → DecodesTile tile (Ok bands) → HoldsPrefix sink.held.old sink.held.new (bands_grid_of bands) → sink.faults.old ≤ sink.faults.new → FailedBetween sink.faults.old sink.faults.new → OfOutput (Get slot) (given input files) 0 (Err Output) sink
+grid_cut input files slot tile bands sink reads decodes holds counts failed =
+    cut (Get slot) (given input files) (bands_grid_of bands) sink (holds_bands files slot tile bands input reads decodes) holds counts failed

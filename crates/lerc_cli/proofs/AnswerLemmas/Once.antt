@@ -1,36 +1,36 @@
 -- One command of words, and one answer of a command.
 use Rattle.std.proofs.Common.{◌≡◌, Err, List, ℕ, None, Option, Some, refl, rules, sym, ap, subst, ◌∙◌}
 use Rattle.std.specs.Prelude.{IsTrue}
-use Rattle.raster_values.specs.Grid.{grid_of}
+use Rattle.raster_values.specs.Grid.{bands_grid_of}
 use Rattle.raster_values.specs.Raster.{Pixels}
 use Rattle.lerc_header.specs.declared.header.Version.{Version}
 use Rattle.lerc_header.specs.Written.{step_of}
-use Rattle.lerc_encode.specs.Choice.{chosen_blob}
+use Rattle.lerc_encode.specs.Choice.{chosen_bands}
 use Rattle.lerc_cli.specs.declared.words.Command.{Command}
 use Rattle.lerc_cli.specs.declared.words.Command.TheVariants.{Encode, Decode, Info, Build, Put, Get, GetRaw, List as ListAll, Check, Recover}
 use Rattle.lerc_cli.specs.declared.refusal.Fault.{Fault}
-use Rattle.lerc_cli.specs.declared.refusal.Reason.TheVariants.{Blob as BlobReasonOf}
 use Rattle.program_ends.specs.declared.stop.Stop.TheVariants.{Refused}
 use Rattle.lerc_cli.specs.declared.refusal.Refusal.TheVariants.{Input, Store, Stream}
-use Rattle.lerc_cli.specs.answers.Outline.{outline_lines}
+use Rattle.std.specs.List.{flat_map}
+use Rattle.lerc_cli.specs.answers.Outline.{AreOutlines, outline_lines}
 use Rattle.opened_bundle.specs.declared.refusal.StoreRefusal.{StoreRefusal}
 use Rattle.lerc_cli.specs.answers.Table.{AnswersOnce, Answers}
 use Rattle.opened_bundle.specs.Files.{Files}
 use Rattle.lerc_cli.specs.inputs.Given.{given}
+use Rattle.lerc_cli.specs.inputs.Refused.{band_reason_of}
 use Rattle.lerc_cli.proofs.AnswerLemmas.Answered.{Once, once_of, refused, well}
 use Rattle.opened_bundle.proofs.OneBundle.{done_or_refused, one_done, one_missing, one_opening, one_tile, one_unrecovered, recovered_or_opening, same_report, tile_or_missing}
 use Rattle.lerc_cli.proofs.AnswerLemmas.OneTile.{fault_or_missing, held_or_fault, held_or_missing, one_held, one_tile_fault, same_listing}
 use Rattle.lerc_cli.specs.words.Commands.{calls_volume, reads_source}
-use Rattle.lerc_cli.proofs.InputLemmas.Whole.{blob_or_fault, one_whole_fault}
+use Rattle.lerc_cli.proofs.InputLemmas.Whole.{bands_or_fault, one_list, one_whole_fault}
 use Rattle.lerc_cli.proofs.AnswerLemmas.BuildOnce.{build_once}
 use Rattle.lerc_cli.proofs.AnswerLemmas.PutOnce.{put_once}
 use Rattle.lerc_cli.proofs.InputLemmas.WholeGrids.{grid_or_refusal, one_grid, one_refusal}
-use Rattle.lerc_grammar.specs.Blob.{Blob}
-use Rattle.lerc_grammar.specs.Outlines.{IsOutline}
-use Rattle.lerc_grammar.proofs.Outlines.{one_outline}
+use Rattle.lerc_grammar.specs.Bands.{BandsBlob}
+use Rattle.lerc_grammar.specs.declared.parts.Outline.{Outline}
+use Rattle.lerc_cli.proofs.AnswerLemmas.EachOutlined.{one_outlines}
 use Rattle.bundle_store.specs.Check.{Reports}
 use Rattle.bundle_lines.specs.Lines.{check_lines, listing, recovery_line}
-use Rattle.lerc_grammar.proofs.Blobs.{one_raster}
 
 same_fault : (f g : Fault) → f.reason ≡ g.reason → f.place ≡ g.place → f ≡ g
 same_fault f g reason place = λ i. record { reason = reason i; place = place i }
@@ -41,7 +41,7 @@ SourceOnce c = (input : List ℕ) (files : Option Files) → Once c (given (Some
 
 encode_once : (v : Version) (e : ℕ) → SourceOnce (Encode v e)
 encode_once v e input files n m well well output another a b =
-    (refl, a.1.3 ∙ ap (λ (r : Pixels). chosen_blob r v (step_of e)) (one_grid input a.0 b.0 a.1.1 b.1.1) ∙ sym b.1.3)
+    (refl, a.1.3 ∙ ap (λ (bands : List Pixels). chosen_bands None bands v (step_of e)) (one_grid input a.0 b.0 a.1.1 b.1.1) ∙ sym b.1.3)
 encode_once v e input files n m well (refused (Input f)) output another a b = absurd (grid_or_refusal v input files a.0 a.1.1 a.1.2 f.place f.reason b.0)
 encode_once v e input files n m (refused (Input f)) well output another a b = absurd (grid_or_refusal v input files b.0 b.1.1 b.1.2 f.place f.reason a.0)
 encode_once v e input files n m (refused (Input f)) (refused (Input g)) output another a b =
@@ -56,12 +56,12 @@ encode_once v e input files n m (refused (Input f)) (refused (Stream r)) output 
 
 decode_once : SourceOnce Decode
 decode_once input files n m well well output another a b =
-    (refl, a.1.2 ∙ ap grid_of (one_raster input a.0 b.0 a.1.1 b.1.1) ∙ sym b.1.2)
-decode_once input files n m well (refused (Input f)) output another a b = absurd (blob_or_fault input a.0 f.place b.0.0 a.1.1 b.0.1.1)
-decode_once input files n m (refused (Input f)) well output another a b = absurd (blob_or_fault input b.0 f.place a.0.0 b.1.1 a.0.1.1)
+    (refl, a.1.2 ∙ ap bands_grid_of (one_list input a.0 b.0 a.1.1 b.1.1) ∙ sym b.1.2)
+decode_once input files n m well (refused (Input f)) output another a b = absurd (bands_or_fault input a.0 f.place b.0.0 a.1.1 b.0.1.1)
+decode_once input files n m (refused (Input f)) well output another a b = absurd (bands_or_fault input b.0 f.place a.0.0 b.1.1 a.0.1.1)
 decode_once input files n m (refused (Input f)) (refused (Input g)) output another a b =
     let same = one_whole_fault input f.place g.place a.0.0 b.0.0 a.0.1.1 b.0.1.1 in
-    (ap (λ h. Err (Refused (Input h))) (same_fault f g (a.0.1.0 ∙ ap BlobReasonOf same.1 ∙ sym b.0.1.0) same.0), a.1 ∙ sym b.1)
+    (ap (λ h. Err (Refused (Input h))) (same_fault f g (a.0.1.0 ∙ ap band_reason_of same.1 ∙ sym b.0.1.0) same.0), a.1 ∙ sym b.1)
 decode_once input files n m (refused (Store r)) other output another a b = absurd a.0
 decode_once input files n m well (refused (Store r)) output another a b = absurd b.0
 decode_once input files n m (refused (Input f)) (refused (Store r)) output another a b = absurd b.0
@@ -71,16 +71,16 @@ decode_once input files n m (refused (Input f)) (refused (Stream r)) output anot
 
 info_once : SourceOnce Info
 info_once input files n m well well output another a b =
-    let there : IsOutline None input a.1.2.0 = subst (λ (u : List ℕ). IsOutline None u a.1.2.0) (sym a.1.1) a.1.2.1.0 in
-    let here : IsOutline None input b.1.2.0 = subst (λ (u : List ℕ). IsOutline None u b.1.2.0) (sym b.1.1) b.1.2.1.0 in
-    (refl, a.1.2.1.1 ∙ ap outline_lines ((one_outline None input).once a.1.2.0 b.1.2.0 there here) ∙ sym b.1.2.1.1)
+    let there : AreOutlines None input a.1.2.0 = subst (λ (u : List ℕ). AreOutlines None u a.1.2.0) (sym a.1.1) a.1.2.1.0 in
+    let here : AreOutlines None input b.1.2.0 = subst (λ (u : List ℕ). AreOutlines None u b.1.2.0) (sym b.1.1) b.1.2.1.0 in
+    (refl, a.1.2.1.1 ∙ ap (λ (os : List Outline). flat_map outline_lines os) (one_outlines None input a.1.2.0 b.1.2.0 there here) ∙ sym b.1.2.1.1)
 info_once input files n m well (refused (Input f)) output another a b =
-    absurd (blob_or_fault input a.1.0.0 f.place b.0.0 (subst (λ (u : List ℕ). Blob u a.1.0.0) (sym a.1.1) a.1.0.1) b.0.1.1)
+    absurd (bands_or_fault input a.1.0.0 f.place b.0.0 (subst (λ (u : List ℕ). BandsBlob u a.1.0.0) (sym a.1.1) a.1.0.1) b.0.1.1)
 info_once input files n m (refused (Input f)) well output another a b =
-    absurd (blob_or_fault input b.1.0.0 f.place a.0.0 (subst (λ (u : List ℕ). Blob u b.1.0.0) (sym b.1.1) b.1.0.1) a.0.1.1)
+    absurd (bands_or_fault input b.1.0.0 f.place a.0.0 (subst (λ (u : List ℕ). BandsBlob u b.1.0.0) (sym b.1.1) b.1.0.1) a.0.1.1)
 info_once input files n m (refused (Input f)) (refused (Input g)) output another a b =
     let same = one_whole_fault input f.place g.place a.0.0 b.0.0 a.0.1.1 b.0.1.1 in
-    (ap (λ h. Err (Refused (Input h))) (same_fault f g (a.0.1.0 ∙ ap BlobReasonOf same.1 ∙ sym b.0.1.0) same.0), a.1 ∙ sym b.1)
+    (ap (λ h. Err (Refused (Input h))) (same_fault f g (a.0.1.0 ∙ ap band_reason_of same.1 ∙ sym b.0.1.0) same.0), a.1 ∙ sym b.1)
 info_once input files n m (refused (Store r)) other output another a b = absurd a.0
 info_once input files n m well (refused (Store r)) output another a b = absurd b.0
 info_once input files n m (refused (Input f)) (refused (Store r)) output another a b = absurd b.0
@@ -119,13 +119,13 @@ raw_once slot input f n m well (refused (Stream s)) output another a b = absurd 
 raw_once slot input f n m (refused (Store r)) (refused (Stream s)) output another a b = absurd b.0
 
 grid_once : (slot : ℕ) → BundleOnce (Get slot)
-grid_once slot input f n m well well output another a b = (refl, a.1.2 ∙ ap grid_of (one_held f slot a.0 b.0 a.1.1 b.1.1) ∙ sym b.1.2)
+grid_once slot input f n m well well output another a b = (refl, a.1.2 ∙ ap bands_grid_of (one_held f slot a.0 b.0 a.1.1 b.1.1) ∙ sym b.1.2)
 grid_once slot input f n m well (refused (Input s)) output another a b = absurd (held_or_fault f slot a.0 s.place b.0.0 a.1.1 b.0.1.1)
 grid_once slot input f n m well (refused (Store r)) output another a b = absurd (held_or_missing f slot a.0 r a.1.1 b.0)
 grid_once slot input f n m (refused (Input r)) well output another a b = absurd (held_or_fault f slot b.0 r.place a.0.0 b.1.1 a.0.1.1)
 grid_once slot input f n m (refused (Input r)) (refused (Input s)) output another a b =
     let same = one_tile_fault f slot r.place s.place a.0.0 b.0.0 a.0.1.1 b.0.1.1 in
-    (ap (λ h. Err (Refused (Input h))) (same_fault r s (a.0.1.0 ∙ ap BlobReasonOf same.1 ∙ sym b.0.1.0) same.0), a.1 ∙ sym b.1)
+    (ap (λ h. Err (Refused (Input h))) (same_fault r s (a.0.1.0 ∙ ap band_reason_of same.1 ∙ sym b.0.1.0) same.0), a.1 ∙ sym b.1)
 grid_once slot input f n m (refused (Input r)) (refused (Store s)) output another a b = absurd (fault_or_missing f slot r.place a.0.0 s a.0.1.1 b.0)
 grid_once slot input f n m (refused (Store r)) well output another a b = absurd (held_or_missing f slot b.0 r b.1.1 a.0)
 grid_once slot input f n m (refused (Store r)) (refused (Input s)) output another a b = absurd (fault_or_missing f slot s.place b.0.0 r b.0.1.1 a.0)

@@ -11,7 +11,7 @@ use Rattle.program_ends.specs.Moves.{SinkMove}
 use Rattle.opened_bundle.specs.Refusals.{store_text, two_numbers}
 use Rattle.lerc_cli.specs.declared.refusal.Fault.{Fault}
 use Rattle.lerc_cli.specs.declared.refusal.Reason.{Reason}
-use Rattle.lerc_cli.specs.declared.refusal.Reason.TheVariants.{Blob, Grid, Leftover as LeftoverOf, DepthNeedsV4, BadTileMark, BadSlot}
+use Rattle.lerc_cli.specs.declared.refusal.Reason.TheVariants.{Blob, BadBand, Grid, Leftover as LeftoverOf, DepthNeedsV4, BadTileMark, BadSlot}
 use Rattle.lerc_cli.specs.declared.refusal.Refusal.{Refusal}
 use Rattle.lerc_cli.specs.declared.refusal.Refusal.TheVariants.{Input, Store, Stream}
 use Rattle.lerc_cli.specs.declared.refusal.StreamRefusal.{StreamRefusal}
@@ -82,6 +82,7 @@ abbrev pub name_of : Reason → List ℕ
 name_of (Blob reason) = blob_name_of reason
 name_of (Grid reason) = grid_name_of reason
 name_of LeftoverOf = codes "Leftover"
+name_of BadBand = codes "BadBand"
 name_of DepthNeedsV4 = codes "DepthNeedsV4"
 name_of BadTileMark = codes "BadTileMark"
 name_of BadSlot = codes "BadSlot"

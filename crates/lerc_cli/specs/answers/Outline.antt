@@ -1,6 +1,7 @@
--- The fourteen lines that tell what a blob says of itself.
-use Rattle.std.specs.Prelude.{◌≡◌, ℕ, ℤ, List, [], ◌∷◌, ◌++◌, None, codes, decimal}
+-- The lines that tell what blobs say of themselves, fourteen for each.
+use Rattle.std.specs.Prelude.{◌≡◌, ℕ, ℤ, List, [], ◌∷◌, ◌++◌, drop, Option, None, Some, codes, decimal}
 use Rattle.std.specs.Fmt.{signed_decimal}
+use Rattle.std.specs.List.{flat_map}
 use Rattle.byteorder.specs.Endian.{little_bytes}
 use Rattle.hex.specs.Hex.{encode_lower}
 use Rattle.command_words.specs.Words.{type_name}
@@ -71,6 +72,14 @@ outline_lines o =
     ++ (value_lines o.header
     ++ (mask_line o.mask ++ word_line (codes "image") (image_name o.image)))
 
--- the bytes are the lines of what these bytes say of themselves
+-- What blobs of bands, one behind the other, say of themselves. Before each is how many pixels are
+-- valid in the band before it.
+abbrev pub AreOutlines : Option ℕ → List ℕ → List Outline → Type 0
+AreOutlines before bytes [] = bytes ≡ []
+AreOutlines before bytes (o ∷ more) = IsOutline before bytes o
+    × AreOutlines (Some o.header.valid) (drop o.header.size bytes) more
+
+-- the lines are those of what blobs say of themselves, blob by blob
 abbrev pub AreLinesOf : List ℕ → List ℕ → Type 0
-AreLinesOf blob lines = (o : Outline) × (IsOutline None blob o × (lines ≡ outline_lines o))
+AreLinesOf blobs lines = (outlines : List Outline)
+    × (AreOutlines None blobs outlines × (lines ≡ flat_map outline_lines outlines))

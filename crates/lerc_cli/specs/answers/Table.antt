@@ -1,5 +1,5 @@
 -- What a command answers: the rows of one table. Each relation below has one case for each command.
-use Rattle.std.specs.Prelude.{◌≡◌, ◌⊎◌, ℕ, ◌+◌, ◌*◌, ◌^◌, ◌<◌, ◌≤◌, take, List, [], length, Option, Some, Ok, Err, IsTrue}
+use Rattle.std.specs.Prelude.{◌≡◌, ◌⊎◌, ℕ, ◌+◌, ◌*◌, ◌^◌, ◌<◌, ◌≤◌, take, List, [], length, Option, None, Some, Ok, Err, IsTrue}
 use Rattle.bundle_store.specs.declared.recovery.Recovery.{Recovery}
 use Rattle.bundle_store.specs.Session.{GetGives}
 use Rattle.bundle_store.specs.declared.check.CheckReport.{CheckReport}
@@ -10,15 +10,15 @@ use Rattle.bundle_lines.specs.Builds.{built_line_of}
 use Rattle.bundle_lines.specs.Lines.{check_lines, listing, put_lines, recovery_line}
 use Rattle.bundle_lines.specs.Puts.{HaveRoom, IsFirstFull, LeavesNoRoom}
 use Rattle.tile_updates.specs.Updates.{IsUpdates, OfBytes}
-use Rattle.raster_values.specs.Raster.{Pixels, IsRaster}
-use Rattle.raster_values.specs.Grid.{grid_of}
-use Rattle.raster_values.specs.ReadGrid.{IsGrid}
-use Rattle.lerc_header.specs.declared.fault.BlobReason.{BlobReason}
+use Rattle.raster_values.specs.Bands.{AreBands}
+use Rattle.raster_values.specs.BandsGrid.{IsBandsGrid}
+use Rattle.raster_values.specs.Grid.{bands_grid_of}
+use Rattle.raster_values.specs.Raster.{Pixels}
 use Rattle.lerc_header.specs.Written.{step_of}
-use Rattle.lerc_grammar.specs.Blob.{Blob}
-use Rattle.lerc_grammar.specs.Verdict.{WholeFault}
-use Rattle.lerc_encode.specs.Choice.{chosen_blob}
-use Rattle.lerc_encode.specs.Encoded.{NeedsV4}
+use Rattle.lerc_grammar.specs.declared.bands.BandReason.{BandReason}
+use Rattle.lerc_grammar.specs.Bands.{BandsBlob, BandsFaultAt}
+use Rattle.lerc_encode.specs.Choice.{chosen_bands}
+use Rattle.lerc_encode.specs.Encoded.{BandsNeedV4}
 use Rattle.program_ends.specs.declared.stop.Stop.{Stop}
 use Rattle.program_ends.specs.declared.stop.Stop.TheVariants.{Usage, Source, Output, Volume, OutOfMemory, Refused}
 use Rattle.opened_bundle.specs.declared.refusal.StoreRefusal.{StoreRefusal}
@@ -28,12 +28,11 @@ use Rattle.opened_bundle.specs.Refusals.{IsMissing, IsOpening, IsUnrecovered}
 use Rattle.lerc_cli.specs.declared.words.Command.{Command}
 use Rattle.lerc_cli.specs.declared.words.Command.TheVariants.{Encode, Decode, Info, Build, Put, Get, GetRaw, List as ListAll, Check, Recover}
 use Rattle.lerc_cli.specs.declared.refusal.Fault.{Fault}
-use Rattle.lerc_cli.specs.declared.refusal.Reason.TheVariants.{Blob as BlobReasonOf}
 use Rattle.lerc_cli.specs.declared.refusal.Refusal.{Refusal}
 use Rattle.lerc_cli.specs.declared.refusal.Refusal.TheVariants.{Input, Store, Stream}
 use Rattle.lerc_cli.specs.words.Commands.{reads_source, calls_volume}
 use Rattle.lerc_cli.specs.inputs.Given.{Given, OfInput}
-use Rattle.lerc_cli.specs.inputs.Refused.{HasHead, IsBlob, IsNoBlob, IsNoUpdates, IsNotEncoded}
+use Rattle.lerc_cli.specs.inputs.Refused.{IsBandsBlob, IsNoBandsBlob, HasHead, IsNoUpdates, IsNotEncoded, band_reason_of}
 use Rattle.lerc_cli.specs.answers.Names.{End}
 use Rattle.lerc_cli.specs.answers.Outline.{AreLinesOf}
 
@@ -45,20 +44,21 @@ UpdatesOf (Put version error workers) g updates =
     OfBytes g.input (λ bytes. IsUpdates version (step_of error) bytes updates)
 UpdatesOf c g updates = updates ≡ []
 
--- the bytes that the slot's entry names are a blob of this raster
-abbrev pub HoldsBlob : List ℕ → ℕ → Pixels → Type 0
-HoldsBlob bundle slot r = (tile : List ℕ) × (GetGives bundle slot tile × Blob tile r)
+-- the bytes that the slot's entry names are the blobs of these bands
+abbrev pub HoldsBands : List ℕ → ℕ → List Pixels → Type 0
+HoldsBands bundle slot bands = (tile : List ℕ) × (GetGives bundle slot tile × BandsBlob tile bands)
 
 -- The command's output, where nothing refuses or fails. The number is that of the updates that are
 -- done.
 abbrev pub IsOutput : Command → Given → ℕ → List ℕ → Type 0
 IsOutput (Encode version error) g n output =
-    (r : Pixels) × (IsRaster r × OfInput g (λ bytes. IsGrid bytes r) × (¬ NeedsV4 version r)
-    × (output ≡ chosen_blob r version (step_of error)))
+    (bands : List Pixels) × (AreBands bands × OfInput g (λ bytes. IsBandsGrid bytes bands)
+    × (¬ BandsNeedV4 version bands) × (output ≡ chosen_bands None bands version (step_of error)))
 IsOutput Decode g n output =
-    (r : Pixels) × (IsRaster r × OfInput g (λ bytes. Blob bytes r) × (output ≡ grid_of r))
-IsOutput Info g n output =
-    (blob : List ℕ) × (IsBlob blob × OfInput g (λ bytes. bytes ≡ blob) × AreLinesOf blob output)
+    (bands : List Pixels) × (AreBands bands × OfInput g (λ bytes. BandsBlob bytes bands)
+    × (output ≡ bands_grid_of bands))
+IsOutput Info g n output = (blobs : List ℕ)
+    × (IsBandsBlob blobs × OfInput g (λ bytes. bytes ≡ blobs) × AreLinesOf blobs output)
 IsOutput (Build version error workers) g n output = (updates : List TileRec)
     × (UpdatesOf (Build version error workers) g updates × (n ≡ length updates)
     × OfBundle g.files (λ bundle. bundle ≡ []) × (output ≡ built_line_of updates))
@@ -66,8 +66,9 @@ IsOutput (Put version error workers) g n output = (updates : List TileRec)
     × (UpdatesOf (Put version error workers) g updates × (n ≡ length updates)
     × OfBundle g.files (λ bundle. HaveRoom bundle updates n) × (output ≡ put_lines updates))
 IsOutput (Get slot) g n output =
-    (r : Pixels) × (IsRaster r × OfBundle g.files (λ bundle. HoldsBlob bundle slot r)
-    × (output ≡ grid_of r))
+    (bands : List Pixels) × (AreBands bands
+    × OfBundle g.files (λ bundle. HoldsBands bundle slot bands)
+    × (output ≡ bands_grid_of bands))
 IsOutput (GetRaw slot) g n output = OfBundle g.files (λ bundle. GetGives bundle slot output)
 IsOutput ListAll g n output = OfBundle g.files (λ bundle. output ≡ listing bundle 16384)
 IsOutput Check g n output = (report : CheckReport)
@@ -94,11 +95,12 @@ IsFull c g n stop = (len : ℕ) × ((stop ≡ Refused (Store (Full len))) × ((u
     × LeavesNoRoom len updates n
     × OfBundle g.files (λ bundle. IsFirstFull bundle updates n len))))
 
--- This is the first fault of the bytes that the slot's entry names, which are to be one blob.
-abbrev pub IsNoTileBlob : Option Files → ℕ → Fault → Type 0
-IsNoTileBlob files slot fault = (reason : BlobReason) × ((fault.reason ≡ BlobReasonOf reason)
+-- This is the first fault of the bytes that the slot's entry names, which are to be the blobs of
+-- bands.
+abbrev pub HoldsNoBands : Option Files → ℕ → Fault → Type 0
+HoldsNoBands files slot fault = (reason : BandReason) × ((fault.reason ≡ band_reason_of reason)
     × OfBundle files (λ bundle. (tile : List ℕ)
-    × (GetGives bundle slot tile × WholeFault tile fault.place reason)))
+    × (GetGives bundle slot tile × BandsFaultAt tile fault.place reason)))
 
 -- This is the first refusal in the command's order. The number is that of the updates that are
 -- done.
@@ -106,9 +108,9 @@ abbrev pub IsRefusal : Command → Given → ℕ → Stop Refusal → Type 0
 IsRefusal (Encode version error) g n (Refused (Input fault)) =
     IsNotEncoded version g fault.place fault.reason
 IsRefusal (Encode version error) g n stop = ⊥
-IsRefusal Decode g n (Refused (Input fault)) = IsNoBlob g fault
+IsRefusal Decode g n (Refused (Input fault)) = IsNoBandsBlob g fault
 IsRefusal Decode g n stop = ⊥
-IsRefusal Info g n (Refused (Input fault)) = IsNoBlob g fault
+IsRefusal Info g n (Refused (Input fault)) = IsNoBandsBlob g fault
 IsRefusal Info g n stop = ⊥
 IsRefusal (Build version error workers) g n stop = (n ≡ 0)
     × (IsNoUpdates version (step_of error) g.input stop
@@ -118,7 +120,7 @@ IsRefusal (Put version error workers) g n stop =
     ((n ≡ 0) × IsNoUpdates version (step_of error) g.input stop)
     ⊎ (((n ≡ 0) × IsUnopened (Put version error workers) g stop)
     ⊎ IsFull (Put version error workers) g n stop)
-IsRefusal (Get slot) g n (Refused (Input fault)) = IsNoTileBlob g.files slot fault
+IsRefusal (Get slot) g n (Refused (Input fault)) = HoldsNoBands g.files slot fault
 IsRefusal (Get slot) g n (Refused (Store refusal)) = IsMissing g.files slot refusal
 IsRefusal (Get slot) g n stop = ⊥
 IsRefusal (GetRaw slot) g n (Refused (Store refusal)) = IsMissing g.files slot refusal

@@ -9,11 +9,10 @@ use Rattle.bundle_store.specs.Images.{StandsFor}
 use Rattle.bundle_store.specs.Tiles.{TileMap}
 use Rattle.bundle_lines.specs.Puts.{marked}
 use Rattle.opened_bundle.specs.Files.{Files}
-use Rattle.opened_bundle.specs.Left.{IsReady}
 use Rattle.lerc_cli.specs.declared.words.Command.{Command}
 use Rattle.lerc_cli.specs.inputs.Given.{Given}
 use Rattle.lerc_cli.specs.answers.Names.{End}
-use Rattle.lerc_cli.specs.crashes.Kept.{KeepsTiles, UpdatesAt}
+use Rattle.lerc_cli.specs.crashes.Kept.{KeepsUpdates, UpdatesAt}
 
 -- A run of a command with its volume's history, and the crash behind it: its moment, and what it
 -- left of both files. A run that returned may be cut off at its last moment.
@@ -35,9 +34,7 @@ pub record IsCutRun (files : Files) (r : CutRun) : Type 0 where
   pub quiet : IsQuiet (current r.old)
   pub bundle : contents Bundle r.old ≡ files.bundle
   pub journal : contents Journal r.old ≡ files.journal
-  pub kept : (start : TileMap) → IsReady r.told r.old start → (updates : List TileRec)
-      × (UpdatesAt r.command r.given r.end updates
-      × KeepsTiles r.command updates r.marks start r.old r.new)
+  pub kept : KeepsUpdates r.command r.given r.end r.marks r.told r.old r.new
   pub from : r.old.moment ≤ r.moment
   pub to : r.moment ≤ r.new.moment
   pub image : IsDiskImage (r.new.disk_at r.moment) r.left.bundle r.left.journal

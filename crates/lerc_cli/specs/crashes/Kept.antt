@@ -12,7 +12,7 @@ use Rattle.bundle_lines.specs.Puts.{AreWhole, PutsKeep, bundle_after_puts}
 use Rattle.program_ends.specs.declared.stop.Stop.{Stop}
 use Rattle.program_ends.specs.declared.stop.Stop.TheVariants.{Source, Output, Volume, OutOfMemory, Refused}
 use Rattle.opened_bundle.specs.declared.refusal.StoreRefusal.TheVariants.{BadJournal, Full}
-use Rattle.opened_bundle.specs.Left.{IsLeft, IsShut, KeepsStart}
+use Rattle.opened_bundle.specs.Left.{IsLeft, IsReady, IsShut, KeepsStart}
 use Rattle.lerc_cli.specs.declared.words.Command.{Command}
 use Rattle.lerc_cli.specs.declared.words.Command.TheVariants.{Build, Put}
 use Rattle.lerc_cli.specs.declared.refusal.Refusal.{Refusal}
@@ -47,6 +47,13 @@ has_updates end = false
 pub record UpdatesAt (c : Command) (g : Given) (end : End) (updates : List TileRec) : Type 0 where
   pub some : IsTrue (has_updates end) → UpdatesOf c g updates
   pub none : IsFalse (has_updates end) → updates ≡ []
+
+-- What a run promises of crashes: from files that stand for some tiles, with nothing pending, it
+-- keeps these at each moment, with the first few of its updates done.
+abbrev pub KeepsUpdates : Command → Given → End → List ℕ → Bool → History → History → Type 0
+KeepsUpdates c g end marks told old new = (start : TileMap) → IsReady told old start
+    → (updates : List TileRec) × (UpdatesAt c g end updates
+    × KeepsTiles c updates marks start old new)
 
 -- The volume is not called: the command calls none, or its input was refused, or the source failed.
 abbrev pub is_early : Command → End → Bool

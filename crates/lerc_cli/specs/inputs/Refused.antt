@@ -1,14 +1,15 @@
 -- Inputs: what a whole input is to be, and what is wrong in it first.
 use Rattle.std.specs.Prelude.{◌≡◌, ℕ, ◌<◌, List, ◌++◌, length, Option}
 use Rattle.raster_values.specs.Raster.{Pixels}
-use Rattle.raster_values.specs.ReadGrid.{IsGrid, grid_faults}
-use Rattle.lerc_header.specs.declared.fault.BlobReason.{BlobReason}
+use Rattle.raster_values.specs.BandsGrid.{IsBandsGrid, bands_faults}
 use Rattle.lerc_header.specs.declared.header.Header.{Header}
 use Rattle.lerc_header.specs.declared.header.Version.{Version}
 use Rattle.lerc_header.specs.declared.header.Version.TheVariants.{V3}
 use Rattle.lerc_header.specs.Head.{HeadAt}
-use Rattle.lerc_grammar.specs.Blob.{Blob}
-use Rattle.lerc_grammar.specs.Verdict.{WholeFault}
+use Rattle.lerc_encode.specs.Encoded.{BandsNeedV4}
+use Rattle.lerc_grammar.specs.declared.bands.BandReason.{BandReason}
+use Rattle.lerc_grammar.specs.declared.bands.BandReason.TheVariants.{Blob as OfBlob, BadBand as UnlikeBand}
+use Rattle.lerc_grammar.specs.Bands.{BandsBlob, BandsFaultAt}
 use Rattle.tile_stream.specs.declared.tile.TileReason.{TileReason}
 use Rattle.tile_stream.specs.declared.tile.TileReason.TheVariants.{BadTileMark as NoTileMark, BadSlot as NoSlot, Grid as NoTileGrid}
 use Rattle.tile_updates.specs.declared.stop.StreamStop.{StreamStop}
@@ -18,46 +19,52 @@ use Rattle.program_ends.specs.declared.stop.Stop.{Stop}
 use Rattle.program_ends.specs.declared.stop.Stop.TheVariants.{Source, OutOfMemory, Refused}
 use Rattle.lerc_cli.specs.declared.refusal.Fault.{Fault}
 use Rattle.lerc_cli.specs.declared.refusal.Reason.{Reason}
-use Rattle.lerc_cli.specs.declared.refusal.Reason.TheVariants.{Blob as BlobReasonOf, Grid, Leftover, DepthNeedsV4, BadTileMark, BadSlot}
+use Rattle.lerc_cli.specs.declared.refusal.Reason.TheVariants.{Blob as BlobReasonOf, BadBand, Grid, Leftover, DepthNeedsV4, BadTileMark, BadSlot}
 use Rattle.lerc_cli.specs.declared.refusal.Refusal.{Refusal}
 use Rattle.lerc_cli.specs.declared.refusal.Refusal.TheVariants.{Input, Stream}
 use Rattle.lerc_cli.specs.declared.refusal.StreamRefusal.TheVariants.{TileTooLarge, TooManyTiles, KeptTooMuch}
 use Rattle.lerc_cli.specs.inputs.Given.{Given, OfInput}
 
--- the bytes are a blob
-abbrev pub IsBlob : List ℕ → Type 0
-IsBlob bytes = (r : Pixels) × Blob bytes r
+-- the bytes are the blobs of some bands
+abbrev pub IsBandsBlob : List ℕ → Type 0
+IsBandsBlob bytes = (bands : List Pixels) × BandsBlob bytes bands
 
 -- a lawful header stands whole
 abbrev pub HasHead : List ℕ → Type 0
 HasHead bytes = (h : Header) × HeadAt bytes h
 
--- this is the first fault of the whole input, which is to be one blob
-abbrev pub IsNoBlob : Given → Fault → Type 0
-IsNoBlob g fault = (reason : BlobReason) × ((fault.reason ≡ BlobReasonOf reason)
-    × OfInput g (λ bytes. WholeFault bytes fault.place reason))
+-- what is wrong in blobs of bands, as a reason
+abbrev pub band_reason_of : BandReason → Reason
+band_reason_of (OfBlob reason) = BlobReasonOf reason
+band_reason_of UnlikeBand = BadBand
+
+-- this is the first fault of the whole input, which is to be the blobs of bands
+abbrev pub IsNoBandsBlob : Given → Fault → Type 0
+IsNoBandsBlob g fault = (reason : BandReason) × ((fault.reason ≡ band_reason_of reason)
+    × OfInput g (λ bytes. BandsFaultAt bytes fault.place reason))
 
 -- a grid stands in front of the bytes, it ends at the place, and something follows
 pub record EndsBefore (bytes : List ℕ) (place : ℕ) : Type 0 where
-  pub raster : Pixels
+  pub bands : List Pixels
   pub grid : List ℕ
   pub rest : List ℕ
   pub joined : bytes ≡ grid ++ rest
-  pub stands : IsGrid grid raster
+  pub stands : IsBandsGrid grid bands
   pub ends : place ≡ length grid
   pub more : 0 < length rest
 
 -- this is the first fault of the whole input, which is to be one grid
 abbrev pub IsNoGrid : Given → ℕ → Reason → Type 0
-IsNoGrid g place (Grid reason) = OfInput g (λ bytes. grid_faults bytes place reason)
+IsNoGrid g place (Grid reason) = OfInput g (λ bytes. bands_faults bytes place reason)
 IsNoGrid g place Leftover = OfInput g (λ bytes. EndsBefore bytes place)
 IsNoGrid g place reason = ⊥
 
--- The same of an input whose raster is to be encoded, which comes last. Its place is that of the
+-- The same of an input whose bands are to be encoded, which comes last. Its place is that of the
 -- number of depths.
 abbrev pub IsNotEncoded : Version → Given → ℕ → Reason → Type 0
 IsNotEncoded version g place DepthNeedsV4 = (place ≡ 13) × (version ≡ V3)
-    × OfInput g (λ bytes. (r : Pixels) × (IsGrid bytes r × (1 < r.depth)))
+    × OfInput g (λ bytes. (bands : List Pixels)
+    × (IsBandsGrid bytes bands × BandsNeedV4 version bands))
 IsNotEncoded version g place reason = IsNoGrid g place reason
 
 -- what is wrong in a tile, as a reason

@@ -7,13 +7,12 @@ use Rattle.outside_io.specs.program.Line.{GivesLine}
 use Rattle.outside_io.specs.volume.History.{contents, current}
 use Rattle.raster_values.specs.ReadGrid.{TookSome}
 use Rattle.bundle_store.specs.declared.tile_rec.TileRec.{TileRec}
-use Rattle.bundle_store.specs.Tiles.{TileMap}
 use Rattle.bundle_lines.specs.Puts.{AreMarks}
 use Rattle.program_ends.specs.Moves.{SinkMove, SourceMove, VolumeMove}
 use Rattle.program_ends.specs.Stop.{Gained}
 use Rattle.program_ends.specs.declared.stop.Stop.TheVariants.{Usage, Refused, Source, Output, Volume, OutOfMemory}
 use Rattle.opened_bundle.specs.Files.{files_of}
-use Rattle.opened_bundle.specs.Left.{IsLeft, IsReady}
+use Rattle.opened_bundle.specs.Left.{IsLeft}
 use Rattle.lerc_cli.specs.declared.words.Command.{Command}
 use Rattle.lerc_cli.specs.declared.words.Command.TheVariants.{Encode, Decode, Info, Build, Put, Get, GetRaw, List as ListAll, Check, Recover}
 use Rattle.lerc_cli.specs.declared.refusal.Refusal.TheVariants.{Input}
@@ -21,16 +20,16 @@ use Rattle.lerc_cli.specs.words.Commands.{reads_source, makes_updates}
 use Rattle.lerc_cli.specs.inputs.Given.{Given, given}
 use Rattle.lerc_cli.specs.answers.Names.{End, GivesLineOf, line_of, status_at, status_of}
 use Rattle.lerc_cli.specs.answers.Table.{Answers}
-use Rattle.lerc_cli.specs.crashes.Kept.{KeepsTiles, OnAnswer, Rests, UpdatesAt, bundle_after, is_early}
+use Rattle.lerc_cli.specs.crashes.Kept.{KeepsUpdates, OnAnswer, Rests, UpdatesAt, bundle_after, is_early}
 
 -- ---- the source
 
--- What a command takes: some first bytes of those left. Of a blob it is at most one byte more than
--- the longest blob has.
+-- What a command takes: some first bytes of those left. Of the blobs of bands it is at most one byte
+-- more than the 16 longest ones have.
 abbrev pub TakesFor : Command → Option (List ℕ) → Option (List ℕ) → Type 0
 TakesFor (Encode version error) left_old left_new = TookSome left_old left_new
-TakesFor Decode left_old left_new = TakesUpTo 134217729 left_old left_new
-TakesFor Info left_old left_new = TakesUpTo 134217729 left_old left_new
+TakesFor Decode left_old left_new = TakesUpTo 2147483649 left_old left_new
+TakesFor Info left_old left_new = TakesUpTo 2147483649 left_old left_new
 TakesFor (Build version error workers) left_old left_new = TookSome left_old left_new
 TakesFor (Put version error workers) left_old left_new = TookSome left_old left_new
 TakesFor (Get slot) left_old left_new = left_new ≡ left_old
@@ -92,9 +91,7 @@ pub record OfVolume (c : Command) (g : Given) (end : End) (marks : List ℕ) (vo
   pub rests : IsTrue vol.told.old → IsFalse (is_early c end) → OnAnswer end c vol.same
       (Rests end (contents Journal vol.history.old) (current vol.history.new))
   -- what a crash may leave at each moment
-  pub tiles : (start : TileMap) → IsReady vol.told.old vol.history.old start
-      → (updates : List TileRec) × (UpdatesAt c g end updates
-      × KeepsTiles c updates marks start vol.history.old vol.history.new)
+  pub tiles : KeepsUpdates c g end marks vol.told.old vol.history.old vol.history.new
 
 -- ---- all of it
 

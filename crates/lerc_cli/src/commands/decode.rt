@@ -1,4 +1,4 @@
-//! A blob becomes its grid.
+//! The blobs of bands become their grid.
 
 ghost use Rattle.std.specs.Prelude.{Option};
 ghost use Rattle.program_ends.specs.Moves.{sink_move, source_move};
@@ -7,14 +7,14 @@ ghost use Rattle.lerc_cli.specs.declared.words.Command.{Command};
 ghost use Rattle.lerc_cli.specs.inputs.Given.{given};
 ghost use Rattle.lerc_cli.specs.run.Run.{OfSource, OfOutput};
 
-use crate::inputs::blob::read_blob;
+use crate::inputs::blobs::read_bands;
 use crate::refusal::Refusal;
 use outside_io::{Sink, Source};
 use program_ends::Stop;
-use raster_values::grid_write;
+use raster_values::bands_write;
 use std::alloc::Global;
 
-/// Reads one blob from the source, and gives its grid to the output.
+/// Reads the blobs of bands from the source, and gives their grid to the output.
 pub fn decode<S: Source, K: Sink>(
     alloc: Global,
     src: &mut S,
@@ -24,11 +24,11 @@ pub fn decode<S: Source, K: Sink>(
     ensures output { (files : Option Files)
         → OfOutput Command.Decode (given (S.left src.old) files) 0 result (sink_move K.held K.faults out.old out.new) }
 {
-    let raster = match read_blob(alloc, src) {
-        Ok(raster) => raster,
+    let bands = match read_bands(alloc, src) {
+        Ok(bands) => bands,
         Err(stop) => return Err(stop),
     };
-    match grid_write(&raster, out) {
+    match bands_write(&bands, out) {
         Ok(()) => Ok(()),
         Err(_) => Err(Stop::Output),
     }

@@ -11,13 +11,13 @@ ghost use Rattle.lerc_cli.specs.declared.words.Command.{Command};
 ghost use Rattle.lerc_cli.specs.inputs.Given.{given};
 ghost use Rattle.lerc_cli.specs.run.Run.{OfOutput};
 
-use crate::inputs::blob::decode_tile;
+use crate::inputs::blobs::decode_tile;
 use crate::refusal::{Refusal, store_stop};
 use bundle_index::Slot;
 use opened_bundle::read_tile;
 use outside_io::{Sink, Volume, give_all};
 use program_ends::Stop;
-use raster_values::grid_write;
+use raster_values::bands_write;
 use std::alloc::Global;
 
 /// Gives the bytes of the slot's tile to the output.
@@ -45,7 +45,7 @@ pub fn get_raw<K: Sink, V: Volume>(
     }
 }
 
-/// Decodes the slot's tile, which is to be one blob, and gives its grid to the output.
+/// Decodes the slot's tile, which is to be the blobs of bands, and gives their grid to the output.
 pub fn get<K: Sink, V: Volume>(
     alloc: Global,
     slot: Slot,
@@ -64,11 +64,11 @@ pub fn get<K: Sink, V: Volume>(
         Ok(tile) => tile,
         Err(stop) => return Err(store_stop(stop)),
     };
-    let raster = match decode_tile(alloc, tile.as_slice()) {
-        Ok(raster) => raster,
+    let bands = match decode_tile(alloc, tile.as_slice()) {
+        Ok(bands) => bands,
         Err(stop) => return Err(stop),
     };
-    match grid_write(&raster, out) {
+    match bands_write(&bands, out) {
         Ok(()) => Ok(()),
         Err(_) => Err(Stop::Output),
     }

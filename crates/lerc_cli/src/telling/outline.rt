@@ -1,6 +1,7 @@
-//! The lines that tell what a blob says of itself.
+//! The lines that tell what blobs say of themselves.
 
 ghost use Rattle.std.specs.Prelude.{◌≡◌, ◌+◌, ◌≤◌, ◌++◌, ℕ, OnErr, OnOk, length, codes};
+ghost use Rattle.std.specs.List.{flat_map};
 ghost use Rattle.lerc_header.specs.Head.{version_number};
 ghost use Rattle.outside_io.specs.streams.Faults.{CountsFaults};
 ghost use Rattle.outside_io.specs.streams.Sink.{Holds, HoldsPrefix};
@@ -142,7 +143,7 @@ fn of_forms(mask: MaskForm, image: ImageForm) -> Line
 }
 
 /// Gives the fourteen lines of a blob that says this of itself. It takes no memory.
-pub fn give_outline<K: Sink>(outline: Outline, out: &mut K) -> Result<(), Failed>
+fn give_outline<K: Sink>(outline: Outline, out: &mut K) -> Result<(), Failed>
     ensures ok { OnOk result (Holds (K.held out.old) (K.held out.new) (outline_lines outline)) }
     ensures err { OnErr result
         (HoldsPrefix (K.held out.old) (K.held out.new) (outline_lines outline)) }
@@ -151,4 +152,21 @@ pub fn give_outline<K: Sink>(outline: Outline, out: &mut K) -> Result<(), Failed
     give_all(out, of_shape(outline.header).as_slice())?;
     give_all(out, of_values(outline.header).as_slice())?;
     give_all(out, of_forms(outline.mask, outline.image).as_slice())
+}
+
+/// Gives the lines of blobs that say this of themselves, fourteen for each. It takes no memory.
+pub fn give_outlines<K: Sink>(outlines: &[Outline], out: &mut K) -> Result<(), Failed>
+    ensures ok { OnOk result
+        (Holds (K.held out.old) (K.held out.new) (flat_map outline_lines outlines.now)) }
+    ensures err { OnErr result
+        (HoldsPrefix (K.held out.old) (K.held out.new) (flat_map outline_lines outlines.now)) }
+    ensures counted { CountsFaults result (K.faults out.old) (K.faults out.new) }
+{
+    for outline in outlines {
+        match give_outline(*outline, out) {
+            Ok(()) => {}
+            Err(failed) => return Err(failed),
+        }
+    }
+    Ok(())
 }

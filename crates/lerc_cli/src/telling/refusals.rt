@@ -71,6 +71,7 @@ fn name(reason: Reason) -> &'static [u8]
 {
     match reason {
         Reason::Blob(reason) => blob_name(reason),
+        Reason::BadBand => b"BadBand",
         Reason::Grid(reason) => grid_name(reason),
         Reason::Leftover => b"Leftover",
         Reason::DepthNeedsV4 => b"DepthNeedsV4",

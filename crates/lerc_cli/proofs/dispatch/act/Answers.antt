@@ -9,8 +9,8 @@ returns-in-Some-clause-usage g c = (
   λ none. absurd (none c.in-Some.command ((c.in-Some.ensures c.in-Some.command).0 refl)),
 )
 
-pub returns-in-Some-clause-blob : goal.returns-in-Some-clause-blob
-returns-in-Some-clause-blob g c = λ version error spelled.
+pub returns-in-Some-clause-blobs : goal.returns-in-Some-clause-blobs
+returns-in-Some-clause-blobs g c = λ version error spelled.
     let same = sym c.in-Some.is ∙ (c.command_of.ensures (Encode version error)).1 spelled in
     let is : c.in-Some.command ≡ Encode version error = cc in
-    c.perform.ensures.blob version error is
+    c.perform.ensures.blobs version error is

@@ -2,7 +2,7 @@ use Rattle.std.proofs.Common.{◌≡◌, ℕ, List, Option, refl, rules, None, s
 use Rattle.std.specs.Prelude.{OnOk}
 use Rattle.lerc_header.specs.declared.header.Version.{Version}
 use Rattle.program_ends.specs.Moves.{Change}
-use Rattle.lerc_cli.specs.run.InWords.{GivesBlob}
+use Rattle.lerc_cli.specs.run.InWords.{GivesBlobs}
 use Rattle.lerc_cli.proofs.CrashLemmas.Idle.{reading_volume, source_idle, volume_idle}
 use Rattle.lerc_cli.proofs.dispatch.perform.Goals as goal
 
@@ -69,15 +69,15 @@ returns-in-Recover-clause-output g c = rw (c.in-Recover.is, c.requires) (c.recov
 pub returns-in-Recover-clause-volume : goal.returns-in-Recover-clause-volume
 returns-in-Recover-clause-volume g c = rw (c.in-Recover.is, c.requires) (reading_volume _ _ _ _ (search rules) refl c.recover.ensures.volume c.recover.ensures.rests)
 
-pub returns-in-Encode-clause-blob : goal.returns-in-Encode-clause-blob
-returns-in-Encode-clause-blob g c = λ version error is.
+pub returns-in-Encode-clause-blobs : goal.returns-in-Encode-clause-blobs
+returns-in-Encode-clause-blobs g c = λ version error is.
     let same = sym c.in-Encode.is ∙ is in
     let v : c.in-Encode.version ≡ version = cc in
     let e : c.in-Encode.error ≡ error = cc in
     let input = g.S.Source.left c.args.src.now in
     let held : Change (Option (List ℕ)) = record { old = g.K.Sink.held c.args.out.now; new = g.K.Sink.held c.encode.new.out } in
-    subst (λ (x : Version). OnOk c.encode.result (GivesBlob x error input held)) v
-    (subst (λ (n : ℕ). OnOk c.encode.result (GivesBlob c.in-Encode.version n input held)) e c.encode.ensures.blob)
+    subst (λ (x : Version). OnOk c.encode.result (GivesBlobs x error input held)) v
+    (subst (λ (n : ℕ). OnOk c.encode.result (GivesBlobs c.in-Encode.version n input held)) e c.encode.ensures.blobs)
 
 pub returns-in-Put-clause-source : goal.returns-in-Put-clause-source
 returns-in-Put-clause-source g c = rw c.in-Put.is (c.put.ensures.source _)

@@ -48,9 +48,7 @@ returns-clause-complete g c = λ command spelled told n output has.
     complete command _ n _ _ _ output _ told c.ended_status-status.ensures.status has (c.act-ended.ensures.output command spelled)
 
 pub returns-clause-kept : goal.returns-clause-kept
-returns-clause-kept g c = λ command spelled start ready.
-    let made = (c.act-ended.ensures.volume command spelled).tiles start ready in
-    (made.0, (_, (c.ended_status-status.ensures.status, made.1.0, made.1.1)))
+returns-clause-kept g c = λ command spelled. (_, (c.ended_status-status.ensures.status, (c.act-ended.ensures.volume command spelled).tiles))
 
 pub returns-clause-shut : goal.returns-clause-shut
 returns-clause-shut g c = λ command spelled calls told which.
@@ -67,7 +65,7 @@ returns-clause-no_line g c = λ zero. unsaid _ _ (ok_at _ (sym c.ended_status-st
 
 pub returns-clause-encoded : goal.returns-clause-encoded
 returns-clause-encoded g c = λ version error spelled zero. (
-  on_ok _ (ok_at _ (sym c.ended_status-status.ensures.status ∙ zero)) (c.act-ended.ensures.blob version error spelled),
+  on_ok _ (ok_at _ (sym c.ended_status-status.ensures.status ∙ zero)) (c.act-ended.ensures.blobs version error spelled),
   (c.act-ended.ensures.source (Encode version error) spelled).whole (search rules) (ok_at _ (sym c.ended_status-status.ensures.status ∙ zero)),
 )
 

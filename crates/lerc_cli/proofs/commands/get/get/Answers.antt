@@ -12,16 +12,16 @@ pub returns-in-Err-decode_tile-clause-output : goal.returns-in-Err-decode_tile-c
 returns-in-Err-decode_tile-clause-output g c = λ input.
     tile_stopped _ g.K.Sink.held g.K.Sink.faults _ _ input _ c.args.slot c.in-Ok.tile c.in-Err-decode_tile.stop refl c.in-Ok.ensures.gives (subst (λ (t : List ℕ). DecodesTile t (Err c.in-Err-decode_tile.stop)) c.as_slice.ensures c.in-Err-decode_tile.ensures)
 
-pub returns-in-Ok-grid_write-clause-output : goal.returns-in-Ok-grid_write-clause-output
-returns-in-Ok-grid_write-clause-output g c = λ input.
-    grid_gave input _ c.args.slot c.in-Ok.tile c.in-Ok-decode_tile.raster _ c.in-Ok.ensures.gives (subst (λ (t : List ℕ). DecodesTile t (Ok c.in-Ok-decode_tile.raster)) c.as_slice.ensures c.in-Ok-decode_tile.ensures) c.in-Ok-grid_write.ensures.ok c.in-Ok-grid_write.ensures.counted
+pub returns-in-Ok-bands_write-clause-output : goal.returns-in-Ok-bands_write-clause-output
+returns-in-Ok-bands_write-clause-output g c = λ input.
+    grid_gave input _ c.args.slot c.in-Ok.tile c.in-Ok-decode_tile.bands _ c.in-Ok.ensures.gives (subst (λ (t : List ℕ). DecodesTile t (Ok c.in-Ok-decode_tile.bands)) c.as_slice.ensures c.in-Ok-decode_tile.ensures) c.in-Ok-bands_write.ensures.ok c.in-Ok-bands_write.ensures.counted
 
-pub returns-in-Ok-grid_write-clause-volume : goal.returns-in-Ok-grid_write-clause-volume
-returns-in-Ok-grid_write-clause-volume g c = reads_as _ _ _ (λ is. absurd cc) (λ is. absurd cc) c.in-Ok.ensures.volume
+pub returns-in-Ok-bands_write-clause-volume : goal.returns-in-Ok-bands_write-clause-volume
+returns-in-Ok-bands_write-clause-volume g c = reads_as _ _ _ (λ is. absurd cc) (λ is. absurd cc) c.in-Ok.ensures.volume
 
 pub returns-clause-output : goal.returns-clause-output
 returns-clause-output g c = λ input.
-    grid_cut input _ c.args.slot c.in-Ok.tile c.in-Ok-decode_tile.raster _ c.in-Ok.ensures.gives (subst (λ (t : List ℕ). DecodesTile t (Ok c.in-Ok-decode_tile.raster)) c.as_slice.ensures c.in-Ok-decode_tile.ensures) c.in-Err-grid_write.ensures.err c.in-Err-grid_write.ensures.counted.0 c.in-Err-grid_write.ensures.counted.1
+    grid_cut input _ c.args.slot c.in-Ok.tile c.in-Ok-decode_tile.bands _ c.in-Ok.ensures.gives (subst (λ (t : List ℕ). DecodesTile t (Ok c.in-Ok-decode_tile.bands)) c.as_slice.ensures c.in-Ok-decode_tile.ensures) c.in-Err-bands_write.ensures.err c.in-Err-bands_write.ensures.counted.0 c.in-Err-bands_write.ensures.counted.1
 
 pub returns-clause-volume : goal.returns-clause-volume
 returns-clause-volume g c = reads_as _ _ _ (λ is. absurd cc) (λ is. absurd cc) c.in-Ok.ensures.volume
@@ -33,8 +33,8 @@ pub returns-in-Err-decode_tile-clause-rests : goal.returns-in-Err-decode_tile-cl
 returns-in-Err-decode_tile-clause-rests g c = λ told.
     rests_undecoded _ c.in-Err-decode_tile.stop _ _ c.in-Err-decode_tile.ensures (c.in-Ok.ensures.rests told)
 
-pub returns-in-Ok-grid_write-clause-rests : goal.returns-in-Ok-grid_write-clause-rests
-returns-in-Ok-grid_write-clause-rests g c = c.in-Ok.ensures.rests
+pub returns-in-Ok-bands_write-clause-rests : goal.returns-in-Ok-bands_write-clause-rests
+returns-in-Ok-bands_write-clause-rests g c = c.in-Ok.ensures.rests
 
 pub returns-clause-rests : goal.returns-clause-rests
 returns-clause-rests g c = c.in-Ok.ensures.rests

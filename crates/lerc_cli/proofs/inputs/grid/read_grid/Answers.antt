@@ -14,18 +14,18 @@ returns-in-Err-clause-grid g c =
 pub returns-in-Ok-true-clause-grid : goal.returns-in-Ok-true-clause-grid
 returns-in-Ok-true-clause-grid g c =
     subst (λ (s : Stop Refusal). ReadsGrid (g.S.Source.left c.args.src.now) (Err s)) (sym c.leftover.ensures)
-    (reads_more c.in-Ok.raster c.grid_size.result (g.S.Source.left c.args.src.now) (g.S.Source.left c.grid_read.new.src) (g.S.Source.left c.has_more.new.src) c.grid_size.ensures c.in-Ok.ensures.ok
-    (subst (λ (b : Bool). AsksOne (Ok b) (g.S.Source.left c.grid_read.new.src) (g.S.Source.left c.has_more.new.src)) c.in-Ok-true.field-0-test c.in-Ok-true.ensures.asks))
+    (reads_more c.in-Ok.bands c.bands_size.result (g.S.Source.left c.args.src.now) (g.S.Source.left c.bands_read.new.src) (g.S.Source.left c.has_more.new.src) c.bands_size.ensures.size c.in-Ok.ensures.ok
+    (subst (λ (b : Bool). AsksOne (Ok b) (g.S.Source.left c.bands_read.new.src) (g.S.Source.left c.has_more.new.src)) c.in-Ok-true.field-0-test c.in-Ok-true.ensures.asks))
 
 pub returns-in-Ok-true-clause-taken : goal.returns-in-Ok-true-clause-taken
 returns-in-Ok-true-clause-taken g c =
-    took_more (Ok c.in-Ok-true.field-0) (g.S.Source.left c.args.src.now) (g.S.Source.left c.grid_read.new.src) (g.S.Source.left c.has_more.new.src) (took_some c.in-Ok.raster _ _ c.in-Ok.ensures.ok) c.in-Ok-true.ensures.asks
+    took_more (Ok c.in-Ok-true.field-0) (g.S.Source.left c.args.src.now) (g.S.Source.left c.bands_read.new.src) (g.S.Source.left c.has_more.new.src) (took_some c.in-Ok.bands _ _ c.in-Ok.ensures.ok) c.in-Ok-true.ensures.asks
 
 pub returns-in-Ok-false-clause-grid : goal.returns-in-Ok-false-clause-grid
 returns-in-Ok-false-clause-grid g c =
-    reads_all c.in-Ok.raster (g.S.Source.left c.args.src.now) (g.S.Source.left c.grid_read.new.src) (g.S.Source.left c.has_more.new.src) c.in-Ok.ensures.ok
-    (subst (λ (b : Bool). AsksOne (Ok b) (g.S.Source.left c.grid_read.new.src) (g.S.Source.left c.has_more.new.src)) c.in-Ok-false.field-0-test c.in-Ok-false.ensures.asks)
+    reads_all c.in-Ok.bands (g.S.Source.left c.args.src.now) (g.S.Source.left c.bands_read.new.src) (g.S.Source.left c.has_more.new.src) c.in-Ok.ensures.ok
+    (subst (λ (b : Bool). AsksOne (Ok b) (g.S.Source.left c.bands_read.new.src) (g.S.Source.left c.has_more.new.src)) c.in-Ok-false.field-0-test c.in-Ok-false.ensures.asks)
 
 pub returns-in-Ok-false-clause-taken : goal.returns-in-Ok-false-clause-taken
 returns-in-Ok-false-clause-taken g c =
-    took_more (Ok c.in-Ok-false.field-0) (g.S.Source.left c.args.src.now) (g.S.Source.left c.grid_read.new.src) (g.S.Source.left c.has_more.new.src) (took_some c.in-Ok.raster _ _ c.in-Ok.ensures.ok) c.in-Ok-false.ensures.asks
+    took_more (Ok c.in-Ok-false.field-0) (g.S.Source.left c.args.src.now) (g.S.Source.left c.bands_read.new.src) (g.S.Source.left c.has_more.new.src) (took_some c.in-Ok.bands _ _ c.in-Ok.ensures.ok) c.in-Ok-false.ensures.asks
