@@ -1,7 +1,8 @@
 -- Feeding a decoder of bands from a source.
 use Rattle.std.proofs.Common.{◌≡◌, ℕ, ◌+◌, ◌-◌, ◌*◌, ◌<◌, ◌≤◌, zero, suc, List, [], ◌∷◌, ◌++◌, length, take, drop, codes, Option, None, Some, Result, Ok, Err, refl, sym, ap, ◌∙◌, subst, arith, ◌⊎◌, inl, inr}
-use Rattle.std.specs.Prelude.{IfSome}
-use Rattle.std.proofs.lemmas.List.{append_assoc, append-nil, length-append, length-take-le, take-append-drop, take-take, drop-append-add}
+use Rattle.std.specs.Prelude.{min, IfSome}
+use Rattle.std.proofs.lemmas.List.{append_assoc, append-nil, length-append, length-take-le, take-append-drop, take-take}
+use Rattle.std.proofs.Math.Seq.{drop-append-add}
 use Rattle.outside_io.specs.declared.streams.failed.Failed.{Failed}
 use Rattle.outside_io.specs.streams.Source.{Takes, TakesUpTo, IsAtEnd}
 use Rattle.lerc_header.specs.declared.header.Version.{Version}
@@ -14,6 +15,7 @@ use Rattle.lerc_decode.specs.declared.decoder.FedState.TheVariants.{More}
 use Rattle.lerc_decode.specs.States.{state_at, missing_at}
 use Rattle.lerc_decode.specs.Reading.{WholeFront, BandsStage, InBlob, Behind, Wrong, NoMemory, BandsDecoding, IsAt, IsAfter, HasEndedAt, wanted}
 use Rattle.lerc_decode.specs.inside.BandsFeeding.{Reads, ReadsAt, HasRead, reached, room_at, room_of}
+use Rattle.lerc_decode.proofs.BlobTurns.{missing_some}
 use Rattle.lerc_decode.proofs.FirstBlobs.{header_more}
 use Rattle.lerc_decode.proofs.Tiles.{blobs_few}
 
@@ -33,6 +35,7 @@ missing_few d stands more = by d.stage stands more
     short : (v : Version) → head_length v ≤ 134217728
     short V3 = omega arith
     short V4 = omega arith
+
     by : (s : Stage) → IsStageOf d.before d.taken s → state_at s ≡ More → length d.taken + missing_at s (length d.taken) ≤ 134217728
     by Key stands more = omega (arith, stands)
     by (Fields v) stands more = omega (arith, stands.1.0, short v)
@@ -41,17 +44,8 @@ missing_few d stands more = by d.stage stands more
     by (WrongBlob place reason) stands more = absurd (cc)
     by NoneLeft stands more = absurd (cc)
 
--- something is missing
-blob_wants : (taken : List ℕ) (f : WholeFront) (d : Decoding) → IsAt taken f (InBlob d) → 0 < missing_at d.stage (length d.taken)
-blob_wants taken f d (front, (is, (inside, goes))) = by d.stage goes.stands goes.more
-  where
-    by : (s : Stage) → IsStageOf d.before d.taken s → state_at s ≡ More → 0 < missing_at s (length d.taken)
-    by Key stands more = omega (arith, stands)
-    by (Fields v) stands more = omega (arith, stands.1.0)
-    by (Body h) stands more = omega (arith, stands.1)
-    by (Whole r) stands more = absurd (cc)
-    by (WrongBlob place reason) stands more = absurd (cc)
-    by NoneLeft stands more = absurd (cc)
+pub blob_wants : (taken : List ℕ) (f : WholeFront) (d : Decoding) → IsAt taken f (InBlob d) → 0 < missing_at d.stage (length d.taken)
+blob_wants taken f d (front, (is, (inside, goes))) = missing_some d.before d.taken d.stage goes.stands goes.more
 
 pub few_taken : (taken : List ℕ) (f : WholeFront) (s : BandsStage) → IsAt taken f s → 0 < wanted s → length taken + wanted s ≤ 2147483649
 few_taken taken f (InBlob d) (front, (is, (inside, goes))) some =
@@ -63,6 +57,12 @@ few_taken taken f (Behind (suc n)) (front, (is, (b, below))) some =
     omega (arith, l, below, ap length b.behind.joined, length-append front (take (suc n) (codes "Lerc2 ")), blobs_few None front f.bands b.behind.stand, b.few (omega (arith, l)))
 few_taken taken f (Wrong place reason) is some = absurd (omega (arith, some))
 few_taken taken f NoMemory is some = absurd (omega (arith, some))
+
+-- the place of the end fits
+pub blob_reached : (taken : List ℕ) (f : WholeFront) (d : Decoding) → IsAt taken f (InBlob d) → f.place + length d.taken ≤ 2147483649
+blob_reached taken f d is =
+    let some = blob_wants taken f d is in
+    omega (arith, reached_is taken f (InBlob d) is some, few_taken taken f (InBlob d) is some)
 
 room_is : (taken : List ℕ) (f : WholeFront) (s : BandsStage) → IsAt taken f s → 0 < wanted s → room_at f s ≡ 2147483650 - length taken
 room_is taken f (InBlob d) is some = ap (λ n. 2147483650 - n) (sym (reached_is taken f (InBlob d) is some))
@@ -76,8 +76,10 @@ room_falls taken part d e old some new why = by e.stage new why
   where
     there : 0 < room_of d
     there = omega (arith, room_is taken d.front d.stage old some, few_taken taken d.front d.stage old some, some)
+
     live : (s : BandsStage) → IsAt (taken ++ part) e.front s → 0 < wanted s → 0 < length part → room_at e.front s < room_of d
     live s new more long = omega (arith, room_is (taken ++ part) e.front s new more, room_is taken d.front d.stage old some, few_taken taken d.front d.stage old some, length-append taken part, long, some)
+
     by : (s : BandsStage) → IsAt (taken ++ part) e.front s → (s ≡ NoMemory) ⊎ (0 < length part) → room_at e.front s < room_of d
     by (InBlob x) new (inl is) = absurd (cc)
     by (InBlob x) new (inr long) = live (InBlob x) new (blob_wants (taken ++ part) e.front x new) long
@@ -95,6 +97,7 @@ reads_more None left0 left1 got used buf d e takes step why (none_, (taken, is))
   where
     untold : Takes None left1 (Ok got) buf
     untold = subst (λ (o : Option (List ℕ)). Takes o left1 (Ok got) buf) none_ takes
+
     by : (s : BandsStage) → (s ≡ NoMemory) ⊎ (used ≡ got) → IsAt (taken ++ take used (take got buf)) e.front s → ReadsAt s None (Reads None left1 e)
     by (InBlob x) why new = (untold, (taken ++ take used (take got buf), step taken is))
     by (Behind have) why new = (untold, (taken ++ take used (take got buf), step taken is))
@@ -104,15 +107,23 @@ reads_more (Some input) left0 left1 got used buf d e takes step why (taken, (res
   where
     told : Takes (Some rest) left1 (Ok got) buf
     told = subst (λ (o : Option (List ℕ)). Takes o left1 (Ok got) buf) left takes
+
     piece : take got buf ≡ take got rest
     piece = told.0.1.1
+
     all : (used ≡ got) → Reads (Some input) left1 e
     all same =
-        let whole : take used (take got buf) ≡ take got rest = ap (λ n. take n (take got buf)) same ∙ ap (take got) piece ∙ take-take got got rest (omega arith) in
-        (taken ++ take got rest, (drop got rest, (
-          joined ∙ ap (λ (u : List ℕ). taken ++ u) (sym (take-append-drop got rest)) ∙ sym (append_assoc taken (take got rest) (drop got rest)),
-          (told.0.0, subst (λ (u : List ℕ). IsAfter (taken ++ u) e) whole (step taken is)),
-        )))
+        let whole : take used (take got buf) ≡ take got rest = ap (λ n. take n (take got buf)) same ∙ ap (take got) piece ∙ take-take got got rest (omega arith) in (
+          taken ++ take got rest,
+          (
+            drop got rest,
+            (
+              joined ∙ ap (λ (u : List ℕ). taken ++ u) (sym (take-append-drop got rest)) ∙ sym (append_assoc taken (take got rest) (drop got rest)),
+              (told.0.0, subst (λ (u : List ℕ). IsAfter (taken ++ u) e) whole (step taken is)),
+            ),
+          ),
+        )
+
     by : (s : BandsStage) → (s ≡ NoMemory) ⊎ (used ≡ got) → IsAt (taken ++ take used (take got buf)) e.front s → ReadsAt s (Some input) (Reads (Some input) left1 e)
     by (InBlob x) (inl none_) new = absurd (cc)
     by (InBlob x) (inr same) new = all same
@@ -125,7 +136,7 @@ reads_more (Some input) left0 left1 got used buf d e takes step why (taken, (res
         let behind = drop used (take got rest) ++ drop got rest in
         let whole : input ≡ (taken ++ part) ++ behind =
         joined ∙ ap (λ (u : List ℕ). taken ++ u) (sym (take-append-drop got rest) ∙ ap (λ (u : List ℕ). u ++ drop got rest) (sym (take-append-drop used (take got rest))) ∙ append_assoc (take used (take got rest)) (drop used (take got rest)) (drop got rest))
-            ∙ sym (append_assoc taken (take used (take got rest)) behind) ∙ ap (λ (u : List ℕ). (taken ++ take used u) ++ behind) (sym piece) in
+        ∙ sym (append_assoc taken (take used (take got rest)) behind) ∙ ap (λ (u : List ℕ). (taken ++ take used u) ++ behind) (sym piece) in
         subst HasHeader (sym whole) (header_more (taken ++ part) behind new)
 
 -- where nothing came, the source is as it was
@@ -149,14 +160,11 @@ at_end (Some rest) left1 got buf none_ takes = by buf takes
   where
     by : (buf : List ℕ) → Takes (Some rest) left1 (Ok got) buf → (length buf ≡ 0) ⊎ IsAtEnd left1
     by [] takes = inl refl
-    by (b ∷ bs) takes = let empty : rest ≡ [] = (takes.1 (omega arith)).0 none_ in inr (subst IsAtEnd (sym (takes.0.0 ∙ ap Some (ap (drop got) empty ∙ (let t : drop got [] ≡ ([] : List ℕ) = simp in t)))) refl)
+    by (b ∷ bs) takes =
+        let empty : rest ≡ [] = (takes.1 (omega arith)).0 none_ in
+        inr (subst IsAtEnd (sym (takes.0.0 ∙ ap (λ n. Some (drop n rest)) none_ ∙ ap Some empty)) refl)
 
 -- ---- how many bytes are taken at most
-
-pub takes_within : (left0 left1 : Option (List ℕ)) (r : Result ℕ Failed) (buf : List ℕ) (most : ℕ) → Takes left0 left1 r buf → length buf ≤ most → ((n : ℕ) → r ≡ Ok n → n ≤ length buf) → TakesUpTo most left0 left1
-takes_within None left1 r buf most takes few within = takes
-takes_within (Some left) left1 (Ok n) buf most takes few within = (n, (omega (arith, within n refl, few), (takes.0.1.0, takes.0.0)))
-takes_within (Some left) left1 (Err e) buf most takes few within = (0, (omega arith, (omega arith, takes)))
 
 -- with what was taken before
 pub takes_all : (first left0 left1 : Option (List ℕ)) (d : BandsDecoding) → 0 < wanted d.stage → Reads first left0 d → TakesUpTo (wanted d.stage) left0 left1 → TakesUpTo 2147483649 first left1
@@ -194,12 +202,28 @@ pub reads_nothing : (left : Option (List ℕ)) (d : BandsDecoding) → IsAfter [
 reads_nothing None d is = (refl, ([], is))
 reads_nothing (Some input) d is = ([], (input, (refl, (refl, is))))
 
-pub has_read : (first new : Option (List ℕ)) (d : BandsDecoding) → ((first ≡ None) ⊎ ¬ (d.stage ≡ NoMemory)) → Reads first new d → HasRead first new d
-has_read first new d why read = by d.stage why
+pub has_started : (left : Option (List ℕ)) (d : BandsDecoding) → IsAfter [] d → HasRead left left d
+has_started left d is = by d.stage is
   where
-    by : (s : BandsStage) → ((first ≡ None) ⊎ ¬ (s ≡ NoMemory)) → ReadsAt s first (Reads first new d)
-    by (InBlob x) why = read
-    by (Behind have) why = read
-    by (Wrong place reason) why = read
-    by NoMemory (inl none_) = subst (λ (o : Option (List ℕ)). IfSome o HasHeader) (sym none_) tt
-    by NoMemory (inr other) = absurd (other refl)
+    by : (s : BandsStage) → IsAt [] d.front s → ReadsAt s left (Reads left left d)
+    by (InBlob x) at = reads_nothing left d is
+    by (Behind have) at = reads_nothing left d is
+    by (Wrong place reason) at = reads_nothing left d is
+    by NoMemory at = absurd (omega (arith, at.stands.long))
+
+-- ---- pieces
+
+pub ended_wants : (s : BandsStage) → HasEndedAt s → wanted s ≡ 0
+ended_wants (InBlob d) e = absurd e
+ended_wants (Behind have) e = absurd e
+ended_wants (Wrong place reason) e = refl
+ended_wants NoMemory e = refl
+
+-- a step uses all that came, but for want of memory
+pub used_of : (s t : BandsStage) (got used : ℕ) (buf : List ℕ) → got ≤ length buf → length buf ≤ wanted s → (t ≡ NoMemory) ⊎ (used ≡ min (wanted s) (length (take got buf))) → (t ≡ NoMemory) ⊎ (used ≡ got)
+used_of s t got used buf within short (inl none_) = inl none_
+used_of s t got used buf within short (inr u) = inr (omega (arith, u, length-take-le got buf within, within, short))
+
+pub some_used : (t : BandsStage) (got used : ℕ) (buf : List ℕ) → got ≤ length buf → 0 < got → (t ≡ NoMemory) ⊎ (used ≡ got) → (t ≡ NoMemory) ⊎ (0 < length (take used (take got buf)))
+some_used t got used buf within some (inl none_) = inl none_
+some_used t got used buf within some (inr u) = let l = length-take-le got buf within in inr (omega (arith, u, some, l, length-take-le used (take got buf) (omega (arith, l, u))))

@@ -47,14 +47,3 @@ pub swept : (h : Header) (old new : Pixels) (bytes : List ℕ) (need : ℕ) → 
 swept h old new bytes need shape p is size =
     let stands : AreValues h.kind bytes (values_of new.pixels) = subst (λ (k : PixelType). AreValues k bytes (values_of new.pixels)) (sym shape.kind) p.poured in
     record { stands = stands; count = same_count h.kind (length (values_of new.pixels)) (value_count h) (sym stands.size ∙ size ∙ is) }
-
--- values that are read one by one
-pub spelled_at : (kind : PixelType) (bytes : List ℕ) (i size : ℕ) (value : ℤ) → size ≡ bytes_of kind → Spells kind (take (length bytes - i * size) (drop (i * size) bytes)) value
-    → value ≡ value_of kind (little_number (bytes_of kind) (drop (i * bytes_of kind) bytes))
-spelled_at kind bytes i size value is s =
-    s ∙ ap (λ (u : List ℕ). value_of kind (little_number (bytes_of kind) u)) (take_rest bytes (i * size) ∙ ap (λ n. drop (i * n) bytes) is)
-
-pub read_in_range : (kind : PixelType) (bytes : List ℕ) (out : List ℤ) → AreBytes bytes → AreValues kind bytes out → All (InRange kind) out
-read_in_range kind bytes out are v =
-    let there = values_there kind bytes (length out) are v.size in
-    subst (All (InRange kind)) (values_once kind bytes there.0 out there.1.0 v) there.1.1.1.0

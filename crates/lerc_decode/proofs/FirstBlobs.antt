@@ -1,5 +1,5 @@
 -- The blob that comes first of a tile's bytes.
-use Rattle.std.proofs.Common.{◌≡◌, ℕ, ◌+◌, ◌<◌, ◌≤◌, List, [], ◌∷◌, ◌++◌, length, take, drop, Option, None, Some, refl, sym, ap, ◌∙◌, subst, arith, inl, inr}
+use Rattle.std.proofs.Common.{◌≡◌, ℕ, ◌+◌, ◌<◌, ◌≤◌, List, [], ◌∷◌, ◌++◌, length, take, drop, Option, None, Some, zero-add, refl, sym, ap, ◌∙◌, subst, arith, inl, inr}
 use Rattle.std.proofs.lemmas.List.{append-nil, append_assoc, length-append, drop-drop}
 use Rattle.outside_io.specs.streams.Source.{TakesUpTo}
 use Rattle.raster_values.specs.Raster.{Pixels}
@@ -38,7 +38,7 @@ like_none : (bytes : List ℕ) → HasLikeHead [] bytes
 like_none bytes = λ h head p a w. w
 
 pub first_decides : (bytes : List ℕ) (p : ℕ) (why : BlobReason) → FirstFaultAfter None bytes p why → FirstBandsFault bytes p (OfBlob why)
-first_decides bytes p why w = fault_there bytes [] [] bytes p why (no_blob bytes) (inl refl) (like_none bytes) w
+first_decides bytes p why w = subst (λ (n : ℕ). FirstBandsFault bytes n (OfBlob why)) (zero-add p) (fault_there bytes [] [] bytes p why (no_blob bytes) (inl refl) (like_none bytes) w)
 
 pub first_stays : (bytes more : List ℕ) (p : ℕ) (why : BlobReason) → FirstFaultAfter None bytes p why → BandsFaultAt (bytes ++ more) p (OfBlob why)
 first_stays bytes more p why w = bands_faults_stay bytes more p (OfBlob why) (first_decides bytes p why w)

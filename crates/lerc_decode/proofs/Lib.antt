@@ -5,11 +5,13 @@ mod Befores
 mod Fields
 mod Steps
 mod BandsFeeding
+mod BandsRead
 mod FirstBlobs
 pub mod Feeding
+mod Settled
 mod Tiles
 mod Tops
-mod Turns
+mod BlobTurns
 mod BlockReading
 mod CodePlaces
 mod Symbols

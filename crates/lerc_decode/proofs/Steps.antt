@@ -18,13 +18,13 @@ use Rattle.lerc_grammar.proofs.More.{more_key, more_fields, more_body, least_fie
 use Rattle.lerc_grammar.proofs.Verdicts.{take_same}
 use Rattle.lerc_decode.specs.declared.decoder.Decoder.TheInside.{Inside}
 use Rattle.lerc_decode.specs.declared.decoder.Progress.{Progress}
-use Rattle.lerc_decode.specs.declared.decoder.Progress.TheVariants.{Fields as AtFields, Body as AtBody, Refused, OutOfMemory}
+use Rattle.lerc_decode.specs.declared.decoder.Progress.TheVariants.{Key as AtKey, Fields as AtFields, Body as AtBody, Done as AtDone, Refused, OutOfMemory}
 use Rattle.lerc_decode.specs.Decoding.{Stage, Key, Fields, Body, Whole, Wrong, NoMemory, Decoding, IsStageOf, IsLeastAfter, HasTaken, IsSame}
 use Rattle.lerc_decode.specs.inside.Steps.{AfterKey, AfterFields, AfterBody, StepsKey, StepsFields, StepsBody}
 use Rattle.lerc_decode.specs.declared.decoder.FedState.TheVariants.{More}
 use Rattle.lerc_decode.specs.States.{state_at, missing_at, IsTold, HasStopped, IsUsed}
 use Rattle.lerc_decode.specs.inside.Steps.{UsesKey, UsesFields, UsesBody}
-use Rattle.lerc_decode.specs.inside.Stages.{KeepsHead, stage_of}
+use Rattle.lerc_decode.specs.inside.Stages.{HasEnded, KeepsHead, stage_of}
 use Rattle.lerc_decode.specs.inside.Inside.{seen, taken_of, IsKept, IsInside}
 
 -- ---- a whole blob
@@ -98,6 +98,21 @@ body_taken a b h more is inside e =
     let new = some_items b.blob.items (take b.have b.head) some in
     let old = some_items a.blob.items (take a.have a.head) kept in
     (new, new ∙ e ∙ ap (λ (u : List ℕ). u ++ more) (sym old))
+
+-- they are kept where the blob is whole
+pub kept_ended : (a b : Inside) (h : Header) (more : List ℕ) → a.progress ≡ AtBody h → IsInside a → b.blob.items ≡ a.blob.items ++ more → HasEnded b.progress → IsKept b b.progress
+kept_ended a b h more is inside e ended = by b.progress ended
+  where
+    some : 0 < length b.blob.items
+    some = let kept : 0 < length a.blob.items = subst (IsKept a) is inside.kept in omega (arith, ap length e, length-append a.blob.items more, kept)
+
+    by : (p : Progress) → HasEnded p → IsKept b p
+    by (AtDone r) ended = some
+    by (Refused f) ended = tt
+    by OutOfMemory ended = tt
+    by (AtBody g) ended = absurd ended
+    by (AtFields v) ended = absurd ended
+    by AtKey ended = absurd ended
 
 -- more bytes of the blob, and not all
 pub body_goes_on : (a b : Inside) (h : Header) (more : List ℕ) → a.progress ≡ AtBody h → IsInside a → b.progress ≡ AtBody h → b.have ≡ a.have → b.head ≡ a.head → b.blob.items ≡ a.blob.items ++ more → length b.blob.items < h.size → IsInside b

@@ -1,7 +1,9 @@
 -- A decoder of bands at each of its stages.
-use Rattle.std.proofs.Common.{◌≡◌, ℕ, ◌+◌, ◌-◌, ◌*◌, ◌^◌, ◌<◌, ◌≤◌, zero, suc, List, [], ◌∷◌, ◌++◌, length, get_or, take, drop, codes, Option, None, Some, refl, sym, ap, ◌∙◌, subst, arith, ◌⊎◌, inl, inr}
-use Rattle.std.specs.List.{concat}
-use Rattle.std.proofs.lemmas.List.{append_assoc, append-nil, length-append, length-take-le, take_all, take_more, get_or-append}
+use Rattle.std.proofs.Common.{◌≡◌, ℕ, ◌+◌, ◌-◌, ◌*◌, ◌^◌, ◌<◌, ◌≤◌, zero, suc, List, [], ◌∷◌, ◌++◌, length, get_or, take, drop, codes, Option, None, Some, Result, Ok, Err, refl, sym, ap, ◌∙◌, subst, arith, ◌⊎◌, inl, inr}
+use Rattle.std.specs.Prelude.{IfOk}
+use Rattle.std.specs.List.{concat, slice_get}
+use Rattle.std.proofs.lemmas.List.{append_assoc, append-nil, length-append, length-take-le, take_all, take_more}
+use Rattle.std.proofs.lemmas.Option.{get_or_from_slice_get}
 use Rattle.std.proofs.lemmas.List.Folds.{concat-append}
 use Rattle.raster_values.specs.Raster.{Pixels}
 use Rattle.lerc_header.specs.declared.header.Header.{Header}
@@ -23,8 +25,11 @@ use Rattle.lerc_decode.specs.Decoding.{Stage, Key, Fields, Body, Whole, Wrong as
 use Rattle.lerc_decode.specs.States.{state_at}
 use Rattle.lerc_decode.specs.Reading.{WholeFront, BandsStage, InBlob, Behind, Wrong, NoMemory, AreBlobs, AreKept, IsFrontOf, GoesOnBehind, IsAt}
 use Rattle.lerc_decode.specs.BandsStates.{state_of, IsUndecided, IsBandsTold}
+use Rattle.lerc_decode.specs.declared.bands.BandsProgress.{BandsProgress}
+use Rattle.lerc_decode.specs.declared.bands.BandsProgress.TheVariants.{Inside as AtBlob, Behind as AtKey, Refused as AtFault, OutOfMemory as AtNone}
+use Rattle.lerc_decode.specs.inside.BandsStages.{stage_in, IsBegunBehind}
 use Rattle.lerc_decode.specs.inside.Turns.{kept_with, with_blob}
-use Rattle.lerc_decode.proofs.Turns.{header_before}
+use Rattle.lerc_decode.proofs.BlobTurns.{header_before}
 
 -- ---- one blob more
 
@@ -90,6 +95,7 @@ no_blob_here bands have byte below some (inr other) = (some, inr (λ e. other (s
   where
     rest : List ℕ
     rest = take have (codes "Lerc2 ")
+
     same : take 6 (rest ++ byte ∷ []) ≡ take (length (rest ++ byte ∷ [])) (codes "Lerc2 ") → byte ≡ get_or (codes "Lerc2 ") have 0
     same e =
         let l = key_length have below in
@@ -116,7 +122,7 @@ pub more_key_bytes : (taken bytes : List ℕ) (f : WholeFront) (have byte : ℕ)
 more_key_bytes taken bytes f have byte below front b other is =
     let l = key_length have (omega (arith, below)) in
     let e = next_key have byte (omega (arith, below)) is in
-    let there = step_key taken f.bands bytes (take have (codes "Lerc2 ")) byte b (fewer f.bands taken bytes (take have (codes "Lerc2 ")) b other) (omega (arith, l, below)) (e ∙ ap (λ n. take n (codes "Lerc2 ")) (omega (arith, l))) in
+    let there = step_key taken f.bands bytes (take have (codes "Lerc2 ")) byte b (fewer f.bands taken bytes (take have (codes "Lerc2 ")) b other) (omega (arith, l, below)) (e ∙ ap (λ n. take n (codes "Lerc2 ")) (let t : have + 1 ≡ suc (length (take have (codes "Lerc2 "))) = omega (arith, l) in t)) in
     (bytes, (front, (subst (λ (u : List ℕ). IsBetween (taken ++ byte ∷ []) f.bands bytes u) e there, omega (arith, below))))
 
 -- after six bytes nothing is decided
@@ -137,8 +143,7 @@ pub next_begun : (taken bytes : List ℕ) (f : WholeFront) (byte : ℕ) (d : Dec
     → d.taken ≡ codes "Lerc2 " → d.before ≡ last_after None f.bands → IsStageOf d.before d.taken d.stage → IsAt (taken ++ byte ∷ []) f (InBlob d)
 next_begun taken bytes f byte d front b other is key before stands =
     let e = next_key 5 byte (omega arith) is in
-    let there = step_begin taken f.bands bytes (take 5 (codes "Lerc2 ")) byte b (fewer f.bands taken bytes (take 5 (codes "Lerc2 ")) b other) e in
-    (
+    let there = step_begin taken f.bands bytes (take 5 (codes "Lerc2 ")) byte b (fewer f.bands taken bytes (take 5 (codes "Lerc2 ")) b other) e in (
       bytes,
       (
         front,
@@ -183,3 +188,41 @@ key_cut taken f (suc n) some (front, (is, (b, below))) = subst (λ (k : ℕ). Ba
 pub all_whole : (taken : List ℕ) (f : WholeFront) → IsAt taken f (Behind 0) → BandsBlob taken f.bands × AreKept f.kept taken f.bands
 all_whole taken f (front, (is, (b, below))) =
     (whole_there taken f.bands front [] b refl, subst (λ (u : List ℕ). AreKept f.kept u f.bands) (sym (b.behind.joined ∙ append-nil front)) is.1)
+
+-- ---- the last band
+
+last_of_bands : (before : Option Previous) (bands : List Pixels) (r : Pixels) (n : ℕ) → length bands ≡ suc n → get_or bands n r ≡ r → last_after before bands ≡ Some (previous_of r)
+last_of_bands before [] r n long is = absurd (omega (arith, long))
+last_of_bands before (x ∷ []) r zero long is = ap (λ (p : Pixels). Some (previous_of p)) is
+last_of_bands before (x ∷ []) r (suc n) long is = absurd (omega (arith, long))
+last_of_bands before (x ∷ y ∷ more) r zero long is = absurd (omega (arith, long))
+last_of_bands before (x ∷ y ∷ more) r (suc n) long is = last_of_bands (Some (previous_of x)) (y ∷ more) r n (omega (arith, long)) is
+
+pub behind_last : {E : Type 0} → (result : Result Decoding E) (own bands : List Pixels) (r : Pixels) (n : ℕ) → own ≡ bands → IfOk result (λ d. d.before ≡ Some (previous_of r)) → length bands ≡ suc n → slice_get bands n ≡ Some r → IfOk result (λ d. d.before ≡ last_after None own)
+behind_last (Ok d) own bands r n same is long at = is ∙ sym (last_of_bands None bands r n long (get_or_from_slice_get bands n r r at)) ∙ ap (last_after None) (sym same)
+behind_last (Err e) own bands r n same is long at = tt
+
+-- ---- what the code holds
+
+pub at_progress : (taken : List ℕ) (f : WholeFront) (p q : BandsProgress) → p ≡ q → IsAt taken f (stage_in p) → IsAt taken f (stage_in q)
+at_progress taken f p q is at = subst (λ (x : BandsProgress). IsAt taken f (stage_in x)) is at
+
+-- the key is whole
+pub begun_at : (taken bytes : List ℕ) (f : WholeFront) (have byte : ℕ) (p : BandsProgress) → have < 6 → ¬ (have < 5) → IsFrontOf bytes f → IsBetween taken f.bands bytes (take have (codes "Lerc2 ")) → ¬ (length f.bands ≡ 16) → byte ≡ get_or (codes "Lerc2 ") have 0
+    → IsBegunBehind f.bands p → IsAt (taken ++ byte ∷ []) f (stage_in p)
+begun_at taken bytes f have byte p below high front b other is begun = by p begun
+  where
+    five : have ≡ 5
+    five = omega (arith, below, high)
+
+    there : IsBetween taken f.bands bytes (take 5 (codes "Lerc2 "))
+    there = subst (λ (n : ℕ). IsBetween taken f.bands bytes (take n (codes "Lerc2 "))) five b
+
+    byte_is : byte ≡ get_or (codes "Lerc2 ") 5 0
+    byte_is = subst (λ (n : ℕ). byte ≡ get_or (codes "Lerc2 ") n 0) five is
+
+    by : (p : BandsProgress) → IsBegunBehind f.bands p → IsAt (taken ++ byte ∷ []) f (stage_in p)
+    by (AtBlob d) begun = next_begun taken bytes f byte d front there other byte_is begun.0 begun.1.0 begun.1.1
+    by AtNone begun = no_room taken (byte ∷ []) bytes f.bands (take have (codes "Lerc2 ")) b
+    by (AtKey n) begun = absurd begun
+    by (AtFault g) begun = absurd begun

@@ -1,3 +1,4 @@
+pub mod BandsAnswers
 pub mod Bands
 pub mod BandsFeeding
 pub mod BandsStages
@@ -7,6 +8,7 @@ pub mod Body
 pub mod Codes
 pub mod Feeding
 pub mod Inside
+pub mod Kept
 pub mod Stages
 pub mod Steps
 pub mod Turns

@@ -2,15 +2,18 @@
 
 ghost use Rattle.std.specs.Prelude.{◌≡◌, ◌<◌, ◌≤◌, ◌⊎◌, ◌↔◌, ◌++◌, ℕ, List, [], ◌∷◌, ◌^◌, IfOk, Err, None, min, codes, length, take};
 ghost use Rattle.lerc_decode.specs.BandsStates.{state_of, GoesOn, IsBandsTold, IsBandsFinish};
-ghost use Rattle.lerc_decode.specs.Reading.{NoMemory, IsAfter, HasEndedAt, wanted};
+ghost use Rattle.lerc_grammar.specs.declared.bands.BandReason.{BandReason};
+ghost use Rattle.lerc_decode.specs.Reading.{NoMemory, Wrong, IsAfter, HasEndedAt, wanted};
 ghost use Rattle.lerc_grammar.specs.BandsReading.{IsBetween};
 ghost use Rattle.lerc_decode.specs.Reading.{IsAt, IsFrontOf};
+ghost use Rattle.lerc_decode.specs.inside.Turns.{IsNext};
+ghost use Rattle.lerc_decode.specs.inside.Kept.{IsKeeping};
 ghost use Rattle.lerc_decode.specs.inside.BandsStages.{stage_in, IsRaised, IsBegunBehind, IsKeptFinish};
 
 use crate::decoder::Decoder;
 use crate::front_blobs::FrontBlobs;
 use crate::kept::KeptBlobs;
-use crate::turns::{Next, turn};
+use crate::turns::{Ended, Next, Turned, turn};
 use lerc_grammar::{BandReason, BandsFault};
 use lerc_header::BlobReason;
 use raster_values::Bands;
@@ -92,6 +95,29 @@ fn raised(fault: BandsFault, by: u64) -> BandsProgress
     }
 }
 
+/// Where the decoder of bands is when a piece of a blob came to this.
+fn settled(alloc: Global, front: &mut FrontBlobs, next: Next) -> BandsProgress
+    requires { (taken : List ℕ) × ((bytes : List ℕ)
+        × (IsFrontOf bytes front.old × IsNext taken front.old.bands bytes next)) }
+    ensures at { (taken bytes : List ℕ) → IsFrontOf bytes front.old
+        → IsNext taken front.old.bands bytes next → IsAt taken front.new (stage_in result) }
+    ensures none { next ≡ Next.OutOfMemory → stage_in result ≡ NoMemory }
+    ensures keeps { IsKeeping front.old.kept → IsKeeping front.new.kept }
+{
+    match next {
+        Next::Goes(decoder) => BandsProgress::Inside(decoder),
+        Next::Ends(ended) => {
+            let Ended { band, blob } = ended;
+            match front.add(alloc, band, blob) {
+                Ok(()) => BandsProgress::Behind(0),
+                Err(_) => BandsProgress::OutOfMemory,
+            }
+        }
+        Next::Refused(fault) => raised(fault, front.place()),
+        Next::OutOfMemory => BandsProgress::OutOfMemory,
+    }
+}
+
 /// A further blob, whose key has come.
 fn begun(alloc: Global, front: &FrontBlobs) -> BandsProgress
     ensures { IsBegunBehind front.now.bands result }
@@ -159,29 +185,23 @@ impl BandsDecoder {
         ensures used { (self.new.stage ≡ NoMemory)
             ⊎ (result ≡ min (wanted self.old.stage) (length piece.now)) }
         ensures ended { HasEndedAt self.old.stage → self.new ≡ self.old }
+        ensures keeps { IsKeeping self.old.front.kept → IsKeeping self.new.front.kept }
     {
         match mem::replace(&mut self.progress, BandsProgress::OutOfMemory) {
             BandsProgress::Inside(decoder) => {
-                let turned = turn(decoder, &self.front, piece);
-                self.progress = match turned.next {
-                    Next::Goes(decoder) => BandsProgress::Inside(decoder),
-                    Next::Ends(ended) => match self.front.add(self.alloc, ended.band, ended.blob) {
-                        Ok(()) => BandsProgress::Behind(0),
-                        Err(_) => BandsProgress::OutOfMemory,
-                    },
-                    Next::Refused(fault) => raised(fault, self.front.place()),
-                    Next::OutOfMemory => BandsProgress::OutOfMemory,
-                };
-                turned.used
+                let Turned { used, next } = turn(decoder, &self.front, piece);
+                self.progress = settled(self.alloc, &mut self.front, next);
+                used
             }
             BandsProgress::Behind(have) => {
                 self.progress = followed(self.alloc, &self.front, have, piece[0]);
                 1
             }
-            ended => {
-                self.progress = ended;
+            BandsProgress::Refused(fault) => {
+                self.progress = BandsProgress::Refused(fault);
                 0
             }
+            BandsProgress::OutOfMemory => 0,
         }
     }
 
@@ -241,6 +261,8 @@ impl BandsDecoder {
     pub(crate) fn finish_kept(self) -> Result<(Bands, Option<KeptBlobs>), BandsStop>
         ensures verdict { (taken : List ℕ) → IsAfter taken self → IsKeptFinish taken self.front.kept result }
         ensures memory { (result ≡ Err BandsStop.OutOfMemory) ↔ (self.stage ≡ NoMemory) }
+        ensures refused { (place : ℕ) (reason : BandReason) → self.stage ≡ Wrong place reason
+            → result ≡ Err (BandsStop.Fault (record { reason = reason; place = place })) }
     {
         let BandsDecoder {
             front,
@@ -271,9 +293,16 @@ impl BandsDecoder {
     pub fn finish(self) -> Result<Bands, BandsStop>
         ensures verdict { (taken : List ℕ) → IsAfter taken self → IsBandsFinish taken result }
         ensures memory { (result ≡ Err BandsStop.OutOfMemory) ↔ (self.stage ≡ NoMemory) }
+        ensures refused { (place : ℕ) (reason : BandReason) → self.stage ≡ Wrong place reason
+            → result ≡ Err (BandsStop.Fault (record { reason = reason; place = place })) }
     {
-        let (bands, _) = self.finish_kept()?;
-        Ok(bands)
+        match self.finish_kept() {
+            Ok(found) => {
+                let (bands, _) = found;
+                Ok(bands)
+            }
+            Err(stop) => Err(stop),
+        }
     }
 }
 
@@ -286,6 +315,7 @@ pub fn decode_bands(alloc: Global, bytes: &[u8]) -> Result<Bands, BandsStop>
     match fed.state {
         BandsState::Refused(fault) => Err(BandsStop::Fault(fault)),
         BandsState::OutOfMemory => Err(BandsStop::OutOfMemory),
-        _ => decoder.finish(),
+        BandsState::More => decoder.finish(),
+        BandsState::Whole => decoder.finish(),
     }
 }

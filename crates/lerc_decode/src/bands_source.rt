@@ -1,10 +1,13 @@
 //! Decoding all bands of a source.
 
-ghost use Rattle.std.specs.Prelude.{◌≡◌, ◌<◌, ◌≤◌, ◌⊎◌, [], IfOk, OnOk, length};
+ghost use Rattle.std.specs.Prelude.{◌≡◌, ◌<◌, ◌≤◌, ◌⊎◌, ℕ, List, [], IfOk, OnOk, Option, length};
 ghost use Rattle.outside_io.specs.streams.Faults.{CountsFaults};
 ghost use Rattle.outside_io.specs.streams.Source.{IsAtEnd, TakesUpTo};
 ghost use Rattle.raster_values.specs.Bands.{AreBands};
 ghost use Rattle.lerc_decode.specs.Reading.{IsAfter, wanted};
+ghost use Rattle.lerc_decode.specs.inside.BandsFeeding.{HasRead, room_of};
+ghost use Rattle.lerc_decode.specs.inside.BandsAnswers.{from_stop};
+ghost use Rattle.lerc_decode.specs.inside.Kept.{IsKeeping};
 ghost use Rattle.lerc_decode.specs.BandsSource.{AreBlobsRead, CountsBands, IsBandsRead, LeavesRest};
 
 use crate::bands::{BandsDecoder, BandsStop};
@@ -31,7 +34,16 @@ fn step_once<S: Source>(
 ) -> Result<usize, Failed>
     requires short { length room.old ≤ wanted decoder.old.stage }
     ensures counted { CountsFaults result (S.faults src.old) (S.faults src.new) }
+    ensures read { OnOk result ((first : Option (List ℕ)) → HasRead first (S.left src.old) decoder.old
+        → HasRead first (S.left src.new) decoder.new) }
+    ensures taken { TakesUpTo (wanted decoder.old.stage) (S.left src.old) (S.left src.new) }
+    ensures end { IfOk result (λ n. n ≡ 0 → (length room.old ≡ 0) ⊎ IsAtEnd (S.left src.new)) }
+    ensures less { IfOk result (λ n. 0 < n → room_of decoder.new < room_of decoder.old) }
+    ensures same { IfOk result (λ n. n ≡ 0 → decoder.new ≡ decoder.old) }
+    ensures keeps { IsKeeping decoder.old.front.kept → IsKeeping decoder.new.front.kept }
 {
+    // For the proofs: what holds of each decoder.
+    let _state = decoder.state();
     let got = src.take(room)?;
     if got > 0 {
         decoder.step(&room[..got]);
@@ -42,7 +54,12 @@ fn step_once<S: Source>(
 /// Feeds the decoder from a source until a fault is decided, or the source ends or fails. It asks
 /// for no more bytes than the decoder wants, so that none behind the one that decides is taken.
 fn step_all<S: Source>(src: &mut S, decoder: &mut BandsDecoder) -> Result<(), Failed>
+    requires { IsAfter [] decoder.old }
     ensures counted { CountsFaults result (S.faults src.old) (S.faults src.new) }
+    ensures read { OnOk result (HasRead (S.left src.old) (S.left src.new) decoder.new) }
+    ensures end { OnOk result ((wanted decoder.new.stage ≡ 0) ⊎ IsAtEnd (S.left src.new)) }
+    ensures keeps { IsKeeping decoder.old.front.kept → IsKeeping decoder.new.front.kept }
+    ensures taken { TakesUpTo 2147483649 (S.left src.old) (S.left src.new) }
 {
     let mut buf = [0u8; 4096];
     loop {
@@ -51,6 +68,16 @@ fn step_all<S: Source>(src: &mut S, decoder: &mut BandsDecoder) -> Result<(), Fa
         if got == 0 {
             return Ok(());
         }
+    }
+}
+
+/// Why a decoder gave no bands, as an answer about its source.
+fn why(stop: BandsStop) -> BandsFromFault
+    ensures { result ≡ from_stop stop }
+{
+    match stop {
+        BandsStop::Fault(fault) => BandsFromFault::Fault(fault),
+        BandsStop::OutOfMemory => BandsFromFault::OutOfMemory,
     }
 }
 
@@ -68,8 +95,7 @@ pub fn decode_bands_from<S: Source>(alloc: Global, src: &mut S) -> Result<Bands,
     match step_all(src, &mut decoder) {
         Ok(()) => match decoder.finish() {
             Ok(bands) => Ok(bands),
-            Err(BandsStop::Fault(fault)) => Err(BandsFromFault::Fault(fault)),
-            Err(BandsStop::OutOfMemory) => Err(BandsFromFault::OutOfMemory),
+            Err(stop) => Err(why(stop)),
         },
         Err(_) => Err(BandsFromFault::Source),
     }
@@ -87,10 +113,14 @@ pub fn keep_bands_from<S: Source>(alloc: Global, src: &mut S) -> Result<KeptBlob
     let mut decoder = BandsDecoder::keeping(alloc);
     match step_all(src, &mut decoder) {
         Ok(()) => match decoder.finish_kept() {
-            Ok((_, Some(kept))) => Ok(kept),
-            Ok((_, None)) => unreachable!(),
-            Err(BandsStop::Fault(fault)) => Err(BandsFromFault::Fault(fault)),
-            Err(BandsStop::OutOfMemory) => Err(BandsFromFault::OutOfMemory),
+            Ok(found) => {
+                let (_, kept) = found;
+                match kept {
+                    Some(kept) => Ok(kept),
+                    None => unreachable!(),
+                }
+            }
+            Err(stop) => Err(why(stop)),
         },
         Err(_) => Err(BandsFromFault::Source),
     }

@@ -1,11 +1,10 @@
 //! The raster of a whole blob.
 
-ghost use Rattle.std.specs.Prelude.{◌≡◌, ◌≢◌, ◌≤◌, ◌*◌, ◌+◌, ◌-◌, ◌<◌, ◌^◌, IfOk, IfErr, OnOk, IfSome, IsTrue, Option, Some, ◌↔◌, All, length, take, drop, replicate};
+ghost use Rattle.std.specs.Prelude.{◌≡◌, ◌≢◌, ◌≤◌, ◌*◌, ◌+◌, ◌-◌, ◌<◌, ◌^◌, IfOk, IfErr, OnOk, IfSome, IsTrue, Option, Some, ◌↔◌, length, take, drop, replicate};
 ghost use Rattle.first_fault.specs.Faults.{moved};
 ghost use Rattle.raster_values.specs.PixelType.{InRange, bytes_of};
 ghost use Rattle.raster_values.specs.Raster.{IsRaster, IsShape, blank};
 ghost use Rattle.raster_values.specs.Flat.{EachValid, marks_of};
-ghost use Rattle.raster_values.specs.Values.{AreValues};
 ghost use Rattle.lerc_header.specs.Head.{HeadAt, head_length};
 ghost use Rattle.lerc_header.specs.Checksum.{sum_of};
 ghost use Rattle.lerc_grammar.specs.Mask.{IsMaskAfter, Previous, count_before, count_of, mask_faults, mask_size, runs_faults};
@@ -22,7 +21,8 @@ use crate::codes::{pour_deltas, pour_plain};
 use lerc_grammar::{ImageForm, MaskForm, image_part, mask_part, place_behind};
 use lerc_header::{BlobFault, BlobReason, Header, Version, sum_behind};
 use mask_runs::read_runs;
-use raster_values::{PixelType, Raster};
+use micro_block::read_values;
+use raster_values::Raster;
 use std::alloc::Global;
 
 /// Why the bytes of a blob give no raster.
@@ -197,19 +197,6 @@ fn read_mask(
             mark_as_before(before, header, raster);
             Ok(())
         }
-    }
-}
-
-/// Reads values that stand one behind the other.
-pub(crate) fn read_values(kind: PixelType, bytes: &[u8], out: &mut [i64])
-    requires size { length bytes.now ≡ length out.old * bytes_of kind }
-    requires few { length out.old ≤ 65536 }
-    ensures values { AreValues kind bytes.now out.new }
-    ensures in_range { All (InRange kind) out.new }
-{
-    let size = kind.bytes();
-    for i in 0..out.len() {
-        out[i] = kind.read_value(&bytes[i * size..]);
     }
 }
 

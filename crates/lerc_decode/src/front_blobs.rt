@@ -9,13 +9,13 @@ ghost use Rattle.lerc_grammar.specs.Bands.{last_after, unlike_faults};
 ghost use Rattle.lerc_decode.specs.Decoding.{Key};
 ghost use Rattle.lerc_decode.specs.Reading.{WholeFront};
 ghost use Rattle.lerc_decode.specs.inside.Turns.{with_blob};
+ghost use Rattle.lerc_decode.specs.inside.Kept.{IsKeeping};
 
 use crate::decoder::Decoder;
 use crate::kept::KeptBlobs;
 use lerc_grammar::{BandReason, BandsFault};
 use lerc_header::{BlobReason, Header};
-use raster_values::Bands;
-use raster_values::Raster;
+use raster_values::{Bands, Raster};
 use std::alloc::{AllocError, Global};
 use std::marker::Model;
 use std::mem;
@@ -70,7 +70,8 @@ impl FrontBlobs {
     ) -> Result<(), AllocError>
         requires bands { MayBeBands (self.old.bands ++ band ∷ []) }
         requires few { self.old.place + length blob.items < 2 ^ 64 }
-        ensures { OnOk result (self.new ≡ with_blob self.old band blob.items) }
+        ensures ok { OnOk result (self.new ≡ with_blob self.old band blob.items) }
+        ensures keeps { IsKeeping self.old.kept → IsKeeping self.new.kept }
     {
         let bands = match mem::replace(&mut self.bands, None) {
             Some(bands) => {
@@ -128,6 +129,7 @@ impl FrontBlobs {
         let Some(bands) = &self.bands else {
             return None;
         };
+        let count = bands.len();
         let first = bands.at(0);
         let head = header.version.head_length();
         if header.rows != first.rows() {
@@ -143,7 +145,7 @@ impl FrontBlobs {
             return bad_band(head - 28);
         }
         let values = header.rows as u64 * header.cols as u64 * header.depth as u64;
-        if (bands.len() as u64 + 1) * values > 16777216 {
+        if (count as u64 + 1) * values > 16777216 {
             return Some(BandsFault {
                 reason: BandReason::Blob(BlobReason::TooLarge),
                 place: head as u64 - 44,

@@ -63,20 +63,29 @@ pub(crate) fn turn(decoder: Decoder, front: &FrontBlobs, piece: &[u8]) -> Turned
     let mut decoder = decoder;
     let wants = decoder.wants().min(piece.len());
     let fed = decoder.feed(&piece[..wants]);
-    let next = match fed.state {
-        FedState::More => compared(decoder, front),
+    let used = fed.used;
+    match fed.state {
+        FedState::More => Turned {
+            used,
+            next: compared(decoder, front),
+        },
         FedState::Done => {
             let (band, blob) = decoder.ended();
-            Next::Ends(Ended { band, blob })
+            Turned {
+                used,
+                next: Next::Ends(Ended { band, blob }),
+            }
         }
-        FedState::Refused(fault) => Next::Refused(BandsFault {
-            reason: BandReason::Blob(fault.reason),
-            place: fault.place,
-        }),
-        FedState::OutOfMemory => Next::OutOfMemory,
-    };
-    Turned {
-        used: fed.used,
-        next,
+        FedState::Refused(fault) => Turned {
+            used,
+            next: Next::Refused(BandsFault {
+                reason: BandReason::Blob(fault.reason),
+                place: fault.place,
+            }),
+        },
+        FedState::OutOfMemory => Turned {
+            used,
+            next: Next::OutOfMemory,
+        },
     }
 }

@@ -33,3 +33,9 @@ room_at f _ = 0
 
 abbrev pub room_of : BandsDecoding → ℕ
 room_of d = room_at d.front d.stage
+
+-- 1 where more is decided
+abbrev pub live_at : BandsStage → ℕ
+live_at (InBlob d) = 1
+live_at (Behind have) = 1
+live_at _ = 0

@@ -3,7 +3,7 @@ use Rattle.std.specs.Prelude.{◌≡◌, ℕ, ◌<◌, ◌≤◌, nat_eq, if◌t
 use Rattle.lerc_header.specs.Head.{head_length}
 use Rattle.lerc_decode.specs.declared.decoder.Decoder.TheInside.{Inside}
 use Rattle.lerc_decode.specs.declared.decoder.Progress.{Progress}
-use Rattle.lerc_decode.specs.declared.decoder.Progress.TheVariants.{Key as AtKey, Fields as AtFields, Body as AtBody}
+use Rattle.lerc_decode.specs.declared.decoder.Progress.TheVariants.{Key as AtKey, Fields as AtFields, Body as AtBody, Done as AtDone}
 use Rattle.lerc_decode.specs.inside.Stages.{stage_of}
 use Rattle.lerc_decode.specs.Decoding.{Decoding, IsStageOf}
 
@@ -19,6 +19,7 @@ abbrev pub IsKept : Inside → Progress → Type 0
 IsKept a AtKey = (a.blob.items ≡ []) × (a.have < 10)
 IsKept a (AtFields v) = (a.blob.items ≡ []) × (a.have < head_length v)
 IsKept a (AtBody h) = 0 < length a.blob.items
+IsKept a (AtDone r) = 0 < length a.blob.items
 IsKept a _ = Unit {0}
 
 pub record IsInside (a : Inside) : Type 0 where

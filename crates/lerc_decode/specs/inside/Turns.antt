@@ -5,7 +5,7 @@ use Rattle.raster_values.specs.Raster.{Pixels}
 use Rattle.lerc_header.specs.declared.header.Header.{Header}
 use Rattle.lerc_grammar.specs.Blob.{BlobAfter}
 use Rattle.lerc_grammar.specs.Bands.{last_after, unlike_faults, FirstBandsFault, IsLeastFault}
-use Rattle.lerc_grammar.specs.BandsReading.{IsInside, IsBetween}
+use Rattle.lerc_grammar.specs.BandsReading.{IsBehind, IsInside, IsBetween}
 use Rattle.lerc_decode.specs.declared.turns.Next.{Next}
 use Rattle.lerc_decode.specs.declared.turns.Next.TheVariants.{Goes, Ends, Refused, OutOfMemory}
 use Rattle.lerc_decode.specs.Decoding.{Decoding, HasHeader}
@@ -45,5 +45,6 @@ IsNext taken bands front (Ends e) =
     IsBetween taken (bands ++ e.band ∷ []) (front ++ e.blob.items) []
     × BlobAfter (last_after None bands) e.blob.items e.band
 IsNext taken bands front (Refused f) =
-    FirstBandsFault taken (length front + f.place) f.reason × IsLeastFault taken
+    (FirstBandsFault taken (length front + f.place) f.reason × IsLeastFault taken)
+    × ((rest : List ℕ) × IsBehind taken bands front rest)
 IsNext taken bands front OutOfMemory = HasHeader taken

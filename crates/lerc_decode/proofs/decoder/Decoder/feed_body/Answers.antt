@@ -10,7 +10,7 @@ use Rattle.lerc_decode.specs.inside.Inside.{seen, taken_of}
 use Rattle.lerc_decode.specs.inside.Stages.{stage_of}
 use Rattle.lerc_decode.specs.inside.Steps.{StepsBody, UsesBody}
 use Rattle.lerc_decode.specs.States.{missing_at}
-use Rattle.lerc_decode.proofs.Steps.{body_head, body_goes_on, body_taken, stood, takes_nothing, taken_body}
+use Rattle.lerc_decode.proofs.Steps.{body_head, body_goes_on, body_taken, kept_ended, stood, takes_nothing, taken_body}
 use Rattle.lerc_decode.proofs.decoder.Decoder.feed_body.Goals as goal
 use Rattle.lerc_decode.proofs.decoder.Decoder.feed_body.Goals.{in-Done-2, in-Key-2}
 
@@ -101,4 +101,20 @@ returns-in_default c =
       steps = steps;
       exact = exact;
       sound = stood c.self.inside d c.self.view_is c.self.invariant;
+    }
+
+pub invariant_of-self-then-len-size : goal.invariant_of-self-then-len-size
+invariant_of-self-then-len-size c =
+    let more = take c.min-used.result c.args.piece.now in
+    let b : Inside =
+    record c.self.inside { blob = c.grow.new.blob; progress = c.after_body.result } in
+    let taken = body_taken c.self.inside b c.in-Body.header more c.in-Body.is c.self.invariant
+    c.if-not-grow.ensures in
+    record {
+      room = c.self.invariant.room;
+      within = c.self.invariant.within;
+      kept = kept_ended c.self.inside b c.in-Body.header more c.in-Body.is c.self.invariant
+          c.if-not-grow.ensures c.after_body.ensures.ended;
+      stands = subst (λ (u : List ℕ). IsStageOf b.before u (stage_of b.progress))
+          (c.deref.ensures.value ∙ sym taken.0) c.after_body.ensures.sound;
     }

@@ -1,6 +1,8 @@
 -- What a piece of a blob comes to behind the blobs of bands.
-use Rattle.std.proofs.Common.{◌≡◌, ℕ, ◌+◌, ◌-◌, ◌<◌, ◌≤◌, List, [], ◌∷◌, ◌++◌, length, take, drop, Option, None, Some, refl, sym, ap, ◌∙◌, subst, arith, ◌⊎◌, inl, inr}
-use Rattle.std.proofs.lemmas.List.{append_assoc, append-nil, length-append, length-take-le, take-append-le, take-append-add, take-append-drop, take_all}
+use Rattle.std.proofs.Common.{◌≡◌, ℕ, ◌+◌, ◌-◌, ◌<◌, ◌≤◌, List, [], ◌∷◌, ◌++◌, length, get_or, take, drop, Option, None, Some, refl, sym, ap, ◌∙◌, subst, arith, ◌⊎◌, inl, inr}
+use Rattle.std.specs.Prelude.{min, IfSome}
+use Rattle.std.proofs.lemmas.List.{append_assoc, append-nil, length-append, length-take-le, take-append-le, take-append-drop, take-take, take_all}
+use Rattle.std.proofs.Math.Seq.{take-append-add}
 use Rattle.first_fault.specs.Parts.{IsEmpty}
 use Rattle.raster_values.specs.Raster.{Pixels}
 use Rattle.lerc_header.specs.declared.header.Header.{Header}
@@ -22,12 +24,16 @@ use Rattle.lerc_grammar.proofs.More.{more_before}
 use Rattle.lerc_grammar.proofs.Verdicts.{take_same, no_key_fault, no_field_fault, done_head}
 use Rattle.lerc_grammar.proofs.BandsDecided.{IsHeaderFor, decide_like, begun_few}
 use Rattle.lerc_grammar.proofs.BandsSteps.{begun_more}
-use Rattle.lerc_grammar.proofs.BandsReader.{step_more, step_done, step_wrong, step_unlike}
-use Rattle.lerc_decode.specs.declared.decoder.FedState.TheVariants.{More}
+use Rattle.lerc_grammar.proofs.BandsReader.{behind_more, step_more, step_done, step_wrong, step_unlike}
+use Rattle.lerc_header.specs.declared.fault.BlobFault.{BlobFault}
+use Rattle.lerc_header.specs.declared.fault.BlobReason.TheVariants.{Truncated}
+use Rattle.lerc_decode.specs.declared.decoder.FedState.{FedState}
+use Rattle.lerc_decode.specs.declared.decoder.FedState.TheVariants.{More, Refused as Refuses, OutOfMemory as NoRoom}
+use Rattle.lerc_decode.specs.declared.turns.Ended.{Ended}
 use Rattle.lerc_decode.specs.declared.turns.Next.{Next}
 use Rattle.lerc_decode.specs.declared.turns.Next.TheVariants.{Goes, Ends, Refused, OutOfMemory}
-use Rattle.lerc_decode.specs.Decoding.{Stage, Key, Fields, Body, Whole, Wrong, NoMemory, Decoding, HasHeader, IsLeastAfter, IsStageOf}
-use Rattle.lerc_decode.specs.States.{state_at, missing_at, IsTold}
+use Rattle.lerc_decode.specs.Decoding.{Stage, Key, Fields, Body, Whole, Wrong, NoMemory, Decoding, HasHeader, HasTaken, IsLeastAfter, IsStageOf}
+use Rattle.lerc_decode.specs.States.{state_at, missing_at, IsTold, IsUsed}
 use Rattle.lerc_decode.specs.Reading.{GoesOnBehind}
 use Rattle.lerc_decode.specs.inside.Stages.{header_in}
 use Rattle.lerc_decode.specs.inside.Turns.{IsCompared, IsNext}
@@ -86,10 +92,19 @@ sized_by_done before t r size done h head =
     omega (arith, same, d.1.1.0, done.0)
 
 header_for : (bands : List Pixels) (t : List ℕ) → HasLikeHead bands t → (h : Header) → HeadAt t h → IsHeaderFor bands h
-header_for bands t like h head = elim decide_like bands h [
+header_for bands t like h head = elim (decide_like bands h) [
   | inl is ↦ is
   | inr w ↦ absurd (like h head w.place w.reason w.fault)
 ]
+
+-- something is missing where more is decided
+pub missing_some : (before : Option Previous) (t : List ℕ) (s : Stage) → IsStageOf before t s → state_at s ≡ More → 0 < missing_at s (length t)
+missing_some before t Key stands more = omega (arith, stands)
+missing_some before t (Fields v) stands more = omega (arith, stands.1.0)
+missing_some before t (Body h) stands more = omega (arith, stands.1)
+missing_some before t (Whole r) stands more = absurd (cc)
+missing_some before t (Wrong place reason) stands more = absurd (cc)
+missing_some before t NoMemory stands more = absurd (cc)
 
 -- ---- a decoder is fed a part of a piece
 
@@ -127,8 +142,8 @@ pub fed_goes : (taken : List ℕ) (bands : List Pixels) (bytes part : List ℕ) 
 fed_goes taken bands bytes part d e f i stands told more like =
     let same = its_before bands d e f.goes f.before in
     let there = step_more taken part bands bytes d.taken i (begun_more bands d.taken part i.begun)
-        (subst (λ (b : Option Previous). IsMoreAfter b (d.taken ++ part)) same (subst (IsMoreAfter e.before) f.taken (more_of e.before e.taken e.stage told more)))
-        (subst (HasLikeHead bands) f.taken (like_of_stage bands e.before e.taken e.stage stands more like)) in
+    (subst (λ (b : Option Previous). IsMoreAfter b (d.taken ++ part)) same (subst (IsMoreAfter e.before) f.taken (more_of e.before e.taken e.stage told more)))
+    (subst (HasLikeHead bands) f.taken (like_of_stage bands e.before e.taken e.stage stands more like)) in
     (subst (λ (u : List ℕ). IsInside (taken ++ part) bands bytes u) (sym f.taken) there, record { before = same; stands = stands; more = more })
 
 -- its header is not like those before
@@ -138,11 +153,14 @@ fed_unlike taken bands bytes part d e h p a f i told more head w = which (which_
   where
     at : HeadAt (d.taken ++ part) h
     at = subst (λ (u : List ℕ). HeadAt u h) f.taken head
+
     undecided : IsMoreAfter (last_after None bands) (d.taken ++ part)
     undecided = subst (λ (b : Option Previous). IsMoreAfter b (d.taken ++ part)) (its_before bands d e f.goes f.before) (subst (IsMoreAfter e.before) f.taken (more_of e.before e.taken e.stage told more))
+
     less : IsMoreAfter (last_after None bands) (take (length (d.taken ++ part) - 1) (d.taken ++ part))
     less = let m = length (d.taken ++ part) - 1 in
         more_before {before = last_after None bands} (take m (d.taken ++ part)) (drop m (d.taken ++ part)) (subst (IsMoreAfter (last_after None bands)) (sym (take-append-drop m (d.taken ++ part))) undecided)
+
     which : HeadAt d.taken h ⊎ (length (d.taken ++ part) ≡ head_length h.version) → FirstBandsFault (taken ++ part) (length bytes + p) a × IsLeastFault (taken ++ part)
     which (inl old) = absurd (i.like h old p a w)
     which (inr long) = step_unlike taken part bands bytes d.taken h p a i f.some (begun_more bands d.taken part i.begun) at long w less (still_begun bands d.taken part f.some i.begun)
@@ -154,9 +172,10 @@ fed_ends taken bands bytes part d e r f i done =
     let b = its_before bands d e f.goes f.before in
     let here : IsDoneAfter (last_after None bands) e.taken r (length e.taken) = subst (λ (x : Option Previous). IsDoneAfter x e.taken r (length e.taken)) b done in
     let there : IsDoneAfter (last_after None bands) (d.taken ++ part) r (length (d.taken ++ part)) = subst (λ (u : List ℕ). IsDoneAfter (last_after None bands) u r (length u)) f.taken here in
-    let like = like_then bands d.before d.taken part d.stage f.goes.stands f.goes.more f.short i.like (sized_by_done (last_after None bands) (d.taken ++ part) r (length (d.taken ++ part)) there) in
-    (subst (λ (u : List ℕ). IsBetween (taken ++ part) (bands ++ r ∷ []) (bytes ++ u) []) (sym f.taken) (step_done taken part bands bytes d.taken r i (begun_few bands d.taken i.begun) there (header_for bands (d.taken ++ part) like)),
-    subst (λ (u : List ℕ). BlobAfter (last_after None bands) u r) (take_all (length e.taken) e.taken (omega arith)) here.1)
+    let like = like_then bands d.before d.taken part d.stage f.goes.stands f.goes.more f.short i.like (sized_by_done (last_after None bands) (d.taken ++ part) r (length (d.taken ++ part)) there) in (
+      subst (λ (u : List ℕ). IsBetween (taken ++ part) (bands ++ r ∷ []) (bytes ++ u) []) (sym f.taken) (step_done taken part bands bytes d.taken r i (begun_few bands d.taken i.begun) there (header_for bands (d.taken ++ part) like)),
+      subst (λ (u : List ℕ). BlobAfter (last_after None bands) u r) (take_all (length e.taken) e.taken (omega arith)) here.1,
+    )
 
 -- it is wrong
 pub fed_wrong : (taken : List ℕ) (bands : List Pixels) (bytes part : List ℕ) (d e : Decoding) (p : ℕ) (why : BlobReason) → IsFed bands d e part → IsInside taken bands bytes d.taken → FirstFaultAfter e.before e.taken p why → IsLeastAfter e.before e.taken
@@ -184,3 +203,104 @@ header_before before (r ∷ more) front rest (a, (b, (joined, (blob, others)))) 
 pub fed_refused : (taken : List ℕ) (bands : List Pixels) (bytes part : List ℕ) (d e : Decoding) → e.taken ≡ d.taken ++ part → IsInside taken bands bytes d.taken → HasHeader e.taken → HasHeader (taken ++ part)
 fed_refused taken bands bytes part d e same i h =
     subst (λ (u : List ℕ). HasHeader (u ++ part)) (sym i.behind.joined) (subst HasHeader (sym (append_assoc bytes d.taken part)) (header_in_front None bands bytes (d.taken ++ part) i.behind.stand (subst HasHeader same h)))
+
+-- ---- a turn
+
+-- but for want of memory all that is wanted is used
+pub used_all : (d e : Decoding) (piece : List ℕ) (wants used : ℕ) → wants ≡ min (missing_at d.stage (length d.taken)) (length piece) → (length (take wants piece) ≤ missing_at d.stage (length d.taken) → IsUsed e.stage (take wants piece) used) → ¬ (e.stage ≡ NoMemory) → used ≡ wants
+used_all d e piece wants used is exact live =
+    let long : length (take wants piece) ≡ wants = length-take-le wants piece (omega (arith, is)) in
+    by e.stage live (exact (omega (arith, is, long))) ∙ long
+  where
+    by : (s : Stage) → ¬ (s ≡ NoMemory) → IsUsed s (take wants piece) used → used ≡ length (take wants piece)
+    by Key live uses = uses
+    by (Fields v) live uses = uses
+    by (Body h) live uses = uses
+    by (Whole r) live uses = uses
+    by (Wrong place reason) live uses = uses
+    by NoMemory live uses = absurd (live refl)
+
+pub part_is : (piece : List ℕ) (wants used : ℕ) → wants ≤ length piece → used ≤ length (take wants piece) → take used (take wants piece) ≡ take used piece
+part_is piece wants used few within = take-take used wants piece (omega (arith, within, length-take-le wants piece few))
+
+pub fed_is : (bands : List Pixels) (d e : Decoding) (piece : List ℕ) (wants used : ℕ) → GoesOnBehind bands d → 0 < length piece → wants ≡ min (missing_at d.stage (length d.taken)) (length piece) → HasTaken d e (take wants piece) used → used ≡ wants → IsFed bands d e (take used piece)
+fed_is bands d e piece wants used goes some is taken all =
+    let missing = missing_some d.before d.taken d.stage goes.stands goes.more in
+    let long : length (take used piece) ≡ used = length-take-le used piece (omega (arith, is, all)) in
+    record {
+      goes = goes;
+      taken = taken.taken ∙ ap (λ (u : List ℕ). d.taken ++ u) (part_is piece wants used (omega (arith, is)) taken.within);
+      before = taken.before;
+      some = omega (arith, long, all, is, some, missing);
+      short = omega (arith, long, all, is);
+    }
+
+header_there : (before : Option Previous) (t : List ℕ) (s : Stage) (h : Header) → IsStageOf before t s → header_in s ≡ Some h → HeadAt t h
+header_there before t Key h stands is = absurd (cc)
+header_there before t (Fields v) h stands is = absurd (cc)
+header_there before t (Body g) h stands is = subst (λ (o : Option Header). IfSome o (HeadAt t)) is stands.0
+header_there before t (Whole r) h stands is = absurd (cc)
+header_there before t (Wrong place reason) h stands is = absurd (cc)
+header_there before t NoMemory h stands is = absurd (cc)
+
+pub turn_more : (taken : List ℕ) (bands : List Pixels) (bytes part : List ℕ) (d e : Decoding) (next : Next) → IsFed bands d e part → IsStageOf e.before e.taken e.stage → IsTold e.before e.taken e.stage → state_at e.stage ≡ More → IsCompared e bands next
+    → IsInside taken bands bytes d.taken → IsNext (taken ++ part) bands bytes next
+turn_more taken bands bytes part d e (Goes x) f stands told more (same, like) i = subst (λ (y : Decoding). IsNext (taken ++ part) bands bytes (Goes y)) (sym same) (fed_goes taken bands bytes part d e f i stands told more like)
+turn_more taken bands bytes part d e (Refused fault) f stands told more (h, (at, w)) i =
+    (fed_unlike taken bands bytes part d e h fault.place fault.reason f i told more (header_there e.before e.taken e.stage h stands at) w, (d.taken ++ part, behind_more taken part bands bytes d.taken i.behind))
+turn_more taken bands bytes part d e (Ends x) f stands told more none_ i = absurd none_
+turn_more taken bands bytes part d e OutOfMemory f stands told more none_ i = absurd none_
+
+pub turn_done : (taken : List ℕ) (bands : List Pixels) (bytes part : List ℕ) (d e : Decoding) (x : Ended) → IsFed bands d e part → IsTold e.before e.taken e.stage → e.stage ≡ Whole x.band → x.blob.items ≡ e.taken
+    → IsInside taken bands bytes d.taken → IsNext (taken ++ part) bands bytes (Ends x)
+turn_done taken bands bytes part d e x f told is blob i =
+    let done : IsDoneAfter e.before e.taken x.band (length e.taken) = (subst (IsTold e.before e.taken) is told).0 in
+    subst (λ (u : List ℕ). IsBetween (taken ++ part) (bands ++ x.band ∷ []) (bytes ++ u) [] × BlobAfter (last_after None bands) u x.band) (sym blob) (fed_ends taken bands bytes part d e x.band f i done)
+
+pub turn_wrong : (taken : List ℕ) (bands : List Pixels) (bytes part : List ℕ) (d e : Decoding) (fault : BlobFault) → IsFed bands d e part → IsTold e.before e.taken e.stage → state_at e.stage ≡ Refuses fault
+    → IsInside taken bands bytes d.taken → IsNext (taken ++ part) bands bytes (Refused (record { reason = OfBlob fault.reason; place = fault.place }))
+turn_wrong taken bands bytes part d e fault f told is i =
+    let w = wrong_there e.before e.taken e.stage fault told is in
+    (fed_wrong taken bands bytes part d e fault.place fault.reason f i w.0 w.1, (d.taken ++ part, behind_more taken part bands bytes d.taken i.behind))
+  where
+    place_of : FedState → ℕ
+    place_of (Refuses g) = g.place
+    place_of _ = 0
+
+    reason_of : FedState → BlobReason
+    reason_of (Refuses g) = g.reason
+    reason_of _ = Truncated
+
+    wrong_there : (before : Option Previous) (t : List ℕ) (s : Stage) (fault : BlobFault) → IsTold before t s → state_at s ≡ Refuses fault → FirstFaultAfter before t fault.place fault.reason × IsLeastAfter before t
+    wrong_there before t Key fault told is = absurd (cc)
+    wrong_there before t (Fields v) fault told is = absurd (cc)
+    wrong_there before t (Body h) fault told is = absurd (cc)
+    wrong_there before t (Whole r) fault told is = absurd (cc)
+    wrong_there before t NoMemory fault told is = absurd (cc)
+    wrong_there before t (Wrong place reason) fault told is =
+        subst (λ (p : ℕ). FirstFaultAfter before t p fault.reason × IsLeastAfter before t) (ap place_of is) (subst (λ (a : BlobReason). FirstFaultAfter before t place a × IsLeastAfter before t) (ap reason_of is) told)
+
+pub turn_none : (taken : List ℕ) (bands : List Pixels) (bytes part : List ℕ) (d e : Decoding) → e.taken ≡ d.taken ++ part → IsTold e.before e.taken e.stage → state_at e.stage ≡ NoRoom → IsInside taken bands bytes d.taken → HasHeader (taken ++ part)
+turn_none taken bands bytes part d e same told is i = fed_refused taken bands bytes part d e same i (by e.stage told is)
+  where
+    by : (s : Stage) → IsTold e.before e.taken s → state_at s ≡ NoRoom → HasHeader e.taken
+    by Key told is = absurd (cc)
+    by (Fields v) told is = absurd (cc)
+    by (Body h) told is = absurd (cc)
+    by (Whole r) told is = absurd (cc)
+    by (Wrong place reason) told is = absurd (cc)
+    by NoMemory told is = told
+
+pub live_more : (s : Stage) → state_at s ≡ More → ¬ (s ≡ NoMemory)
+live_more s is none_ = let t : NoRoom ≡ More = ap state_at (sym none_) ∙ is in cc
+
+pub live_wrong : (s : Stage) (f : BlobFault) → state_at s ≡ Refuses f → ¬ (s ≡ NoMemory)
+live_wrong s f is none_ = let t : NoRoom ≡ Refuses f = ap state_at (sym none_) ∙ is in cc
+
+pub live_done : (s : Stage) (r : Pixels) → s ≡ Whole r → ¬ (s ≡ NoMemory)
+live_done s r is none_ = let t : Whole r ≡ NoMemory = sym is ∙ none_ in cc
+
+-- the first byte of a piece
+pub first_byte : (xs : List ℕ) → 0 < length xs → take 1 xs ≡ get_or xs 0 0 ∷ []
+first_byte [] some = absurd (omega (arith, some))
+first_byte (x ∷ xs) some = refl

@@ -1,8 +1,0 @@
-use Rattle.std.proofs.Common.{◌≡◌, ℕ, ◌*◌, ◌<◌, drop, get_or}
-use Rattle.std.specs.Prelude.{pos}
-use Rattle.byteorder.specs.Endian.{little_number}
-use Rattle.raster_values.specs.PixelType.{bytes_of, value_of}
-use Rattle.lerc_decode.proofs.body.read_values.Given as goal
-
-abbrev pub invariant-loop-i : goal.invariant-loop-i
-invariant-loop-i l = (k : ℕ) → k < l.i → get_or l.out k (pos 0) ≡ value_of l.kind (little_number (bytes_of l.kind) (drop (k * bytes_of l.kind) l.bytes))
