@@ -3,8 +3,6 @@
 #![tactic(auto)]
 
 #[cfg(test)]
-mod band_encoding;
-#[cfg(test)]
 mod bands;
 #[cfg(test)]
 mod bands_grids;
