@@ -59,7 +59,8 @@ enum {
 /* The first fault of bytes that are no blob. */
 struct futskheri_fault {
     uint64_t place;  /* where the field begins that fails, in bytes from the first */
-    uint32_t reason; /* the number of the reason, 1 to 31; futskheri_reason_name has its name */
+    uint32_t reason; /* the number of the reason, 1 to 31, or 33, BadBand, of a tile; futskheri_reason_name has the
+                        names of 1 to 31 */
     uint32_t stated; /* BadChecksum and BadMaskCount: what the blob says, else 0 */
     uint32_t found;  /* and what was found, else 0 */
 };
@@ -109,6 +110,35 @@ uint64_t futskheri_greatest_size(uint32_t kind, uint32_t rows, uint32_t cols, ui
 uint32_t futskheri_encode(uint32_t kind, uint32_t rows, uint32_t cols, uint32_t depth, uint32_t version,
                           uint32_t error, const void *values, size_t values_size, const uint8_t *mask,
                           size_t mask_size, uint8_t *out, size_t out_size, uint64_t *size);
+
+/* Tiles of bands. A tile is 1 to 16 blobs, one behind the other, each of a band: rasters of one type, rows, columns
+ * and depth, with at most 2^24 values together. A blob behind the first may take the mask of the one before it.
+ * Arrays of bands lie band behind band. All the bytes that are passed are the tile. */
+
+/* Counts the blobs of a tile. OK: *bands is their number. REFUSED: *fault is what is wrong first. What is not
+ * named stays. It decodes the tile, so a tile that it counts is decoded by the next call, where memory is there. */
+uint32_t futskheri_count_bands(const uint8_t *blob, size_t blob_size, uint32_t *bands, struct futskheri_fault *fault);
+
+/* Decodes a tile of so many bands. OK: values has the values of all bands, 0 at the places of invalid pixels, and
+ * masks a mask for each. REFUSED: *fault is what is wrong first: that of a blob, its place counted from the first
+ * byte, or BadBand, where a header is not like the first blob's. NO_MEMORY comes only behind a whole header.
+ * BAD_SIZES: the bytes are a tile of more or fewer bands, or values_size or masks_size is not what they ask for.
+ * Where it is not OK the arrays stay as they were; where it is not REFUSED *fault does. */
+uint32_t futskheri_decode_bands(const uint8_t *blob, size_t blob_size, uint32_t bands, void *values,
+                                size_t values_size, uint8_t *masks, size_t masks_size,
+                                struct futskheri_fault *fault);
+
+/* Encodes so many bands of this type and shape, as futskheri_encode does one. masks_size 0: every pixel is valid;
+ * the size of one mask: it is that of all bands; else there is a mask for each. A mask that is the one of the band
+ * before is left out of the blob.
+ * OK: *size is the size of all blobs. NO_ROOM: *size is the size that they would have. Else *size stays; where it is
+ * not OK, out stays. The first of these that holds is answered: BAD_KIND, BAD_VERSION, BAD_SHAPE (also for no bands),
+ * TOO_LARGE (also for more than 16 bands or 2^24 values in all), BAD_SIZES, DEPTH_NEEDS_V4, NO_ROOM; NO_MEMORY may
+ * come instead of the last. */
+uint32_t futskheri_encode_bands(uint32_t kind, uint32_t rows, uint32_t cols, uint32_t depth, uint32_t bands,
+                                uint32_t version, uint32_t error, const void *values, size_t values_size,
+                                const uint8_t *masks, size_t masks_size, uint8_t *out, size_t out_size,
+                                uint64_t *size);
 
 /* Writes the name of a reason, as `BadChecksum`, into out, as much of it as there is room for and with no 0
  * behind it, and answers how long the name is: at most 30, and 0 where no reason has the number. None has 0. */

@@ -1,3 +1,5 @@
 mod Telling
 mod Giving
+mod BandGiving
+mod BandLaying
 mod ReasonNames

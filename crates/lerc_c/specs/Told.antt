@@ -6,6 +6,9 @@ use Rattle.lerc_header.specs.Head.{version_number}
 use Rattle.lerc_header.specs.declared.fault.BlobReason.{BlobReason}
 use Rattle.lerc_header.specs.declared.fault.BlobReason.TheVariants.{Truncated, BadKey, BadVersion, BadRows, BadCols, BadDepth, TooLarge, BadCount, BadBlockSize, BadBlobSize, FloatPixels, BadType, BadError, BadRange, BadChecksum, BadMaskLength, BadRun, BadMaskCount, MaskMissing, BadSweep, BadMode, BadBlockTag, BadOffsetCode, BadListHead, BadListCount, BadTable, BadIndex, BadCodeTable, NoCode, PastEnd, Leftover}
 use Rattle.lerc_grammar.specs.Verdict.{FirstFault, IsMore}
+use Rattle.lerc_grammar.specs.declared.bands.BandReason.{BandReason}
+use Rattle.lerc_grammar.specs.declared.bands.BandReason.TheVariants.{Blob as OfBlob, BadBand}
+use Rattle.lerc_grammar.specs.Bands.{BandsFaultAt}
 use Rattle.lerc_c.specs.declared.told.Fault.{Fault}
 use Rattle.lerc_c.specs.declared.told.Head.{Head}
 
@@ -60,6 +63,19 @@ pub record TellsFault (f : Fault) (place : ℕ) (reason : BlobReason) : Type 0 w
   pub reason_is : f.reason ≡ reason_number reason
   pub stated : f.stated ≡ stated_of reason
   pub found : f.found ≡ found_of reason
+
+-- the numbers are those of a fault of a tile of bands: 33 is the number of a blob that is not like
+-- the first
+abbrev pub TellsBandsFault : Fault → ℕ → BandReason → Type 0
+TellsBandsFault f place (OfBlob reason) = TellsFault f place reason
+TellsBandsFault f place BadBand =
+    (f.place ≡ place) × ((f.reason ≡ 33) × ((f.stated ≡ 0) × (f.found ≡ 0)))
+
+-- the numbers are those of the fault of bytes that are no tile
+pub record TellsBandsRefusal (bytes : List ℕ) (f : Fault) : Type 0 where
+  pub reason : BandReason
+  pub refused : BandsFaultAt bytes f.place reason
+  pub numbers : TellsBandsFault f f.place reason
 
 -- the numbers are those of a header
 pub record TellsHead (head : Head) (h : Header) : Type 0 where

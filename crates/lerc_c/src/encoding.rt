@@ -168,7 +168,7 @@ fn whole(
 }
 
 /// The raster that the arrays are. None where memory is refused.
-fn given(
+pub(crate) fn given(
     alloc: Global,
     kind: PixelType,
     rows: u32,

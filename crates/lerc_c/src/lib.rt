@@ -4,6 +4,8 @@
 //! and states its clauses again, over numbers and arrays; include/futskheri.h says them to C.
 #![tactic(auto)]
 
+mod band_decoding;
+mod band_encoding;
 mod decoding;
 mod encoding;
 mod naming;
@@ -12,8 +14,9 @@ mod sizes;
 mod tests;
 mod told;
 
-ghost use Rattle.std.specs.Prelude.{◌≡◌, ◌≢◌, ℕ, ◌<◌, ◌≤◌, ◌↔◌, ◌++◌, drop, length, min, take};
-ghost use Rattle.raster_values.specs.Raster.{HasZero, IsShape, IsTooLarge};
+ghost use Rattle.std.specs.Prelude.{◌≡◌, ◌≢◌, ℕ, ◌*◌, ◌<◌, ◌≤◌, ◌⊎◌, ◌↔◌, ◌++◌, List, drop, length, min, take};
+ghost use Rattle.raster_values.specs.Raster.{HasZero, IsShape, IsTooLarge, Pixels};
+ghost use Rattle.lerc_grammar.specs.Bands.{BandsBlob};
 ghost use Rattle.lerc_encode.specs.Sizes.{BlobsAreSmall, greatest_size};
 ghost use Rattle.lerc_header.specs.declared.header.Header.{Header};
 ghost use Rattle.lerc_header.specs.declared.fault.BlobFault.{BlobFault};
@@ -25,10 +28,13 @@ ghost use Rattle.lerc_header.specs.declared.header.Version.{Version};
 ghost use Rattle.lerc_header.specs.HeadFaults.{header_faults};
 ghost use Rattle.lerc_header.specs.Written.{step_of};
 ghost use Rattle.lerc_decode.specs.Decoding.{HasHeader};
-ghost use Rattle.lerc_c.specs.Told.{reason_number, TellsFault, TellsHead, TellsRefusal};
+ghost use Rattle.lerc_c.specs.Told.{reason_number, TellsBandsRefusal, TellsFault, TellsHead, TellsRefusal};
 ghost use Rattle.lerc_c.specs.Arrays.{AreNamed, IsAllowed, GivesSizes, AreDecoded, IsEncoded, IsMisfit, IsTooLong, WithKind, WithVersion};
+ghost use Rattle.lerc_c.specs.BandArrays.{AreAllowed, AreBandsDecoded, AreBandsMisfit, AreEncodedInto, AreTooLong, GiveBandSizes};
 ghost use Rattle.lerc_c.specs.Names.{name_at, reason_name};
 
+use band_decoding::{BandsDecodeStop, count_of, decode_bands_into};
+use band_encoding::encode_bands_into;
 use decoding::{DecodeStop, decode_into};
 use encoding::{EncodeStop, encode_into, kind_numbered, version_numbered};
 use lerc_encode::blobs_are_small;
@@ -36,7 +42,7 @@ use lerc_header::{is_shape, read_header};
 use naming::name_of;
 use sizes::size_of;
 use std::alloc::Global;
-use told::{Fault, Head, fault_of, head_of};
+use told::{Fault, Head, fault_of, fault_of_bands, head_of};
 
 /// The call did what it says.
 const OK: u32 = 0;
@@ -183,6 +189,138 @@ pub extern "C" fn futskheri_encode(
     };
     match encode_into(
         alloc, kind, rows, cols, depth, values, mask, version, error, out,
+    ) {
+        Ok(written) => {
+            *size = written as u64;
+            OK
+        }
+        Err(EncodeStop::NoRoom(wanted)) => {
+            *size = wanted as u64;
+            NO_ROOM
+        }
+        Err(EncodeStop::OutOfMemory) => NO_MEMORY,
+        Err(EncodeStop::BadSizes) => BAD_SIZES,
+        Err(EncodeStop::BadShape) => BAD_SHAPE,
+        Err(EncodeStop::TooLarge) => TOO_LARGE,
+        Err(EncodeStop::DepthNeedsV4) => DEPTH_NEEDS_V4,
+    }
+}
+
+/// Counts the blobs of the tile that all the bytes are.
+///
+/// 0: `bands` is their number. 1: `fault` has what is wrong first. 2: memory was refused, behind a
+/// whole header. What is not named stays.
+#[unsafe(no_mangle)]
+pub extern "C" fn futskheri_count_bands(
+    alloc: Global,
+    blob: &[u8],
+    bands: &mut u32,
+    fault: &mut Fault,
+) -> u32
+    ensures status { result ≤ 2 }
+    ensures ok { result ≡ 0 → (rasters : List Pixels)
+        × (BandsBlob blob.now rasters × (bands.new ≡ length rasters)) }
+    ensures refused { result ≡ 1 → TellsBandsRefusal blob.now fault.new }
+    ensures memory { result ≡ 2 → HasHeader blob.now }
+    ensures kept { result ≢ 0 → bands.new ≡ bands.old }
+    ensures no_fault { result ≢ 1 → fault.new ≡ fault.old }
+{
+    match count_of(alloc, blob) {
+        Ok(count) => {
+            *bands = count;
+            OK
+        }
+        Err(BandsDecodeStop::Refused(found)) => {
+            *fault = fault_of_bands(found);
+            REFUSED
+        }
+        Err(_) => NO_MEMORY,
+    }
+}
+
+/// Decodes the tile that all the bytes are, of so many bands, into arrays of all values and of the
+/// masks, band behind band.
+///
+/// 0: the arrays have the bands. 1: `fault` has what is wrong first. 2: memory was refused, behind
+/// a whole header. 3: there are more or fewer bands, or an array is not as long as they ask for.
+/// Where it is not 0 the arrays stay as they were.
+#[unsafe(no_mangle)]
+pub extern "C" fn futskheri_decode_bands(
+    alloc: Global,
+    blob: &[u8],
+    bands: u32,
+    values: &mut [u8],
+    masks: &mut [u8],
+    fault: &mut Fault,
+) -> u32
+    ensures status { result ≤ 3 }
+    ensures ok { result ≡ 0 → AreBandsDecoded blob.now bands values.new masks.new }
+    ensures refused { result ≡ 1 → TellsBandsRefusal blob.now fault.new }
+    ensures memory { result ≡ 2 → HasHeader blob.now }
+    ensures sizes { result ≡ 3 → AreBandsMisfit
+        blob.now bands (length values.old) (length masks.old) }
+    ensures kept { result ≢ 0 → (values.new ≡ values.old) × (masks.new ≡ masks.old) }
+    ensures no_fault { result ≢ 1 → fault.new ≡ fault.old }
+{
+    match decode_bands_into(alloc, blob, bands, values, masks) {
+        Ok(()) => OK,
+        Err(BandsDecodeStop::Refused(found)) => {
+            *fault = fault_of_bands(found);
+            REFUSED
+        }
+        Err(BandsDecodeStop::OutOfMemory) => NO_MEMORY,
+        Err(BandsDecodeStop::Sizes) => BAD_SIZES,
+    }
+}
+
+/// Encodes the bands that the arrays are, band behind band, into the front of `out`. No bytes of
+/// masks make every pixel valid, those of one mask are of all bands.
+///
+/// 0: `size` is that of the blobs. 9: `size` is what they would have. 3 to 8 say what of the
+/// arguments is wrong, which is tested first, 2 that memory was refused. Where it is not 0 `out`
+/// stays; where it is neither 0 nor 9 `size` does.
+#[unsafe(no_mangle)]
+pub extern "C" fn futskheri_encode_bands(
+    alloc: Global,
+    kind: u32,
+    rows: u32,
+    cols: u32,
+    depth: u32,
+    bands: u32,
+    version: u32,
+    error: u32,
+    values: &[u8],
+    masks: &[u8],
+    out: &mut [u8],
+    size: &mut u64,
+) -> u32
+    ensures status { result ≤ 9 }
+    ensures ok { result ≡ 0 → WithKind kind (λ k. WithVersion version (λ v. AreEncodedInto
+        k rows cols depth bands values.now masks.now v (step_of error) size.new
+        out.old out.new)) }
+    ensures no_room { result ≡ 9 → WithKind kind (λ k. WithVersion version (λ v. AreTooLong
+        k rows cols depth bands values.now masks.now v (step_of error) size.new
+        (length out.old))) }
+    ensures bad_kind { result ≡ 4 → (k : PixelType) → kind ≢ code_of k }
+    ensures bad_version { result ≡ 5 → WithKind kind (λ _. (v : Version) → version ≢ version_number v) }
+    ensures bad_shape { result ≡ 6 → HasZero rows cols depth ⊎ (bands ≡ 0) }
+    ensures too_large { result ≡ 7 → IsTooLarge rows cols depth
+        ⊎ ((16 < bands) ⊎ (16777216 < bands * (rows * cols * depth))) }
+    ensures sizes { result ≡ 3 → AreAllowed rows cols depth bands × WithKind kind (λ k.
+        ¬ GiveBandSizes k rows cols depth bands (length values.now) (length masks.now)) }
+    ensures deep { result ≡ 8 → AreAllowed rows cols depth bands × (1 < depth) }
+    ensures memory { result ≡ 2 → AreAllowed rows cols depth bands }
+    ensures kept { result ≢ 0 → out.new ≡ out.old }
+    ensures size_kept { result ≢ 0 → result ≢ 9 → size.new ≡ size.old }
+{
+    let Some(kind) = kind_numbered(kind) else {
+        return BAD_KIND;
+    };
+    let Some(version) = version_numbered(version) else {
+        return BAD_VERSION;
+    };
+    match encode_bands_into(
+        alloc, kind, rows, cols, depth, bands, values, masks, version, error, out,
     ) {
         Ok(written) => {
             *size = written as u64;

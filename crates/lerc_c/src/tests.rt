@@ -2,8 +2,8 @@
 
 use crate::told::{Fault, Head};
 use crate::{
-    futskheri_decode, futskheri_encode, futskheri_greatest_size, futskheri_header,
-    futskheri_reason_name,
+    futskheri_count_bands, futskheri_decode, futskheri_decode_bands, futskheri_encode,
+    futskheri_encode_bands, futskheri_greatest_size, futskheri_header, futskheri_reason_name,
 };
 use std::alloc::Global;
 use std::process::Abort;
@@ -152,4 +152,48 @@ fn a_large_raster_out_and_in(rt: HostRuntime) {
     );
     same(&rt, "decoded", u64::from(status), 0);
     same_bytes(&rt, "values", back.as_slice(), values.as_slice());
+}
+
+/// The status where two bands of two columns of u8, of which the second pixel is not valid, are
+/// encoded with one mask for both, and the size that is told.
+fn encode_two(alloc: Global, blobs: &mut [u8]) -> (u32, u64) {
+    let values = [1, 9, 200, 9];
+    let mut size = 0;
+    let status = futskheri_encode_bands(
+        alloc, 1, 1, 2, 1, 2, 3, 0, &values, b"\x80", blobs, &mut size,
+    );
+    (status, size)
+}
+
+/// The tile has two blobs.
+fn expect_two(rt: &impl Abort, alloc: Global, tile: &[u8]) {
+    let mut bands = 0;
+    let mut fault = NO_FAULT;
+    let status = futskheri_count_bands(alloc, tile, &mut bands, &mut fault);
+    same(rt, "counted", u64::from(status), 0);
+    same(rt, "bands", u64::from(bands), 2);
+}
+
+/// The tile has these bands.
+fn expect_bands(rt: &impl Abort, alloc: Global, tile: &[u8]) {
+    let mut values = [7; 4];
+    let mut masks = [7; 2];
+    let mut fault = NO_FAULT;
+    let status = futskheri_decode_bands(alloc, tile, 2, &mut values, &mut masks, &mut fault);
+    same(rt, "decoded", u64::from(status), 0);
+    same_bytes(rt, "values", &values, &[1, 0, 200, 0]);
+    same_bytes(rt, "masks", &masks, &[0x80, 0x80]);
+    let status = futskheri_decode_bands(alloc, tile, 3, &mut values, &mut masks, &mut fault);
+    same(rt, "three are asked for", u64::from(status), 3);
+}
+
+#[test]
+fn bands_out_and_in(rt: HostRuntime) {
+    let mut blobs = [0; 300];
+    let (status, size) = encode_two(rt.alloc(), &mut blobs);
+    same(&rt, "encoded", u64::from(status), 0);
+    assert!(&rt; size <= 300);
+    let tile = &blobs[..size as usize];
+    expect_two(&rt, rt.alloc(), tile);
+    expect_bands(&rt, rt.alloc(), tile);
 }

@@ -2,8 +2,9 @@
 
 ghost use Rattle.std.specs.Prelude.{◌≡◌};
 ghost use Rattle.raster_values.specs.PixelType.{code_of};
-ghost use Rattle.lerc_c.specs.Told.{TellsFault, TellsHead, found_of, reason_number, stated_of};
+ghost use Rattle.lerc_c.specs.Told.{TellsFault, TellsBandsFault, TellsHead, found_of, reason_number, stated_of};
 
+use lerc_grammar::{BandReason, BandsFault};
 use lerc_header::{BlobFault, BlobReason, Header};
 
 /// The first fault of a blob.
@@ -12,7 +13,7 @@ use lerc_header::{BlobFault, BlobReason, Header};
 pub struct Fault {
     /// Where the field begins that fails, in bytes from the blob's first.
     pub place: u64,
-    /// The number of the reason, 1 to 31.
+    /// The number of the reason, 1 to 31, or 33 where a blob is not like the first of its tile.
     pub reason: u32,
     /// Where two numbers do not agree: what the blob says, and what was found. Else 0.
     pub stated: u32,
@@ -134,5 +135,23 @@ pub(crate) fn fault_of(fault: BlobFault) -> Fault
         reason: number_of_reason(fault.reason),
         stated: stated(fault.reason),
         found: found(fault.reason),
+    }
+}
+
+/// The numbers of a fault of a tile.
+pub(crate) fn fault_of_bands(fault: BandsFault) -> Fault
+    ensures { TellsBandsFault result fault.place fault.reason }
+{
+    match fault.reason {
+        BandReason::Blob(reason) => fault_of(BlobFault {
+            reason,
+            place: fault.place,
+        }),
+        BandReason::BadBand => Fault {
+            place: fault.place,
+            reason: 33,
+            stated: 0,
+            found: 0,
+        },
     }
 }

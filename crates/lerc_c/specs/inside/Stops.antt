@@ -1,5 +1,5 @@
 -- Why a call stops.
-use Rattle.std.specs.Prelude.{◌≡◌, ℕ, ◌<◌, ◌≤◌, List, length, drop, ◌++◌}
+use Rattle.std.specs.Prelude.{◌≡◌, ℕ, ◌*◌, ◌<◌, ◌≤◌, ◌⊎◌, List, length, drop, ◌++◌}
 use Rattle.raster_values.specs.declared.kind.PixelType.{PixelType}
 use Rattle.raster_values.specs.Raster.{Pixels, HasZero, IsTooLarge}
 use Rattle.lerc_header.specs.declared.header.Version.{Version}
@@ -12,6 +12,10 @@ use Rattle.lerc_c.specs.declared.decoding.DecodeStop.TheVariants.{Refused, OutOf
 use Rattle.lerc_c.specs.declared.encoding.EncodeStop.{EncodeStop}
 use Rattle.lerc_c.specs.declared.encoding.EncodeStop.TheVariants.{BadSizes, BadShape, TooLarge, DepthNeedsV4, NoRoom, OutOfMemory as OutOfRoom}
 use Rattle.lerc_c.specs.Told.{IsRefused}
+use Rattle.lerc_grammar.specs.Bands.{BandsFaultAt}
+use Rattle.lerc_c.specs.declared.band_decoding.BandsDecodeStop.{BandsDecodeStop}
+use Rattle.lerc_c.specs.declared.band_decoding.BandsDecodeStop.TheVariants.{Refused as TileRefused, OutOfMemory as NoBandMemory, Sizes as BandSizes}
+use Rattle.lerc_c.specs.BandArrays.{AreAllowed, AreBandsMisfit, AreTooLong, GiveBandSizes}
 use Rattle.lerc_c.specs.Arrays.{IsAllowed, IsMisfit, GivesSizes, IsBlobOf, IsTooLong}
 
 abbrev pub IsRasterStop : List ℕ → DecodeFault → Type 0
@@ -72,3 +76,45 @@ IsEncodeStop kind rows cols depth values mask version step room (NoRoom size) =
     IsTooLong kind rows cols depth values mask version step size room
 IsEncodeStop kind rows cols depth values mask version step room stop =
     IsArgumentStop kind rows cols depth version (length values) (length mask) stop
+
+-- ---- bands
+
+abbrev pub IsBandsArgumentStop : PixelType → ℕ → ℕ → ℕ → ℕ → Version → ℕ → ℕ → EncodeStop → Type 0
+IsBandsArgumentStop kind rows cols depth n version values masks BadShape =
+    HasZero rows cols depth ⊎ (n ≡ 0)
+IsBandsArgumentStop kind rows cols depth n version values masks TooLarge =
+    (¬ HasZero rows cols depth) × ((0 < n) × (IsTooLarge rows cols depth
+    ⊎ ((16 < n) ⊎ (16777216 < n * (rows * cols * depth)))))
+IsBandsArgumentStop kind rows cols depth n version values masks BadSizes =
+    AreAllowed rows cols depth n × (¬ GiveBandSizes kind rows cols depth n values masks)
+IsBandsArgumentStop kind rows cols depth n version values masks DepthNeedsV4 =
+    AreAllowed rows cols depth n
+    × (GiveBandSizes kind rows cols depth n values masks × ((version ≡ V3) × (1 < depth)))
+IsBandsArgumentStop kind rows cols depth n version values masks _ = ⊥
+
+-- there are so many bands of the shape, arrays of these lengths give them, and the version has a
+-- place for the depths
+pub record AreFit (kind : PixelType) (rows cols depth n : ℕ) (version : Version)
+    (values masks : ℕ) : Type 0 where
+  pub allowed : AreAllowed rows cols depth n
+  pub sizes : GiveBandSizes kind rows cols depth n values masks
+  pub flat : version ≡ V3 → depth ≡ 1
+
+abbrev pub IsBandsEncodeStop : PixelType → ℕ → ℕ → ℕ → ℕ → List ℕ → List ℕ → Version → ℕ → ℕ
+    → EncodeStop → Type 0
+IsBandsEncodeStop kind rows cols depth n values masks version step room OutOfRoom =
+    AreFit kind rows cols depth n version (length values) (length masks)
+IsBandsEncodeStop kind rows cols depth n values masks version step room (NoRoom size) =
+    AreTooLong kind rows cols depth n values masks version step size room
+IsBandsEncodeStop kind rows cols depth n values masks version step room stop =
+    IsBandsArgumentStop kind rows cols depth n version (length values) (length masks) stop
+
+abbrev pub IsBandsArrayStop : List ℕ → ℕ → ℕ → ℕ → BandsDecodeStop → Type 0
+IsBandsArrayStop bytes n values masks (TileRefused f) = BandsFaultAt bytes f.place f.reason
+IsBandsArrayStop bytes n values masks NoBandMemory = HasHeader bytes
+IsBandsArrayStop bytes n values masks BandSizes = AreBandsMisfit bytes n values masks
+
+abbrev pub IsCountStop : List ℕ → BandsDecodeStop → Type 0
+IsCountStop bytes (TileRefused f) = BandsFaultAt bytes f.place f.reason
+IsCountStop bytes NoBandMemory = HasHeader bytes
+IsCountStop bytes BandSizes = ⊥
