@@ -67,9 +67,11 @@ pub given_more : (kind : PixelType) (rows cols depth : ℕ) (values masks : List
     → IsGiven kind rows cols depth (part_at (values_size kind rows cols depth) (k + length bands) values) (mask_for (mask_array_size rows cols) (k + length bands) masks) r → AreGivenFrom kind rows cols depth values masks k (bands ++ r ∷ [])
 given_more kind rows cols depth values masks k [] r given one =
     (subst (λ j. IsGiven kind rows cols depth (part_at (values_size kind rows cols depth) j values) (mask_for (mask_array_size rows cols) j masks) r) (let e : k + 0 ≡ k = omega arith in e) one, tt)
-given_more kind rows cols depth values masks k (s ∷ more) r given one =
-    (given.0, given_more kind rows cols depth values masks (suc k) more r given.1
-    (subst (λ j. IsGiven kind rows cols depth (part_at (values_size kind rows cols depth) j values) (mask_for (mask_array_size rows cols) j masks) r) (let e : k + length (s ∷ more) ≡ suc k + length more = omega arith in e) one))
+given_more kind rows cols depth values masks k (s ∷ more) r given one = (
+  given.0,
+  given_more kind rows cols depth values masks (suc k) more r given.1
+      (subst (λ j. IsGiven kind rows cols depth (part_at (values_size kind rows cols depth) j values) (mask_for (mask_array_size rows cols) j masks) r) (let e : k + length (s ∷ more) ≡ suc k + length more = omega arith in e) one),
+)
 
 all_sound : (kind : PixelType) (rows cols depth : ℕ) (values masks : List ℕ) (k : ℕ) (bands : List Pixels) → AreGivenFrom kind rows cols depth values masks k bands → All IsRaster bands
 all_sound kind rows cols depth values masks k [] given = All-nil IsRaster

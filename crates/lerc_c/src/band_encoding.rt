@@ -192,7 +192,16 @@ pub(crate) fn encode_bands_into(
         values.now masks.now version (step_of error) (length out.old) stop) }
     ensures kept { OnErr result (out.new ≡ out.old) }
 {
-    test_bands(kind, rows, cols, depth, count, version, values.len(), masks.len())?;
+    test_bands(
+        kind,
+        rows,
+        cols,
+        depth,
+        count,
+        version,
+        values.len(),
+        masks.len(),
+    )?;
     let Some(bands) = given_bands(alloc, kind, rows, cols, depth, count, values, masks) else {
         return Err(EncodeStop::OutOfMemory);
     };
