@@ -10,7 +10,8 @@ names, else the one beside this repository (bin/build_c shared builds it), else 
 read by their published layout, and never written: the program `lerc_cli` does that, so that a crash leaves whole tiles.
 
 Arrays are row by row: (rows, columns), or (rows, columns, depth) where a pixel has several values. A mask is an
-array of bool of (rows, columns), True where the pixel is valid. Types are int8, uint8, int16, uint16, int32 and uint32.
+array of bool of (rows, columns), True where the pixel is valid. Bands are a leading axis of both, in `decode_bands` and
+`encode_bands`. Types are int8, uint8, int16, uint16, int32 and uint32.
 """
 
 import ctypes
@@ -21,7 +22,7 @@ from collections import namedtuple
 
 import numpy
 
-__all__ = ["Bundle", "Header", "Refused", "decode", "encode", "header"]
+__all__ = ["Bundle", "Header", "Refused", "decode", "decode_bands", "encode", "encode_bands", "header"]
 
 _TYPES = [numpy.dtype(name) for name in ("int8", "uint8", "int16", "uint16", "int32", "uint32")]
 _OK, _REFUSED, _NO_MEMORY = 0, 1, 2
@@ -29,8 +30,8 @@ _WRONG = {
     3: "an array is not as long as the raster asks for",
     4: "no pixel type has the number",
     5: "the version is neither 3 nor 4",
-    6: "there are no rows, no columns or no values of a pixel",
-    7: "there are more than 65,536 values of a pixel, or more than 2^24 values",
+    6: "there are no rows, columns, values of a pixel or bands",
+    7: "there are more than 65,536 values of a pixel, 16 bands or 2^24 values",
     8: "version 3 has no place for several values of a pixel",
 }
 
@@ -91,6 +92,8 @@ def _load():
         "decode": (number, [address, size, address, size, address, size, address]),
         "greatest_size": (ctypes.c_uint64, [number] * 4),
         "encode": (number, [number] * 6 + [address, size, address, size, address, size, address]),
+        "decode_bands": (number, [address, size, number, address, size, address, size, address]),
+        "encode_bands": (number, [number] * 7 + [address, size, address, size, address, size, address]),
         "reason_name": (size, [number, address, size]),
     }
     for name, (answer, words) in calls.items():
@@ -153,6 +156,15 @@ def header(blob):
     )
 
 
+def _shape(head):
+    return (head.rows, head.columns) if head.depth == 1 else (head.rows, head.columns, head.depth)
+
+
+def _mask(bits, rows, columns):
+    """The bits of a mask, whose last byte is padded, as an array of bool."""
+    return numpy.unpackbits(bits, count=rows * columns).view(bool).reshape(rows, columns)
+
+
 def decode(blob):
     """The values and the mask of the blob with which the bytes begin: a pair of arrays.
 
@@ -162,18 +174,66 @@ def decode(blob):
     """
     given = _bytes(blob)
     head = header(given)
-    shape = (head.rows, head.columns) if head.depth == 1 else (head.rows, head.columns, head.depth)
-    pixels = head.rows * head.columns
-    values = numpy.empty(shape, head.dtype)
-    bits = numpy.empty((pixels + 7) // 8, numpy.uint8)
+    values = numpy.empty(_shape(head), head.dtype)
+    bits = numpy.empty((head.rows * head.columns + 7) // 8, numpy.uint8)
     fault = _Fault()
     answer = _call(
         "decode", _where(given), given.size, _where(values), values.nbytes, _where(bits), bits.nbytes,
         ctypes.byref(fault),
     )
     _answered(answer, fault)
-    mask = numpy.unpackbits(bits, count=pixels).view(bool).reshape(head.rows, head.columns)
-    return values, mask
+    return values, _mask(bits, head.rows, head.columns)
+
+
+def _count(given):
+    """How many blobs the headers say that the bytes are, at least 1, at most 17. Whether they are is for the library."""
+    at, count = 0, 0
+    while count == 0 or (at < given.size and count < 17):
+        try:
+            at += header(given[at:]).size
+        except Refused:
+            if count == 0:
+                raise
+            return count
+        count += 1
+    return count
+
+
+def decode_bands(tile):
+    """The values and the masks of the one to 16 blobs that all the bytes are: arrays with a leading axis of bands.
+
+    tile: bytes, or anything that lends them. The values are of (bands, rows, columns) or of (bands, rows, columns,
+    depth), those of invalid pixels 0, and the masks of (bands, rows, columns). Raises Refused with the first fault,
+    'BadBand' where a blob has another shape or type than the first, 'Leftover' where something follows that is no
+    further blob; MemoryError where there is no memory.
+    """
+    given = _bytes(tile)
+    head, bands = header(given), min(_count(given), 16)
+    if bands * head.rows * head.columns * head.depth > 2**24:
+        bands = 1
+    values = numpy.empty((bands, *_shape(head)), head.dtype)
+    bits = numpy.empty((bands, (head.rows * head.columns + 7) // 8), numpy.uint8)
+    fault = _Fault()
+    answer = _call(
+        "decode_bands", _where(given), given.size, bands, _where(values), values.nbytes, _where(bits), bits.nbytes,
+        ctypes.byref(fault),
+    )
+    _answered(answer, fault)
+    return values, numpy.stack([_mask(band, head.rows, head.columns) for band in bits])
+
+
+def _kind(values):
+    kinds = [kind for kind, dtype in enumerate(_TYPES) if values.dtype.newbyteorder("=") == dtype]
+    if not kinds:
+        raise TypeError(f"values are {values.dtype}, and not whole numbers of 8, 16 or 32 bits")
+    return kinds[0]
+
+
+def _check_words(error, version):
+    if not isinstance(error, (int, numpy.integer)) or not 0 <= error < 2**32:
+        raise ValueError("error is a whole number from 0 to 4,294,967,295")
+    if version not in (3, 4):
+        raise ValueError(_WRONG[5])
 
 
 def encode(values, mask=None, error=0, version=4):
@@ -185,31 +245,39 @@ def encode(values, mask=None, error=0, version=4):
     Raises TypeError for another type, ValueError for another shape, version or error, MemoryError.
     """
     values = numpy.asarray(values)
-    kinds = [kind for kind, dtype in enumerate(_TYPES) if values.dtype.newbyteorder("=") == dtype]
-    if not kinds:
-        raise TypeError(f"values are {values.dtype}, and not whole numbers of 8, 16 or 32 bits")
-    if values.ndim not in (2, 3):
-        raise ValueError(f"values have {values.ndim} axes, and not rows, columns and perhaps depth")
-    if not (isinstance(error, int) or isinstance(error, numpy.integer)) or not 0 <= error < 2**32:
-        raise ValueError("error is a whole number from 0 to 4,294,967,295")
-    if version not in (3, 4):
-        raise ValueError(_WRONG[5])
-    rows, columns = values.shape[:2]
-    depth = values.shape[2] if values.ndim == 3 else 1
+    if mask is not None:
+        mask = numpy.asarray(mask)[numpy.newaxis]
+    return encode_bands(values[numpy.newaxis], mask, error, version)
+
+
+def encode_bands(values, masks=None, error=0, version=4):
+    """The blobs of arrays that are the bands of one tile, one behind the other: bytes.
+
+    values: an array of (bands, rows, columns) or (bands, rows, columns, depth): 1 to 16 bands, with at most 2^24 values
+    together. masks: of (bands, rows, columns), of (1, rows, columns) where all bands have one, or None. error, version
+    and what is raised: as in `encode`.
+    """
+    values = numpy.asarray(values)
+    kind = _kind(values)
+    if values.ndim not in (3, 4):
+        raise ValueError(f"a band's values have {values.ndim - 1} axes, and not rows, columns and perhaps depth")
+    _check_words(error, version)
     if max(values.shape) >= 2**32:
         raise ValueError(_WRONG[7])
-    lying = numpy.ascontiguousarray(values, _TYPES[kinds[0]])
+    bands, rows, columns = values.shape[:3]
+    depth = values.shape[3] if values.ndim == 4 else 1
+    lying = numpy.ascontiguousarray(values, _TYPES[kind])
     bits = numpy.empty(0, numpy.uint8)
-    if mask is not None:
-        mask = numpy.asarray(mask)
-        if mask.shape != (rows, columns):
-            raise ValueError(f"the mask is {mask.shape}, and not {(rows, columns)}")
-        bits = numpy.packbits(mask.astype(bool, copy=False))
-    room = numpy.empty(_call("greatest_size", kinds[0], rows, columns, depth), numpy.uint8)
+    if masks is not None:
+        masks = numpy.asarray(masks)
+        if masks.shape not in ((bands, rows, columns), (1, rows, columns)):
+            raise ValueError(f"the masks are {masks.shape}, and not {(bands, rows, columns)}")
+        bits = numpy.packbits(masks.reshape(len(masks), -1).astype(bool, copy=False), axis=1)
+    room = numpy.empty(bands * _call("greatest_size", kind, rows, columns, depth), numpy.uint8)
     size = ctypes.c_uint64()
     answer = _call(
-        "encode", kinds[0], rows, columns, depth, version, error, _where(lying), lying.nbytes, _where(bits), bits.nbytes,
-        _where(room), room.nbytes, ctypes.byref(size),
+        "encode_bands", kind, rows, columns, depth, bands, version, error, _where(lying), lying.nbytes, _where(bits),
+        bits.nbytes, _where(room), room.nbytes, ctypes.byref(size),
     )
     _answered(answer, _Fault())
     return room[: size.value].tobytes()
