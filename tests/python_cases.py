@@ -82,6 +82,18 @@ def round_trips():
                     )
 
 
+def bands_trip():
+    """Bands of all types, each with its own mask, with one for all, and with none."""
+    for seed, dtype in enumerate(LIMITS):
+        for depth in (1, 3):
+            pairs = [hills(dtype, 12, 17, depth, seed + 10 * band) for band in range(3)]
+            values, masks = (numpy.stack(lists) for lists in zip(*pairs))
+            for given in (masks, masks[:1], numpy.stack([masks[0], masks[0], masks[2]]), None):
+                back, valid = futskheri.decode_bands(futskheri.encode_bands(values, given))
+                wanted = numpy.broadcast_to(True if given is None else given, valid.shape)
+                yield back.shape == values.shape and (valid == wanted).all() and (back[valid] == values[valid]).all()
+
+
 def esri():
     """Esri's library, where it is installed."""
     path = ctypes.util.find_library("Lerc")
@@ -101,6 +113,19 @@ def by_esri(library, blob, values, mask):
         depth, columns, rows, 1, ctypes.c_uint(kind), ctypes.c_void_p(back.ctypes.data),
     )
     return answer == 0 and (valid.astype(bool) == mask).all() and (back[mask] == values[mask]).all()
+
+
+def bands_by_esri(library, tile, values, masks):
+    """The same of the bands of a tile."""
+    bands, rows, columns = values.shape
+    back, valid = numpy.zeros_like(values), numpy.zeros(masks.shape, numpy.uint8)
+    given = numpy.frombuffer(tile, numpy.uint8)
+    kind = list(LIMITS).index(values.dtype.name)
+    answer = library.lerc_decode(
+        ctypes.c_void_p(given.ctypes.data), ctypes.c_uint(len(tile)), bands, ctypes.c_void_p(valid.ctypes.data),
+        1, columns, rows, bands, ctypes.c_uint(kind), ctypes.c_void_p(back.ctypes.data),
+    )
+    return answer == 0 and (valid.astype(bool) == masks).all() and (back[masks] == values[masks]).all()
 
 
 def bundles(room):
@@ -152,6 +177,19 @@ turned, _ = hills("int32", 12, 20, 1, 9)
 case("an array that lies column by column is taken", (futskheri.decode(futskheri.encode(turned.T))[0] == turned.T).all())
 swapped = turned.astype(">i4")
 case("one of the other byte order is taken by its values", (futskheri.decode(futskheri.encode(swapped))[0] == turned).all())
+two = futskheri.encode_bands(numpy.stack([values, values + 1]))
+case("blobs one behind the other are bands", futskheri.decode_bands(two)[0].tolist() == [[[7]], [[8]]])
+case("one blob is one band", futskheri.decode_bands(SEVEN)[0].shape == (1, 1, 1))
+case("the first of them is a blob of its own", futskheri.decode(two)[0].tolist() == [[7]])
+case("a byte behind them is refused", refused(lambda: futskheri.decode_bands(two + b"x")) == ("Leftover", len(two)))
+other = futskheri.encode(values) + futskheri.encode(numpy.zeros((2, 1), "u1"))
+case("a band of another shape is refused", refused(lambda: futskheri.decode_bands(other)) == ("BadBand", len(two) // 2 + 14))
+case("seventeen blobs are refused", refused(lambda: futskheri.decode_bands(SEVEN * 17)) == ("Leftover", 16 * len(SEVEN)))
+case("seventeen bands are refused", raises(ValueError, lambda: futskheri.encode_bands(numpy.zeros((17, 1, 1), "u1"))))
+case("no bands are refused", raises(ValueError, lambda: futskheri.encode_bands(numpy.zeros((0, 1, 1), "u1"))))
+case("masks of another number are refused", raises(ValueError, lambda: futskheri.encode_bands(numpy.zeros((3, 1, 1), "u1"), numpy.ones((2, 1, 1), bool))))
+trips = list(bands_trip())
+case(f"{len(trips)} lists of bands of all types come back", all(trips))
 trips = list(round_trips())
 case(f"{len(trips)} rasters of all types come back within their error", all(trips))
 library = esri()
@@ -164,6 +202,13 @@ else:
             values, mask = hills(dtype, 33, 40, depth, seed + 50)
             same.append(by_esri(library, futskheri.encode(values, mask), values, mask))
     case(f"Esri's library decodes {len(same)} blobs to the same arrays", all(same))
+    same = []
+    for seed, dtype in enumerate(LIMITS):
+        pairs = [hills(dtype, 33, 40, 1, seed + 10 * band) for band in range(3)]
+        values, masks = (numpy.stack(lists) for lists in zip(*pairs))
+        masks[1] = masks[0]
+        same.append(bands_by_esri(library, futskheri.encode_bands(values, masks), values, masks))
+    case(f"Esri's library decodes {len(same)} tiles of three bands to the same arrays", all(same))
 with tempfile.TemporaryDirectory() as room:
     bundles(room)
 print(f"{counts[True]} passed, {counts[False]} failed")
