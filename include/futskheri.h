@@ -59,8 +59,8 @@ enum {
 /* The first fault of bytes that are no blob. */
 struct futskheri_fault {
     uint64_t place;  /* where the field begins that fails, in bytes from the first */
-    uint32_t reason; /* the number of the reason, 1 to 31, or 33, BadBand, of a tile; futskheri_reason_name has the
-                        names of 1 to 31 */
+    uint32_t reason; /* the number of the reason, 1 to 31, or 33, BadBand, of a tile; futskheri_reason_name has
+                        its name */
     uint32_t stated; /* BadChecksum and BadMaskCount: what the blob says, else 0 */
     uint32_t found;  /* and what was found, else 0 */
 };

@@ -36,7 +36,8 @@ reason_name NoCode = codes "NoCode"
 reason_name PastEnd = codes "PastEnd"
 reason_name Leftover = codes "Leftover"
 
--- the names in the order of the numbers, of which 0 has none
+-- the names in the order of the numbers, of which 0 and 32 have none; 33 is that of a blob that is
+-- not like the first of its tile
 abbrev pub names : List (List ℕ)
 names =
     []
@@ -71,6 +72,8 @@ names =
     ∷ codes "NoCode"
     ∷ codes "PastEnd"
     ∷ codes "Leftover"
+    ∷ []
+    ∷ codes "BadBand"
     ∷ []
 
 -- the name of the reason with this number, and none where no reason has it

@@ -40,6 +40,7 @@ pub(crate) fn name_of(number: u32) -> &'static [u8]
         29 => b"NoCode",
         30 => b"PastEnd",
         31 => b"Leftover",
+        33 => b"BadBand",
         _ => b"",
     }
 }

@@ -1,6 +1,6 @@
 use Rattle.std.proofs.Common.{◌≡◌, ◌<◌, ◌≤◌, [], ap, sym, arith, ⊎_elim}
 use Rattle.std.proofs.lemmas.List.{get_or_past}
-use Rattle.std.proofs.lemmas.Bool.{cases_lt}
+use Rattle.std.proofs.lemmas.Bool.{cases_eq, cases_lt}
 use Rattle.lerc_c.specs.Names.{name_at, names}
 use Rattle.lerc_c.proofs.naming.name_of.Goals as goal
 
@@ -97,9 +97,15 @@ returns-in-30-clause-name c = ap name_at (sym c.in-30.is)
 pub returns-in-31-clause-name : goal.returns-in-31-clause-name
 returns-in-31-clause-name c = ap name_at (sym c.in-31.is)
 
+pub returns-in-33-clause-name : goal.returns-in-33-clause-name
+returns-in-33-clause-name c = ap name_at (sym c.in-33.is)
+
 pub returns-in_default-clause-name : goal.returns-in_default-clause-name
 returns-in_default-clause-name c =
     ⊎_elim
-    (λ (some : 0 < c.args.number). sym (get_or_past names c.args.number [] (omega arith)))
+    (λ (some : 0 < c.args.number).
+    ⊎_elim (λ (is : c.args.number ≡ 32). ap name_at (sym is))
+    (λ (other : c.args.number ≡ 32 → ⊥). sym (get_or_past names c.args.number [] (omega arith)))
+    (cases_eq c.args.number 32))
     (λ (none : c.args.number ≤ 0). ap name_at (let e : 0 ≡ c.args.number = omega arith in e))
     (cases_lt 0 c.args.number)
