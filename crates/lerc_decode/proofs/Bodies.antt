@@ -22,7 +22,7 @@ use Rattle.lerc_grammar.specs.declared.parts.MaskForm.TheVariants.{Empty as None
 use Rattle.lerc_grammar.specs.declared.parts.ImageForm.{ImageForm}
 use Rattle.lerc_grammar.specs.declared.parts.ImageForm.TheVariants.{Empty as NoImage, Constant, Ranges, Sweep, Blocks, Delta, Plain}
 use Rattle.lerc_grammar.specs.Mask.{IsMaskAfter, Previous, count_before, mask_size, count_of, runs_faults, mask_faults}
-use Rattle.lerc_grammar.specs.Image.{Ends, IsFront, AreEqual, IsBare, IsCoded, IsImage, empty, constant, ranges, coded, sweep, blocks, one_list, top_of, insides, coded_of, image_faults, sweep_faults, HasMode, greatest_mode, value_count, delta, plain}
+use Rattle.lerc_grammar.specs.Image.{Ends, IsFront, AreEqual, IsBare, IsCoded, IsImage, empty, constant, ranges, coded, sweep, blocks, one_list, top_of, value_faults, coded_faults, image_faults, sweep_faults, HasMode, greatest_mode, value_count, delta, plain}
 use Rattle.lerc_grammar.specs.Blocks.{AreBlocks, all_blocks, blocks_faults}
 use Rattle.lerc_grammar.specs.Blob.{BlobAfter, blob_faults}
 use Rattle.lerc_grammar.specs.Outline.{HasMaskLength, IsMaskForm, IsImageForm, IsCodedForm, IsFormBytes, HasLists, values_place, image_place, mask_part_faults, image_part_faults}
@@ -323,7 +323,7 @@ pub image_coded : (h : Header) (blob : List ℕ) (mask : MaskForm) (form : Image
 image_coded h blob mask form at r t c = coded t.bare t.lists.lists (t.tell ++ t.values) t.front t.lists.joined t.lists.stand t.other c
 
 pub coded_fault : (h : Header) (blob : List ℕ) (mask : MaskForm) (form : ImageForm) (marks : List Bool) (at q p : ℕ) (reason : BlobReason) (t : CodedThere h blob mask form at) → p ≡ at + q
-    → coded_of (insides h marks t.front) h (t.tell ++ t.values) (length t.tell + q) reason → moved (image_place h mask) (image_faults h marks (image_of h blob mask)) p reason
+    → coded_faults (value_faults h marks t.front) h (t.tell ++ t.values) (length t.tell + q) reason → moved (image_place h mask) (image_faults h marks (image_of h blob mask)) p reason
 coded_fault h blob mask form marks at q p reason t e w =
     (length t.lists.lists + (length t.tell + q), (omega (arith, e, t.place), image_inside h marks (image_of h blob mask) (t.tell ++ t.values) t.front (length t.tell + q) reason t.bare t.other t.lists w))
 
@@ -336,8 +336,8 @@ pub sweep_fault : (h : Header) (blob : List ℕ) (mask : MaskForm) (marks : List
     → moved at (sweep_faults h (take (length blob - at) (drop at blob))) p reason → moved (image_place h mask) (image_faults h marks (image_of h blob mask)) p reason
 sweep_fault h blob mask marks at t p reason (q, (e, w)) =
     coded_fault h blob mask (Sweep at) marks at q p reason t e
-    (subst (λ (u : List ℕ). coded_of (insides h marks t.front) h (u ++ t.values) (length u + q) reason) (sym t.tells)
-    (sweep_inside (insides h marks t.front) h t.values q reason (subst (λ (u : List ℕ). sweep_faults h u q reason) (behind_place h blob mask (Sweep at) at t) w)))
+    (subst (λ (u : List ℕ). coded_faults (value_faults h marks t.front) h (u ++ t.values) (length u + q) reason) (sym t.tells)
+    (sweep_inside (value_faults h marks t.front) h t.values q reason (subst (λ (u : List ℕ). sweep_faults h u q reason) (behind_place h blob mask (Sweep at) at t) w)))
 
 -- ---- blocks
 
@@ -360,9 +360,9 @@ blocks_fault h blob mask marks at tops t some are p reason (q, (e, w)) =
     let there : blocks_faults h marks (top_of h t.front) t.values q reason =
     faults_same h marks (top_in tops) (top_of h t.front) t.values q reason some (are.each t.front (t.tell ++ t.values) t.lists) (subst (λ (u : List ℕ). blocks_faults h marks (top_in tops) u q reason) values w) in
     coded_fault h blob mask (Blocks at) marks at q p reason t e
-    (subst (λ (u : List ℕ). coded_of (insides h marks t.front) h (u ++ t.values) (length u + q) reason) (sym t.tells.1.1)
-    (subst (λ (n : ℕ). coded_of (insides h marks t.front) h (0 ∷ (mode ++ t.values)) n reason) (let s : 1 + (length mode + q) ≡ suc (length mode) + q = omega arith in s)
-    (blocks_inside (insides h marks t.front) h mode t.values q reason t.tells.1.0 there)))
+    (subst (λ (u : List ℕ). coded_faults (value_faults h marks t.front) h (u ++ t.values) (length u + q) reason) (sym t.tells.1.1)
+    (subst (λ (n : ℕ). coded_faults (value_faults h marks t.front) h (0 ∷ (mode ++ t.values)) n reason) (let s : 1 + (length mode + q) ≡ suc (length mode) + q = omega arith in s)
+    (blocks_inside (value_faults h marks t.front) h mode t.values q reason t.tells.1.0 there)))
 
 -- ---- codes
 
@@ -381,9 +381,9 @@ codes_fault_at : (h : Header) (blob : List ℕ) (mask : MaskForm) (form : ImageF
     → (p : ℕ) (reason : BlobReason) → moved at (codes_faults (value_count h) (take (length blob - at) (drop at blob))) p reason → moved (image_place h mask) (image_faults h marks (image_of h blob mask)) p reason
 codes_fault_at h blob mask form marks at mode t tell has low some p reason (q, (e, w)) =
     coded_fault h blob mask form marks at q p reason t e
-    (subst (λ (u : List ℕ). coded_of (insides h marks t.front) h (u ++ t.values) (length u + q) reason) (sym tell)
-    (subst (λ (n : ℕ). coded_of (insides h marks t.front) h (0 ∷ mode ∷ t.values) n reason) (let s : 1 + (1 + q) ≡ 2 + q = omega arith in s)
-    (codes_inside (insides h marks t.front) h mode t.values q reason has low some (subst (λ (u : List ℕ). codes_faults (value_count h) u q reason) (behind_place h blob mask form at t) w))))
+    (subst (λ (u : List ℕ). coded_faults (value_faults h marks t.front) h (u ++ t.values) (length u + q) reason) (sym tell)
+    (subst (λ (n : ℕ). coded_faults (value_faults h marks t.front) h (0 ∷ mode ∷ t.values) n reason) (let s : 1 + (1 + q) ≡ 2 + q = omega arith in s)
+    (codes_inside (value_faults h marks t.front) h mode t.values q reason has low some (subst (λ (u : List ℕ). codes_faults (value_count h) u q reason) (behind_place h blob mask form at t) w))))
 
 pub deltas_fault : (h : Header) (blob : List ℕ) (mask : MaskForm) (marks : List Bool) (at : ℕ) (t : CodedThere h blob mask (Delta at) at) → (p : ℕ) (reason : BlobReason)
     → moved at (codes_faults (value_count h) (take (length blob - at) (drop at blob))) p reason → moved (image_place h mask) (image_faults h marks (image_of h blob mask)) p reason

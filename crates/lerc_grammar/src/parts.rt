@@ -5,7 +5,7 @@ ghost use Rattle.raster_values.specs.PixelType.{bytes_of};
 ghost use Rattle.first_fault.specs.Faults.{choice, ends, none};
 ghost use Rattle.lerc_header.specs.Head.{HeadAt, i32_at, head_length};
 ghost use Rattle.lerc_grammar.specs.Mask.{IsAlike, mask_faults_of, taken_faults};
-ghost use Rattle.lerc_grammar.specs.Image.{Ends, HasMode, IsBare, behind_zero, coded_of, front_faults, greatest_mode, image_faults_of, mode_of, outside};
+ghost use Rattle.lerc_grammar.specs.Image.{Ends, HasMode, IsBare, mode_faults, coded_faults, front_faults, greatest_mode, image_faults_of, mode_byte_faults, no_value_faults};
 ghost use Rattle.lerc_grammar.specs.Outline.{IsFormOf, IsImageForm, IsMaskForm, IsMaskFormAfter, image_part_faults, image_place, mask_part_faults};
 ghost use Rattle.lerc_header.specs.declared.fault.BlobFault.{BlobFault};
 ghost use Rattle.lerc_grammar.specs.declared.parts.ImageForm.{ImageForm};
@@ -235,7 +235,7 @@ fn mode_form(rest: &[u8], header: &Header, place: usize) -> Result<ImageForm, Bl
     requires mode { HasMode header.now }
     ensures ok { IfOk result (λ form. IsZeroTold header.now place rest.now form) }
     ensures fault { IfErr result (λ f.
-        mode_of (outside None) header.now rest.now f.place f.reason) }
+        mode_byte_faults (no_value_faults None) header.now rest.now f.place f.reason) }
     ensures near { IfErr result (λ f. f.place ≤ 1) }
 {
     if rest.is_empty() {
@@ -258,7 +258,7 @@ fn zero_form(rest: &[u8], header: &Header, place: usize) -> Result<ImageForm, Bl
     requires { place + length rest.now < 2 ^ 63 }
     ensures ok { IfOk result (λ form. IsZeroTold header.now place rest.now form) }
     ensures fault { IfErr result (λ f.
-        behind_zero (outside None) header.now rest.now f.place f.reason) }
+        mode_faults (no_value_faults None) header.now rest.now f.place f.reason) }
     ensures near { IfErr result (λ f. f.place ≤ 1) }
 {
     if has_mode(header) {
@@ -273,7 +273,7 @@ fn coded_form(rest: &[u8], header: &Header, place: usize) -> Result<ImageForm, B
     requires { place + length rest.now < 2 ^ 63 }
     ensures ok { IfOk result (λ form. IsFormTold header.now place rest.now form) }
     ensures fault { IfErr result (λ f.
-        coded_of (outside None) header.now rest.now f.place f.reason) }
+        coded_faults (no_value_faults None) header.now rest.now f.place f.reason) }
     ensures near { IfErr result (λ f. f.place ≤ 2) }
 {
     if rest.is_empty() {
@@ -314,7 +314,7 @@ fn form_behind(
     requires { place + length rest.now < 2 ^ 63 }
     ensures ok { IfOk result (λ form. IsFormBehind header.now equal place rest.now form) }
     ensures fault { IfErr result (λ f. choice (IsTrue equal) (ends BlobReason.Leftover rest.now)
-        (coded_of (outside None) header.now rest.now) f.place f.reason) }
+        (coded_faults (no_value_faults None) header.now rest.now) f.place f.reason) }
     ensures near { IfErr result (λ f. f.place ≤ 2) }
 {
     if equal {
@@ -338,7 +338,7 @@ fn form_at(rest: &[u8], header: &Header, place: usize) -> Result<ImageForm, Blob
     ensures ok { IfOk result (λ form.
         IsFormOf header.now (place + length rest.now) rest.now form) }
     ensures fault { IfErr result (λ f.
-        image_faults_of outside header.now rest.now f.place f.reason) }
+        image_faults_of no_value_faults header.now rest.now f.place f.reason) }
     ensures near { IfErr result (λ f. f.place < 2 ^ 63) }
 {
     if header.valid == 0 {
