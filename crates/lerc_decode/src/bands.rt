@@ -15,7 +15,7 @@ use crate::front_blobs::FrontBlobs;
 use crate::kept::KeptBlobs;
 use crate::turns::{Ended, Next, Turned, turn};
 use lerc_grammar::{BandReason, BandsFault};
-use lerc_header::BlobReason;
+use lerc_header::{BlobReason, KEY};
 use raster_values::Bands;
 use std::alloc::{AllocError, Global};
 use std::marker::Model;
@@ -75,9 +75,6 @@ impl Model for BandsDecoder {
 
     ghost invariant = { IsInsideBands };
 }
-
-/// The key, with which every blob begins.
-const KEY: [u8; 6] = *b"Lerc2 ";
 
 /// A fault so many bytes further on.
 ///

@@ -5,8 +5,8 @@
 //! with one, and else the first of its fields that fails.
 #![tactic(auto)]
 
-/// The key, with which every blob begins.
-pub(crate) const KEY: [u8; 6] = *b"Lerc2 ";
+/// The key, with which every blob begins: `Lerc2` and a space.
+pub const KEY: [u8; 6] = *b"Lerc2 ";
 
 mod fault;
 mod fletcher;
