@@ -23,15 +23,6 @@ use Rattle.ascii_grid.specs.Lga.{FirstSame, collision, content_faults, grid_and_
 use Rattle.ascii_grid.specs.inside.Fields.{Tells, grid_stop_of}
 use Rattle.ascii_grid.proofs.FieldSteps.{tells_as, tells_later}
 
--- ---- how long a grid is
-
-pub grid_long : (r : Pixels) (grid : List ℕ) → IsGrid grid r → length grid ≡ 17 + r.rows * r.cols + valid_count r * r.depth * bytes_of r.kind
-grid_long r grid g =
-    let all = ap length g.joined in
-    let marks : length g.marks ≡ r.rows * r.cols = ap length g.marks_are.spelled ∙ length-map _ _ ∙ g.marks_are.count in
-    let values : length g.values ≡ valid_count r * r.depth * bytes_of r.kind = g.values_are.size ∙ ap (λ (n : ℕ). n * bytes_of r.kind) (length-values_of r.depth r.pixels (raster_deep r g.raster)) in
-    omega (arith, all, length-append g.head (g.marks ++ g.values), length-append g.marks g.values, g.head_of.size, marks, values)
-
 -- ---- pixels looked at so far
 
 -- the pixel number k

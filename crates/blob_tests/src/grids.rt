@@ -4,7 +4,7 @@ ghost use Rattle.std.specs.Prelude.{◌<◌};
 
 use crate::fixtures::{given, has_grid, sink, source};
 use crate::same::same;
-use outside_io::{Failed, MemSource, take_all};
+use outside_io::{Bytes, Failed, MemSink, MemSource, take_all};
 use raster_values::{GridFault, GridReason, GridStop, PixelType, Raster, grid_read, grid_write};
 use std::alloc::Global;
 use std::process::Abort;
@@ -273,8 +273,53 @@ fn a_grid_cut_at_each_length(rt: HostRuntime) {
 
 #[test]
 fn a_source_that_fails_at_each_call(rt: HostRuntime) {
-    for call in 0..6 {
+    for call in 0..5 {
         let src = source(&rt, rt.alloc(), DEEP, 7, &[call]);
         stops(&rt, rt.alloc(), src, 0, GridStop::Source);
     }
+}
+
+/// A grid of sixteen bits, 511 rows and 513 columns, of which every other pixel is valid.
+fn chequered(rt: &impl Abort, alloc: Global) -> Vec<u8> {
+    let head = b"LGR1\x02\xff\x01\x00\x00\x01\x02\x00\x00\x01\x00\x00\x00";
+    let mut grid = Vec::from_slice(alloc, head).expect(rt, "memory");
+    for k in 0..262143 {
+        grid.push((k % 2) as u8).expect(rt, "memory");
+    }
+    for k in 0..262142 {
+        grid.push((k % 251) as u8).expect(rt, "memory");
+    }
+    grid
+}
+
+/// What is read of a source that gives all that it is asked for, but fails at one call.
+fn read_to(rt: &impl Abort, alloc: Global, grid: &[u8], call: u8) -> Result<Raster, GridStop> {
+    let mut src = source(rt, alloc, grid, 1000000, &[call]);
+    grid_read(alloc, &mut src, 0)
+}
+
+/// A sink that takes all that it is given, but fails at one call.
+fn sink_to(rt: &impl Abort, alloc: Global, call: u8) -> MemSink {
+    let failing = Bytes::of(alloc, &[call]).expect(rt, "memory");
+    MemSink::new(alloc, 1000000, failing, 1000000).expect(rt, "memory")
+}
+
+/// The raster's grid is given in nine calls, and is this one.
+fn is_given_in_nine(rt: &impl Abort, alloc: Global, raster: &Raster, grid: &[u8]) {
+    let mut short = sink_to(rt, alloc, 8);
+    same(rt, "given", grid_write(raster, &mut short), Err(Failed));
+    let mut sink = sink_to(rt, alloc, 9);
+    same(rt, "given", grid_write(raster, &mut sink), Ok(()));
+    assert!(rt; sink.held() == grid);
+}
+
+#[test]
+fn a_chequered_grid_takes_nine_calls(rt: HostRuntime) {
+    // One for the head, four for the marks and four for the values, of 65,536 bytes at most.
+    let grid = chequered(&rt, rt.alloc());
+    let cut = read_to(&rt, rt.alloc(), &grid, 8).err();
+    same(&rt, "read", cut, Some(GridStop::Source));
+    let raster = read_to(&rt, rt.alloc(), &grid, 9).expect(&rt, "a grid");
+    same(&rt, "valid", raster.valid_count(), 131071);
+    is_given_in_nine(&rt, rt.alloc(), &raster, &grid);
 }

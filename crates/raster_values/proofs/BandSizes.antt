@@ -34,7 +34,8 @@ bands_long h k bytes (r ∷ more) (front, (rest, (joined, (stands, later)))) =
     let others = bands_long h (suc k) rest more later in
     ap length joined ∙ length-append front rest ∙ (λ i. one i + others i) ∙ sym (sum_by-cons band_bytes r more)
 
-grid_long : (bytes : List ℕ) (r : Pixels) → IsGrid bytes r → length bytes ≡ 17 + band_bytes r
+-- a head of 17 bytes, and these
+pub grid_long : (bytes : List ℕ) (r : Pixels) → IsGrid bytes r → length bytes ≡ 17 + band_bytes r
 grid_long bytes r g =
     let marks : length g.marks ≡ r.rows * r.cols = marks_long (r.rows * r.cols) g.marks (marks_of r) g.marks_are in
     let values : length g.values ≡ valid_count r * r.depth * bytes_of r.kind = g.values_are.size ∙ ap (λ n. n * bytes_of r.kind) (length-values_of r.depth r.pixels (raster_deep r g.raster)) in

@@ -1,5 +1,6 @@
 pub mod Views
 mod MaskBits
+mod MaskBytes
 mod MaskCounts
 mod EqualMasks
 mod Points
@@ -27,6 +28,7 @@ pub mod Deep
 mod FlatViews
 pub mod Taken
 mod TakenRuns
+mod TakenAhead
 mod GridParts
 pub mod Revalued
 pub mod NumberedBlocks

@@ -65,7 +65,7 @@ count_of_marks n mask = sym (count_of_map (mask_bit mask) (range_with_len 0 n))
 no_ones : (m : ℕ) → m < 1 → count_ones m ≡ 0
 no_ones m h = omega (arith, ones-le 0 m h)
 
-ones_of : (w m : ℕ) → m < 2 ^ w → count_ones m ≡ length (filter (λ i. nat_eq (m / 2 ^ (w - 1 - i) % 2) 1) (range_with_len 0 w))
+pub ones_of : (w m : ℕ) → m < 2 ^ w → count_ones m ≡ length (filter (λ i. nat_eq (m / 2 ^ (w - 1 - i) % 2) 1) (range_with_len 0 w))
 ones_of zero m h = no_ones m h
 ones_of (suc w) m h =
     let p : ℕ → Bool = λ i. nat_eq (m / 2 ^ (suc w - 1 - i) % 2) 1 in

@@ -93,6 +93,11 @@ pub filled_all : (kind : PixelType) (depth : ℕ) (marks : List Bool) (size : �
     → values_bytes kind (values_of (pixels_of depth marks vs)) ≡ read
 filled_all kind depth marks size read old vs at past h = ap (values_bytes kind) (sym (all_before depth at marks vs past)) ∙ h.front
 
+pub filled_size : (kind : PixelType) (depth : ℕ) (marks : List Bool) (size : ℕ) (read : List ℕ) (old vs : List ℤ) (at : ℕ) → length marks ≤ at → Fills kind depth marks size read old vs at → length read ≡ size
+filled_size kind depth marks size read old vs at past h =
+    let none : length (back_values depth at marks old) ≡ 0 = ap length (none_behind depth at marks old past) in
+    omega (arith, h.fits, ap (λ n. n * bytes_of kind) none)
+
 -- ---- bytes poured
 
 -- the first `from` of the bytes are the values of the first runs

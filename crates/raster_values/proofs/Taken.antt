@@ -2,7 +2,6 @@
 use Rattle.std.proofs.Common.{◌≡◌, ℕ, ◌+◌, ◌-◌, ◌<◌, ◌≤◌, zero, suc, Bool, cond, List, [], ◌∷◌, ◌++◌, length, get_or, take, drop, map, Option, Some, None, refl, sym, ap, ◌∙◌, subst, arith, ⊎_elim, append_assoc, length-append, inl, inr}
 use Rattle.std.specs.Prelude.{nat_eq, Result, Ok, Err, IfOk, OnErr}
 use Rattle.outside_io.specs.declared.streams.failed.Failed.{Failed}
-use Rattle.raster_values.specs.inside.TakenRun.{TakesRun}
 use Rattle.std.proofs.lemmas.List.{append-nil, take_at, take_all, take-append-drop, length-take-le, map-append, get_or_append_left, get_or-append-add, get_or_past, length-map}
 use Rattle.std.proofs.lemmas.Bool.{cases_lt}
 use Rattle.first_fault.specs.Faults.{Faults, moved}
@@ -190,12 +189,7 @@ values_cut size bytes rest fewer end =
     let all : bytes ++ rest ≡ bytes = ap (λ xs. bytes ++ xs) end ∙ append-nil bytes in
     subst (λ xs. value_faults size xs (length bytes) Truncated) (sym all) (inr ((λ long. let no : ⊥ = omega arith in no), (refl, refl)))
 
--- ---- what `take_all` answers
-
-pub takes_run : (result : Result ℕ Failed) (old new : Option (List ℕ)) (run : List ℕ) → IfOk result (λ n. n ≤ length run) → IfOk result (λ n. TakesFront old new n run)
-    → IfOk result (λ n. n < length run → IsAtEnd new) → OnErr result (TakesUpTo (length run - 1) old new) → TakesRun result old new run
-takes_run (Ok n) old new run a b c d = (a, (b, c))
-takes_run (Err e) old new run a b c d = TakesUpTo_wider old new (length run - 1) (length run) (omega arith) d
+-- ---- failures
 
 pub on_err_some : {X E : Type 0} (result : Result X E) (old new : Option (List ℕ)) (limit : ℕ) → TakesUpTo limit old new → OnErr result (TookSome old new)
 on_err_some (Ok x) old new limit h = tt

@@ -1,8 +1,10 @@
 -- Runs of values taken from a source.
-use Rattle.std.proofs.Common.{◌≡◌, ℕ, ◌+◌, ◌-◌, ◌*◌, ◌<◌, ◌≤◌, ◌++◌, Bool, List, Option, length, take, refl, ap, ◌∙◌, sym, subst, arith}
+use Rattle.std.proofs.Common.{◌≡◌, ℕ, ◌+◌, ◌-◌, ◌*◌, ◌<◌, ◌≤◌, ◌++◌, Bool, true, false, cond, List, [], ◌∷◌, Option, length, take, drop, refl, ap, ◌∙◌, sym, subst, arith}
 use Rattle.std.specs.Prelude.{ℤ, Ok}
 use Rattle.std.proofs.Math.Nat.{mul-le-mul}
-use Rattle.std.proofs.lemmas.List.{length-append, length-take-le, take_all}
+use Rattle.std.specs.List.{count_by}
+use Rattle.std.proofs.lemmas.List.{length-append, length-drop, length-take-le, take_all}
+use Rattle.std.proofs.lemmas.List.Sums.{sum_by-cons}
 use Rattle.outside_io.specs.streams.Source.{TakesFront}
 use Rattle.raster_values.specs.declared.kind.PixelType.{PixelType}
 use Rattle.raster_values.specs.declared.reading.GridFault.{GridFault}
@@ -20,6 +22,7 @@ use Rattle.raster_values.specs.inside.Runs.{AreRuns}
 use Rattle.raster_values.proofs.MarkedRuns.{values_few, fits_more}
 use Rattle.raster_values.proofs.Spelled.{bytes_put, few_bytes}
 use Rattle.raster_values.proofs.Poured.{kept_run, Fills, fills_next, run_within}
+use Rattle.raster_values.proofs.Pack.{next_values}
 use Rattle.raster_values.proofs.Taken.{took_join, took_front, told, ended, values_cut}
 
 run_is : (kind : PixelType) (mid new : CellList) (at count : ℕ) (P : List ℕ → Type 0) → mid.kind ≡ kind → (put : PutsRun mid new at count P) → new.values ≡ bytes_put kind mid.values at count put.run
@@ -43,7 +46,27 @@ fills_put {kind} {depth} {size} {at} {start} {end} {marks} {read} {old} {mid} {n
     subst (λ vs. Fills kind depth marks size (read ++ put.run) old vs end) (sym (run_is kind mid new (start * depth) ((end - start) * depth) P same put))
     (fills_next kind depth marks size read old mid.values at start end put.run full runs put.small (run_size put same refl) h)
 
-size_few : (kind : PixelType) (depth : ℕ) (marks : List Bool) (old : List ℤ) → length old ≤ 16777216 → length (values_of (pixels_of depth marks old)) * bytes_of kind ≤ 67108864
+-- how many values the marked pixels have
+pub values_counted : (depth : ℕ) (ms : List Bool) (vs : List ℤ) → length vs ≡ length ms * depth → length (values_of (pixels_of depth ms vs)) ≡ count_by (λ m. m) ms * depth
+unfolding pixels_of
+values_counted depth [] vs long = let e : 0 ≡ 0 * depth = omega arith in e
+values_counted depth (true ∷ ms) vs long =
+    let room : length vs ≡ depth + length ms * depth = omega (arith, long) in
+    let rest = values_counted depth ms (drop depth vs) (omega (arith, length-drop depth vs, room)) in
+    let front : length (take depth vs) ≡ depth = length-take-le depth vs (omega (arith, room)) in
+    let more : count_by (λ m. m) (true ∷ ms) ≡ 1 + count_by (λ m. m) ms = sum_by-cons (λ m. cond m 1 0) true ms in
+    let split : length (values_of (pixels_of depth (true ∷ ms) vs)) ≡ length (take depth vs) + length (values_of (pixels_of depth ms (drop depth vs))) =
+    ap length (next_values depth true ms vs) ∙ length-append (take depth vs) (values_of (pixels_of depth ms (drop depth vs))) in
+    let product : (1 + count_by (λ m. m) ms) * depth ≡ depth + count_by (λ m. m) ms * depth = omega arith in
+    let joined : length (values_of (pixels_of depth (true ∷ ms) vs)) ≡ (1 + count_by (λ m. m) ms) * depth = omega (arith, split, rest, front, product) in
+    joined ∙ ap (λ n. n * depth) (sym more)
+values_counted depth (false ∷ ms) vs long =
+    let room : length vs ≡ depth + length ms * depth = omega (arith, long) in
+    let more : count_by (λ m. m) (false ∷ ms) ≡ 0 + count_by (λ m. m) ms = sum_by-cons (λ m. cond m 1 0) false ms in
+    ap length (next_values depth false ms vs) ∙ values_counted depth ms (drop depth vs) (omega (arith, length-drop depth vs, room))
+    ∙ ap (λ n. n * depth) (let e : count_by (λ m. m) ms ≡ count_by (λ m. m) (false ∷ ms) = omega (arith, more) in e)
+
+pub size_few : (kind : PixelType) (depth : ℕ) (marks : List Bool) (old : List ℤ) → length old ≤ 16777216 → length (values_of (pixels_of depth marks old)) * bytes_of kind ≤ 67108864
 size_few kind depth marks old few =
     let a : length (values_of (pixels_of depth marks old)) ≤ 16777216 = omega (arith, values_few depth marks old) in
     let b : bytes_of kind ≤ 4 = few_bytes kind in
@@ -67,6 +90,11 @@ taken_few {start} {end} kind depth marks old runs full few is =
     let run = run_few kind depth runs full few in
     let same = ap (λ n. (end - start) * depth * n) is in
     (omega (arith, run, same), size_few kind depth marks old few)
+
+-- the bytes of a run are among those of all values
+pub run_fits : {kind : PixelType} {depth size at start end : ℕ} {marks : List Bool} {read : List ℕ} {old vs : List ℤ} → AreRuns marks at start end → Fills kind depth marks size read old vs at → length old ≡ length marks * depth
+    → length read + (end - start) * depth * bytes_of kind ≤ size
+run_fits {kind} {depth} {size} {at} {start} {end} {marks} {read} {old} runs h full = omega (arith, fits_more kind depth at start end (length read) size marks old runs full h.fits)
 
 -- a run of which all bytes were taken
 pub took_run : (old mid new : Option (List ℕ)) (read run : List ℕ) (n : ℕ) → TookBytes old mid read → TakesFront mid new n run → length run ≤ n → TookBytes old new (read ++ run)

@@ -3,7 +3,7 @@
 ghost use Rattle.std.specs.Prelude.{◌≡◌, ℕ, ◌+◌, ◌*◌, ◌^◌, ◌<◌, ◌≤◌, ◌↔◌, codes, List, IfOk, IfErr, OnErr, IsTrue, length, take};
 ghost use Rattle.first_fault.specs.Faults.{AllNumbered, InNumbered};
 ghost use Rattle.raster_values.specs.Raster.{IsShape};
-ghost use Rattle.raster_values.specs.ReadGrid.{IsHead, TookBytes, TookSome, IsToldFault, CountsGridStop, behind_head};
+ghost use Rattle.raster_values.specs.ReadGrid.{IsGrid, IsHead, TookBytes, TookSome, IsToldFault, CountsGridStop, behind_head};
 ghost use Rattle.raster_values.specs.BandsGrid.{IsBandCount, IsBandGrid, IsBandsGrid, TookBands, bands_faults, count_faults};
 ghost use Rattle.raster_values.specs.inside.Heads.{front_faults, letters_of};
 ghost use Rattle.raster_values.specs.inside.Sizes.{band_bytes};
@@ -95,6 +95,14 @@ fn front_size(count: usize) -> u64
     ensures few { result ≤ 21 }
 {
     if count == 1 { 17 } else { 21 }
+}
+
+/// How many bytes the grid of a raster has.
+pub fn grid_size(raster: &Raster) -> u64
+    ensures size { (grid : List ℕ) → IsGrid grid raster.now → result ≡ length grid }
+    ensures small { result ≤ 83886097 }
+{
+    front_size(1) + band_size(raster)
 }
 
 /// How many bytes the grid of the bands has.

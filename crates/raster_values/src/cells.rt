@@ -1,10 +1,11 @@
-ghost use Rattle.std.specs.Prelude.{◌≡◌, ◌+◌, ◌-◌, ◌*◌, ◌<◌, ◌≤◌, ◌++◌, pos, IfOk, All, length, get_or, take, drop, map, replicate, slice_set};
+ghost use Rattle.std.specs.Prelude.{◌≡◌, ◌+◌, ◌-◌, ◌*◌, ◌<◌, ◌≤◌, ◌++◌, pos, IfOk, OnErr, All, length, get_or, take, drop, map, replicate, slice_set};
 ghost use Rattle.raster_values.specs.PixelType.{InRange, bytes_of, value_of};
 ghost use Rattle.byteorder.specs.Endian.{little_number};
 ghost use Rattle.raster_values.specs.Grid.{values_bytes};
 ghost use Rattle.raster_values.specs.inside.CellList.{CellList, values_in};
 ghost use Rattle.outside_io.specs.streams.Faults.{CountsFaults};
-ghost use Rattle.raster_values.specs.inside.TakenRun.{Laid, PutsRun, TakesRun};
+ghost use Rattle.raster_values.specs.inside.TakenRun.{Laid, PutsRun, TakesRun, behind};
+ghost use Rattle.raster_values.specs.ReadGrid.{TookSome};
 ghost use Rattle.raster_values.specs.inside.Cleared.{cleared};
 ghost use Rattle.raster_values.specs.inside.Ordered.{FillsPixels, PutsPixels};
 ghost use Rattle.raster_values.specs.inside.Runs.{AreEnds, Gathers, whole_rows};
@@ -12,8 +13,9 @@ ghost use Rattle.std.specs.List.{range_with_len};
 ghost use Rattle.raster_values.specs.Distance.{distance_of};
 ghost use Rattle.lane_kernels.specs.Kernels.{IsLeast, IsGreatest};
 
+use super::ahead::Ahead;
 use super::kind::PixelType;
-use outside_io::{Failed, Source, take_all};
+use outside_io::{Failed, Source};
 use std::alloc::{AllocError, Global};
 use std::marker::Model;
 
@@ -182,6 +184,7 @@ fn lay_eight(numbers: &[u32; 8], out: &mut [u32])
 
 /// Takes bytes over those from `from` to `end`, and answers how many.
 fn take_into<S: Source>(
+    ahead: &mut Ahead,
     src: &mut S,
     bytes: &mut Vec<u8>,
     from: usize,
@@ -189,12 +192,18 @@ fn take_into<S: Source>(
 ) -> Result<usize, Failed>
     requires order { from ≤ end }
     requires within { end ≤ length bytes.old.items }
+    requires few { end - from ≤ length ahead.old.waiting + ahead.old.more }
     ensures taken { Laid from end bytes.old.items bytes.new.items (λ run. TakesRun result
-        (S.left src.old) (S.left src.new) run) }
+        (behind ahead.old.waiting (S.left src.old))
+        (behind ahead.new.waiting (S.left src.new)) run) }
+    ensures more { IfOk result (λ n. length ahead.new.waiting + ahead.new.more + n
+        ≡ length ahead.old.waiting + ahead.old.more) }
+    ensures some { OnErr result
+        (TookSome (behind ahead.old.waiting (S.left src.old)) (S.left src.new)) }
     ensures counted { CountsFaults result (S.faults src.old) (S.faults src.new) }
 {
     let run = &mut bytes[from..end];
-    take_all(src, run)
+    ahead.take(src, run)
 }
 
 impl Cells {
@@ -666,18 +675,26 @@ impl Cells {
     /// values are then those that the bytes stand for, where they are all there.
     pub fn take_run<S: Source>(
         &mut self,
+        ahead: &mut Ahead,
         src: &mut S,
         at: usize,
         count: usize,
     ) -> Result<usize, Failed>
-        requires { at + count ≤ length self.old.values }
-        ensures put { PutsRun self.old self.new at count (λ run. TakesRun result (S.left src.old)
-            (S.left src.new) run) }
+        requires within { at + count ≤ length self.old.values }
+        requires few { count * bytes_of self.old.kind
+            ≤ length ahead.old.waiting + ahead.old.more }
+        ensures put { PutsRun self.old self.new at count (λ run. TakesRun result
+            (behind ahead.old.waiting (S.left src.old))
+            (behind ahead.new.waiting (S.left src.new)) run) }
+        ensures more { IfOk result (λ n. length ahead.new.waiting + ahead.new.more + n
+            ≡ length ahead.old.waiting + ahead.old.more) }
+        ensures some { OnErr result
+            (TookSome (behind ahead.old.waiting (S.left src.old)) (S.left src.new)) }
         ensures counted { CountsFaults result (S.faults src.old) (S.faults src.new) }
     {
         let from = place(self.kind, self.count, at);
         let end = place(self.kind, self.count, at + count);
-        take_into(src, &mut self.bytes, from, end)
+        take_into(ahead, src, &mut self.bytes, from, end)
     }
 
     /// Values equal to these.

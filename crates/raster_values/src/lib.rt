@@ -6,6 +6,7 @@
 //! them, and `grid_write` gives the one grid of the raster.
 #![tactic(auto)]
 
+mod ahead;
 mod bands;
 mod bands_grid;
 mod blocks;
@@ -17,9 +18,10 @@ mod mask;
 mod order;
 mod raster;
 mod reading;
+mod waiting;
 
 pub use bands::Bands;
-pub use bands_grid::{bands_read, bands_size};
+pub use bands_grid::{bands_read, bands_size, grid_size};
 pub use grid::{bands_write, grid_write};
 pub use kind::PixelType;
 pub use laws::{
@@ -31,3 +33,6 @@ pub use laws::{
 };
 pub use raster::{Raster, ShapeFault};
 pub use reading::{GridFault, GridReason, GridStop, grid_read};
+
+/// How many bytes are taken from a source, or given to a sink, at once.
+const PIECE: usize = 65536;

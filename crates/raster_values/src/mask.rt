@@ -1,12 +1,13 @@
 //! The mask of a raster, as bytes.
 
-ghost use Rattle.std.specs.Prelude.{◌≡◌, ◌≢◌, ◌↔◌, ℕ, ◌+◌, ◌*◌, ◌/◌, ◌<◌, ◌≤◌, Bool, List, IfOk, IsTrue, length, get_or, replicate, slice_set, take, drop, nat_eq, nat_lt, map, ◌++◌, ◌-◌, true, false, if◌then◌else◌, ◌&&◌};
+ghost use Rattle.std.specs.Prelude.{◌≡◌, ◌≢◌, ◌↔◌, ℕ, ◌+◌, ◌*◌, ◌/◌, ◌%◌, ◌<◌, ◌≤◌, Bool, List, IfOk, IsTrue, length, get_or, replicate, slice_set, take, drop, nat_eq, nat_lt, map, ◌++◌, ◌-◌, true, false, if◌then◌else◌, ◌&&◌};
 ghost use Rattle.std.specs.List.{count_by, filter, range_with_len};
 ghost use Rattle.raster_values.specs.Order.{mask_bit, marks_in};
 ghost use Rattle.raster_values.specs.inside.Bits.{byte_bit, bit_after};
 ghost use Rattle.raster_values.specs.inside.Runs.{run_places, AreRuns};
 ghost use Rattle.raster_values.specs.inside.Pack.{mark_bytes};
 
+use byteorder::{ByteOrder, LittleEndian};
 use std::alloc::{AllocError, Global};
 use std::marker::Model;
 
@@ -154,25 +155,79 @@ fn ones_within(byte: u8, from: usize, count: usize) -> usize
     run.count_ones() as usize
 }
 
-/// How many of `count` bits from `from` on are 1.
+/// How many bits of bytes are 1.
+fn count_bytes(bytes: &[u8]) -> usize
+    requires { length bytes.now ≤ 2097152 }
+    ensures { result ≡ length (filter (mask_bit bytes.now)
+        (range_with_len 0 (8 * length bytes.now))) }
+{
+    let mut n = 0;
+    for byte in bytes {
+        n += byte.count_ones() as usize;
+    }
+    n
+}
+
+/// How many of `count` bits from `from` on are 1, which all stand in one byte.
+fn count_part(bytes: &[u8], from: usize, count: usize) -> usize
+    requires within { from + count ≤ 8 * length bytes.now }
+    requires one { from % 8 + count ≤ 8 }
+    requires few { from + count ≤ 16777216 }
+    ensures { result ≡ length (filter (mask_bit bytes.now) (range_with_len from count)) }
+{
+    if count == 0 {
+        return 0;
+    }
+    ones_within(bytes[from / 8], from % 8, count)
+}
+
+/// How many of `count` bits from `from` on are 1: those of the bytes that lie in them whole, and
+/// those before and behind these.
 fn count_bits(bytes: &[u8], from: usize, count: usize) -> usize
     requires few { from + count ≤ 16777216 }
     requires within { from + count ≤ 8 * length bytes.now }
     ensures { result ≡ length (filter (mask_bit bytes.now) (range_with_len from count)) }
 {
     let end = from + count;
-    let mut n = 0;
-    let mut k = from;
-    while k < end {
-        let next = end.min(k / 8 * 8 + 8);
-        n += ones_within(bytes[k / 8], k % 8, next - k);
-        k = next;
+    let first = from.div_ceil(8);
+    let last = end / 8;
+    if last < first {
+        return count_part(bytes, from, count);
     }
-    n
+    count_part(bytes, from, first * 8 - from)
+        + count_bytes(&bytes[first..last])
+        + count_part(bytes, last * 8, end - last * 8)
 }
 
-/// Sets the bits from `from` on: to 1 where the byte is 1.
-fn put_bits(bytes: &mut Vec<u8>, from: usize, marks: &[u8])
+/// Eight marks as a byte, the first as its highest bit: multiplied, each is moved to its place in
+/// the highest byte of the word, and none meets another.
+fn packed(marks: &[u8]) -> u8
+    requires eight { length marks.now ≡ 8 }
+    requires lawful { (k : ℕ) → get_or marks.now k 0 ≤ 1 }
+    ensures { (q : ℕ) → q < 8 → byte_bit result q ≡ nat_eq (get_or marks.now q 0) 1 }
+{
+    let word = LittleEndian::read_u64(marks);
+    (word.wrapping_mul(0x8040201008040201) >> 56) as u8
+}
+
+/// Sets the bits of the bytes from number `first` on: to 1 where the mark is 1.
+fn put_packed(bytes: &mut Vec<u8>, first: usize, marks: &[u8])
+    requires few { 8 * first + length marks.now ≤ 16777216 }
+    requires within { 8 * first + length marks.now ≤ 8 * length bytes.old.items }
+    requires whole { length marks.now % 8 ≡ 0 }
+    requires lawful { (k : ℕ) → get_or marks.now k 0 ≤ 1 }
+    ensures size { length bytes.new.items ≡ length bytes.old.items }
+    ensures bits { (k : ℕ)
+        → mask_bit bytes.new.items k
+        ≡ bit_after bytes.old.items marks.now (8 * first) (length marks.now) k }
+{
+    for i in 0..marks.len() / 8 {
+        bytes[first + i] = packed(&marks[8 * i..8 * i + 8]);
+    }
+}
+
+/// Sets the bits from `from` on, one by one: to 1 where the mark is 1.
+fn put_each(bytes: &mut Vec<u8>, from: usize, marks: &[u8])
     requires few { from + length marks.now ≤ 16777216 }
     requires within { from + length marks.now ≤ 8 * length bytes.old.items }
     ensures size { length bytes.new.items ≡ length bytes.old.items }
@@ -183,6 +238,31 @@ fn put_bits(bytes: &mut Vec<u8>, from: usize, marks: &[u8])
     for (i, mark) in marks.iter().enumerate() {
         put_bit(bytes, from + i, *mark == 1);
     }
+}
+
+/// How many of `count` marks from `from` on are put eight at a time: where a byte begins with the
+/// first of them, as many as fill bytes.
+fn whole_marks(from: usize, count: usize) -> usize
+    ensures within { result ≤ count }
+    ensures whole { result % 8 ≡ 0 }
+    ensures bytes { 0 < result → from % 8 ≡ 0 }
+{
+    if from % 8 == 0 { count / 8 * 8 } else { 0 }
+}
+
+/// Sets the bits from `from` on: to 1 where the mark is 1.
+fn put_bits(bytes: &mut Vec<u8>, from: usize, marks: &[u8])
+    requires few { from + length marks.now ≤ 16777216 }
+    requires within { from + length marks.now ≤ 8 * length bytes.old.items }
+    requires lawful { (k : ℕ) → get_or marks.now k 0 ≤ 1 }
+    ensures size { length bytes.new.items ≡ length bytes.old.items }
+    ensures bits { (k : ℕ)
+        → mask_bit bytes.new.items k
+        ≡ bit_after bytes.old.items marks.now from (length marks.now) k }
+{
+    let whole = whole_marks(from, marks.len());
+    put_packed(bytes, from / 8, &marks[..whole]);
+    put_each(bytes, from + whole, &marks[whole..]);
 }
 
 impl Mask {
@@ -300,9 +380,11 @@ impl Mask {
         count_bits(&self.bytes, from, count)
     }
 
-    /// Makes the pixels from `from` on valid where the byte is 1, and the others of them invalid.
+    /// Makes the pixels from `from` on valid where the mark is 1, and the others of them, where it
+    /// is 0, invalid.
     pub fn set_run(&mut self, from: usize, marks: &[u8])
-        requires { from + length marks.now ≤ length self.old }
+        requires within { from + length marks.now ≤ length self.old }
+        requires lawful { (k : ℕ) → get_or marks.now k 0 ≤ 1 }
         ensures { self.new ≡ take from self.old ++ (map (λ b. nat_eq b 1) marks.now
             ++ drop (from + length marks.now) self.old) }
     {

@@ -95,6 +95,15 @@ fn edge(side: u32, from: u32, size: u32) -> u32
     side.min(size - from)
 }
 
+/// Whether a shape of which no number is 0 is within the limits.
+pub(super) fn is_allowed(rows: u32, cols: u32, depth: u32) -> bool
+    requires { 0 < depth }
+    ensures { IsTrue result ↔ ((depth ≤ 65536) × (rows * cols * depth ≤ 16777216)) }
+{
+    let places = rows as u64 * cols as u64;
+    depth <= 65536 && places <= 16777216 && places * depth as u64 <= 16777216
+}
+
 /// How many pixels a raster of a shape has.
 fn places_of(rows: u32, cols: u32, depth: u32) -> Result<usize, ShapeFault>
     ensures ok { IfOk result (λ places. (places ≡ rows * cols) × IsShape rows cols depth) }
@@ -105,14 +114,10 @@ fn places_of(rows: u32, cols: u32, depth: u32) -> Result<usize, ShapeFault>
     if rows == 0 || cols == 0 || depth == 0 {
         return Err(ShapeFault::BadSize);
     }
-    if depth > 65536 {
+    if !is_allowed(rows, cols, depth) {
         return Err(ShapeFault::TooLarge);
     }
-    let places = rows as u64 * cols as u64;
-    if places > 16777216 || places * depth as u64 > 16777216 {
-        return Err(ShapeFault::TooLarge);
-    }
-    Ok(places as usize)
+    Ok(rows as usize * cols as usize)
 }
 
 impl Raster {

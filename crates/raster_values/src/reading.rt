@@ -10,16 +10,15 @@ ghost use Rattle.raster_values.specs.Grid.{values_bytes};
 ghost use Rattle.raster_values.specs.ReadGrid.{IsHead, AreMarks, AreLawful, TookBytes, TookGrid, TookSome, IsToldFault, CountsGridStop, number_at, magic_faults, head_faults, mark_faults, value_faults, behind_head, grid_faults};
 ghost use Rattle.raster_values.specs.BandsGrid.{IsBandGrid};
 
+use super::PIECE;
+use super::ahead::Ahead;
 use super::cells::Cells;
 use super::kind::PixelType;
 use super::mask::Mask;
-use super::raster::Raster;
+use super::raster::{Raster, is_allowed};
 use byteorder::{ByteOrder, LittleEndian};
 use outside_io::{Failed, Source, take_all};
 use std::alloc::{AllocError, Global};
-
-/// How many bytes are taken from a source at once.
-const PIECE: usize = 4096;
 
 /// The letters of the grid of one raster.
 pub(super) const ONE: [u8; 4] = *b"LGR1";
@@ -109,15 +108,6 @@ pub(super) fn fault(reason: GridReason, place: usize) -> GridFault
     }
 }
 
-/// Whether a raster of the shape is small enough.
-fn is_allowed(rows: u32, cols: u32, depth: u32) -> bool
-    requires { 0 < depth }
-    ensures { IsTrue result ↔ ((depth ≤ 65536) × (rows * cols * depth ≤ 16777216)) }
-{
-    let places = rows as u64 * cols as u64;
-    depth <= 65536 && places <= 16777216 && places * depth as u64 <= 16777216
-}
-
 /// The number at a place of the head, which is there and is not 0.
 fn size_at(bytes: &[u8], at: usize) -> Result<u32, GridFault>
     requires length { length bytes.now ≤ 17 }
@@ -201,7 +191,7 @@ fn take_head<S: Source>(src: &mut S, at: u64) -> Result<Head, GridStop>
 /// Takes so many marks as the buffer is long.
 fn take_piece<S: Source>(src: &mut S, at: u64, buffer: &mut [u8]) -> Result<(), GridStop>
     requires at { at < 2 ^ 62 }
-    requires few { length buffer.old ≤ 4096 }
+    requires few { length buffer.old ≤ 65536 }
     ensures ok { OnOk result (TookBytes (S.left src.old) (S.left src.new) buffer.new
         × AreLawful (length buffer.new) buffer.new) }
     ensures err { IfErr result
@@ -220,12 +210,27 @@ fn take_piece<S: Source>(src: &mut S, at: u64, buffer: &mut [u8]) -> Result<(), 
     Ok(())
 }
 
-/// The place of the first byte that is no mark, and the number of bytes where there is none.
+/// A byte that none of the bytes is above: the greatest of them.
+fn greatest(bytes: &[u8]) -> u8
+    ensures { (k : ℕ) → get_or bytes.now k 0 ≤ result }
+{
+    let mut most = 0;
+    for byte in bytes {
+        most = most.max(*byte);
+    }
+    most
+}
+
+/// The place of the first byte that is no mark, and the number of bytes where there is none. It is
+/// looked for only where there is one.
 fn first_wrong(bytes: &[u8]) -> usize
     ensures within { result ≤ length bytes.now }
     ensures before { (k : ℕ) → k < result → get_or bytes.now k 0 ≤ 1 }
     ensures wrong { result < length bytes.now → 1 < get_or bytes.now result 0 }
 {
+    if greatest(bytes) <= 1 {
+        return bytes.len();
+    }
     for (k, byte) in bytes.iter().enumerate() {
         if *byte > 1 {
             return k;
@@ -257,7 +262,8 @@ pub(super) fn take_marks<S: Source>(src: &mut S, at: u64, marks: &mut Mask) -> R
     Ok(())
 }
 
-/// Takes the values of the marked pixels, which are zeros so far, run by run.
+/// Takes the values of the marked pixels, which are zeros so far: run by run, out of pieces of the
+/// source.
 pub(super) fn take_values<S: Source>(
     src: &mut S,
     at: u64,
@@ -281,12 +287,13 @@ pub(super) fn take_values<S: Source>(
     ensures counted { CountsGridStop result (S.faults src.old) (S.faults src.new) }
 {
     let size = values.kind().bytes();
+    let mut ahead = Ahead::of(marks.valid_count() * depth * size);
     let mut done = 0;
     let mut from = 0;
     while done < marks.len() {
         let run = marks.next_run(done, marks.len());
         let count = (run.end - run.start) * depth;
-        let n = values.take_run(src, run.start * depth, count)?;
+        let n = values.take_run(&mut ahead, src, run.start * depth, count)?;
         if n < count * size {
             return Err(stop_at(at, fault(GridReason::Truncated, from + n)));
         }

@@ -14,7 +14,7 @@ ghost use Rattle.ascii_grid.specs.Stopping.{CountsStop};
 
 use crate::fault::{AsciiFault, AsciiReason, AsciiStop, stop};
 use outside_io::{Source, take_all};
-use raster_values::{GridStop, Raster, grid_read};
+use raster_values::{GridStop, Raster, grid_read, grid_size};
 use std::alloc::Global;
 
 /// Why no grid was read, as a stop.
@@ -26,17 +26,6 @@ fn grid_stop(e: GridStop) -> AsciiStop
         GridStop::Source => AsciiStop::Source,
         GridStop::OutOfMemory => AsciiStop::OutOfMemory,
     }
-}
-
-/// How many bytes the grid of a raster has: the head, a mark for each pixel, and the values of the
-/// valid ones.
-fn grid_size(raster: &Raster) -> u64
-    ensures size { (grid : List ℕ) → IsGrid grid raster.now → result ≡ length grid }
-    ensures few { result < 2 ^ 40 }
-{
-    let places = raster.rows() as u64 * raster.cols() as u64;
-    let values = raster.valid_count() as u64 * raster.depth() as u64;
-    17 + places + values * raster.kind().bytes() as u64
 }
 
 /// Asks for one byte more, which may not be there.

@@ -2,7 +2,6 @@ use Rattle.std.proofs.Common.{◌≡◌, ◌<◌, ◌≤◌, ◌-◌, ◌+◌, �
 use Rattle.std.proofs.lemmas.List.{length-take-le, length-drop, with_items_is, get_or_append_left, get_or-append-add, get_or_past}
 use Rattle.std.proofs.lemmas.Bool.{cases_lt}
 use borrow.Rule.Slice.PartMut.{put_mid}
-use Rattle.raster_values.proofs.Taken.{takes_run}
 use Rattle.raster_values.proofs.Poured.{put_whole}
 use Rattle.raster_values.proofs.cells.take_into.Goals as goal
 
@@ -19,13 +18,13 @@ small_mid front run back all is are i =
 pub returns-clause-taken : goal.returns-clause-taken
 returns-clause-taken g c =
     let old = c.deref_mut.result.now in
-    let run = c.take_all.new.buf in
+    let run = c.take.new.out in
     let from = c.args.from in
     let end = c.args.end in
     let order = c.requires.order in
     let size_old : length old ≡ length c.args.bytes.now.items = ap length c.deref_mut.ensures.value in
     let within : end ≤ length old = omega (arith, c.requires.within) in
-    let size : length run ≡ end - from = c.take_all.auto.buf ∙ length-take-le (end - from) (drop from old) (omega (arith, length-drop from old)) in
+    let size : length run ≡ end - from = c.take.auto.out ∙ length-take-le (end - from) (drop from old) (omega (arith, length-drop from old)) in
     let whole : put_mid from (end - from) old run ≡ take from old ++ (run ++ drop end old) = put_whole from end old run order within size in
     let long : length (put_mid from (end - from) old run) ≡ c.args.bytes.now.len =
     ap length whole ∙ length-append (take from old) (run ++ drop end old) ∙ omega (arith, length-append run (drop end old), length-take-le from old (omega arith), length-drop end old, c.deref_mut.ensures.len) in
@@ -35,5 +34,5 @@ returns-clause-taken g c =
       size = size;
       small = small_mid (take from c.args.bytes.now.items) run (drop end c.args.bytes.now.items) _ laid (λ i low. omega (arith, c.type_inv.bytes i));
       laid = laid;
-      of_run = takes_run c.take_all.result _ _ run c.take_all.ensures.within c.take_all.ensures.bytes c.take_all.ensures.end c.take_all.ensures.err;
+      of_run = c.take.ensures.taken;
     }

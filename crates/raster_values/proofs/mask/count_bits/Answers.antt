@@ -1,24 +1,54 @@
-use Rattle.std.proofs.Common.{◌-◌, ◌/◌, ◌%◌, get_or, arith}
+use Rattle.std.proofs.Common.{◌≡◌, ◌-◌, ◌*◌, ◌+◌, ◌/◌, ◌≤◌, take, drop, length, refl, arith}
+use Rattle.std.proofs.lemmas.List.{length-take}
 use Rattle.raster_values.specs.Order.{mask_bit}
-use Rattle.raster_values.specs.inside.Bits.{byte_bit}
-use Rattle.raster_values.proofs.MaskCounts.{count_most, count_step}
+use Rattle.raster_values.proofs.MaskCounts.{count_most}
+use Rattle.raster_values.proofs.MaskBytes.{count_three}
 use Rattle.raster_values.proofs.mask.count_bits.Goals as goal
 
-pub overflow_add-n : goal.overflow_add-n
-overflow_add-n c =
+pub overflow_add-result : goal.overflow_add-result
+overflow_add-result c =
+    let from = c.args.from in
+    let first = c.div_ceil-first.result in
+    let last = (from + c.args.count) / 8 in
+    let piece = take (last - first) (drop first c.args.bytes.now) in
     omega (
       arith,
-      count_most (mask_bit c.args.bytes.now) c.args.from (c.loop-k.k - c.args.from),
-      count_most (byte_bit (get_or c.args.bytes.now (c.loop-k.k / 8) 0)) (c.loop-k.k % 8) (c.min-next.result - c.loop-k.k),
-      c.loop-k.invariant.counted,
-      c.ones_within-n.ensures,
-      c.min-next.ensures,
+      c.requires.few,
+      c.div_ceil-first.ensures,
+      c.count_part-2.ensures,
+      count_most (mask_bit c.args.bytes.now) from (first * 8 - from),
+      c.count_bytes.ensures,
+      count_most (mask_bit piece) 0 (8 * length piece),
+      length-take (last - first) (drop first c.args.bytes.now),
     )
 
-pub loop-k-preserved : goal.loop-k-preserved
-loop-k-preserved c = record {
-  from = omega (arith, c.min-next.ensures, c.loop-k.invariant.from);
-  within = omega (arith, c.min-next.ensures);
-  counted = count_step c.args.bytes.now c.args.from c.loop-k.k c.min-next.result c.loop-k.n c.ones_within-n.result c.loop-k.invariant.from (omega (arith, c.min-next.ensures)) (omega (arith, c.min-next.ensures))
-      c.loop-k.invariant.counted c.ones_within-n.ensures;
-}
+pub overflow_add-result-2 : goal.overflow_add-result-2
+overflow_add-result-2 c =
+    let from = c.args.from in
+    let first = c.div_ceil-first.result in
+    let last = (from + c.args.count) / 8 in
+    let piece = take (last - first) (drop first c.args.bytes.now) in
+    omega (
+      arith,
+      c.requires.few,
+      c.div_ceil-first.ensures,
+      c.count_part-2.ensures,
+      count_most (mask_bit c.args.bytes.now) from (first * 8 - from),
+      c.count_bytes.ensures,
+      count_most (mask_bit piece) 0 (8 * length piece),
+      length-take (last - first) (drop first c.args.bytes.now),
+      c.count_part-3.ensures,
+      count_most (mask_bit c.args.bytes.now) (last * 8) (from + c.args.count - last * 8),
+    )
+
+pub returns : goal.returns
+returns c =
+    let bytes = c.args.bytes.now in
+    let from = c.args.from in
+    let count = c.args.count in
+    let first = c.div_ceil-first.result in
+    let last = (from + count) / 8 in
+    let low : from ≤ first * 8 = omega (arith, c.div_ceil-first.ensures) in
+    let order : first ≤ last = omega (arith, c.if-last-first.false) in
+    count_three bytes (take (last - first) (drop first bytes)) from count first last c.count_part-2.result c.count_bytes.result c.count_part-3.result low order (omega arith) (omega (arith, c.requires.within)) refl
+    c.count_part-2.ensures c.count_bytes.ensures c.count_part-3.ensures

@@ -1,14 +1,22 @@
-use Rattle.std.proofs.Common.{◌+◌, ◌∙◌, ap, sym, refl, cond, get_or}
-use Rattle.std.specs.Prelude.{nat_eq}
-use Rattle.raster_values.proofs.MaskCounts.{bit_after_none, bit_after_more}
+use Rattle.std.proofs.Common.{◌≡◌, ◌-◌, ◌+◌, ◌*◌, ◌/◌, ap, ◌∙◌, refl, take, drop, length, arith}
+use Rattle.std.proofs.lemmas.List.{length-take-le, length-drop, take_rest}
+use Rattle.raster_values.specs.inside.Bits.{bit_after}
+use Rattle.raster_values.proofs.MaskBytes.{bits_joined, bits_packed}
 use Rattle.raster_values.proofs.mask.put_bits.Goals as goal
 
-pub loop-i-init : goal.loop-i-init
-loop-i-init c = record { size = refl; bits = λ k. sym (bit_after_none c.args.bytes.now.items c.args.marks.now c.args.from k) }
-
-pub loop-i-preserved : goal.loop-i-preserved
-loop-i-preserved c = record {
-  size = c.put_bit.ensures.size ∙ c.loop-i.invariant.size;
-  bits = λ k. c.put_bit.ensures.bits k ∙ ap (λ b. cond (nat_eq k (c.args.from + c.loop-i.i)) (nat_eq (get_or c.args.marks.now c.loop-i.i 0) 1) b) (c.loop-i.invariant.bits k)
-      ∙ sym (bit_after_more c.args.bytes.now.items c.args.marks.now c.args.from c.loop-i.i k);
-}
+pub returns-clause-bits : goal.returns-clause-bits
+returns-clause-bits c = λ k.
+    let old = c.args.bytes.now.items in
+    let mid = c.put_packed.new.bytes.items in
+    let marks = c.args.marks.now in
+    let from = c.args.from in
+    let w = c.whole_marks-whole.result in
+    let within = c.whole_marks-whole.ensures.within in
+    let front = take w marks in
+    let back = take (length marks - w) (drop w marks) in
+    let rest : back ≡ drop w marks = take_rest marks w in
+    let long : length front ≡ w = length-take-le w marks within in
+    let behind : length back ≡ length marks - w = ap length rest ∙ length-drop w marks in
+    bits_joined old mid c.put_each.new.bytes.items marks front back from w k within refl rest
+    (c.put_packed.ensures.bits k ∙ ap (λ n. bit_after old front (8 * (from / 8)) n k) long ∙ bits_packed old front from w k c.whole_marks-whole.ensures.bytes)
+    (c.put_each.ensures.bits k ∙ ap (λ n. bit_after mid back (from + w) n k) behind)

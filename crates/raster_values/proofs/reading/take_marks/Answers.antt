@@ -2,7 +2,7 @@ use Rattle.std.proofs.Common.{◌≡◌, ◌≤◌, ◌<◌, ◌+◌, length, dr
 use Rattle.std.proofs.lemmas.List.{length-take-le, length-drop}
 use Rattle.std.proofs.lemmas.Result.{err_from_is_err_and}
 use Rattle.raster_values.proofs.Pack.{on_err}
-use Rattle.raster_values.proofs.Taken.{took_more, more_marks_taken, marks_all_taken, marks_fault}
+use Rattle.raster_values.proofs.Taken.{took_more, more_marks_taken, marks_all_taken, marks_fault, only_lawful}
 use Rattle.raster_values.proofs.MaskCounts.{length_run}
 use Rattle.raster_values.proofs.reading.take_marks.Goals as goal
 
@@ -47,3 +47,6 @@ loop-done-smaller g c =
     omega (arith, below, size, c.min-want.ensures) in
     let same : length c.set_run.new.self ≡ length c.loop-done.marks = ap length c.set_run.ensures ∙ length_run c.loop-done.marks c.take_piece.new.buffer c.loop-done.done inside in
     omega (arith, same, below, c.min-want.ensures)
+
+pub set_run-requires-clause-lawful : goal.set_run-requires-clause-lawful
+set_run-requires-clause-lawful g c = only_lawful c.take_piece.new.buffer c.in_ok-take_piece.ensures.ok.1

@@ -8,7 +8,7 @@ invariant-loop-done g l = record {
   within : l.done ≤ length l.marks;
   taken : MarksTaken (g.S.Source.left l.fn.src) (g.S.Source.left l.src) l.marks l.done;
   faults : g.S.Source.faults l.src ≡ g.S.Source.faults l.fn.src;
-  buffer : length l.buffer ≡ 4096;
+  buffer : length l.buffer ≡ 65536;
 }
 
 abbrev pub decreases-loop-done : goal.decreases-loop-done

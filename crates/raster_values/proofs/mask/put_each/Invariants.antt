@@ -1,7 +1,7 @@
 use Rattle.std.proofs.Common.{◌≡◌, ℕ, length}
 use Rattle.raster_values.specs.Order.{mask_bit}
 use Rattle.raster_values.specs.inside.Bits.{bit_after}
-use Rattle.raster_values.proofs.mask.put_bits.Given as goal
+use Rattle.raster_values.proofs.mask.put_each.Given as goal
 
 abbrev pub invariant-loop-i : goal.invariant-loop-i
 invariant-loop-i l = record {
