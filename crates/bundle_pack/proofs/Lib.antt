@@ -1,0 +1,5 @@
+mod Volumes
+mod Choosing
+mod Turning
+mod Targets
+mod Merging

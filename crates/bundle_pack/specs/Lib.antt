@@ -1,0 +1,17 @@
+pub use Rattle.outside_io.specs.streams.Faults
+pub use Rattle.outside_io.specs.volume.History
+pub use Rattle.bundle_store.specs.Build
+pub use Rattle.bundle_store.specs.Built
+pub use Rattle.bundle_store.specs.Images
+pub use Rattle.bundle_store.specs.Layout
+pub use Rattle.bundle_store.specs.Recover
+pub use Rattle.bundle_store.specs.Tiles
+pub use Rattle.opened_bundle.specs.Left
+pub mod Files
+pub mod Merged
+pub mod Chosen
+pub mod Opening
+pub mod Refusals
+pub mod Sources
+pub mod Packing
+pub mod inside

@@ -1,0 +1,18 @@
+//! Packing: the tiles of one to eight bundles, written into one fresh bundle without slack. Where
+//! several have a slot, the last source counts. It stands on `bundle_store`, `side_journal`,
+//! `bundle_index`, `opened_bundle` and `outside_io`.
+//!
+//! The contract that the layer above uses: `pack` leaves a target that holds the layout of the
+//! merged tiles, or says what refuses first; each source stands for what it stood for, at each
+//! moment.
+#![tactic(auto)]
+
+mod chosen;
+mod collecting;
+mod fault;
+mod packing;
+mod sources;
+mod target;
+
+pub use fault::PackFault;
+pub use packing::{PackReport, pack};
