@@ -1,5 +1,10 @@
 mod Volumes
+mod Opened
 mod Choosing
 mod Turning
+mod Reading
 mod Targets
+mod Steps
 mod Merging
+mod OneAnswer
+mod Sound

@@ -10,9 +10,11 @@
 mod chosen;
 mod collecting;
 mod fault;
+mod laws;
 mod packing;
 mod sources;
 mod target;
 
 pub use fault::PackFault;
+pub use laws::packings_have_one_answer;
 pub use packing::{PackReport, pack};
