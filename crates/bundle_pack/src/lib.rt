@@ -9,10 +9,18 @@
 
 mod chosen;
 mod collecting;
+mod dispatch;
 mod fault;
 mod packing;
+mod process;
+mod refusal;
 mod sources;
 mod target;
+mod words;
 
+pub use dispatch::run_pack;
 pub use fault::PackFault;
 pub use packing::{PackReport, pack};
+pub use process::serve;
+pub use refusal::Refusal;
+pub use words::USAGE;

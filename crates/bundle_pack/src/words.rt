@@ -1,0 +1,20 @@
+//! The words that ask for packing.
+
+ghost use Rattle.std.specs.Prelude.{◌↔◌, IsTrue};
+ghost use Rattle.bundle_pack.specs.Words.{IsAsked};
+
+use outside_io::Word;
+
+/// What is told where the words, or the number of sources, ask for nothing.
+pub const USAGE: &[u8] = b"usage: TARGET SOURCE, with 1 to 8 sources";
+
+/// Whether the words, beside so many sources, ask for packing: they are the one word `pack`, and
+/// there are 1 to 8.
+pub(crate) fn asks_to_pack(words: &[Word], sources: usize) -> bool
+    ensures { IsTrue result ↔ IsAsked words.now sources }
+{
+    match words {
+        [word] => word.as_slice() == b"pack".as_slice() && sources >= 1 && sources <= 8,
+        _ => false,
+    }
+}
