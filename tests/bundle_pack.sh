@@ -45,6 +45,10 @@ opened journal_2 >open_2
     record small
 } >packed_3_1
 
+# A bundle that has more bytes than `files_are_short` lets a file have.
+head -c 6000 /dev/zero | tr '\0' x >wide
+{ header 6000 0 137140; index 64 131140 6000; record wide; } >big
+
 usage='usage: TARGET SOURCE, with 1 to 8 sources'
 : >nothing
 

@@ -3,3 +3,4 @@ mod Choosing
 mod Turning
 mod Targets
 mod Merging
+mod Ended

@@ -1,0 +1,156 @@
+-- What the end of a run tells of packing's answer, and its status of that end.
+use Rattle.std.proofs.Common.{◌≡◌, ◌≢◌, ℕ, ◌<◌, ◌≤◌, ◌⊎◌, List, length, slice_get, Option, Some, None, Result, Ok, Err, IfErr, refl, sym, ap, subst, ◌∙◌, inl, inr, arith}
+use Rattle.outside_io.specs.program.Line.{GivesLine}
+use Rattle.outside_io.specs.streams.Faults.{FailedBetween, IsCause}
+use Rattle.bundle_store.specs.declared.fault.StoreFault.{StoreFault}
+use Rattle.bundle_store.specs.declared.fault.StoreFault.TheVariants.{Device, BadBundle, BadJournal, NoTile, Beyond, TileTooLarge, EmptyTile, Full, NotEmpty, OutOfMemory, Stopped}
+use Rattle.program_ends.specs.Moves.{Change, SinkMove}
+use Rattle.program_ends.specs.Stop.{IsRefusalStatus}
+use Rattle.program_ends.specs.declared.stop.Stop.{Stop}
+use Rattle.program_ends.specs.declared.stop.Stop.TheVariants.{Usage, Source, Output, Volume, OutOfMemory as NoMemory, Refused}
+use Rattle.program_ends.proofs.Ends as ends
+use Rattle.bundle_pack.specs.declared.fault.PackFault.{PackFault}
+use Rattle.bundle_pack.specs.declared.fault.PackFault.TheVariants.{Source as SourceFault, Target, KeptTooMuch, OutOfMemory as NoRoom}
+use Rattle.bundle_pack.specs.declared.packing.PackReport.{PackReport}
+use Rattle.bundle_pack.specs.declared.refusal.Refusal.{Refusal}
+use Rattle.bundle_pack.specs.Names.{End, line_of, refusal_status, status_at, stop_of, store_stop_of}
+use Rattle.bundle_pack.specs.Opening.{OpeningFails}
+use Rattle.bundle_pack.specs.Refusals.{PackFails}
+use Rattle.bundle_pack.specs.Run.{EndsAs, IsVolumeCause, SomeFailed}
+use Rattle.bundle_pack.specs.Sources.{DeviceAt, Each}
+use Rattle.bundle_pack.proofs.Volumes.{each_map, get_some}
+
+pub own : (r : Refusal) → IsRefusalStatus (refusal_status r)
+own r = inr (omega arith)
+
+-- a stop that packing ends with: of the volumes, of memory, or a refusal
+abbrev pub IsOfPacking : Stop Refusal → Type 0
+IsOfPacking Usage = ⊥
+IsOfPacking Source = ⊥
+IsOfPacking Output = ⊥
+IsOfPacking Volume = Unit {0}
+IsOfPacking NoMemory = Unit {0}
+IsOfPacking (Refused r) = Unit {0}
+
+store_stops : (fault : StoreFault) → IsOfPacking (store_stop_of fault)
+store_stops Device = tt
+store_stops (BadBundle place found) = tt
+store_stops (BadJournal place found) = tt
+store_stops NoTile = tt
+store_stops (Beyond entry got) = tt
+store_stops (TileTooLarge at len) = tt
+store_stops (EmptyTile at) = tt
+store_stops (Full len) = tt
+store_stops (NotEmpty len) = tt
+store_stops OutOfMemory = tt
+store_stops Stopped = tt
+
+pub pack_stops : (fault : PackFault) → IsOfPacking (stop_of fault)
+pack_stops (SourceFault at None fault) = store_stops fault
+pack_stops (SourceFault at (Some slot) Device) = tt
+pack_stops (SourceFault at (Some slot) (BadBundle place found)) = tt
+pack_stops (SourceFault at (Some slot) (BadJournal place found)) = tt
+pack_stops (SourceFault at (Some slot) NoTile) = tt
+pack_stops (SourceFault at (Some slot) (Beyond entry got)) = tt
+pack_stops (SourceFault at (Some slot) (TileTooLarge place len)) = tt
+pack_stops (SourceFault at (Some slot) (EmptyTile place)) = tt
+pack_stops (SourceFault at (Some slot) (Full len)) = tt
+pack_stops (SourceFault at (Some slot) (NotEmpty len)) = tt
+pack_stops (SourceFault at (Some slot) OutOfMemory) = tt
+pack_stops (SourceFault at (Some slot) Stopped) = tt
+pack_stops (Target fault) = store_stops fault
+pack_stops (KeptTooMuch len) = tt
+pack_stops NoRoom = tt
+
+-- packing does not end as words that ask for nothing
+pub never_usage : (answer : Result PackReport PackFault) (end : End) → EndsAs answer end → status_at end ≡ 1 → ⊥
+never_usage answer end so one = none answer end so (ends.usage_at refusal_status own end one)
+  where
+    none : (answer : Result PackReport PackFault) (end : End) → EndsAs answer end → end ≡ Err Usage → ⊥
+    none (Ok report) end so is = let here : EndsAs (Ok report) (Err Usage) = subst (EndsAs (Ok report)) is so in here
+    none (Err fault) end so is =
+        let here : EndsAs (Err fault) (Err Usage) = subst (EndsAs (Err fault)) is so in subst IsOfPacking (sym here) (pack_stops fault)
+
+-- ---- a volume that failed
+
+none_of : {P : Type 0} → ⊥ ⊎ ⊥ → P
+none_of (inl bad) = absurd bad
+none_of (inr bad) = absurd bad
+
+opening_device : (fault : StoreFault) → OpeningFails fault → store_stop_of fault ≡ Volume → fault ≡ Device
+opening_device Device fails is = refl
+opening_device (BadBundle place found) fails is = absurd cc
+opening_device (BadJournal place found) fails is = absurd cc
+opening_device NoTile fails is = none_of fails
+opening_device (Beyond entry got) fails is = none_of fails
+opening_device (TileTooLarge at len) fails is = none_of fails
+opening_device (EmptyTile at) fails is = none_of fails
+opening_device (Full len) fails is = none_of fails
+opening_device (NotEmpty len) fails is = none_of fails
+opening_device OutOfMemory fails is = absurd cc
+opening_device Stopped fails is = none_of fails
+
+-- the source of some number failed, or the target did
+abbrev pub IsDevice : ℕ → PackFault → Type 0
+IsDevice count fault = ((i : ℕ) × ((i < count) × (fault ≡ SourceFault i None Device))) ⊎ (fault ≡ Target Device)
+
+fault_device : (count : ℕ) (fault : PackFault) → PackFails count fault → stop_of fault ≡ Volume → IsDevice count fault
+fault_device count (SourceFault at None fault) (less, fails) is = inl (at, (less, ap (SourceFault at None) (opening_device fault fails is)))
+fault_device count (SourceFault at (Some slot) (Beyond entry got)) fails is = absurd cc
+fault_device count (SourceFault at (Some slot) Device) (less, (below, bad)) is = absurd bad
+fault_device count (SourceFault at (Some slot) (BadBundle place found)) (less, (below, bad)) is = absurd bad
+fault_device count (SourceFault at (Some slot) (BadJournal place found)) (less, (below, bad)) is = absurd bad
+fault_device count (SourceFault at (Some slot) NoTile) (less, (below, bad)) is = absurd bad
+fault_device count (SourceFault at (Some slot) (TileTooLarge place len)) (less, (below, bad)) is = absurd bad
+fault_device count (SourceFault at (Some slot) (EmptyTile place)) (less, (below, bad)) is = absurd bad
+fault_device count (SourceFault at (Some slot) (Full len)) (less, (below, bad)) is = absurd bad
+fault_device count (SourceFault at (Some slot) (NotEmpty len)) (less, (below, bad)) is = absurd bad
+fault_device count (SourceFault at (Some slot) OutOfMemory) (less, (below, bad)) is = absurd bad
+fault_device count (SourceFault at (Some slot) Stopped) (less, (below, bad)) is = absurd bad
+fault_device count (Target (NotEmpty len)) fails is = absurd cc
+fault_device count (Target Device) fails is = inr refl
+fault_device count (Target (BadBundle place found)) fails is = absurd cc
+fault_device count (Target (BadJournal place found)) fails is = absurd cc
+fault_device count (Target NoTile) fails is = none_of fails
+fault_device count (Target (Beyond entry got)) fails is = none_of fails
+fault_device count (Target (TileTooLarge at len)) fails is = none_of fails
+fault_device count (Target (EmptyTile at)) fails is = none_of fails
+fault_device count (Target (Full len)) fails is = none_of fails
+fault_device count (Target OutOfMemory) fails is = absurd cc
+fault_device count (Target Stopped) fails is = none_of fails
+fault_device count (KeptTooMuch len) fails is = absurd cc
+fault_device count NoRoom fails is = absurd cc
+
+-- the end with the status of a volume is that of such an answer
+found_device : (count : ℕ) (answer : Result PackReport PackFault) (end : End) → EndsAs answer end → IfErr answer (λ f. PackFails count f) → end ≡ Err Volume → (fault : PackFault) × ((answer ≡ Err fault) × IsDevice count fault)
+found_device count (Ok report) end so fails is = let here : EndsAs (Ok report) (Err Volume) = subst (EndsAs (Ok report)) is so in absurd here
+found_device count (Err fault) end so fails is =
+    let here : EndsAs (Err fault) (Err Volume) = subst (EndsAs (Err fault)) is so in (fault, (refl, fault_device count fault fails (sym here)))
+
+-- and the other way round
+device_ends : (fault : PackFault) (answer : Result PackReport PackFault) (end : End) → stop_of fault ≡ Volume → answer ≡ Err fault → EndsAs answer end → end ≡ Err Volume
+device_ends fault answer end stops is so = here end (subst (λ (a : Result PackReport PackFault). EndsAs a end) is so)
+  where
+    here : (end : End) → EndsAs (Err fault) end → end ≡ Err Volume
+    here (Ok u) so = absurd so
+    here (Err stop) so = ap Err (so ∙ stops)
+
+-- So a volume's failure is the cause of that status.
+pub volume_status : {V : Type 0} (faults : V → ℕ) (answer : Result PackReport PackFault) (end : End) (status : ℕ) (old new : List V) (target : Change ℕ) → status ≡ status_at end → EndsAs answer end
+    → IfErr answer (λ f. PackFails (length old) f) → Each (λ i v w. IsCause (DeviceAt answer i) (faults v) (faults w)) old new → IsCause (answer ≡ Err (Target Device)) target.old target.new
+    → IsVolumeCause faults (status ≡ 5) old new target
+volume_status {V} faults answer end status old new target is so fails sources to = record {
+  counts = each_map (λ i v w. IsCause (DeviceAt answer i) (faults v) (faults w)) (λ i v w. faults v ≤ faults w) old new (λ i v w less c. c.counts) sources;
+  target_counts = to.counts;
+  failed = λ five. let f = found_device (length old) answer end so fails (ends.volume_at refusal_status own end (sym is ∙ five)) in which f.0 f.1.0 f.1.1;
+  rose = each_map (λ i v w. IsCause (DeviceAt answer i) (faults v) (faults w)) (λ i v w. faults v < faults w → status ≡ 5) old new
+      (λ i v w less c more. is ∙ ap status_at (device_ends (SourceFault i None Device) answer end refl (c.rose more) so)) sources;
+  target_rose = λ more. is ∙ ap status_at (device_ends (Target Device) answer end refl (to.rose more) so);
+}
+  where
+    which : (fault : PackFault) → answer ≡ Err fault → IsDevice (length old) fault → SomeFailed faults old new ⊎ FailedBetween target.old target.new
+    which fault err (inl (i, (less, at))) =
+        let v = get_some old i less in
+        let w = get_some new i (omega (arith, sources.many, less)) in
+        inl (i, (v.0, (w.0, (v.1, (w.1, (sources.each i v.0 w.0 v.1 w.1).failed (err ∙ ap Err at))))))
+    which fault err (inr at) = inr (to.failed (err ∙ ap Err at))
