@@ -1,11 +1,11 @@
 -- What the end of a run tells of packing's answer, and its status of that end.
 use Rattle.std.proofs.Common.{◌≡◌, ◌≢◌, ℕ, ◌<◌, ◌≤◌, ◌⊎◌, List, length, slice_get, Option, Some, None, Result, Ok, Err, IfErr, refl, sym, ap, subst, ◌∙◌, inl, inr, arith}
-use Rattle.outside_io.specs.program.Line.{GivesLine}
 use Rattle.outside_io.specs.streams.Faults.{FailedBetween, IsCause}
+use Rattle.outside_io.specs.streams.Sink.{Holds}
 use Rattle.bundle_store.specs.declared.fault.StoreFault.{StoreFault}
 use Rattle.bundle_store.specs.declared.fault.StoreFault.TheVariants.{Device, BadBundle, BadJournal, NoTile, Beyond, TileTooLarge, EmptyTile, Full, NotEmpty, OutOfMemory, Stopped}
 use Rattle.program_ends.specs.Moves.{Change, SinkMove}
-use Rattle.program_ends.specs.Stop.{IsRefusalStatus}
+use Rattle.program_ends.specs.Stop.{Gained, IsRefusalStatus}
 use Rattle.program_ends.specs.declared.stop.Stop.{Stop}
 use Rattle.program_ends.specs.declared.stop.Stop.TheVariants.{Usage, Source, Output, Volume, OutOfMemory as NoMemory, Refused}
 use Rattle.program_ends.proofs.Ends as ends
@@ -13,10 +13,11 @@ use Rattle.bundle_pack.specs.declared.fault.PackFault.{PackFault}
 use Rattle.bundle_pack.specs.declared.fault.PackFault.TheVariants.{Source as SourceFault, Target, KeptTooMuch, OutOfMemory as NoRoom}
 use Rattle.bundle_pack.specs.declared.packing.PackReport.{PackReport}
 use Rattle.bundle_pack.specs.declared.refusal.Refusal.{Refusal}
-use Rattle.bundle_pack.specs.Names.{End, line_of, refusal_status, status_at, stop_of, store_stop_of}
+use Rattle.bundle_pack.specs.Names.{End, GivesLineOf, refusal_status, status_at, stop_of, store_stop_of}
+use Rattle.bundle_pack.specs.Packing.{IsFree}
 use Rattle.bundle_pack.specs.Opening.{OpeningFails}
 use Rattle.bundle_pack.specs.Refusals.{PackFails}
-use Rattle.bundle_pack.specs.Run.{EndsAs, IsVolumeCause, SomeFailed}
+use Rattle.bundle_pack.specs.Run.{EndsAs, EndsWith, IsVolumeCause, OfOutput, SomeFailed, end_for, gives}
 use Rattle.bundle_pack.specs.Sources.{DeviceAt, Each}
 use Rattle.bundle_pack.proofs.Volumes.{each_map, get_some}
 
@@ -73,22 +74,18 @@ never_usage answer end so one = none answer end so (ends.usage_at refusal_status
 
 -- ---- a volume that failed
 
-none_of : {P : Type 0} → ⊥ ⊎ ⊥ → P
-none_of (inl bad) = absurd bad
-none_of (inr bad) = absurd bad
-
 opening_device : (fault : StoreFault) → OpeningFails fault → store_stop_of fault ≡ Volume → fault ≡ Device
 opening_device Device fails is = refl
 opening_device (BadBundle place found) fails is = absurd cc
 opening_device (BadJournal place found) fails is = absurd cc
-opening_device NoTile fails is = none_of fails
-opening_device (Beyond entry got) fails is = none_of fails
-opening_device (TileTooLarge at len) fails is = none_of fails
-opening_device (EmptyTile at) fails is = none_of fails
-opening_device (Full len) fails is = none_of fails
-opening_device (NotEmpty len) fails is = none_of fails
-opening_device OutOfMemory fails is = absurd cc
-opening_device Stopped fails is = none_of fails
+opening_device NoTile fails is = absurd fails
+opening_device (Beyond entry got) fails is = absurd fails
+opening_device (TileTooLarge at len) fails is = absurd fails
+opening_device (EmptyTile at) fails is = absurd fails
+opening_device (Full len) fails is = absurd fails
+opening_device (NotEmpty len) fails is = absurd fails
+opening_device OutOfMemory fails is = absurd fails
+opening_device Stopped fails is = absurd fails
 
 -- the source of some number failed, or the target did
 abbrev pub IsDevice : ℕ → PackFault → Type 0
@@ -111,13 +108,13 @@ fault_device count (Target (NotEmpty len)) fails is = absurd cc
 fault_device count (Target Device) fails is = inr refl
 fault_device count (Target (BadBundle place found)) fails is = absurd cc
 fault_device count (Target (BadJournal place found)) fails is = absurd cc
-fault_device count (Target NoTile) fails is = none_of fails
-fault_device count (Target (Beyond entry got)) fails is = none_of fails
-fault_device count (Target (TileTooLarge at len)) fails is = none_of fails
-fault_device count (Target (EmptyTile at)) fails is = none_of fails
-fault_device count (Target (Full len)) fails is = none_of fails
-fault_device count (Target OutOfMemory) fails is = absurd cc
-fault_device count (Target Stopped) fails is = none_of fails
+fault_device count (Target NoTile) fails is = absurd fails
+fault_device count (Target (Beyond entry got)) fails is = absurd fails
+fault_device count (Target (TileTooLarge at len)) fails is = absurd fails
+fault_device count (Target (EmptyTile at)) fails is = absurd fails
+fault_device count (Target (Full len)) fails is = absurd fails
+fault_device count (Target OutOfMemory) fails is = absurd fails
+fault_device count (Target Stopped) fails is = absurd fails
 fault_device count (KeptTooMuch len) fails is = absurd cc
 fault_device count NoRoom fails is = absurd cc
 
@@ -154,3 +151,68 @@ volume_status {V} faults answer end status old new target is so fails sources to
         let w = get_some new i (omega (arith, sources.many, less)) in
         inl (i, (v.0, (w.0, (v.1, (w.1, (sources.each i v.0 w.0 v.1 w.1).failed (err ∙ ap Err at))))))
     which fault err (inr at) = inr (to.failed (err ∙ ap Err at))
+
+-- ---- the end of an answer
+
+-- where the output does not fail
+pub end_is : (answer : Result PackReport PackFault) (end : End) → EndsAs answer end → (status_at end ≡ 4 → ⊥) → end ≡ end_for answer
+end_is (Ok report) (Ok u) so not = refl
+end_is (Ok report) (Err Output) so not = absurd (not refl)
+end_is (Ok report) (Err Usage) so not = absurd so
+end_is (Ok report) (Err Source) so not = absurd so
+end_is (Ok report) (Err Volume) so not = absurd so
+end_is (Ok report) (Err NoMemory) so not = absurd so
+end_is (Ok report) (Err (Refused r)) so not = absurd so
+end_is (Err fault) (Ok u) so not = absurd so
+end_is (Err fault) (Err stop) so not = ap Err so
+
+-- where no volume failed and memory was not refused
+pub not_free : (answer : Result PackReport PackFault) (end : End) → EndsAs answer end → (status_at end ≡ 5 → ⊥) → (status_at end ≡ 6 → ⊥) → IsFree answer → ⊥
+not_free (Ok report) end so five six free = free
+not_free (Err fault) (Ok u) so five six free = so
+not_free (Err (SourceFault at None Device)) (Err stop) so five six free = five (ap (λ (s : Stop Refusal). status_at (Err s)) so)
+not_free (Err (SourceFault at (Some slot) Device)) (Err stop) so five six free = five (ap (λ (s : Stop Refusal). status_at (Err s)) so)
+not_free (Err (Target Device)) (Err stop) so five six free = five (ap (λ (s : Stop Refusal). status_at (Err s)) so)
+not_free (Err NoRoom) (Err stop) so five six free = six (ap (λ (s : Stop Refusal). status_at (Err s)) so)
+not_free (Err (SourceFault at slot (BadBundle place found))) (Err stop) so five six free = free
+not_free (Err (SourceFault at slot (BadJournal place found))) (Err stop) so five six free = free
+not_free (Err (SourceFault at slot NoTile)) (Err stop) so five six free = free
+not_free (Err (SourceFault at slot (Beyond entry got))) (Err stop) so five six free = free
+not_free (Err (SourceFault at slot (TileTooLarge place len))) (Err stop) so five six free = free
+not_free (Err (SourceFault at slot (EmptyTile place))) (Err stop) so five six free = free
+not_free (Err (SourceFault at slot (Full len))) (Err stop) so five six free = free
+not_free (Err (SourceFault at slot (NotEmpty len))) (Err stop) so five six free = free
+not_free (Err (SourceFault at slot OutOfMemory)) (Err stop) so five six free = free
+not_free (Err (SourceFault at slot Stopped)) (Err stop) so five six free = free
+not_free (Err (Target (BadBundle place found))) (Err stop) so five six free = free
+not_free (Err (Target (BadJournal place found))) (Err stop) so five six free = free
+not_free (Err (Target NoTile)) (Err stop) so five six free = free
+not_free (Err (Target (Beyond entry got))) (Err stop) so five six free = free
+not_free (Err (Target (TileTooLarge place len))) (Err stop) so five six free = free
+not_free (Err (Target (EmptyTile place))) (Err stop) so five six free = free
+not_free (Err (Target (Full len))) (Err stop) so five six free = free
+not_free (Err (Target (NotEmpty len))) (Err stop) so five six free = free
+not_free (Err (Target OutOfMemory)) (Err stop) so five six free = free
+not_free (Err (Target Stopped)) (Err stop) so five six free = free
+not_free (Err (KeptTooMuch len)) (Err stop) so five six free = free
+
+gained_all : (answer : Result PackReport PackFault) (held : Change (Option (List ℕ))) (bytes : List ℕ) → Gained (end_for answer) held bytes → Holds held.old held.new bytes
+gained_all (Ok report) held bytes gained = gained
+gained_all (Err fault) held bytes gained = by_stop (stop_of fault) (pack_stops fault) gained
+  where
+    by_stop : (stop : Stop Refusal) → IsOfPacking stop → Gained {R = Refusal} (Err stop) held bytes → Holds held.old held.new bytes
+    by_stop Usage late gained = absurd late
+    by_stop Source late gained = absurd late
+    by_stop Output late gained = absurd late
+    by_stop Volume late gained = gained
+    by_stop NoMemory late gained = gained
+    by_stop (Refused r) late gained = gained
+
+-- so a run ends as its packing answers
+pub ends_with : (answer : Result PackReport PackFault) (end : End) (status : ℕ) (out err : SinkMove) → EndsAs answer end → status ≡ status_at end → OfOutput answer end out → GivesLineOf end err → (status ≡ 4 → ⊥) → EndsWith answer status out err
+ends_with answer end status out err so is output line not =
+    let same : end ≡ end_for answer = end_is answer end so (λ four. not (is ∙ four)) in record {
+      status_is = is ∙ ap status_at same;
+      output = gained_all answer out.held (gives answer) (subst (λ (x : End). Gained x out.held (gives answer)) same output.gave);
+      line = subst (λ (x : End). GivesLineOf x err) same line;
+    }

@@ -1,14 +1,26 @@
 //! Packing is done where it is asked for, and what it ends with is told.
 
-ghost use Rattle.std.specs.Prelude.{◌≡◌, ◌≢◌, ◌≤◌, ◌↔◌, IfErr, IfOk, IsTrue, All, OnErr, OnOk, Err, length};
+ghost use Rattle.std.specs.Prelude.{◌≡◌, ◌≢◌, ◌⊎◌, ◌≤◌, ◌↔◌, ℕ, List, [], Result, IsTrue, All, OnErr, OnOk, length};
+ghost use Rattle.outside_io.specs.declared.volume.VolFile.TheVariants.{Bundle, Journal};
 ghost use Rattle.outside_io.specs.program.Line.{GivesLine};
 ghost use Rattle.outside_io.specs.streams.Faults.{CountsFaults, IsCause};
 ghost use Rattle.outside_io.specs.streams.Sink.{Holds, HoldsPrefix};
-ghost use Rattle.outside_io.specs.volume.History.{current};
+ghost use Rattle.outside_io.specs.volume.History.{contents, current};
+ghost use Rattle.bundle_index.specs.Sizes.{slot_count};
+ghost use Rattle.bundle_store.specs.Images.{StandsFor};
+ghost use Rattle.bundle_store.specs.Tiles.{TileMap};
+ghost use Rattle.opened_bundle.specs.Left.{IsReady};
 ghost use Rattle.program_ends.specs.Moves.{sink_move, volume_move};
 ghost use Rattle.program_ends.specs.declared.stop.Stop.{Stop};
+ghost use Rattle.bundle_pack.specs.declared.fault.PackFault.{PackFault};
+ghost use Rattle.bundle_pack.specs.declared.packing.PackReport.{PackReport};
+ghost use Rattle.bundle_pack.specs.Chosen.{chosen_bytes};
+ghost use Rattle.bundle_pack.specs.Files.{all_files, files_in};
+ghost use Rattle.bundle_pack.specs.Merged.{StandFor};
 ghost use Rattle.bundle_pack.specs.Names.{line_of, packed_line};
-ghost use Rattle.bundle_pack.specs.Run.{EndsAs, IsVolumeCause, OfOutput, OfRun};
+ghost use Rattle.bundle_pack.specs.Opening.{AreOpened, OpensAs};
+ghost use Rattle.bundle_pack.specs.Packing.{IsFree, PackSays};
+ghost use Rattle.bundle_pack.specs.Run.{EachKeepsStart, EndsAs, EndsWith, IsVolumeCause, KeepsOrPacks, OfOutput, OfRun, PackedAll};
 ghost use Rattle.bundle_pack.specs.Words.{IsAsked};
 
 use crate::PackFault;
@@ -102,6 +114,43 @@ pub fn run_pack<K: Sink, E: Sink, V: Volume, W: Volume>(
         (volume_move W.told W.history W.faults to.old to.new)
         (sink_move K.held K.faults out.old out.new)
         (sink_move E.held E.faults err.old err.new) }
+
+    // What the files say packing answers, it ends with, unless an object fails or memory is
+    // refused. So each refusal comes exactly where it is the first.
+    ensures exactly { IsAsked words.now (length from.old) → All (λ v. IsTrue (V.told v)) from.old
+        → IsTrue (W.told to.old) → (answer : Result PackReport PackFault)
+        → PackSays (all_files V.history from.old) (files_in (W.history to.old)) answer
+        → (¬ IsFree answer) → result ≢ 4 → result ≢ 5 → result ≢ 6
+        → EndsWith answer result (sink_move K.held K.faults out.old out.new)
+        (sink_move E.held E.faults err.old err.new) }
+
+    // Of sources whose files stand for these tiles: status 0 says that the target holds them merged.
+    ensures packed { IsAsked words.now (length from.old) → All (λ v. IsTrue (V.told v)) from.old
+        → IsTrue (W.told to.old) → (maps : List TileMap)
+        → StandFor (all_files V.history from.old) maps → result ≡ 0
+        → PackedAll maps (current (W.history to.new))
+        (sink_move K.held K.faults out.old out.new) }
+
+    // And with a sound target that recovers to an empty file, and not too many bytes, it comes,
+    // unless an object fails or memory is refused.
+    ensures complete { IsAsked words.now (length from.old) → All (λ v. IsTrue (V.told v)) from.old
+        → IsTrue (W.told to.old) → (maps : List TileMap) (start : TileMap)
+        → StandFor (all_files V.history from.old) maps
+        → StandsFor (contents Bundle (W.history to.old)) (contents Journal (W.history to.old)) start
+        → ((bundles : List (List ℕ)) → AreOpened (all_files V.history from.old) bundles
+        → chosen_bytes bundles slot_count ≤ 1073741824)
+        → OpensAs (files_in (W.history to.old)) [] → result ≢ 4 → result ≢ 5
+        → (result ≡ 0) ⊎ (result ≡ 6) }
+
+    // At each moment, whatever the answer: a source keeps its tiles, and the target those of the
+    // start, or, from none, these or all that is packed.
+    ensures sources_keep { IsAsked words.now (length from.old)
+        → EachKeepsStart V.told V.history from.old from.new }
+    ensures target_keeps { IsAsked words.now (length from.old)
+        → All (λ v. IsTrue (V.told v)) from.old → (maps : List TileMap) (start : TileMap)
+        → StandFor (all_files V.history from.old) maps
+        → IsReady (W.told to.old) (W.history to.old) start
+        → KeepsOrPacks maps start (W.history to.old) (W.history to.new) }
 {
     if !asks_to_pack(words, from.len()) {
         tell(USAGE, &Stop::<Refusal>::Usage, err);
