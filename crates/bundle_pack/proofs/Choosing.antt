@@ -89,3 +89,16 @@ none_more bundles slot n b (Some c) there none (within, (bundle, (is, (size, (so
 
 pub some_more : (bundles : List (List ℕ)) (slot n size : ℕ) (b : List ℕ) → slice_get bundles n ≡ Some b → (entry_at b slot).size ≡ size → 0 < size → IsChosenBelow bundles slot (n + 1) (Some (record { at = n; size = size }))
 some_more bundles slot n size b there is some = (omega arith, (b, (there, (is, (some, λ i x above less at. absurd (omega (arith, above, less)))))))
+
+-- one entry counts
+pub chosen_number : (bundles : List (List ℕ)) (slot at other : ℕ) (a b : List ℕ) → IsChosen bundles slot at a → IsChosen bundles slot other b → at ≡ other
+chosen_number bundles slot at other a b one two = elim (cases_lt at other) [
+  | inl less ↦ absurd (omega (arith, one.last other b less two.there, two.some))
+  | inr ge ↦ elim (cases_lt other at) [
+    | inl more ↦ absurd (omega (arith, two.last at a more one.there, one.some))
+    | inr le ↦ let same : at ≡ other = omega (arith, ge, le) in same
+  ]
+]
+
+pub chosen_once : (bundles : List (List ℕ)) (slot at other : ℕ) (a b : List ℕ) → IsChosen bundles slot at a → IsChosen bundles slot other b → a ≡ b
+chosen_once bundles slot at other a b one two = one_some a b (sym one.there ∙ ap (slice_get bundles) (chosen_number bundles slot at other a b one two) ∙ two.there)

@@ -1,6 +1,12 @@
 mod Volumes
+mod Opened
 mod Choosing
 mod Turning
+mod Reading
 mod Targets
+mod Steps
 mod Merging
+mod OneAnswer
+mod Sound
 mod Ended
+mod Promised

@@ -12,6 +12,7 @@ use Rattle.bundle_pack.specs.Chosen.{AreWhole, IsChosen}
 use Rattle.bundle_pack.specs.Merged.{later_of, merged}
 use Rattle.bundle_pack.specs.Packing.{merged_tiles}
 use Rattle.bundle_pack.specs.inside.Collecting.{IsChosenBelow, IsMergedBelow, TakesTile}
+use Rattle.bundle_pack.proofs.Choosing.{chosen_once}
 use Rattle.bundle_pack.proofs.Volumes.{one_some}
 
 pub tiles-at : (bundle : List ℕ) (slot : ℕ) → slot < 16384 → tiles bundle slot ≡ tile_in bundle (entry_at bundle slot)
@@ -50,16 +51,6 @@ merged_some (b ∷ bs) slot (suc at) bundle tile below is tile_is =
     kept : (y : List ℕ) (o : Option (List ℕ)) → later_of (Some y) o ≡ Some y
     kept y None = refl
     kept y (Some x) = refl
-
--- one entry counts
-pub chosen_once : (bundles : List (List ℕ)) (slot at other : ℕ) (a b : List ℕ) → IsChosen bundles slot at a → IsChosen bundles slot other b → a ≡ b
-chosen_once bundles slot at other a b one two = elim (cases_lt at other) [
-  | inl less ↦ absurd (omega (arith, one.last other b less two.there, two.some))
-  | inr ge ↦ elim (cases_lt other at) [
-    | inl more ↦ absurd (omega (arith, two.last at a more one.there, one.some))
-    | inr le ↦ let same : at ≡ other = omega (arith, ge, le) in one_some a b (sym one.there ∙ ap (slice_get bundles) same ∙ two.there)
-  ]
-]
 
 -- one slot more
 pub pushed-map : (map : TileMap) (old : List TileRec) (t : TileRec) → map_after map (old ++ t ∷ []) ≡ with_tile t.slot t.bytes (map_after map old)

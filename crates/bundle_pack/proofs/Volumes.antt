@@ -83,3 +83,16 @@ pub from_map : {A B : Type 0} (f : A → B) (xs : List A) (i : ℕ) (y : B) → 
 from_map f xs i y e =
     let x = get_some xs i (omega (arith, slice_get_within (map f xs) i y e, length-map xs f)) in
     (x.0, (x.1, one_some y (f x.0) (sym e ∙ map_at f xs i x.0 x.1)))
+
+pub all_of : {V : Type 0} (P : V → Type 0) (vs : List V) → ((i : ℕ) (v : V) → slice_get vs i ≡ Some v → P v) → All P vs
+all_of P vs so i v less = so i (get_or vs i v) (slice_get-get_or vs i v less)
+
+-- lists that are alike where it counts
+pub same_maps : {A B : Type 0} (f : A → B) (xs ys : List A) → length ys ≡ length xs → ((i : ℕ) (x y : A) → slice_get xs i ≡ Some x → slice_get ys i ≡ Some y → f y ≡ f x) → map f ys ≡ map f xs
+same_maps f [] [] many so = refl
+same_maps f [] (y ∷ ys) many so = absurd (let no : ⊥ = omega (arith, many) in no)
+same_maps f (x ∷ xs) [] many so = absurd (let no : ⊥ = omega (arith, many) in no)
+same_maps f (x ∷ xs) (y ∷ ys) many so =
+    let first : f y ≡ f x = so 0 x y refl refl in
+    let rest : map f ys ≡ map f xs = same_maps f xs ys (omega (arith, many)) (λ i a b at there. so (suc i) a b at there) in
+    λ i. first i ∷ rest i

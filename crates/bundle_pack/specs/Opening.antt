@@ -1,5 +1,5 @@
 -- What recovering and opening several bundles, in their order, comes to.
-use Rattle.std.specs.Prelude.{◌≡◌, ◌⊎◌, ℕ, ◌<◌, List, length, slice_get, Some}
+use Rattle.std.specs.Prelude.{◌≡◌, ℕ, ◌<◌, List, length, slice_get, Some}
 use Rattle.outside_io.specs.declared.volume.VolFile.TheVariants.{Bundle, Journal}
 use Rattle.outside_io.specs.volume.History.{History, contents}
 use Rattle.bundle_store.specs.declared.fault.StoreFault.{StoreFault}
@@ -34,7 +34,10 @@ OpeningFault f _ = ⊥
 
 -- the same of files that nobody tells: the kept numbers fail the test that they name
 abbrev pub OpeningFails : StoreFault → Type 0
-OpeningFails f = RecoverFails f ⊎ OpenFails f
+OpeningFails Device = Unit {0}
+OpeningFails (BadJournal place number) = RecoverFails (BadJournal place number)
+OpeningFails (BadBundle place number) = OpenFails (BadBundle place number)
+OpeningFails _ = ⊥
 
 -- the first of the files that do not open, and why
 pub record IsFirstUnopened (files : List Files) (at : ℕ) (fault : StoreFault) : Type 0 where

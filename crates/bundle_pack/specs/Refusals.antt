@@ -1,5 +1,6 @@
 -- Why packing refuses, by the faults of the store, and which numbers a refusal keeps.
 use Rattle.std.specs.Prelude.{ℕ, ◌<◌, ◌⊎◌, Option, Some, None}
+use Rattle.bundle_index.specs.Sizes.{slot_count}
 use Rattle.bundle_store.specs.declared.fault.StoreFault.{StoreFault}
 use Rattle.bundle_store.specs.declared.fault.StoreFault.TheVariants as store
 use Rattle.bundle_store.specs.Recover.{RecoverFails}
@@ -37,7 +38,7 @@ NamesMore _ = ⊥
 abbrev pub PackFails : ℕ → PackFault → Type 0
 PackFails count OutOfMemory = Unit {0}
 PackFails count (Source at None fault) = (at < count) × OpeningFails fault
-PackFails count (Source at (Some slot) fault) = (at < count) × ((slot < 16384) × NamesMore fault)
+PackFails count (Source at (Some slot) fault) = (at < count) × ((slot < slot_count) × NamesMore fault)
 PackFails count (KeptTooMuch len) = 1073741824 < len
 PackFails count (Target (store.NotEmpty len)) = 0 < len
 PackFails count (Target fault) = OpeningFails fault

@@ -1,10 +1,11 @@
 //! Which source counts in each slot.
 
 ghost use Rattle.std.specs.Prelude.{◌≡◌, ◌<◌, ◌≤◌, ◌*◌, ℕ, List, IfSome, MatchOption, length};
+ghost use Rattle.bundle_index.specs.Sizes.{slot_count};
 ghost use Rattle.bundle_pack.specs.Chosen.{IsChosen, chosen_bytes, chosen_size};
 ghost use Rattle.bundle_pack.specs.inside.Collecting.{AreServed, IsChosenBelow};
 
-use bundle_index::Slot;
+use bundle_index::{SLOT_COUNT, Slot};
 use bundle_store::Session;
 
 /// An entry that counts: the number of its source, and its size.
@@ -33,7 +34,7 @@ pub(crate) fn chosen(sessions: &[Session], slot: Slot) -> Option<Choice>
 
 /// The size of the entry that counts in the slot of this number, and 0 where none has one.
 fn size_at(sessions: &[Session], number: u16) -> u32
-    requires { number < 16384 }
+    requires { number < slot_count }
     ensures small { result < 16777216 }
     ensures is { (bundles : List (List ℕ)) → AreServed sessions.now bundles →
         result ≡ chosen_size bundles number }
@@ -50,10 +51,10 @@ fn size_at(sessions: &[Session], number: u16) -> u32
 /// How many bytes the tiles that count have together.
 pub(crate) fn bytes_of_chosen(sessions: &[Session]) -> u64
     ensures { (bundles : List (List ℕ)) → AreServed sessions.now bundles →
-        result ≡ chosen_bytes bundles 16384 }
+        result ≡ chosen_bytes bundles slot_count }
 {
     let mut sum = 0;
-    for number in 0..16384u16 {
+    for number in 0..SLOT_COUNT {
         sum += u64::from(size_at(sessions, number));
     }
     sum

@@ -11,6 +11,7 @@ mod chosen;
 mod collecting;
 mod dispatch;
 mod fault;
+mod laws;
 mod packing;
 mod process;
 mod refusal;
@@ -20,6 +21,7 @@ mod words;
 
 pub use dispatch::run_pack;
 pub use fault::PackFault;
+pub use laws::packings_have_one_answer;
 pub use packing::{PackReport, pack};
 pub use process::serve;
 pub use refusal::Refusal;

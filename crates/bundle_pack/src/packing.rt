@@ -1,12 +1,16 @@
 //! Packing.
 
-ghost use Rattle.std.specs.Prelude.{◌≡◌, ◌≤◌, IsTrue, IfErr, IfOk, OnOk, All, Err, length};
+ghost use Rattle.std.specs.Prelude.{◌≡◌, ◌≤◌, List, IsTrue, IfErr, IfOk, OnOk, All, Err, length};
 ghost use Rattle.outside_io.specs.streams.Faults.{IsCause};
-ghost use Rattle.outside_io.specs.volume.History.{current};
+ghost use Rattle.outside_io.specs.declared.volume.VolFile.TheVariants.{Bundle, Journal};
+ghost use Rattle.outside_io.specs.volume.History.{contents, current};
 ghost use Rattle.bundle_store.specs.declared.fault.StoreFault.TheVariants.{Device};
 ghost use Rattle.bundle_store.specs.Build.{EachFits};
+ghost use Rattle.bundle_store.specs.Images.{StandsFor};
+ghost use Rattle.bundle_store.specs.Tiles.{TileMap};
 ghost use Rattle.bundle_pack.specs.Files.{all_files, files_in};
-ghost use Rattle.bundle_pack.specs.Packing.{HoldsMerged, PackSays, TargetKeeps};
+ghost use Rattle.bundle_pack.specs.Merged.{StandFor};
+ghost use Rattle.bundle_pack.specs.Packing.{HoldsMerged, IsOfSound, IsOfSources, PackSays, PacksMaps, TargetKeeps};
 ghost use Rattle.bundle_pack.specs.Refusals.{PackFails};
 ghost use Rattle.bundle_pack.specs.Sources.{DeviceAt, Each, SourceMoves};
 ghost use Rattle.bundle_pack.specs.inside.Collecting.{ReadSays};
@@ -39,7 +43,10 @@ fn read_sources<V: Volume>(alloc: Global, from: &mut [V]) -> Result<Vec<TileRec>
         (all_files V.history from.old) result }
     ensures answers { IfErr result (λ f. PackFails (length from.old) f) }
 {
-    let sessions = open_sources(alloc, from)?;
+    let sessions = match open_sources(alloc, from) {
+        Ok(sessions) => sessions,
+        Err(fault) => return Err(fault),
+    };
     let len = bytes_of_chosen(sessions.as_slice());
     if len > 1073741824 {
         return Err(PackFault::KeptTooMuch { len });
@@ -63,15 +70,27 @@ pub fn pack<V: Volume, W: Volume>(
         (all_files V.history from.old) (files_in (W.history to.old)) result }
     ensures packed { All (λ v. IsTrue (V.told v)) from.old → IsTrue (W.told to.old) →
         OnOk result (HoldsMerged (all_files V.history from.old) (current (W.history to.new))) }
+    ensures merges { (maps : List TileMap) → All (λ v. IsTrue (V.told v)) from.old →
+        IsTrue (W.told to.old) → StandFor (all_files V.history from.old) maps →
+        PacksMaps maps result (current (W.history to.new)) }
+    ensures complete { (maps : List TileMap) (start : TileMap) →
+        All (λ v. IsTrue (V.told v)) from.old → IsTrue (W.told to.old) →
+        StandFor (all_files V.history from.old) maps →
+        StandsFor (contents Bundle (W.history to.old)) (contents Journal (W.history to.old)) start →
+        IfErr result (λ f. IsOfSound f) }
     ensures images { All (λ v. IsTrue (V.told v)) from.old → IsTrue (W.told to.old) →
         TargetKeeps (all_files V.history from.old) (files_in (W.history to.old))
         (W.history to.old) (W.history to.new) }
+    ensures untouched { IsOfSources result → to.new ≡ to.old }
     ensures answers { IfErr result (λ f. PackFails (length from.old) f) }
     ensures told { W.told to.new ≡ W.told to.old }
     ensures target { IsCause (result ≡ Err (PackFault.Target Device)) (W.faults to.old)
         (W.faults to.new) }
 {
-    let tiles = read_sources(alloc, from)?;
+    let tiles = match read_sources(alloc, from) {
+        Ok(tiles) => tiles,
+        Err(fault) => return Err(fault),
+    };
     let size = built_size(alloc, tiles.as_slice())?;
     match write_target(alloc, to, tiles.as_slice()) {
         Ok(()) => Ok(PackReport {

@@ -6,10 +6,10 @@ ghost use Rattle.outside_io.specs.volume.History.{contents, current};
 ghost use Rattle.opened_bundle.specs.Left.{IsShut};
 ghost use Rattle.bundle_store.specs.Causes.{CountsDevice, UnlessDevice};
 ghost use Rattle.bundle_pack.specs.Files.{all_bundles, all_files, files_in};
-ghost use Rattle.bundle_pack.specs.Opening.{OpeningFails, StandsLeft};
+ghost use Rattle.bundle_pack.specs.Opening.{StandsLeft};
 ghost use Rattle.bundle_pack.specs.Refusals.{OpeningAnswers};
 ghost use Rattle.bundle_pack.specs.Sources.{DeviceAt, Each, IsServing, KeepsImages, SourceMoves};
-ghost use Rattle.bundle_pack.specs.inside.Turns.{OpenSays, OpeningSays};
+ghost use Rattle.bundle_pack.specs.inside.Turns.{OpenAnswers, OpenSays, OpeningSays};
 
 use crate::PackFault;
 use crate::fault::source_fault;
@@ -27,7 +27,7 @@ pub(crate) fn open_one<V: Volume>(alloc: Global, vol: &mut V) -> Result<Session,
     ensures shut { IsTrue (V.told vol.old) → IfOk result (λ _. IsShut (current
         (V.history vol.new))) }
     ensures running { IfOk result (λ s. s.stopped ≡ false) }
-    ensures answers { IfErr result (λ f. OpeningFails f) }
+    ensures answers { IfErr result (λ f. OpenAnswers f) }
     ensures counted { CountsDevice result (V.faults vol.old) (V.faults vol.new) }
 {
     match recover(vol) {

@@ -4,14 +4,15 @@ use Rattle.std.specs.declared.alloc.Global.{Global}
 use Rattle.outside_io.specs.streams.Faults.{IsCause}
 use Rattle.outside_io.specs.volume.History.{During, History, current}
 use Rattle.bundle_index.specs.Entry.{entry_at}
+use Rattle.bundle_index.specs.Sizes.{slot_count}
 use Rattle.bundle_store.specs.declared.fault.StoreFault.TheVariants as store
 use Rattle.bundle_store.specs.declared.tile_rec.TileRec.{TileRec}
 use Rattle.bundle_store.specs.Build.{map_after}
-use Rattle.bundle_store.specs.Session.{GetGives, Serves, SessionState}
+use Rattle.bundle_store.specs.Session.{GetGives, IsBeyond, Serves, SessionState}
 use Rattle.bundle_store.specs.Tiles.{TileMap, no_tiles}
 use Rattle.opened_bundle.specs.Files.{Files}
 use Rattle.bundle_pack.specs.Chosen.{AreWhole, IsChosen}
-use Rattle.bundle_pack.specs.Packing.{AreRead, IsFirstBeyond, PackSays, merged_tiles}
+use Rattle.bundle_pack.specs.Packing.{AreRead, IsFirstBeyond, IsUnread, PackSays, merged_tiles}
 use Rattle.bundle_pack.specs.declared.chosen.Choice.{Choice}
 use Rattle.bundle_pack.specs.declared.fault.PackFault.{PackFault}
 use Rattle.bundle_pack.specs.declared.fault.PackFault.TheVariants.{Source, Target, OutOfMemory}
@@ -39,6 +40,22 @@ pub record IsStill {V : Type 0} (told : V → Bool) (history : V → History) (f
       (history new)
   pub cause : IsCause failed (faults old) (faults new)
 
+-- what reading one tile of one source gives: none where it has none
+abbrev pub GetSays : List ℕ → ℕ → Result (Option (List ℕ)) PackFault → Type 0
+GetSays bundle slot (Ok None) = (entry_at bundle slot).size ≡ 0
+GetSays bundle slot (Ok (Some tile)) = GetGives bundle slot tile
+GetSays bundle slot (Err (Source at (Some s) (store.Beyond entry got))) =
+    IsBeyond bundle slot entry got
+GetSays bundle slot (Err _) = Unit {0}
+
+-- why it is refused, of whatever volume: the source's number and the slot are these
+abbrev pub IsGetFault : ℕ → ℕ → PackFault → Type 0
+IsGetFault at slot OutOfMemory = Unit {0}
+IsGetFault at slot (Source number None store.Device) = number ≡ at
+IsGetFault at slot (Source number (Some s) (store.Beyond entry got)) =
+    (number ≡ at) × ((s ≡ slot) × (got < entry.size))
+IsGetFault at slot _ = ⊥
+
 -- the tile of one slot was read, where one is chosen
 abbrev pub TakesTile : List (List ℕ) → ℕ → List TileRec → List TileRec → Type 0
 TakesTile bundles slot old new =
@@ -50,8 +67,9 @@ TakesTile bundles slot old new =
 abbrev pub TileSays : List (List ℕ) → ℕ → PackFault → Type 0
 TileSays bundles slot (Source at (Some s) (store.Beyond entry got)) = (s ≡ slot)
     × ((bundle : List ℕ) × (IsChosen bundles slot at bundle
-    × ((entry ≡ entry_at bundle slot) × (got < entry.size))))
-TileSays bundles slot (Source at None store.Device) = Unit {0}
+    × (IsBeyond bundle slot entry got × (got < entry.size))))
+TileSays bundles slot (Source at None store.Device) =
+    (bundle : List ℕ) × IsChosen bundles slot at bundle
 TileSays bundles slot OutOfMemory = Unit {0}
 TileSays bundles slot _ = ⊥
 
@@ -60,11 +78,11 @@ no_files = record { bundle = []; journal = [] }
 
 -- all of them were read, and are the merged tiles; or why the first one was not
 abbrev pub TilesSay : List (List ℕ) → Result (Vec TileRec Global) PackFault → Type 0
-TilesSay bundles (Ok tiles) = AreWhole bundles 16384
+TilesSay bundles (Ok tiles) = AreWhole bundles slot_count
     × (map_after no_tiles tiles.items ≡ merged_tiles bundles)
 TilesSay bundles (Err (Source at (Some slot) (store.Beyond entry got))) =
     IsFirstBeyond bundles at slot entry got
-TilesSay bundles (Err (Source at None store.Device)) = Unit {0}
+TilesSay bundles (Err (Source at None store.Device)) = IsUnread bundles at
 TilesSay bundles (Err OutOfMemory) = Unit {0}
 TilesSay bundles (Err _) = ⊥
 

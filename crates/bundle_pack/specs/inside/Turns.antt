@@ -15,6 +15,11 @@ use Rattle.bundle_pack.specs.Sources.{KeepsImages}
 use Rattle.bundle_pack.specs.declared.fault.PackFault.{PackFault}
 use Rattle.bundle_pack.specs.declared.fault.PackFault.TheVariants.{Source, OutOfMemory}
 
+-- why one bundle is not opened, of whatever volume
+abbrev pub OpenAnswers : StoreFault → Type 0
+OpenAnswers store.OutOfMemory = Unit {0}
+OpenAnswers fault = OpeningFails fault
+
 -- what recovering and opening one bundle answers
 abbrev pub OpenSays : Files → Result SessionState StoreFault → List ℕ → Type 0
 OpenSays f (Ok s) left = OpensAs f left × Serves s left
@@ -59,4 +64,4 @@ TargetSays target (Err fault) = TargetFault target fault
 
 abbrev pub TargetAnswers : StoreFault → Type 0
 TargetAnswers (store.NotEmpty len) = 0 < len
-TargetAnswers fault = OpeningFails fault
+TargetAnswers fault = OpenAnswers fault
