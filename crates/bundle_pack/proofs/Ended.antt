@@ -72,6 +72,9 @@ never_usage answer end so one = none answer end so (ends.usage_at refusal_status
     none (Err fault) end so is =
         let here : EndsAs (Err fault) (Err Usage) = subst (EndsAs (Err fault)) is so in subst IsOfPacking (sym here) (pack_stops fault)
 
+pub output_status : (end : End) (status old new : ℕ) → status ≡ status_at end → IsCause (end ≡ Err Output) old new → IsCause (status ≡ 4) old new
+output_status end status old new is c = ends.output_status refusal_status own end status old new is c
+
 -- ---- a volume that failed
 
 opening_device : (fault : StoreFault) → OpeningFails fault → store_stop_of fault ≡ Volume → fault ≡ Device

@@ -10,3 +10,4 @@ mod OneAnswer
 mod Sound
 mod Ended
 mod Promised
+mod Asking

@@ -21,10 +21,13 @@ fn asking_words<A: Arguments>(alloc: Global, args: &A) -> Result<Vec<Word>, Allo
         IfSome (A.texts args.now) (λ texts. words.items ≡ asked_by texts)) }
 {
     let mut words = Vec::new(alloc);
-    if word_at(alloc, args, 1)?.is_some() {
-        words.push(Word::of(alloc, "pack")?)?;
+    match word_at(alloc, args, 1)? {
+        Some(_) => {
+            words.push(Word::of(alloc, "pack")?)?;
+            Ok(words)
+        }
+        None => Ok(words),
     }
-    Ok(words)
 }
 
 /// The program over what gives its arguments and over its objects: a run over the target, whose
