@@ -55,10 +55,7 @@ fn give_packed<K: Sink>(report: PackReport, out: &mut K) -> Result<(), Failed>
 }
 
 /// What packing ends the run with: the line of what was packed is given, or the stop of a refusal.
-fn end_of<K: Sink>(
-    answer: Result<PackReport, PackFault>,
-    out: &mut K,
-) -> Result<(), Stop<Refusal>>
+fn end_of<K: Sink>(answer: Result<PackReport, PackFault>, out: &mut K) -> Result<(), Stop<Refusal>>
     ensures ends { EndsAs answer result }
     ensures output { OfOutput answer result (sink_move K.held K.faults out.old out.new) }
 {

@@ -9,7 +9,6 @@ use crate::volumes::{
 use bundle_index::Entry;
 use bundle_pack::{PackFault, pack};
 use bundle_store::StoreFault;
-use outside_io::{MemVolume, Volume};
 use std::alloc::Global;
 use std::process::Abort;
 
@@ -20,7 +19,12 @@ type Refused<'a> = (PackFault, &'a [u8]);
 fn refuses(rt: &impl Abort, alloc: Global, all: &[&Pair], target: &Pair, wanted: Refused<'_>) {
     let mut from = volumes(rt, alloc, all);
     let mut to = volume(rt, alloc, target, None, &[]);
-    same(rt, "refusal", pack(alloc, &mut from, &mut to), Err(wanted.0));
+    same(
+        rt,
+        "refusal",
+        pack(alloc, &mut from, &mut to),
+        Err(wanted.0),
+    );
     let mut from = volumes(rt, alloc, all);
     let mut to = volume(rt, alloc, target, None, &[]);
     let left = (7, b"".as_slice(), wanted.1);
@@ -132,14 +136,16 @@ fn a_target_that_does_not_open_or_is_not_empty_is_told_last(rt: HostRuntime) {
     let short = bytes(&rt, alloc, &[3; 10]);
     refuses(&rt, alloc, &[&good], &short, bundle);
     let full = StoreFault::NotEmpty { len: 131282 };
-    let full = (PackFault::Target(full), b"store: NotEmpty 131282\n".as_slice());
+    let full = (
+        PackFault::Target(full),
+        b"store: NotEmpty 131282\n".as_slice(),
+    );
     refuses(&rt, alloc, &[&good], &good, full);
 }
 
 /// A bundle of which the first 64 slots have the greatest size each, and the next one this size.
 /// None of the tiles is there.
 fn heavy(rt: &impl Abort, alloc: Global, last: u8) -> Pair {
-    let mut vol = empty(rt, alloc);
     let mut files = put_all(rt, alloc, &[(127, 127, &SMALL)]);
     files.bundle.truncate(131136);
     let bundle = files.bundle.as_mut_slice();
@@ -165,7 +171,13 @@ fn tiles_of_more_than_a_gibibyte_are_not_read(rt: HostRuntime) {
     refuses(&rt, alloc, &[&heavy_by_1], &good, (fault, line));
     let fault = PackFault::KeptTooMuch { len: 1073741896 };
     let line = b"store: KeptTooMuch 1073741896\n".as_slice();
-    refuses(&rt, alloc, &[&heavy(&rt, alloc, 64), &good], &good, (fault, line));
+    refuses(
+        &rt,
+        alloc,
+        &[&heavy(&rt, alloc, 64), &good],
+        &good,
+        (fault, line),
+    );
 }
 
 #[test]

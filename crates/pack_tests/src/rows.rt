@@ -2,8 +2,8 @@
 
 use crate::same::same;
 use crate::volumes::{
-    LARGE, OTHER, Pair, SMALL, Tile, alone, bytes_of, empty, expect_run, expect_tile, files_of, held,
-    nothing, put, put_all, run, volume, volumes,
+    LARGE, OTHER, Pair, SMALL, bytes_of, empty, expect_run, expect_tile, files_of, held, nothing,
+    put, put_all, run, volume, volumes,
 };
 use outside_io::{MemVolume, NoVolume, Pick, VolFile, Volume};
 use std::alloc::Global;
@@ -87,7 +87,11 @@ fn eight_sources_are_merged(rt: HostRuntime) {
     let alloc = rt.alloc();
     let mut from = Vec::new(alloc);
     for col in 0..8u8 {
-        let last = if col == 7 { OTHER.as_slice() } else { LARGE.as_slice() };
+        let last = if col == 7 {
+            OTHER.as_slice()
+        } else {
+            LARGE.as_slice()
+        };
         let files = source_of(&rt, alloc, col, last);
         from.push(volume(&rt, alloc, &files, None, &[]))
             .expect(&rt, "memory");

@@ -48,7 +48,12 @@ fn holds_either(rt: &impl Abort, alloc: Global, vol: &MemVolume, pick: Pick) {
     if found.0 == 1 {
         let session = Session::open(alloc, &mut crashed).expect(rt, "open");
         let tile = session.get(&mut crashed, slot_at(rt, 127, 127));
-        same(rt, "tile", tile.expect(rt, "get").as_slice(), LARGE.as_slice());
+        same(
+            rt,
+            "tile",
+            tile.expect(rt, "get").as_slice(),
+            LARGE.as_slice(),
+        );
     }
 }
 

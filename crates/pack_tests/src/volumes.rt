@@ -181,7 +181,12 @@ pub(crate) fn expect_run(
     wanted: Wanted<'_>,
 ) {
     let left = run(rt, alloc, &["pack"], from, to, &[]);
-    same(rt, at, (left.status, left.out.held(), left.err.held()), wanted);
+    same(
+        rt,
+        at,
+        (left.status, left.out.held(), left.err.held()),
+        wanted,
+    );
 }
 
 /// The volume has this tile, of an entry with this offset.
@@ -195,7 +200,12 @@ pub(crate) fn expect_tile(
     let slot = slot_at(rt, tile.0, tile.1);
     let session = Session::open(alloc, vol).expect(rt, "open");
     let size = tile.2.len() as u32;
-    same(rt, "entry", session.entry(vol, slot), Ok(Entry { offset, size }));
+    same(
+        rt,
+        "entry",
+        session.entry(vol, slot),
+        Ok(Entry { offset, size }),
+    );
     let found = session.get(vol, slot).expect(rt, "get");
     same(rt, "tile", found.as_slice(), tile.2);
 }
