@@ -4,10 +4,11 @@ use Rattle.std.specs.Prelude.{if◌then◌else◌}
 use Rattle.std.proofs.lemmas.Bool.{cases_eq, cases_lt, cases_Bool, eqb-true, eqb-false}
 use Rattle.std.proofs.lemmas.Option.{slice_get_within}
 use Rattle.bundle_index.specs.Entry.{entry_at}
-use Rattle.bundle_store.specs.Tiles.{tile_in, tiles}
+use Rattle.bundle_index.specs.declared.entry.Entry.{Entry}
+use Rattle.bundle_store.specs.Session.{Serves, SessionState}
 use Rattle.bundle_pack.specs.Chosen.{IsChosen, chosen_bytes, chosen_size}
 use Rattle.bundle_pack.specs.declared.chosen.Choice.{Choice}
-use Rattle.bundle_pack.specs.inside.Collecting.{IsChosenBelow}
+use Rattle.bundle_pack.specs.inside.Collecting.{AreServed, IsChoice}
 use Rattle.bundle_pack.proofs.Volumes.{one_some}
 
 pub size-nil : (slot : ℕ) → chosen_size [] slot ≡ 0
@@ -48,48 +49,6 @@ size_chosen (b ∷ bs) slot (suc at) bundle is =
     eqb_no : (n : ℕ) → 0 < n → (n == 0) ≡ false
     eqb_no n some = elim (cases_Bool (n == 0)) [ inl yes ↦ absurd (omega (arith, some, eqb-true n 0 yes)) | inr no ↦ no ]
 
-pub is_chosen : (bundles : List (List ℕ)) (slot : ℕ) (c : Choice) → IsChosenBelow bundles slot (length bundles) (Some c) → (bundle : List ℕ) × (IsChosen bundles slot c.at bundle × ((entry_at bundle slot).size ≡ c.size))
-is_chosen bundles slot c (within, (bundle, (there, (size, (some, last))))) = (
-  bundle,
-  (
-    record { there = there; some = omega (arith, size, some); last = λ i b above at. last i b above (slice_get_within bundles i b at) at },
-    size,
-  ),
-)
-
--- of one bundle more
-pub none_more : (bundles : List (List ℕ)) (slot n : ℕ) (b : List ℕ) (o : Option Choice) → slice_get bundles n ≡ Some b → (entry_at b slot).size ≡ 0 → IsChosenBelow bundles slot n o → IsChosenBelow bundles slot (n + 1) o
-none_more bundles slot n b None there none below = λ i c less at. elim (cases_lt i n) [
-  | inl under ↦ below i c under at
-  | inr past ↦
-      let same : i ≡ n = omega (arith, less, past) in
-      ap (λ (x : List ℕ). (entry_at x slot).size) (one_some c b (sym at ∙ ap (slice_get bundles) same ∙ there)) ∙ none
-]
-none_more bundles slot n b (Some c) there none (within, (bundle, (is, (size, (some, last))))) = (
-  omega (arith, within),
-  (
-    bundle,
-    (
-      is,
-      (
-        size,
-        (
-          some,
-          λ i x above less at. elim (cases_lt i n) [
-            | inl under ↦ last i x above under at
-            | inr past ↦
-                let same : i ≡ n = omega (arith, less, past) in
-                ap (λ (y : List ℕ). (entry_at y slot).size) (one_some x b (sym at ∙ ap (slice_get bundles) same ∙ there)) ∙ none
-          ],
-        ),
-      ),
-    ),
-  ),
-)
-
-pub some_more : (bundles : List (List ℕ)) (slot n size : ℕ) (b : List ℕ) → slice_get bundles n ≡ Some b → (entry_at b slot).size ≡ size → 0 < size → IsChosenBelow bundles slot (n + 1) (Some (record { at = n; size = size }))
-some_more bundles slot n size b there is some = (omega arith, (b, (there, (is, (some, λ i x above less at. absurd (omega (arith, above, less)))))))
-
 -- one entry counts
 pub chosen_number : (bundles : List (List ℕ)) (slot at other : ℕ) (a b : List ℕ) → IsChosen bundles slot at a → IsChosen bundles slot other b → at ≡ other
 chosen_number bundles slot at other a b one two = elim (cases_lt at other) [
@@ -102,3 +61,15 @@ chosen_number bundles slot at other a b one two = elim (cases_lt at other) [
 
 pub chosen_once : (bundles : List (List ℕ)) (slot at other : ℕ) (a b : List ℕ) → IsChosen bundles slot at a → IsChosen bundles slot other b → a ≡ b
 chosen_once bundles slot at other a b one two = one_some a b (sym one.there ∙ ap (slice_get bundles) (chosen_number bundles slot at other a b one two) ∙ two.there)
+
+-- the size of the entry that counts, by what was chosen
+pub choice_size : (bundles : List (List ℕ)) (slot number : ℕ) (c : Choice) → slot ≡ number → IsChoice bundles slot (Some c) → c.size ≡ chosen_size bundles number
+choice_size bundles slot number c same (bundle, (is, size)) = sym size ∙ sym (size_chosen bundles slot c.at bundle is) ∙ ap (chosen_size bundles) same
+
+pub none_size : (bundles : List (List ℕ)) (slot number : ℕ) → slot ≡ number → IsChoice bundles slot None → ◌≡◌ {A = ℕ} 0 (chosen_size bundles number)
+none_size bundles slot number same none = sym (size_none bundles slot none) ∙ ap (chosen_size bundles) same
+
+-- one of the sizes
+pub size_of_one : (bundles : List (List ℕ)) (sessions : List SessionState) (slot at : ℕ) (s : SessionState) (b : List ℕ) (e : Entry) → AreServed sessions bundles → slice_get sessions at ≡ Some s → slice_get bundles at ≡ Some b
+    → ((bundle : List ℕ) → Serves s bundle → e ≡ entry_at bundle slot) → (entry_at b slot).size ≡ e.size
+size_of_one bundles sessions slot at s b e served first there value = ap (λ (x : Entry). x.size) (sym (value b (served.each at s b first there)))

@@ -4,7 +4,9 @@ mod Choosing
 mod Turning
 mod Reading
 mod Targets
+mod Getting
 mod Steps
+mod Packs
 mod Merging
 mod OneAnswer
 mod Sound

@@ -127,3 +127,29 @@ moved_still told history faults before failed v m w never moved rest = record {
       | inl more ↦ absurd (never (cause.rose more))
       | inr le ↦ let same : new ≡ old = omega (arith, cause.counts, le) in same
     ]
+
+-- one call more, in which none failed
+pub still_more : {V : Type 0} (told : V → Bool) (history : V → History) (faults : V → ℕ) (failed : ℕ → Type 0) (old mid new : List V) → ((i : ℕ) → failed i → ⊥)
+    → Each (λ i v w. IsStill told history faults ⊥ v w) old mid → Each (λ i v w. IsStill told history faults (failed i) v w) mid new → Each (λ i v w. IsStill told history faults ⊥ v w) old new
+still_more told history faults failed old mid new never first second =
+    each_join (λ i v w. IsStill told history faults ⊥ v w) (λ i v w. IsStill told history faults (failed i) v w) (λ i v w. IsStill told history faults ⊥ v w) old mid new
+    (λ i v m w one two.
+        let all = still_join told history faults (failed i) v m w one two in
+        record { told_same = all.told_same; still = all.still; cause = record { counts = all.cause.counts; failed = λ is. absurd is; rose = λ more. never i (all.cause.rose more) } }) first second
+
+-- one call more, which may have failed
+pub still_last : {V : Type 0} (told : V → Bool) (history : V → History) (faults : V → ℕ) (failed : ℕ → Type 0) (old mid new : List V)
+    → Each (λ i v w. IsStill told history faults ⊥ v w) old mid → Each (λ i v w. IsStill told history faults (failed i) v w) mid new → Each (λ i v w. IsStill told history faults (failed i) v w) old new
+still_last told history faults failed old mid new first second =
+    each_join (λ i v w. IsStill told history faults ⊥ v w) (λ i v w. IsStill told history faults (failed i) v w) (λ i v w. IsStill told history faults (failed i) v w) old mid new
+    (λ i v m w one two. still_join told history faults (failed i) v m w one two) first second
+
+-- none did
+pub still_all : {V : Type 0} (told : V → Bool) (history : V → History) (faults : V → ℕ) (failed : ℕ → Type 0) (old new : List V) → ((i : ℕ) → failed i → ⊥)
+    → Each (λ i v w. IsStill told history faults ⊥ v w) old new → Each (λ i v w. IsStill told history faults (failed i) v w) old new
+still_all told history faults failed old new never each =
+    each_map (λ i v w. IsStill told history faults ⊥ v w) (λ i v w. IsStill told history faults (failed i) v w) old new
+    (λ i v w less m. record { told_same = m.told_same; still = m.still; cause = record { counts = m.cause.counts; failed = λ is. absurd (never i is); rose = λ more. absurd (m.cause.rose more) } }) each
+
+pub still_none : {V : Type 0} (told : V → Bool) (history : V → History) (faults : V → ℕ) (failed : ℕ → Type 0) (vs : List V) → ((i : ℕ) → failed i → ⊥) → Each (λ i v w. IsStill told history faults (failed i) v w) vs vs
+still_none told history faults failed vs never = each_same (λ i v w. IsStill told history faults (failed i) v w) vs (λ i v. still_same told history faults (failed i) v (never i))

@@ -1,9 +1,9 @@
 //! Which source counts in each slot.
 
-ghost use Rattle.std.specs.Prelude.{◌≡◌, ◌<◌, ◌≤◌, ◌*◌, ℕ, List, IfSome, MatchOption, length};
+ghost use Rattle.std.specs.Prelude.{◌≡◌, ◌<◌, ℕ, List, IfSome, length};
 ghost use Rattle.bundle_index.specs.Sizes.{slot_count};
-ghost use Rattle.bundle_pack.specs.Chosen.{IsChosen, chosen_bytes, chosen_size};
-ghost use Rattle.bundle_pack.specs.inside.Collecting.{AreServed, IsChosenBelow};
+ghost use Rattle.bundle_pack.specs.Chosen.{chosen_bytes, chosen_size};
+ghost use Rattle.bundle_pack.specs.inside.Collecting.{AreServed, IsChoice};
 
 use bundle_index::{SLOT_COUNT, Slot};
 use bundle_store::Session;
@@ -20,16 +20,17 @@ pub(crate) fn chosen(sessions: &[Session], slot: Slot) -> Option<Choice>
     ensures within { IfSome result (λ c. c.at < length sessions.now) }
     ensures small { IfSome result (λ c. c.size < 16777216) }
     ensures is { (bundles : List (List ℕ)) → AreServed sessions.now bundles →
-        IsChosenBelow bundles slot (length bundles) result }
+        IsChoice bundles slot result }
 {
-    let mut last = None;
-    for at in 0..sessions.len() {
+    let mut at = sessions.len();
+    while at > 0 {
+        at -= 1;
         let size = sessions[at].kept_entry(slot).size;
         if size > 0 {
-            last = Some(Choice { at, size });
+            return Some(Choice { at, size });
         }
     }
-    last
+    None
 }
 
 /// The size of the entry that counts in the slot of this number, and 0 where none has one.

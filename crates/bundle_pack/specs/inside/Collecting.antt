@@ -23,14 +23,12 @@ pub record AreServed (sessions : List SessionState) (bundles : List (List ℕ)) 
   pub each : (i : ℕ) (s : SessionState) (b : List ℕ) → slice_get sessions i ≡ Some s
       → slice_get bundles i ≡ Some b → Serves s b
 
--- Of the first n bundles, the last whose entry in the slot has a size, or none has one.
-abbrev pub IsChosenBelow : List (List ℕ) → ℕ → ℕ → Option Choice → Type 0
-IsChosenBelow bundles slot n None = (i : ℕ) (b : List ℕ) → i < n → slice_get bundles i ≡ Some b
+-- The entry that counts in the slot, and its size; or none there has one.
+abbrev pub IsChoice : List (List ℕ) → ℕ → Option Choice → Type 0
+IsChoice bundles slot None = (i : ℕ) (b : List ℕ) → slice_get bundles i ≡ Some b
     → (entry_at b slot).size ≡ 0
-IsChosenBelow bundles slot n (Some c) = (c.at < n) × ((bundle : List ℕ)
-    × ((slice_get bundles c.at ≡ Some bundle) × (((entry_at bundle slot).size ≡ c.size)
-    × ((0 < c.size) × ((i : ℕ) (b : List ℕ) → c.at < i → i < n → slice_get bundles i ≡ Some b
-    → (entry_at b slot).size ≡ 0)))))
+IsChoice bundles slot (Some c) = (bundle : List ℕ) × (IsChosen bundles slot c.at bundle
+    × ((entry_at bundle slot).size ≡ c.size))
 
 -- What is left of a source that was read from: its files at each moment as they were.
 pub record IsStill {V : Type 0} (told : V → Bool) (history : V → History) (faults : V → ℕ)
@@ -59,7 +57,7 @@ IsGetFault at slot _ = ⊥
 -- the tile of one slot was read, where one is chosen
 abbrev pub TakesTile : List (List ℕ) → ℕ → List TileRec → List TileRec → Type 0
 TakesTile bundles slot old new =
-    (IsChosenBelow bundles slot (length bundles) None × (new ≡ old))
+    (IsChoice bundles slot None × (new ≡ old))
     ⊎ ((at : ℕ) × ((bundle tile : List ℕ) × (IsChosen bundles slot at bundle
     × (GetGives bundle slot tile × (new ≡ old ++ (record { slot = slot; bytes = tile }) ∷ [])))))
 
