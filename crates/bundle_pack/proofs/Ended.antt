@@ -219,3 +219,7 @@ ends_with answer end status out err so is output line not =
       output = gained_all answer out.held (gives answer) (subst (λ (x : End). Gained x out.held (gives answer)) same output.gave);
       line = subst (λ (x : End). GivesLineOf x err) same line;
     }
+
+-- and so it does as each answer that is the same
+pub ends_as : (answer other : Result PackReport PackFault) (status : ℕ) (out err : SinkMove) → answer ≡ other → EndsWith answer status out err → EndsWith other status out err
+ends_as answer other status out err same ends_so = subst (λ (a : Result PackReport PackFault). EndsWith a status out err) same ends_so

@@ -68,9 +68,9 @@ target_keeps sources told old new maps start stand ready (inr (bundles, (read, (
 -- ---- once packed
 
 pub packed_all : (answer : Result PackReport PackFault) (end : End) (status : ℕ) (maps : List TileMap) (d : Disk) (out err : SinkMove) → EndsAs answer end → status ≡ status_at end → status ≡ 0 → PacksMaps maps answer d → EndsWith answer status out err → PackedAll maps d out
-packed_all (Ok report) end status maps d out err so is zero (holds, (count, size)) ends =
-    (holds, subst (λ (r : PackReport). Holds out.held.old out.held.new (packed_line r)) (λ i. record { tiles = count i; length = size i }) ends.output)
-packed_all (Err fault) end status maps d out err so is zero packs ends = absurd (never end so (sym is ∙ zero))
+packed_all (Ok report) end status maps d out err so is zero (holds, (count, size)) with_all =
+    (holds, subst (λ (r : PackReport). Holds out.held.old out.held.new (packed_line r)) (λ i. record { tiles = count i; length = size i }) with_all.output)
+packed_all (Err fault) end status maps d out err so is zero packs with_all = absurd (never end so (sym is ∙ zero))
   where
     never : (end : End) → EndsAs (Err fault) end → status_at end ≡ 0 → ⊥
     never end so zero = let here : EndsAs (Err fault) (Ok tt) = subst (EndsAs (Err fault)) (ends.ok_at refusal_status own end zero) so in here

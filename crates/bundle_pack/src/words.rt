@@ -8,12 +8,19 @@ use outside_io::Word;
 /// What is told where the words, or the number of sources, ask for nothing.
 pub const USAGE: &[u8] = b"usage: TARGET SOURCE, with 1 to 8 sources";
 
-/// Whether the words are the one word `pack`.
-fn is_pack(words: &[Word]) -> bool
+/// Whether this is the word `pack`.
+fn is_pack(word: &Word) -> bool
+    ensures { IsTrue result ↔ (word.now ≡ codes "pack") }
+{
+    word.as_slice() == b"pack".as_slice()
+}
+
+/// Whether the words are that one word.
+fn are_pack(words: &[Word]) -> bool
     ensures { IsTrue result ↔ (words.now ≡ codes "pack" ∷ []) }
 {
     match words {
-        [word] => word.as_slice() == b"pack".as_slice(),
+        [word] => is_pack(word),
         _ => false,
     }
 }
@@ -30,5 +37,5 @@ fn are_few(sources: usize) -> bool
 pub(crate) fn asks_to_pack(words: &[Word], sources: usize) -> bool
     ensures { IsTrue result ↔ IsAsked words.now sources }
 {
-    is_pack(words) && are_few(sources)
+    are_pack(words) && are_few(sources)
 }

@@ -1,7 +1,5 @@
-use Rattle.std.proofs.Common.{ap, refl, sym, subst, ◌∙◌, rules, arith}
-use Rattle.bundle_pack.specs.Run.{EndsWith}
-use Rattle.bundle_pack.specs.Sources.{DeviceAt}
-use Rattle.bundle_pack.proofs.Ended.{ends_with, never_usage, not_free, output_status, volume_status}
+use Rattle.std.proofs.Common.{sym, ◌∙◌, rules, arith}
+use Rattle.bundle_pack.proofs.Ended.{ends_as, ends_with, never_usage, not_free, output_status, volume_status}
 use Rattle.bundle_pack.proofs.OneAnswer.{one_answer}
 use Rattle.bundle_pack.proofs.Promised.{complete, packed_all, source_keeps, target_keeps}
 use Rattle.bundle_pack.proofs.Volumes.{each_map}
@@ -52,7 +50,7 @@ returns-clause-exactly g c = λ asked from_told to_told answer says free four fi
     let is = c.ended_status.ensures.status in
     let same = one_answer _ _ _ answer (c.pack-answer.ensures.says from_told to_told) says
     (not_free _ _ c.end_of-ended.ensures.ends (λ e. five (is ∙ e)) (λ e. six (is ∙ e))) free in
-    subst (λ a. EndsWith a _ _ _) same (ends_with _ _ _ _ _ c.end_of-ended.ensures.ends is c.end_of-ended.ensures.output c.ended_status.ensures.line four)
+    ends_as _ answer _ _ _ same (ends_with _ _ _ _ _ c.end_of-ended.ensures.ends is c.end_of-ended.ensures.output c.ended_status.ensures.line four)
 
 pub returns-clause-packed : goal.returns-clause-packed
 returns-clause-packed g c = λ asked from_told to_told maps stand zero.
