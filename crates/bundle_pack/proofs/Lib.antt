@@ -10,3 +10,6 @@ mod Packs
 mod Merging
 mod OneAnswer
 mod Sound
+mod Ended
+mod Promised
+mod Asking

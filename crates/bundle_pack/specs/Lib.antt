@@ -14,4 +14,7 @@ pub mod Opening
 pub mod Refusals
 pub mod Sources
 pub mod Packing
+pub mod Words
+pub mod Names
+pub mod Run
 pub mod inside

@@ -9,12 +9,20 @@
 
 mod chosen;
 mod collecting;
+mod dispatch;
 mod fault;
 mod laws;
 mod packing;
+mod process;
+mod refusal;
 mod sources;
 mod target;
+mod words;
 
+pub use dispatch::run_pack;
 pub use fault::PackFault;
 pub use laws::packings_have_one_answer;
 pub use packing::{PackReport, pack};
+pub use process::serve;
+pub use refusal::Refusal;
+pub use words::USAGE;
