@@ -7,6 +7,15 @@ root=$(cd "$(dirname "$(readlink -f "${BASH_SOURCE[0]}")")/.." && pwd)
 programs() {
     echo lerc_cli lerc_main
     echo ascii_grid ascii_grid_main
+    echo bundle_pack bundle_pack_main
+}
+
+# How many of the first words of a program's worked example are paths of files that it makes.
+made_by() {
+    case $1 in
+    bundle_pack_main) echo 2 ;;
+    *) echo 0 ;;
+    esac
 }
 
 crate_of() { programs | awk -v name="$1" '$1 == name { print $2 }'; }
@@ -82,13 +91,17 @@ build_by() {
     rm -f "$log" "$started"
 }
 
-# Builds a program where it is missing or older than its sources, which runs it once on its worked example.
+# Builds a program where it is missing or older than its sources, which runs it once on its worked example. The files
+# that it makes then stand in a folder of their own, which is thrown away.
 build_program() {
-    local crate=$1 program=$root/crates/$1/out/$1 words
+    local crate=$1 program=$root/crates/$1/out/$1 words place at
     if ! is_current "$program"; then
         echo "${0##*/}: building, which proves $crate and all that it stands on first" >&2
         mapfile -t words <"$root/crates/$crate/args"
+        place=$(mktemp -d)
+        for ((at = 0; at < $(made_by "$crate"); at++)); do words[at]=$place/${words[at]}; done
         build_by "$program" "$crate" "$root/crates/$crate/stdin" rt run -- "${words[@]}"
+        rm -rf "$place"
     fi
 }
 

@@ -3,44 +3,6 @@
 
 # ---- What is given
 
-# A new header with these three numbers: the greatest size, the slack and the length of the file.
-header() {
-    numbers 4 3 16384 "$1" 5
-    numbers 8 "$2" "$3" 40
-    numbers 4 131092 3 16 16384 5 131072
-}
-
-# An index of one entry: its place in the bundle, the offset and the size.
-index() {
-    zeros $(($1 - 64))
-    numbers 5 "$2"
-    numbers 3 "$3"
-    zeros $((131136 - 8 - $1))
-}
-
-# A record of this file.
-record() {
-    numbers 4 "$(wc -c <"$1")"
-    cat "$1"
-}
-
-# The journal, its gate closed, of a tile in the last slot: its offset and its size, and the bundle that has it.
-journal() {
-    bytes 00 4c 42 4a 52 4e 4c 32 01 01 00 00 00 00 00 00
-    numbers 8 "$(wc -c <"$3")"
-    head -c 64 "$3"
-    bytes ff 3f 00 00 00 00 00 00
-    numbers 5 "$1"
-    numbers 3 "$2"
-    zeros 1008
-}
-
-# The same with the gate open.
-opened() {
-    bytes 01
-    tail -c +2 "$1"
-}
-
 # The bundle of no tiles; one of a blob in the last slot, which is (127, 127); the same after the put of
 # another blob into that slot.
 { header 0 0 131136; zeros 131072; } >bundle_0

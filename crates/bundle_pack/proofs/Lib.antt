@@ -1,0 +1,15 @@
+mod Volumes
+mod Opened
+mod Choosing
+mod Turning
+mod Reading
+mod Targets
+mod Getting
+mod Steps
+mod Packs
+mod Merging
+mod OneAnswer
+mod Sound
+mod Ended
+mod Promised
+mod Asking

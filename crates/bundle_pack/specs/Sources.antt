@@ -1,0 +1,44 @@
+-- What packing leaves of its sources.
+use Rattle.std.specs.Prelude.{◌≡◌, ◌⊎◌, ℕ, Bool, false, IsTrue, List, length, slice_get, Some, None, Result, Err}
+use Rattle.outside_io.specs.declared.volume.VolFile.TheVariants.{Bundle}
+use Rattle.outside_io.specs.streams.Faults.{IsCause}
+use Rattle.outside_io.specs.volume.History.{During, History, contents, current}
+use Rattle.bundle_store.specs.declared.fault.StoreFault.TheVariants.{Device}
+use Rattle.bundle_store.specs.Recover.{EachStandsForOneOf}
+use Rattle.bundle_store.specs.Session.{Serves, SessionState}
+use Rattle.bundle_pack.specs.Opening.{StandsLeft}
+use Rattle.bundle_pack.specs.declared.fault.PackFault.{PackFault}
+use Rattle.bundle_pack.specs.declared.fault.PackFault.TheVariants.{Source}
+
+-- each volume of a list, by its number, before and after a call
+pub record Each {V : Type 0} (P : ℕ → V → V → Type 0) (old new : List V) : Type 0 where
+  pub many : length new ≡ length old
+  pub each : (i : ℕ) (v w : V) → slice_get old i ≡ Some v → slice_get new i ≡ Some w → P i v w
+
+-- At each moment each image stands for a map that an image at the start stood for.
+pub record KeepsImages {V : Type 0} (told : V → Bool) (history : V → History) (old new : V) :
+    Type 0 where
+  pub told_same : told new ≡ told old
+  pub images : IsTrue (told old) → During (EachStandsForOneOf (current (history old)))
+      (history old) (history new)
+
+-- What is left of one source: its images keep what they stood for; its bundle changes only by the
+-- recovery, unless the source failed; and its failure is the cause of that answer.
+pub record SourceMoves {V : Type 0} (told : V → Bool) (history : V → History) (faults : V → ℕ)
+    (failed : Type 0) (old new : V) : Type 0 where
+  pub kept : KeepsImages told history old new
+  pub bundle : IsTrue (told old) → (failed → ⊥) → StandsLeft (history old) (history new)
+      ⊎ (contents Bundle (history new) ≡ contents Bundle (history old))
+  pub cause : IsCause failed (faults old) (faults new)
+
+-- source number i failed
+abbrev pub DeviceAt : {X : Type 0} → Result X PackFault → ℕ → Type 0
+DeviceAt result i = result ≡ Err (Source i None Device)
+
+-- each session runs and serves the bundle of its volume
+pub record IsServing {V : Type 0} (told : V → Bool) (history : V → History)
+    (sessions : List SessionState) (vs : List V) : Type 0 where
+  pub many : length sessions ≡ length vs
+  pub each : (i : ℕ) (s : SessionState) (v : V) → slice_get sessions i ≡ Some s
+      → slice_get vs i ≡ Some v
+      → (s.stopped ≡ false) × (IsTrue (told v) → Serves s (contents Bundle (history v)))

@@ -1,0 +1,200 @@
+//! Which refusal comes first, of which source and slot, and its line.
+
+use crate::rows::replaced;
+use crate::same::same;
+use crate::volumes::{
+    LARGE, OTHER, Pair, SMALL, alone, empty, expect_run, expect_tile, nothing, put_all, slot_at,
+    volume, volumes,
+};
+use bundle_index::Entry;
+use bundle_pack::{PackFault, pack};
+use bundle_store::StoreFault;
+use std::alloc::Global;
+use std::process::Abort;
+
+/// The line of a refusal, and what it is.
+type Refused<'a> = (PackFault, &'a [u8]);
+
+/// Packing of these files refuses so; and so does the program, with this line.
+fn refuses(rt: &impl Abort, alloc: Global, all: &[&Pair], target: &Pair, wanted: Refused<'_>) {
+    let mut from = volumes(rt, alloc, all);
+    let mut to = volume(rt, alloc, target, None, &[]);
+    same(
+        rt,
+        "refusal",
+        pack(alloc, &mut from, &mut to),
+        Err(wanted.0),
+    );
+    let mut from = volumes(rt, alloc, all);
+    let mut to = volume(rt, alloc, target, None, &[]);
+    let left = (7, b"".as_slice(), wanted.1);
+    expect_run(rt, alloc, "line", &mut from, &mut to, left);
+}
+
+/// A bundle of these bytes alone.
+fn bytes(rt: &impl Abort, alloc: Global, bytes: &[u8]) -> Pair {
+    alone(alloc, Vec::from_slice(alloc, bytes).expect(rt, "memory"))
+}
+
+/// A bundle beside an open journal of a kind that there is not.
+fn bad_journal(rt: &impl Abort, alloc: Global) -> Pair {
+    let mut files = replaced(rt, alloc);
+    files.journal = vec![in alloc; 0u8; 96].expect(rt, "memory");
+    files.journal.as_mut_slice()[..9].copy_from_slice(b"\x01LBJRNL1\x03");
+    files
+}
+
+/// A bundle whose last bytes are gone, so that its one tile, in the last slot, lies beyond its end.
+fn cut(rt: &impl Abort, alloc: Global) -> Pair {
+    let mut files = put_all(rt, alloc, &[(127, 126, &LARGE)]);
+    files.bundle.truncate(131202);
+    files
+}
+
+/// The fault of a source in which no tile is read yet.
+fn of_source(at: usize, fault: StoreFault) -> PackFault {
+    PackFault::Source {
+        at,
+        slot: None,
+        fault,
+    }
+}
+
+const BAD_JOURNAL: StoreFault = StoreFault::BadJournal { place: 8, found: 3 };
+
+const BAD_BUNDLE: StoreFault = StoreFault::BadBundle {
+    place: 10,
+    found: 10,
+};
+
+const JOURNAL_LINE: &[u8] = b"store: BadJournal at 8 found 3\n";
+
+const BUNDLE_LINE: &[u8] = b"store: BadBundle at 10 found 10\n";
+
+const BEYOND_LINE: &[u8] = b"store: Beyond 127 126 offset 131140 size 72 got 62\n";
+
+#[test]
+fn the_first_source_that_does_not_open_is_told(rt: HostRuntime) {
+    let alloc = rt.alloc();
+    let good = replaced(&rt, alloc);
+    let journal = bad_journal(&rt, alloc);
+    let short = bytes(&rt, alloc, &[3; 10]);
+    let beyond = cut(&rt, alloc);
+    let first = (of_source(0, BAD_JOURNAL), JOURNAL_LINE);
+    refuses(&rt, alloc, &[&journal, &short], &short, first);
+    let second = (of_source(1, BAD_BUNDLE), BUNDLE_LINE);
+    refuses(&rt, alloc, &[&good, &short, &journal], &good, second);
+    let third = (of_source(2, BAD_JOURNAL), JOURNAL_LINE);
+    refuses(&rt, alloc, &[&beyond, &good, &journal], &good, third);
+}
+
+/// A tile beyond the bundle's end of the source of this number.
+fn beyond_of(rt: &impl Abort, at: usize) -> PackFault {
+    PackFault::Source {
+        at,
+        slot: Some(slot_at(rt, 127, 126)),
+        fault: StoreFault::Beyond {
+            entry: Entry {
+                offset: 131140,
+                size: 72,
+            },
+            got: 62,
+        },
+    }
+}
+
+#[test]
+fn a_chosen_tile_beyond_the_end_is_told_before_the_target(rt: HostRuntime) {
+    let alloc = rt.alloc();
+    let good = replaced(&rt, alloc);
+    let beyond = cut(&rt, alloc);
+    let wanted = (beyond_of(&rt, 1), BEYOND_LINE);
+    refuses(&rt, alloc, &[&good, &beyond], &good, wanted);
+    let wanted = (beyond_of(&rt, 0), BEYOND_LINE);
+    refuses(&rt, alloc, &[&beyond, &good], &good, wanted);
+}
+
+#[test]
+fn a_tile_that_is_not_chosen_is_not_read(rt: HostRuntime) {
+    let alloc = rt.alloc();
+    let beyond = cut(&rt, alloc);
+    let later = put_all(&rt, alloc, &[(127, 126, &OTHER)]);
+    let mut from = volumes(&rt, alloc, &[&beyond, &later]);
+    let mut to = empty(&rt, alloc);
+    let wanted = (0, b"packed 1 131206\n".as_slice(), b"".as_slice());
+    expect_run(&rt, alloc, "the later one", &mut from, &mut to, wanted);
+    expect_tile(&rt, alloc, &mut to, (127, 126, &OTHER), 131140);
+}
+
+#[test]
+fn a_target_that_does_not_open_or_is_not_empty_is_told_last(rt: HostRuntime) {
+    let alloc = rt.alloc();
+    let good = replaced(&rt, alloc);
+    let journal = (PackFault::Target(BAD_JOURNAL), JOURNAL_LINE);
+    refuses(&rt, alloc, &[&good], &bad_journal(&rt, alloc), journal);
+    let bundle = (PackFault::Target(BAD_BUNDLE), BUNDLE_LINE);
+    let short = bytes(&rt, alloc, &[3; 10]);
+    refuses(&rt, alloc, &[&good], &short, bundle);
+    let full = StoreFault::NotEmpty { len: 131282 };
+    let full = (
+        PackFault::Target(full),
+        b"store: NotEmpty 131282\n".as_slice(),
+    );
+    refuses(&rt, alloc, &[&good], &good, full);
+}
+
+/// A bundle of which the first 64 slots have the greatest size each, and the next one this size.
+/// None of the tiles is there.
+fn heavy(rt: &impl Abort, alloc: Global, last: u8) -> Pair {
+    let mut files = put_all(rt, alloc, &[(127, 127, &SMALL)]);
+    files.bundle.truncate(131136);
+    let bundle = files.bundle.as_mut_slice();
+    if bundle.len() != 131136 {
+        panic!(rt; "length");
+    }
+    for slot in 0..64usize {
+        let at = 64 + 8 * slot;
+        bundle[at..at + 8].copy_from_slice(b"\x44\x00\x02\x00\x00\xff\xff\xff");
+    }
+    bundle[576..584].copy_from_slice(&[0x44, 0, 2, 0, 0, last, 0, 0]);
+    bundle[131128..131136].copy_from_slice(&[0; 8]);
+    files
+}
+
+#[test]
+fn tiles_of_more_than_a_gibibyte_are_not_read(rt: HostRuntime) {
+    let alloc = rt.alloc();
+    let good = replaced(&rt, alloc);
+    let heavy_by_1 = heavy(&rt, alloc, 65);
+    let fault = PackFault::KeptTooMuch { len: 1073741825 };
+    let line = b"store: KeptTooMuch 1073741825\n".as_slice();
+    refuses(&rt, alloc, &[&heavy_by_1], &good, (fault, line));
+    let fault = PackFault::KeptTooMuch { len: 1073741896 };
+    let line = b"store: KeptTooMuch 1073741896\n".as_slice();
+    refuses(
+        &rt,
+        alloc,
+        &[&heavy(&rt, alloc, 64), &good],
+        &good,
+        (fault, line),
+    );
+}
+
+#[test]
+fn tiles_of_a_gibibyte_are_not_too_many(rt: HostRuntime) {
+    let alloc = rt.alloc();
+    let beyond = PackFault::Source {
+        at: 0,
+        slot: Some(slot_at(&rt, 0, 0)),
+        fault: StoreFault::Beyond {
+            entry: Entry {
+                offset: 131140,
+                size: 16777215,
+            },
+            got: 0,
+        },
+    };
+    let line = b"store: Beyond 0 0 offset 131140 size 16777215 got 0\n".as_slice();
+    let heavy = heavy(&rt, alloc, 64);
+    refuses(&rt, alloc, &[&heavy], &nothing(alloc), (beyond, line));
+}
