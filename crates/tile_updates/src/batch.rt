@@ -24,16 +24,16 @@ pub struct Batch {
 }
 
 impl Model for Batch {
-    ghost use Rattle.std.specs.Prelude.{◌≡◌, List, length};
+    ghost use Rattle.std.specs.Prelude.{List};
     ghost use Rattle.tile_stream.specs.declared.tile.Tile.{Tile};
-    ghost use Rattle.tile_updates.specs.Tiles.{tiles_of, values_of};
+    ghost use Rattle.tile_updates.specs.Tiles.{tiles_of};
+    ghost use Rattle.tile_updates.specs.inside.Counts.{AreCounted};
 
     ghost Value = { List Tile };
 
     ghost view = { λ b. tiles_of b.slots.items b.tiles.items };
 
-    ghost invariant = { λ b. (length b.slots.items ≡ length b.tiles.items)
-        × (b.values ≡ values_of (tiles_of b.slots.items b.tiles.items)) };
+    ghost invariant = { λ b. AreCounted b.slots.items b.tiles.items b.values };
 }
 
 /// How many values bands have.
@@ -44,6 +44,14 @@ fn count_values(bands: &Bands) -> u64
     let count = bands.len() as u64;
     let first = bands.at(0);
     count * (first.rows() as u64 * first.cols() as u64 * first.depth() as u64)
+}
+
+/// Whether a batch of so many tiles and values is full.
+fn are_many(count: usize, values: u64, workers: usize) -> bool
+    requires { workers ≤ 64 }
+    ensures { IsTrue result ↔ ((16 * workers ≤ count) ⊎ (16777216 ≤ values)) }
+{
+    count >= TILES_EACH * workers || values >= MANY_VALUES
 }
 
 impl Batch {
@@ -71,7 +79,7 @@ impl Batch {
         ensures { IsTrue result
             ↔ ((16 * workers ≤ length self.now) ⊎ (16777216 ≤ values_of self.now)) }
     {
-        self.tiles.len() >= TILES_EACH * workers || self.values >= MANY_VALUES
+        are_many(self.tiles.len(), self.values, workers)
     }
 
     /// One tile more behind the others. Where there is no memory for it nothing changes, and it is
@@ -84,11 +92,15 @@ impl Batch {
     {
         let values = count_values(&bands);
         self.slots.push(slot)?;
-        if self.tiles.push(bands).is_err() {
-            self.slots.pop();
-            return Err(AllocError);
+        match self.tiles.push(bands) {
+            Ok(()) => {
+                self.values += values;
+                Ok(())
+            }
+            Err(_) => {
+                self.slots.pop();
+                Err(AllocError)
+            }
         }
-        self.values += values;
-        Ok(())
     }
 }

@@ -135,7 +135,7 @@ fn add_batch<R: Threads + Sync, S: Source, G: Gate>(
     done: &mut SoFar,
 ) -> Result<bool, StreamStop>
     requires workers { (1 ≤ workers) × (workers ≤ 64) }
-    requires { IsRoomy done.old }
+    requires roomy { IsRoomy done.old }
     ensures ok { (input : Option (List ℕ)) → IsSoFar version step input (S.left src.old) done.old
         → IfOk result (λ more. IsMade version step input (S.left src.new) done.new more) }
     ensures grows { IfOk result (λ more. IsTrue more
