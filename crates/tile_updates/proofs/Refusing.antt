@@ -1,5 +1,5 @@
 -- The refusals of an input of which the first tiles passed.
-use Rattle.std.proofs.Common.{◌≡◌, ◌⊎◌, ℕ, ◌+◌, ◌^◌, ◌<◌, ◌≤◌, Bool, true, false, List, [], ◌∷◌, ◌++◌, length, Option, Some, None, refl, sym, ap, ◌∙◌, subst, arith, length-append, append_assoc}
+use Rattle.std.proofs.Common.{◌≡◌, ℕ, ◌+◌, ◌^◌, ◌<◌, ◌≤◌, Bool, true, false, List, [], ◌∷◌, ◌++◌, length, Option, Some, None, refl, sym, ap, ◌∙◌, subst, arith, length-append, append_assoc}
 use Rattle.std.specs.Prelude.{All, Ok}
 use Rattle.std.proofs.lemmas.List.{length-map}
 use Rattle.std.proofs.lemmas.List.Elements.{All-head}
@@ -21,9 +21,9 @@ use Rattle.tile_updates.specs.declared.stop.StreamStop.{StreamStop}
 use Rattle.tile_updates.specs.declared.stop.StreamStop.TheVariants.{TooManyTiles, Fault, DepthNeedsV4, TileTooLarge, KeptTooMuch, Source, OutOfMemory}
 use Rattle.tile_updates.specs.declared.updates.SoFar.{SoFar}
 use Rattle.tile_updates.specs.declared.updates.Waiting.{Waiting}
-use Rattle.tile_updates.specs.Adding.{MayBeAdded, StopsBatch, TellsBatchStop}
+use Rattle.tile_updates.specs.Adding.{StopsBatch, TellsBatchStop}
 use Rattle.tile_updates.specs.Stops.{HasTile, IsRefused, IsStreamStop, IsTooLong, IsTooMuch, TellsStop}
-use Rattle.tile_updates.specs.Updates.{AllPass, OfBytes, Passes, kept_bytes, update_of, updates_of, tile_bytes}
+use Rattle.tile_updates.specs.Updates.{AllPass, OfBytes, kept_bytes, update_of, updates_of}
 use Rattle.tile_updates.specs.inside.SoFar.{AreWaiting, AsksOne, IsSoFar, RefusesReading, TakesTile}
 use Rattle.tile_updates.specs.inside.StopOf.{stop_of}
 use Rattle.tile_updates.proofs.Passing.{all_behind, updates_push}

@@ -1,5 +1,5 @@
 -- What was made of the first tiles of an input.
-use Rattle.std.proofs.Common.{◌≡◌, ◌⊎◌, inl, inr, ℕ, ◌+◌, ◌*◌, ◌^◌, ◌<◌, ◌≤◌, Bool, true, false, List, [], ◌∷◌, ◌++◌, length, get_or, Option, Some, None, refl, sym, ap, ◌∙◌, subst, arith, length-append}
+use Rattle.std.proofs.Common.{◌≡◌, ◌⊎◌, inl, inr, ℕ, ◌+◌, ◌^◌, ◌<◌, ◌≤◌, Bool, true, false, List, [], ◌∷◌, ◌++◌, length, get_or, Option, Some, None, refl, sym, ap, ◌∙◌, subst, arith, length-append}
 use Rattle.std.specs.Prelude.{All, Ok}
 use Rattle.std.proofs.lemmas.Bool.{cases_lt}
 use Rattle.std.proofs.lemmas.List.{append-nil, length-map, map-append}
@@ -21,7 +21,7 @@ use Rattle.tile_updates.specs.Adding.{MayBeAdded}
 use Rattle.tile_updates.specs.declared.updates.SoFar.{SoFar}
 use Rattle.tile_updates.specs.declared.updates.Waiting.{Waiting}
 use Rattle.tile_updates.specs.Updates.{AllPass, AreEncoded, IsUpdates, OfBytes, Passes, kept_bytes, update_of, updates_of, tile_bytes}
-use Rattle.tile_updates.specs.inside.SoFar.{AreWaiting, AsksOne, IsAll, IsRoomy, IsSoFar, WaitsToo}
+use Rattle.tile_updates.specs.inside.SoFar.{AreWaiting, AsksOne, IsAll, IsSoFar, WaitsToo}
 use Rattle.tile_updates.proofs.Passing.{none_pass}
 
 -- ---- at the start

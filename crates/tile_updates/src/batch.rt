@@ -93,14 +93,13 @@ impl Batch {
         let values = count_values(&bands);
         self.slots.push(slot)?;
         match self.tiles.push(bands) {
-            Ok(()) => {
-                self.values += values;
-                Ok(())
-            }
+            Ok(()) => {}
             Err(_) => {
                 self.slots.pop();
-                Err(AllocError)
+                return Err(AllocError);
             }
         }
+        self.values += values;
+        Ok(())
     }
 }

@@ -154,7 +154,16 @@ fn add_batch<R: Threads + Sync, S: Source, G: Gate>(
         Err(stop) => return Err(stop),
     };
     let Waiting { batch, place } = waiting;
-    match encode_batch(rt, alloc, batch, version, step, workers, gate, &mut done.list) {
+    match encode_batch(
+        rt,
+        alloc,
+        batch,
+        version,
+        step,
+        workers,
+        gate,
+        &mut done.list,
+    ) {
         Ok(()) => done.place = place,
         Err(stop) => return Err(stream_stop(stop)),
     }

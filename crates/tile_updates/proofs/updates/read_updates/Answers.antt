@@ -1,4 +1,4 @@
-use Rattle.std.proofs.Common.{◌≡◌, ◌*◌, ◌≤◌, ◌∙◌, ℕ, Bool, List, length, sym, ap, subst, refl, arith}
+use Rattle.std.proofs.Common.{◌≡◌, List, length, sym, ap, subst, refl, arith}
 use Rattle.bundle_store.specs.declared.tile_rec.TileRec.{TileRec}
 use Rattle.bundle_store.specs.Build.{EachFits}
 use Rattle.tile_updates.specs.Updates.{AreEncoded, IsUpdates, OfBytes}
@@ -63,7 +63,7 @@ returns-in-Ok-true-has_more-clause-taken g c =
 
 pub returns-in-Ok-false-has_more-clause-fits : goal.returns-in-Ok-false-has_more-clause-fits
 returns-in-Ok-false-has_more-clause-fits g c =
-    subst EachFits (sym c.into_vec.ensures) (all_fit c.args.version c.args.step (g.S.Source.left c.args.src.now) (g.S.Source.left c.loop-alloc.src) c.loop-alloc.done c.loop-alloc.invariant.0)
+    subst EachFits (sym c.into_vec-in-Ok-false-has_more.ensures) (all_fit c.args.version c.args.step (g.S.Source.left c.args.src.now) (g.S.Source.left c.loop-alloc.src) c.loop-alloc.done c.loop-alloc.invariant.0)
 
 pub returns-in-Err-has_more-clause-taken : goal.returns-in-Err-has_more-clause-taken
 returns-in-Err-has_more-clause-taken g c = more_read c.args.version c.args.step (g.S.Source.left c.args.src.now) (g.S.Source.left c.loop-alloc.src) (g.S.Source.left c.has_more.new.src) c.loop-alloc.done c.loop-alloc.invariant.0 c.in-Err-has_more.ensures.asks
