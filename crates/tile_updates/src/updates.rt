@@ -189,9 +189,14 @@ fn has_more<S: Source>(src: &mut S) -> Result<bool, Failed>
 
 /// Reads tiles up to the end of the source, and gives the updates that they ask for: for each tile
 /// its slot and the blobs of its bands, in this version and with this step. Where a tile is refused, nothing
-/// behind it is looked at.
+/// behind it is told.
 ///
-/// The bands of one tile are kept at a time, and all the blobs, which have at most 2^30 bytes together. Want of
+/// The tiles are read in batches, up to 16 for each worker or 2^24 values, each of which is encoded by so many
+/// workers. Whichever their number and whatever the gate does, the answer is the same, but for a source that
+/// fails, which is told at once, and for want of memory. The gate is that of `encode_tiles`, the tiles
+/// being numbered in their batch.
+///
+/// One batch of bands is kept at a time, and all the blobs, which have at most 2^30 bytes together. Want of
 /// memory for them is answered where it comes. After an error some bytes of the source are taken.
 pub fn read_updates<R: Threads + Sync, S: Source, G: Gate>(
     rt: &R,

@@ -54,7 +54,10 @@ fn two_workers_encode_at_once(rt: HostRuntime) {
     if blobs.len() != 2 {
         panic!(&rt; "two tiles");
     }
-    assert!(&rt; *blobs.at(0) == SEVEN_BLOB, "the blob of the first tile");
+    assert!(&rt;
+        blobs.at(0) == SEVEN_BLOB.as_slice(),
+        "the blob of the first tile"
+    );
     assert!(&rt; blobs.at(1).len() == 66, "the blob of the second tile");
 }
 
@@ -109,7 +112,10 @@ fn the_first_deep_tile_is_told_by_its_number(rt: HostRuntime) {
             Ok(_) => panic!(&rt; "no fault"),
             Err(fault) => {
                 assert_eq!(&rt; fault.at, 1);
-                assert!(&rt; matches!(&fault.cause, EncodeFault::DepthNeedsV4), "the cause");
+                assert!(&rt;
+                    matches!(&fault.cause, EncodeFault::DepthNeedsV4),
+                    "the cause"
+                );
             }
         }
     }

@@ -4,27 +4,26 @@ ghost use Rattle.std.specs.Prelude.{◌≤◌};
 
 use lerc_header::{Step, Version};
 use outside_io::{Bytes, MemSource};
-use raster_values::GridReason;
 use std::alloc::Global;
 use std::process::Abort;
 use std::thread::Threads;
-use tile_stream::{TileFault, TileReason};
 use tile_updates::{StreamStop, read_updates};
 use tile_workers::Open;
-
-/// How many bytes one tile of the stream has: three, a head of 17, 64 marks and 64 values of one byte.
-const TILE: usize = 148;
 
 /// A tile of eight by eight unsigned bytes for row 1 and this column: pixel i has the value 3 * i + column,
 /// and is not valid where i is below the column.
 fn add_tile(rt: &impl Abort, alloc: Global, stream: &mut Vec<u8>, column: u8) {
-    let head = [b'T', 1, column & 127, b'L', b'G', b'R', b'1', 1, 8, 0, 0, 0, 8, 0, 0, 0, 1, 0, 0, 0];
+    stream.extend_from_slice(b"T\x01").expect(rt, "memory");
+    stream.push(column).expect(rt, "memory");
+    let head = *b"LGR1\x01\x08\0\0\0\x08\0\0\0\x01\0\0\0";
     stream.extend_from_slice(&head).expect(rt, "memory");
     for i in 0..64u8 {
         stream.push(u8::from(i >= column)).expect(rt, "memory");
     }
-    for i in 0..64u8 {
-        stream.push(i.wrapping_mul(3).wrapping_add(column)).expect(rt, "memory");
+    for i in column..64 {
+        stream
+            .push(i.wrapping_mul(3).wrapping_add(column))
+            .expect(rt, "memory");
     }
 }
 
@@ -49,11 +48,21 @@ fn made_of<R: Threads + Sync + Abort>(
     let bytes = Bytes::of(alloc, stream).expect(rt, "memory");
     let failing = Bytes::of(alloc, b"").expect(rt, "memory");
     let mut source = MemSource::new(bytes, 100, failing);
-    let updates = read_updates(rt, alloc, &mut source, Version::V3, Step::of(1), workers, &Open)?;
+    let updates = read_updates(
+        rt,
+        alloc,
+        &mut source,
+        Version::V3,
+        Step::of(1),
+        workers,
+        &Open,
+    )?;
     let mut all = Vec::new(alloc);
     for update in updates {
-        all.extend_from_slice(&update.slot.number().to_le_bytes()).expect(rt, "memory");
-        all.extend_from_slice(update.bytes.as_slice()).expect(rt, "memory");
+        all.extend_from_slice(&update.slot.number().to_le_bytes())
+            .expect(rt, "memory");
+        all.extend_from_slice(update.bytes.as_slice())
+            .expect(rt, "memory");
     }
     Ok(all)
 }
@@ -81,22 +90,16 @@ fn is_refused(rt: &(impl Threads + Sync + Abort), alloc: Global, stream: &[u8], 
 }
 
 #[test]
-fn a_mark_in_the_second_tile(rt: HostRuntime) {
-    let alloc = rt.alloc();
-    let mut stream = stream_of(&rt, alloc, 2);
-    stream[TILE + 22] = 2;
-    let fault = TileFault {
-        reason: TileReason::Grid(GridReason::BadMark),
-        place: 170,
-    };
-    is_refused(&rt, alloc, &stream, StreamStop::Fault(fault));
-}
-
-#[test]
 fn a_deep_tile_behind_a_whole_batch(rt: HostRuntime) {
     let alloc = rt.alloc();
+    // 2,770 bytes: three, a head of 17, 64 marks and 64 values, fewer by the column
     let mut stream = stream_of(&rt, alloc, 20);
     let deep = *b"T\0\0LGR1\x01\x01\0\0\0\x01\0\0\0\x02\0\0\0\x01\x07\x08T";
     stream.extend_from_slice(&deep).expect(&rt, "memory");
-    is_refused(&rt, alloc, &stream, StreamStop::DepthNeedsV4 { place: 2976 });
+    is_refused(
+        &rt,
+        alloc,
+        &stream,
+        StreamStop::DepthNeedsV4 { place: 2786 },
+    );
 }
