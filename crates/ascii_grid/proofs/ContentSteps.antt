@@ -1,9 +1,9 @@
 -- The grid of an `LGA1`, and what its raster may not have.
-use Rattle.std.proofs.Common.{◌≡◌, ◌≢◌, ℕ, ℤ, pos, suc, ◌+◌, ◌*◌, ◌/◌, ◌%◌, ◌<◌, ◌≤◌, Bool, true, false, List, [], ◌∷◌, ◌++◌, length, get_or, take, drop, All, Option, None, Some, IfSome, refl, sym, ap, ◌∙◌, subst, arith, inl, inr, length-append}
+use Rattle.std.proofs.Common.{◌≡◌, ◌≢◌, ℕ, ℤ, pos, suc, ◌+◌, ◌*◌, ◌/◌, ◌%◌, ◌<◌, ◌≤◌, Bool, true, false, List, [], ◌∷◌, ◌++◌, length, get_or, take, drop, All, Option, None, Some, IfSome, refl, sym, ap, ◌∙◌, subst, arith, inl, inr}
 use Rattle.std.specs.Prelude.{is_some, unwrap_or}
 use Rattle.std.specs.List.{count_by}
 use Rattle.std.proofs.Math.Nat.{div-add-mod'}
-use Rattle.std.proofs.lemmas.List.{append-nil, length-map, take_all, take_more, drop_more, take-append-drop}
+use Rattle.std.proofs.lemmas.List.{append-nil, take_all, take_more, drop_more, take-append-drop}
 use Rattle.std.proofs.lemmas.List.Elements.{All-append, All-cons, All-head, All-nil, All-tail}
 use Rattle.std.proofs.lemmas.List.Sums.{count_by_more_no, count_by_more_yes}
 use Rattle.first_fault.specs.Faults.{ends, in_order, moved}
@@ -11,9 +11,8 @@ use Rattle.outside_io.specs.streams.Source.{IsAtEnd}
 use Rattle.raster_values.specs.declared.reading.GridStop.{GridStop}
 use Rattle.raster_values.specs.declared.reading.GridStop.TheVariants.{Fault as GridFaultOf, Source as GridSource, OutOfMemory as GridMemory}
 use Rattle.raster_values.specs.PixelType.{bytes_of}
-use Rattle.raster_values.specs.Raster.{Pixels, pixel_at, valid_at, valid_count, value_at}
+use Rattle.raster_values.specs.Raster.{Pixels, pixel_at, valid_at, value_at}
 use Rattle.raster_values.specs.ReadGrid.{IsGrid, IsToldFault, TookBytes, TookGrid, grid_faults}
-use Rattle.raster_values.proofs.Deep.{length-values_of, raster_deep}
 use Rattle.ascii_grid.specs.declared.fault.AsciiFault.{AsciiFault}
 use Rattle.ascii_grid.specs.declared.fault.AsciiReason.TheVariants.{Collision, DepthNot1, Leftover}
 use Rattle.ascii_grid.specs.declared.fault.AsciiStop.{AsciiStop}

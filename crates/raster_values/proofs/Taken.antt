@@ -1,12 +1,10 @@
 -- Bytes taken from a source, and the first fault of what it had left.
 use Rattle.std.proofs.Common.{◌≡◌, ℕ, ◌+◌, ◌-◌, ◌<◌, ◌≤◌, zero, suc, Bool, cond, List, [], ◌∷◌, ◌++◌, length, get_or, take, drop, map, Option, Some, None, refl, sym, ap, ◌∙◌, subst, arith, ⊎_elim, append_assoc, length-append, inl, inr}
-use Rattle.std.specs.Prelude.{nat_eq, Result, Ok, Err, IfOk, OnErr}
-use Rattle.outside_io.specs.declared.streams.failed.Failed.{Failed}
+use Rattle.std.specs.Prelude.{nat_eq, Result, Ok, Err, OnErr}
 use Rattle.std.proofs.lemmas.List.{append-nil, take_at, take_all, take-append-drop, length-take-le, map-append, get_or_append_left, get_or-append-add, get_or_past, length-map}
 use Rattle.std.proofs.lemmas.Bool.{cases_lt}
 use Rattle.first_fault.specs.Faults.{Faults, moved}
 use Rattle.outside_io.specs.streams.Source.{TakesFront, TakesUpTo, IsAtEnd}
-use Rattle.outside_io.proofs.StreamLemmas.Takes.{TakesUpTo_wider}
 use Rattle.raster_values.specs.declared.reading.GridReason.{GridReason}
 use Rattle.raster_values.specs.declared.reading.GridReason.TheVariants.{Truncated, BadMark}
 use Rattle.raster_values.specs.declared.reading.GridFault.{GridFault}

@@ -265,6 +265,34 @@ fn put_bits(bytes: &mut Vec<u8>, from: usize, marks: &[u8])
     put_each(bytes, from + whole, &marks[whole..]);
 }
 
+/// The bits of a byte as eight bytes, the highest first.
+fn spread(byte: u8) -> [u8; 8]
+    ensures { (q : ℕ) → q < 8 → get_or result q 0 ≡ (if byte_bit byte q then 1 else 0) }
+{
+    [
+        byte >> 7,
+        (byte >> 6) % 2,
+        (byte >> 5) % 2,
+        (byte >> 4) % 2,
+        (byte >> 3) % 2,
+        (byte >> 2) % 2,
+        (byte >> 1) % 2,
+        byte % 2,
+    ]
+}
+
+/// Lays a byte for each bit over all of `out`, eight for each byte.
+fn write_spread(bytes: &[u8], out: &mut [u8])
+    requires few { length out.old ≤ 16777216 }
+    requires size { length out.old ≡ 8 * length bytes.now }
+    ensures { (k : ℕ) → k < length out.old
+        → get_or out.new k 0 ≡ (if mask_bit bytes.now k then 1 else 0) }
+{
+    for (i, byte) in bytes.iter().enumerate() {
+        out[8 * i..8 * i + 8].copy_from_slice(&spread(*byte));
+    }
+}
+
 impl Mask {
     /// A mask of so many pixels, of which none is valid.
     pub fn new(alloc: Global, count: usize) -> Result<Mask, AllocError>
@@ -405,7 +433,20 @@ impl Mask {
             out[..count].fill(1);
             return;
         }
-        for i in 0..count {
+        let whole = whole_marks(from, count);
+        let first = from / 8;
+        write_spread(&self.bytes[first..first + whole / 8], &mut out[..whole]);
+        self.write_each(from + whole, &mut out[whole..count]);
+    }
+
+    /// Lays a byte for each pixel from `from` on over all of `out`, one by one.
+    fn write_each(&self, from: usize, out: &mut [u8])
+        requires { from + length out.old ≤ length self.now }
+        ensures { (k : ℕ) → k < length out.old
+            → get_or out.new k 0 ≡ (if get_or self.now (from + k) false then 1 else 0) }
+    {
+        let _ = self.len();
+        for i in 0..out.len() {
             out[i] = u8::from(self.get(from + i));
         }
     }

@@ -1,6 +1,6 @@
 //! Grid files read.
 
-ghost use Rattle.std.specs.Prelude.{◌≡◌, ℕ, ◌+◌, ◌-◌, ◌*◌, ◌^◌, ◌<◌, ◌≤◌, ◌↔◌, ◌++◌, codes, List, IfOk, IfErr, OnOk, OnErr, IsTrue, MatchResult, length, get_or, take, drop, map, nat_eq};
+ghost use Rattle.std.specs.Prelude.{◌≡◌, ℕ, ◌+◌, ◌-◌, ◌*◌, ◌^◌, ◌<◌, ◌≤◌, ◌++◌, codes, List, IfOk, IfErr, OnOk, OnErr, MatchResult, length, get_or, take, drop, map, nat_eq};
 ghost use Rattle.raster_values.specs.PixelType.{bytes_of};
 ghost use Rattle.raster_values.specs.Raster.{IsShape, blank, values_of};
 ghost use Rattle.raster_values.specs.inside.View.{pixels_of};

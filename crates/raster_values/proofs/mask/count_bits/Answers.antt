@@ -1,4 +1,4 @@
-use Rattle.std.proofs.Common.{◌≡◌, ◌-◌, ◌*◌, ◌+◌, ◌/◌, ◌≤◌, take, drop, length, refl, arith}
+use Rattle.std.proofs.Common.{◌-◌, ◌*◌, ◌+◌, ◌/◌, ◌≤◌, take, drop, length, refl, arith}
 use Rattle.std.proofs.lemmas.List.{length-take}
 use Rattle.raster_values.specs.Order.{mask_bit}
 use Rattle.raster_values.proofs.MaskCounts.{count_most}

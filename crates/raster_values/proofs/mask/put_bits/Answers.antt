@@ -1,4 +1,4 @@
-use Rattle.std.proofs.Common.{◌≡◌, ◌-◌, ◌+◌, ◌*◌, ◌/◌, ap, ◌∙◌, refl, take, drop, length, arith}
+use Rattle.std.proofs.Common.{◌≡◌, ◌-◌, ◌+◌, ◌*◌, ◌/◌, ap, ◌∙◌, refl, take, drop, length}
 use Rattle.std.proofs.lemmas.List.{length-take-le, length-drop, take_rest}
 use Rattle.raster_values.specs.inside.Bits.{bit_after}
 use Rattle.raster_values.proofs.MaskBytes.{bits_joined, bits_packed}
