@@ -44,10 +44,10 @@ size_chosen (b ∷ bs) slot (suc at) bundle is =
     let later : chosen_size bs slot ≡ (entry_at bundle slot).size = size_chosen bs slot at bundle (record { there = is.there; some = is.some; last = λ i c above there. is.last (suc i) c (omega (arith, above)) there }) in
     size-cons b bs slot ∙ kept (chosen_size bs slot) (entry_at b slot).size (omega (arith, later, is.some)) ∙ later
   where
+    eqb_no : (n : ℕ) → 0 < n → (n == 0) ≡ false
+    eqb_no n some = elim (cases_Bool (n == 0)) [ inl is ↦ absurd (omega (arith, some, eqb-true n 0 is)) | inr not ↦ not ]
     kept : (n m : ℕ) → 0 < n → (if n == 0 then m else n) ≡ n
     kept n m some = ap (λ (t : Bool). if t then m else n) (eqb_no n some)
-    eqb_no : (n : ℕ) → 0 < n → (n == 0) ≡ false
-    eqb_no n some = elim (cases_Bool (n == 0)) [ inl yes ↦ absurd (omega (arith, some, eqb-true n 0 yes)) | inr no ↦ no ]
 
 -- one entry counts
 pub chosen_number : (bundles : List (List ℕ)) (slot at other : ℕ) (a b : List ℕ) → IsChosen bundles slot at a → IsChosen bundles slot other b → at ≡ other

@@ -68,8 +68,8 @@ get_cause at slot StoreMemory old new same = still _ old new same (λ is. absurd
 get_cause at slot Stopped old new same = still _ old new same (λ is. absurd cc)
 
 -- it is of this source
-pub get_of : {X : Type 0} (at slot i : ℕ) (fault : PackFault) → IsGetFault at slot fault → i ≢ at → ◌≡◌ {A = Result X PackFault} (Err fault) (Err (Source i None Device)) → ⊥
-get_of at slot i fault is other e =
+pub get_of : (X : Type 0) (at slot i : ℕ) (fault : PackFault) → IsGetFault at slot fault → i ≢ at → ◌≡◌ {A = Result X PackFault} (Err fault) (Err (Source i None Device)) → ⊥
+get_of X at slot i fault is other e =
     let same : fault ≡ Source i None Device = cc in
     let number : i ≡ at = subst (λ (f : PackFault). IsGetFault at slot f) same is in
     other number

@@ -26,7 +26,7 @@ eqb_yes : (n : ℕ) → n ≡ 0 → (n == 0) ≡ true
 eqb_yes n is = ap (λ (k : ℕ). k == 0) is
 
 eqb_no : (n : ℕ) → 0 < n → (n == 0) ≡ false
-eqb_no n some = elim (cases_Bool (n == 0)) [ inl yes ↦ absurd (omega (arith, some, eqb-true n 0 yes)) | inr no ↦ no ]
+eqb_no n some = elim (cases_Bool (n == 0)) [ inl is ↦ absurd (omega (arith, some, eqb-true n 0 is)) | inr not ↦ not ]
 
 pub tile_none : (bundle : List ℕ) (slot : ℕ) → slot < 16384 → (entry_at bundle slot).size ≡ 0 → tiles bundle slot ≡ None
 tile_none bundle slot below none = tiles-at bundle slot below ∙ ap (λ (t : Bool). if t then None else Some (take (entry_at bundle slot).size (drop (entry_at bundle slot).offset bundle))) (eqb_yes (entry_at bundle slot).size none)
@@ -64,7 +64,7 @@ merged_more bundles n old new below so (inl (none, same)) slot = (
   ],
   λ le. ap (λ (ts : List TileRec). map_after no_tiles ts slot) same ∙ (so slot).1 (omega (arith, le)),
 )
-merged_more bundles n old new below so (inr (at, (bundle, (tile, (is, (gives, joined)))))) slot =
+merged_more bundles n old new below so (inr (at, (bundle, tile, (is, (gives, joined))))) slot =
     let after : map_after no_tiles new ≡ with_tile n tile (map_after no_tiles old) = ap (map_after no_tiles) joined ∙ after_join no_tiles old ((record { slot = n; bytes = tile }) ∷ []) in (
       λ less. ap (λ (m : TileMap). m slot) after ∙ elim (cases_eq slot n) [
         | inl same ↦
@@ -88,7 +88,7 @@ whole_more bundles n old new so takes slot at bundle less is = elim (cases_lt sl
   where
     within : TakesTile bundles n old new → slot ≡ n → (entry_at bundle slot).offset + (entry_at bundle slot).size ≤ length bundle
     within (inl (none, _)) same = absurd (omega (arith, is.some, none at bundle is.there, ap (λ (k : ℕ). (entry_at bundle k).size) same))
-    within (inr (other, (b, (tile, (chosen, (gives, _)))))) same =
+    within (inr (other, (b, tile, (chosen, (gives, _))))) same =
         let here : IsChosen bundles n at bundle = subst (λ (k : ℕ). IsChosen bundles k at bundle) same is in
         let e : b ≡ bundle = chosen_once bundles n other at b bundle chosen here in
         subst (λ (k : ℕ). (entry_at bundle k).offset + (entry_at bundle k).size ≤ length bundle) (sym same) (subst (λ (c : List ℕ). (entry_at c n).offset + (entry_at c n).size ≤ length c) e gives.within)

@@ -85,19 +85,19 @@ one_fault f a b one two not never = elim (which f a one not) [
 ]
 
 -- a list of files recovers to one list of bundles
-pub all_opened : (files : List Files) (as bs : List (List ℕ)) → AreOpened files as → AreOpened files bs → as ≡ bs
+pub all_opened : (files : List Files) (xs ys : List (List ℕ)) → AreOpened files xs → AreOpened files ys → xs ≡ ys
 all_opened [] [] [] one two = refl
-all_opened [] [] (b ∷ bs) one two = absurd (let no : ⊥ = omega (arith, two.many) in no)
-all_opened [] (a ∷ as) bs one two = absurd (let no : ⊥ = omega (arith, one.many) in no)
-all_opened (f ∷ fs) [] bs one two = absurd (let no : ⊥ = omega (arith, one.many) in no)
-all_opened (f ∷ fs) (a ∷ as) [] one two = absurd (let no : ⊥ = omega (arith, two.many) in no)
-all_opened (f ∷ fs) (a ∷ as) (b ∷ bs) one two =
+all_opened [] [] (b ∷ ys) one two = absurd (let no : ⊥ = omega (arith, two.many) in no)
+all_opened [] (a ∷ xs) ys one two = absurd (let no : ⊥ = omega (arith, one.many) in no)
+all_opened (f ∷ fs) [] ys one two = absurd (let no : ⊥ = omega (arith, one.many) in no)
+all_opened (f ∷ fs) (a ∷ xs) [] one two = absurd (let no : ⊥ = omega (arith, two.many) in no)
+all_opened (f ∷ fs) (a ∷ xs) (b ∷ ys) one two =
     let same : a ≡ b = one_opened f a b (one.each 0 f a refl refl) (two.each 0 f b refl refl) in
-    let rest : as ≡ bs = all_opened fs as bs (later fs as f a one) (later fs bs f b two) in
+    let rest : xs ≡ ys = all_opened fs xs ys (later fs xs f a one) (later fs ys f b two) in
     λ i. same i ∷ rest i
   where
-    later : (fs : List Files) (as : List (List ℕ)) (f : Files) (a : List ℕ) → AreOpened (f ∷ fs) (a ∷ as) → AreOpened fs as
-    later fs as f a all = record { many = omega (arith, all.many); each = λ i g b there is. all.each (suc i) g b there is }
+    later : (fs : List Files) (xs : List (List ℕ)) (f : Files) (a : List ℕ) → AreOpened (f ∷ fs) (a ∷ xs) → AreOpened fs xs
+    later fs xs f a all = record { many = omega (arith, all.many); each = λ i g b there is. all.each (suc i) g b there is }
 
 -- all open, or one is the first that does not
 pub opened_or_not : (files : List Files) (bundles : List (List ℕ)) (at : ℕ) (fault : StoreFault) → AreOpened files bundles → IsFirstUnopened files at fault → (fault ≡ Device → ⊥) → ⊥

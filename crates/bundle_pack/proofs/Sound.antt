@@ -1,5 +1,5 @@
 -- Sound files open, as bundles that hold the maps that they stand for.
-use Rattle.std.proofs.Common.{◌≡◌, ◌×◌, ◌⊎◌, inl, inr, ℕ, suc, ◌<◌, ◌≤◌, List, [], ◌∷◌, length, map, slice_get, Option, Some, None, Result, Ok, Err, refl, sym, ap, subst, ◌∙◌, arith}
+use Rattle.std.proofs.Common.{◌≡◌, ◌⊎◌, inl, inr, ℕ, suc, ◌<◌, ◌≤◌, List, [], ◌∷◌, length, map, slice_get, Option, Some, None, Result, Ok, Err, refl, sym, ap, subst, ◌∙◌, arith}
 use Rattle.std.specs.Prelude.{IfErr}
 use Rattle.std.proofs.lemmas.Option.{slice_get_within}
 use Rattle.bundle_index.specs.Entry.{entry_at}
@@ -37,15 +37,15 @@ use Rattle.bundle_pack.proofs.Volumes.{get_some}
 -- ---- one bundle
 
 by_body : (b : List ℕ) (map : TileMap) (body : Body) → IsOfTiles body → Shows (Open body) b map → IsReadable (with_body body b) × (map ≡ tiles (with_body body b))
-by_body b map (Tile slot entry size header) tiles shows = shows.1
+by_body b map (Tile slot entry size header) tiles shows = (shows.1, shows.2)
 by_body b map Build tiles shows = absurd tiles
-by_body b map (Group entries size header) tiles shows = shows.1
+by_body b map (Group entries size header) tiles shows = (shows.1, shows.2)
 
 -- sound files leave a readable bundle of the map that they stand for
 pub stands_left : (b j : List ℕ) (map : TileMap) (found : Recovery) (left : List ℕ) → StandsFor b j map → Leaves b j found left → IsReadable left × (map ≡ tiles left)
 stands_left b j map Closed left stands (shut, is) = subst (λ (c : List ℕ). IsReadable c × (map ≡ tiles c)) (sym is) (closed_map b j stands.state map shut stands.says stands.shows)
 stands_left b j map Applied left stands (a, is) = subst (λ (c : List ℕ). IsReadable c × (map ≡ tiles c)) (sym is) (by_body b map a.body a.tiles (shows_by b j (Open a.body) map (a.opened, a.says) stands))
-stands_left b j map Emptied left stands (opened, (says, is)) =
+stands_left b j map Emptied left stands (opened, says, is) =
     subst (λ (c : List ℕ). IsReadable c × (map ≡ tiles c)) (sym is) (inl refl, shows_by b j (Open Build) map (opened, says) stands ∙ sym tiles_empty)
 
 too_short : (b : List ℕ) (map : TileMap) (body : Body) → IsOfTiles body → Shows (Open body) b map → size_in body ≤ length b

@@ -1,7 +1,8 @@
 -- From what one step says and leaves to what the whole does.
-use Rattle.std.proofs.Common.{◌≡◌, ◌≢◌, ◌×◌, ◌⊎◌, inl, inr, ℕ, ◌<◌, ◌≤◌, List, [], length, Option, Some, None, Result, Ok, Err, Bool, IsTrue, Unit, refl, sym, ap, subst, ◌∙◌, arith}
+use Rattle.std.proofs.Common.{◌≡◌, ◌≢◌, ◌⊎◌, inl, inr, ℕ, ◌<◌, ◌≤◌, List, [], length, Option, Some, None, Result, Ok, Err, Bool, IsTrue, refl, sym, ap, subst, ◌∙◌, arith}
 use Rattle.std.specs.Prelude.{All, IfErr, Vec}
 use Rattle.std.specs.declared.alloc.Global.{Global}
+use Rattle.std.proofs.lemmas.Option.{slice_get_within}
 use Rattle.outside_io.specs.streams.Faults.{IsCause}
 use Rattle.outside_io.specs.volume.History.{History}
 use Rattle.bundle_store.specs.declared.fault.StoreFault.{StoreFault}
@@ -21,7 +22,7 @@ use Rattle.bundle_pack.specs.declared.fault.PackFault.TheVariants.{Source, Targe
 use Rattle.bundle_pack.specs.inside.Collecting.{IsGetFault, IsStill, ReadSays, TilesSay}
 use Rattle.bundle_pack.specs.inside.Turns.{OpenAnswers, OpeningSays, TargetAnswers}
 use Rattle.bundle_pack.proofs.Reading.{moved_still}
-use Rattle.bundle_pack.proofs.Volumes.{each_join, each_map, still}
+use Rattle.bundle_pack.proofs.Volumes.{all_of, each_join, each_map, get_some, still, told_at}
 
 -- ---- answers
 
@@ -170,12 +171,12 @@ said_unopened sources at (NotEmpty len) first = first
 said_unopened sources at StoreMemory first = first
 said_unopened sources at Stopped first = first
 
-pub read_unopened : {X : Type 0} (sources : List Files) (fault : PackFault) (bundles : List (List ℕ)) → OpeningSays {X} sources (Err fault) bundles → ReadSays sources (Err fault)
-read_unopened sources (Source at None fault) bundles says = said_unopened sources at fault says
-read_unopened sources (Source at (Some slot) fault) bundles says = absurd says
-read_unopened sources (Target fault) bundles says = absurd says
-read_unopened sources (KeptTooMuch len) bundles says = absurd says
-read_unopened sources OutOfMemory bundles says = tt
+pub read_unopened : (X : Type 0) (sources : List Files) (fault : PackFault) (bundles : List (List ℕ)) → OpeningSays {X = X} sources (Err fault) bundles → ReadSays sources (Err fault)
+read_unopened X sources (Source at None fault) bundles says = said_unopened sources at fault says
+read_unopened X sources (Source at (Some slot) fault) bundles says = absurd says
+read_unopened X sources (Target fault) bundles says = absurd says
+read_unopened X sources (KeptTooMuch len) bundles says = absurd says
+read_unopened X sources OutOfMemory bundles says = tt
 
 pub read_tiles : (sources : List Files) (bundles : List (List ℕ)) (r : Result (Vec TileRec Global) PackFault) → AreTaken sources bundles → TilesSay bundles r → ReadSays sources r
 read_tiles sources bundles (Ok tiles) taken (whole, is) = (bundles, (record { taken = taken; whole = whole }, is))
@@ -204,3 +205,10 @@ read_tiles sources bundles (Err (Source at (Some slot) Stopped)) taken says = ab
 read_tiles sources bundles (Err (Target fault)) taken says = absurd says
 read_tiles sources bundles (Err (KeptTooMuch len)) taken says = absurd says
 read_tiles sources bundles (Err OutOfMemory) taken says = tt
+
+-- what is told of all stays told
+pub moved_told : {V : Type 0} (told : V → Bool) (history : V → History) (faults : V → ℕ) (failed : ℕ → Type 0) (old new : List V)
+    → Each (λ i v w. SourceMoves told history faults (failed i) v w) old new → All (λ v. IsTrue (told v)) old → All (λ v. IsTrue (told v)) new
+moved_told told history faults failed old new so all = all_of (λ v. IsTrue (told v)) new (λ i w then.
+    let v = get_some old i (omega (arith, so.many, slice_get_within new i w then)) in
+    subst (λ b. IsTrue b) (sym (so.each i v.0 w v.1 then).kept.told_same) (told_at told old i v.0 all v.1))

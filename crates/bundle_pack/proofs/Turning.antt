@@ -189,30 +189,30 @@ turn_stops told history faults sessions at old mid x y s result is there kept co
     no_failure i e = absurd cc
 
 -- the first that does not open
-first_of : {X : Type 0} (at : ℕ) (files : List Files) (file : Files) (fault : StoreFault) (bundles : List (List ℕ)) (left : List ℕ) → slice_get files at ≡ Some file → ((i : ℕ) (f : Files) → i < at → slice_get files i ≡ Some f → (b : List ℕ) × OpensAs f b)
-    → OpenSays file (Err fault) left → OpeningSays {X} files (Err (source_fault_of at fault)) bundles
-first_of at files file Device bundles left there before says = record { file = file; there = there; fails = says; before = before }
-first_of at files file (BadBundle place found) bundles left there before says = record { file = file; there = there; fails = says; before = before }
-first_of at files file (BadJournal place found) bundles left there before says = record { file = file; there = there; fails = says; before = before }
-first_of at files file NoTile bundles left there before says = absurd says
-first_of at files file (Beyond entry got) bundles left there before says = absurd says
-first_of at files file (TileTooLarge place len) bundles left there before says = absurd says
-first_of at files file (EmptyTile place) bundles left there before says = absurd says
-first_of at files file (Full len) bundles left there before says = absurd says
-first_of at files file (NotEmpty len) bundles left there before says = absurd says
-first_of at files file OutOfMemory bundles left there before says = tt
-first_of at files file Stopped bundles left there before says = absurd says
+first_of : (X : Type 0) (at : ℕ) (files : List Files) (file : Files) (fault : StoreFault) (bundles : List (List ℕ)) (left : List ℕ) → slice_get files at ≡ Some file → ((i : ℕ) (f : Files) → i < at → slice_get files i ≡ Some f → (b : List ℕ) × OpensAs f b)
+    → OpenSays file (Err fault) left → OpeningSays {X = X} files (Err (source_fault_of at fault)) bundles
+first_of X at files file Device bundles left there before says = record { file = file; there = there; fails = says; before = before }
+first_of X at files file (BadBundle place found) bundles left there before says = record { file = file; there = there; fails = says; before = before }
+first_of X at files file (BadJournal place found) bundles left there before says = record { file = file; there = there; fails = says; before = before }
+first_of X at files file NoTile bundles left there before says = absurd says
+first_of X at files file (Beyond entry got) bundles left there before says = absurd says
+first_of X at files file (TileTooLarge place len) bundles left there before says = absurd says
+first_of X at files file (EmptyTile place) bundles left there before says = absurd says
+first_of X at files file (Full len) bundles left there before says = absurd says
+first_of X at files file (NotEmpty len) bundles left there before says = absurd says
+first_of X at files file OutOfMemory bundles left there before says = tt
+first_of X at files file Stopped bundles left there before says = absurd says
 
 -- the first that does not open, those before it being opened
-pub first_unopened : {V X : Type 0} (told : V → Bool) (history : V → History) (faults : V → ℕ) (sessions : List SessionState) (at : ℕ) (old mid : List V) (x : V) (fault : StoreFault) (bundles : List (List ℕ)) (left : List ℕ)
+pub first_unopened : {V : Type 0} (X : Type 0) (told : V → Bool) (history : V → History) (faults : V → ℕ) (sessions : List SessionState) (at : ℕ) (old mid : List V) (x : V) (fault : StoreFault) (bundles : List (List ℕ)) (left : List ℕ)
     → All (λ v. IsTrue (told v)) old → slice_get mid at ≡ Some x → Each (IsTurn told history faults sessions at) old mid → (IsTrue (told x) → OpenSays (files_in (history x)) (Err fault) left)
-    → OpeningSays {X} (all_files history old) (Err (source_fault_of at fault)) bundles
-first_unopened told history faults sessions at old mid x fault bundles left all there so says =
+    → OpeningSays {X = X} (all_files history old) (Err (source_fault_of at fault)) bundles
+first_unopened X told history faults sessions at old mid x fault bundles left all there so says =
     let v = get_some old at (omega (arith, so.many, slice_get_within mid at x there)) in
     let same : x ≡ v.0 = (so.each at v.0 x v.1 there).rest (omega arith) in
     let tells : IsTrue (told x) = subst (λ a. IsTrue (told a)) (sym same) (told_at told old at v.0 all v.1) in
     let file : slice_get (all_files history old) at ≡ Some (files_in (history x)) = map_at (λ a. files_in (history a)) old at v.0 v.1 ∙ ap (λ a. Some (files_in (history a))) (sym same) in
-    first_of at (all_files history old) (files_in (history x)) fault bundles left file (λ i f less is.
+    first_of X at (all_files history old) (files_in (history x)) fault bundles left file (λ i f less is.
         let u = from_map (λ a. files_in (history a)) old i f is in
         let w = get_some mid i (omega (arith, so.many, slice_get_within old i u.0 u.1.0)) in
         let t = (so.each i u.0 w.0 u.1.0 w.1).turned less in

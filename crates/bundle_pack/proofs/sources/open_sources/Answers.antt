@@ -1,4 +1,6 @@
-use Rattle.std.proofs.Common.{◌≡◌, ◌++◌, ◌∷◌, [], List, length, Result, Ok, Err, refl, subst, sym, ap, ◌∙◌, get_or, arith}
+use Rattle.std.proofs.Common.{◌≡◌, ◌+◌, ◌++◌, ◌∷◌, [], List, length, Result, Ok, Err, refl, subst, sym, ap, ◌∙◌, slice_set, arith}
+use Rattle.std.specs.Prelude.{Vec}
+use Rattle.std.specs.declared.alloc.Global.{Global}
 use Rattle.std.proofs.lemmas.List.{length-append}
 use Rattle.std.proofs.lemmas.Option.{slice_get-get_or}
 use Rattle.outside_io.specs.volume.History.{contents}
@@ -15,7 +17,12 @@ use Rattle.bundle_pack.proofs.sources.open_sources.Goals as goal
 pub loop-at-init : goal.loop-at-init
 loop-at-init g c =
     let vol = g.V.Volume in
-    record { end = refl; pushed = refl; turns = turn_none vol.told vol.history vol.faults c.args.from.now (λ i v. images_same vol.told vol.history v) }
+    record {
+      end = refl;
+      pushed = ap length c.new-sessions.ensures.items;
+      turns = subst (λ (ss : List SessionState). Each (IsTurn vol.told vol.history vol.faults ss 0) c.args.from.now c.args.from.now) (sym c.new-sessions.ensures.items)
+          (turn_none vol.told vol.history vol.faults c.args.from.now (λ i v. images_same vol.told vol.history v));
+    }
 
 pub loop-at-preserved : goal.loop-at-preserved
 loop-at-preserved g c =
@@ -26,7 +33,7 @@ loop-at-preserved g c =
     record {
       end = inv.end;
       pushed = ap length items ∙ length-append c.loop-at.sessions.items (c.in-Ok.session ∷ []) ∙ omega (arith, inv.pushed);
-      turns = subst (λ (ss : List SessionState). Each (IsTurn vol.told vol.history vol.faults ss (c.loop-at.at + 1)) c.args.from.now _) (sym items)
+      turns = subst (λ (ss : List SessionState). Each (IsTurn vol.told vol.history vol.faults ss (c.loop-at.at + 1)) c.args.from.now (slice_set c.loop-at.from c.loop-at.at c.open_one.new.vol)) (sym items)
           (turn_more vol.told vol.history vol.faults c.loop-at.sessions.items c.loop-at.at c.args.from.now c.loop-at.from _ c.open_one.new.vol c.in-Ok.session inv.pushed there c.open_one.ensures.kept c.in-Ok.ensures.counted
           (record { running = c.in-Ok.ensures.running; opens = c.in-Ok.ensures.says; left = c.in-Ok.ensures.left }) inv.turns);
     }
@@ -50,7 +57,7 @@ returns-in-Err-clause-says g c = λ all.
     let vol = g.V.Volume in
     let inv = c.loop-at.invariant in
     let there = slice_get-get_or c.loop-at.from c.loop-at.at c.index-from-at.result (omega (arith, inv.end, inv.turns.many)) in
-    rw c.source_fault.ensures (first_unopened vol.told vol.history vol.faults c.loop-at.sessions.items c.loop-at.at c.args.from.now c.loop-at.from _ c.in-Err.fault _ _ all there inv.turns c.in-Err.ensures.says)
+    rw c.source_fault.ensures (first_unopened (Vec SessionState Global) vol.told vol.history vol.faults c.loop-at.sessions.items c.loop-at.at c.args.from.now c.loop-at.from _ c.in-Err.fault _ _ all there inv.turns c.in-Err.ensures.says)
 
 pub returns-in-Err-clause-answers : goal.returns-in-Err-clause-answers
 returns-in-Err-clause-answers g c =

@@ -1,0 +1,47 @@
+use Rattle.std.proofs.Common.{◌≡◌, ◌≤◌, Ok, Err, List, ℕ, refl, subst, sym, ap, ◌∙◌, arith}
+use Rattle.std.specs.Prelude.{Vec}
+use Rattle.std.specs.declared.alloc.Global.{Global}
+use Rattle.bundle_store.specs.Session.{SessionState}
+use Rattle.bundle_pack.specs.Chosen.{chosen_bytes}
+use Rattle.bundle_pack.specs.Files.{all_bundles, all_files}
+use Rattle.bundle_pack.specs.Sources.{DeviceAt}
+use Rattle.bundle_pack.specs.inside.Collecting.{AreServed}
+use Rattle.bundle_pack.proofs.Reading.{served}
+use Rattle.bundle_pack.proofs.Steps.{all_moved, err_as, moved_told, opened_still, read_tiles}
+use Rattle.bundle_pack.proofs.packing.read_sources.Goals as goal
+
+pub returns-in-Err-clause-sources : goal.returns-in-Err-clause-sources
+returns-in-Err-clause-sources g c =
+    let vol = g.V.Volume in
+    let fault = c.in-Err.fault in
+    all_moved {X = Vec SessionState Global} vol.told vol.history vol.faults c.args.from.now c.open_sources.new.from (Err fault) _ (λ i is. err_as fault _ is) (λ i is. err_as fault _ is) c.in-Err.ensures.sources
+
+pub returns-then-len-gt1073741824-clause-sources : goal.returns-then-len-gt1073741824-clause-sources
+returns-then-len-gt1073741824-clause-sources g c =
+    let vol = g.V.Volume in
+    all_moved {X = Vec SessionState Global} vol.told vol.history vol.faults c.args.from.now c.open_sources.new.from (Ok c.in-Ok.sessions) _ (λ i is. absurd cc) (λ i is. absurd cc) c.in-Ok.ensures.sources
+
+pub returns-then-len-gt1073741824-clause-says : goal.returns-then-len-gt1073741824-clause-says
+returns-then-len-gt1073741824-clause-says g c = λ all.
+    let vol = g.V.Volume in
+    let from = c.open_sources.new.from in
+    let bundles = all_bundles vol.history from in
+    let told = moved_told vol.told vol.history vol.faults (λ i. DeviceAt {X = Vec SessionState Global} (Ok c.in-Ok.sessions) i) c.args.from.now from c.in-Ok.ensures.sources all in
+    let all_served = subst (λ (ss : List SessionState). AreServed ss bundles) (sym c.as_slice.ensures.value) (served vol.told vol.history c.in-Ok.sessions.items from c.in-Ok.ensures.serving told) in
+    (bundles, (c.in-Ok.ensures.says all, (c.bytes_of_chosen-len.ensures bundles all_served, c.if-len-gt1073741824.true)))
+
+pub returns-clause-sources : goal.returns-clause-sources
+returns-clause-sources g c =
+    let vol = g.V.Volume in
+    opened_still {X = Vec SessionState Global} vol.told vol.history vol.faults c.args.from.now c.open_sources.new.from c.collect_tiles.new.from (Ok c.in-Ok.sessions) c.collect_tiles.result (λ i is. absurd cc) c.in-Ok.ensures.sources c.collect_tiles.ensures.still
+
+pub returns-clause-says : goal.returns-clause-says
+returns-clause-says g c = λ all.
+    let vol = g.V.Volume in
+    let from = c.open_sources.new.from in
+    let bundles = all_bundles vol.history from in
+    let told = moved_told vol.told vol.history vol.faults (λ i. DeviceAt {X = Vec SessionState Global} (Ok c.in-Ok.sessions) i) c.args.from.now from c.in-Ok.ensures.sources all in
+    let all_served = subst (λ (ss : List SessionState). AreServed ss bundles) (sym c.as_slice.ensures.value) (served vol.told vol.history c.in-Ok.sessions.items from c.in-Ok.ensures.serving told) in
+    let sum = c.bytes_of_chosen-len.ensures bundles all_served in
+    let few : chosen_bytes bundles 16384 ≤ 1073741824 = omega (arith, sum, c.if-len-gt1073741824.false) in
+    read_tiles (all_files vol.history c.args.from.now) bundles c.collect_tiles.result (record { opened = c.in-Ok.ensures.says all; few = few }) (c.collect_tiles.ensures.says told)
