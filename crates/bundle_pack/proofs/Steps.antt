@@ -19,7 +19,7 @@ use Rattle.bundle_pack.specs.Refusals.{OpeningAnswers, PackFails, source_fault_o
 use Rattle.bundle_pack.specs.Sources.{DeviceAt, Each, SourceMoves}
 use Rattle.bundle_pack.specs.declared.fault.PackFault.{PackFault}
 use Rattle.bundle_pack.specs.declared.fault.PackFault.TheVariants.{Source, Target, KeptTooMuch, OutOfMemory}
-use Rattle.bundle_pack.specs.inside.Collecting.{IsGetFault, IsStill, ReadSays, TilesSay}
+use Rattle.bundle_pack.specs.inside.Collecting.{IsGetFault, IsStill, ReadFails, ReadSays, TilesSay}
 use Rattle.bundle_pack.specs.inside.Turns.{OpenAnswers, OpeningSays, TargetAnswers}
 use Rattle.bundle_pack.proofs.Reading.{moved_still}
 use Rattle.bundle_pack.proofs.Volumes.{all_of, each_join, each_map, get_some, still, told_at}
@@ -81,14 +81,14 @@ opening_answers at count (NotEmpty len) less fails = absurd fails
 opening_answers at count StoreMemory less fails = tt
 opening_answers at count Stopped less fails = absurd fails
 
-pub opening_fails : (count : ℕ) (fault : PackFault) → OpeningAnswers count fault → PackFails count fault
+pub opening_fails : (count : ℕ) (fault : PackFault) → OpeningAnswers count fault → ReadFails count fault
 opening_fails count (Source at None fault) fails = fails
 opening_fails count (Source at (Some slot) fault) fails = absurd fails
 opening_fails count (Target fault) fails = absurd fails
 opening_fails count (KeptTooMuch len) fails = absurd fails
 opening_fails count OutOfMemory fails = tt
 
-pub get_fails : (at slot count : ℕ) (fault : PackFault) → at < count → slot < 16384 → IsGetFault at slot fault → PackFails count fault
+pub get_fails : (at slot count : ℕ) (fault : PackFault) → at < count → slot < 16384 → IsGetFault at slot fault → ReadFails count fault
 get_fails at slot count (Source number None Device) less below is = (omega (arith, less, is), tt)
 get_fails at slot count (Source number None (BadBundle place found)) less below is = absurd is
 get_fails at slot count (Source number None (BadJournal place found)) less below is = absurd is
@@ -114,6 +114,16 @@ get_fails at slot count (Source number (Some s) Stopped) less below is = absurd 
 get_fails at slot count (Target fault) less below is = absurd is
 get_fails at slot count (KeptTooMuch len) less below is = absurd is
 get_fails at slot count OutOfMemory less below is = tt
+
+pub read_fails : (count : ℕ) (fault : PackFault) → ReadFails count fault → PackFails count fault
+read_fails count (Source at slot fault) fails = fails
+read_fails count (Target fault) fails = absurd fails
+read_fails count (KeptTooMuch len) fails = fails
+read_fails count OutOfMemory fails = tt
+
+-- it is none of the target
+pub not_target : (X : Type 0) (count : ℕ) (fault : PackFault) (of : StoreFault) → ReadFails count fault → ◌≡◌ {A = Result X PackFault} (Err fault) (Err (Target of)) → ⊥
+not_target X count fault of fails e = let same : fault ≡ Target of = cc in subst (ReadFails count) same fails
 
 pub target_fails : (count : ℕ) (fault : StoreFault) → TargetAnswers fault → PackFails count (target_fault_of fault)
 target_fails count (NotEmpty len) fails = fails

@@ -7,9 +7,8 @@ ghost use Rattle.bundle_index.specs.Sizes.{slot_count};
 ghost use Rattle.bundle_store.specs.Build.{EachFits};
 ghost use Rattle.bundle_store.specs.Session.{Serves};
 ghost use Rattle.bundle_pack.specs.Files.{all_bundles};
-ghost use Rattle.bundle_pack.specs.Refusals.{PackFails};
 ghost use Rattle.bundle_pack.specs.Sources.{DeviceAt, Each, IsServing};
-ghost use Rattle.bundle_pack.specs.inside.Collecting.{GetSays, IsGetFault, IsStill, TakesTile, TileSays, TilesSay};
+ghost use Rattle.bundle_pack.specs.inside.Collecting.{GetSays, IsGetFault, IsStill, ReadFails, TakesTile, TileSays, TilesSay};
 
 use crate::PackFault;
 use crate::chosen::chosen;
@@ -60,7 +59,7 @@ fn take_tile<V: Volume>(
         (all_bundles V.history from.old) number tiles.old.items tiles.new.items) }
     ensures says { All (λ v. IsTrue (V.told v)) from.old → IfErr result (λ f. TileSays
         (all_bundles V.history from.old) number f) }
-    ensures answers { IfErr result (λ f. PackFails (length from.old) f) }
+    ensures answers { IfErr result (λ f. ReadFails (length from.old) f) }
 {
     let Some(slot) = Slot::of_number(number) else {
         return Ok(());
@@ -91,7 +90,7 @@ pub(crate) fn collect_tiles<V: Volume>(
     ensures fits { IfOk result (λ tiles. EachFits tiles.items) }
     ensures says { All (λ v. IsTrue (V.told v)) from.old → TilesSay
         (all_bundles V.history from.old) result }
-    ensures answers { IfErr result (λ f. PackFails (length from.old) f) }
+    ensures answers { IfErr result (λ f. ReadFails (length from.old) f) }
 {
     let mut tiles = Vec::new(alloc);
     for number in 0..SLOT_COUNT {

@@ -5,7 +5,6 @@ ghost use Rattle.bundle_pack.specs.Refusals.{source_fault_of, target_fault_of, t
 
 use bundle_index::Slot;
 use bundle_store::StoreFault;
-use std::alloc::AllocError;
 
 /// Why packing refuses.
 #[derive(Clone, Copy, Debug, PartialEq, Eq)]
@@ -23,17 +22,6 @@ pub enum PackFault {
     KeptTooMuch { len: u64 },
     /// Memory was refused.
     OutOfMemory,
-}
-
-impl From<AllocError> for PackFault {
-    ghost use Rattle.std.specs.Prelude.{◌≡◌};
-    ghost use Rattle.bundle_pack.specs.declared.fault.PackFault.TheVariants.{OutOfMemory};
-
-    ghost from_gives = { λ _ e. e ≡ OutOfMemory };
-
-    fn from(_: AllocError) -> PackFault {
-        PackFault::OutOfMemory
-    }
 }
 
 /// The fault of a source that is opened.

@@ -13,7 +13,7 @@ ghost use Rattle.bundle_pack.specs.Merged.{StandFor};
 ghost use Rattle.bundle_pack.specs.Packing.{HoldsMerged, IsOfSound, IsOfSources, PackSays, PacksMaps, TargetKeeps};
 ghost use Rattle.bundle_pack.specs.Refusals.{PackFails};
 ghost use Rattle.bundle_pack.specs.Sources.{DeviceAt, Each, SourceMoves};
-ghost use Rattle.bundle_pack.specs.inside.Collecting.{ReadSays};
+ghost use Rattle.bundle_pack.specs.inside.Collecting.{ReadFails, ReadSays};
 
 use crate::PackFault;
 use crate::chosen::bytes_of_chosen;
@@ -41,7 +41,7 @@ fn read_sources<V: Volume>(alloc: Global, from: &mut [V]) -> Result<Vec<TileRec>
     ensures fits { IfOk result (λ tiles. EachFits tiles.items) }
     ensures says { All (λ v. IsTrue (V.told v)) from.old → ReadSays
         (all_files V.history from.old) result }
-    ensures answers { IfErr result (λ f. PackFails (length from.old) f) }
+    ensures answers { IfErr result (λ f. ReadFails (length from.old) f) }
 {
     let sessions = match open_sources(alloc, from) {
         Ok(sessions) => sessions,
@@ -91,7 +91,10 @@ pub fn pack<V: Volume, W: Volume>(
         Ok(tiles) => tiles,
         Err(fault) => return Err(fault),
     };
-    let size = built_size(alloc, tiles.as_slice())?;
+    let size = match built_size(alloc, tiles.as_slice()) {
+        Ok(size) => size,
+        Err(_) => return Err(PackFault::OutOfMemory),
+    };
     match write_target(alloc, to, tiles.as_slice()) {
         Ok(()) => Ok(PackReport {
             tiles: size.tiles,

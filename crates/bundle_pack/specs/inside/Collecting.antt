@@ -13,6 +13,7 @@ use Rattle.bundle_store.specs.Tiles.{TileMap, no_tiles}
 use Rattle.opened_bundle.specs.Files.{Files}
 use Rattle.bundle_pack.specs.Chosen.{AreWhole, IsChosen}
 use Rattle.bundle_pack.specs.Packing.{AreRead, IsFirstBeyond, IsUnread, PackSays, merged_tiles}
+use Rattle.bundle_pack.specs.Refusals.{PackFails}
 use Rattle.bundle_pack.specs.declared.chosen.Choice.{Choice}
 use Rattle.bundle_pack.specs.declared.fault.PackFault.{PackFault}
 use Rattle.bundle_pack.specs.declared.fault.PackFault.TheVariants.{Source, Target, OutOfMemory}
@@ -70,6 +71,11 @@ TileSays bundles slot (Source at None store.Device) =
     (bundle : List ℕ) × IsChosen bundles slot at bundle
 TileSays bundles slot OutOfMemory = Unit {0}
 TileSays bundles slot _ = ⊥
+
+-- a refusal of the sources, of whatever volumes: none is of the target
+abbrev pub ReadFails : ℕ → PackFault → Type 0
+ReadFails count (Target fault) = ⊥
+ReadFails count fault = PackFails count fault
 
 abbrev pub no_files : Files
 no_files = record { bundle = []; journal = [] }

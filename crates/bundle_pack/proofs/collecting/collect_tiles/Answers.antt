@@ -4,9 +4,8 @@ use Rattle.bundle_store.specs.Build.{EachFits, map_after}
 use Rattle.bundle_store.specs.Tiles.{no_tiles}
 use Rattle.bundle_pack.specs.Chosen.{AreWhole}
 use Rattle.bundle_pack.specs.Files.{all_bundles}
-use Rattle.bundle_pack.specs.Refusals.{PackFails}
 use Rattle.bundle_pack.specs.Sources.{DeviceAt}
-use Rattle.bundle_pack.specs.inside.Collecting.{IsMergedBelow, TakesTile, TileSays}
+use Rattle.bundle_pack.specs.inside.Collecting.{IsMergedBelow, ReadFails, TakesTile, TileSays}
 use Rattle.bundle_pack.proofs.Getting.{tiles_refused}
 use Rattle.bundle_pack.proofs.Merging.{all_merged, merged_more, merged_start, whole_more}
 use Rattle.bundle_pack.proofs.Reading.{still_all, still_bundles, still_last, still_more, still_none, still_serving, still_told}
@@ -65,7 +64,7 @@ returns-in-Err-clause-says g c = λ all.
     tiles_refused bundles n c.in-Err.fault (omega arith) (inv.so all).0 says
 
 pub returns-in-Err-clause-answers : goal.returns-in-Err-clause-answers
-returns-in-Err-clause-answers g c = subst (λ (n : ℕ). PackFails n c.in-Err.fault) c.loop-number.invariant.still.many c.in-Err.ensures.answers
+returns-in-Err-clause-answers g c = subst (λ (n : ℕ). ReadFails n c.in-Err.fault) c.loop-number.invariant.still.many c.in-Err.ensures.answers
 
 pub returns-clause-still : goal.returns-clause-still
 returns-clause-still g c =

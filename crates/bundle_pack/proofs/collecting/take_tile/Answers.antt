@@ -6,7 +6,7 @@ use Rattle.bundle_pack.specs.declared.fault.PackFault.{PackFault}
 use Rattle.bundle_pack.specs.inside.Collecting.{IsChoice, TakesTile, TileSays}
 use Rattle.bundle_pack.proofs.Getting.{chosen_bundle, get_of, tile_said}
 use Rattle.bundle_pack.proofs.Reading.{served, still_turn}
-use Rattle.bundle_pack.proofs.Steps.{err_as, still_map}
+use Rattle.bundle_pack.proofs.Steps.{err_as, get_fails, still_map}
 use Rattle.bundle_pack.proofs.Volumes.{told_at}
 use Rattle.bundle_pack.proofs.collecting.take_tile.Goals.{in-Ok, in-Err-push}
 use Rattle.bundle_pack.proofs.collecting.take_tile.Goals as goal
@@ -108,3 +108,9 @@ returns-in-Err-clause-says g c = λ all.
     let chosen = chosen_bundle vol.history c.args.from.now c.in-Some.slot choice _ there (c.in-Some-chosen.ensures.is bundles all_served) in
     let tells = told_at vol.told c.args.from.now choice.at _ all there in
     subst (λ (k : ℕ). TileSays bundles k c.in-Err.fault) c.in-Some.ensures.some (tile_said bundles c.in-Some.slot choice.at _ c.in-Err.fault chosen c.in-Err.ensures.answers (c.in-Err.ensures.says tells))
+
+pub returns-in-Err-clause-answers : goal.returns-in-Err-clause-answers
+returns-in-Err-clause-answers g c =
+    let at = c.in-Some-chosen.choice.at in
+    let less : at < length c.args.from.now = omega (arith, c.in-Some-chosen.ensures.within, c.requires.serving.many) in
+    get_fails at c.in-Some.slot (length c.args.from.now) c.in-Err.fault less (omega (arith, c.in-Some.ensures.some, c.requires.number)) c.in-Err.ensures.answers

@@ -1,13 +1,13 @@
-use Rattle.std.proofs.Common.{◌≡◌, ◌≤◌, Ok, Err, List, ℕ, refl, subst, sym, ap, ◌∙◌, arith}
-use Rattle.std.specs.Prelude.{Vec}
+use Rattle.std.proofs.Common.{◌≡◌, ◌≤◌, Ok, Err, List, ℕ, length, refl, subst, sym, ap, ◌∙◌, arith}
+use Rattle.std.specs.Prelude.{IfErr, Vec}
 use Rattle.std.specs.declared.alloc.Global.{Global}
 use Rattle.bundle_store.specs.Session.{SessionState}
 use Rattle.bundle_pack.specs.Chosen.{chosen_bytes}
 use Rattle.bundle_pack.specs.Files.{all_bundles, all_files}
 use Rattle.bundle_pack.specs.Sources.{DeviceAt}
-use Rattle.bundle_pack.specs.inside.Collecting.{AreServed}
+use Rattle.bundle_pack.specs.inside.Collecting.{AreServed, ReadFails}
 use Rattle.bundle_pack.proofs.Reading.{served}
-use Rattle.bundle_pack.proofs.Steps.{all_moved, err_as, moved_told, opened_still, read_tiles}
+use Rattle.bundle_pack.proofs.Steps.{all_moved, err_as, opening_fails, moved_told, opened_still, read_tiles}
 use Rattle.bundle_pack.proofs.packing.read_sources.Goals as goal
 
 pub returns-in-Err-clause-sources : goal.returns-in-Err-clause-sources
@@ -45,3 +45,9 @@ returns-clause-says g c = λ all.
     let sum = c.bytes_of_chosen-len.ensures bundles all_served in
     let few : chosen_bytes bundles 16384 ≤ 1073741824 = omega (arith, sum, c.if-len-gt1073741824.false) in
     read_tiles (all_files vol.history c.args.from.now) bundles c.collect_tiles.result (record { opened = c.in-Ok.ensures.says all; few = few }) (c.collect_tiles.ensures.says told)
+
+pub returns-in-Err-clause-answers : goal.returns-in-Err-clause-answers
+returns-in-Err-clause-answers g c = opening_fails (length c.args.from.now) c.in-Err.fault c.in-Err.ensures.answers
+
+pub returns-clause-answers : goal.returns-clause-answers
+returns-clause-answers g c = subst (λ (n : ℕ). IfErr c.collect_tiles.result (λ f. ReadFails n f)) c.in-Ok.ensures.sources.many c.collect_tiles.ensures.answers
