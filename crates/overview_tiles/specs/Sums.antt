@@ -1,6 +1,6 @@
 -- What a mosaic keeps of the tiles that were laid into it: of each pixel of the half, how many of
 -- its four are valid, and the sum of their values at each depth.
-use Rattle.std.specs.Prelude.{◌≡◌, ℕ, ℤ, pos, ◌+◌, ◌*◌, ◌<◌, Bool, true, List, [], length, get_or, IfSome, is_some, All}
+use Rattle.std.specs.Prelude.{◌≡◌, ℕ, ℤ, pos, ◌+◌, ◌*◌, ◌<◌, Bool, true, List, [], length, get_or, replicate, IfSome, is_some, All}
 use Rattle.raster_values.specs.declared.kind.PixelType.{PixelType}
 use Rattle.raster_values.specs.Raster.{Pixels}
 use Rattle.raster_values.specs.Bands.{AreBands}
@@ -14,6 +14,11 @@ pub record Sums : Type 0 where
 
 abbrev pub no_sums : Sums
 no_sums = record { counts = []; sums = [] }
+
+-- the numbers of so many pixels of so many depths, of which none is valid
+abbrev pub zero_sums : ℕ → ℕ → Sums
+zero_sums places depth =
+    record { counts = replicate places 0; sums = replicate (places * depth) (pos 0) }
 
 -- A mosaic: the type and the shape that each quarter has, which quarters were laid, and the numbers
 -- of each band.

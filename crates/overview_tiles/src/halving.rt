@@ -3,11 +3,11 @@
 ghost use Rattle.std.specs.Prelude.{◌≡◌, ℕ, pos, ◌+◌, ◌*◌, ◌/◌, ◌<◌, ◌≤◌, All, IfOk, None, get_or, length};
 ghost use Rattle.raster_values.specs.declared.kind.PixelType.{PixelType as Kind};
 ghost use Rattle.raster_values.specs.PixelType.{InRange};
-ghost use Rattle.raster_values.specs.Raster.{IsShape};
+ghost use Rattle.raster_values.specs.Raster.{IsRaster, IsShape};
 ghost use Rattle.overview_tiles.specs.inside.Means.{Counted, Fills, HasMeans, HaveMeans, mean_at};
 
 use super::layer::Layer;
-use super::mean::mean;
+use super::mean::mean_or_zero;
 use raster_values::{PixelType, Raster};
 use std::alloc::{AllocError, Global};
 
@@ -20,12 +20,13 @@ fn mark_row(raster: &mut Raster, row: u32, counts: &[u8])
     requires count { length counts.now ≡ raster.old.cols }
     requires none { (i : ℕ) → i < raster.old.cols
         → get_or raster.old.pixels (row * raster.old.cols + i) None ≡ None }
-    ensures { Counted (row * raster.old.cols) (length counts.now) counts.now
+    ensures { Counted (row * raster.old.cols) raster.old.cols counts.now
         raster.old raster.new }
 {
-    for (col, count) in counts.iter().enumerate() {
-        if *count > 0 {
-            raster.mark(row, col as u32, true);
+    for col in 0..raster.cols() {
+        let count = counts[col as usize];
+        if count > 0 {
+            raster.mark(row, col, true);
         }
     }
 }
@@ -60,28 +61,25 @@ fn means(counts: &[u8], sums: &[i64], depth: usize, d: usize, place: usize, out:
         → All (InRange kind) out.new }
 {
     for (i, value) in out.iter_mut().enumerate() {
-        let count = counts[place + i];
-        *value = if count > 0 {
-            mean(sums[(place + i) * depth + d], count)
-        } else {
-            0
-        };
+        *value = mean_or_zero(sums[(place + i) * depth + d], counts[place + i]);
     }
 }
 
-/// Gives the valid ones among the pixels from number `place` on their means at each depth. The room
+/// Gives the valid ones among `count` pixels from number `place` on their means at each depth. The room
 /// for one depth of them is lent.
 fn fill_depths(
     raster: &mut Raster,
     counts: &[u8],
     sums: &[i64],
     place: usize,
+    count: usize,
     room: &mut [i64],
 )
+    requires size { length room.old ≡ count }
     requires means { HaveMeans raster.old.kind (raster.old.rows * raster.old.cols)
         raster.old.depth counts.now sums.now }
-    requires within { place + length room.old ≤ raster.old.rows * raster.old.cols }
-    ensures { Fills counts.now sums.now place (length room.old) raster.old raster.new }
+    requires within { place + count ≤ raster.old.rows * raster.old.cols }
+    ensures { Fills counts.now sums.now place count raster.old raster.new }
 {
     let depth = raster.depth();
     for d in 0..depth {
@@ -94,17 +92,20 @@ fn fill_depths(
 fn fill(raster: &mut Raster, counts: &[u8], sums: &[i64])
     requires { HaveMeans raster.old.kind (raster.old.rows * raster.old.cols) raster.old.depth
         counts.now sums.now }
-    ensures { Fills counts.now sums.now 0 (raster.old.rows * raster.old.cols)
+    ensures fills { Fills counts.now sums.now 0 (raster.old.rows * raster.old.cols)
         raster.old raster.new }
+    ensures sound { IsRaster raster.new }
 {
     let places = raster.rows() as usize * raster.cols() as usize;
     let mut room = [0i64; PIECE];
     let mut place = 0;
     while place < places {
         let count = PIECE.min(places - place);
-        fill_depths(raster, counts, sums, place, &mut room[..count]);
+        fill_depths(raster, counts, sums, place, count, &mut room[..count]);
         place += count;
     }
+    // What holds of each raster is known once one of its numbers was read.
+    let _rows = raster.rows();
 }
 
 /// The raster that has the means of a band's numbers.
@@ -122,8 +123,10 @@ pub(crate) fn half_band(
 {
     match Raster::new(alloc, kind, rows, cols, depth) {
         Ok(mut raster) => {
-            mark_rows(&mut raster, layer.counts());
-            fill(&mut raster, layer.counts(), layer.sums());
+            let counts = layer.counts();
+            let sums = layer.sums();
+            mark_rows(&mut raster, counts);
+            fill(&mut raster, counts, sums);
             Ok(raster)
         }
         Err(_) => Err(AllocError),

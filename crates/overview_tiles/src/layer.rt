@@ -2,8 +2,9 @@
 
 ghost use Rattle.std.specs.Prelude.{◌≡◌, ℕ, ℤ, pos, ◌+◌, ◌*◌, ◌/◌, ◌<◌, ◌≤◌, ◌^◌, ◌+ℤ◌, ◌≤ℤ◌, length, get_or, replicate, IfOk, true, false};
 ghost use Rattle.raster_values.specs.Flat.{value_in};
+ghost use Rattle.overview_tiles.specs.Sums.{zero_sums};
 ghost use Rattle.overview_tiles.specs.inside.Comes.{GrowsCounts, GrowsSums, IsWithin, comes, in_row, marks_amount, total_at, values_amount};
-ghost use Rattle.overview_tiles.specs.inside.Lays.{AreWithin, CanLay, CountsFit, IsPlaced, Lays, LaysAll, LaysValues};
+ghost use Rattle.overview_tiles.specs.inside.Lays.{AreWithin, CanLay, CountsFit, IsPlaced, LaysAll, LaysMarks, LaysValues};
 
 use raster_values::Raster;
 use std::alloc::{AllocError, Global};
@@ -84,24 +85,26 @@ fn add_values(
     }
 }
 
-/// Adds the values of the pixels from number `place` on, which stand in one row, to their sums at
-/// each depth. The room for one depth of them is lent.
-fn add_depths(
+/// Adds the values of `count` pixels of a row to their sums at each depth. The room for one depth of
+/// them is lent.
+fn lay_values(
     raster: &Raster,
     frame: Frame,
     row: usize,
     col: usize,
+    count: usize,
     room: &mut [i64],
     sums: &mut [i64],
 )
     requires row { row < raster.now.rows }
-    requires cols { col + length room.old ≤ frame.cols }
-    requires few { length room.old ≤ 256 }
+    requires cols { col + count ≤ frame.cols }
+    requires few { count ≤ 256 }
+    requires size { length room.old ≡ count }
     requires placed { IsPlaced frame raster.now }
     requires sums { length sums.old ≡ raster.now.rows * raster.now.cols * raster.now.depth }
     requires within { AreWithin 576460752303423488 (raster.now.rows * raster.now.cols) frame.depth
         sums.old }
-    ensures { LaysValues frame raster.now (row * frame.cols + col) (length room.old)
+    ensures { LaysValues frame raster.now (row * frame.cols + col) count
         (raster.now.rows * raster.now.cols) sums.old sums.new }
 {
     let place = row * frame.cols + col;
@@ -110,6 +113,32 @@ fn add_depths(
         raster.values_from(place, d as u32, room);
         add_values(room, base, frame.left + col, frame.depth, d, sums);
     }
+}
+
+/// Adds 1 to the counts of the valid ones among `count` pixels of a row. The room for their marks
+/// is lent.
+fn lay_marks(
+    raster: &Raster,
+    frame: Frame,
+    row: usize,
+    col: usize,
+    count: usize,
+    room: &mut [bool],
+    counts: &mut [u8],
+)
+    requires row { row < raster.now.rows }
+    requires cols { col + count ≤ frame.cols }
+    requires few { count ≤ 256 }
+    requires size { length room.old ≡ count }
+    requires placed { IsPlaced frame raster.now }
+    requires counts { length counts.old ≡ raster.now.rows * raster.now.cols }
+    requires fits { CountsFit frame raster.now (row * frame.cols + col) count counts.old }
+    ensures { LaysMarks frame raster.now (row * frame.cols + col) count counts.old counts.new }
+{
+    let place = row * frame.cols + col;
+    let base = (frame.top + row) / 2 * frame.cols;
+    raster.marks_from(place, room);
+    add_marks(room, base, frame.left + col, counts);
 }
 
 /// Lays `count` pixels of a row.
@@ -131,16 +160,15 @@ fn lay_piece(
     requires fits { CountsFit frame raster.now (row * frame.cols + col) count counts.old }
     requires within { AreWithin 576460752303423488 (raster.now.rows * raster.now.cols) frame.depth
         sums.old }
-    ensures { Lays frame raster.now (row * frame.cols + col) count counts.old counts.new
-        sums.old sums.new }
+    ensures counts { LaysMarks frame raster.now (row * frame.cols + col) count
+        counts.old counts.new }
+    ensures sums { LaysValues frame raster.now (row * frame.cols + col) count
+        (raster.now.rows * raster.now.cols) sums.old sums.new }
 {
     let mut marks = [false; PIECE];
-    let mut room = [0i64; PIECE];
-    let place = row * frame.cols + col;
-    let base = (frame.top + row) / 2 * frame.cols;
-    raster.marks_from(place, &mut marks[..count]);
-    add_marks(&marks[..count], base, frame.left + col, counts);
-    add_depths(raster, frame, row, col, &mut room[..count], sums);
+    let mut values = [0i64; PIECE];
+    lay_marks(raster, frame, row, col, count, &mut marks[..count], counts);
+    lay_values(raster, frame, row, col, count, &mut values[..count], sums);
 }
 
 /// Lays the pixels of a row.
@@ -158,8 +186,10 @@ fn lay_row(
     requires fits { CountsFit frame raster.now (row * frame.cols) frame.cols counts.old }
     requires within { AreWithin 288230376151711744 (raster.now.rows * raster.now.cols) frame.depth
         sums.old }
-    ensures { Lays frame raster.now (row * frame.cols) frame.cols counts.old counts.new
-        sums.old sums.new }
+    ensures counts { LaysMarks frame raster.now (row * frame.cols) frame.cols
+        counts.old counts.new }
+    ensures sums { LaysValues frame raster.now (row * frame.cols) frame.cols
+        (raster.now.rows * raster.now.cols) sums.old sums.new }
 {
     let mut col = 0;
     while col < frame.cols {
@@ -177,8 +207,10 @@ fn lay_rows(raster: &Raster, frame: Frame, counts: &mut [u8], sums: &mut [i64])
     requires fits { CountsFit frame raster.now 0 (raster.now.rows * raster.now.cols) counts.old }
     requires within { AreWithin 144115188075855872 (raster.now.rows * raster.now.cols) frame.depth
         sums.old }
-    ensures { Lays frame raster.now 0 (raster.now.rows * raster.now.cols) counts.old counts.new
-        sums.old sums.new }
+    ensures counts { LaysMarks frame raster.now 0 (raster.now.rows * raster.now.cols)
+        counts.old counts.new }
+    ensures sums { LaysValues frame raster.now 0 (raster.now.rows * raster.now.cols)
+        (raster.now.rows * raster.now.cols) sums.old sums.new }
 {
     let rows = raster.rows() as usize;
     for row in 0..rows {
@@ -190,10 +222,7 @@ impl Layer {
     /// The numbers of a band of which nothing was laid.
     pub(crate) fn new(alloc: Global, places: usize, depth: usize) -> Result<Layer, AllocError>
         requires { places * depth ≤ 16777216 }
-        ensures { IfOk result (λ l. l ≡ record {
-            counts = replicate places 0;
-            sums = replicate (places * depth) (pos 0);
-        }) }
+        ensures { IfOk result (λ l. l ≡ zero_sums places depth) }
     {
         Ok(Layer {
             counts: vec![in alloc; 0u8; places]?,

@@ -1,9 +1,9 @@
 //! The mosaic of four neighbouring tiles.
 
-ghost use Rattle.std.specs.Prelude.{◌≡◌, ℕ, pos, true, false, ◌+◌, ◌*◌, ◌/◌, ◌%◌, ◌<◌, ◌≤◌, IfOk, Some, get_or, length, replicate, slice_get, slice_set};
+ghost use Rattle.std.specs.Prelude.{◌≡◌, ◌↔◌, ℕ, pos, true, false, ◌*◌, ◌/◌, ◌%◌, ◌<◌, ◌≤◌, IfOk, IsTrue, Some, get_or, length, replicate, slice_get, slice_set};
 ghost use Rattle.raster_values.specs.Raster.{IsShape, Pixels};
 ghost use Rattle.raster_values.specs.Bands.{AreBands};
-ghost use Rattle.overview_tiles.specs.Sums.{AreSums, IsLikeMosaic, IsTileOf, no_sums};
+ghost use Rattle.overview_tiles.specs.Sums.{AreSums, IsLikeMosaic, IsTileOf, no_sums, zero_sums};
 ghost use Rattle.overview_tiles.specs.Tiles.{AreHalf, Tiles, no_tiles, with_tile};
 ghost use Rattle.overview_tiles.specs.inside.Lays.{CanLay, LaysAll};
 ghost use Rattle.overview_tiles.specs.inside.Means.{HasMeans, HaveMeans};
@@ -48,10 +48,7 @@ fn new_layers(
     depth: usize,
 ) -> Result<Vec<Layer>, AllocError>
     requires { places * depth ≤ 16777216 }
-    ensures { IfOk result (λ layers. layers.items ≡ replicate count (record {
-        counts = replicate places 0;
-        sums = replicate (places * depth) (pos 0);
-    })) }
+    ensures { IfOk result (λ layers. layers.items ≡ replicate count (zero_sums places depth)) }
 {
     let mut layers = Vec::with_capacity(alloc, count)?;
     for _ in 0..count {
@@ -147,6 +144,28 @@ impl Mosaic {
         })
     }
 
+    /// Whether a tile was laid into the quarter.
+    pub fn has(&self, quarter: u8) -> bool
+        requires { quarter < 4 }
+        ensures { result ≡ get_or self.now.laid quarter true }
+    {
+        self.laid[quarter as usize]
+    }
+
+    /// Whether the tile has the mosaic's number of bands, its type and its shape.
+    pub fn takes(&self, tile: &Bands) -> bool
+        ensures { IsTrue result ↔ IsTileOf self.now tile.now }
+    {
+        if tile.len() != self.bands.len() {
+            return false;
+        }
+        let first = tile.at(0);
+        first.kind() == self.kind
+            && first.rows() == self.rows
+            && first.cols() == self.cols
+            && first.depth() == self.depth
+    }
+
     /// Lays a tile into a quarter that has none. It takes no memory.
     pub fn lay(&mut self, quarter: u8, tile: &Bands)
         requires quarter { quarter < 4 }
@@ -157,6 +176,8 @@ impl Mosaic {
         ensures laid { self.new.laid ≡ slice_set self.old.laid quarter true }
         ensures like { IsLikeMosaic self.old self.new }
     {
+        // What holds of each tile is known once it was asked for its length.
+        let _count = tile.len();
         let frame = frame_of(self.rows, self.cols, self.depth, quarter);
         self.laid[quarter as usize] = true;
         lay_bands(self.bands.as_mut_slice(), tile, frame);

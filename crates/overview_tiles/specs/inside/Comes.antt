@@ -1,5 +1,5 @@
 -- Amounts that come to totals: amount number i is added to the total with the number `to i`.
-use Rattle.std.specs.Prelude.{◌≡◌, ◌≢◌, ℕ, ℤ, pos, negsuc, zero, suc, ◌+◌, ◌*◌, ◌/◌, ◌%◌, ◌<◌, ◌+ℤ◌, ◌≤ℤ◌, Bool, true, false, List, length, get_or, nat_eq, is_some, None, if◌then◌else◌}
+use Rattle.std.specs.Prelude.{◌≡◌, ◌≢◌, ℕ, ℤ, pos, zero, suc, ◌+◌, ◌*◌, ◌/◌, ◌%◌, ◌<◌, ◌+ℤ◌, ◌≤ℤ◌, Bool, true, false, List, length, get_or, nat_eq, is_some, None, if◌then◌else◌}
 use Rattle.raster_values.specs.Raster.{Pixels}
 
 -- what comes to the total t of the first n amounts
@@ -34,7 +34,7 @@ total_at cols top left k = (top + k / cols) / 2 * cols + (left + k % cols) / 2
 
 -- at most so far from 0
 abbrev pub IsWithin : ℕ → ℤ → Type 0
-IsWithin bound z = (negsuc bound ≤ℤ z) × (z ≤ℤ pos bound)
+IsWithin bound z = (pos 0 ≤ℤ (z +ℤ pos bound)) × (z ≤ℤ pos bound)
 
 -- each count has grown by the amounts that come to it
 pub record GrowsCounts (to : ℕ → ℕ) (amount : ℕ → ℤ) (n : ℕ) (old new : List ℕ) : Type 0 where

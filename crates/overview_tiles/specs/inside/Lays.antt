@@ -33,13 +33,21 @@ LaysValues f r from n places sums new_sums = (t d : ℕ) → t < places → d < 
     ≡ get_or sums (t * f.depth + d) (pos 0)
     +ℤ comes (λ i. total_at f.cols f.top f.left (from + i)) (λ i. value_in r d (from + i)) t n
 
--- the n pixels from number `from` on have come to the totals
-pub record Lays (f : Frame) (r : Pixels) (from n : ℕ) (counts new_counts : List ℕ) (sums new_sums : List ℤ) : Type 0
+-- the valid ones among the n pixels from number `from` on have come to the counts
+abbrev pub LaysMarks : Frame → Pixels → ℕ → ℕ → List ℕ → List ℕ → Type 0
+LaysMarks f r from n counts new_counts =
+    GrowsCounts (λ i. total_at f.cols f.top f.left (from + i)) (λ i. mark_in r (from + i)) n counts
+    new_counts
+
+-- the same of the values, as far as the depth d
+pub record LaysDepths (f : Frame) (r : Pixels) (from n places d : ℕ) (old new : List ℤ) : Type 0
   where
-    pub counts : GrowsCounts
-        (λ i. total_at f.cols f.top f.left (from + i)) (λ i. mark_in r (from + i)) n counts
-        new_counts
-    pub sums : LaysValues f r from n (length counts) sums new_sums
+    pub done : (t e : ℕ) → t < places → e < d
+        → get_or new (t * f.depth + e) (pos 0)
+        ≡ get_or old (t * f.depth + e) (pos 0)
+        +ℤ comes (λ i. total_at f.cols f.top f.left (from + i)) (λ i. value_in r e (from + i)) t n
+    pub rest : (t e : ℕ) → d ≤ e → e < f.depth
+        → get_or new (t * f.depth + e) (pos 0) ≡ get_or old (t * f.depth + e) (pos 0)
 
 -- what is asked for where a whole raster is laid into the numbers of a band
 pub record CanLay (f : Frame) (r : Pixels) (s : Sums) : Type 0 where
@@ -49,6 +57,9 @@ pub record CanLay (f : Frame) (r : Pixels) (s : Sums) : Type 0 where
   pub fits : CountsFit f r 0 (r.rows * r.cols) s.counts
   pub within : AreWithin 144115188075855872 (r.rows * r.cols) f.depth s.sums
 
--- and what is left then
-abbrev pub LaysAll : Frame → Pixels → Sums → Sums → Type 0
-LaysAll f r old new = Lays f r 0 (r.rows * r.cols) old.counts new.counts old.sums new.sums
+-- and what is left then: all pixels have come to the totals
+pub record LaysAll (f : Frame) (r : Pixels) (old new : Sums) : Type 0 where
+  pub counts : LaysMarks f r 0 (r.rows * r.cols) old.counts new.counts
+  pub sums : LaysValues f r 0 (r.rows * r.cols) (r.rows * r.cols) old.sums new.sums
+  pub count_size : length new.counts ≡ length old.counts
+  pub sum_size : length new.sums ≡ length old.sums

@@ -17,8 +17,8 @@ mean_at depth counts sums d k = if nat_lt 0 (get_or counts k 0)
 -- counts of at most four, and sums of so many values of the type
 pub record HaveMeans (kind : PixelType) (places depth : ℕ) (counts : List ℕ) (sums : List ℤ) : Type 0
   where
-    pub counts : length counts ≡ places
-    pub sums : length sums ≡ places * depth
+    pub count_size : length counts ≡ places
+    pub sum_size : length sums ≡ places * depth
     pub few : (k : ℕ) → get_or counts k 0 ≤ 4
     pub least : (k d : ℕ) → k < places → d < depth → 0 < get_or counts k 0
         → (pos (get_or counts k 0) *ℤ type_least kind) ≤ℤ get_or sums (k * depth + d) (pos 0)
@@ -29,6 +29,7 @@ pub record HaveMeans (kind : PixelType) (places depth : ℕ) (counts : List ℕ)
 -- place of the list is not 0. The others are as they were.
 pub record Counted (from n : ℕ) (counts : List ℕ) (old new : Pixels) : Type 0 where
   pub shape : SameShape old new
+  pub size : length new.pixels ≡ length old.pixels
   pub marks : (i : ℕ) → i < n
       → is_some (get_or new.pixels (from + i) None) ≡ nat_lt 0 (get_or counts i 0)
   pub rest : (k : ℕ) → (k < from) ⊎ (from + n ≤ k)
@@ -42,6 +43,16 @@ pub record Fills (counts : List ℕ) (sums : List ℤ) (from n : ℕ) (old new :
       → value_in new d k ≡ mean_at old.depth counts sums d k
   pub rest : (k d : ℕ) → k < old.rows * old.cols → d < old.depth → (k < from) ⊎ (from + n ≤ k)
       → value_in new d k ≡ value_in old d k
+
+-- the same, as far as the depth d
+pub record FillsDepths (counts : List ℕ) (sums : List ℤ) (from n d : ℕ) (old new : Pixels) : Type 0
+  where
+    pub same : SameMask old new
+    pub put : (k e : ℕ) → from ≤ k → k < from + n → e < d
+        → is_some (get_or old.pixels k None) ≡ true
+        → value_in new e k ≡ mean_at old.depth counts sums e k
+    pub rest : (k e : ℕ) → k < old.rows * old.cols → e < old.depth → (k < from) ⊎ (from + n ≤ k)
+        → value_in new e k ≡ value_in old e k
 
 -- the raster of this type and shape that has the means of the numbers
 pub record HasMeans (kind : PixelType) (rows cols depth : ℕ) (s : Sums) (r : Pixels) : Type 0 where
