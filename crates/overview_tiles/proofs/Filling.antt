@@ -3,7 +3,7 @@ use Rattle.std.proofs.Common.{◌≡◌, ◌≢◌, ℕ, ℤ, zero, suc, ◌+◌
 use Rattle.std.specs.Prelude.{pos, is_some, nat_lt, unwrap_or, replicate}
 use Rattle.std.proofs.Math.ListN.{set}
 use Rattle.std.proofs.lemmas.Nat.{div_below, mod_below, div-add-mod', mul-add-lt}
-use Rattle.std.proofs.lemmas.Bool.{cases_eq, cases_lt, lt-ltb}
+use Rattle.std.proofs.lemmas.Bool.{cases_eq, cases_lt, le-ltb, lt-ltb}
 use Rattle.std.proofs.lemmas.List.{get_or-set_same, get_or-set_other, length-set, get_or-replicate, get_or_past, length-replicate}
 use Rattle.raster_values.specs.declared.kind.PixelType.{PixelType}
 use Rattle.raster_values.specs.Raster.{Pixels, IsRaster, blank, marked, marked_pixel, valid_at}
@@ -160,6 +160,14 @@ fills_join counts sums n m r0 r1 r2 hc few h k =
       rest = λ j d inside deep out.
         k.rest j d (omega (arith, inside, places)) (omega (arith, deep, depth)) (inr (past n m j out)) ∙ h.rest j d inside deep (inr (past_first n m j out));
     }
+
+-- the mean of a sum that is read as another, which matters only where there are values
+pub mean_round : (n : ℕ) (y x : ℤ) → (0 < n → y ≡ x) → cond (nat_lt 0 n) (mean_of y (pos n)) (pos 0) ≡ cond (nat_lt 0 n) (mean_of x (pos n)) (pos 0)
+mean_round n y x h =
+    ⊎_elim
+    (λ (some : 0 < n). ap (λ z. cond (nat_lt 0 n) (mean_of z (pos n)) (pos 0)) (h some))
+    (λ (none : n ≤ 0). ap (λ b. cond b (mean_of y (pos n)) (pos 0)) (le-ltb 0 n none) ∙ sym (ap (λ b. cond b (mean_of x (pos n)) (pos 0)) (le-ltb 0 n none)))
+    (cases_lt 0 n)
 
 -- ---- the raster of a blank one
 

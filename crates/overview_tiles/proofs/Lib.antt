@@ -6,3 +6,4 @@ mod Means
 pub mod Tiled
 pub mod Halved
 pub mod Filling
+pub mod HalfBands

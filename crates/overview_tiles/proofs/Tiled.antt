@@ -1,9 +1,9 @@
 -- A tile laid as a quarter of a mosaic.
-use Rattle.std.proofs.Common.{◌≡◌, ◌≢◌, ℕ, ℤ, zero, suc, ◌+◌, ◌*◌, ◌/◌, ◌%◌, ◌<◌, ◌≤◌, Bool, true, false, cond, List, [], ◌∷◌, length, get_or, Option, Some, None, refl, sym, ap, ◌∙◌, subst, arith, ⊎_elim}
+use Rattle.std.proofs.Common.{◌≡◌, ◌≢◌, ℕ, ℤ, zero, suc, ◌+◌, ◌*◌, ◌/◌, ◌%◌, ◌<◌, ◌≤◌, Bool, true, false, cond, List, [], ◌∷◌, length, get_or, Option, Some, None, refl, sym, ap, ◌∙◌, subst, arith, ⊎_elim, w64, FitsSigned, to_z, of_z}
 use Rattle.std.specs.Prelude.{pos, negsuc, ◌+ℤ◌, ◌*ℤ◌, ◌≤ℤ◌, All, IfSome, is_some, nat_eq, nat_lt, slice_get, unwrap_or}
 use Rattle.std.proofs.Math.ListN.{set}
 use Rattle.std.proofs.Math.Nat.{mul-le-mul_right}
-use Rattle.std.proofs.lemmas.Int.{ints}
+use Rattle.std.proofs.lemmas.Int.{ints, to_z-of_z}
 use Rattle.std.proofs.lemmas.Nat.{div_below, mod_below, div-add-mod'}
 use Rattle.std.proofs.lemmas.Bool.{eq-eqb, ne_eqb, cases_eq, lt-ltb, ltb-true, false≢true}
 use Rattle.std.proofs.lemmas.Option.{none-some, get_or_from_slice_get, slice_get_within, slice_get-get_or}
@@ -70,6 +70,15 @@ sum_within I16 n z few low high = (omega (arith, ints, few, low, high), omega (a
 sum_within U16 n z few low high = (omega (arith, ints, few, low, high), omega (arith, ints, few, low, high))
 sum_within I32 n z few low high = (omega (arith, ints, few, low, high), omega (arith, ints, few, low, high))
 sum_within U32 n z few low high = (omega (arith, ints, few, low, high), omega (arith, ints, few, low, high))
+
+-- such a sum is a number of 64 bits
+pub sum_round : (kind : PixelType) (places depth k d : ℕ) (counts : List ℕ) (sums : List ℤ) → HaveMeans kind places depth counts sums → k < places → d < depth → 0 < get_or counts k 0
+    → to_z w64 (of_z w64 (get_or sums (k * depth + d) (pos 0))) ≡ get_or sums (k * depth + d) (pos 0)
+sum_round kind places depth k d counts sums h inside deep some =
+    let x = get_or sums (k * depth + d) (pos 0) in
+    let small = sum_within kind (get_or counts k 0) x (h.few k) (h.least k d inside deep some) (h.greatest k d inside deep some) in
+    let fits : FitsSigned w64 x = omega (arith, ints, small.0, small.1) in
+    to_z-of_z w64 x fits
 
 pub kept_within : (kind : PixelType) (rows cols depth : ℕ) (quarters : Quarters) (s : Sums) → 0 < rows → 0 < cols → AreOf kind rows cols depth quarters → AreBandSums rows cols depth quarters s → AreWithin 144115188075855872 (rows * cols) depth s.sums
 kept_within kind rows cols depth quarters s hr hc of h t d inside deep =
@@ -172,4 +181,31 @@ room_more m n room like laid sizes =
       laid = laid ∙ room.laid;
       counts = λ b under. (sizes b (omega (arith, under, like.count))).0 ∙ room.counts b (omega (arith, under, like.count)) ∙ sym places;
       sums = λ b under. (sizes b (omega (arith, under, like.count))).1 ∙ room.sums b (omega (arith, under, like.count)) ∙ sym all;
+    }
+
+-- ---- the whole of it
+
+abbrev pub laid_in : Kept → ℕ → List Sums → Kept
+laid_in m q bands = record m { laid = set m.laid q true; bands = bands }
+
+pub record HasLaid (m : Kept) (tiles : Tiles) (q : ℕ) (tile : List Pixels) (bands : List Sums) : Type 0 where
+  pub room : HasRoom (laid_in m q bands)
+  pub sums : AreSums (laid_in m q bands) (with_tile q tile tiles)
+
+pub lay_more : (m : Kept) (tiles : Tiles) (q : ℕ) (tile : List Pixels) (f : Frame) (before after bands : List Sums) → q < 4 → HasRoom m → AreSums m tiles → get_or m.laid q true ≡ false → AreBands tile → IsTileOf m tile → IsFrame f m.rows m.cols m.depth q
+    → before ≡ m.bands → bands ≡ after → length after ≡ length before → ((b : ℕ) (r : Pixels) → slice_get tile b ≡ Some r → LaysAll f r (get_or before b no_sums) (get_or after b no_sums))
+    → HasLaid m tiles q tile bands
+lay_more m tiles q tile f before after bands few room h free sound of frame was is size lays =
+    let n = laid_in m q bands in
+    let count : length bands ≡ length m.bands = ap length is ∙ size ∙ ap length was in
+    let like : IsLikeMosaic m n = record { kind = refl; rows = refl; cols = refl; depth = refl; count = count } in
+    let moved : (b : ℕ) (r : Pixels) → slice_get tile b ≡ Some r → LaysAll f r (get_or m.bands b no_sums) (get_or bands b no_sums) = λ b r e.
+    subst (λ (xs : List Sums). LaysAll f r (get_or xs b no_sums) (get_or bands b no_sums)) was (subst (λ (xs : List Sums). LaysAll f r (get_or before b no_sums) (get_or xs b no_sums)) (sym is) (lays b r e)) in
+    record {
+      room = room_more m n room like (length-set m.laid q true)
+          (λ b less.
+          let e = slice_get-get_or tile b no_pixels (omega (arith, less, of.count)) in
+          let one = moved b (get_or tile b no_pixels) e in
+          (one.count_size, one.sum_size));
+      sums = sums_more m n tiles q tile f few room h free sound of frame like refl moved;
     }

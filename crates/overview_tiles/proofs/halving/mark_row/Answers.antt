@@ -12,9 +12,9 @@ pub loop-col-preserved : goal.loop-col-preserved
 loop-col-preserved c =
     let old = c.args.raster.now in
     let i = c.loop-col.col in
-    let beside : i < old.cols = omega (arith, c.loop-col-test.true, c.cols.ensures.value) in
+    let beside : i < old.cols = omega (arith, c.loop-col-test.true, c.cols-col-end.ensures.value) in
     let P : Pixels → Type 0 = λ r. Counted (c.args.row * old.cols) (i + 1) c.args.counts.now old r in
     elim c.if-count-gt0.branch [
-      | then-count-gt0 w ↦ subst P (sym (w.raster-is ∙ w.mark.ensures.after)) (counted_mark c.args.row i c.args.counts.now old c.loop-col.raster c.cols.ensures.sound c.requires.row beside w.if-count-gt0.true c.loop-col.invariant)
+      | then-count-gt0 w ↦ subst P (sym (w.raster-is ∙ w.mark.ensures.after)) (counted_mark c.args.row i c.args.counts.now old c.loop-col.raster c.cols-col-end.ensures.sound c.requires.row beside w.if-count-gt0.true c.loop-col.invariant)
       | else-count-gt0 w ↦ subst P (sym w.raster-is) (counted_skip (c.args.row * old.cols) i c.args.counts.now old c.loop-col.raster (omega (arith, w.if-count-gt0.false)) (c.requires.none i beside) c.loop-col.invariant)
     ]
