@@ -7,4 +7,6 @@ mod fixtures;
 #[cfg(test)]
 mod halves;
 #[cfg(test)]
+mod long_rows;
+#[cfg(test)]
 mod same;

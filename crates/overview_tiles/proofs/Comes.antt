@@ -1,11 +1,11 @@
 -- Amounts that come to totals.
-use Rattle.std.proofs.Common.{◌≡◌, ◌≢◌, ℕ, ℤ, zero, suc, ◌+◌, ◌-◌, ◌*◌, ◌/◌, ◌<◌, ◌≤◌, Bool, true, false, cond, List, length, get_or, refl, sym, ap, ◌∙◌, subst, arith, ⊎_elim}
-use Rattle.std.specs.Prelude.{pos, negsuc, ◌+ℤ◌, ◌≤ℤ◌, nat_eq}
-use Rattle.std.proofs.Math.ListN.{set, length-set}
+use Rattle.std.proofs.Common.{◌≡◌, ◌≢◌, ℕ, ℤ, zero, suc, ◌+◌, ◌-◌, ◌*◌, ◌<◌, ◌≤◌, true, false, cond, List, length, get_or, refl, sym, ap, ◌∙◌, subst, arith, ⊎_elim}
+use Rattle.std.specs.Prelude.{pos, ◌+ℤ◌, ◌≤ℤ◌, nat_eq}
+use Rattle.std.proofs.Math.ListN.{set}
 use Rattle.std.proofs.lemmas.List.{get_or-set_same, get_or-set_other}
 use Rattle.std.proofs.lemmas.Int.{ints}
 use Rattle.std.proofs.lemmas.Nat.{same_from_place}
-use Rattle.std.proofs.lemmas.Bool.{eq-eqb, ne_eqb, eqb-true, cases_eq}
+use Rattle.std.proofs.lemmas.Bool.{eq-eqb, ne_eqb, cases_eq}
 use Rattle.overview_tiles.specs.inside.Comes.{GrowsCounts, GrowsSums, IsWithin, comes}
 
 pub comes_none : (to : ℕ → ℕ) (a : ℕ → ℤ) (t : ℕ) → comes to a t 0 ≡ pos 0
@@ -79,28 +79,32 @@ pub counts_start : (to : ℕ → ℕ) (a : ℕ → ℤ) (old : List ℕ) → Gro
 counts_start to a old = record { each = λ t less. let none = comes_none to a t in omega (arith, ints, none) }
 
 pub counts_skip : (to : ℕ → ℕ) (a : ℕ → ℤ) (n : ℕ) (old new : List ℕ) → a n ≡ pos 0 → GrowsCounts to a n old new → GrowsCounts to a (n + 1) old new
-counts_skip to a n old new nothing h = record { each = λ t less.
-    let next = comes_next to a t n in
-    let none : brings to a t n ≡ pos 0 = elim (nat_eq (to n) t) as (λ b. cond b (a n) (pos 0) ≡ pos 0) [ true ↦ nothing | false ↦ refl ] in
-    let before = h.each t less in
-    omega (arith, ints, next, none, before) }
+counts_skip to a n old new nothing h = record {
+  each = λ t less.
+      let next = comes_next to a t n in
+      let none : brings to a t n ≡ pos 0 = elim (nat_eq (to n) t) as (λ b. cond b (a n) (pos 0) ≡ pos 0) [ true ↦ nothing | false ↦ refl ] in
+      let before = h.each t less in
+      omega (arith, ints, next, none, before);
+}
 
 pub counts_step : (to : ℕ → ℕ) (a : ℕ → ℤ) (n k v : ℕ) (old new : List ℕ) → to n ≡ k → k < length new → length new ≡ length old → a n ≡ pos 1 → v ≡ get_or new k 0 + 1 → GrowsCounts to a n old new
     → GrowsCounts to a (n + 1) old (set new k v)
-counts_step to a n k v old new place below size one is h = record { each = λ t less.
-    let next = comes_next to a t n in
-    let before = h.each t less in
-    ⊎_elim
-    (λ (same : t ≡ k).
-    let here : get_or (set new k v) t 0 ≡ v = ap (λ j. get_or (set new k v) j 0) same ∙ get_or-set_same new k v 0 below in
-    let there : get_or new t 0 ≡ get_or new k 0 = ap (λ j. get_or new j 0) same in
-    let brought = brings_there to a t n (place ∙ sym same) in
-    let e : pos (get_or (set new k v) t 0) ≡ pos (get_or old t 0) +ℤ comes to a t (n + 1) = omega (arith, ints, next, before, here, there, brought, one, is) in e)
-    (λ (ne : t ≢ k).
-    let here : get_or (set new k v) t 0 ≡ get_or new t 0 = get_or-set_other new k t v 0 ne in
-    let brought = brings_none to a t n (λ e. ne (sym e ∙ place)) in
-    let e : pos (get_or (set new k v) t 0) ≡ pos (get_or old t 0) +ℤ comes to a t (n + 1) = omega (arith, ints, next, before, here, brought) in e)
-    (cases_eq t k) }
+counts_step to a n k v old new place below size one is h = record {
+  each = λ t less.
+      let next = comes_next to a t n in
+      let before = h.each t less in
+      ⊎_elim
+      (λ (same : t ≡ k).
+      let here : get_or (set new k v) t 0 ≡ v = ap (λ j. get_or (set new k v) j 0) same ∙ get_or-set_same new k v 0 below in
+      let there : get_or new t 0 ≡ get_or new k 0 = ap (λ j. get_or new j 0) same in
+      let brought = brings_there to a t n (place ∙ sym same) in
+      let e : pos (get_or (set new k v) t 0) ≡ pos (get_or old t 0) +ℤ comes to a t (n + 1) = omega (arith, ints, next, before, here, there, brought, one, is) in e)
+      (λ (ne : t ≢ k).
+      let here : get_or (set new k v) t 0 ≡ get_or new t 0 = get_or-set_other new k t v 0 ne in
+      let brought = brings_none to a t n (λ e. ne (sym e ∙ place)) in
+      let e : pos (get_or (set new k v) t 0) ≡ pos (get_or old t 0) +ℤ comes to a t (n + 1) = omega (arith, ints, next, before, here, brought) in e)
+      (cases_eq t k);
+}
 
 pub sums_start : (depth d : ℕ) (to : ℕ → ℕ) (a : ℕ → ℤ) (old : List ℤ) → GrowsSums depth d to a 0 old old
 sums_start depth d to a old = record { each = λ t less. let none = comes_none to a t in omega (arith, ints, none); rest = λ t e below ne. refl }
@@ -109,24 +113,24 @@ pub sums_step : (depth d : ℕ) (to : ℕ → ℕ) (a : ℕ → ℤ) (n k : ℕ)
     → GrowsSums depth d to a n old new → GrowsSums depth d to a (n + 1) old (set new k v)
 sums_step depth d to a n k v old new within place below size is h = record {
   each = λ t less.
-    let next = comes_next to a t n in
-    let before = h.each t less in
-    ⊎_elim
-    (λ (same : t ≡ to n).
-    let at : t * depth + d ≡ k = ap (λ j. j * depth + d) same ∙ place in
-    let here : get_or (set new k v) (t * depth + d) (pos 0) ≡ v = ap (λ j. get_or (set new k v) j (pos 0)) at ∙ get_or-set_same new k v (pos 0) below in
-    let there : get_or new (t * depth + d) (pos 0) ≡ get_or new k (pos 0) = ap (λ j. get_or new j (pos 0)) at in
-    let brought = brings_there to a t n (sym same) in
-    let e : get_or (set new k v) (t * depth + d) (pos 0) ≡ get_or old (t * depth + d) (pos 0) +ℤ comes to a t (n + 1) = omega (arith, ints, next, before, here, there, brought, is) in e)
-    (λ (ne : t ≢ to n).
-    let apart : t * depth + d ≢ k = λ e. ne (same_from_place t d (to n) d depth within within (e ∙ sym place)).0 in
-    let here : get_or (set new k v) (t * depth + d) (pos 0) ≡ get_or new (t * depth + d) (pos 0) = get_or-set_other new k (t * depth + d) v (pos 0) apart in
-    let brought = brings_none to a t n (λ e. ne (sym e)) in
-    let e : get_or (set new k v) (t * depth + d) (pos 0) ≡ get_or old (t * depth + d) (pos 0) +ℤ comes to a t (n + 1) = omega (arith, ints, next, before, here, brought) in e)
-    (cases_eq t (to n));
+      let next = comes_next to a t n in
+      let before = h.each t less in
+      ⊎_elim
+      (λ (same : t ≡ to n).
+      let at : t * depth + d ≡ k = ap (λ j. j * depth + d) same ∙ place in
+      let here : get_or (set new k v) (t * depth + d) (pos 0) ≡ v = ap (λ j. get_or (set new k v) j (pos 0)) at ∙ get_or-set_same new k v (pos 0) below in
+      let there : get_or new (t * depth + d) (pos 0) ≡ get_or new k (pos 0) = ap (λ j. get_or new j (pos 0)) at in
+      let brought = brings_there to a t n (sym same) in
+      let e : get_or (set new k v) (t * depth + d) (pos 0) ≡ get_or old (t * depth + d) (pos 0) +ℤ comes to a t (n + 1) = omega (arith, ints, next, before, here, there, brought, is) in e)
+      (λ (ne : t ≢ to n).
+      let apart : t * depth + d ≢ k = λ e. ne (same_from_place t d (to n) d depth within within (e ∙ sym place)).0 in
+      let here : get_or (set new k v) (t * depth + d) (pos 0) ≡ get_or new (t * depth + d) (pos 0) = get_or-set_other new k (t * depth + d) v (pos 0) apart in
+      let brought = brings_none to a t n (λ e. ne (sym e)) in
+      let e : get_or (set new k v) (t * depth + d) (pos 0) ≡ get_or old (t * depth + d) (pos 0) +ℤ comes to a t (n + 1) = omega (arith, ints, next, before, here, brought) in e)
+      (cases_eq t (to n));
   rest = λ t e under ne.
-    let apart : t * depth + e ≢ k = λ same. ne (same_from_place t e (to n) d depth under within (same ∙ sym place)).1 in
-    get_or-set_other new k (t * depth + e) v (pos 0) apart ∙ h.rest t e under ne;
+      let apart : t * depth + e ≢ k = λ same. ne (same_from_place t e (to n) d depth under within (same ∙ sym place)).1 in
+      get_or-set_other new k (t * depth + e) v (pos 0) apart ∙ h.rest t e under ne;
 }
 
 -- ---- room for one amount more

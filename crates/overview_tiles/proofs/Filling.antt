@@ -1,18 +1,18 @@
 -- Steps of the loops that mark a raster and fill it with means.
-use Rattle.std.proofs.Common.{◌≡◌, ◌≢◌, ℕ, ℤ, zero, suc, ◌+◌, ◌-◌, ◌*◌, ◌/◌, ◌%◌, ◌<◌, ◌≤◌, ◌⊎◌, inl, inr, Bool, true, false, cond, List, [], ◌∷◌, length, get_or, Option, Some, None, refl, sym, ap, ◌∙◌, subst, arith, ⊎_elim}
-use Rattle.std.specs.Prelude.{pos, is_some, nat_lt, unwrap_or, replicate}
+use Rattle.std.proofs.Common.{◌≡◌, ◌≢◌, ℕ, ℤ, ◌+◌, ◌-◌, ◌*◌, ◌/◌, ◌%◌, ◌<◌, ◌≤◌, ◌⊎◌, inl, inr, true, cond, List, length, get_or, Option, None, refl, sym, ap, ◌∙◌, subst, arith, ⊎_elim}
+use Rattle.std.specs.Prelude.{pos, is_some, nat_lt, replicate}
 use Rattle.std.proofs.Math.ListN.{set}
 use Rattle.std.proofs.lemmas.Nat.{div_below, mod_below, div-add-mod', mul-add-lt}
 use Rattle.std.proofs.lemmas.Bool.{cases_eq, cases_lt, le-ltb, lt-ltb}
 use Rattle.std.proofs.lemmas.List.{get_or-set_same, get_or-set_other, length-set, get_or-replicate, get_or_past, length-replicate}
 use Rattle.raster_values.specs.declared.kind.PixelType.{PixelType}
-use Rattle.raster_values.specs.Raster.{Pixels, IsRaster, blank, marked, marked_pixel, valid_at}
+use Rattle.raster_values.specs.Raster.{Pixels, IsRaster, blank, marked, marked_pixel}
 use Rattle.raster_values.specs.Places.{SameShape}
 use Rattle.raster_values.specs.Block.{SameMask}
 use Rattle.raster_values.specs.Flat.{PutsFrom, value_in}
 use Rattle.overview_tiles.specs.Half.{mean_of}
 use Rattle.overview_tiles.specs.Sums.{Sums}
-use Rattle.overview_tiles.specs.inside.Means.{Counted, Fills, FillsDepths, HasMeans, HaveMeans, mean_at}
+use Rattle.overview_tiles.specs.inside.Means.{Counted, Fills, FillsDepths, HasMeans, mean_at}
 
 -- ---- shapes and masks
 
@@ -63,12 +63,12 @@ counted_skip from i counts old new nothing none h = record {
   shape = h.shape;
   size = h.size;
   marks = λ j less. ⊎_elim
-    (λ (same : j ≡ i).
-    let here : get_or new.pixels (from + j) None ≡ None = ap (λ n. get_or new.pixels (from + n) None) same ∙ h.rest (from + i) (inr (omega arith)) ∙ none in
-    let zeros : get_or counts j 0 ≡ 0 = ap (λ n. get_or counts n 0) same ∙ nothing in
-    ap (is_some {T = List ℤ}) here ∙ sym (ap (nat_lt 0) zeros))
-    (λ (ne : j ≢ i). h.marks j (omega (arith, less, ne)))
-    (cases_eq j i);
+      (λ (same : j ≡ i).
+      let here : get_or new.pixels (from + j) None ≡ None = ap (λ n. get_or new.pixels (from + n) None) same ∙ h.rest (from + i) (inr (omega arith)) ∙ none in
+      let zeros : get_or counts j 0 ≡ 0 = ap (λ n. get_or counts n 0) same ∙ nothing in
+      ap (is_some {T = List ℤ}) here ∙ sym (ap (nat_lt 0) zeros))
+      (λ (ne : j ≢ i). h.marks j (omega (arith, less, ne)))
+      (cases_eq j i);
   rest = λ k out. h.rest k (later from i k out);
 }
 
@@ -83,13 +83,13 @@ counted_mark row i counts old new sound below beside some h =
       shape = shape_trans old new (marked new row i true) h.shape (record { kind = refl; rows = refl; cols = refl; depth = refl });
       size = length-set new.pixels (row * new.cols + i) p ∙ h.size;
       marks = λ j less. ⊎_elim
-        (λ (same : j ≡ i).
-        let at : from + j ≡ row * new.cols + i = ap (λ n. from + n) same ∙ sym place in
-        let here : get_or (set new.pixels (row * new.cols + i) p) (from + j) None ≡ p = ap (λ n. get_or (set new.pixels (row * new.cols + i) p) n None) at ∙ get_or-set_same new.pixels (row * new.cols + i) p None (omega (arith, inside, place)) in
-        ap (is_some {T = List ℤ}) here ∙ sym (lt-ltb 0 (get_or counts j 0) (subst (λ n. 0 < get_or counts n 0) (sym same) some)))
-        (λ (ne : j ≢ i).
-        ap (is_some {T = List ℤ}) (get_or-set_other new.pixels (row * new.cols + i) (from + j) p None (λ e. ne (omega (arith, e, place)))) ∙ h.marks j (omega (arith, less, ne)))
-        (cases_eq j i);
+          (λ (same : j ≡ i).
+          let at : from + j ≡ row * new.cols + i = ap (λ n. from + n) same ∙ sym place in
+          let here : get_or (set new.pixels (row * new.cols + i) p) (from + j) None ≡ p = ap (λ n. get_or (set new.pixels (row * new.cols + i) p) n None) at ∙ get_or-set_same new.pixels (row * new.cols + i) p None (omega (arith, inside, place)) in
+          ap (is_some {T = List ℤ}) here ∙ sym (lt-ltb 0 (get_or counts j 0) (subst (λ n. 0 < get_or counts n 0) (sym same) some)))
+          (λ (ne : j ≢ i).
+          ap (is_some {T = List ℤ}) (get_or-set_other new.pixels (row * new.cols + i) (from + j) p None (λ e. ne (omega (arith, e, place)))) ∙ h.marks j (omega (arith, less, ne)))
+          (cases_eq j i);
       rest = λ k out. get_or-set_other new.pixels (row * new.cols + i) k p None (λ e. apart from i k out (e ∙ place)) ∙ h.rest k (later from i k out);
     }
 
@@ -113,15 +113,15 @@ counted_row row counts part r0 r1 r2 are h whole =
       shape = shape_trans r0 r1 r2 h.shape k.shape;
       size = k.size ∙ h.size;
       marks = λ j less. ⊎_elim
-        (λ (before : j < row * r0.cols).
-        ap (is_some {T = List ℤ}) (k.rest (0 + j) (inl (omega (arith, before, at)))) ∙ h.marks j before)
-        (λ (behind : row * r0.cols ≤ j).
-        let i = j - row * r0.cols in
-        let there : row * r0.cols + i ≡ j = omega (arith, behind) in
-        let under : i < r0.cols = omega (arith, behind, less, next) in
-        let here : row * r1.cols + i ≡ 0 + j = omega (arith, at, there) in
-        ap (λ n. is_some (get_or r2.pixels n None)) (sym here) ∙ k.marks i under ∙ ap (nat_lt 0) (are i under ∙ ap (λ n. get_or counts n 0) there))
-        (cases_lt j (row * r0.cols));
+          (λ (before : j < row * r0.cols).
+          ap (is_some {T = List ℤ}) (k.rest (0 + j) (inl (omega (arith, before, at)))) ∙ h.marks j before)
+          (λ (behind : row * r0.cols ≤ j).
+          let i = j - row * r0.cols in
+          let there : row * r0.cols + i ≡ j = omega (arith, behind) in
+          let under : i < r0.cols = omega (arith, behind, less, next) in
+          let here : row * r1.cols + i ≡ 0 + j = omega (arith, at, there) in
+          ap (λ n. is_some (get_or r2.pixels n None)) (sym here) ∙ k.marks i under ∙ ap (nat_lt 0) (are i under ∙ ap (λ n. get_or counts n 0) there))
+          (cases_lt j (row * r0.cols));
       rest = λ n out. k.rest n (beyond row (row * r0.cols) (row * r1.cols) r0.cols ((row + 1) * r0.cols) n at next out) ∙ h.rest n (further (row * r0.cols) r0.cols ((row + 1) * r0.cols) n next out);
     }
 
@@ -152,13 +152,13 @@ fills_join counts sums n m r0 r1 r2 hc few h k =
     record {
       same = mask_trans r0 r1 r2 h.same k.same;
       put = λ j d low high deep on. ⊎_elim
-        (λ (before : j < n). k.rest j d (omega (arith, high, few, places)) (omega (arith, deep, depth)) (inl before) ∙ h.put j d low (omega (arith, before)) deep on)
-        (λ (behind : n ≤ j).
-        let mark : is_some (get_or r1.pixels j None) ≡ true = mask_at r0 r1 j h.same hc (omega (arith, high, few)) ∙ on in
-        k.put j d behind (omega (arith, high)) (omega (arith, deep, depth)) mark ∙ ap (λ e. mean_at e counts sums d j) (sym depth))
-        (cases_lt j n);
+          (λ (before : j < n). k.rest j d (omega (arith, high, few, places)) (omega (arith, deep, depth)) (inl before) ∙ h.put j d low (omega (arith, before)) deep on)
+          (λ (behind : n ≤ j).
+          let mark : is_some (get_or r1.pixels j None) ≡ true = mask_at r0 r1 j h.same hc (omega (arith, high, few)) ∙ on in
+          k.put j d behind (omega (arith, high)) (omega (arith, deep, depth)) mark ∙ ap (λ e. mean_at e counts sums d j) (sym depth))
+          (cases_lt j n);
       rest = λ j d inside deep out.
-        k.rest j d (omega (arith, inside, places)) (omega (arith, deep, depth)) (inr (past n m j out)) ∙ h.rest j d inside deep (inr (past_first n m j out));
+          k.rest j d (omega (arith, inside, places)) (omega (arith, deep, depth)) (inr (past n m j out)) ∙ h.rest j d inside deep (inr (past_first n m j out));
     }
 
 -- the mean of a sum that is read as another, which matters only where there are values
@@ -192,11 +192,11 @@ has_means kind rows cols depth s r1 r2 hc sound size counted filled =
       shape = shape_trans b r1 r2 counted.shape filled.same.shape;
       marks = λ k inside. mark k inside ∙ count k inside;
       values = λ k d inside deep on.
-        let on1 : is_some (get_or r1.pixels k None) ≡ true = sym (mark k inside) ∙ on in
-        let some : nat_lt 0 (get_or s.counts k 0) ≡ true = sym (count k inside) ∙ on1 in
-        filled.put k d (omega arith) (omega (arith, inside, places)) (omega (arith, deep, ed)) on1
-        ∙ ap (λ e. mean_at e s.counts s.sums d k) (sym ed)
-        ∙ ap (λ t. cond t (mean_of (get_or s.sums (k * depth + d) (pos 0)) (pos (get_or s.counts k 0))) (pos 0)) some;
+          let on1 : is_some (get_or r1.pixels k None) ≡ true = sym (mark k inside) ∙ on in
+          let some : nat_lt 0 (get_or s.counts k 0) ≡ true = sym (count k inside) ∙ on1 in
+          filled.put k d (omega arith) (omega (arith, inside, places)) (omega (arith, deep, ed)) on1
+          ∙ ap (λ e. mean_at e s.counts s.sums d k) (sym ed)
+          ∙ ap (λ t. cond t (mean_of (get_or s.sums (k * depth + d) (pos 0)) (pos (get_or s.counts k 0))) (pos 0)) some;
     }
 
 -- ---- depth by depth
@@ -230,17 +230,17 @@ fills_more counts sums place n d values r0 r1 r2 hc deep few size are puts h =
     record {
       same = mask_trans r0 r1 r2 h.same puts.same;
       put = λ k e low high under on. ⊎_elim
-        (λ (same : e ≡ d).
-        let i = k - place in
-        let at : place + i ≡ k = omega (arith, low) in
-        let mark : is_some (get_or r1.pixels (place + i) None) ≡ true = ap (λ j. is_some (get_or r1.pixels j None)) at ∙ mask_at r0 r1 k h.same hc (omega (arith, high, few)) ∙ on in
-        let put : value_in r2 d (place + i) ≡ mean_at r0.depth counts sums d (place + i) = puts.put i (omega (arith, at, high, size)) mark ∙ are i (omega (arith, at, high)) in
-        let P : ℕ → Type 0 = λ j. value_in r2 j k ≡ mean_at r0.depth counts sums j k in
-        let Q : ℕ → Type 0 = λ j. value_in r2 d j ≡ mean_at r0.depth counts sums d j in
-        subst P (sym same) (subst Q at put))
-        (λ (ne : e ≢ d).
-        puts.rest k e (omega (arith, high, few, places)) (omega (arith, under, deep, ne, depth)) (λ l g same. ne same) ∙ h.put k e low high (omega (arith, under, ne)) on)
-        (cases_eq e d);
+          (λ (same : e ≡ d).
+          let i = k - place in
+          let at : place + i ≡ k = omega (arith, low) in
+          let mark : is_some (get_or r1.pixels (place + i) None) ≡ true = ap (λ j. is_some (get_or r1.pixels j None)) at ∙ mask_at r0 r1 k h.same hc (omega (arith, high, few)) ∙ on in
+          let put : value_in r2 d (place + i) ≡ mean_at r0.depth counts sums d (place + i) = puts.put i (omega (arith, at, high, size)) mark ∙ are i (omega (arith, at, high)) in
+          let P : ℕ → Type 0 = λ j. value_in r2 j k ≡ mean_at r0.depth counts sums j k in
+          let Q : ℕ → Type 0 = λ j. value_in r2 d j ≡ mean_at r0.depth counts sums d j in
+          subst P (sym same) (subst Q at put))
+          (λ (ne : e ≢ d).
+          puts.rest k e (omega (arith, high, few, places)) (omega (arith, under, deep, ne, depth)) (λ l g same. ne same) ∙ h.put k e low high (omega (arith, under, ne)) on)
+          (cases_eq e d);
       rest = λ k e inside below out.
-        puts.rest k e (omega (arith, inside, places)) (omega (arith, below, depth)) (λ l g same. between place n k l (omega (arith, g, size)) out) ∙ h.rest k e inside below out;
+          puts.rest k e (omega (arith, inside, places)) (omega (arith, below, depth)) (λ l g same. between place n k l (omega (arith, g, size)) out) ∙ h.rest k e inside below out;
     }

@@ -1,12 +1,10 @@
 -- The pixels of a quarter come to the totals of the four pixels that each stands in.
-use Rattle.std.proofs.Common.{◌≡◌, ◌≢◌, ℕ, ℤ, zero, suc, ◌+◌, ◌-◌, ◌*◌, ◌/◌, ◌%◌, ◌<◌, ◌≤◌, Bool, true, false, cond, List, [], ◌∷◌, length, get_or, Option, Some, None, refl, sym, ap, ◌∙◌, subst, arith, ⊎_elim}
-use Rattle.std.specs.Prelude.{pos, ◌+ℤ◌, nat_eq, nat_lt, is_some, unwrap_or}
+use Rattle.std.proofs.Common.{◌≡◌, ◌≢◌, ℕ, ℤ, zero, suc, ◌+◌, ◌*◌, ◌/◌, ◌%◌, ◌<◌, ◌≤◌, true, false, cond, refl, sym, ap, ◌∙◌, subst, arith, ⊎_elim}
+use Rattle.std.specs.Prelude.{pos, ◌+ℤ◌, nat_eq, nat_lt}
 use Rattle.std.proofs.lemmas.Int.{ints}
-use Rattle.std.proofs.lemmas.Nat.{same_from_place, div-mul-add, mod-mul-add, mul-add-lt, div_below, mod_below, div-add-mod'}
+use Rattle.std.proofs.lemmas.Nat.{same_from_place, div-mul-add, mod-mul-add, div_below, mod_below, div-add-mod'}
 use Rattle.std.proofs.lemmas.Bool.{eq-eqb, ne_eqb, cases_eq, cases_lt, lt-ltb, le-ltb}
-use Rattle.raster_values.specs.Raster.{Pixels, pixel_at}
-use Rattle.overview_tiles.specs.Half.{Quarters, mosaic_at, pixel_in, four_pixels, valid_of, valid_four, sum_at}
-use Rattle.overview_tiles.specs.inside.Comes.{comes, one_of, total_at}
+use Rattle.overview_tiles.specs.inside.Comes.{comes, total_at}
 use Rattle.overview_tiles.proofs.Comes.{brings, brings_there, brings_none, comes_none, comes_next}
 
 -- ---- an amount at one place
@@ -154,9 +152,10 @@ spot_of rows cols q k y x hr hc hq hk hy hx s =
     let qb : x / cols ≡ q % 2 = omega (arith, s.inside) in
     let under : x % cols < cols = mod_below x cols hc in
     let row : y % rows ≡ k / cols = sym (div-mul-add (y % rows) cols (x % cols) under) ∙ ap (λ n. n / cols) s.number in
-    let col : x % cols ≡ k % cols = sym (mod-mul-add (y % rows) cols (x % cols) under) ∙ ap (λ n. n % cols) s.number in
-    (sym (div-add-mod' y rows) ∙ ap (λ i. i * rows + y % rows) qa ∙ ap (λ j. q / 2 * rows + j) row,
-    sym (div-add-mod' x cols) ∙ ap (λ i. i * cols + x % cols) qb ∙ ap (λ j. q % 2 * cols + j) col)
+    let col : x % cols ≡ k % cols = sym (mod-mul-add (y % rows) cols (x % cols) under) ∙ ap (λ n. n % cols) s.number in (
+      sym (div-add-mod' y rows) ∙ ap (λ i. i * rows + y % rows) qa ∙ ap (λ j. q / 2 * rows + j) row,
+      sym (div-add-mod' x cols) ∙ ap (λ i. i * cols + x % cols) qb ∙ ap (λ j. q % 2 * cols + j) col,
+    )
 
 is_spot : (rows cols q k y x : ℕ) → 0 < rows → 0 < cols → q < 4 → k < rows * cols → y ≡ q / 2 * rows + k / cols → x ≡ q % 2 * cols + k % cols → IsSpot rows cols q k y x
 is_spot rows cols q k y x hr hc hq hk ey ex =

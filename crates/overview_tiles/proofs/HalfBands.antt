@@ -1,17 +1,15 @@
 -- Bands that are made one behind the other, and a mosaic into which nothing was laid.
-use Rattle.std.proofs.Common.{◌≡◌, ◌≢◌, ℕ, ℤ, zero, suc, ◌+◌, ◌*◌, ◌<◌, ◌≤◌, Bool, true, false, List, [], ◌∷◌, ◌++◌, length, get_or, Option, Some, None, refl, sym, ap, ◌∙◌, subst, arith, ⊎_elim, length-append}
-use Rattle.std.specs.Prelude.{pos, All, IfSome, is_some, replicate, slice_get}
+use Rattle.std.proofs.Common.{◌≡◌, ℕ, ℤ, zero, suc, ◌+◌, ◌*◌, ◌<◌, ◌≤◌, Bool, true, false, List, [], ◌∷◌, ◌++◌, length, get_or, Some, sym, ap, ◌∙◌, subst, arith, ⊎_elim}
+use Rattle.std.specs.Prelude.{pos, All, replicate, slice_get}
 use Rattle.std.proofs.lemmas.Bool.{cases_lt}
-use Rattle.std.proofs.lemmas.Nat.{mul-add-lt}
 use Rattle.std.proofs.lemmas.Option.{get_or_from_slice_get, slice_get_within, slice_get-get_or}
 use Rattle.std.proofs.lemmas.List.{get_or-replicate, get_or_append_left, get_or_past, get_or_push, length-replicate, length_push}
 use Rattle.std.proofs.Math.Nat.{mul-le-mul_right}
-use Rattle.std.proofs.lemmas.List.Elements.{All-head, All-push, All-tail, All-weaker}
+use Rattle.std.proofs.lemmas.List.Elements.{All-head, All-tail, All-weaker}
 use Rattle.raster_values.specs.declared.kind.PixelType.{PixelType}
 use Rattle.raster_values.specs.Raster.{Pixels, IsRaster, IsShape, blank}
 use Rattle.raster_values.specs.Places.{SameShape}
 use Rattle.raster_values.specs.Bands.{AreBands, AreLike, IsLike, MayBeBands}
-use Rattle.overview_tiles.specs.Half.{valid_four}
 use Rattle.overview_tiles.specs.Tiles.{AreHalf, Tiles, band_of, no_tiles}
 use Rattle.overview_tiles.specs.Sums.{AreBandSums, AreSums, HasShape, IsTileOf, Kept, Sums, no_sums, zero_sums}
 use Rattle.overview_tiles.specs.inside.Means.{HasMeans, HaveMeans}
@@ -51,9 +49,10 @@ are_like kind rows cols depth [] all small = tt
 are_like kind rows cols depth (r ∷ more) all small =
     let first : SameShape (blank kind rows cols depth) r = All-head (SameShape (blank kind rows cols depth)) r more all in
     let size : rows * cols * depth ≡ r.rows * r.cols * r.depth = ap (λ n. n * cols * depth) first.rows ∙ ap (λ n. r.rows * n * depth) first.cols ∙ ap (λ n. r.rows * r.cols * n) first.depth in
-    let count : suc (length more) ≡ 1 + length more = omega arith in
-    (All-weaker (SameShape (blank kind rows cols depth)) (IsLike r) (λ s b. like_blank kind rows cols depth r s first b) more (All-tail (SameShape (blank kind rows cols depth)) r more all),
-    subst (λ n. (1 + length more) * n ≤ 16777216) size (subst (λ n. n * (rows * cols * depth) ≤ 16777216) count small))
+    let count : suc (length more) ≡ 1 + length more = omega arith in (
+      All-weaker (SameShape (blank kind rows cols depth)) (IsLike r) (λ s b. like_blank kind rows cols depth r s first b) more (All-tail (SameShape (blank kind rows cols depth)) r more all),
+      subst (λ n. (1 + length more) * n ≤ 16777216) size (subst (λ n. n * (rows * cols * depth) ≤ 16777216) count small),
+    )
 
 pub may_be : (kind : PixelType) (rows cols depth : ℕ) (bands : List Pixels) → length bands ≤ 16 → All IsRaster bands → All (SameShape (blank kind rows cols depth)) bands → length bands * (rows * cols * depth) ≤ 16777216 → MayBeBands bands
 may_be kind rows cols depth bands few sound all small = record { few = few; sound = sound; like = are_like kind rows cols depth bands all small }
@@ -86,10 +85,10 @@ zero_layers m n laid bands = record {
   alike = λ q. tt;
   laid = λ q less. ap (λ (xs : List Bool). get_or xs q true) laid ∙ get_or-replicate 4 q false true less;
   each = λ b less.
-    let z = zero_sums (m.rows * m.cols) m.depth in
-    let size : length m.bands ≡ n = ap length bands ∙ length-replicate n z in
-    let is : get_or m.bands b no_sums ≡ z = ap (λ (xs : List Sums). get_or xs b no_sums) bands ∙ get_or-replicate n b z no_sums (omega (arith, less, size)) in
-    subst (AreBandSums m.rows m.cols m.depth (band_of b no_tiles)) (sym is) (zero_band m.rows m.cols m.depth b);
+      let z = zero_sums (m.rows * m.cols) m.depth in
+      let size : length m.bands ≡ n = ap length bands ∙ length-replicate n z in
+      let is : get_or m.bands b no_sums ≡ z = ap (λ (xs : List Sums). get_or xs b no_sums) bands ∙ get_or-replicate n b z no_sums (omega (arith, less, size)) in
+      subst (AreBandSums m.rows m.cols m.depth (band_of b no_tiles)) (sym is) (zero_band m.rows m.cols m.depth b);
 }
 
 first_size : (like : List Pixels) (first : Pixels) → AreBands like → slice_get like 0 ≡ Some first → length like * (first.rows * first.cols * first.depth) ≤ 16777216

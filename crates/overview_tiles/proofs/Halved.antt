@@ -1,22 +1,21 @@
 -- The raster of the means is half of the quarters.
-use Rattle.std.proofs.Common.{◌≡◌, ◌≢◌, ℕ, ℤ, zero, suc, ◌+◌, ◌*◌, ◌/◌, ◌%◌, ◌<◌, ◌≤◌, Bool, true, false, cond, List, [], ◌∷◌, length, get_or, Option, Some, None, refl, sym, ap, ◌∙◌, subst, arith, ⊎_elim}
-use Rattle.std.specs.Prelude.{◌↔◌, pos, ◌*ℤ◌, ◌≤ℤ◌, All, IfSome, is_some, nat_lt, slice_get}
+use Rattle.std.proofs.Common.{◌≡◌, ℕ, ℤ, ◌+◌, ◌*◌, ◌/◌, ◌%◌, ◌<◌, ◌≤◌, Bool, true, false, List, length, get_or, Option, Some, None, refl, sym, ap, ◌∙◌, subst, arith, ⊎_elim}
+use Rattle.std.specs.Prelude.{◌↔◌, pos, ◌*ℤ◌, ◌≤ℤ◌, IfSome, slice_get}
 use Rattle.std.proofs.lemmas.Nat.{div_below, mod_below, div-add-mod', mul-add-lt}
 use Rattle.std.proofs.lemmas.Bool.{lt-ltb, ltb-true, cases_lt}
 use Rattle.std.proofs.lemmas.Option.{none-some, slice_get_within}
 use Rattle.std.proofs.lemmas.List.{get_or_past}
 use Rattle.raster_values.specs.declared.kind.PixelType.{PixelType}
 use Rattle.raster_values.specs.PixelType.{type_least, type_greatest}
-use Rattle.raster_values.specs.Raster.{Pixels, IsRaster, InShape, IsValidAt, valid_at, value_at}
+use Rattle.raster_values.specs.Raster.{Pixels, IsRaster, InShape, valid_at}
 use Rattle.raster_values.specs.Places.{SameShape}
 use Rattle.raster_values.specs.Bands.{AreBands}
 use Rattle.raster_values.proofs.Same.{same_raster}
-use Rattle.overview_tiles.specs.Half.{Quarters, IsHalf, HalfIsOne, AreAlike, four_pixels, valid_four, valid_of, sum_at, mean_of}
+use Rattle.overview_tiles.specs.Half.{Quarters, IsHalf, HalfIsOne, four_pixels, valid_four, valid_of, sum_at, mean_of}
 use Rattle.overview_tiles.specs.Tiles.{Tiles, band_of, AreHalf}
 use Rattle.overview_tiles.specs.Sums.{AreBandSums, AreSums, IsTileOf, Kept, Sums, no_sums}
 use Rattle.overview_tiles.specs.inside.Means.{HaveMeans, HasMeans}
-use Rattle.overview_tiles.specs.inside.View.{HasRoom}
-use Rattle.overview_tiles.proofs.Whole.{AreOf, IsOfShape, four_in, few_valid, sum_least, sum_greatest}
+use Rattle.overview_tiles.proofs.Whole.{AreOf, four_in, few_valid, sum_least, sum_greatest}
 use Rattle.overview_tiles.proofs.Tiled.{are_of}
 
 -- ---- the means are there
@@ -37,19 +36,19 @@ have_means kind rows cols depth quarters s hr hc counts sums of h = record {
   count_size = counts;
   sum_size = sums;
   few = λ k. ⊎_elim
-    (λ (inside : k < rows * cols). (let few = few_valid (four_pixels rows cols quarters (k / cols) (k % cols)) in let is = count_is rows cols depth quarters s k hr hc inside h in (let e : get_or s.counts k 0 ≤ 4 = omega (arith, few, is) in e)))
-    (λ (past : rows * cols ≤ k). (let is = get_or_past s.counts k 0 (omega (arith, past, counts)) in (let e : get_or s.counts k 0 ≤ 4 = omega (arith, is) in e)))
-    (cases_lt k (rows * cols));
+      (λ (inside : k < rows * cols). (let few = few_valid (four_pixels rows cols quarters (k / cols) (k % cols)) in let is = count_is rows cols depth quarters s k hr hc inside h in (let e : get_or s.counts k 0 ≤ 4 = omega (arith, few, is) in e)))
+      (λ (past : rows * cols ≤ k). (let is = get_or_past s.counts k 0 (omega (arith, past, counts)) in (let e : get_or s.counts k 0 ≤ 4 = omega (arith, is) in e)))
+      (cases_lt k (rows * cols));
   least = λ k d inside deep some.
-    let fours = four_pixels rows cols quarters (k / cols) (k % cols) in
-    let P : ℤ → Type 0 = λ z. (pos (get_or s.counts k 0) *ℤ type_least kind) ≤ℤ z in
-    let Q : ℕ → Type 0 = λ n. (pos n *ℤ type_least kind) ≤ℤ sum_at d (valid_of fours) in
-    subst P (sym (sum_is rows cols depth quarters s k d hr hc inside deep h)) (subst Q (sym (count_is rows cols depth quarters s k hr hc inside h)) (sum_least kind d fours (four_in kind rows cols depth d quarters (k / cols) (k % cols) deep hr hc of)));
+      let fours = four_pixels rows cols quarters (k / cols) (k % cols) in
+      let P : ℤ → Type 0 = λ z. (pos (get_or s.counts k 0) *ℤ type_least kind) ≤ℤ z in
+      let Q : ℕ → Type 0 = λ n. (pos n *ℤ type_least kind) ≤ℤ sum_at d (valid_of fours) in
+      subst P (sym (sum_is rows cols depth quarters s k d hr hc inside deep h)) (subst Q (sym (count_is rows cols depth quarters s k hr hc inside h)) (sum_least kind d fours (four_in kind rows cols depth d quarters (k / cols) (k % cols) deep hr hc of)));
   greatest = λ k d inside deep some.
-    let fours = four_pixels rows cols quarters (k / cols) (k % cols) in
-    let P : ℤ → Type 0 = λ z. z ≤ℤ (pos (get_or s.counts k 0) *ℤ type_greatest kind) in
-    let Q : ℕ → Type 0 = λ n. sum_at d (valid_of fours) ≤ℤ (pos n *ℤ type_greatest kind) in
-    subst P (sym (sum_is rows cols depth quarters s k d hr hc inside deep h)) (subst Q (sym (count_is rows cols depth quarters s k hr hc inside h)) (sum_greatest kind d fours (four_in kind rows cols depth d quarters (k / cols) (k % cols) deep hr hc of)));
+      let fours = four_pixels rows cols quarters (k / cols) (k % cols) in
+      let P : ℤ → Type 0 = λ z. z ≤ℤ (pos (get_or s.counts k 0) *ℤ type_greatest kind) in
+      let Q : ℕ → Type 0 = λ n. sum_at d (valid_of fours) ≤ℤ (pos n *ℤ type_greatest kind) in
+      subst P (sym (sum_is rows cols depth quarters s k d hr hc inside deep h)) (subst Q (sym (count_is rows cols depth quarters s k hr hc inside h)) (sum_greatest kind d fours (four_in kind rows cols depth d quarters (k / cols) (k % cols) deep hr hc of)));
 }
 
 -- ---- and are half
@@ -65,18 +64,19 @@ own_half quarters s r means sums of = record {
   raster = means.raster;
   alike = λ n. alike_in quarters r (quarters n) n of refl;
   valid = λ row col inside.
-    let k = row * r.cols + col in
-    let under : k < r.rows * r.cols = (let e : k < r.cols * r.rows = mul-add-lt row r.cols col r.rows inside.0 inside.1 in omega (arith, e)) in
-    let mark = means.marks k under in
-    let count = sums.counts row col inside.0 inside.1 in
-    ((λ on. let some : 0 < get_or s.counts k 0 = ltb-true 0 (get_or s.counts k 0) (sym mark ∙ on) in omega (arith, some, count)),
-    (λ some. mark ∙ lt-ltb 0 (get_or s.counts k 0) (omega (arith, some, count))));
+      let k = row * r.cols + col in
+      let under : k < r.rows * r.cols = (let e : k < r.cols * r.rows = mul-add-lt row r.cols col r.rows inside.0 inside.1 in omega (arith, e)) in
+      let mark = means.marks k under in
+      let count = sums.counts row col inside.0 inside.1 in (
+        (λ on. let some : 0 < get_or s.counts k 0 = ltb-true 0 (get_or s.counts k 0) (sym mark ∙ on) in omega (arith, some, count)),
+        (λ some. mark ∙ lt-ltb 0 (get_or s.counts k 0) (omega (arith, some, count))),
+      );
   values = λ row col d inside on deep.
-    let k = row * r.cols + col in
-    let under : k < r.rows * r.cols = (let e : k < r.cols * r.rows = mul-add-lt row r.cols col r.rows inside.0 inside.1 in omega (arith, e)) in
-    means.values k d under deep on
-    ∙ ap (λ z. mean_of z (pos (get_or s.counts k 0))) (sums.sums row col d inside.0 inside.1 deep)
-    ∙ ap (λ n. mean_of (sum_at d (valid_four r.rows r.cols quarters row col)) (pos n)) (sums.counts row col inside.0 inside.1);
+      let k = row * r.cols + col in
+      let under : k < r.rows * r.cols = (let e : k < r.cols * r.rows = mul-add-lt row r.cols col r.rows inside.0 inside.1 in omega (arith, e)) in
+      means.values k d under deep on
+      ∙ ap (λ z. mean_of z (pos (get_or s.counts k 0))) (sums.sums row col d inside.0 inside.1 deep)
+      ∙ ap (λ n. mean_of (sum_at d (valid_four r.rows r.cols quarters row col)) (pos n)) (sums.counts row col inside.0 inside.1);
 }
 
 pub is_half : (kind : PixelType) (rows cols depth : ℕ) (quarters : Quarters) (s : Sums) (r : Pixels) → HasMeans kind rows cols depth s r → AreBandSums rows cols depth quarters s → AreOf kind rows cols depth quarters → IsHalf quarters r
@@ -130,7 +130,7 @@ one_half quarters q s r t there hr ht =
       shape = record { kind = sym lr.kind ∙ lt.kind; rows = sym rows; cols = sym cols; depth = sym depth };
       places = places;
       values = λ row col d h on deep.
-        hr.values row col d h on deep
-        ∙ ap (λ (vs : List (List ℤ)). mean_of (sum_at d vs) (pos (length vs))) (sym (fours row col))
-        ∙ sym (ht.values row col d (inside row col h) (sym (places row col h) ∙ on) (omega (arith, deep, depth)));
+          hr.values row col d h on deep
+          ∙ ap (λ (vs : List (List ℤ)). mean_of (sum_at d vs) (pos (length vs))) (sym (fours row col))
+          ∙ sym (ht.values row col d (inside row col h) (sym (places row col h) ∙ on) (omega (arith, deep, depth)));
     })

@@ -1,6 +1,6 @@
 -- Steps of the loops that lay a raster.
-use Rattle.std.proofs.Common.{◌≡◌, ◌≢◌, ℕ, ℤ, zero, suc, ◌+◌, ◌-◌, ◌*◌, ◌/◌, ◌%◌, ◌<◌, ◌≤◌, Bool, true, false, List, [], ◌∷◌, length, get_or, Option, Some, None, refl, sym, ap, ◌∙◌, subst, arith, ⊎_elim}
-use Rattle.std.specs.Prelude.{pos, negsuc, ◌+ℤ◌, ◌≤ℤ◌, is_some, unwrap_or}
+use Rattle.std.proofs.Common.{◌≡◌, ◌≢◌, ℕ, ℤ, ◌+◌, ◌-◌, ◌*◌, ◌/◌, ◌%◌, ◌<◌, ◌≤◌, Bool, true, false, List, [], length, get_or, Option, Some, None, refl, sym, ap, ◌∙◌, subst, arith, ⊎_elim}
+use Rattle.std.specs.Prelude.{pos, ◌+ℤ◌, ◌≤ℤ◌, is_some, unwrap_or}
 use Rattle.std.proofs.lemmas.Int.{ints}
 use Rattle.std.proofs.lemmas.Nat.{mul-add-lt, div-mul-add, mod-mul-add}
 use Rattle.std.proofs.lemmas.Bool.{cases_eq, cases_lt}
@@ -38,11 +38,13 @@ marks_none f r from counts = counts_start (λ i. total_in f (from + i)) (λ i. m
 
 -- pixels behind those that were laid
 pub marks_join : (f : Frame) (r : Pixels) (from n m : ℕ) (c0 c1 c2 : List ℕ) → length c1 ≡ length c0 → LaysMarks f r from n c0 c1 → LaysMarks f r (from + n) m c1 c2 → LaysMarks f r from (n + m) c0 c2
-marks_join f r from n m c0 c1 c2 size h k = record { each = λ t less.
-    let first = h.each t less in
-    let second = k.each t (omega (arith, less, size)) in
-    let all = comes_from f (mark_in r) t from n m in
-    omega (arith, ints, first, second, all) }
+marks_join f r from n m c0 c1 c2 size h k = record {
+  each = λ t less.
+      let first = h.each t less in
+      let second = k.each t (omega (arith, less, size)) in
+      let all = comes_from f (mark_in r) t from n m in
+      omega (arith, ints, first, second, all);
+}
 
 pub values_join : (f : Frame) (r : Pixels) (from n m places : ℕ) (s0 s1 s2 : List ℤ) → LaysValues f r from n places s0 s1 → LaysValues f r (from + n) m places s1 s2 → LaysValues f r from (n + m) places s0 s2
 values_join f r from n m places s0 s1 s2 h k t d less deep =
@@ -140,8 +142,10 @@ pub piece_counts : (f : Frame) (r : Pixels) (row col n : ℕ) (marks : List Bool
     → ((i : ℕ) → i < n → get_or marks i false ≡ is_some (get_or r.pixels (row * f.cols + col + i) None))
     → GrowsCounts (in_row ((f.top + row) / 2 * f.cols) (f.left + col)) (marks_amount marks) (length marks) old new
     → GrowsCounts (λ i. total_in f (row * f.cols + col + i)) (λ i. mark_in r (row * f.cols + col + i)) n old new
-piece_counts f r row col n marks old new across size are h = record { each = λ t less.
-    h.each t less ∙ ap (λ z. pos (get_or old t 0) +ℤ z) (piece_comes f r row col n marks t across size are) }
+piece_counts f r row col n marks old new across size are h = record {
+  each = λ t less.
+      h.each t less ∙ ap (λ z. pos (get_or old t 0) +ℤ z) (piece_comes f r row col n marks t across size are);
+}
 
 pub piece_values : (f : Frame) (r : Pixels) (row col n d : ℕ) (values : List ℤ) (t : ℕ) → col + n ≤ f.cols → length values ≡ n
     → ((i : ℕ) → i < n → get_or values i (pos 0) ≡ value_in r d (row * f.cols + col + i))
@@ -170,15 +174,15 @@ pub depths_more : (f : Frame) (r : Pixels) (row col n places d : ℕ) (values : 
     → LaysDepths f r (row * f.cols + col) n places d s0 s1 → LaysDepths f r (row * f.cols + col) n places (d + 1) s0 s2
 depths_more f r row col n places d values s0 s1 s2 deep across size room are grown h = record {
   done = λ t e less under.
-    ⊎_elim
-    (λ (same : e ≡ d).
-    let P : ℕ → Type 0 = λ j. get_or s2 (t * f.depth + j) (pos 0) ≡ get_or s0 (t * f.depth + j) (pos 0) +ℤ comes (λ i. total_in f (row * f.cols + col + i)) (λ i. value_in r j (row * f.cols + col + i)) t n in
-    let came = piece_values f r row col n d values t across size are in
-    let here : P d = grown.each t (room t less) ∙ ap (λ z. get_or s1 (t * f.depth + d) (pos 0) +ℤ z) came ∙ ap (λ z. z +ℤ comes (λ i. total_in f (row * f.cols + col + i)) (λ i. value_in r d (row * f.cols + col + i)) t n) (h.rest t d (omega arith) deep) in
-    subst P (sym same) here)
-    (λ (ne : e ≢ d).
-    grown.rest t e (omega (arith, under, deep, ne)) ne ∙ h.done t e less (omega (arith, under, ne)))
-    (cases_eq e d);
+      ⊎_elim
+      (λ (same : e ≡ d).
+      let P : ℕ → Type 0 = λ j. get_or s2 (t * f.depth + j) (pos 0) ≡ get_or s0 (t * f.depth + j) (pos 0) +ℤ comes (λ i. total_in f (row * f.cols + col + i)) (λ i. value_in r j (row * f.cols + col + i)) t n in
+      let came = piece_values f r row col n d values t across size are in
+      let here : P d = grown.each t (room t less) ∙ ap (λ z. get_or s1 (t * f.depth + d) (pos 0) +ℤ z) came ∙ ap (λ z. z +ℤ comes (λ i. total_in f (row * f.cols + col + i)) (λ i. value_in r d (row * f.cols + col + i)) t n) (h.rest t d (omega arith) deep) in
+      subst P (sym same) here)
+      (λ (ne : e ≢ d).
+      grown.rest t e (omega (arith, under, deep, ne)) ne ∙ h.done t e less (omega (arith, under, ne)))
+      (cases_eq e d);
   rest = λ t e low below. grown.rest t e below (λ same. omega (arith, low, same)) ∙ h.rest t e (omega (arith, low)) below;
 }
 

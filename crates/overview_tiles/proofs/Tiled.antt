@@ -1,27 +1,26 @@
 -- A tile laid as a quarter of a mosaic.
-use Rattle.std.proofs.Common.{◌≡◌, ◌≢◌, ℕ, ℤ, zero, suc, ◌+◌, ◌*◌, ◌/◌, ◌%◌, ◌<◌, ◌≤◌, Bool, true, false, cond, List, [], ◌∷◌, length, get_or, Option, Some, None, refl, sym, ap, ◌∙◌, subst, arith, ⊎_elim, w64, FitsSigned, to_z, of_z}
-use Rattle.std.specs.Prelude.{pos, negsuc, ◌+ℤ◌, ◌*ℤ◌, ◌≤ℤ◌, All, IfSome, is_some, nat_eq, nat_lt, slice_get, unwrap_or}
+use Rattle.std.proofs.Common.{◌≡◌, ◌≢◌, ℕ, ℤ, ◌+◌, ◌*◌, ◌/◌, ◌%◌, ◌<◌, ◌≤◌, Bool, true, false, cond, List, [], length, get_or, Option, Some, None, refl, sym, ap, ◌∙◌, subst, arith, ⊎_elim, w64, FitsSigned, to_z, of_z}
+use Rattle.std.specs.Prelude.{pos, ◌*ℤ◌, ◌≤ℤ◌, All, IfSome, is_some, nat_eq, slice_get}
 use Rattle.std.proofs.Math.ListN.{set}
 use Rattle.std.proofs.Math.Nat.{mul-le-mul_right}
 use Rattle.std.proofs.lemmas.Int.{ints, to_z-of_z}
 use Rattle.std.proofs.lemmas.Nat.{div_below, mod_below, div-add-mod'}
-use Rattle.std.proofs.lemmas.Bool.{eq-eqb, ne_eqb, cases_eq, lt-ltb, ltb-true, false≢true}
+use Rattle.std.proofs.lemmas.Bool.{eq-eqb, ne_eqb, cases_eq, false≢true}
 use Rattle.std.proofs.lemmas.Option.{none-some, get_or_from_slice_get, slice_get_within, slice_get-get_or}
 use Rattle.std.proofs.lemmas.List.{get_or-set_same, get_or-set_other, length-set}
 use Rattle.std.proofs.lemmas.List.Elements.{All-weaker}
 use Rattle.raster_values.specs.declared.kind.PixelType.{PixelType}
 use Rattle.raster_values.specs.declared.kind.PixelType.TheVariants.{I8, U8, I16, U16, I32, U32}
 use Rattle.raster_values.specs.PixelType.{type_least, type_greatest}
-use Rattle.raster_values.specs.Raster.{Pixels, IsRaster, IsShape, InShape, IsValidAt, valid_at, value_at, pixel_at}
-use Rattle.raster_values.specs.Places.{SameShape}
+use Rattle.raster_values.specs.Raster.{Pixels, IsRaster, IsShape}
 use Rattle.raster_values.specs.Bands.{AreBands}
 use Rattle.overview_tiles.specs.declared.layer.Frame.{Frame}
-use Rattle.overview_tiles.specs.Half.{Quarters, IsHalf, AreAlike, four_pixels, valid_four, valid_of, sum_at, mean_of}
-use Rattle.overview_tiles.specs.Tiles.{Tiles, band_of, band_in, with_tile, AreHalf}
+use Rattle.overview_tiles.specs.Half.{Quarters, four_pixels, valid_of, sum_at}
+use Rattle.overview_tiles.specs.Tiles.{Tiles, band_of, band_in, with_tile}
 use Rattle.overview_tiles.specs.Sums.{AreBandSums, AreSums, HasShape, IsLikeMosaic, IsTileOf, Kept, Sums, no_sums}
 use Rattle.overview_tiles.specs.inside.Comes.{IsWithin}
-use Rattle.overview_tiles.specs.inside.Lays.{AreWithin, CanLay, IsPlaced, LaysAll}
-use Rattle.overview_tiles.specs.inside.Means.{HaveMeans, HasMeans}
+use Rattle.overview_tiles.specs.inside.Lays.{AreWithin, CanLay, LaysAll}
+use Rattle.overview_tiles.specs.inside.Means.{HaveMeans}
 use Rattle.overview_tiles.specs.inside.View.{HasRoom}
 use Rattle.overview_tiles.proofs.Whole.{AreOf, IsFrame, IsOfShape, IsWith, band_more, count_fits, four_in, few_valid, sum_least, sum_greatest}
 
@@ -148,22 +147,22 @@ pub sums_more : (m n : Kept) (tiles : Tiles) (q : ℕ) (tile : List Pixels) (f :
 sums_more m n tiles q tile f few room h free bands of frame like laid lays = record {
   alike = λ k. elim (nat_eq k q) as (λ b. IfSome (cond b (Some tile) (tiles k)) (λ t. AreBands t × IsTileOf n t)) [ true ↦ (bands, tile_of m n tile like of) | false ↦ alike_more m n (tiles k) like (h.alike k) ];
   laid = λ k under.
-    ⊎_elim
-    (λ (same : k ≡ q).
-    let here : get_or n.laid k true ≡ true = ap (λ (xs : List Bool). get_or xs k true) laid ∙ ap (λ j. get_or (set m.laid q true) j true) same ∙ get_or-set_same m.laid q true true (omega (arith, few, room.laid)) in
-    here ∙ ap (λ b. is_some (cond b (Some tile) (tiles k))) (sym (eq-eqb k q same)))
-    (λ (ne : k ≢ q).
-    ap (λ (xs : List Bool). get_or xs k true) laid ∙ get_or-set_other m.laid q k true true ne ∙ h.laid k under ∙ ap (is_some {T = List Pixels}) (sym (with_other q tile tiles k ne)))
-    (cases_eq k q);
+      ⊎_elim
+      (λ (same : k ≡ q).
+      let here : get_or n.laid k true ≡ true = ap (λ (xs : List Bool). get_or xs k true) laid ∙ ap (λ j. get_or (set m.laid q true) j true) same ∙ get_or-set_same m.laid q true true (omega (arith, few, room.laid)) in
+      here ∙ ap (λ b. is_some (cond b (Some tile) (tiles k))) (sym (eq-eqb k q same)))
+      (λ (ne : k ≢ q).
+      ap (λ (xs : List Bool). get_or xs k true) laid ∙ get_or-set_other m.laid q k true true ne ∙ h.laid k under ∙ ap (is_some {T = List Pixels}) (sym (with_other q tile tiles k ne)))
+      (cases_eq k q);
   each = λ b under.
-    let inside : b < length m.bands = omega (arith, under, like.count) in
-    let r = get_or tile b no_pixels in
-    let e : slice_get tile b ≡ Some r = slice_get-get_or tile b no_pixels (omega (arith, inside, of.count)) in
-    let shaped = all_at (HasShape m) tile b r of.each e in
-    let shape : IsOfShape m.rows m.cols m.depth r = record { rows_is = shaped.rows; cols_is = shaped.cols; depth_is = shaped.depth } in
-    band_sums_of m n (band_of b (with_tile q tile tiles)) (get_or n.bands b no_sums) like
-    (band_more m.rows m.cols m.depth q f r (band_of b tiles) (band_of b (with_tile q tile tiles)) (get_or m.bands b no_sums) (get_or n.bands b no_sums) frame shape
-    (tile_more q b tile r tiles (is_free m tiles q few h free) e) room.shape.rows_above room.shape.cols_above few (room.counts b inside) (lays b r e) (h.each b inside));
+      let inside : b < length m.bands = omega (arith, under, like.count) in
+      let r = get_or tile b no_pixels in
+      let e : slice_get tile b ≡ Some r = slice_get-get_or tile b no_pixels (omega (arith, inside, of.count)) in
+      let shaped = all_at (HasShape m) tile b r of.each e in
+      let shape : IsOfShape m.rows m.cols m.depth r = record { rows_is = shaped.rows; cols_is = shaped.cols; depth_is = shaped.depth } in
+      band_sums_of m n (band_of b (with_tile q tile tiles)) (get_or n.bands b no_sums) like
+      (band_more m.rows m.cols m.depth q f r (band_of b tiles) (band_of b (with_tile q tile tiles)) (get_or m.bands b no_sums) (get_or n.bands b no_sums) frame shape
+      (tile_more q b tile r tiles (is_free m tiles q few h free) e) room.shape.rows_above room.shape.cols_above few (room.counts b inside) (lays b r e) (h.each b inside));
 }
 
 -- there are as many numbers as before

@@ -1,6 +1,6 @@
 -- A raster laid as a quarter: counts and sums are those of one quarter more.
-use Rattle.std.proofs.Common.{◌≡◌, ◌≢◌, ℕ, ℤ, zero, suc, ◌+◌, ◌*◌, ◌/◌, ◌%◌, ◌<◌, ◌≤◌, Bool, true, false, List, [], ◌∷◌, length, get_or, Option, Some, None, refl, sym, ap, ◌∙◌, subst, arith, ⊎_elim}
-use Rattle.std.specs.Prelude.{pos, negsuc, ◌+ℤ◌, ◌*ℤ◌, ◌≤ℤ◌, is_some, unwrap_or, IfSome}
+use Rattle.std.proofs.Common.{◌≡◌, ◌≢◌, ℕ, ℤ, ◌+◌, ◌*◌, ◌/◌, ◌%◌, ◌<◌, ◌≤◌, List, [], ◌∷◌, length, get_or, Option, Some, None, refl, sym, ap, ◌∙◌, subst, arith, ⊎_elim}
+use Rattle.std.specs.Prelude.{pos, ◌+ℤ◌, ◌*ℤ◌, ◌≤ℤ◌, is_some, unwrap_or, IfSome}
 use Rattle.std.proofs.lemmas.Int.{ints}
 use Rattle.std.proofs.lemmas.Nat.{mul-add-lt, div_below, mod_below, div-add-mod'}
 use Rattle.std.proofs.lemmas.Bool.{cases_eq}
@@ -12,7 +12,7 @@ use Rattle.raster_values.specs.Flat.{value_in}
 use Rattle.overview_tiles.specs.declared.layer.Frame.{Frame}
 use Rattle.overview_tiles.specs.Half.{Quarters, mosaic_at, pixel_in, four_pixels, valid_of, valid_four, sum_at}
 use Rattle.overview_tiles.specs.Sums.{AreBandSums, Sums}
-use Rattle.overview_tiles.specs.inside.Comes.{comes, one_of, mark_in, total_at, GrowsCounts}
+use Rattle.overview_tiles.specs.inside.Comes.{comes, one_of, mark_in, total_at}
 use Rattle.overview_tiles.specs.inside.Lays.{LaysAll}
 use Rattle.overview_tiles.proofs.Comes.{comes_same}
 use Rattle.overview_tiles.proofs.Fours.{four, four_sum, comes_four, spot, spot_in, spot_out, number_of}
@@ -51,7 +51,6 @@ pub record IsWith (q : ℕ) (r : Pixels) (old new : Quarters) : Type 0 where
   pub none : old q ≡ None
   pub there : new q ≡ Some r
   pub others : (n : ℕ) → n ≢ q → new n ≡ old n
-
 
 abbrev pub amount_in : (Option (List ℤ) → ℤ) → Pixels → ℕ → ℤ
 amount_in g r k = g (get_or r.pixels k None)
@@ -121,28 +120,28 @@ pub band_more : (rows cols depth q : ℕ) (f : Frame) (r : Pixels) (old new : Qu
     → length s.counts ≡ rows * cols → LaysAll f r s t → AreBandSums rows cols depth old s → AreBandSums rows cols depth new t
 band_more rows cols depth q f r old new s t frame shape with' hr hc hq size lays before = record {
   counts = λ row col below beside.
-    let k = row * cols + col in
-    let inside : k < length s.counts = (let e = place_below rows cols row col below beside in omega (arith, e, size)) in
-    let grown = lays.counts.each k inside in
-    let come = frame_comes f rows cols depth q (mark_in r) k (r.rows * r.cols) (rows * cols) frame (many rows cols depth r shape) in
-    let more = total_more rows cols q r old new one_in row col refl with' shape.cols_is hr hc hq below beside in
-    let first = count_total (four_pixels rows cols old row col) in
-    let last = count_total (four_pixels rows cols new row col) in
-    let was : pos (get_or s.counts k 0) ≡ pos (length (valid_four rows cols old row col)) = ap pos (before.counts row col below beside) in
-    let e : pos (get_or t.counts k 0) ≡ pos (length (valid_four rows cols new row col)) = grown ∙ ap (λ z. pos (get_or s.counts k 0) +ℤ z) come ∙ ap (λ z. z +ℤ comes (total_at cols (q / 2 * rows) (q % 2 * cols)) (mark_in r) k (rows * cols)) (was ∙ first) ∙ sym more ∙ sym last in
-    omega (arith, ints, e);
+      let k = row * cols + col in
+      let inside : k < length s.counts = (let e = place_below rows cols row col below beside in omega (arith, e, size)) in
+      let grown = lays.counts.each k inside in
+      let come = frame_comes f rows cols depth q (mark_in r) k (r.rows * r.cols) (rows * cols) frame (many rows cols depth r shape) in
+      let more = total_more rows cols q r old new one_in row col refl with' shape.cols_is hr hc hq below beside in
+      let first = count_total (four_pixels rows cols old row col) in
+      let last = count_total (four_pixels rows cols new row col) in
+      let was : pos (get_or s.counts k 0) ≡ pos (length (valid_four rows cols old row col)) = ap pos (before.counts row col below beside) in
+      let e : pos (get_or t.counts k 0) ≡ pos (length (valid_four rows cols new row col)) = grown ∙ ap (λ z. pos (get_or s.counts k 0) +ℤ z) come ∙ ap (λ z. z +ℤ comes (total_at cols (q / 2 * rows) (q % 2 * cols)) (mark_in r) k (rows * cols)) (was ∙ first) ∙ sym more ∙ sym last in
+      omega (arith, ints, e);
   sums = λ row col d below beside deep.
-    let k = row * cols + col in
-    let inside : k < length s.counts = (let e = place_below rows cols row col below beside in omega (arith, e, size)) in
-    let fd : f.depth ≡ depth = frame.depth_is in
-    let P : ℕ → Type 0 = λ n. get_or t.sums (k * n + d) (pos 0) ≡ get_or s.sums (k * n + d) (pos 0) +ℤ comes (λ i. total_at f.cols f.top f.left (0 + i)) (λ i. value_in r d (0 + i)) k (r.rows * r.cols) in
-    let grown : P depth = subst P fd (lays.sums k d (omega (arith, inside, size, many rows cols depth r shape)) (omega (arith, fd, deep))) in
-    let come = frame_comes f rows cols depth q (value_in r d) k (r.rows * r.cols) (rows * cols) frame (many rows cols depth r shape) in
-    let more = total_more rows cols q r old new (value_at_depth d) row col refl with' shape.cols_is hr hc hq below beside in
-    let first = sum_total d (four_pixels rows cols old row col) in
-    let last = sum_total d (four_pixels rows cols new row col) in
-    let was = before.sums row col d below beside deep in
-    grown ∙ ap (λ z. get_or s.sums (k * depth + d) (pos 0) +ℤ z) come ∙ ap (λ z. z +ℤ comes (total_at cols (q / 2 * rows) (q % 2 * cols)) (value_in r d) k (rows * cols)) (was ∙ first) ∙ sym more ∙ sym last;
+      let k = row * cols + col in
+      let inside : k < length s.counts = (let e = place_below rows cols row col below beside in omega (arith, e, size)) in
+      let fd : f.depth ≡ depth = frame.depth_is in
+      let P : ℕ → Type 0 = λ n. get_or t.sums (k * n + d) (pos 0) ≡ get_or s.sums (k * n + d) (pos 0) +ℤ comes (λ i. total_at f.cols f.top f.left (0 + i)) (λ i. value_in r d (0 + i)) k (r.rows * r.cols) in
+      let grown : P depth = subst P fd (lays.sums k d (omega (arith, inside, size, many rows cols depth r shape)) (omega (arith, fd, deep))) in
+      let come = frame_comes f rows cols depth q (value_in r d) k (r.rows * r.cols) (rows * cols) frame (many rows cols depth r shape) in
+      let more = total_more rows cols q r old new (value_at_depth d) row col refl with' shape.cols_is hr hc hq below beside in
+      let first = sum_total d (four_pixels rows cols old row col) in
+      let last = sum_total d (four_pixels rows cols new row col) in
+      let was = before.sums row col d below beside deep in
+      grown ∙ ap (λ z. get_or s.sums (k * depth + d) (pos 0) +ℤ z) come ∙ ap (λ z. z +ℤ comes (total_at cols (q / 2 * rows) (q % 2 * cols)) (value_in r d) k (rows * cols)) (was ∙ first) ∙ sym more ∙ sym last;
 }
 
 -- a count that is to come is four at most

@@ -59,14 +59,7 @@ fn add_marks(marks: &[bool], base: usize, col: usize, counts: &mut [u8])
 
 /// Adds the values of the pixels of a row at a depth to their sums: the pixel of the first value
 /// stands in the column `col` of the mosaic, and the sums of its row begin with that number `base`.
-fn add_values(
-    values: &[i64],
-    base: usize,
-    col: usize,
-    depth: usize,
-    d: usize,
-    sums: &mut [i64],
-)
+fn add_values(values: &[i64], base: usize, col: usize, depth: usize, d: usize, sums: &mut [i64])
     requires low { base < 2 ^ 32 }
     requires left { col < 2 ^ 32 }
     requires few { length values.now ≤ 256 }
@@ -172,13 +165,7 @@ fn lay_piece(
 }
 
 /// Lays the pixels of a row.
-fn lay_row(
-    raster: &Raster,
-    frame: Frame,
-    row: usize,
-    counts: &mut [u8],
-    sums: &mut [i64],
-)
+fn lay_row(raster: &Raster, frame: Frame, row: usize, counts: &mut [u8], sums: &mut [i64])
     requires row { row < raster.now.rows }
     requires placed { IsPlaced frame raster.now }
     requires counts { length counts.old ≡ raster.now.rows * raster.now.cols }

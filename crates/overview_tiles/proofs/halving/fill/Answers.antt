@@ -1,4 +1,4 @@
-use Rattle.std.proofs.Common.{◌≡◌, ◌+◌, ◌*◌, ◌≤◌, ap, ◌∙◌, arith}
+use Rattle.std.proofs.Common.{◌≡◌, ◌*◌, ap, ◌∙◌, arith}
 use Rattle.overview_tiles.proofs.Filling.{fills_join, fills_start}
 use Rattle.overview_tiles.proofs.halving.fill.Goals as goal
 

@@ -1,5 +1,4 @@
-use Rattle.std.proofs.Common.{◌≡◌, ◌∙◌, ◌+◌, ◌≤◌, length, arith, ap, sym, subst, get_or}
-use Rattle.std.specs.Prelude.{pos}
+use Rattle.std.proofs.Common.{◌≡◌, ◌∙◌, ◌+◌, length, arith, ap}
 use Rattle.overview_tiles.specs.inside.Means.{mean_at}
 use Rattle.overview_tiles.proofs.Filling.{fills_all, fills_more, fills_none}
 use Rattle.overview_tiles.proofs.halving.fill_depths.Goals as goal

@@ -1,4 +1,3 @@
-use Rattle.std.proofs.Common.{length}
 use Rattle.overview_tiles.specs.inside.Means.{FillsDepths}
 use Rattle.overview_tiles.proofs.halving.fill_depths.Given as goal
 

@@ -1,4 +1,4 @@
-use Rattle.std.proofs.Common.{◌≡◌, ◌*◌, List, ℕ, ℤ, length, sym, subst}
+use Rattle.std.proofs.Common.{◌*◌, List, ℕ, ℤ, length, subst}
 use Rattle.raster_values.specs.Raster.{Pixels}
 use Rattle.overview_tiles.specs.inside.Means.{Counted, Fills}
 use Rattle.overview_tiles.proofs.Filling.{has_means}

@@ -1,4 +1,4 @@
-use Rattle.std.proofs.Common.{◌≡◌, ◌+◌, ◌*◌, ◌<◌, ◌∙◌, sym, subst, arith}
+use Rattle.std.proofs.Common.{◌+◌, ◌*◌, ◌<◌, ◌∙◌, sym, subst, arith}
 use Rattle.raster_values.specs.Raster.{Pixels}
 use Rattle.overview_tiles.specs.inside.Means.{Counted}
 use Rattle.overview_tiles.proofs.Filling.{counted_mark, counted_skip, counted_start}

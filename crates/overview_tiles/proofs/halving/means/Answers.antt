@@ -1,4 +1,4 @@
-use Rattle.std.proofs.Common.{rules, ◌≡◌, ◌≢◌, ◌<◌, ◌+◌, ◌*◌, ℕ, ℤ, length, get_or, ap, sym, subst, ◌∙◌, arith, ⊎_elim, w64, FitsSigned, to_z, of_z}
+use Rattle.std.proofs.Common.{rules, ◌≡◌, ◌≢◌, ◌<◌, ◌+◌, ◌*◌, length, get_or, ap, sym, subst, ◌∙◌, arith, ⊎_elim, w64, FitsSigned, to_z, of_z}
 use Rattle.std.specs.Prelude.{pos, ◌*ℤ◌, ◌≤ℤ◌}
 use Rattle.std.proofs.Math.ListN.{set}
 use Rattle.std.proofs.lemmas.Bool.{cases_eq}
@@ -31,19 +31,19 @@ loop-i-preserved c =
     let mean : z ≡ mean_at c.args.depth counts sums c.args.d k = c.mean_or_zero.ensures.value ∙ mean_round n (to_z w64 (of_z w64 x)) x round in
     record {
       values = λ j less. ⊎_elim
-        (λ (same : j ≡ i).
-        ap (λ m. get_or (set out i v) m (pos 0)) same ∙ here ∙ mean ∙ ap (λ m. mean_at c.args.depth counts sums c.args.d (c.args.place + m)) (sym same))
-        (λ (ne : j ≢ i). get_or-set_other out i j v (pos 0) ne ∙ c.loop-i.invariant.values j (omega (arith, less, ne)))
-        (cases_eq j i);
+          (λ (same : j ≡ i).
+          ap (λ m. get_or (set out i v) m (pos 0)) same ∙ here ∙ mean ∙ ap (λ m. mean_at c.args.depth counts sums c.args.d (c.args.place + m)) (sym same))
+          (λ (ne : j ≢ i). get_or-set_other out i j v (pos 0) ne ∙ c.loop-i.invariant.values j (omega (arith, less, ne)))
+          (cases_eq j i);
       in_range = λ kind h j less. ⊎_elim
-        (λ (same : j ≡ i).
-        let zero = zero_in_range kind in
-        let low : 0 < n → (pos n *ℤ type_least kind) ≤ℤ to_z w64 (of_z w64 x) = λ some. subst (λ y. (pos n *ℤ type_least kind) ≤ℤ y) (sym (round some)) (h.least k c.args.d under c.requires.depth some) in
-        let high : 0 < n → to_z w64 (of_z w64 x) ≤ℤ (pos n *ℤ type_greatest kind) = λ some. subst (λ y. y ≤ℤ (pos n *ℤ type_greatest kind)) (sym (round some)) (h.greatest k c.args.d under c.requires.depth some) in
-        let value : InRange kind z = (c.mean_or_zero.ensures.least (type_least kind) zero.0 low, c.mean_or_zero.ensures.greatest (type_greatest kind) zero.1 high) in
-        subst (InRange kind) (sym (ap (λ m. get_or (set out i v) m (pos 0)) same ∙ here)) value)
-        (λ (ne : j ≢ i). subst (InRange kind) (sym (get_or-set_other out i j v (pos 0) ne)) (c.loop-i.invariant.in_range kind h j (omega (arith, less, ne))))
-        (cases_eq j i);
+          (λ (same : j ≡ i).
+          let zero = zero_in_range kind in
+          let low : 0 < n → (pos n *ℤ type_least kind) ≤ℤ to_z w64 (of_z w64 x) = λ some. subst (λ y. (pos n *ℤ type_least kind) ≤ℤ y) (sym (round some)) (h.least k c.args.d under c.requires.depth some) in
+          let high : 0 < n → to_z w64 (of_z w64 x) ≤ℤ (pos n *ℤ type_greatest kind) = λ some. subst (λ y. y ≤ℤ (pos n *ℤ type_greatest kind)) (sym (round some)) (h.greatest k c.args.d under c.requires.depth some) in
+          let value : InRange kind z = (c.mean_or_zero.ensures.least (type_least kind) zero.0 low, c.mean_or_zero.ensures.greatest (type_greatest kind) zero.1 high) in
+          subst (InRange kind) (sym (ap (λ m. get_or (set out i v) m (pos 0)) same ∙ here)) value)
+          (λ (ne : j ≢ i). subst (InRange kind) (sym (get_or-set_other out i j v (pos 0) ne)) (c.loop-i.invariant.in_range kind h j (omega (arith, less, ne))))
+          (cases_eq j i);
     }
 
 pub returns-clause-in_range : goal.returns-clause-in_range

@@ -1,5 +1,4 @@
-use Rattle.std.proofs.Common.{◌≡◌, ◌+◌, ◌/◌, List, ℕ, true, false, length, get_or, ap, sym, subst, refl, arith}
-use Rattle.std.specs.Prelude.{pos}
+use Rattle.std.proofs.Common.{◌≡◌, ◌+◌, List, ℕ, true, false, length, get_or, ap, sym, subst, refl, arith}
 use Rattle.overview_tiles.specs.inside.Comes.{GrowsCounts, in_row, marks_amount, one_of}
 use Rattle.overview_tiles.proofs.Comes.{counts_room, counts_skip, counts_start, counts_step}
 use Rattle.overview_tiles.proofs.Steps.{marks_up}
@@ -27,9 +26,9 @@ loop-i-preserved c =
     let P : List ℕ → Type 0 = λ xs. GrowsCounts to amount (i + 1) old xs in
     elim c.if-mark.branch [
       | then-mark w ↦
-        (let on : get_or c.args.marks.now i false ≡ true = w.if-mark.true in
-        subst P (sym w.counts-is) (counts_step to amount i (to i) (get_or new (to i) 0 + 1) old new refl (omega (arith, c.requires.room i c.loop-i-test.true, c.loop-i.auto.counts)) c.loop-i.auto.counts (ap one_of on) refl c.loop-i.invariant))
+          (let on : get_or c.args.marks.now i false ≡ true = w.if-mark.true in
+          subst P (sym w.counts-is) (counts_step to amount i (to i) (get_or new (to i) 0 + 1) old new refl (omega (arith, c.requires.room i c.loop-i-test.true, c.loop-i.auto.counts)) c.loop-i.auto.counts (ap one_of on) refl c.loop-i.invariant))
       | else-mark w ↦
-        (let off : get_or c.args.marks.now i false ≡ false = w.if-mark.false in
-        subst P (sym w.counts-is) (counts_skip to amount i old new (ap one_of off) c.loop-i.invariant))
+          (let off : get_or c.args.marks.now i false ≡ false = w.if-mark.false in
+          subst P (sym w.counts-is) (counts_skip to amount i old new (ap one_of off) c.loop-i.invariant))
     ]

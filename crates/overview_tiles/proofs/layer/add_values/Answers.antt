@@ -1,7 +1,7 @@
-use Rattle.std.proofs.Common.{◌≡◌, ◌+◌, ◌*◌, ◌/◌, ◌<◌, List, ℕ, ℤ, length, get_or, ap, sym, subst, refl, arith, w64, FitsSigned, to_z, of_z}
+use Rattle.std.proofs.Common.{◌≡◌, ◌+◌, ◌*◌, get_or, refl, arith, w64, FitsSigned, to_z, of_z}
 use Rattle.std.specs.Prelude.{pos, ◌+ℤ◌}
 use Rattle.std.proofs.lemmas.Int.{ints}
-use Rattle.overview_tiles.specs.inside.Comes.{GrowsSums, IsWithin, in_row, values_amount}
+use Rattle.overview_tiles.specs.inside.Comes.{in_row, values_amount}
 use Rattle.overview_tiles.proofs.Comes.{sums_room, sums_start, sums_step}
 use Rattle.overview_tiles.proofs.layer.add_values.Goals as goal
 

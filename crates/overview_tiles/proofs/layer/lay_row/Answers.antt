@@ -1,4 +1,4 @@
-use Rattle.std.proofs.Common.{◌≡◌, ◌+◌, ◌*◌, ◌≤◌, ℕ, length, ◌∙◌, arith}
+use Rattle.std.proofs.Common.{◌*◌, arith}
 use Rattle.overview_tiles.proofs.Steps.{cols_few, fits_part, marks_join, marks_none, values_join, values_none, within_more, within_rest}
 use Rattle.overview_tiles.proofs.layer.lay_row.Goals as goal
 

@@ -1,4 +1,4 @@
-use Rattle.std.proofs.Common.{◌≡◌, ◌+◌, ◌*◌, ◌<◌, ◌≤◌, ℕ, length, ap, sym, subst, ◌∙◌, arith}
+use Rattle.std.proofs.Common.{◌≡◌, ◌+◌, ◌*◌, ◌≤◌, ap, subst, ◌∙◌, arith}
 use Rattle.std.proofs.lemmas.Nat.{row_fits}
 use Rattle.overview_tiles.specs.inside.Lays.{CountsFit, LaysMarks, LaysValues}
 use Rattle.overview_tiles.proofs.Steps.{fits_part, marks_join, marks_none, places_few, values_join, values_none, within_more, within_rest}

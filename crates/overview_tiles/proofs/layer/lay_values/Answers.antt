@@ -1,7 +1,5 @@
-use Rattle.std.proofs.Common.{◌≡◌, ◌+◌, ◌*◌, ◌<◌, ℕ, length, get_or, ap, sym, subst, refl, ◌∙◌, arith}
-use Rattle.std.specs.Prelude.{pos}
+use Rattle.std.proofs.Common.{◌≡◌, ◌+◌, ◌*◌, length, ap, sym, subst, ◌∙◌, arith}
 use Rattle.std.proofs.lemmas.Int.{ints}
-use Rattle.raster_values.specs.Flat.{value_in}
 use Rattle.overview_tiles.specs.inside.Comes.{IsWithin}
 use Rattle.overview_tiles.proofs.Steps.{depths_all, depths_more, depths_none, place_back, place_few, total_below, value_within}
 use Rattle.overview_tiles.proofs.layer.lay_values.Goals as goal

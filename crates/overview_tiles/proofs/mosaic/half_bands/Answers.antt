@@ -1,10 +1,10 @@
-use Rattle.std.proofs.Common.{◌≡◌, ◌+◌, ◌*◌, ◌<◌, ◌≤◌, ◌++◌, ◌∷◌, [], ℕ, List, length, get_or, ap, sym, subst, ◌∙◌, arith}
-use Rattle.std.specs.Prelude.{slice_get, Some}
+use Rattle.std.proofs.Common.{◌≡◌, ◌+◌, ◌*◌, ◌≤◌, ◌++◌, ◌∷◌, [], ℕ, List, length, get_or, ap, sym, subst, ◌∙◌, arith}
+use Rattle.std.specs.Prelude.{slice_get}
 use Rattle.std.proofs.lemmas.List.{get_or_default, length_push}
 use Rattle.raster_values.specs.Raster.{Pixels}
 use Rattle.overview_tiles.specs.Sums.{Sums, no_sums}
 use Rattle.overview_tiles.specs.inside.Means.{HasMeans, HaveMeans}
-use Rattle.overview_tiles.proofs.HalfBands.{EachHas, each_may_be, each_one, each_push}
+use Rattle.overview_tiles.proofs.HalfBands.{each_may_be, each_push}
 use Rattle.overview_tiles.proofs.mosaic.half_bands.Goals as goal
 
 pub half_band-requires-in-loop-b-clause-means : goal.half_band-requires-in-loop-b-clause-means

@@ -30,14 +30,14 @@ loop-b-preserved c =
     let laid : LaysAll f c.at.result.now (get_or first b no_sums) new = subst (λ (s : Sums). LaysAll f c.at.result.now s new) same c.lay.ensures in
     record {
       done = λ k r less e. ⊎_elim
-        (λ (at : k ≡ b).
-        let there : slice_get c.args.tile.now b ≡ Some r = ap (slice_get c.args.tile.now) (sym at) ∙ e in
-        let is : c.at.result.now ≡ r = sym (get_or_from_slice_get c.args.tile.now b c.at.result.now r c.at.ensures) ∙ get_or_from_slice_get c.args.tile.now b r r there in
-        let now : get_or (set layers b new) k no_sums ≡ new = ap (λ j. get_or (set layers b new) j no_sums) at ∙ get_or-set_same layers b new no_sums inside in
-        let was : get_or first k no_sums ≡ get_or first b no_sums = ap (λ j. get_or first j no_sums) at in
-        subst (λ (s : Sums). LaysAll f r s (get_or (set layers b new) k no_sums)) (sym was) (subst (LaysAll f r (get_or first b no_sums)) (sym now) (subst (λ (p : Pixels). LaysAll f p (get_or first b no_sums) new) is laid)))
-        (λ (ne : k ≢ b). subst (LaysAll f r (get_or first k no_sums)) (sym (get_or-set_other layers b k new no_sums ne)) (c.loop-b.invariant.done k r (omega (arith, less, ne)) e))
-        (cases_eq k b);
+          (λ (at : k ≡ b).
+          let there : slice_get c.args.tile.now b ≡ Some r = ap (slice_get c.args.tile.now) (sym at) ∙ e in
+          let is : c.at.result.now ≡ r = sym (get_or_from_slice_get c.args.tile.now b c.at.result.now r c.at.ensures) ∙ get_or_from_slice_get c.args.tile.now b r r there in
+          let now : get_or (set layers b new) k no_sums ≡ new = ap (λ j. get_or (set layers b new) j no_sums) at ∙ get_or-set_same layers b new no_sums inside in
+          let was : get_or first k no_sums ≡ get_or first b no_sums = ap (λ j. get_or first j no_sums) at in
+          subst (λ (s : Sums). LaysAll f r s (get_or (set layers b new) k no_sums)) (sym was) (subst (LaysAll f r (get_or first b no_sums)) (sym now) (subst (λ (p : Pixels). LaysAll f p (get_or first b no_sums) new) is laid)))
+          (λ (ne : k ≢ b). subst (LaysAll f r (get_or first k no_sums)) (sym (get_or-set_other layers b k new no_sums ne)) (c.loop-b.invariant.done k r (omega (arith, less, ne)) e))
+          (cases_eq k b);
       rest = λ k low. get_or-set_other layers b k new no_sums (λ e. omega (arith, low, e)) ∙ c.loop-b.invariant.rest k (omega (arith, low));
     }
 

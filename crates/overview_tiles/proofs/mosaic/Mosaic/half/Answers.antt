@@ -1,7 +1,5 @@
-use Rattle.std.proofs.Common.{◌≡◌, ◌<◌, List, length, get_or, ap, sym, subst, ◌∙◌, ℕ}
-use Rattle.std.specs.Prelude.{slice_get, Some}
+use Rattle.std.proofs.Common.{◌≡◌, length, sym, subst}
 use Rattle.std.proofs.lemmas.Result.{IfOk-weaker}
-use Rattle.raster_values.specs.Raster.{Pixels}
 use Rattle.raster_values.specs.Bands.{AreBands}
 use Rattle.overview_tiles.specs.Sums.{AreSums, IsTileOf, Kept}
 use Rattle.overview_tiles.specs.Tiles.{AreHalf, Tiles}

@@ -1,8 +1,6 @@
-use Rattle.std.proofs.Common.{◌≡◌, List, get_or, length, true, false, ap, sym, subst, ◌∙◌, arith}
-use Rattle.std.specs.Prelude.{slice_get, Some}
+use Rattle.std.proofs.Common.{◌≡◌, List, get_or, true, false, ap, sym, subst, ◌∙◌, arith}
 use Rattle.std.specs.Vec.{with_items}
 use Rattle.std.proofs.lemmas.List.{with_items_is}
-use Rattle.raster_values.specs.Raster.{Pixels}
 use Rattle.overview_tiles.specs.Sums.{AreSums, IsTileOf, Kept, Sums, no_sums}
 use Rattle.overview_tiles.specs.Tiles.{with_tile}
 use Rattle.overview_tiles.specs.inside.Lays.{CanLay}

@@ -1,6 +1,6 @@
-use Rattle.std.proofs.Common.{◌≡◌, ◌*◌, List, [], ◌∷◌, length, true, false, refl, ap, ◌∙◌}
+use Rattle.std.proofs.Common.{◌≡◌, ◌*◌, [], ◌∷◌, length, false, refl, ap, ◌∙◌}
 use Rattle.std.specs.Prelude.{replicate}
-use Rattle.overview_tiles.specs.Sums.{Sums, zero_sums}
+use Rattle.overview_tiles.specs.Sums.{zero_sums}
 use Rattle.overview_tiles.specs.Tiles.{no_tiles}
 use Rattle.overview_tiles.specs.inside.View.{seen}
 use Rattle.overview_tiles.proofs.HalfBands.{zero_layers, zero_room}
