@@ -1,0 +1,9 @@
+pub mod Comes
+pub mod Fours
+pub mod Whole
+pub mod Steps
+mod Means
+pub mod Tiled
+pub mod Halved
+pub mod Filling
+pub mod HalfBands

@@ -1,0 +1,25 @@
+use Rattle.std.proofs.Common.{◌≡◌, length, sym, subst}
+use Rattle.std.proofs.lemmas.Result.{IfOk-weaker}
+use Rattle.raster_values.specs.Bands.{AreBands}
+use Rattle.overview_tiles.specs.Sums.{AreSums, IsTileOf, Kept}
+use Rattle.overview_tiles.specs.Tiles.{AreHalf, Tiles}
+use Rattle.overview_tiles.specs.inside.View.{seen}
+use Rattle.overview_tiles.proofs.HalfBands.{EachHas, half_stands, half_takes, layers_have}
+use Rattle.overview_tiles.proofs.mosaic.Mosaic.half.Goals as goal
+
+pub half_bands-requires-clause-means : goal.half_bands-requires-clause-means
+half_bands-requires-clause-means c b less = layers_have (seen c.self.inside) c.self.invariant.tiles c.as_slice.result.now b c.as_slice.ensures.value c.self.invariant.room c.self.invariant.sums less
+
+pub returns-clause-takes : goal.returns-clause-takes
+returns-clause-takes c =
+    let m : Kept = seen c.self.inside in
+    let layers = c.as_slice.result.now in
+    IfOk-weaker c.half_bands.result (λ half. AreBands half × ((length half ≡ length layers) × EachHas m.kind m.rows m.cols m.depth layers half)) (IsTileOf c.args.self)
+    (λ half h. subst (λ (k : Kept). IsTileOf k half) c.self.view_is (half_takes m layers half c.as_slice.ensures.value h.1.0 h.1.1)) c.half_bands.ensures
+
+pub returns-clause-half : goal.returns-clause-half
+returns-clause-half c =
+    let m : Kept = seen c.self.inside in
+    let layers = c.as_slice.result.now in
+    IfOk-weaker c.half_bands.result (λ half. AreBands half × ((length half ≡ length layers) × EachHas m.kind m.rows m.cols m.depth layers half)) (λ half. (tiles : Tiles) → AreSums c.args.self tiles → AreHalf tiles half)
+    (λ half h tiles sums. half_stands m tiles layers half c.as_slice.ensures.value (subst (λ (k : Kept). AreSums k tiles) (sym c.self.view_is) sums) h.0 h.1.0 h.1.1) c.half_bands.ensures

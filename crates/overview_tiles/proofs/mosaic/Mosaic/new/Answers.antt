@@ -1,0 +1,19 @@
+use Rattle.std.proofs.Common.{◌≡◌, ◌*◌, [], ◌∷◌, length, false, refl, ap, ◌∙◌}
+use Rattle.std.specs.Prelude.{replicate}
+use Rattle.overview_tiles.specs.Sums.{zero_sums}
+use Rattle.overview_tiles.specs.Tiles.{no_tiles}
+use Rattle.overview_tiles.specs.inside.View.{seen}
+use Rattle.overview_tiles.proofs.HalfBands.{zero_layers, zero_room}
+use Rattle.overview_tiles.proofs.mosaic.Mosaic.new.Goals as goal
+
+pub invariant_of-result : goal.invariant_of-result
+invariant_of-result c =
+    let m = seen (record { kind = c.kind.result; rows = c.rows-rows.result; cols = c.cols-cols.result; depth = c.depth-depth.result; laid = false ∷ false ∷ false ∷ false ∷ []; bands = c.in_ok-bands.bands }) in
+    let like = c.args.like.now in
+    let z = zero_sums (c.rows-rows.result * c.cols-cols.result) c.depth-depth.result in
+    let is : c.in_ok-bands.bands.items ≡ replicate (length like) z = c.in_ok-bands.ensures ∙ ap (λ n. replicate n z) c.len-count.ensures.value in
+    record {
+      room = zero_room m like c.at-first.result.now c.len-count.ensures.sound c.at-first.ensures c.rows-rows.ensures.sound c.rows-rows.ensures.value c.cols-cols.ensures.value c.depth-depth.ensures.value refl is;
+      tiles = no_tiles;
+      sums = zero_layers m (length like) refl is;
+    }

@@ -1,0 +1,9 @@
+use Rattle.std.proofs.Common.{◌≡◌, length}
+use Rattle.overview_tiles.proofs.HalfBands.{EachHas}
+use Rattle.overview_tiles.proofs.mosaic.half_bands.Given as goal
+
+abbrev pub invariant-loop-b : goal.invariant-loop-b
+invariant-loop-b l = record {
+  count : length l.half ≡ l.b;
+  each : EachHas l.kind l.rows l.cols l.depth l.layers l.half;
+}

@@ -1,0 +1,5 @@
+-- Words of functions that this crate keeps to itself.
+pub mod Comes
+pub mod Lays
+pub mod Means
+pub mod View
