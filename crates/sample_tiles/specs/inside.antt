@@ -1,0 +1,2 @@
+-- Words of functions that this crate keeps to itself.
+pub mod Drawing
