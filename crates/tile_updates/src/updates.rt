@@ -15,7 +15,9 @@ use lerc_encode::{EncodeFault, encode_bands};
 use lerc_header::{Step, Version};
 use outside_io::{Failed, Source, take_all};
 use std::alloc::{AllocError, Global};
+use std::thread::Threads;
 use tile_stream::{Tile, TileStop, next_tile};
+use tile_workers::Gate;
 
 /// How many tiles an input may have.
 const MOST_TILES: usize = 1048576;
@@ -140,12 +142,16 @@ fn has_more<S: Source>(src: &mut S) -> Result<bool, Failed>
 ///
 /// The bands of one tile are kept at a time, and all the blobs, which have at most 2^30 bytes together. Want of
 /// memory for them is answered where it comes. After an error some bytes of the source are taken.
-pub fn read_updates<S: Source>(
+pub fn read_updates<R: Threads + Sync, S: Source, G: Gate>(
+    _rt: &R,
     alloc: Global,
     src: &mut S,
     version: Version,
     step: Step,
+    _workers: usize,
+    _gate: &G,
 ) -> Result<Vec<TileRec>, StreamStop>
+    requires workers { (1 ≤ _workers) × (_workers ≤ 64) }
     ensures ok { IfOk result (λ updates. OfBytes (S.left src.old)
         (λ bytes. IsUpdates version step bytes updates.items)) }
     ensures end { OnOk result (IsAtEnd (S.left src.new)) }
