@@ -21,6 +21,7 @@ ghost use Rattle.lerc_cli.specs.declared.refusal.Refusal.{Refusal};
 ghost use Rattle.lerc_cli.specs.declared.words.Command.{Command};
 ghost use Rattle.lerc_cli.specs.inputs.Given.{given};
 ghost use Rattle.lerc_cli.specs.inputs.Refused.{IsBandsBlob};
+ghost use Rattle.lerc_cli.specs.inside.Spelling.{IsLawful};
 ghost use Rattle.lerc_cli.specs.run.InWords.{Builds, GivesBlobs, GivesGrid, GivesGridPrefix, GivesLines, IsGridFor, TellsFault, ToldHead};
 ghost use Rattle.lerc_cli.specs.run.Run.{OfSource, OfOutput, OfVolume, OfRun};
 ghost use Rattle.lerc_cli.specs.words.Commands.{IsSpelled, IsNoCommand, calls_volume};
@@ -37,17 +38,22 @@ use crate::words::{Command, USAGE, command_of};
 use outside_io::{Marks, Report, Sink, Source, Volume, Word};
 use program_ends::{Stop, ended_status};
 use std::alloc::Global;
+use std::thread::Threads;
+use tile_workers::Gate;
 
 /// Does the command.
-fn perform<S: Source, K: Sink, V: Volume>(
+fn perform<R: Threads + Sync, S: Source, K: Sink, V: Volume, G: Gate>(
+    rt: &R,
     alloc: Global,
     command: Command,
     src: &mut S,
     out: &mut K,
     vol: &mut V,
     marks: &mut Marks,
+    gate: &G,
 ) -> Result<(), Stop<Refusal>>
-    requires { marks.old.marks ≡ [] }
+    requires none { marks.old.marks ≡ [] }
+    requires lawful { IsLawful command }
     ensures source { OfSource command result (source_move S.left S.faults src.old src.new) }
     ensures output { OfOutput command
         (given (S.left src.old) (files_of (V.told vol.old) (V.history vol.old)))
@@ -65,8 +71,20 @@ fn perform<S: Source, K: Sink, V: Volume>(
         Command::Encode { version, error } => encode(alloc, version, error, src, out),
         Command::Decode => decode(alloc, src, out),
         Command::Info => info(alloc, src, out),
-        Command::Build { version, error, .. } => build(alloc, version, error, src, out, vol, marks),
-        Command::Put { version, error, .. } => put(alloc, version, error, src, out, vol, marks),
+        Command::Build {
+            version,
+            error,
+            workers,
+        } => build(
+            rt, alloc, version, error, workers, src, out, vol, marks, gate,
+        ),
+        Command::Put {
+            version,
+            error,
+            workers,
+        } => put(
+            rt, alloc, version, error, workers, src, out, vol, marks, gate,
+        ),
         Command::Get { slot } => get(alloc, slot, out, vol),
         Command::GetRaw { slot } => get_raw(alloc, slot, out, vol),
         Command::List => list(alloc, out, vol),
@@ -76,13 +94,15 @@ fn perform<S: Source, K: Sink, V: Volume>(
 }
 
 /// Does what the words say.
-fn act<S: Source, K: Sink, V: Volume>(
+fn act<R: Threads + Sync, S: Source, K: Sink, V: Volume, G: Gate>(
+    rt: &R,
     alloc: Global,
     words: &[Word],
     src: &mut S,
     out: &mut K,
     vol: &mut V,
     marks: &mut Marks,
+    gate: &G,
 ) -> Result<(), Stop<Refusal>>
     requires { marks.old.marks ≡ [] }
     ensures usage { (result ≡ Err Stop.Usage) ↔ IsNoCommand words.now }
@@ -109,7 +129,7 @@ fn act<S: Source, K: Sink, V: Volume>(
         (record { old = K.held out.old; new = K.held out.new })) }
 {
     match command_of(words) {
-        Some(command) => perform(alloc, command, src, out, vol, marks),
+        Some(command) => perform(rt, alloc, command, src, out, vol, marks, gate),
         None => Err(Stop::Usage),
     }
 }
@@ -139,13 +159,15 @@ fn act<S: Source, K: Sink, V: Volume>(
 /// On a status other than 0 one line is given to `err`. The faults of `err` change nothing. Each
 /// tile that a `put` was told is there has a mark, the moment of that, and each tile of a bundle
 /// that was built has one, the moment of its end; nothing else has one.
-pub fn run<S: Source, K: Sink, E: Sink, V: Volume>(
+pub fn run<R: Threads + Sync, S: Source, K: Sink, E: Sink, V: Volume, G: Gate>(
+    rt: &R,
     alloc: Global,
     words: &[Word],
     src: &mut S,
     out: &mut K,
     err: &mut E,
     vol: &mut V,
+    gate: &G,
 ) -> Report
     // The words come first.
     ensures usage { (result.status ≡ 1) ↔ IsNoCommand words.now }
@@ -248,7 +270,7 @@ pub fn run<S: Source, K: Sink, E: Sink, V: Volume>(
         → result.status ≢ 0 → result.status ≢ 4 → out.new ≡ out.old }
 {
     let mut marks = Marks::new(alloc);
-    let ended = act(alloc, words, src, out, vol, &mut marks);
+    let ended = act(rt, alloc, words, src, out, vol, &mut marks, gate);
     let status = ended_status(USAGE, &ended, err);
     Report { status, marks }
 }

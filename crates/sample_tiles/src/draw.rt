@@ -1,10 +1,10 @@
 //! Tiles of numbers that each follow from the one before.
 
-ghost use Rattle.std.specs.Prelude.{◌≡◌, ◌+◌, ◌*◌, ◌<◌, ◌≤◌, ℕ, None, IfOk, IfSome, OnOk, get_or, slice_set};
+ghost use Rattle.std.specs.Prelude.{◌≡◌, ◌+◌, ◌*◌, ◌<◌, ◌≤◌, ℕ, None, IfOk, IfSome, OnOk, get_or, length, slice_set};
 ghost use Rattle.raster_values.specs.PixelType.{InRange};
 ghost use Rattle.raster_values.specs.declared.kind.PixelType.{PixelType};
 ghost use Rattle.sample_tiles.specs.Drawn.{drawn, drawn_pixel, follower, sample_tile};
-ghost use Rattle.sample_tiles.specs.inside.Drawing.{drawn_so_far, pixel_of, tile_of};
+ghost use Rattle.sample_tiles.specs.inside.Drawing.{IsDrawn, IsOpenFrom, pixel_of, tile_of};
 
 use raster_values::{PixelType, Raster, ShapeFault};
 use std::alloc::{AllocError, Global};
@@ -33,7 +33,8 @@ fn value(row: u32, col: u32, x: u32) -> Option<i64>
 
 /// Gives a pixel that is invalid this value, if there is one.
 fn give(tile: &mut Raster, k: u32, value: Option<i64>)
-    requires shape { (pixels : _) × (tile.old ≡ tile_of pixels) }
+    requires shape { tile.old ≡ tile_of tile.old.pixels }
+    requires places { length tile.old.pixels ≡ 4096 }
     requires within { k < 4096 }
     requires invalid { get_or tile.old.pixels k None ≡ None }
     requires fits { IfSome value (InRange PixelType.I16) }
@@ -48,9 +49,10 @@ fn give(tile: &mut Raster, k: u32, value: Option<i64>)
 /// Draws the next number, and pixel number k by it.
 fn draw_pixel(tile: &mut Raster, k: u32, x: &mut u32)
     requires within { k < 4096 }
-    requires so_far { (start t : ℕ) × (tile.old ≡ drawn_so_far start t k) }
-    ensures tile { (start t : ℕ) → tile.old ≡ drawn_so_far start t k
-        → x.old ≡ drawn start (4096 * t + k) → tile.new ≡ drawn_so_far start t (k + 1) }
+    requires open { IsOpenFrom k tile.old }
+    ensures open { IsOpenFrom (k + 1) tile.new }
+    ensures tile { (start t : ℕ) → IsDrawn start t k tile.old
+        → x.old ≡ drawn start (4096 * t + k) → IsDrawn start t (k + 1) tile.new }
     ensures number { (start t : ℕ) → x.old ≡ drawn start (4096 * t + k)
         → x.new ≡ drawn start (4096 * t + k + 1) }
 {
@@ -60,7 +62,7 @@ fn draw_pixel(tile: &mut Raster, k: u32, x: &mut u32)
 
 /// A tile of which no pixel is valid.
 fn empty(alloc: Global) -> Result<Raster, AllocError>
-    ensures { (start t : ℕ) → IfOk result (λ tile. tile ≡ drawn_so_far start t 0) }
+    ensures { IfOk result (IsOpenFrom 0) }
 {
     match Raster::new(alloc, PixelType::I16, SIDE, SIDE, 1) {
         Ok(tile) => Ok(tile),

@@ -1,4 +1,15 @@
-//! The tiles of a sample: drawn, encoded by several workers, decoded, and summed up.
+//! The tiles of a sample: drawn one after the other, encoded by several workers, decoded, and summed
+//! up. It stands on `tile_workers` and `lerc_decode` and the crates below them.
+//!
+//! The contract that the layer above uses: `sample` answers the sums of the first tiles, as the
+//! definitions say them of the tiles, the blobs that are chosen for them and what these decode to.
 #![tactic(auto)]
 
 mod draw;
+mod laws;
+mod sample;
+mod sums;
+
+pub use laws::{samples_are_near, samples_are_one};
+pub use sample::sample;
+pub use sums::Sums;

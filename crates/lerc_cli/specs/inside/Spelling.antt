@@ -1,5 +1,5 @@
 -- The words behind the name of a command.
-use Rattle.std.specs.Prelude.{◌≡◌, ℕ, List}
+use Rattle.std.specs.Prelude.{◌≡◌, ℕ, ◌≤◌, List}
 use Rattle.lerc_header.specs.declared.header.Version.{Version}
 use Rattle.lerc_cli.specs.declared.words.Command.{Command}
 use Rattle.lerc_cli.specs.declared.words.Command.TheVariants.{Encode, Build, Put, Get, GetRaw}
@@ -32,3 +32,9 @@ IsBuild v e w c = IsOfTiles Build v e w c
 -- the command is `put` of these three words
 abbrev pub IsPut : List ℕ → List ℕ → List ℕ → Command → Type 0
 IsPut v e w c = IsOfTiles Put v e w c
+
+-- the number of workers of a command that has one is from 1 to 64
+abbrev pub IsLawful : Command → Type 0
+IsLawful (Build version error workers) = (1 ≤ workers) × (workers ≤ 64)
+IsLawful (Put version error workers) = (1 ≤ workers) × (workers ≤ 64)
+IsLawful c = Unit {0}

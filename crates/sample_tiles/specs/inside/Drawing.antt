@@ -13,9 +13,13 @@ pixel_of (Some v) = Some (v ∷ [])
 abbrev pub tile_of : List (Option (List ℤ)) → Pixels
 tile_of pixels = record { kind = I16; rows = 64; cols = 64; depth = 1; pixels = pixels }
 
--- its first k pixels are drawn, and the others are invalid
-pub record IsDrawn (start t k : ℕ) (tile : Pixels) : Type 0 where
+-- a tile whose pixels from number k on are invalid
+pub record IsOpenFrom (k : ℕ) (tile : Pixels) : Type 0 where
   pub shape : tile ≡ tile_of tile.pixels
   pub places : length tile.pixels ≡ 4096
-  pub drawn : (i : ℕ) → i < k → get_or tile.pixels i None ≡ sample_pixel start t i
   pub rest : (i : ℕ) → k ≤ i → get_or tile.pixels i None ≡ None
+
+-- its first k pixels are drawn
+abbrev pub IsDrawn : ℕ → ℕ → ℕ → Pixels → Type 0
+IsDrawn start t k tile =
+    (i : ℕ) → i < k → get_or tile.pixels i None ≡ sample_pixel start t i
