@@ -1,7 +1,7 @@
 -- What holds of the definitions. Each is the contract of a function in src/laws.rt.
 use Rattle.std.specs.Prelude.{◌≡◌, ℕ, ◌≤◌}
 use Rattle.sample_tiles.specs.Sums.{AreSums}
-use Rattle.sample_tiles.specs.declared.sums.Sums.{Sums}
+use Rattle.sample_tiles.specs.declared.adding.Sums.{Sums}
 
 -- a sample comes to one thing
 abbrev pub SumsAreOnce : Type 0

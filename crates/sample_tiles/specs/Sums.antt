@@ -9,7 +9,7 @@ use Rattle.lerc_header.specs.Written.{step_of}
 use Rattle.lerc_encode.specs.Choice.{chosen_bands}
 use Rattle.lerc_grammar.specs.Bands.{BandsBlob}
 use Rattle.sample_tiles.specs.Drawn.{sample_tile}
-use Rattle.sample_tiles.specs.declared.sums.Sums.{Sums}
+use Rattle.sample_tiles.specs.declared.adding.Sums.{Sums}
 
 -- the blob that is chosen for tile number t, in version 4 with the error 1
 unfoldable pub sample_blob : ℕ → ℕ → List ℕ

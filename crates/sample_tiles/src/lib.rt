@@ -5,11 +5,11 @@
 //! definitions say them of the tiles, the blobs that are chosen for them and what these decode to.
 #![tactic(auto)]
 
+mod adding;
+mod batches;
 mod draw;
 mod laws;
-mod sample;
-mod sums;
 
 pub use laws::{samples_are_near, samples_are_one};
-pub use sample::sample;
-pub use sums::Sums;
+pub use batches::sample;
+pub use adding::Sums;

@@ -6,7 +6,7 @@ use Rattle.lerc_header.specs.Written.{step_of}
 use Rattle.lerc_encode.specs.Encoded.{AreEncodedOnce}
 use Rattle.sample_tiles.specs.Drawn.{sample_tile}
 use Rattle.sample_tiles.specs.Sums.{sample_blob}
-use Rattle.sample_tiles.specs.declared.sums.Sums.{Sums}
+use Rattle.sample_tiles.specs.declared.adding.Sums.{Sums}
 
 -- so many tiles, from number `first` on
 pub record AreTiles (start first count : ℕ) (tiles : List (List Pixels)) : Type 0 where

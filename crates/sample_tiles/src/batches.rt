@@ -6,7 +6,7 @@ ghost use Rattle.sample_tiles.specs.Sums.{AreSums};
 ghost use Rattle.sample_tiles.specs.inside.Batches.{AreRoomy, AreTheirs, AreTiles};
 
 use crate::draw::draw;
-use crate::sums::{Sums, add_all};
+use crate::adding::{Sums, add_all};
 use lerc_header::{Step, Version};
 use raster_values::Bands;
 use std::alloc::{AllocError, Global};
