@@ -33,6 +33,7 @@ use crate::commands::encode::encode;
 use crate::commands::get::{get, get_raw};
 use crate::commands::info::info;
 use crate::commands::put::put;
+use crate::commands::sample::sample;
 use crate::refusal::Refusal;
 use crate::words::{Command, USAGE, command_of};
 use outside_io::{Marks, Report, Sink, Source, Volume, Word};
@@ -90,6 +91,7 @@ fn perform<R: Threads + Sync, S: Source, K: Sink, V: Volume, G: Gate>(
         Command::List => list(alloc, out, vol),
         Command::Check => check(alloc, out, vol),
         Command::Recover => recover(out, vol),
+        Command::Sample { start, count } => sample(rt, alloc, start, count, out, gate),
     }
 }
 
@@ -143,7 +145,13 @@ fn act<R: Threads + Sync, S: Source, K: Sink, V: Volume, G: Gate>(
 /// for each. `build` and `put` read tiles; `build` makes a bundle of each slot's last one in the
 /// place of an empty bundle, and `put` puts the blobs of each into its slot. `get`, `list` and
 /// `check` tell of the bundle, and `recover` of what a crash had left; these, `build` and `put`
-/// first make that whole.
+/// first make that whole. `sample` draws tiles, encodes and decodes them, and gives the lines of
+/// what they come to.
+///
+/// `build` and `put` encode by as many workers as their words say, and `sample` by four. A worker
+/// calls `gate.pass(at)` before it encodes the tile with number `at` of those that are encoded at
+/// once. Nothing of what a run leaves depends on the workers and the gate, but which of several
+/// refusals of a machine, as of memory, is answered.
 ///
 /// | status | it comes |
 /// |---|---|

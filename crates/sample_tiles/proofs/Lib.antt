@@ -1,1 +1,4 @@
+mod Batch
 mod Drawing
+pub mod Once
+mod Summing

@@ -89,6 +89,7 @@ fn error_of(alloc: Global, tile: &Raster, blob: &[u8]) -> Result<u64, AllocError
 }
 
 /// The checksum that stands in a blob.
+#[tactic(auto, unfolding(lerc_header::specs::Head::u32_at))]
 fn checksum_in(blob: &[u8]) -> u32
     requires { 14 ≤ length blob.now }
     ensures { result ≡ u32_at blob.now 10 }
@@ -108,6 +109,8 @@ fn add(alloc: Global, tile: &Bands, blob: &[u8], sums: &mut Sums) -> Result<(), 
         → blob.now ≡ sample_blob start sums.old.tiles → AreSums start sums.old.tiles sums.old
         → OnOk result (AreSums start sums.new.tiles sums.new) }
 {
+    // for the proof: `len` ensures that the tile is a raster
+    let _len = tile.len();
     let error = error_of(alloc, tile.at(0), blob)?;
     sums.tiles += 1;
     sums.bytes += blob.len() as u64;

@@ -10,6 +10,6 @@ mod batches;
 mod draw;
 mod laws;
 
-pub use laws::{samples_are_near, samples_are_one};
-pub use batches::sample;
 pub use adding::Sums;
+pub use batches::sample;
+pub use laws::samples_are_one;

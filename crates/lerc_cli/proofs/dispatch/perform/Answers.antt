@@ -2,6 +2,8 @@ use Rattle.std.proofs.Common.{◌≡◌, ℕ, List, Option, refl, rules, None, s
 use Rattle.std.specs.Prelude.{OnOk}
 use Rattle.lerc_header.specs.declared.header.Version.{Version}
 use Rattle.program_ends.specs.Moves.{Change}
+use Rattle.lerc_cli.specs.inputs.Given.{given}
+use Rattle.lerc_cli.specs.inside.Spelling.{IsLawful}
 use Rattle.lerc_cli.specs.run.InWords.{GivesBlobs}
 use Rattle.lerc_cli.proofs.CrashLemmas.Idle.{reading_volume, source_idle, volume_idle}
 use Rattle.lerc_cli.proofs.dispatch.perform.Goals as goal
@@ -96,3 +98,21 @@ returns-in-Build-clause-output g c = rw c.in-Build.is (c.build.ensures.output _)
 
 pub returns-in-Build-clause-volume : goal.returns-in-Build-clause-volume
 returns-in-Build-clause-volume g c = rw c.in-Build.is (c.build.ensures.volume _)
+
+pub returns-in-Sample-clause-source : goal.returns-in-Sample-clause-source
+returns-in-Sample-clause-source g c = rw c.in-Sample.is (source_idle _ _ _ _ _ _ g.S.Source.left g.S.Source.faults _ (search rules) (c.sample.ensures (given None None)))
+
+pub returns-in-Sample-clause-output : goal.returns-in-Sample-clause-output
+returns-in-Sample-clause-output g c = rw (c.in-Sample.is, c.requires.none) (c.sample.ensures _)
+
+pub returns-in-Sample-clause-volume : goal.returns-in-Sample-clause-volume
+returns-in-Sample-clause-volume g c = rw (c.in-Sample.is, c.requires.none) (volume_idle _ _ _ _ _ _ g.V.Volume.told g.V.Volume.history g.V.Volume.faults _ (search rules) (c.sample.ensures _))
+
+pub build-requires-clause-workers : goal.build-requires-clause-workers
+build-requires-clause-workers g c = subst IsLawful c.in-Build.is c.requires.lawful
+
+pub put-requires-clause-workers : goal.put-requires-clause-workers
+put-requires-clause-workers g c = subst IsLawful c.in-Put.is c.requires.lawful
+
+pub sample-requires : goal.sample-requires
+sample-requires g c = subst IsLawful c.in-Sample.is c.requires.lawful
