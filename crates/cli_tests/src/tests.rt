@@ -12,7 +12,7 @@ use std::alloc::{AllocError, Global};
 use std::env::FillError;
 use std::process::Abort;
 use std::thread::Threads;
-use tile_workers::Open;
+use tile_workers::{Gate, Open};
 use worked_examples::{
     BAD_RUN, BLOB, EIGHT, GRID, MINUS_ZERO, MISCOUNTED, NO_MASK, NO_PIXEL, NO_SWEEP, NONE_VALID,
     NONE_VALID_ODD, RANGES, RUNS, RUNS_SPARE, SWEEP, TWO_ENDS, TWO_PAIRS, ZERO,
@@ -70,7 +70,7 @@ fn sink_of(alloc: Global, piece: usize, failing: &[u8], room: usize) -> Result<M
 }
 
 /// What a run answers, and the output and the error output behind it.
-fn ran<R: Threads + Sync, V: Volume>(
+fn ran<R: Threads + Sync, V: Volume, G: Gate>(
     rt: &R,
     alloc: Global,
     words: &[Word],
@@ -78,9 +78,33 @@ fn ran<R: Threads + Sync, V: Volume>(
     mut out: MemSink,
     mut err: MemSink,
     vol: &mut V,
+    gate: &G,
 ) -> (Report, MemSink, MemSink) {
-    let report = run(rt, alloc, words, &mut src, &mut out, &mut err, vol, &Open);
+    let report = run(
+        rt, alloc, words, &mut src, &mut out, &mut err, vol, gate,
+    );
     (report, out, err)
+}
+
+/// What a run over a volume and a gate answers, and the output and the error output behind it.
+pub(crate) fn told_through<R: Threads + Sync, V: Volume, G: Gate>(
+    rt: &R,
+    alloc: Global,
+    words: &[&str],
+    input: &[u8],
+    pieces: (usize, usize),
+    failing: (&[u8], &[u8]),
+    vol: &mut V,
+    gate: &G,
+) -> Result<(Report, MemSink, MemSink), AllocError>
+    requires source { 0 < pieces.0 }
+    requires output { 0 < pieces.1 }
+{
+    let words = words_of(alloc, words)?;
+    let src = source_of(alloc, input, pieces.0, failing.0)?;
+    let out = sink_of(alloc, pieces.1, failing.1, 100000)?;
+    let err = sink_of(alloc, 100, &[], 1000)?;
+    Ok(ran(rt, alloc, &words, src, out, err, vol, gate))
 }
 
 /// What a run over a volume answers, and the output and the error output behind it.
@@ -96,11 +120,7 @@ pub(crate) fn told_over<R: Threads + Sync, V: Volume>(
     requires source { 0 < pieces.0 }
     requires output { 0 < pieces.1 }
 {
-    let words = words_of(alloc, words)?;
-    let src = source_of(alloc, input, pieces.0, failing.0)?;
-    let out = sink_of(alloc, pieces.1, failing.1, 100000)?;
-    let err = sink_of(alloc, 100, &[], 1000)?;
-    Ok(ran(rt, alloc, &words, src, out, err, vol))
+    told_through(rt, alloc, words, input, pieces, failing, vol, &Open)
 }
 
 /// The same, with the number of marks.

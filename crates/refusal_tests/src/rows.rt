@@ -93,3 +93,12 @@ fn a_bundle_is_built(rt: HostRuntime) -> Result<(), AllocError> {
     }
     all_recover(&rt, alloc, &vol, &["list"], b"")
 }
+
+#[test]
+fn a_sample_is_drawn(rt: HostRuntime) -> Result<(), AllocError> {
+    let mut vol = volume(rt.alloc(), &[])?;
+    let left = run_over(&rt, rt.alloc(), &["sample", "7", "2"], &[], &mut vol)?;
+    let lines = b"tiles 2\nbytes 6545\nworst 1\nsum 514240657\n";
+    gave_or_wanted(&rt, &left, lines);
+    Ok(())
+}

@@ -2,3 +2,4 @@ mod Batch
 mod Drawing
 pub mod Once
 mod Summing
+mod Whole

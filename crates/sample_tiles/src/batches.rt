@@ -5,8 +5,8 @@ ghost use Rattle.sample_tiles.specs.Drawn.{drawn};
 ghost use Rattle.sample_tiles.specs.Sums.{AreSums};
 ghost use Rattle.sample_tiles.specs.inside.Batches.{AreRoomy, AreTheirs, AreTiles};
 
-use crate::draw::draw;
 use crate::adding::{Sums, add_all};
+use crate::draw::draw;
 use lerc_header::{Step, Version};
 use raster_values::Bands;
 use std::alloc::{AllocError, Global};
