@@ -65,15 +65,15 @@ one_sample u v w x s t n m same equal us vt wn xm =
 pub sample_some : (u w : List ℕ) (start count : ℕ) → IsWithin u start 0 4294967295 → IsWithin w count 0 4096
     → (c : Command) → (◌≡◌ {A = Option Command} (Some (Sample start count)) (Some c)) ↔ IsSample u w c
 sample_some u w start count is within c = (
-  λ same. (start, (count, ((let here : c ≡ Sample start count = cc in here), is, within))),
-  λ s. ap Some (one_sample u u w w start s.0 count s.1.0 refl refl is s.1.1.1 within s.1.1.2 ∙ sym s.1.1.0),
+  λ same. (start, count, ((let here : c ≡ Sample start count = cc in here), is, within)),
+  λ s. ap Some (one_sample u u w w start s.0 count s.1 refl refl is s.2.1 within s.2.2 ∙ sym s.2.0),
 )
 
 pub sample_none : (u w : List ℕ) (found : Option Command) → found ≡ None → ((start count : ℕ) → IsWithin u start 0 4294967295 → IsWithin w count 0 4096 → ⊥)
     → (c : Command) → (found ≡ Some c) ↔ IsSample u w c
 sample_none u w found is never c = (
   λ same. absurd (let other = sym is ∙ same in cc),
-  λ s. absurd (never s.0 s.1.0 s.1.1.1 s.1.1.2),
+  λ s. absurd (never s.0 s.1 s.2.1 s.2.2),
 )
 
 -- ---- words spell one command
@@ -309,7 +309,7 @@ two_words name a b (Sample start count) s =
     let same = s.2.0 in
     let one : a ≡ s.0 = cc in
     let other : b ≡ s.1 = cc in
-    inr (inr (name_of _ _ same, (start, (count, (refl, subst (λ (u : List ℕ). IsWithin u start 0 4294967295) (sym one) s.2.1, subst (λ (u : List ℕ). IsWithin u count 0 4096) (sym other) s.2.2)))))
+    inr (inr (name_of _ _ same, (start, count, (refl, subst (λ (u : List ℕ). IsWithin u start 0 4294967295) (sym one) s.2.1, subst (λ (u : List ℕ). IsWithin u count 0 4096) (sym other) s.2.2))))
 two_words name a b (Build v n w) s = absurd (let same : ◌≡◌ {A = ℕ} 3 4 = ap length s.3.0 in omega (arith, same))
 two_words name a b (Put v n w) s = absurd (let same : ◌≡◌ {A = ℕ} 3 4 = ap length s.3.0 in omega (arith, same))
 
@@ -338,7 +338,7 @@ get_from name row col named c s = elim (two_words name row col c s) [
 ]
 
 pub sample_to : (name u w : List ℕ) → name ≡ codes "sample" → (c : Command) → IsSample u w c → IsSpelled c (name ∷ u ∷ w ∷ [])
-sample_to name u w named c s = subst (λ (x : Command). IsSpelled x (name ∷ u ∷ w ∷ [])) (sym s.1.1.0) (u, w, (ap (λ (v : List ℕ). v ∷ u ∷ w ∷ []) named, s.1.1.1, s.1.1.2))
+sample_to name u w named c s = subst (λ (x : Command). IsSpelled x (name ∷ u ∷ w ∷ [])) (sym s.2.0) (u, w, (ap (λ (v : List ℕ). v ∷ u ∷ w ∷ []) named, s.2.1, s.2.2))
 
 pub sample_from : (name u w : List ℕ) → name ≡ codes "sample" → (c : Command) → IsSpelled c (name ∷ u ∷ w ∷ []) → IsSample u w c
 sample_from name u w named c s = elim (two_words name u w c s) [
@@ -478,8 +478,8 @@ pub lawful : (c : Command) (words : List (List ℕ)) → IsSpelled c words → I
 lawful (Encode a e) words s = tt
 lawful Decode words s = tt
 lawful Info words s = tt
-lawful (Build a e w) words s = s.3.3.1
-lawful (Put a e w) words s = s.3.3.1
+lawful (Build a e w) words s = (s.3.3.1, s.3.3.2)
+lawful (Put a e w) words s = (s.3.3.1, s.3.3.2)
 lawful (Get t) words s = tt
 lawful (GetRaw t) words s = tt
 lawful ListAll words s = tt

@@ -77,7 +77,15 @@ pub fn take_updates<R: Threads + Sync, S: Source, G: Gate>(
     ensures taken { TookSome (S.left src.old) (S.left src.new) }
     ensures end { OnOk result (IsAtEnd (S.left src.new)) }
 {
-    let updates = match read_updates(rt, alloc, src, version, Step::of(error), workers as usize, gate) {
+    let updates = match read_updates(
+        rt,
+        alloc,
+        src,
+        version,
+        Step::of(error),
+        workers as usize,
+        gate,
+    ) {
         Ok(updates) => updates,
         Err(stop) => return Err(stream_stop(stop)),
     };

@@ -17,4 +17,4 @@ returns-in-Some-clause-blobs g c = λ version error spelled.
     c.perform.ensures.blobs version error is
 
 pub perform-requires-clause-lawful : goal.perform-requires-clause-lawful
-perform-requires-clause-lawful g c = lawful c.in-Some.command c.args.words.now ((c.command_of.ensures c.in-Some.command).0 c.in-Some.is)
+perform-requires-clause-lawful g c κs within = lawful c.in-Some.command c.args.words.now ((c.command_of.ensures c.in-Some.command).0 c.in-Some.is)

@@ -3,7 +3,6 @@ use Rattle.std.specs.Prelude.{OnOk}
 use Rattle.lerc_header.specs.declared.header.Version.{Version}
 use Rattle.program_ends.specs.Moves.{Change}
 use Rattle.lerc_cli.specs.inputs.Given.{given}
-use Rattle.lerc_cli.specs.inside.Spelling.{IsLawful}
 use Rattle.lerc_cli.specs.run.InWords.{GivesBlobs}
 use Rattle.lerc_cli.proofs.CrashLemmas.Idle.{reading_volume, source_idle, volume_idle}
 use Rattle.lerc_cli.proofs.dispatch.perform.Goals as goal
@@ -107,12 +106,3 @@ returns-in-Sample-clause-output g c = rw (c.in-Sample.is, c.requires.none) (c.sa
 
 pub returns-in-Sample-clause-volume : goal.returns-in-Sample-clause-volume
 returns-in-Sample-clause-volume g c = rw (c.in-Sample.is, c.requires.none) (volume_idle _ _ _ _ _ _ g.V.Volume.told g.V.Volume.history g.V.Volume.faults _ (search rules) (c.sample.ensures _))
-
-pub build-requires-clause-workers : goal.build-requires-clause-workers
-build-requires-clause-workers g c = subst IsLawful c.in-Build.is c.requires.lawful
-
-pub put-requires-clause-workers : goal.put-requires-clause-workers
-put-requires-clause-workers g c = subst IsLawful c.in-Put.is c.requires.lawful
-
-pub sample-requires : goal.sample-requires
-sample-requires g c = subst IsLawful c.in-Sample.is c.requires.lawful

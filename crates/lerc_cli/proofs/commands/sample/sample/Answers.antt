@@ -15,9 +15,3 @@ returns-in-Ok-give_all g c = λ some.
     let sums = c.in-Ok.sums in
     gave (Sample c.args.start c.args.count) some (sums_lines sums) _ (sums, (c.in-Ok.ensures, refl))
     (subst (Holds (g.K.Sink.held c.args.out.now) (g.K.Sink.held c.give_all.new.sink)) (c.as_slice.ensures ∙ c.sums_text.ensures) c.in-Ok-give_all.ensures.ok) c.in-Ok-give_all.ensures.counted
-
-pub returns : goal.returns
-returns g c = λ some.
-    let sums = c.in-Ok.sums in
-    cut (Sample c.args.start c.args.count) some (sums_lines sums) _ (sums, (c.in-Ok.ensures, refl))
-    (subst (HoldsPrefix (g.K.Sink.held c.args.out.now) (g.K.Sink.held c.give_all.new.sink)) (c.as_slice.ensures ∙ c.sums_text.ensures) c.in-Err-give_all.ensures.err) c.in-Err-give_all.ensures.counted.0 c.in-Err-give_all.ensures.counted.1
