@@ -1,5 +1,7 @@
 //! Inputs read whole. The blobs were worked by hand from the layout.
 
+ghost use Rattle.std.specs.Prelude.{◌≤◌};
+
 use crate::same::same;
 use bundle_store::TileRec;
 use lerc_header::{Step, Version};
@@ -7,8 +9,10 @@ use outside_io::{Bytes, MemSource, Source};
 use raster_values::GridReason;
 use std::alloc::Global;
 use std::process::Abort;
+use std::thread::Threads;
 use tile_stream::{TileFault, TileReason};
 use tile_updates::{StreamStop, read_updates};
+use tile_workers::Open;
 
 /// One unsigned byte, 7, for the last slot.
 const SEVEN: [u8; 22] = *b"T\x7f\x7fLGR1\x01\x01\0\0\0\x01\0\0\0\x01\0\0\0\x01\x07";
@@ -53,17 +57,20 @@ fn source(rt: &impl Abort, alloc: Global, bytes: &[u8], piece: usize, failing: &
     MemSource::new(bytes, piece.max(1), failing)
 }
 
-/// What is read of the bytes, so many at a time, in version 3 without loss. The calls of the
-/// source with these numbers fail. Where all is read, no byte is left.
+/// What is read of the bytes, so many at a time, in version 3 without loss, and encoded by so many
+/// workers. The calls of the source with these numbers fail. Where all is read, no byte is left.
 fn read(
-    rt: &impl Abort,
+    rt: &(impl Abort + Threads + Sync),
     alloc: Global,
     bytes: &[u8],
     piece: usize,
     failing: &[u8],
-) -> Result<Vec<TileRec>, StreamStop> {
+    workers: usize,
+) -> Result<Vec<TileRec>, StreamStop>
+    requires { (1 ≤ workers) × (workers ≤ 64) }
+{
     let mut src = source(rt, alloc, bytes, piece, failing);
-    let answer = read_updates(alloc, &mut src, Version::V3, Step::of(0));
+    let answer = read_updates(rt, alloc, &mut src, Version::V3, Step::of(0), workers, &Open);
     if answer.is_ok() {
         same(rt, "left", src.take(&mut [0; 1]), Ok(0));
     }
@@ -84,9 +91,9 @@ fn expect_update(rt: &impl Abort, update: &TileRec, slot: u16, blob: &[u8]) {
 }
 
 /// Both tiles, so many bytes at a time, are read and encoded.
-fn expect_two(rt: &impl Abort, alloc: Global, piece: usize) {
+fn expect_two(rt: &(impl Abort + Threads + Sync), alloc: Global, piece: usize) {
     let bytes = behind_seven(rt, alloc, &FIVES);
-    let updates = read(rt, alloc, &bytes, piece, b"").expect(rt, "updates");
+    let updates = read(rt, alloc, &bytes, piece, b"", 2).expect(rt, "updates");
     if updates.len() != 2 {
         panic!(rt; "two updates");
     }
@@ -104,7 +111,7 @@ fn two_tiles_whatever_the_pieces(rt: HostRuntime) {
 #[test]
 fn a_tile_of_two_bands_has_both_blobs(rt: HostRuntime) {
     let alloc = rt.alloc();
-    let updates = read(&rt, alloc, &BANDS, 7, b"").expect(&rt, "updates");
+    let updates = read(&rt, alloc, &BANDS, 7, b"", 1).expect(&rt, "updates");
     if updates.len() != 1 {
         panic!(&rt; "one update");
     }
@@ -115,7 +122,7 @@ fn a_tile_of_two_bands_has_both_blobs(rt: HostRuntime) {
 
 #[test]
 fn no_tile_and_no_update(rt: HostRuntime) {
-    let updates = read(&rt, rt.alloc(), b"", 1, b"").expect(&rt, "updates");
+    let updates = read(&rt, rt.alloc(), b"", 1, b"", 4).expect(&rt, "updates");
     same(&rt, "updates", updates.len(), 0);
 }
 
@@ -124,18 +131,16 @@ fn fault(reason: TileReason, place: u64) -> StreamStop {
     StreamStop::Fault(TileFault { reason, place })
 }
 
-/// These bytes are refused so.
-fn expect_stop(rt: &impl Abort, alloc: Global, bytes: &[u8], piece: usize, stop: StreamStop) {
-    same(
-        rt,
-        bytes.len(),
-        read(rt, alloc, bytes, piece, b"").err(),
-        Some(stop),
-    );
+/// These bytes are refused so, by one worker and by two.
+fn expect_stop(rt: &(impl Abort + Threads + Sync), alloc: Global, bytes: &[u8], piece: usize, stop: StreamStop) {
+    let by_one = read(rt, alloc, bytes, piece, b"", 1).err();
+    let by_two = read(rt, alloc, bytes, piece, b"", 2).err();
+    same(rt, bytes.len(), by_one, Some(stop));
+    same(rt, bytes.len(), by_two, Some(stop));
 }
 
 /// These bytes behind the first tile are refused so.
-fn expect_behind(rt: &impl Abort, alloc: Global, tail: &[u8], stop: StreamStop) {
+fn expect_behind(rt: &(impl Abort + Threads + Sync), alloc: Global, tail: &[u8], stop: StreamStop) {
     expect_stop(rt, alloc, &behind_seven(rt, alloc, tail), 7, stop);
 }
 
@@ -163,9 +168,9 @@ fn the_first_refusal_and_its_place(rt: HostRuntime) {
 }
 
 /// A source that fails at its call of that number is told.
-fn expect_source(rt: &impl Abort, alloc: Global, number: u8) {
+fn expect_source(rt: &(impl Abort + Threads + Sync), alloc: Global, number: u8) {
     let bytes = behind_seven(rt, alloc, &FIVES);
-    let stop = read(rt, alloc, &bytes, 7, &[number]).err();
+    let stop = read(rt, alloc, &bytes, 7, &[number], 2).err();
     same(rt, number, stop, Some(StreamStop::Source));
 }
 

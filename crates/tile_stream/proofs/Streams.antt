@@ -1,5 +1,5 @@
 -- Streams.
-use Rattle.std.proofs.Common.{◌≡◌, ℕ, ◌≤◌, suc, List, [], ◌∷◌, ◌++◌, length, refl, sym, ap, ◌∙◌, arith, append_assoc, length-append}
+use Rattle.std.proofs.Common.{◌≡◌, ℕ, ◌≤◌, suc, List, [], ◌∷◌, ◌++◌, length, refl, sym, ap, ◌∙◌, subst, arith, append_assoc, length-append}
 use Rattle.std.proofs.lemmas.List.{append-nil}
 use Rattle.first_fault.specs.Faults.{Numbered}
 use Rattle.first_fault.proofs.Parts.{same_rest}
@@ -20,12 +20,44 @@ pushed k a b (x ∷ xs) t (front, (rest, (joined, (stands, more)))) tile = (fron
 pub stream_push : (bytes more : List ℕ) (tiles : List Tile) (t : Tile) → IsStream bytes tiles → IsTile more t → IsStream (bytes ++ more) (tiles ++ t ∷ [])
 stream_push bytes more tiles t is tile = pushed 0 bytes more tiles t is tile
 
--- ---- two streams in front of the same bytes
-
 -- the numbers of the tiles say nothing
 renumbered : (k j : ℕ) (bytes : List ℕ) (tiles : List Tile) → Numbered (λ k. IsTile) k bytes tiles → Numbered (λ k. IsTile) j bytes tiles
 renumbered k j bytes [] is = is
 renumbered k j bytes (t ∷ ts) (front, (rest, (joined, (tile, more)))) = (front, (rest, (joined, (tile, renumbered (suc k) (suc j) rest ts more))))
+
+-- ---- two streams, one behind the other
+
+joined_at : (k : ℕ) (a b : List ℕ) (xs ys : List Tile) → Numbered (λ k. IsTile) k a xs → IsStream b ys → Numbered (λ k. IsTile) k (a ++ b) (xs ++ ys)
+joined_at k a b [] ys is later = subst (λ (u : List ℕ). Numbered (λ k. IsTile) k u ys) (sym (ap (λ (u : List ℕ). u ++ b) is)) (renumbered 0 k b ys later)
+joined_at k a b (x ∷ xs) ys (front, (rest, (joined, (tile, more)))) later = (front, (rest ++ b, (ap (λ (u : List ℕ). u ++ b) joined ∙ append_assoc front rest b, (tile, joined_at (suc k) rest b xs ys more later))))
+
+pub stream_join : (a b : List ℕ) (xs ys : List Tile) → IsStream a xs → IsStream b ys → IsStream (a ++ b) (xs ++ ys)
+stream_join a b xs ys one two = joined_at 0 a b xs ys one two
+
+-- the stream of the first tiles, and that of the others behind it
+pub record Divided (k : ℕ) (bytes : List ℕ) (xs ys : List Tile) : Type 0 where
+  pub front : List ℕ
+  pub rest : List ℕ
+  pub joined : bytes ≡ front ++ rest
+  pub first : Numbered (λ k. IsTile) k front xs
+  pub later : IsStream rest ys
+
+divided_at : (k : ℕ) (bytes : List ℕ) (xs ys : List Tile) → Numbered (λ k. IsTile) k bytes (xs ++ ys) → Divided k bytes xs ys
+divided_at k bytes [] ys is = record { front = []; rest = bytes; joined = refl; first = refl; later = renumbered k 0 bytes ys is }
+divided_at k bytes (x ∷ xs) ys (front, (rest, (joined, (tile, more)))) =
+    let d = divided_at (suc k) rest xs ys more in
+    record {
+      front = front ++ d.front;
+      rest = d.rest;
+      joined = joined ∙ ap (λ (u : List ℕ). front ++ u) d.joined ∙ sym (append_assoc front d.front d.rest);
+      first = (front, (d.front, (refl, (tile, d.first))));
+      later = d.later;
+    }
+
+pub stream_divide : (bytes : List ℕ) (xs ys : List Tile) → IsStream bytes (xs ++ ys) → Divided 0 bytes xs ys
+stream_divide bytes xs ys is = divided_at 0 bytes xs ys is
+
+-- ---- two streams in front of the same bytes
 
 -- the longer stream goes on behind the shorter one
 pub record GoesOn (front rest other behind : List ℕ) (tiles others : List Tile) : Type 0 where

@@ -1,4 +1,7 @@
+mod Adding
 mod Passing
 pub mod Refusals
+mod Refusing
 mod SoFar
 mod StreamsDecided
+mod Tiles

@@ -9,13 +9,13 @@ use Rattle.bundle_store.specs.declared.tile_rec.TileRec.{TileRec}
 use Rattle.tile_stream.specs.declared.tile.Tile.{Tile}
 use Rattle.tile_updates.specs.Updates.{AllPass, Passes, kept_bytes, update_of, updates_of, tile_bytes}
 
-all_behind : {X : Type 0} (P : X → Type 0) (xs ys : List X) → All P (xs ++ ys) → All P ys
+pub all_behind : {X : Type 0} (P : X → Type 0) (xs ys : List X) → All P (xs ++ ys) → All P ys
 all_behind P [] ys h = h
 all_behind P (x ∷ xs) ys h = all_behind P xs ys (All-tail P x (xs ++ ys) h)
 
 -- ---- bytes kept
 
-kept_both : (us ws : List TileRec) → kept_bytes (us ++ ws) ≡ kept_bytes us + kept_bytes ws
+pub kept_both : (us ws : List TileRec) → kept_bytes (us ++ ws) ≡ kept_bytes us + kept_bytes ws
 kept_both us ws =
     ap sum (map-append (λ (u : TileRec). length u.bytes) us ws) ∙ sum_by-append (λ x. x) (map (λ (u : TileRec). length u.bytes) us) (map (λ (u : TileRec). length u.bytes) ws)
 

@@ -1,10 +1,9 @@
 -- What was made of the first tiles of an input.
-use Rattle.std.proofs.Common.{◌≡◌, ◌⊎◌, inl, inr, ℕ, ◌+◌, ◌<◌, ◌≤◌, Bool, true, false, List, [], ◌∷◌, ◌++◌, length, get_or, Option, Some, None, refl, sym, ap, ◌∙◌, subst, arith, length-append}
+use Rattle.std.proofs.Common.{◌≡◌, ◌⊎◌, inl, inr, ℕ, ◌+◌, ◌^◌, ◌<◌, ◌≤◌, Bool, true, false, List, [], ◌∷◌, ◌++◌, length, get_or, Option, Some, None, refl, sym, ap, ◌∙◌, subst, arith, length-append}
 use Rattle.std.specs.Prelude.{All, Ok}
 use Rattle.std.proofs.lemmas.Bool.{cases_lt}
-use Rattle.std.proofs.lemmas.List.{append-nil, length-map}
-use Rattle.std.proofs.lemmas.List.Elements.{All-nil, All-push, All-map, All-get_or}
-use Rattle.first_fault.specs.Faults.{moved}
+use Rattle.std.proofs.lemmas.List.{append-nil, length-map, map-append}
+use Rattle.std.proofs.lemmas.List.Elements.{All-nil, All-append, All-map, All-get_or, All-push}
 use Rattle.outside_io.specs.streams.Faults.{IsCause}
 use Rattle.outside_io.specs.streams.Source.{IsAtEnd}
 use Rattle.raster_values.specs.ReadGrid.{TookBytes, TookSome}
@@ -15,129 +14,122 @@ use Rattle.lerc_encode.specs.Encoded.{AreEncodedOnce, BandsNeedV4}
 use Rattle.bundle_store.specs.declared.tile_rec.TileRec.{TileRec}
 use Rattle.bundle_store.specs.Build.{EachFits}
 use Rattle.tile_stream.specs.declared.tile.Tile.{Tile}
-use Rattle.tile_stream.specs.declared.tile.TileFault.{TileFault}
-use Rattle.tile_stream.specs.declared.tile.TileStop.TheVariants.{Fault as TileFaultOf}
 use Rattle.tile_stream.specs.Stream.{IsStream}
-use Rattle.tile_stream.specs.Tile.{IsTile, IsToldStop, TookTile, tile_faults}
-use Rattle.tile_stream.proofs.Streams.{stream_push, tile_long}
-use Rattle.tile_updates.specs.declared.stop.StreamStop.{StreamStop}
-use Rattle.tile_updates.specs.declared.stop.StreamStop.TheVariants.{TooManyTiles, Fault, DepthNeedsV4, TileTooLarge, KeptTooMuch, Source, OutOfMemory}
+use Rattle.tile_stream.specs.Tile.{IsTile, TookTile}
+use Rattle.tile_stream.proofs.Streams.{stream_join, stream_push}
+use Rattle.tile_updates.specs.Adding.{MayBeAdded}
 use Rattle.tile_updates.specs.declared.updates.SoFar.{SoFar}
-use Rattle.tile_updates.specs.Stops.{HasTile, IsRefused, IsStreamStop, IsTooLong, IsTooMuch, TellsStop}
-use Rattle.tile_updates.specs.Updates.{AreEncoded, IsUpdates, OfBytes, Passes, update_of, updates_of, tile_bytes}
-use Rattle.tile_updates.specs.inside.SoFar.{AddsTile, AddsOne, AsksOne, IsMade, IsRoomy, IsSoFar, RefusesNext, TakesTile}
-use Rattle.tile_updates.proofs.Passing.{MayFollow, kept_push, none_pass, pass_push, updates_push}
+use Rattle.tile_updates.specs.declared.updates.Waiting.{Waiting}
+use Rattle.tile_updates.specs.Updates.{AllPass, AreEncoded, IsUpdates, OfBytes, Passes, kept_bytes, update_of, updates_of, tile_bytes}
+use Rattle.tile_updates.specs.inside.SoFar.{AreWaiting, AsksOne, IsAll, IsSoFar, WaitsToo}
+use Rattle.tile_updates.proofs.Passing.{none_pass}
 
 -- ---- at the start
 
-pub so_far_none : (v : Version) (step : ℕ) (old : Option (List ℕ)) (done : SoFar) → done.updates.items ≡ [] → done.place ≡ 0 → done.kept ≡ 0 → IsSoFar v step old old done
-so_far_none v step old done empty place kept = record {
+pub so_far_none : (v : Version) (step : ℕ) (old : Option (List ℕ)) (done : SoFar) → done.list ≡ [] → done.place ≡ 0 → IsSoFar v step old old done
+so_far_none v step old done empty place = record {
   tiles = [];
   front = [];
   stream = refl;
   took = took_none old;
   pass = none_pass v step;
   encoded = All-nil _;
-  updates_are = empty;
+  list_is = empty;
   place_is = place;
-  place_below = omega (arith, place);
-  kept_is = kept;
 }
 
-pub counted : (v : Version) (step : ℕ) (old now : Option (List ℕ)) (done : SoFar) (s : IsSoFar v step old now done) → length s.tiles ≡ length done.updates.items
-counted v step old now done s = sym (ap length s.updates_are ∙ length-map s.tiles (update_of v step))
+pub counted : (v : Version) (step : ℕ) (old now : Option (List ℕ)) (done : SoFar) (s : IsSoFar v step old now done) → length s.tiles ≡ length done.list
+counted v step old now done s = sym (ap length s.list_is ∙ length-map s.tiles (update_of v step))
 
-pub roomy : (v : Version) (step : ℕ) (old now : Option (List ℕ)) (done : SoFar) → IsSoFar v step old now done → length done.updates.items < 1048576 → IsRoomy done
-roomy v step old now done s few =
-    let count = counted v step old now done s in
-    let kept = s.pass.kept in
-    record {
-      few = few;
-      place = omega (arith, s.place_below, count);
-      kept = omega (arith, s.kept_is, kept);
-    }
+-- ---- tiles that wait
 
--- ---- one tile more
-
-follows : (v : Version) (step : ℕ) (old mid new : Option (List ℕ)) (before after : SoFar) (s : IsSoFar v step old mid before) (a : AddsTile v step mid new before after) → length before.updates.items < 1048576
-    → MayFollow v step s.tiles a.tile
-follows v step old mid new before after s a few =
-    let count = counted v step old mid before s in
-    let push = kept_push v step s.tiles a.tile in
-    let within = a.made.within in
-    record {
-      few = omega (arith, count, few);
-      passes = a.made.passes;
-      kept = omega (arith, push, within, s.kept_is);
-    }
-
-pub so_far_more : (v : Version) (step : ℕ) (old mid new : Option (List ℕ)) (before after : SoFar) → IsSoFar v step old mid before → AddsTile v step mid new before after → length before.updates.items < 1048576 → IsSoFar v step old new after
-so_far_more v step old mid new before after s a few = record {
-  tiles = s.tiles ++ a.tile ∷ [];
-  front = s.front ++ a.bytes;
-  stream = stream_push s.front a.bytes s.tiles a.tile s.stream a.takes.tile;
-  took = took_join old mid new s.front a.bytes s.took a.takes.took;
-  pass = pass_push v step s.tiles a.tile s.pass (follows v step old mid new before after s a few);
-  encoded = All-push (λ t. AreEncodedOnce (tile_bytes v step t) t.bands step) s.tiles a.tile s.encoded a.made.encoded;
-  updates_are = a.updates ∙ ap (λ (us : List TileRec). us ++ update_of v step a.tile ∷ []) s.updates_are ∙ sym (updates_push v step s.tiles a.tile);
-  place_is = omega (arith, a.place, s.place_is, length-append s.front a.bytes);
-  place_below = omega (arith, a.place, a.size, s.place_below, length-append s.tiles (a.tile ∷ []));
-  kept_is = let push = kept_push v step s.tiles a.tile in omega (arith, a.kept, push, s.kept_is);
+pub none_wait : (v : Version) (place : ℕ) (old : Option (List ℕ)) (w : Waiting) → w.batch ≡ [] → w.place ≡ place → AreWaiting v place old old w
+none_wait v place old w empty is = record {
+  front = [];
+  stream = subst (λ (ts : List Tile). IsStream [] ts) (sym empty) refl;
+  took = took_none old;
+  place_is = omega (arith, is);
+  low = omega (arith, is);
+  flat = subst (All (λ t. ¬ BandsNeedV4 v t.bands)) (sym empty) (All-nil (λ t. ¬ BandsNeedV4 v t.bands));
 }
 
-pub next_so_far : (v : Version) (step : ℕ) (old mid new : Option (List ℕ)) (before after : SoFar) (found : Bool) → IsSoFar v step old mid before → found ≡ true → AddsOne v step mid new before after found → length before.updates.items < 1048576
-    → IsSoFar v step old new after
-next_so_far v step old mid new before after true s is a few = so_far_more v step old mid new before after s a few
-next_so_far v step old mid new before after false s is a few = absurd (cc)
+pub one_waits : (v : Version) (place : ℕ) (old mid new : Option (List ℕ)) (before after : Waiting) → AreWaiting v place old mid before → WaitsToo v mid new before after → AreWaiting v place old new after
+one_waits v place old mid new before after w o =
+    let more : length after.batch ≡ length before.batch + 1 = ap length o.batch ∙ length-append before.batch (o.tile ∷ []) in
+    let size = o.size in
+    let low = w.low in
+    record {
+      front = w.front ++ o.bytes;
+      stream = subst (λ (ts : List Tile). IsStream (w.front ++ o.bytes) ts) (sym o.batch) (stream_push w.front o.bytes before.batch o.tile w.stream o.takes.tile);
+      took = took_join old mid new w.front o.bytes w.took o.takes.took;
+      place_is = omega (arith, o.place, w.place_is, length-append w.front o.bytes);
+      low = omega (arith, o.place, size, low, more);
+      flat = subst (All (λ t. ¬ BandsNeedV4 v t.bands)) (sym o.batch) (All-push (λ t. ¬ BandsNeedV4 v t.bands) before.batch o.tile w.flat o.flat);
+    }
 
--- what stands at the end of the source
-pub record AtEnd (v : Version) (step : ℕ) (old now : Option (List ℕ)) (done : SoFar) : Type 0 where
-  pub so_far : IsSoFar v step old now done
-  pub end : IsAtEnd now
+-- a tile was taken and let wait
+pub waits_too : (v : Version) (old new : Option (List ℕ)) (before after : Waiting) (t : Tile) (size : ℕ) → TookTile old new (Some t) → ((bytes : List ℕ) → IsTile bytes t → size ≡ length bytes) → size ≤ 83886104 → ¬ BandsNeedV4 v t.bands
+    → after.batch ≡ before.batch ++ t ∷ [] → after.place ≡ before.place + size → WaitsToo v old new before after
+waits_too v old new before after t size (bytes, (tile, took)) sizes low flat batch place = record {
+  tile = t;
+  bytes = bytes;
+  takes = record { tile = tile; took = took };
+  size = let same = sizes bytes tile in omega (arith, same, low);
+  flat = flat;
+  batch = batch;
+  place = place ∙ ap (λ (n : ℕ). before.place + n) (sizes bytes tile);
+}
 
-pub last_so_far : (v : Version) (step : ℕ) (old mid new : Option (List ℕ)) (before after : SoFar) (found : Bool) → IsSoFar v step old mid before → found ≡ false → AddsOne v step mid new before after found → AtEnd v step old new after
-last_so_far v step old mid new before after true s is a = absurd (cc)
-last_so_far v step old mid new before after false s is (end, (same, kept)) = record {
-  so_far = subst (λ (o : Option (List ℕ)). IsSoFar v step old o after) (sym same) (subst (λ (d : SoFar). IsSoFar v step old mid d) (sym kept) s);
-  end = subst IsAtEnd (sym same) end;
+-- ---- a batch more
+
+pub updates_join : (v : Version) (step : ℕ) (xs ys : List Tile) → updates_of v step (xs ++ ys) ≡ updates_of v step xs ++ updates_of v step ys
+updates_join v step xs ys = map-append (update_of v step) xs ys
+
+pub pass_join : (v : Version) (step : ℕ) (list : List TileRec) (xs ys : List Tile) → AllPass v step xs → list ≡ updates_of v step xs → MayBeAdded v step list ys → length list + length ys ≤ 1048576 → AllPass v step (xs ++ ys)
+pass_join v step list xs ys pass is may few =
+    let count : length list ≡ length xs = ap length is ∙ length-map xs (update_of v step) in
+    let all : list ++ updates_of v step ys ≡ updates_of v step (xs ++ ys) = ap (λ (us : List TileRec). us ++ updates_of v step ys) is ∙ sym (updates_join v step xs ys) in
+    record {
+      few = omega (arith, few, count, length-append xs ys);
+      each = All-append (Passes v step) xs ys pass.each may.each;
+      kept = subst (λ (us : List TileRec). kept_bytes us ≤ 2 ^ 30) all may.kept;
+    }
+
+pub so_far_more : (v : Version) (step : ℕ) (old now mid : Option (List ℕ)) (before after : SoFar) (w : Waiting) → IsSoFar v step old now before → AreWaiting v before.place now mid w → MayBeAdded v step before.list w.batch
+    → All (λ t. AreEncodedOnce (tile_bytes v step t) t.bands step) w.batch → length before.list + length w.batch ≤ 1048576 → after.list ≡ before.list ++ updates_of v step w.batch → after.place ≡ w.place → IsSoFar v step old mid after
+so_far_more v step old now mid before after w s waiting may encoded few list place = record {
+  tiles = s.tiles ++ w.batch;
+  front = s.front ++ waiting.front;
+  stream = stream_join s.front waiting.front s.tiles w.batch s.stream waiting.stream;
+  took = took_join old now mid s.front waiting.front s.took waiting.took;
+  pass = pass_join v step before.list s.tiles w.batch s.pass s.list_is may few;
+  encoded = All-append (λ t. AreEncodedOnce (tile_bytes v step t) t.bands step) s.tiles w.batch s.encoded encoded;
+  list_is = list ∙ ap (λ (us : List TileRec). us ++ updates_of v step w.batch) s.list_is ∙ sym (updates_join v step s.tiles w.batch);
+  place_is = omega (arith, place, waiting.place_is, s.place_is, length-append s.front waiting.front);
 }
 
 -- none was left behind as many tiles as there may be
-pub none_more : (v : Version) (step : ℕ) (old mid new : Option (List ℕ)) (done : SoFar) (found : Bool) → IsSoFar v step old mid done → found ≡ false → AsksOne (Ok found) mid new → AtEnd v step old new done
+pub none_more : (v : Version) (step : ℕ) (old mid new : Option (List ℕ)) (done : SoFar) (found : Bool) → IsSoFar v step old mid done → found ≡ false → AsksOne (Ok found) mid new → IsAll v step old new done
 none_more v step old mid new done true s is a = absurd (cc)
 none_more v step old mid new done false s is (end, same) = record {
   so_far = subst (λ (o : Option (List ℕ)). IsSoFar v step old o done) (sym same) s;
   end = subst IsAtEnd (sym same) end;
 }
 
--- a tile was taken and encoded, and its update added
-pub adds_tile : (v : Version) (step : ℕ) (old new : Option (List ℕ)) (before after : SoFar) (t : Tile) (update : TileRec) (size : ℕ) → TookTile old new (Some t) → ((bytes : List ℕ) → IsTile bytes t → size ≡ length bytes)
-    → size ≤ 83886104 → IsMade v step before.kept t update → after.updates.items ≡ before.updates.items ++ update ∷ [] → after.place ≡ before.place + size → after.kept ≡ before.kept + length update.bytes → AddsTile v step old new before after
-adds_tile v step old new before after t update size (bytes, (tile, took)) sizes low made updates place kept = record {
-  tile = t;
-  bytes = bytes;
-  takes = record { tile = tile; took = took };
-  size = let same = sizes bytes tile in omega (arith, same, low);
-  made = record { update_is = refl; passes = made.passes; within = made.within; encoded = made.encoded };
-  updates = updates ∙ ap (λ (u : TileRec). before.updates.items ++ u ∷ []) made.update_is;
-  place = place ∙ ap (λ (n : ℕ). before.place + n) (sizes bytes tile);
-  kept = kept ∙ ap (λ (u : TileRec). before.kept + length u.bytes) made.update_is;
-}
-
 -- ---- the end
 
-pub all_read : (v : Version) (step : ℕ) (old now : Option (List ℕ)) (done : SoFar) → IsSoFar v step old now done → IsAtEnd now → OfBytes old (λ bytes. IsUpdates v step bytes done.updates.items)
-all_read v step None now done s end = (s.front, record { tiles = s.tiles; stream = s.stream; pass = s.pass; updates_are = s.updates_are })
+pub all_read : (v : Version) (step : ℕ) (old now : Option (List ℕ)) (done : SoFar) → IsSoFar v step old now done → IsAtEnd now → OfBytes old (λ bytes. IsUpdates v step bytes done.list)
+all_read v step None now done s end = (s.front, record { tiles = s.tiles; stream = s.stream; pass = s.pass; updates_are = s.list_is })
 all_read v step (Some all) now done s end = whole s.took
   where
-    whole : TookBytes (Some all) now s.front → IsUpdates v step all done.updates.items
+    whole : TookBytes (Some all) now s.front → IsUpdates v step all done.list
     whole (rest, (joined, is)) =
         let none : rest ≡ [] = ended now rest end is in
         let same : all ≡ s.front = joined ∙ ap (λ (u : List ℕ). s.front ++ u) none ∙ append-nil s.front in
-        record { tiles = s.tiles; stream = subst (λ (u : List ℕ). IsStream u s.tiles) (sym same) s.stream; pass = s.pass; updates_are = s.updates_are }
+        record { tiles = s.tiles; stream = subst (λ (u : List ℕ). IsStream u s.tiles) (sym same) s.stream; pass = s.pass; updates_are = s.list_is }
 
-pub all_encoded : (v : Version) (step : ℕ) (old now : Option (List ℕ)) (done : SoFar) → IsSoFar v step old now done → AreEncoded v step done.updates.items
-all_encoded v step old now done s = record { tiles = s.tiles; updates_are = s.updates_are; encoded = s.encoded }
+pub all_encoded : (v : Version) (step : ℕ) (old now : Option (List ℕ)) (done : SoFar) → IsSoFar v step old now done → AreEncoded v step done.list
+all_encoded v step old now done s = record { tiles = s.tiles; updates_are = s.list_is; encoded = s.encoded }
 
 fits : (v : Version) (step : ℕ) (t : Tile) → AreEncodedOnce (tile_bytes v step t) t.bands step → Passes v step t → (0 < length (tile_bytes v step t)) × (length (tile_bytes v step t) < 16777216)
 fits v step t e p = let small = p.small in (bands_some (tile_bytes v step t) e.rasters e.blobs, (let low : length (tile_bytes v step t) < 16777216 = omega (arith, small) in low))
@@ -147,8 +139,8 @@ all_fit_of v step tiles encoded pass i below =
     All-get_or (λ (u : TileRec). (0 < length u.bytes) × (length u.bytes < 16777216)) (updates_of v step tiles) i (record { slot = 0; bytes = [] }) below
     (All-map (λ (u : TileRec). (0 < length u.bytes) × (length u.bytes < 16777216)) (update_of v step) tiles (λ k d less. fits v step (get_or tiles k d) (encoded k d less) (pass k d less)))
 
-pub all_fit : (v : Version) (step : ℕ) (old now : Option (List ℕ)) (done : SoFar) → IsSoFar v step old now done → EachFits done.updates.items
-all_fit v step old now done s = subst EachFits (sym s.updates_are) (all_fit_of v step s.tiles s.encoded s.pass.each)
+pub all_fit : (v : Version) (step : ℕ) (old now : Option (List ℕ)) (done : SoFar) → IsSoFar v step old now done → EachFits done.list
+all_fit v step old now done s = subst EachFits (sym s.list_is) (all_fit_of v step s.tiles s.encoded s.pass.each)
 
 pub some_read : (v : Version) (step : ℕ) (old now : Option (List ℕ)) (done : SoFar) → IsSoFar v step old now done → TookSome old now
 some_read v step old now done s = (s.front, s.took)
@@ -177,98 +169,11 @@ same_count P old new cause not = by (cases_lt old new)
     by (inl less) = absurd (not (cause.rose less))
     by (inr most) = let counts = cause.counts in omega (arith, counts, most)
 
--- ---- refusals
+pub waiting_read : (v : Version) (place : ℕ) (old mid new : Option (List ℕ)) (w : Waiting) → AreWaiting v place old mid w → TookSome mid new → TookSome old new
+waiting_read v place old mid new w waiting more = took_more old mid new waiting.front waiting.took more
 
--- the input that is told, or else some input
-of_bytes : (old now : Option (List ℕ)) (front next : List ℕ) (P : List ℕ → Type 0) (Q : List ℕ → Type 0) → TookBytes old now front → ((rest : List ℕ) → (now ≡ Some rest) → Q rest) → (now ≡ None → Q next)
-    → ((rest all : List ℕ) → all ≡ front ++ rest → Q rest → P all) → OfBytes old P
-of_bytes None now front next P Q took told untold go = (front ++ next, go next (front ++ next) refl (untold took))
-of_bytes (Some all) now front next P Q (rest, (joined, is)) told untold go = go rest all joined (told rest is)
-
--- what follows the tiles is refused so
-record Refused (v : Version) (step : ℕ) (tiles : List Tile) (place : ℕ) (stop : StreamStop) (rest : List ℕ) : Type 0 where
-  pub more : 0 < length rest
-  pub refused : IsRefused v step tiles place rest stop
-
-stops : (v : Version) (step : ℕ) (old now : Option (List ℕ)) (done : SoFar) (s : IsSoFar v step old now done) (stop : StreamStop) (rest all : List ℕ) → all ≡ s.front ++ rest → Refused v step s.tiles (length s.front) stop rest → IsStreamStop v step all stop
-stops v step old now done s stop rest all joined r = record {
-  tiles = s.tiles;
-  front = s.front;
-  rest = rest;
-  joined = joined;
-  stream = s.stream;
-  pass = s.pass;
-  more = r.more;
-  refused = r.refused;
+pub at_the_end : (v : Version) (step : ℕ) (old mid new : Option (List ℕ)) (done : SoFar) → new ≡ mid → IsAtEnd mid → IsSoFar v step old mid done → IsAll v step old new done
+at_the_end v step old mid new done same end s = record {
+  so_far = subst (λ (o : Option (List ℕ)). IsSoFar v step old o done) (sym same) s;
+  end = subst IsAtEnd (sym same) end;
 }
-
--- the tile that was taken stands in front of what was left
-taken_stands : (v : Version) (step : ℕ) (now new : Option (List ℕ)) (tiles : List Tile) (place : ℕ) (stop : StreamStop) (t : Tile) (bytes rest : List ℕ) → TakesTile now new t bytes
-    → ((behind : List ℕ) → IsRefused v step tiles place (bytes ++ behind) stop) → now ≡ Some rest → Refused v step tiles place stop rest
-taken_stands v step now new tiles place stop t bytes rest takes refused is = by (subst (λ (o : Option (List ℕ)). TookBytes o new bytes) is takes.took)
-  where
-    by : TookBytes (Some rest) new bytes → Refused v step tiles place stop rest
-    by (behind, (joined, then)) =
-        let long = tile_long bytes t takes.tile in
-        let size : length rest ≡ length (bytes ++ behind) = ap length joined in
-        record { more = omega (arith, long, size, length-append bytes behind); refused = subst (λ (u : List ℕ). IsRefused v step tiles place u stop) (sym joined) (refused behind) }
-
-taken_refused : (v : Version) (step : ℕ) (old now new : Option (List ℕ)) (done : SoFar) (s : IsSoFar v step old now done) (stop : StreamStop) (t : Tile) (bytes : List ℕ) → TakesTile now new t bytes
-    → ((behind : List ℕ) → IsRefused v step s.tiles (length s.front) (bytes ++ behind) stop) → OfBytes old (λ all. IsStreamStop v step all stop)
-taken_refused v step old now new done s stop t bytes takes refused =
-    of_bytes old now s.front (bytes ++ []) (λ all. IsStreamStop v step all stop) (Refused v step s.tiles (length s.front) stop) s.took
-    (λ rest is. taken_stands v step now new s.tiles (length s.front) stop t bytes rest takes refused is)
-    (λ none. let long = tile_long bytes t takes.tile in record { more = omega (arith, long, length-append bytes []); refused = refused [] })
-    (stops v step old now done s stop)
-
-has : (bytes behind : List ℕ) (t : Tile) (Such : Tile → Type 0) → IsTile bytes t → Such t → HasTile (bytes ++ behind) Such
-has bytes behind t Such is such = record { tile = t; front = bytes; behind = behind; joined = refl; stands = is; such = such }
-
-told_fault : (v : Version) (step : ℕ) (old now : Option (List ℕ)) (done : SoFar) (s : IsSoFar v step old now done) (f : TileFault) → length s.tiles < 1048576 → IsToldStop now done.place (TileFaultOf f) → TellsStop v step old (Fault f)
-told_fault v step None now done s f few told = tt
-told_fault v step (Some all) now done s f few told = by s.took
-  where
-    by : TookBytes (Some all) now s.front → IsStreamStop v step all (Fault f)
-    by (rest, (joined, is)) =
-        let here = subst (λ (o : Option (List ℕ)). IsToldStop o done.place (TileFaultOf f)) is told in
-        stops v step (Some all) now done s (Fault f) rest all joined
-        (record { more = here.0; refused = (few, subst (λ (n : ℕ). moved n (tile_faults rest) f.place f.reason) s.place_is here.1) })
-
-pub refused_next : (v : Version) (step : ℕ) (old now new : Option (List ℕ)) (done : SoFar) (stop : StreamStop) → IsSoFar v step old now done → length done.updates.items < 1048576 → RefusesNext v step now new done stop → TellsStop v step old stop
-refused_next v step old now new done TooManyTiles s few w = absurd w
-refused_next v step old now new done (Fault f) s few w =
-    let count = counted v step old now done s in
-    told_fault v step old now done s f (omega (arith, count, few)) w
-refused_next v step old now new done (DepthNeedsV4 at) s few w =
-    let count = counted v step old now done s in
-    let less : length s.tiles < 1048576 = omega (arith, count, few) in
-    let place : at ≡ length s.front + 16 = w.refused.1 ∙ ap (λ (n : ℕ). n + 16) s.place_is in
-    taken_refused v step old now new done s (DepthNeedsV4 at) w.tile w.bytes w.takes (λ behind. (less, (has w.bytes behind w.tile (λ t. BandsNeedV4 v t.bands) w.takes.tile w.refused.0, place)))
-refused_next v step old now new done (TileTooLarge at len) s few w =
-    let count = counted v step old now done s in
-    let less : length s.tiles < 1048576 = omega (arith, count, few) in
-    taken_refused v step old now new done s (TileTooLarge at len) w.tile w.bytes w.takes (λ behind. (less, (has w.bytes behind w.tile (IsTooLong v step len) w.takes.tile w.refused.0, w.refused.1 ∙ sym count)))
-refused_next v step old now new done (KeptTooMuch at) s few w =
-    let count = counted v step old now done s in
-    let less : length s.tiles < 1048576 = omega (arith, count, few) in
-    let above = w.refused.0 in
-    let push = kept_push v step s.tiles w.tile in
-    let much : IsTooMuch v step s.tiles w.tile = record { passes = above.passes; much = let more = above.above in omega (arith, push, more, s.kept_is) } in
-    taken_refused v step old now new done s (KeptTooMuch at) w.tile w.bytes w.takes (λ behind. (less, (has w.bytes behind w.tile (IsTooMuch v step s.tiles) w.takes.tile much, w.refused.1 ∙ sym count)))
-refused_next v step old now new done Source s few w = tt
-refused_next v step old now new done OutOfMemory s few w = tt
-
--- one byte more behind as many tiles as there may be
-pub too_many : (v : Version) (step : ℕ) (old now new : Option (List ℕ)) (done : SoFar) (found : Bool) → IsSoFar v step old now done → 1048576 ≤ length done.updates.items → found ≡ true → AsksOne (Ok found) now new → TellsStop v step old TooManyTiles
-too_many v step old now new done false s many is a = absurd (cc)
-too_many v step old now new done true s many is (bytes, (some, took)) =
-    of_bytes old now s.front bytes (λ all. IsStreamStop v step all TooManyTiles) (Refused v step s.tiles (length s.front) TooManyTiles) s.took
-    (λ rest is. by rest (subst (λ (o : Option (List ℕ)). TookBytes o new bytes) is took)) (λ none. record { more = some; refused = full }) (stops v step old now done s TooManyTiles)
-  where
-    full : length s.tiles ≡ 1048576
-    full = let count = counted v step old now done s in let few = s.pass.few in omega (arith, count, few, many)
-
-    by : (rest : List ℕ) → TookBytes (Some rest) new bytes → Refused v step s.tiles (length s.front) TooManyTiles rest
-    by rest (behind, (joined, then)) =
-        let size : length rest ≡ length (bytes ++ behind) = ap length joined in
-        record { more = omega (arith, some, size, length-append bytes behind); refused = full }

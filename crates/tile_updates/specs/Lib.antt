@@ -9,6 +9,8 @@ pub use Rattle.raster_values.specs.ReadGrid
 pub use Rattle.tile_stream.specs.Stream
 pub use Rattle.tile_stream.specs.Tile
 pub mod Updates
+pub mod Tiles
+pub mod Adding
 pub mod Stops
 pub mod Laws
 pub mod inside

@@ -1,3 +1,6 @@
+ghost use Rattle.std.specs.Prelude.{◌≡◌};
+ghost use Rattle.tile_updates.specs.inside.StopOf.{stop_of};
+
 use tile_stream::TileFault;
 
 /// Why an input of tiles gives no updates. The refusals of a tile stand in the order in which they
@@ -20,4 +23,28 @@ pub enum StreamStop {
     Source,
     /// There is no memory for bands, a blob or the list of updates.
     OutOfMemory,
+}
+
+/// Why the tiles of a batch give no updates. The tiles are numbered behind the updates that were
+/// made before.
+#[derive(Clone, Copy, Debug, PartialEq, Eq)]
+pub enum BatchStop {
+    /// The blobs of the bands of tile number `at` have so many bytes together, more than
+    /// 16,777,215.
+    TileTooLarge { at: u64, len: u64 },
+    /// The blobs up to those of tile number `at` have more than 2^30 bytes together.
+    KeptTooMuch { at: u64 },
+    /// There is no memory for a blob or the list of updates.
+    OutOfMemory,
+}
+
+/// The stop of an input whose batch stops so.
+pub(crate) fn stream_stop(stop: BatchStop) -> StreamStop
+    ensures { result ≡ stop_of stop }
+{
+    match stop {
+        BatchStop::TileTooLarge { at, len } => StreamStop::TileTooLarge { at, len },
+        BatchStop::KeptTooMuch { at } => StreamStop::KeptTooMuch { at },
+        BatchStop::OutOfMemory => StreamStop::OutOfMemory,
+    }
 }

@@ -1,125 +1,176 @@
-//! Tiles read and encoded one after the other.
+//! Tiles read and encoded batch by batch.
 
-ghost use Rattle.std.specs.Prelude.{◌≡◌, ◌+◌, ◌*◌, ◌^◌, ◌<◌, ◌≤◌, ◌++◌, ◌∷◌, [], Err, IfOk, IfErr, OnOk, IsTrue, length};
+ghost use Rattle.std.specs.Prelude.{◌≡◌, ◌+◌, ◌*◌, ◌^◌, ◌<◌, ◌≤◌, ℕ, List, Option, Err, IfOk, IfErr, OnOk, IsTrue, length};
 ghost use Rattle.bundle_store.specs.Build.{EachFits};
 ghost use Rattle.outside_io.specs.streams.Faults.{CountsFaults, IsCause};
 ghost use Rattle.outside_io.specs.streams.Source.{IsAtEnd};
 ghost use Rattle.raster_values.specs.ReadGrid.{TookSome};
 ghost use Rattle.tile_updates.specs.Stops.{TellsStop};
 ghost use Rattle.tile_updates.specs.Updates.{AreEncoded, IsUpdates, OfBytes};
-ghost use Rattle.tile_updates.specs.inside.SoFar.{AddsOne, AsksOne, IsMade, IsRoomy, RefusesNext, RefusesTile};
+ghost use Rattle.tile_updates.specs.inside.SoFar.{AsksOne, Follows, IsFilled, IsMade, IsRoomy, IsSoFar};
 
-use crate::StreamStop;
+use crate::batch::Batch;
+use crate::encoding::encode_batch;
+use crate::list::UpdateList;
+use crate::stop::{StreamStop, stream_stop};
 use bundle_store::TileRec;
-use lerc_encode::{EncodeFault, encode_bands};
 use lerc_header::{Step, Version};
 use outside_io::{Failed, Source, take_all};
-use std::alloc::{AllocError, Global};
+use std::alloc::Global;
 use std::thread::Threads;
 use tile_stream::{Tile, TileStop, next_tile};
-use tile_workers::Gate;
+use tile_workers::{Gate, bands_need_v4};
 
 /// How many tiles an input may have.
 const MOST_TILES: usize = 1048576;
 
-/// How many bytes a tile may have in a bundle, and how many all of them may have together.
-const MOST_BYTES: usize = 16777215;
-
-const MOST_KEPT: u64 = 1073741824;
-
 /// What was made of the first tiles of an input.
 #[derive(Drop)]
 struct SoFar {
-    updates: Vec<TileRec>,
+    list: UpdateList,
     /// How many bytes the tiles have.
     place: u64,
-    /// How many bytes the blobs have.
-    kept: u64,
 }
 
-/// The update of the tile that follows.
-fn update_of(
-    alloc: Global,
-    tile: &Tile,
-    version: Version,
-    step: Step,
-    done: &SoFar,
-) -> Result<TileRec, StreamStop>
-    requires { IsRoomy done.now }
-    ensures made { IfOk result (λ update. IsMade version step done.now.kept tile.now update) }
-    ensures refused { IfErr result (λ stop. RefusesTile version step done.now tile.now stop) }
-{
-    let at = done.updates.len() as u64;
-    let bytes = match encode_bands(alloc, &tile.bands, version, step) {
-        Ok(bytes) => bytes,
-        Err(EncodeFault::DepthNeedsV4) => return Err(StreamStop::DepthNeedsV4 {
-            place: done.place + 16,
-        }),
-        Err(EncodeFault::OutOfMemory) => return Err(StreamStop::OutOfMemory),
-    };
-    if bytes.len() > MOST_BYTES {
-        return Err(StreamStop::TileTooLarge {
-            at,
-            len: bytes.len() as u64,
-        });
-    }
-    if done.kept + bytes.len() as u64 > MOST_KEPT {
-        return Err(StreamStop::KeptTooMuch { at });
-    }
-    Ok(TileRec {
-        slot: tile.slot,
-        bytes,
-    })
+/// Tiles that wait, and the place behind them.
+#[derive(Drop)]
+struct Waiting {
+    batch: Batch,
+    place: u64,
 }
 
-/// Adds an update whose tile has so many bytes.
-fn add(done: &mut SoFar, update: TileRec, size: u64) -> Result<(), AllocError>
-    requires room { IsRoomy done.old }
-    requires size { size ≤ 83886104 }
-    requires small { length update.bytes ≤ 16777215 }
-    ensures updates { OnOk result (done.new.updates.items ≡ done.old.updates.items ++ update ∷ []) }
-    ensures place { OnOk result (done.new.place ≡ done.old.place + size) }
-    ensures kept { OnOk result (done.new.kept ≡ done.old.kept + length update.bytes) }
-{
-    done.place += size;
-    done.kept += update.bytes.len() as u64;
-    match done.updates.push(update) {
-        Ok(()) => Ok(()),
-        Err(_) => Err(AllocError),
-    }
+/// What follows the tiles that wait.
+#[derive(Clone, Copy)]
+enum Ending {
+    /// It was not looked at.
+    More,
+    /// Nothing.
+    AtEnd,
+    /// What is refused so as it is read.
+    Refused(StreamStop),
 }
 
-/// Reads and encodes the tile that follows, and says whether there is one.
-fn add_next<S: Source>(
+/// Reads the tile that follows, and lets it wait.
+fn wait_next<S: Source>(
     alloc: Global,
     src: &mut S,
     version: Version,
-    step: Step,
-    done: &mut SoFar,
-) -> Result<bool, StreamStop>
-    requires { IsRoomy done.old }
-    ensures ok { IfOk result (λ found. AddsOne version step (S.left src.old) (S.left src.new)
-        done.old done.new found) }
-    ensures refused { IfErr result (λ stop. RefusesNext version step (S.left src.old)
-        (S.left src.new) done.old stop) }
+    waiting: &mut Waiting,
+) -> Result<Ending, StreamStop>
+    requires few { length waiting.old.batch < 1048576 }
+    requires place { waiting.old.place < 2 ^ 59 }
+    ensures ok { IfOk result (λ ending. Follows version (S.left src.old) (S.left src.new)
+        waiting.old waiting.new ending) }
+    ensures free { (step : ℕ) (input : Option (List ℕ)) → IfErr result (TellsStop version step input) }
     ensures some { TookSome (S.left src.old) (S.left src.new) }
     ensures counted { IsCause (result ≡ Err StreamStop.Source)
         (S.faults src.old) (S.faults src.new) }
 {
-    let tile = match next_tile(alloc, src, done.place) {
+    let tile = match next_tile(alloc, src, waiting.place) {
         Ok(Some(tile)) => tile,
-        Ok(None) => return Ok(false),
-        Err(TileStop::Fault(fault)) => return Err(StreamStop::Fault(fault)),
+        Ok(None) => return Ok(Ending::AtEnd),
+        Err(TileStop::Fault(fault)) => return Ok(Ending::Refused(StreamStop::Fault(fault))),
         Err(TileStop::Source) => return Err(StreamStop::Source),
         Err(TileStop::OutOfMemory) => return Err(StreamStop::OutOfMemory),
     };
-    let update = match update_of(alloc, &tile, version, step, done) {
-        Ok(update) => update,
+    if bands_need_v4(version, &tile.bands) {
+        let place = waiting.place + 16;
+        return Ok(Ending::Refused(StreamStop::DepthNeedsV4 { place }));
+    }
+    let size = tile.size();
+    let Tile { slot, bands } = tile;
+    match waiting.batch.push(slot, bands) {
+        Ok(()) => {
+            waiting.place += size;
+            Ok(Ending::More)
+        }
+        Err(_) => Err(StreamStop::OutOfMemory),
+    }
+}
+
+/// Reads the tiles of a batch from this place of the input on, at most so many.
+fn fill<S: Source>(
+    alloc: Global,
+    src: &mut S,
+    version: Version,
+    workers: usize,
+    room: usize,
+    place: u64,
+) -> Result<(Waiting, Ending), StreamStop>
+    requires workers { (1 ≤ workers) × (workers ≤ 64) }
+    requires room { (0 < room) × (room ≤ 1048576) }
+    requires place { place ≤ 83886104 * 1048576 }
+    ensures ok { IfOk result (λ r. IsFilled version room place (S.left src.old) (S.left src.new)
+        r.0 r.1) }
+    ensures free { (step : ℕ) (input : Option (List ℕ)) → IfErr result (TellsStop version step input) }
+    ensures some { TookSome (S.left src.old) (S.left src.new) }
+    ensures counted { IsCause (result ≡ Err StreamStop.Source)
+        (S.faults src.old) (S.faults src.new) }
+{
+    let mut waiting = Waiting {
+        batch: Batch::new(alloc),
+        place,
+    };
+    while waiting.batch.len() < room && !waiting.batch.is_full(workers) {
+        match wait_next(alloc, src, version, &mut waiting) {
+            Ok(Ending::More) => {}
+            Ok(Ending::AtEnd) => return Ok((waiting, Ending::AtEnd)),
+            Ok(Ending::Refused(stop)) => return Ok((waiting, Ending::Refused(stop))),
+            Err(stop) => return Err(stop),
+        }
+    }
+    Ok((waiting, Ending::More))
+}
+
+/// Reads a batch, encodes it and adds its updates, and says whether there may be more tiles. What
+/// is refused as it is read comes behind the tiles before it.
+fn add_batch<R: Threads + Sync, S: Source, G: Gate>(
+    rt: &R,
+    alloc: Global,
+    src: &mut S,
+    version: Version,
+    step: Step,
+    workers: usize,
+    gate: &G,
+    done: &mut SoFar,
+) -> Result<bool, StreamStop>
+    requires workers { (1 ≤ workers) × (workers ≤ 64) }
+    requires roomy { IsRoomy done.old }
+    ensures ok { (input : Option (List ℕ)) → IsSoFar version step input (S.left src.old) done.old
+        → IfOk result (λ more. IsMade version step input (S.left src.new) done.new more) }
+    ensures grows { IfOk result (λ more. IsTrue more
+        → length done.old.list < length done.new.list) }
+    ensures few { OnOk result (length done.new.list ≤ 1048576) }
+    ensures place { OnOk result (done.new.place ≤ 83886104 * length done.new.list) }
+    ensures refused { (input : Option (List ℕ)) → IsSoFar version step input (S.left src.old) done.old
+        → IfErr result (TellsStop version step input) }
+    ensures some { TookSome (S.left src.old) (S.left src.new) }
+    ensures counted { IsCause (result ≡ Err StreamStop.Source)
+        (S.faults src.old) (S.faults src.new) }
+{
+    let room = MOST_TILES - done.list.len();
+    let (waiting, ending) = match fill(alloc, src, version, workers, room, done.place) {
+        Ok(filled) => filled,
         Err(stop) => return Err(stop),
     };
-    match add(done, update, tile.size()) {
-        Ok(()) => Ok(true),
-        Err(_) => Err(StreamStop::OutOfMemory),
+    let Waiting { batch, place } = waiting;
+    match encode_batch(
+        rt,
+        alloc,
+        batch,
+        version,
+        step,
+        workers,
+        gate,
+        &mut done.list,
+    ) {
+        Ok(()) => done.place = place,
+        Err(stop) => return Err(stream_stop(stop)),
+    }
+    match ending {
+        Ending::More => Ok(true),
+        Ending::AtEnd => Ok(false),
+        Ending::Refused(stop) => Err(stop),
     }
 }
 
@@ -138,20 +189,25 @@ fn has_more<S: Source>(src: &mut S) -> Result<bool, Failed>
 
 /// Reads tiles up to the end of the source, and gives the updates that they ask for: for each tile
 /// its slot and the blobs of its bands, in this version and with this step. Where a tile is refused, nothing
-/// behind it is looked at.
+/// behind it is told.
 ///
-/// The bands of one tile are kept at a time, and all the blobs, which have at most 2^30 bytes together. Want of
+/// The tiles are read in batches, up to 16 for each worker or 2^24 values, each of which is encoded by so many
+/// workers. Whichever their number and whatever the gate does, the answer is the same, but for a source that
+/// fails, which is told at once, and for want of memory. The gate is that of `encode_tiles`, the tiles
+/// being numbered in their batch.
+///
+/// One batch of bands is kept at a time, and all the blobs, which have at most 2^30 bytes together. Want of
 /// memory for them is answered where it comes. After an error some bytes of the source are taken.
 pub fn read_updates<R: Threads + Sync, S: Source, G: Gate>(
-    _rt: &R,
+    rt: &R,
     alloc: Global,
     src: &mut S,
     version: Version,
     step: Step,
-    _workers: usize,
-    _gate: &G,
+    workers: usize,
+    gate: &G,
 ) -> Result<Vec<TileRec>, StreamStop>
-    requires workers { (1 ≤ _workers) × (_workers ≤ 64) }
+    requires workers { (1 ≤ workers) × (workers ≤ 64) }
     ensures ok { IfOk result (λ updates. OfBytes (S.left src.old)
         (λ bytes. IsUpdates version step bytes updates.items)) }
     ensures end { OnOk result (IsAtEnd (S.left src.new)) }
@@ -164,19 +220,18 @@ pub fn read_updates<R: Threads + Sync, S: Source, G: Gate>(
         (S.faults src.old) (S.faults src.new) }
 {
     let mut done = SoFar {
-        updates: Vec::new(alloc),
+        list: UpdateList::new(alloc),
         place: 0,
-        kept: 0,
     };
-    while done.updates.len() < MOST_TILES {
-        match add_next(alloc, src, version, step, &mut done) {
+    while done.list.len() < MOST_TILES {
+        match add_batch(rt, alloc, src, version, step, workers, gate, &mut done) {
             Ok(true) => {}
-            Ok(false) => return Ok(done.updates),
+            Ok(false) => return Ok(done.list.into_vec()),
             Err(stop) => return Err(stop),
         }
     }
     match has_more(src) {
-        Ok(false) => Ok(done.updates),
+        Ok(false) => Ok(done.list.into_vec()),
         Ok(true) => Err(StreamStop::TooManyTiles),
         Err(_) => Err(StreamStop::Source),
     }

@@ -1,102 +1,101 @@
--- What was made of the first tiles of an input, and what one tile more brings.
-use Rattle.std.specs.Prelude.{◌≡◌, ℕ, ◌+◌, ◌*◌, ◌^◌, ◌<◌, ◌≤◌, Bool, true, false, List, [], ◌∷◌, ◌++◌, length, All, Option, Result, Ok, Err}
+-- What was made of the first tiles of an input, what waits behind them, and what follows.
+use Rattle.std.specs.Prelude.{◌≡◌, ℕ, ◌+◌, ◌*◌, ◌<◌, ◌≤◌, Bool, true, false, List, [], ◌∷◌, ◌++◌, length, All, Option, Result, Ok, Err}
 use Rattle.outside_io.specs.declared.streams.failed.Failed.{Failed}
 use Rattle.outside_io.specs.streams.Source.{IsAtEnd}
 use Rattle.raster_values.specs.ReadGrid.{TookBytes, TookSome}
 use Rattle.lerc_header.specs.declared.header.Version.{Version}
 use Rattle.lerc_encode.specs.Encoded.{AreEncodedOnce, BandsNeedV4}
-use Rattle.bundle_store.specs.declared.tile_rec.TileRec.{TileRec}
 use Rattle.tile_stream.specs.declared.tile.Tile.{Tile}
 use Rattle.tile_stream.specs.declared.tile.TileStop.TheVariants.{Fault as TileFaultOf}
 use Rattle.tile_stream.specs.Stream.{IsStream}
 use Rattle.tile_stream.specs.Tile.{IsTile, IsToldStop}
 use Rattle.tile_updates.specs.declared.stop.StreamStop.{StreamStop}
 use Rattle.tile_updates.specs.declared.stop.StreamStop.TheVariants.{TooManyTiles, Fault, DepthNeedsV4, TileTooLarge, KeptTooMuch, Source, OutOfMemory}
+use Rattle.tile_updates.specs.declared.updates.Ending.{Ending}
+use Rattle.tile_updates.specs.declared.updates.Ending.TheVariants.{More, AtEnd, Refused}
 use Rattle.tile_updates.specs.declared.updates.SoFar.{SoFar}
-use Rattle.tile_updates.specs.Stops.{IsTooLong}
-use Rattle.tile_updates.specs.Updates.{AllPass, Passes, kept_bytes, update_of, updates_of, tile_bytes}
+use Rattle.tile_updates.specs.declared.updates.Waiting.{Waiting}
+use Rattle.tile_updates.specs.Updates.{AllPass, updates_of, tile_bytes}
 
--- one tile more can be added
-pub record IsRoomy (done : SoFar) : Type 0 where
-  pub few : length done.updates.items < 1048576
-  pub place : done.place ≤ 83886104 * length done.updates.items
-  pub kept : done.kept ≤ 2 ^ 30
-
--- the update of a tile that passes behind blobs of so many bytes
-pub record IsMade (v : Version) (step kept : ℕ) (t : Tile) (update : TileRec) : Type 0 where
-  pub update_is : update ≡ update_of v step t
-  pub passes : Passes v step t
-  pub within : kept + length (tile_bytes v step t) ≤ 2 ^ 30
-  pub encoded : AreEncodedOnce (tile_bytes v step t) t.bands step
-
--- the tile passes, and with its blobs there are too many bytes
-pub record IsAbove (v : Version) (step kept : ℕ) (t : Tile) : Type 0 where
-  pub passes : Passes v step t
-  pub above : 2 ^ 30 < kept + length (tile_bytes v step t)
-
--- a whole tile is refused so
-abbrev pub RefusesTile : Version → ℕ → SoFar → Tile → StreamStop → Type 0
-RefusesTile v step done t TooManyTiles = ⊥
-RefusesTile v step done t (Fault f) = ⊥
-RefusesTile v step done t (DepthNeedsV4 at) = BandsNeedV4 v t.bands × (at ≡ done.place + 16)
-RefusesTile v step done t (TileTooLarge at len) =
-    IsTooLong v step len t × (at ≡ length done.updates.items)
-RefusesTile v step done t (KeptTooMuch at) =
-    IsAbove v step done.kept t × (at ≡ length done.updates.items)
-RefusesTile v step done t Source = ⊥
-RefusesTile v step done t OutOfMemory = Unit {0}
+-- ---- one tile
 
 -- a tile was taken from the source
 pub record TakesTile (old new : Option (List ℕ)) (t : Tile) (bytes : List ℕ) : Type 0 where
   pub tile : IsTile bytes t
   pub took : TookBytes old new bytes
 
--- the next tile was taken, and its update added; or there was none
-pub record AddsTile (v : Version) (step : ℕ) (old new : Option (List ℕ))
-    (before after : SoFar) : Type 0 where
+-- the next tile was taken, and waits
+pub record WaitsToo (v : Version) (old new : Option (List ℕ)) (before after : Waiting)
+    : Type 0 where
   pub tile : Tile
   pub bytes : List ℕ
   pub takes : TakesTile old new tile bytes
   pub size : length bytes ≤ 83886104
-  pub made : IsMade v step before.kept tile (update_of v step tile)
-  pub updates : after.updates.items ≡ before.updates.items ++ update_of v step tile ∷ []
+  pub flat : ¬ BandsNeedV4 v tile.bands
+  pub batch : after.batch ≡ before.batch ++ tile ∷ []
   pub place : after.place ≡ before.place + length bytes
-  pub kept : after.kept ≡ before.kept + length (tile_bytes v step tile)
 
-abbrev pub AddsOne : Version → ℕ → Option (List ℕ) → Option (List ℕ) → SoFar → SoFar → Bool →
-    Type 0
-AddsOne v step old new before after true = AddsTile v step old new before after
-AddsOne v step old new before after false =
-    IsAtEnd old × ((new ≡ old) × (after ≡ before))
-
--- the whole tile that was taken is refused so
-pub record RefusesTaken (v : Version) (step : ℕ) (old new : Option (List ℕ)) (done : SoFar)
-    (stop : StreamStop) : Type 0 where
+-- a tile was taken that the version has no place for
+pub record TakesDeep (v : Version) (place at : ℕ) (old new : Option (List ℕ)) : Type 0 where
   pub tile : Tile
   pub bytes : List ℕ
   pub takes : TakesTile old new tile bytes
-  pub refused : RefusesTile v step done tile stop
+  pub deep : BandsNeedV4 v tile.bands
+  pub at_is : at ≡ place + 16
 
--- the next tile is refused so
-abbrev pub RefusesNext : Version → ℕ → Option (List ℕ) → Option (List ℕ) → SoFar → StreamStop →
+-- what follows is refused so as it is read
+abbrev pub RefusesReading : Version → ℕ → Option (List ℕ) → Option (List ℕ) → StreamStop → Type 0
+RefusesReading v place old new TooManyTiles = ⊥
+RefusesReading v place old new (Fault f) = IsToldStop old place (TileFaultOf f)
+RefusesReading v place old new (DepthNeedsV4 at) = TakesDeep v place at old new
+RefusesReading v place old new (TileTooLarge at len) = ⊥
+RefusesReading v place old new (KeptTooMuch at) = ⊥
+RefusesReading v place old new Source = ⊥
+RefusesReading v place old new OutOfMemory = ⊥
+
+-- one tile more waits; or none was left; or the next one is refused
+abbrev pub Follows : Version → Option (List ℕ) → Option (List ℕ) → Waiting → Waiting → Ending →
     Type 0
-RefusesNext v step old new done TooManyTiles = ⊥
-RefusesNext v step old new done (Fault f) = IsToldStop old done.place (TileFaultOf f)
-RefusesNext v step old new done (DepthNeedsV4 at) =
-    RefusesTaken v step old new done (DepthNeedsV4 at)
-RefusesNext v step old new done (TileTooLarge at len) =
-    RefusesTaken v step old new done (TileTooLarge at len)
-RefusesNext v step old new done (KeptTooMuch at) =
-    RefusesTaken v step old new done (KeptTooMuch at)
-RefusesNext v step old new done Source = Unit {0}
-RefusesNext v step old new done OutOfMemory = Unit {0}
+Follows v old new before after More = WaitsToo v old new before after
+Follows v old new before after AtEnd = IsAtEnd old × ((new ≡ old) × (after ≡ before))
+Follows v old new before after (Refused stop) =
+    RefusesReading v before.place old new stop × (after ≡ before)
 
--- whether one byte more is there, which is then taken
-abbrev pub AsksOne : Result Bool Failed → Option (List ℕ) → Option (List ℕ) → Type 0
-AsksOne (Ok false) old new = IsAtEnd old × (new ≡ old)
-AsksOne (Ok true) old new =
-    (bytes : List ℕ) × ((0 < length bytes) × TookBytes old new bytes)
-AsksOne (Err e) old new = TookSome old new
+-- ---- the tiles of a batch
+
+-- these tiles were taken from the source, from this place of the input on, and the version has a
+-- place for the depths of each
+pub record AreWaiting (v : Version) (place : ℕ) (old now : Option (List ℕ)) (w : Waiting)
+    : Type 0 where
+  pub front : List ℕ
+  pub stream : IsStream front w.batch
+  pub took : TookBytes old now front
+  pub place_is : w.place ≡ place + length front
+  pub low : w.place ≤ place + 83886104 * length w.batch
+  pub flat : All (λ t. ¬ BandsNeedV4 v t.bands) w.batch
+
+-- what follows tiles that wait: there are some, and what follows was not looked at; or none is
+-- left; or there may be more, and the next one is refused
+abbrev pub EndsSo : Version → ℕ → Option (List ℕ) → Option (List ℕ) → Waiting → Ending → Type 0
+EndsSo v room mid new w More = (new ≡ mid) × (0 < length w.batch)
+EndsSo v room mid new w AtEnd = (new ≡ mid) × IsAtEnd mid
+EndsSo v room mid new w (Refused stop) =
+    (length w.batch < room) × RefusesReading v w.place mid new stop
+
+-- tiles wait, at most so many, and this follows them
+pub record IsFilled (v : Version) (room place : ℕ) (old new : Option (List ℕ)) (w : Waiting)
+    (ending : Ending) : Type 0 where
+  pub mid : Option (List ℕ)
+  pub waiting : AreWaiting v place old mid w
+  pub few : length w.batch ≤ room
+  pub ends : EndsSo v room mid new w ending
+
+-- ---- the whole input
+
+-- one tile more can be added
+pub record IsRoomy (done : SoFar) : Type 0 where
+  pub few : length done.list < 1048576
+  pub place : done.place ≤ 83886104 * length done.list
 
 -- the first tiles were taken from the input, and this was made of them
 pub record IsSoFar (v : Version) (step : ℕ) (old now : Option (List ℕ)) (done : SoFar)
@@ -107,7 +106,23 @@ pub record IsSoFar (v : Version) (step : ℕ) (old now : Option (List ℕ)) (don
   pub took : TookBytes old now front
   pub pass : AllPass v step tiles
   pub encoded : All (λ t. AreEncodedOnce (tile_bytes v step t) t.bands step) tiles
-  pub updates_are : done.updates.items ≡ updates_of v step tiles
+  pub list_is : done.list ≡ updates_of v step tiles
   pub place_is : done.place ≡ length front
-  pub place_below : done.place ≤ 83886104 * length tiles
-  pub kept_is : done.kept ≡ kept_bytes (updates_of v step tiles)
+
+-- what stands at the end of the source
+pub record IsAll (v : Version) (step : ℕ) (old now : Option (List ℕ)) (done : SoFar)
+    : Type 0 where
+  pub so_far : IsSoFar v step old now done
+  pub end : IsAtEnd now
+
+-- there may be more, or this is all
+abbrev pub IsMade : Version → ℕ → Option (List ℕ) → Option (List ℕ) → SoFar → Bool → Type 0
+IsMade v step old now done true = IsSoFar v step old now done
+IsMade v step old now done false = IsAll v step old now done
+
+-- whether one byte more is there, which is then taken
+abbrev pub AsksOne : Result Bool Failed → Option (List ℕ) → Option (List ℕ) → Type 0
+AsksOne (Ok false) old new = IsAtEnd old × (new ≡ old)
+AsksOne (Ok true) old new =
+    (bytes : List ℕ) × ((0 < length bytes) × TookBytes old new bytes)
+AsksOne (Err e) old new = TookSome old new
