@@ -1,5 +1,5 @@
 -- The words that a command line asks with.
-use Rattle.std.proofs.Common.{◌≡◌, ℕ, List, [], ◌∷◌, Option, Some, None, IfSome, refl, sym, subst, ◌∙◌}
+use Rattle.std.proofs.Common.{◌≡◌, ℕ, List, [], ◌∷◌, Option, Some, None, IfSome, refl, subst}
 use Rattle.std.specs.List.{slice_get}
 use Rattle.std.specs.Prelude.{codes}
 use Rattle.bundle_pack.specs.Run.{asked_by}

@@ -1,7 +1,7 @@
 -- The entry that counts, and its size.
-use Rattle.std.proofs.Common.{◌≡◌, inl, inr, ℕ, zero, suc, ◌+◌, ◌<◌, ◌≤◌, ◌==◌, List, [], ◌∷◌, length, slice_get, Option, Some, None, Bool, true, false, refl, sym, ap, subst, ◌∙◌, arith}
+use Rattle.std.proofs.Common.{◌≡◌, inl, inr, ℕ, zero, suc, ◌+◌, ◌<◌, ◌==◌, List, [], ◌∷◌, slice_get, Some, None, Bool, false, refl, sym, ap, ◌∙◌, arith}
 use Rattle.std.specs.Prelude.{if◌then◌else◌}
-use Rattle.std.proofs.lemmas.Bool.{cases_eq, cases_lt, cases_Bool, eqb-true, eqb-false}
+use Rattle.std.proofs.lemmas.Bool.{cases_lt, cases_Bool, eqb-true}
 use Rattle.std.proofs.lemmas.Option.{slice_get_within}
 use Rattle.bundle_index.specs.Entry.{entry_at}
 use Rattle.bundle_index.specs.declared.entry.Entry.{Entry}
@@ -46,6 +46,7 @@ size_chosen (b ∷ bs) slot (suc at) bundle is =
   where
     eqb_no : (n : ℕ) → 0 < n → (n == 0) ≡ false
     eqb_no n some = elim (cases_Bool (n == 0)) [ inl is ↦ absurd (omega (arith, some, eqb-true n 0 is)) | inr not ↦ not ]
+
     kept : (n m : ℕ) → 0 < n → (if n == 0 then m else n) ≡ n
     kept n m some = ap (λ (t : Bool). if t then m else n) (eqb_no n some)
 

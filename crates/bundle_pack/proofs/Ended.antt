@@ -1,5 +1,5 @@
 -- What the end of a run tells of packing's answer, and its status of that end.
-use Rattle.std.proofs.Common.{◌≡◌, ◌≢◌, ℕ, ◌<◌, ◌≤◌, ◌⊎◌, List, length, slice_get, Option, Some, None, Result, Ok, Err, IfErr, refl, sym, ap, subst, ◌∙◌, inl, inr, arith}
+use Rattle.std.proofs.Common.{◌≡◌, ℕ, ◌<◌, ◌≤◌, ◌⊎◌, List, length, Option, Some, None, Result, Ok, Err, IfErr, refl, sym, ap, subst, ◌∙◌, inl, inr, arith}
 use Rattle.outside_io.specs.streams.Faults.{FailedBetween, IsCause}
 use Rattle.outside_io.specs.streams.Sink.{Holds}
 use Rattle.bundle_store.specs.declared.fault.StoreFault.{StoreFault}

@@ -1,30 +1,26 @@
 -- One tile of one source.
-use Rattle.std.proofs.Common.{◌≡◌, ◌≢◌, inl, inr, ℕ, ◌+◌, ◌<◌, ◌≤◌, List, [], ◌∷◌, ◌++◌, length, slice_get, slice_set, Option, Some, None, Result, Ok, Err, Bool, IsTrue, refl, sym, ap, subst, ◌∙◌, arith}
-use Rattle.std.specs.Prelude.{All, IfErr, OnOk, get_or}
-use Rattle.std.proofs.lemmas.Bool.{cases_eq, cases_lt}
+use Rattle.std.proofs.Common.{◌≡◌, ◌≢◌, inl, inr, ℕ, ◌<◌, List, [], ◌∷◌, ◌++◌, length, slice_get, Some, None, Result, Err, refl, sym, subst, ◌∙◌, arith}
+use Rattle.std.specs.Prelude.{get_or}
+use Rattle.std.proofs.lemmas.Bool.{cases_lt}
 use Rattle.std.proofs.lemmas.List.{get_or_append_left, get_or_push, length-append}
-use Rattle.std.proofs.lemmas.Option.{slice_get_within}
 use Rattle.outside_io.specs.declared.volume.VolFile.TheVariants.{Bundle}
 use Rattle.outside_io.specs.streams.Faults.{IsCause}
-use Rattle.outside_io.specs.volume.History.{During, History, contents, current}
-use Rattle.bundle_index.specs.Entry.{entry_at}
+use Rattle.outside_io.specs.volume.History.{History, contents}
 use Rattle.bundle_store.specs.declared.fault.StoreFault.{StoreFault}
 use Rattle.bundle_store.specs.declared.fault.StoreFault.TheVariants.{Device, BadBundle, BadJournal, NoTile, Beyond, TileTooLarge, EmptyTile, Full, NotEmpty, OutOfMemory as StoreMemory, Stopped}
 use Rattle.bundle_store.specs.declared.tile_rec.TileRec.{TileRec}
 use Rattle.bundle_store.specs.Build.{EachFits}
 use Rattle.bundle_store.specs.Causes.{FaultFrom}
-use Rattle.bundle_store.specs.Session.{GetFails, GetGives, GetRefuses, IsBeyond, Serves, SessionState}
+use Rattle.bundle_store.specs.Session.{GetFails, GetRefuses}
 use Rattle.bundle_pack.specs.Chosen.{AreWhole, IsChosen}
 use Rattle.bundle_pack.specs.Files.{all_bundles}
-use Rattle.bundle_pack.specs.Packing.{IsFirstBeyond, IsUnread}
+use Rattle.bundle_pack.specs.Packing.{IsFirstBeyond}
 use Rattle.bundle_pack.specs.Refusals.{tile_fault_of}
-use Rattle.bundle_pack.specs.Sources.{DeviceAt, Each, IsServing}
 use Rattle.bundle_pack.specs.declared.chosen.Choice.{Choice}
 use Rattle.bundle_pack.specs.declared.fault.PackFault.{PackFault}
 use Rattle.bundle_pack.specs.declared.fault.PackFault.TheVariants.{Source, Target, KeptTooMuch, OutOfMemory}
-use Rattle.bundle_pack.specs.inside.Collecting.{AreServed, GetSays, IsChoice, IsGetFault, IsStill, TakesTile, TileSays, TilesSay}
-use Rattle.bundle_pack.proofs.Reading.{still_same, still_turn}
-use Rattle.bundle_pack.proofs.Volumes.{from_map, map_at, one_some, still, told_at}
+use Rattle.bundle_pack.specs.inside.Collecting.{GetSays, IsChoice, IsGetFault, TileSays, TilesSay}
+use Rattle.bundle_pack.proofs.Volumes.{map_at, one_some, still}
 
 -- ---- why it is refused
 

@@ -1,5 +1,5 @@
 -- The tiles that were read slot by slot are the merged ones.
-use Rattle.std.proofs.Common.{◌≡◌, ◌≢◌, inl, inr, ℕ, zero, suc, ◌+◌, ◌<◌, ◌≤◌, ◌==◌, ◌++◌, List, [], ◌∷◌, length, map, slice_get, Option, Some, None, Bool, true, false, refl, sym, ap, subst, ◌∙◌, arith}
+use Rattle.std.proofs.Common.{◌≡◌, ◌≢◌, inl, inr, ℕ, zero, suc, ◌+◌, ◌<◌, ◌≤◌, ◌==◌, List, [], ◌∷◌, length, slice_get, Option, Some, None, Bool, true, false, refl, sym, ap, subst, ◌∙◌, arith}
 use Rattle.std.specs.Prelude.{if◌then◌else◌, nat_lt, take, drop}
 use Rattle.std.proofs.lemmas.Bool.Decides.{nat_tests}
 use Rattle.std.proofs.lemmas.Bool.{cases_Bool, cases_eq, cases_lt, eqb-true, eqb-false, lt-ltb}
@@ -12,7 +12,6 @@ use Rattle.bundle_store.specs.Session.{GetGives}
 use Rattle.bundle_store.proofs.PutLaws.{after_join}
 use Rattle.bundle_pack.specs.Chosen.{AreWhole, IsChosen}
 use Rattle.std.specs.Option.{option_or}
-use Rattle.bundle_pack.specs.Merged.{merged}
 use Rattle.bundle_pack.specs.Packing.{merged_tiles}
 use Rattle.bundle_pack.specs.inside.Collecting.{IsMergedBelow, TakesTile}
 use Rattle.bundle_pack.proofs.Choosing.{chosen_once}
@@ -77,6 +76,7 @@ merged_more bundles n old new below so (inr (at, (bundle, tile, (is, (gives, joi
   where
     no : (a b : ℕ) → a ≢ b → (a == b) ≡ false
     no a b differs = elim (cases_Bool (a == b)) [ inl same ↦ absurd (differs (eqb-true a b same)) | inr not ↦ not ]
+
     yes : (a b : ℕ) → a ≡ b → (a == b) ≡ true
     yes a b same = elim (cases_Bool (a == b)) [ inl is ↦ is | inr not ↦ absurd (eqb-false a b not same) ]
 

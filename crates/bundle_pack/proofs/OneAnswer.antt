@@ -1,14 +1,12 @@
 -- Packing has one answer.
-use Rattle.std.proofs.Common.{◌≡◌, ◌⊎◌, inl, inr, ℕ, ◌+◌, ◌-◌, ◌<◌, ◌≤◌, List, [], length, slice_get, Option, Some, None, Result, Ok, Err, refl, sym, ap, subst, ◌∙◌, arith}
+use Rattle.std.proofs.Common.{◌≡◌, ◌⊎◌, inl, inr, ℕ, ◌-◌, ◌<◌, List, [], length, slice_get, Some, None, Result, Ok, Err, refl, sym, ap, subst, ◌∙◌, arith}
 use Rattle.std.proofs.lemmas.Bool.{cases_lt}
-use Rattle.std.proofs.lemmas.Option.{slice_get_within}
 use Rattle.bundle_index.specs.Entry.{entry_at}
 use Rattle.bundle_index.specs.declared.entry.Entry.{Entry}
 use Rattle.bundle_store.specs.declared.fault.StoreFault.{StoreFault}
 use Rattle.bundle_store.specs.declared.fault.StoreFault.TheVariants.{Device, BadBundle, BadJournal, NoTile, Beyond, TileTooLarge, EmptyTile, Full, NotEmpty, OutOfMemory as StoreMemory, Stopped}
 use Rattle.bundle_store.specs.Built.{filled}
 use Rattle.bundle_store.specs.Layout.{layout}
-use Rattle.bundle_store.specs.Session.{IsBeyond}
 use Rattle.opened_bundle.specs.Files.{Files}
 use Rattle.bundle_pack.specs.Chosen.{AreWhole, IsChosen, chosen_bytes}
 use Rattle.bundle_pack.specs.Opening.{AreOpened, IsFirstUnopened, OpeningFault, OpensAs}
@@ -222,6 +220,7 @@ one_answer sources target r s one two free bound = pick (seen sources target r o
   where
     un : (t : Result PackReport PackFault) (bundles : List (List ℕ)) → Unopened sources t → AreOpened sources bundles → ⊥
     un t bundles a opened = opened_or_not sources bundles a.at a.fault opened a.first a.not
+
     pick : Seen sources target r → Seen sources target s → r ≡ s
     pick (inl a) (inl b) = same_unopened sources r s a b
     pick (inl a) (inr (inl b)) = absurd (un r b.bundles a b.opened)

@@ -1,18 +1,15 @@
 -- What a run leaves, in the words of the tiles that its bundles stand for.
-use Rattle.std.proofs.Common.{◌≡◌, ◌⊎◌, inl, inr, ℕ, ◌<◌, ◌≤◌, List, [], length, Option, Some, None, Result, Ok, Err, Bool, IsTrue, refl, sym, ap, subst, ◌∙◌, arith}
+use Rattle.std.proofs.Common.{◌≡◌, ◌⊎◌, inl, inr, ℕ, ◌≤◌, List, [], length, Some, None, Result, Ok, Err, Bool, refl, sym, ap, subst, ◌∙◌, arith}
 use Rattle.std.specs.Prelude.{IfErr}
 use Rattle.outside_io.specs.declared.volume.VolFile.TheVariants.{Bundle, Journal}
 use Rattle.outside_io.specs.streams.Sink.{Holds}
 use Rattle.outside_io.specs.volume.Disk.{Disk}
-use Rattle.outside_io.specs.volume.History.{During, History, contents, current}
+use Rattle.outside_io.specs.volume.History.{History, contents, current}
 use Rattle.outside_io.proofs.VolumeLemmas.Images.{only_image}
 use Rattle.outside_io.proofs.VolumeLemmas.Moments.{during_map}
 use Rattle.bundle_index.specs.Sizes.{slot_count}
-use Rattle.bundle_store.specs.declared.fault.StoreFault.{StoreFault}
 use Rattle.bundle_store.specs.declared.fault.StoreFault.TheVariants.{Device, BadBundle, BadJournal, NoTile, Beyond, TileTooLarge, EmptyTile, Full, NotEmpty, OutOfMemory, Stopped}
-use Rattle.bundle_store.specs.Built.{filled}
 use Rattle.bundle_store.specs.Images.{EachImage, StandsFor}
-use Rattle.bundle_store.specs.Layout.{layout}
 use Rattle.bundle_store.specs.Recover.{EachStandsForOneOf, StandsForOneOf}
 use Rattle.bundle_store.specs.Tiles.{TileMap, no_tiles}
 use Rattle.bundle_store.proofs.Recovering.{tiles_empty}

@@ -1,24 +1,21 @@
 -- Sources that are read from are still, and serve what they served.
-use Rattle.std.proofs.Common.{◌≡◌, ◌≢◌, inl, inr, ℕ, suc, ◌<◌, List, [], ◌∷◌, length, map, slice_get, slice_set, Some, None, Result, Ok, Err, Bool, IsTrue, refl, sym, ap, subst, ◌∙◌, arith}
+use Rattle.std.proofs.Common.{◌≡◌, ◌≢◌, inl, inr, ℕ, List, slice_get, slice_set, Some, Bool, IsTrue, refl, sym, ap, subst, ◌∙◌, arith}
 use Rattle.std.specs.Prelude.{All}
 use Rattle.std.proofs.lemmas.Bool.{cases_lt}
 use Rattle.std.proofs.lemmas.List.{length-map}
 use Rattle.std.proofs.lemmas.Option.{slice_get_within}
 use Rattle.outside_io.specs.declared.volume.VolFile.TheVariants.{Bundle, Journal}
 use Rattle.outside_io.specs.streams.Faults.{IsCause}
-use Rattle.outside_io.specs.volume.Disk.{Disk, IsImage}
+use Rattle.outside_io.specs.volume.Disk.{Disk}
 use Rattle.outside_io.specs.volume.History.{During, History, contents, current}
 use Rattle.outside_io.proofs.VolumeLemmas.Moments.{during_end, during_join, during_map, started}
-use Rattle.bundle_store.specs.Images.{StandsFor}
 use Rattle.bundle_store.specs.Recover.{EachStandsForOneOf}
 use Rattle.bundle_store.specs.Session.{Serves, SessionState}
-use Rattle.bundle_store.specs.Tiles.{TileMap}
 use Rattle.bundle_pack.specs.Files.{all_bundles}
 use Rattle.opened_bundle.specs.Left.{IsLeft}
-use Rattle.bundle_pack.specs.Sources.{DeviceAt, Each, IsServing, KeepsImages, SourceMoves}
-use Rattle.bundle_pack.specs.declared.fault.PackFault.{PackFault}
+use Rattle.bundle_pack.specs.Sources.{Each, IsServing, KeepsImages, SourceMoves}
 use Rattle.bundle_pack.specs.inside.Collecting.{AreServed, IsStill}
-use Rattle.bundle_pack.proofs.Volumes.{all_of, each_join, each_map, each_same, each_turn, from_map, get_some, map_at, one_some, same_maps, still, told_at}
+use Rattle.bundle_pack.proofs.Volumes.{all_of, each_join, each_map, each_same, each_turn, from_map, get_some, same_maps, still, told_at}
 
 -- each image stands for what it stands for
 pub keeps_itself : (d : Disk) → EachStandsForOneOf d d
@@ -73,10 +70,12 @@ still_serving told history faults failed sessions old new so serving = record {
   each = λ i s w first then.
       let v = get_some old i (omega (arith, so.many, slice_get_within new i w then)) in
       let p = so.each i v.0 w v.1 then in
-      let was = serving.each i s v.0 first v.1 in
-      (was.0, λ tells.
-          let told_old = subst (λ b. IsTrue b) p.told_same tells in
-          subst (Serves s) (sym (still_contents (history v.0) (history w) (p.still told_old))) (was.1 told_old));
+      let was = serving.each i s v.0 first v.1 in (
+        was.0,
+        λ tells.
+            let told_old = subst (λ b. IsTrue b) p.told_same tells in
+            subst (Serves s) (sym (still_contents (history v.0) (history w) (p.still told_old))) (was.1 told_old),
+      );
 }
 
 pub still_bundles : {V : Type 0} (told : V → Bool) (history : V → History) (faults : V → ℕ) (failed : ℕ → Type 0) (old new : List V)
@@ -122,6 +121,7 @@ moved_still told history faults before failed v m w never moved rest = record {
   where
     later : IsTrue (told v) → IsTrue (told m)
     later tells = subst (λ b. IsTrue b) (sym moved.kept.told_same) tells
+
     count : (old new : ℕ) → IsCause before old new → new ≡ old
     count old new cause = elim (cases_lt old new) [
       | inl more ↦ absurd (never (cause.rose more))
@@ -134,8 +134,8 @@ pub still_more : {V : Type 0} (told : V → Bool) (history : V → History) (fau
 still_more told history faults failed old mid new never first second =
     each_join (λ i v w. IsStill told history faults ⊥ v w) (λ i v w. IsStill told history faults (failed i) v w) (λ i v w. IsStill told history faults ⊥ v w) old mid new
     (λ i v m w one two.
-        let all = still_join told history faults (failed i) v m w one two in
-        record { told_same = all.told_same; still = all.still; cause = record { counts = all.cause.counts; failed = λ is. absurd is; rose = λ more. never i (all.cause.rose more) } }) first second
+    let all = still_join told history faults (failed i) v m w one two in
+    record { told_same = all.told_same; still = all.still; cause = record { counts = all.cause.counts; failed = λ is. absurd is; rose = λ more. never i (all.cause.rose more) } }) first second
 
 -- one call more, which may have failed
 pub still_last : {V : Type 0} (told : V → Bool) (history : V → History) (faults : V → ℕ) (failed : ℕ → Type 0) (old mid new : List V)

@@ -1,10 +1,9 @@
 -- Sound files open, as bundles that hold the maps that they stand for.
-use Rattle.std.proofs.Common.{◌≡◌, ◌⊎◌, inl, inr, ℕ, suc, ◌<◌, ◌≤◌, List, [], ◌∷◌, length, map, slice_get, Option, Some, None, Result, Ok, Err, refl, sym, ap, subst, ◌∙◌, arith}
+use Rattle.std.proofs.Common.{◌≡◌, inl, inr, ℕ, suc, ◌≤◌, List, [], ◌∷◌, length, map, Option, Some, None, Result, Ok, Err, refl, sym, ap, subst, ◌∙◌, arith}
 use Rattle.std.specs.Prelude.{IfErr}
 use Rattle.std.proofs.lemmas.Option.{slice_get_within}
 use Rattle.bundle_index.specs.Entry.{entry_at}
 use Rattle.bundle_index.specs.declared.entry.Entry.{Entry}
-use Rattle.bundle_index.specs.declared.header.HeaderFault.{HeaderFault}
 use Rattle.side_journal.specs.declared.body.Body.{Body}
 use Rattle.side_journal.specs.declared.body.Body.TheVariants.{Tile, Build, Group}
 use Rattle.side_journal.specs.declared.body.JournalState.TheVariants.{Open, Bad}
@@ -26,12 +25,10 @@ use Rattle.opened_bundle.proofs.OneBundle.{opens_or_fault}
 use Rattle.outside_io.specs.volume.Disk.{Disk}
 use Rattle.bundle_pack.specs.Merged.{StandFor, merged}
 use Rattle.bundle_pack.specs.Opening.{AreOpened, IsFirstUnopened, OpeningFault, OpensAs}
-use Rattle.bundle_pack.specs.Packing.{AreRead, HoldsMerged, IsFirstBeyond, IsOfSound, PackSays, PacksMaps, SourceSays, TargetFault, merged_tiles}
+use Rattle.bundle_pack.specs.Packing.{HoldsMerged, IsFirstBeyond, IsOfSound, PackSays, PacksMaps, SourceSays, TargetFault, merged_tiles}
 use Rattle.bundle_pack.specs.declared.fault.PackFault.{PackFault}
 use Rattle.bundle_pack.specs.declared.fault.PackFault.TheVariants.{Source, Target, KeptTooMuch, OutOfMemory}
 use Rattle.bundle_pack.specs.declared.packing.PackReport.{PackReport}
-use Rattle.bundle_pack.proofs.Opened.{all_opened}
-use Rattle.bundle_pack.proofs.OneAnswer.{unopened_by}
 use Rattle.bundle_pack.proofs.Volumes.{get_some}
 
 -- ---- one bundle

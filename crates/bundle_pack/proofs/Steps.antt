@@ -1,6 +1,6 @@
 -- From what one step says and leaves to what the whole does.
-use Rattle.std.proofs.Common.{◌≡◌, ◌≢◌, ◌⊎◌, inl, inr, ℕ, ◌<◌, ◌≤◌, List, [], length, Option, Some, None, Result, Ok, Err, Bool, IsTrue, refl, sym, ap, subst, ◌∙◌, arith}
-use Rattle.std.specs.Prelude.{All, IfErr, Vec}
+use Rattle.std.proofs.Common.{◌≡◌, inl, inr, ℕ, ◌<◌, List, Some, None, Result, Ok, Err, Bool, IsTrue, refl, sym, ap, subst, arith}
+use Rattle.std.specs.Prelude.{All, Vec}
 use Rattle.std.specs.declared.alloc.Global.{Global}
 use Rattle.std.proofs.lemmas.Option.{slice_get_within}
 use Rattle.outside_io.specs.streams.Faults.{IsCause}
@@ -8,14 +8,11 @@ use Rattle.outside_io.specs.volume.History.{History}
 use Rattle.bundle_store.specs.declared.fault.StoreFault.{StoreFault}
 use Rattle.bundle_store.specs.declared.fault.StoreFault.TheVariants.{Device, BadBundle, BadJournal, NoTile, Beyond, TileTooLarge, EmptyTile, Full, NotEmpty, OutOfMemory as StoreMemory, Stopped}
 use Rattle.bundle_store.specs.declared.tile_rec.TileRec.{TileRec}
-use Rattle.bundle_store.specs.Build.{map_after}
 use Rattle.bundle_store.specs.Causes.{FaultFrom}
-use Rattle.bundle_store.specs.Session.{SessionState}
-use Rattle.bundle_store.specs.Tiles.{no_tiles}
 use Rattle.opened_bundle.specs.Files.{Files}
-use Rattle.bundle_pack.specs.Opening.{IsFirstUnopened, OpeningFails}
-use Rattle.bundle_pack.specs.Packing.{AreRead, AreTaken, SourceSays, merged_tiles}
-use Rattle.bundle_pack.specs.Refusals.{OpeningAnswers, PackFails, source_fault_of, target_fault_of, tile_fault_of}
+use Rattle.bundle_pack.specs.Opening.{IsFirstUnopened}
+use Rattle.bundle_pack.specs.Packing.{AreTaken, SourceSays}
+use Rattle.bundle_pack.specs.Refusals.{OpeningAnswers, PackFails, source_fault_of, target_fault_of}
 use Rattle.bundle_pack.specs.Sources.{DeviceAt, Each, SourceMoves}
 use Rattle.bundle_pack.specs.declared.fault.PackFault.{PackFault}
 use Rattle.bundle_pack.specs.declared.fault.PackFault.TheVariants.{Source, Target, KeptTooMuch, OutOfMemory}

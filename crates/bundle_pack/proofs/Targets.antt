@@ -10,7 +10,7 @@ use Rattle.outside_io.proofs.VolumeLemmas.Moments.{during_end, during_join, duri
 use Rattle.side_journal.specs.Says.{IsOpen}
 use Rattle.bundle_store.specs.Images.{EachImage, EmptyOr, StandsFor}
 use Rattle.bundle_store.specs.Recover.{EachStandsForOneOf, StandsForOneOf}
-use Rattle.bundle_store.specs.Tiles.{TileMap, no_tiles, tiles}
+use Rattle.bundle_store.specs.Tiles.{TileMap, tiles}
 use Rattle.bundle_store.proofs.Recovering.{tiles_empty}
 use Rattle.bundle_store.proofs.Standing.{closed_map}
 use Rattle.opened_bundle.specs.Files.{Files}
@@ -55,5 +55,5 @@ target_images target after old mid new present opens shut first beside built = e
   | inr some ↦
       let base = during_end (EachStandsForOneOf (current old)) old mid first in
       inl (during_join (EachStandsForOneOf (current old)) old mid new first
-          (during_map (λ d. d ≡ current mid) (EachStandsForOneOf (current old)) mid new (λ d e. subst (EachStandsForOneOf (current old)) (sym e) base) (beside (omega (arith, some)))))
+      (during_map (λ d. d ≡ current mid) (EachStandsForOneOf (current old)) mid new (λ d e. subst (EachStandsForOneOf (current old)) (sym e) base) (beside (omega (arith, some)))))
 ]

@@ -1,10 +1,10 @@
 -- The sources are recovered and opened one after the other.
-use Rattle.std.proofs.Common.{◌≡◌, ◌≢◌, inl, inr, ℕ, ◌+◌, ◌<◌, ◌≤◌, ◌⊎◌, List, [], ◌∷◌, ◌++◌, length, map, slice_get, slice_set, Option, Some, None, Result, Ok, Err, Bool, false, IsTrue, refl, sym, ap, subst, ◌∙◌, arith}
+use Rattle.std.proofs.Common.{◌≡◌, ◌≢◌, inl, inr, ℕ, ◌+◌, ◌<◌, List, [], ◌∷◌, ◌++◌, length, slice_get, slice_set, Some, None, Result, Err, Bool, false, IsTrue, refl, sym, ap, subst, ◌∙◌, arith}
 use Rattle.std.specs.Prelude.{All}
-use Rattle.std.proofs.lemmas.Bool.{cases_eq, cases_lt}
-use Rattle.std.proofs.lemmas.List.{length-map, length-append}
+use Rattle.std.proofs.lemmas.Bool.{cases_lt}
+use Rattle.std.proofs.lemmas.List.{length-map}
 use Rattle.std.proofs.lemmas.Option.{slice_get_within}
-use Rattle.outside_io.specs.declared.volume.VolFile.TheVariants.{Bundle, Journal}
+use Rattle.outside_io.specs.declared.volume.VolFile.TheVariants.{Bundle}
 use Rattle.outside_io.specs.streams.Faults.{IsCause}
 use Rattle.outside_io.specs.volume.History.{History, contents}
 use Rattle.bundle_store.specs.declared.fault.StoreFault.{StoreFault}
@@ -13,8 +13,8 @@ use Rattle.bundle_store.specs.Causes.{FaultFrom, OnCause}
 use Rattle.bundle_store.specs.Session.{Serves, SessionState}
 use Rattle.opened_bundle.specs.Files.{Files}
 use Rattle.bundle_pack.specs.Files.{all_bundles, all_files, files_in}
-use Rattle.bundle_pack.specs.Opening.{AreOpened, IsFirstUnopened, OpeningFails, OpeningFault, OpensAs, StandsLeft}
-use Rattle.bundle_pack.specs.Refusals.{OpeningAnswers, source_fault_of}
+use Rattle.bundle_pack.specs.Opening.{AreOpened, OpensAs, StandsLeft}
+use Rattle.bundle_pack.specs.Refusals.{source_fault_of}
 use Rattle.bundle_pack.specs.Sources.{DeviceAt, Each, IsServing, KeepsImages, SourceMoves}
 use Rattle.bundle_pack.specs.declared.fault.PackFault.{PackFault}
 use Rattle.bundle_pack.specs.declared.fault.PackFault.TheVariants.{Source, OutOfMemory as NoMemory}
@@ -145,13 +145,13 @@ pub turn_fails : {V X : Type 0} (told : V → Bool) (history : V → History) (f
 turn_fails told history faults sessions at old mid x y fault result is there kept from left so =
     each_turn (IsTurn told history faults sessions at) (λ i v w. SourceMoves told history faults (DeviceAt result i) v w) old mid at x y so there
     (λ v was p.
-        let e : x ≡ v = p.rest (omega arith) in
-        let moved : SourceMoves told history faults (DeviceAt result at) x y = record {
-          kept = kept;
-          bundle = λ tells never. inl (unless_failed at fault (StandsLeft (history x) (history y)) (left tells) (λ f. never (err_up (source_fault_of at fault) (Source at None Device) result is f)));
-          cause = cause_of result (source_fault_of at fault) (Source at None Device) (faults x) (faults y) is (this_cause at fault (faults x) (faults y) from);
-        } in
-        subst (λ a. SourceMoves told history faults (DeviceAt result at) a y) e moved)
+    let e : x ≡ v = p.rest (omega arith) in
+    let moved : SourceMoves told history faults (DeviceAt result at) x y = record {
+      kept = kept;
+      bundle = λ tells never. inl (unless_failed at fault (StandsLeft (history x) (history y)) (left tells) (λ f. never (err_up (source_fault_of at fault) (Source at None Device) result is f)));
+      cause = cause_of result (source_fault_of at fault) (Source at None Device) (faults x) (faults y) is (this_cause at fault (faults x) (faults y) from);
+    } in
+    subst (λ a. SourceMoves told history faults (DeviceAt result at) a y) e moved)
     (λ i v w other p. record {
       kept = p.kept;
       bundle = λ tells never. elim (cases_lt i at) [
@@ -169,13 +169,13 @@ turn_stops told history faults sessions at old mid x y s result is there kept co
     let never : (i : ℕ) → DeviceAt result i → ⊥ = λ i e. absurd (no_failure i (err_same NoMemory (Source i None Device) result (Err (Source i None Device)) is refl e)) in
     each_turn (IsTurn told history faults sessions at) (λ i v w. SourceMoves told history faults (DeviceAt result i) v w) old mid at x y so there
     (λ v was p.
-        let e : x ≡ v = p.rest (omega arith) in
-        let moved : SourceMoves told history faults (DeviceAt result at) x y = record {
-          kept = kept;
-          bundle = λ tells _. inl (left tells);
-          cause = still (DeviceAt result at) (faults x) (faults y) count (never at);
-        } in
-        subst (λ a. SourceMoves told history faults (DeviceAt result at) a y) e moved)
+    let e : x ≡ v = p.rest (omega arith) in
+    let moved : SourceMoves told history faults (DeviceAt result at) x y = record {
+      kept = kept;
+      bundle = λ tells _. inl (left tells);
+      cause = still (DeviceAt result at) (faults x) (faults y) count (never at);
+    } in
+    subst (λ a. SourceMoves told history faults (DeviceAt result at) a y) e moved)
     (λ i v w other p. record {
       kept = p.kept;
       bundle = λ tells _. elim (cases_lt i at) [
@@ -213,8 +213,8 @@ first_unopened X told history faults sessions at old mid x fault bundles left al
     let tells : IsTrue (told x) = subst (λ a. IsTrue (told a)) (sym same) (told_at told old at v.0 all v.1) in
     let file : slice_get (all_files history old) at ≡ Some (files_in (history x)) = map_at (λ a. files_in (history a)) old at v.0 v.1 ∙ ap (λ a. Some (files_in (history a))) (sym same) in
     first_of X at (all_files history old) (files_in (history x)) fault bundles left file (λ i f less is.
-        let u = from_map (λ a. files_in (history a)) old i f is in
-        let w = get_some mid i (omega (arith, so.many, slice_get_within old i u.0 u.1.0)) in
-        let t = (so.each i u.0 w.0 u.1.0 w.1).turned less in
-        let opens : OpensAs (files_in (history u.0)) (contents Bundle (history w.0)) = (t.1.1.opens (told_at told old i u.0 all u.1.0)).0 in
-        (contents Bundle (history w.0), subst (λ (g : Files). OpensAs g (contents Bundle (history w.0))) (sym u.1.1) opens)) (says tells)
+    let u = from_map (λ a. files_in (history a)) old i f is in
+    let w = get_some mid i (omega (arith, so.many, slice_get_within old i u.0 u.1.0)) in
+    let t = (so.each i u.0 w.0 u.1.0 w.1).turned less in
+    let opens : OpensAs (files_in (history u.0)) (contents Bundle (history w.0)) = (t.1.1.opens (told_at told old i u.0 all u.1.0)).0 in
+    (contents Bundle (history w.0), subst (λ (g : Files). OpensAs g (contents Bundle (history w.0))) (sym u.1.1) opens)) (says tells)

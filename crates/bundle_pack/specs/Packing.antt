@@ -2,7 +2,6 @@
 use Rattle.std.specs.Prelude.{◌≡◌, ◌⊎◌, ℕ, ◌<◌, ◌≤◌, List, [], length, map, Option, Some, None, Result, Ok, Err}
 use Rattle.outside_io.specs.volume.Disk.{Disk, IsImage}
 use Rattle.outside_io.specs.volume.History.{During, History, current}
-use Rattle.bundle_index.specs.Entry.{entry_at}
 use Rattle.bundle_index.specs.Sizes.{slot_count}
 use Rattle.bundle_index.specs.declared.entry.Entry.{Entry}
 use Rattle.bundle_store.specs.declared.fault.StoreFault.{StoreFault}

@@ -1,10 +1,8 @@
 -- Why packing refuses, by the faults of the store, and which numbers a refusal keeps.
-use Rattle.std.specs.Prelude.{ℕ, ◌<◌, ◌⊎◌, Option, Some, None}
+use Rattle.std.specs.Prelude.{ℕ, ◌<◌, Some, None}
 use Rattle.bundle_index.specs.Sizes.{slot_count}
 use Rattle.bundle_store.specs.declared.fault.StoreFault.{StoreFault}
 use Rattle.bundle_store.specs.declared.fault.StoreFault.TheVariants as store
-use Rattle.bundle_store.specs.Recover.{RecoverFails}
-use Rattle.bundle_store.specs.Session.{OpenFails}
 use Rattle.bundle_pack.specs.Opening.{OpeningFails}
 use Rattle.bundle_pack.specs.declared.fault.PackFault.{PackFault}
 use Rattle.bundle_pack.specs.declared.fault.PackFault.TheVariants.{Source, Target, KeptTooMuch, OutOfMemory}

@@ -1,5 +1,5 @@
 -- What a run leaves of the objects that it is lent, whatever it answers.
-use Rattle.std.specs.Prelude.{◌≡◌, ◌⊎◌, ℕ, ◌<◌, ◌≤◌, List, [], ◌∷◌, length, slice_get, Option, Some, Result, Ok, Err, IfErr, OnOk, Bool, IsTrue, All, codes}
+use Rattle.std.specs.Prelude.{◌≡◌, ◌⊎◌, ℕ, ◌<◌, ◌≤◌, List, [], ◌∷◌, length, slice_get, Some, Result, Ok, Err, IfErr, OnOk, Bool, IsTrue, All, codes}
 use Rattle.outside_io.specs.program.Line.{GivesLine}
 use Rattle.outside_io.specs.streams.Faults.{FailedBetween, IsCause}
 use Rattle.outside_io.specs.streams.Sink.{Holds}

@@ -19,7 +19,9 @@ pub enum PackFault {
     /// The target refuses.
     Target(StoreFault),
     /// The chosen tiles have this many bytes together, and that is more than 2^30.
-    KeptTooMuch { len: u64 },
+    KeptTooMuch {
+        len: u64,
+    },
     /// Memory was refused.
     OutOfMemory,
 }

@@ -1,5 +1,5 @@
 -- One source after the other, and the target behind them.
-use Rattle.std.specs.Prelude.{◌≡◌, ◌⊎◌, ℕ, ◌<◌, ◌≤◌, List, [], length, slice_get, Option, Some, None, Result, Ok, Err, Bool, false, IsTrue}
+use Rattle.std.specs.Prelude.{◌≡◌, ◌⊎◌, ℕ, ◌<◌, ◌≤◌, List, [], slice_get, Some, None, Result, Ok, Err, Bool, false, IsTrue}
 use Rattle.outside_io.specs.declared.volume.VolFile.TheVariants.{Bundle}
 use Rattle.outside_io.specs.volume.History.{During, History, contents, current}
 use Rattle.bundle_store.specs.declared.fault.StoreFault.{StoreFault}

@@ -1,4 +1,4 @@
-use Rattle.std.proofs.Common.{◌≡◌, ◌+◌, ℕ, refl, sym, ap, ◌∙◌, arith, add-one}
+use Rattle.std.proofs.Common.{◌≡◌, ◌+◌, sym, ap, ◌∙◌, arith, add-one}
 use Rattle.bundle_pack.specs.Chosen.{chosen_bytes, chosen_size}
 use Rattle.bundle_pack.proofs.Choosing.{bytes-suc, bytes-zero}
 use Rattle.bundle_pack.proofs.chosen.bytes_of_chosen.Goals as goal

@@ -1,7 +1,6 @@
-use Rattle.std.proofs.Common.{◌≡◌, inl, inr, ◌-◌, ◌<◌, ◌≤◌, ℕ, List, length, slice_get, Some, sym, ap, ◌∙◌, subst, get_or, arith}
+use Rattle.std.proofs.Common.{◌≡◌, inl, inr, ◌-◌, ◌<◌, length, slice_get, Some, sym, ap, ◌∙◌, arith}
 use Rattle.std.proofs.lemmas.Bool.{cases_lt}
 use Rattle.std.proofs.lemmas.Option.{slice_get-get_or}
-use Rattle.bundle_index.specs.Entry.{entry_at}
 use Rattle.bundle_pack.proofs.Choosing.{size_of_one}
 use Rattle.bundle_pack.proofs.Volumes.{get_some}
 use Rattle.bundle_pack.proofs.chosen.chosen.Goals as goal

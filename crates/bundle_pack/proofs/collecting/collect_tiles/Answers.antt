@@ -1,4 +1,4 @@
-use Rattle.std.proofs.Common.{◌≡◌, ◌<◌, ◌+◌, Ok, Err, List, ℕ, length, refl, subst, sym, ap, ◌∙◌, arith}
+use Rattle.std.proofs.Common.{◌≡◌, Ok, Err, List, ℕ, subst, sym, arith}
 use Rattle.bundle_store.specs.declared.tile_rec.TileRec.{TileRec}
 use Rattle.bundle_store.specs.Build.{EachFits, map_after}
 use Rattle.bundle_store.specs.Tiles.{no_tiles}

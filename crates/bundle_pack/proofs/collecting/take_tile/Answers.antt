@@ -1,8 +1,7 @@
-use Rattle.std.proofs.Common.{◌≡◌, ◌<◌, inl, inr, ℕ, Option, Some, None, Result, Ok, Err, length, slice_get, refl, subst, sym, ap, ◌∙◌, get_or, IsTrue, arith}
+use Rattle.std.proofs.Common.{◌≡◌, ◌<◌, inl, inr, ℕ, Some, None, Ok, Err, length, slice_get, refl, subst, sym, ap, ◌∙◌, arith}
 use Rattle.std.proofs.lemmas.Option.{slice_get-get_or}
 use Rattle.bundle_pack.specs.Files.{all_bundles}
 use Rattle.bundle_pack.specs.Sources.{DeviceAt}
-use Rattle.bundle_pack.specs.declared.fault.PackFault.{PackFault}
 use Rattle.bundle_pack.specs.inside.Collecting.{IsChoice, TakesTile, TileSays}
 use Rattle.bundle_pack.proofs.Getting.{chosen_bundle, get_of, tile_said}
 use Rattle.bundle_pack.proofs.Reading.{served, still_turn}

@@ -1,4 +1,4 @@
-use Rattle.std.proofs.Common.{◌≡◌, Ok, Err, List, ℕ, length, refl, subst, sym, ap, ◌∙◌}
+use Rattle.std.proofs.Common.{◌≡◌, Ok, Err, List, length, refl, subst, sym, ap, ◌∙◌}
 use Rattle.std.specs.Prelude.{Vec}
 use Rattle.std.specs.declared.alloc.Global.{Global}
 use Rattle.outside_io.specs.volume.History.{current}
@@ -85,8 +85,8 @@ returns-in-Ok-write_target-clause-merges g c = λ maps all tells stand.
     let size = c.in-Ok-built_size.size in
     let report : PackReport = record { tiles = size.tiles; length = size.len } in
     let says : PackSays sources target (Ok report) = packs_well sources target c.in-Ok.tiles report (c.in-Ok.ensures.says all) (c.in-Ok-write_target.ensures.says tells)
-        (c.in-Ok-built_size.ensures.tiles ∙ ap (λ (ts : List TileRec). filled (last_tiles ts) 16384) c.as_slice.ensures.value)
-        (c.in-Ok-built_size.ensures.len ∙ ap (λ (ts : List TileRec). length (layout (last_tiles ts))) c.as_slice.ensures.value) in
+    (c.in-Ok-built_size.ensures.tiles ∙ ap (λ (ts : List TileRec). filled (last_tiles ts) 16384) c.as_slice.ensures.value)
+    (c.in-Ok-built_size.ensures.len ∙ ap (λ (ts : List TileRec). length (layout (last_tiles ts))) c.as_slice.ensures.value) in
     let holds = holds_merged sources c.in-Ok.tiles d (c.in-Ok.ensures.says all) (subst (λ (ts : List TileRec). HoldsClosed (layout (last_tiles ts)) d) c.as_slice-2.ensures.value (c.in-Ok-write_target.ensures.done tells)) in
     sound_packed sources target maps report d stand says holds
 

@@ -1,4 +1,4 @@
-use Rattle.std.proofs.Common.{◌≡◌, ◌≤◌, Ok, Err, List, ℕ, length, refl, subst, sym, ap, ◌∙◌, arith}
+use Rattle.std.proofs.Common.{◌≤◌, Ok, Err, List, ℕ, length, subst, sym, arith}
 use Rattle.std.specs.Prelude.{IfErr, Vec}
 use Rattle.std.specs.declared.alloc.Global.{Global}
 use Rattle.bundle_store.specs.Session.{SessionState}

@@ -1,13 +1,10 @@
-use Rattle.std.proofs.Common.{◌≡◌, ◌+◌, ◌++◌, ◌∷◌, [], List, length, Result, Ok, Err, refl, subst, sym, ap, ◌∙◌, slice_set, arith}
+use Rattle.std.proofs.Common.{◌+◌, ◌∷◌, [], List, length, Err, refl, subst, sym, ap, ◌∙◌, slice_set, arith}
 use Rattle.std.specs.Prelude.{Vec}
 use Rattle.std.specs.declared.alloc.Global.{Global}
 use Rattle.std.proofs.lemmas.List.{length-append}
 use Rattle.std.proofs.lemmas.Option.{slice_get-get_or}
-use Rattle.outside_io.specs.volume.History.{contents}
-use Rattle.outside_io.specs.declared.volume.VolFile.TheVariants.{Bundle}
 use Rattle.bundle_store.specs.Session.{SessionState}
-use Rattle.bundle_pack.specs.Files.{all_bundles, all_files, files_in}
-use Rattle.bundle_pack.specs.Sources.{DeviceAt, Each}
+use Rattle.bundle_pack.specs.Sources.{Each}
 use Rattle.bundle_pack.specs.inside.Turns.{IsTurn}
 use Rattle.bundle_pack.proofs.Reading.{images_same}
 use Rattle.bundle_pack.proofs.Steps.{opening_answers}

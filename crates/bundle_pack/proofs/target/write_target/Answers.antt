@@ -1,6 +1,4 @@
 use Rattle.std.proofs.Common.{Bool, IsTrue, subst, sym}
-use Rattle.outside_io.specs.volume.History.{contents, current}
-use Rattle.outside_io.specs.declared.volume.VolFile.TheVariants.{Bundle}
 use Rattle.outside_io.proofs.VolumeLemmas.Moments.{during_map}
 use Rattle.bundle_store.specs.Build.{last_tiles}
 use Rattle.bundle_pack.specs.Files.{files_in}
