@@ -25,6 +25,9 @@ use bundle_store::{TileRec, built_size};
 use outside_io::Volume;
 use std::alloc::Global;
 
+/// How many bytes the tiles that count have together at most: 2^30.
+const MOST_BYTES: u64 = 1073741824;
+
 /// What was packed.
 #[derive(Clone, Copy, Debug, PartialEq, Eq)]
 pub struct PackReport {
@@ -48,7 +51,7 @@ fn read_sources<V: Volume>(alloc: Global, from: &mut [V]) -> Result<Vec<TileRec>
         Err(fault) => return Err(fault),
     };
     let len = bytes_of_chosen(sessions.as_slice());
-    if len > 1073741824 {
+    if len > MOST_BYTES {
         return Err(PackFault::KeptTooMuch { len });
     }
     collect_tiles(alloc, sessions.as_slice(), from)

@@ -16,19 +16,19 @@ returns-in-Err-clause-sources g c =
     let fault = c.in-Err.fault in
     all_moved {X = Vec SessionState Global} vol.told vol.history vol.faults c.args.from.now c.open_sources.new.from (Err fault) _ (λ i is. err_as fault _ is) (λ i is. err_as fault _ is) c.in-Err.ensures.sources
 
-pub returns-then-len-gt1073741824-clause-sources : goal.returns-then-len-gt1073741824-clause-sources
-returns-then-len-gt1073741824-clause-sources g c =
+pub returns-then-len-gt-MOST_BYTES-clause-sources : goal.returns-then-len-gt-MOST_BYTES-clause-sources
+returns-then-len-gt-MOST_BYTES-clause-sources g c =
     let vol = g.V.Volume in
     all_moved {X = Vec SessionState Global} vol.told vol.history vol.faults c.args.from.now c.open_sources.new.from (Ok c.in-Ok.sessions) _ (λ i is. absurd cc) (λ i is. absurd cc) c.in-Ok.ensures.sources
 
-pub returns-then-len-gt1073741824-clause-says : goal.returns-then-len-gt1073741824-clause-says
-returns-then-len-gt1073741824-clause-says g c = λ all.
+pub returns-then-len-gt-MOST_BYTES-clause-says : goal.returns-then-len-gt-MOST_BYTES-clause-says
+returns-then-len-gt-MOST_BYTES-clause-says g c = λ all.
     let vol = g.V.Volume in
     let from = c.open_sources.new.from in
     let bundles = all_bundles vol.history from in
     let told = moved_told vol.told vol.history vol.faults (λ i. DeviceAt {X = Vec SessionState Global} (Ok c.in-Ok.sessions) i) c.args.from.now from c.in-Ok.ensures.sources all in
     let all_served = subst (λ (ss : List SessionState). AreServed ss bundles) (sym c.as_slice.ensures.value) (served vol.told vol.history c.in-Ok.sessions.items from c.in-Ok.ensures.serving told) in
-    (bundles, (c.in-Ok.ensures.says all, (c.bytes_of_chosen-len.ensures bundles all_served, c.if-len-gt1073741824.true)))
+    (bundles, (c.in-Ok.ensures.says all, (c.bytes_of_chosen-len.ensures bundles all_served, c.if-len-gt-MOST_BYTES.true)))
 
 pub returns-clause-sources : goal.returns-clause-sources
 returns-clause-sources g c =
@@ -43,7 +43,7 @@ returns-clause-says g c = λ all.
     let told = moved_told vol.told vol.history vol.faults (λ i. DeviceAt {X = Vec SessionState Global} (Ok c.in-Ok.sessions) i) c.args.from.now from c.in-Ok.ensures.sources all in
     let all_served = subst (λ (ss : List SessionState). AreServed ss bundles) (sym c.as_slice.ensures.value) (served vol.told vol.history c.in-Ok.sessions.items from c.in-Ok.ensures.serving told) in
     let sum = c.bytes_of_chosen-len.ensures bundles all_served in
-    let few : chosen_bytes bundles 16384 ≤ 1073741824 = omega (arith, sum, c.if-len-gt1073741824.false) in
+    let few : chosen_bytes bundles 16384 ≤ 1073741824 = omega (arith, sum, c.if-len-gt-MOST_BYTES.false) in
     read_tiles (all_files vol.history c.args.from.now) bundles c.collect_tiles.result (record { opened = c.in-Ok.ensures.says all; few = few }) (c.collect_tiles.ensures.says told)
 
 pub returns-in-Err-clause-answers : goal.returns-in-Err-clause-answers
