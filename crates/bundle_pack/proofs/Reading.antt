@@ -15,7 +15,8 @@ use Rattle.bundle_pack.specs.Files.{all_bundles}
 use Rattle.opened_bundle.specs.Left.{IsLeft}
 use Rattle.bundle_pack.specs.Sources.{Each, IsServing, KeepsImages, SourceMoves}
 use Rattle.bundle_pack.specs.inside.Collecting.{AreServed, IsStill}
-use Rattle.bundle_pack.proofs.Volumes.{all_of, each_join, each_map, each_same, each_turn, from_map, get_some, same_maps, still, told_at}
+use Rattle.opened_bundle.proofs.BundleOpening.{still}
+use Rattle.bundle_pack.proofs.Volumes.{all_of, each_join, each_map, each_same, each_turn, from_map, get_some, same_maps, told_at}
 
 -- each image stands for what it stands for
 pub keeps_itself : (d : Disk) → EachStandsForOneOf d d

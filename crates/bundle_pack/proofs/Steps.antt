@@ -1,5 +1,5 @@
 -- From what one step says and leaves to what the whole does.
-use Rattle.std.proofs.Common.{◌≡◌, inl, inr, ℕ, ◌<◌, List, Some, None, Result, Ok, Err, Bool, IsTrue, refl, sym, ap, subst, arith}
+use Rattle.std.proofs.Common.{◌≡◌, inr, ℕ, ◌<◌, List, Some, None, Result, Ok, Err, Bool, IsTrue, refl, sym, ap, subst, arith}
 use Rattle.std.specs.Prelude.{All, Vec}
 use Rattle.std.specs.declared.alloc.Global.{Global}
 use Rattle.std.proofs.lemmas.Option.{slice_get_within}
@@ -10,16 +10,16 @@ use Rattle.bundle_store.specs.declared.fault.StoreFault.TheVariants.{Device, Bad
 use Rattle.bundle_store.specs.declared.tile_rec.TileRec.{TileRec}
 use Rattle.bundle_store.specs.Causes.{FaultFrom}
 use Rattle.opened_bundle.specs.Files.{Files}
-use Rattle.bundle_pack.specs.Opening.{IsFirstUnopened}
-use Rattle.bundle_pack.specs.Packing.{AreTaken, SourceSays}
+use Rattle.bundle_pack.specs.Packing.{AreTaken}
 use Rattle.bundle_pack.specs.Refusals.{OpeningAnswers, PackFails, source_fault_of, target_fault_of}
 use Rattle.bundle_pack.specs.Sources.{DeviceAt, Each, SourceMoves}
 use Rattle.bundle_pack.specs.declared.fault.PackFault.{PackFault}
 use Rattle.bundle_pack.specs.declared.fault.PackFault.TheVariants.{Source, Target, KeptTooMuch, OutOfMemory}
 use Rattle.bundle_pack.specs.inside.Collecting.{IsGetFault, IsStill, ReadFails, ReadSays, TilesSay}
-use Rattle.bundle_pack.specs.inside.Turns.{OpenAnswers, OpeningSays, TargetAnswers}
+use Rattle.bundle_pack.specs.inside.Turns.{OpenAnswers, TargetAnswers}
 use Rattle.bundle_pack.proofs.Reading.{moved_still}
-use Rattle.bundle_pack.proofs.Volumes.{all_of, each_join, each_map, get_some, still, told_at}
+use Rattle.opened_bundle.proofs.BundleOpening.{still}
+use Rattle.bundle_pack.proofs.Volumes.{all_of, each_join, each_map, get_some, told_at}
 
 -- ---- answers
 
@@ -164,26 +164,6 @@ target_cause StoreMemory old new same = still _ old new same (λ is. absurd cc)
 target_cause Stopped old new same = still _ old new same (λ is. absurd cc)
 
 -- ---- what is said
-
-pub said_unopened : (sources : List Files) (at : ℕ) (fault : StoreFault) → IsFirstUnopened sources at fault → SourceSays sources at None fault
-said_unopened sources at Device first = inl first
-said_unopened sources at (BadBundle place found) first = first
-said_unopened sources at (BadJournal place found) first = first
-said_unopened sources at NoTile first = first
-said_unopened sources at (Beyond entry got) first = first
-said_unopened sources at (TileTooLarge place len) first = first
-said_unopened sources at (EmptyTile place) first = first
-said_unopened sources at (Full len) first = first
-said_unopened sources at (NotEmpty len) first = first
-said_unopened sources at StoreMemory first = first
-said_unopened sources at Stopped first = first
-
-pub read_unopened : (X : Type 0) (sources : List Files) (fault : PackFault) (bundles : List (List ℕ)) → OpeningSays {X = X} sources (Err fault) bundles → ReadSays sources (Err fault)
-read_unopened X sources (Source at None fault) bundles says = said_unopened sources at fault says
-read_unopened X sources (Source at (Some slot) fault) bundles says = absurd says
-read_unopened X sources (Target fault) bundles says = absurd says
-read_unopened X sources (KeptTooMuch len) bundles says = absurd says
-read_unopened X sources OutOfMemory bundles says = tt
 
 pub read_tiles : (sources : List Files) (bundles : List (List ℕ)) (r : Result (Vec TileRec Global) PackFault) → AreTaken sources bundles → TilesSay bundles r → ReadSays sources r
 read_tiles sources bundles (Ok tiles) taken (whole, is) = (bundles, (record { taken = taken; whole = whole }, is))

@@ -19,7 +19,8 @@ use Rattle.bundle_pack.specs.Sources.{DeviceAt, Each, IsServing, KeepsImages, So
 use Rattle.bundle_pack.specs.declared.fault.PackFault.{PackFault}
 use Rattle.bundle_pack.specs.declared.fault.PackFault.TheVariants.{Source, OutOfMemory as NoMemory}
 use Rattle.bundle_pack.specs.inside.Turns.{IsTurn, IsTurned, OpenSays, OpeningSays}
-use Rattle.bundle_pack.proofs.Volumes.{each_map, each_same, each_turn, from_map, get_before, get_pushed, get_some, map_at, one_some, still, told_at}
+use Rattle.opened_bundle.proofs.BundleOpening.{still}
+use Rattle.bundle_pack.proofs.Volumes.{each_map, each_same, each_turn, from_map, get_before, get_pushed, get_some, map_at, one_some, told_at}
 
 -- one source more is opened
 pub turn_more : {V : Type 0} (told : V → Bool) (history : V → History) (faults : V → ℕ) (sessions : List SessionState) (at : ℕ) (old mid : List V) (x y : V) (s : SessionState)

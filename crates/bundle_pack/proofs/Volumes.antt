@@ -4,7 +4,6 @@ use Rattle.std.specs.Prelude.{All, option_map, get_or}
 use Rattle.std.proofs.lemmas.Bool.{cases_eq}
 use Rattle.std.proofs.lemmas.List.{length-set, length-map}
 use Rattle.std.proofs.lemmas.Option.{slice_get_within, slice_get-get_or, slice_get-map}
-use Rattle.outside_io.specs.streams.Faults.{IsCause}
 use Rattle.bundle_pack.specs.Sources.{Each}
 
 pub get_same : {X : Type 0} (xs : List X) (i : ℕ) (y : X) → i < length xs → slice_get (slice_set xs i y) i ≡ Some y
@@ -65,9 +64,6 @@ each_join P Q R old mid new so first second = record {
       let m = get_some mid i (omega (arith, first.many, slice_get_within old i v was)) in
       so i v m.0 w (first.each i v m.0 was m.1) (second.each i m.0 w m.1 is);
 }
-
-pub still : (P : Type 0) (old new : ℕ) → new ≡ old → (P → ⊥) → IsCause P old new
-still P old new same never = record { counts = omega (arith, same); failed = λ is. absurd (never is); rose = λ rose. absurd (omega (arith, same, rose)) }
 
 -- what is told of all
 pub told_at : {V : Type 0} (told : V → Bool) (vs : List V) (i : ℕ) (v : V) → All (λ x. IsTrue (told x)) vs → slice_get vs i ≡ Some v → IsTrue (told v)

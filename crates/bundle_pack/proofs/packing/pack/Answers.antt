@@ -17,7 +17,7 @@ use Rattle.bundle_pack.specs.inside.Turns.{TargetImages}
 use Rattle.bundle_pack.proofs.Packs.{holds_merged, packs_ill, packs_well, reads_refuse, target_keeps, untouched_keeps}
 use Rattle.bundle_pack.proofs.Sound.{sound_answers, sound_packed}
 use Rattle.bundle_pack.proofs.Steps.{all_moved, cause_map, err_as, not_source, not_target, read_fails, target_cause, target_fails}
-use Rattle.bundle_pack.proofs.Volumes.{still}
+use Rattle.opened_bundle.proofs.BundleOpening.{still}
 use Rattle.bundle_pack.proofs.packing.pack.Goals as goal
 
 -- the sources refuse
