@@ -7,10 +7,25 @@ use crate::volumes::{
     volume, volumes,
 };
 use bundle_index::{Entry, Slot};
-use bundle_pack::{PackFault, pack};
+use bundle_pack::{PackFault, PackReport, pack};
 use bundle_store::StoreFault;
+use outside_io::MemVolume;
 use std::alloc::Global;
 use std::process::Abort;
+
+/// What packing answers, of 1 to 8 sources.
+fn answer_of(
+    rt: &impl Abort,
+    alloc: Global,
+    from: &mut [MemVolume],
+    to: &mut MemVolume,
+) -> Result<PackReport, PackFault> {
+    let count = from.len();
+    if count < 1 || count > 8 {
+        panic!(rt; "{count} sources");
+    }
+    pack(alloc, from, to)
+}
 
 /// Packing of these files refuses so; and so does the program, with this line.
 fn refuses(
@@ -23,7 +38,8 @@ fn refuses(
 ) {
     let mut from = volumes(rt, alloc, all);
     let mut to = volume(rt, alloc, target, None, &[]);
-    same(rt, "refusal", pack(alloc, &mut from, &mut to), Err(fault));
+    let answer = answer_of(rt, alloc, &mut from, &mut to);
+    same(rt, "refusal", answer, Err(fault));
     let mut from = volumes(rt, alloc, all);
     let mut to = volume(rt, alloc, target, None, &[]);
     let left = (7, b"".as_slice(), line);
