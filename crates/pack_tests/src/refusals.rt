@@ -6,28 +6,43 @@ use crate::volumes::{
     LARGE, OTHER, Pair, SMALL, alone, empty, expect_run, expect_tile, nothing, put_all, slot_at,
     volume, volumes,
 };
-use bundle_index::Entry;
-use bundle_pack::{PackFault, pack};
+use bundle_index::{Entry, Slot};
+use bundle_pack::{PackFault, PackReport, pack};
 use bundle_store::StoreFault;
+use outside_io::MemVolume;
 use std::alloc::Global;
 use std::process::Abort;
 
-/// The line of a refusal, and what it is.
-type Refused<'a> = (PackFault, &'a [u8]);
+/// What packing answers, of 1 to 8 sources.
+fn answer_of(
+    rt: &impl Abort,
+    alloc: Global,
+    from: &mut [MemVolume],
+    to: &mut MemVolume,
+) -> Result<PackReport, PackFault> {
+    let count = from.len();
+    if count < 1 || count > 8 {
+        panic!(rt; "{count} sources");
+    }
+    pack(alloc, from, to)
+}
 
 /// Packing of these files refuses so; and so does the program, with this line.
-fn refuses(rt: &impl Abort, alloc: Global, all: &[&Pair], target: &Pair, wanted: Refused<'_>) {
+fn refuses(
+    rt: &impl Abort,
+    alloc: Global,
+    all: &[&Pair],
+    target: &Pair,
+    fault: PackFault,
+    line: &[u8],
+) {
     let mut from = volumes(rt, alloc, all);
     let mut to = volume(rt, alloc, target, None, &[]);
-    same(
-        rt,
-        "refusal",
-        pack(alloc, &mut from, &mut to),
-        Err(wanted.0),
-    );
+    let answer = answer_of(rt, alloc, &mut from, &mut to);
+    same(rt, "refusal", answer, Err(fault));
     let mut from = volumes(rt, alloc, all);
     let mut to = volume(rt, alloc, target, None, &[]);
-    let left = (7, b"".as_slice(), wanted.1);
+    let left = (7, b"".as_slice(), line);
     expect_run(rt, alloc, "line", &mut from, &mut to, left);
 }
 
@@ -80,25 +95,27 @@ fn the_first_source_that_does_not_open_is_told(rt: HostRuntime) {
     let journal = bad_journal(&rt, alloc);
     let short = bytes(&rt, alloc, &[3; 10]);
     let beyond = cut(&rt, alloc);
-    let first = (of_source(0, BAD_JOURNAL), JOURNAL_LINE);
-    refuses(&rt, alloc, &[&journal, &short], &short, first);
-    let second = (of_source(1, BAD_BUNDLE), BUNDLE_LINE);
-    refuses(&rt, alloc, &[&good, &short, &journal], &good, second);
-    let third = (of_source(2, BAD_JOURNAL), JOURNAL_LINE);
-    refuses(&rt, alloc, &[&beyond, &good, &journal], &good, third);
+    let first = of_source(0, BAD_JOURNAL);
+    refuses(&rt, alloc, &[&journal, &short], &short, first, JOURNAL_LINE);
+    let second = of_source(1, BAD_BUNDLE);
+    let all = [&good, &short, &journal];
+    refuses(&rt, alloc, &all, &good, second, BUNDLE_LINE);
+    let third = of_source(2, BAD_JOURNAL);
+    let all = [&beyond, &good, &journal];
+    refuses(&rt, alloc, &all, &good, third, JOURNAL_LINE);
 }
 
-/// A tile beyond the bundle's end of the source of this number.
-fn beyond_of(rt: &impl Abort, at: usize) -> PackFault {
+/// A tile beyond the bundle's end, of which so many bytes are there, of the source of this number.
+fn beyond_of(at: usize, slot: Slot, size: u32, got: u64) -> PackFault {
     PackFault::Source {
         at,
-        slot: Some(slot_at(rt, 127, 126)),
+        slot: Some(slot),
         fault: StoreFault::Beyond {
             entry: Entry {
                 offset: 131140,
-                size: 72,
+                size,
             },
-            got: 62,
+            got,
         },
     }
 }
@@ -108,10 +125,11 @@ fn a_chosen_tile_beyond_the_end_is_told_before_the_target(rt: HostRuntime) {
     let alloc = rt.alloc();
     let good = replaced(&rt, alloc);
     let beyond = cut(&rt, alloc);
-    let wanted = (beyond_of(&rt, 1), BEYOND_LINE);
-    refuses(&rt, alloc, &[&good, &beyond], &good, wanted);
-    let wanted = (beyond_of(&rt, 0), BEYOND_LINE);
-    refuses(&rt, alloc, &[&beyond, &good], &good, wanted);
+    let slot = slot_at(&rt, 127, 126);
+    let second = beyond_of(1, slot, 72, 62);
+    refuses(&rt, alloc, &[&good, &beyond], &good, second, BEYOND_LINE);
+    let first = beyond_of(0, slot, 72, 62);
+    refuses(&rt, alloc, &[&beyond, &good], &good, first, BEYOND_LINE);
 }
 
 #[test]
@@ -130,17 +148,25 @@ fn a_tile_that_is_not_chosen_is_not_read(rt: HostRuntime) {
 fn a_target_that_does_not_open_or_is_not_empty_is_told_last(rt: HostRuntime) {
     let alloc = rt.alloc();
     let good = replaced(&rt, alloc);
-    let journal = (PackFault::Target(BAD_JOURNAL), JOURNAL_LINE);
-    refuses(&rt, alloc, &[&good], &bad_journal(&rt, alloc), journal);
-    let bundle = (PackFault::Target(BAD_BUNDLE), BUNDLE_LINE);
+    let journal = bad_journal(&rt, alloc);
+    let fault = PackFault::Target(BAD_JOURNAL);
+    refuses(&rt, alloc, &[&good], &journal, fault, JOURNAL_LINE);
     let short = bytes(&rt, alloc, &[3; 10]);
-    refuses(&rt, alloc, &[&good], &short, bundle);
-    let full = StoreFault::NotEmpty { len: 131282 };
-    let full = (
-        PackFault::Target(full),
-        b"store: NotEmpty 131282\n".as_slice(),
-    );
-    refuses(&rt, alloc, &[&good], &good, full);
+    let fault = PackFault::Target(BAD_BUNDLE);
+    refuses(&rt, alloc, &[&good], &short, fault, BUNDLE_LINE);
+    let fault = PackFault::Target(StoreFault::NotEmpty { len: 131282 });
+    let line = b"store: NotEmpty 131282\n";
+    refuses(&rt, alloc, &[&good], &good, fault, line);
+}
+
+/// Lays an entry of the first record's place over the index.
+fn lay_entry(rt: &impl Abort, bundle: &mut [u8], slot: usize, size: [u8; 3]) {
+    let entry = [0x44, 0, 2, 0, 0, size[0], size[1], size[2]];
+    if slot >= 16384 || bundle.len() != 131136 {
+        panic!(rt; "slot {slot}");
+    }
+    let at = 64 + 8 * slot;
+    bundle[at..at + 8].copy_from_slice(&entry);
 }
 
 /// A bundle of which the first 64 slots have the greatest size each, and the next one this size.
@@ -148,16 +174,11 @@ fn a_target_that_does_not_open_or_is_not_empty_is_told_last(rt: HostRuntime) {
 fn heavy(rt: &impl Abort, alloc: Global, last: u8) -> Pair {
     let mut files = put_all(rt, alloc, &[(127, 127, &SMALL)]);
     files.bundle.truncate(131136);
-    let bundle = files.bundle.as_mut_slice();
-    if bundle.len() != 131136 {
-        panic!(rt; "length");
+    for slot in 0..64 {
+        lay_entry(rt, files.bundle.as_mut_slice(), slot, [255, 255, 255]);
     }
-    for slot in 0..64usize {
-        let at = 64 + 8 * slot;
-        bundle[at..at + 8].copy_from_slice(b"\x44\x00\x02\x00\x00\xff\xff\xff");
-    }
-    bundle[576..584].copy_from_slice(&[0x44, 0, 2, 0, 0, last, 0, 0]);
-    bundle[131128..131136].copy_from_slice(&[0; 8]);
+    lay_entry(rt, files.bundle.as_mut_slice(), 64, [last, 0, 0]);
+    lay_entry(rt, files.bundle.as_mut_slice(), 16383, [0, 0, 0]);
     files
 }
 
@@ -165,36 +186,20 @@ fn heavy(rt: &impl Abort, alloc: Global, last: u8) -> Pair {
 fn tiles_of_more_than_a_gibibyte_are_not_read(rt: HostRuntime) {
     let alloc = rt.alloc();
     let good = replaced(&rt, alloc);
-    let heavy_by_1 = heavy(&rt, alloc, 65);
     let fault = PackFault::KeptTooMuch { len: 1073741825 };
-    let line = b"store: KeptTooMuch 1073741825\n".as_slice();
-    refuses(&rt, alloc, &[&heavy_by_1], &good, (fault, line));
+    let line = b"store: KeptTooMuch 1073741825\n";
+    refuses(&rt, alloc, &[&heavy(&rt, alloc, 65)], &good, fault, line);
     let fault = PackFault::KeptTooMuch { len: 1073741896 };
-    let line = b"store: KeptTooMuch 1073741896\n".as_slice();
-    refuses(
-        &rt,
-        alloc,
-        &[&heavy(&rt, alloc, 64), &good],
-        &good,
-        (fault, line),
-    );
+    let line = b"store: KeptTooMuch 1073741896\n";
+    let heavy = heavy(&rt, alloc, 64);
+    refuses(&rt, alloc, &[&heavy, &good], &good, fault, line);
 }
 
 #[test]
 fn tiles_of_a_gibibyte_are_not_too_many(rt: HostRuntime) {
     let alloc = rt.alloc();
-    let beyond = PackFault::Source {
-        at: 0,
-        slot: Some(slot_at(&rt, 0, 0)),
-        fault: StoreFault::Beyond {
-            entry: Entry {
-                offset: 131140,
-                size: 16777215,
-            },
-            got: 0,
-        },
-    };
-    let line = b"store: Beyond 0 0 offset 131140 size 16777215 got 0\n".as_slice();
+    let fault = beyond_of(0, slot_at(&rt, 0, 0), 16777215, 0);
+    let line = b"store: Beyond 0 0 offset 131140 size 16777215 got 0\n";
     let heavy = heavy(&rt, alloc, 64);
-    refuses(&rt, alloc, &[&heavy], &nothing(alloc), (beyond, line));
+    refuses(&rt, alloc, &[&heavy], &nothing(alloc), fault, line);
 }

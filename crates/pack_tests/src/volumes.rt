@@ -199,7 +199,7 @@ pub(crate) fn expect_tile(
 ) {
     let slot = slot_at(rt, tile.0, tile.1);
     let session = Session::open(alloc, vol).expect(rt, "open");
-    let size = tile.2.len() as u32;
+    let size = u32::try_from(tile.2.len()).expect(rt, "size");
     same(
         rt,
         "entry",
