@@ -18,6 +18,7 @@ failed=0
 . "$here/tests/bundles.sh"
 . "$here/tests/puts.sh"
 . "$here/tests/builds.sh"
+. "$here/tests/samples.sh"
 . "$here/tests/edges.sh"
 . "$here/tests/gdal.sh"
 . "$here/tests/liblerc.sh"

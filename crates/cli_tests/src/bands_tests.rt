@@ -7,6 +7,7 @@ use crate::tests::{
 };
 use crate::volumes::{LAST, empty, fed, gives as gives_over};
 use std::process::Abort;
+use std::thread::Threads;
 use worked_examples::{BLOB, GRID, NO_MASK, NO_MASK_OF_SEVEN, RUNS};
 
 const DECODE: &[&str] = &["decode"];
@@ -31,7 +32,7 @@ const EIGHTS_LINES: &[u8] =
     least 7\ngreatest 7\nchecksum c07546b3\nmask previous\nimage constant\n";
 
 /// These parts as one input.
-fn joined(rt: &(impl Abort + AllocGlobal), parts: &[&[u8]]) -> Vec<u8> {
+fn joined(rt: &(impl Abort + AllocGlobal + Threads + Sync), parts: &[&[u8]]) -> Vec<u8> {
     parts.concat(rt.alloc()).expect(rt, "memory")
 }
 

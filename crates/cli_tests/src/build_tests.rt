@@ -7,6 +7,7 @@ use crate::volumes::{
 };
 use outside_io::{MemVolume, VolFile, Volume};
 use std::process::Abort;
+use std::thread::Threads;
 use worked_examples::{GRID, NO_PIXEL, NONE_VALID, TENS};
 
 const BUILD: [&str; 4] = ["build", "3", "0", "2"];
@@ -32,13 +33,13 @@ const NO_TILES: [(u64, &[u8]); 2] = [(0, &FRESH), (64, &[0; 100])];
 const BUILT: [(u64, &[u8]); 3] = [(0, &HEADER), (64, &ENTRY), (131136, b"\x42\0\0\0")];
 
 /// Builds a bundle of the two tiles.
-pub(crate) fn build_two(rt: &(impl Abort + AllocGlobal), vol: &mut MemVolume) {
+pub(crate) fn build_two(rt: &(impl Abort + AllocGlobal + Threads + Sync), vol: &mut MemVolume) {
     let done = (0, 2, b"built 1 131206\n".as_slice(), b"".as_slice());
     fed(rt, vol, &BUILD, &TWO_TILES, &[], done);
 }
 
 /// The first tile is the last one of the two.
-fn has_the_last(rt: &(impl Abort + AllocGlobal), vol: &mut MemVolume) {
+fn has_the_last(rt: &(impl Abort + AllocGlobal + Threads + Sync), vol: &mut MemVolume) {
     gives(rt, vol, &["list"], LISTED);
     gives(rt, vol, &FIRST, &NONE_VALID);
 }
@@ -71,7 +72,7 @@ fn the_marks_of_a_build_are_its_end(rt: HostRuntime) {
 }
 
 /// The first tile is the last one of the two, or there is none and the list is empty.
-fn has_the_last_or_none(rt: &(impl Abort + AllocGlobal), vol: &mut MemVolume) {
+fn has_the_last_or_none(rt: &(impl Abort + AllocGlobal + Threads + Sync), vol: &mut MemVolume) {
     if over(rt, vol, &FIRST).status == 7 {
         gives(rt, vol, &["list"], b"");
     } else {
@@ -80,7 +81,7 @@ fn has_the_last_or_none(rt: &(impl Abort + AllocGlobal), vol: &mut MemVolume) {
 }
 
 /// Whether a build fails at this call of the volume, and leaves all tiles or none.
-fn fails_at(rt: &(impl Abort + AllocGlobal), call: u64) -> bool {
+fn fails_at(rt: &(impl Abort + AllocGlobal + Threads + Sync), call: u64) -> bool {
     let mut vol = volume(rt, &[], &[], &[call]);
     let fails = fails_alone(rt, &mut vol, &BUILD, &TWO_TILES);
     has_the_last_or_none(rt, &mut vol);
@@ -104,7 +105,7 @@ fn an_output_that_fails_leaves_the_bundle_built(rt: HostRuntime) {
 
 /// A build of these parts over this volume tells this line alone.
 fn refused(
-    rt: &(impl Abort + AllocGlobal),
+    rt: &(impl Abort + AllocGlobal + Threads + Sync),
     vol: &mut MemVolume,
     parts: &[&[u8]],
     status: u8,
@@ -114,7 +115,7 @@ fn refused(
 }
 
 /// A build of these parts is refused with this line, before a call of the volume.
-fn refused_unread(rt: &(impl Abort + AllocGlobal), parts: &[&[u8]], line: &[u8]) {
+fn refused_unread(rt: &(impl Abort + AllocGlobal + Threads + Sync), parts: &[&[u8]], line: &[u8]) {
     let mut vol = with_one(rt, &[]);
     refused(rt, &mut vol, parts, 2, line);
     same(rt, "calls of the volume", vol.moment(), 0);

@@ -8,6 +8,7 @@ use crate::same::same;
 use crate::volumes::{ENTRY, LAST, empty, gives, gives_at, over, with_entry, with_one};
 use outside_io::{MemVolume, Pick, Volume};
 use std::process::Abort;
+use std::thread::Threads;
 use worked_examples::{BLOB, STEPS};
 
 /// The line of a recovery, and what a command behind it gives.
@@ -18,14 +19,14 @@ const APPLIED: Recovered<'static> = (b"applied\n", &STEPS);
 const NEW: Recovered<'static> = (b"closed\n", &STEPS);
 
 /// One image of a moment.
-fn image(rt: &(impl Abort + AllocGlobal), vol: &MemVolume, moment: u64, pick: Pick) -> MemVolume {
+fn image(rt: &(impl Abort + AllocGlobal + Threads + Sync), vol: &MemVolume, moment: u64, pick: Pick) -> MemVolume {
     assert!(rt; moment <= vol.moment());
     vol.crash(rt.alloc(), moment, pick).expect(rt, "memory")
 }
 
 /// A recovery of this image of the moment gives such a line, and these words then such an output.
 fn recovers(
-    rt: &(impl Abort + AllocGlobal),
+    rt: &(impl Abort + AllocGlobal + Threads + Sync),
     vol: &MemVolume,
     moment: u64,
     pick: Pick,
@@ -39,7 +40,7 @@ fn recovers(
 
 /// So do the four images of this moment: as last synced, as read, torn with 0 and with 255.
 fn four_recover(
-    rt: &(impl Abort + AllocGlobal),
+    rt: &(impl Abort + AllocGlobal + Threads + Sync),
     vol: &MemVolume,
     moment: u64,
     words: &[&str],
@@ -54,7 +55,7 @@ fn four_recover(
 
 /// So do the four images of each of these moments, the last left out.
 fn all_recover(
-    rt: &(impl Abort + AllocGlobal),
+    rt: &(impl Abort + AllocGlobal + Threads + Sync),
     vol: &MemVolume,
     moments: (u64, u64),
     words: &[&str],
@@ -66,7 +67,7 @@ fn all_recover(
 }
 
 /// A volume over whose tile another one was put.
-fn put_over(rt: &(impl Abort + AllocGlobal)) -> MemVolume {
+fn put_over(rt: &(impl Abort + AllocGlobal + Threads + Sync)) -> MemVolume {
     let mut vol = with_one(rt, &[]);
     put_tens(rt, &mut vol);
     vol
@@ -93,7 +94,7 @@ fn a_crash_at_each_moment_of_a_put_leaves_the_old_or_the_new_tile(rt: HostRuntim
 }
 
 /// The moment at which a recovery ended.
-fn end_of(rt: &(impl Abort + AllocGlobal), vol: &MemVolume) -> u64
+fn end_of(rt: &(impl Abort + AllocGlobal + Threads + Sync), vol: &MemVolume) -> u64
     ensures { 1 < result }
 {
     let end = vol.moment();
@@ -102,7 +103,7 @@ fn end_of(rt: &(impl Abort + AllocGlobal), vol: &MemVolume) -> u64
 }
 
 /// A recovery of this image of the moment is recovered again at each of its own moments.
-fn is_recovered_again(rt: &(impl Abort + AllocGlobal), vol: &MemVolume, moment: u64, pick: Pick) {
+fn is_recovered_again(rt: &(impl Abort + AllocGlobal + Threads + Sync), vol: &MemVolume, moment: u64, pick: Pick) {
     let mut crashed = image(rt, vol, moment, pick);
     gives(rt, &mut crashed, &["recover"], b"applied\n");
     let end = end_of(rt, &crashed);
@@ -124,7 +125,7 @@ fn a_crash_within_a_recovery_is_recovered_again(rt: HostRuntime) {
 }
 
 /// The last slot has the tile that was put first, or the one that was put over it.
-fn gives_either(rt: &(impl Abort + AllocGlobal), vol: &mut MemVolume) {
+fn gives_either(rt: &(impl Abort + AllocGlobal + Threads + Sync), vol: &mut MemVolume) {
     let left = over(rt, vol, &LAST);
     same(rt, "the status", left.status, 0);
     let tile = left.out.held();
@@ -132,7 +133,7 @@ fn gives_either(rt: &(impl Abort + AllocGlobal), vol: &mut MemVolume) {
 }
 
 /// A put over this image of the moment is cut off at each of its own moments.
-fn is_cut_off_again(rt: &(impl Abort + AllocGlobal), vol: &MemVolume, moment: u64, pick: Pick) {
+fn is_cut_off_again(rt: &(impl Abort + AllocGlobal + Threads + Sync), vol: &MemVolume, moment: u64, pick: Pick) {
     let mut crashed = image(rt, vol, moment, pick);
     put_tens(rt, &mut crashed);
     for next in 0..crashed.moment() {

@@ -6,6 +6,7 @@ use crate::tests::{
     refuses_longer, refuses_with,
 };
 use std::process::Abort;
+use std::thread::Threads;
 use worked_examples::{
     BLOB, EIGHT, GRID, NO_PIXEL, NONE_VALID, ONES, RISING, RUNS, STEPS, STEPS_DEEP, SWEEP, TENS,
     TENS_DEEP, TWO_ENDS,
@@ -26,7 +27,7 @@ fn grids_are_encoded_in_any_pieces(rt: HostRuntime) {
 }
 
 /// A run of these words over this grid gives a blob that has this image behind its header.
-fn gives_image(rt: &(impl Abort + AllocGlobal), words: &[&str], grid: &[u8], image: &[u8]) {
+fn gives_image(rt: &(impl Abort + AllocGlobal + Threads + Sync), words: &[&str], grid: &[u8], image: &[u8]) {
     let left = left_behind(rt, words, grid, (7, 100), (&[], &[]));
     same(rt, "status", left.status, 0);
     let found = left.out.held().get(66..).expect(rt, "a header");

@@ -1,5 +1,5 @@
 //! Tests of what the program does, over the public calls of `lerc_cli`: grids encoded, blobs
-//! decoded and told of, bundles read, put into and built, their crashes, and the words of a command
+//! decoded and told of, bundles read, put into and built, their crashes, samples, and the words of a command
 //! line. They stand apart from `lerc_cli` so that it is proved once.
 #![tactic(auto)]
 
@@ -16,11 +16,15 @@ mod crash_tests;
 #[cfg(test)]
 mod encode_tests;
 #[cfg(test)]
+mod gate_tests;
+#[cfg(test)]
 mod info_tests;
 #[cfg(test)]
 mod put_tests;
 #[cfg(test)]
 mod same;
+#[cfg(test)]
+mod sample_tests;
 #[cfg(test)]
 mod tests;
 #[cfg(test)]

@@ -7,6 +7,7 @@ use crate::volumes::{
 };
 use outside_io::{Marks, MemVolume, VolFile, Volume};
 use std::process::Abort;
+use std::thread::Threads;
 use worked_examples::{BLOB, FOUR, GRID, STEPS, TENS};
 
 /// The words of a put without an error.
@@ -28,19 +29,19 @@ const TWO_PIXELS: [&[u8]; 4] = [LAST_SLOT, &GRID, LAST_SLOT, &GRID];
 const FOUR_TENS: [&[u8]; 2] = [LAST_SLOT, &TENS];
 
 /// Puts a tile of one pixel into the last slot.
-fn put_pixel(rt: &(impl Abort + AllocGlobal), vol: &mut MemVolume) {
+fn put_pixel(rt: &(impl Abort + AllocGlobal + Threads + Sync), vol: &mut MemVolume) {
     let done = (0, 1, b"put 127 127 66\n".as_slice(), b"".as_slice());
     fed(rt, vol, &PUT, &PIXEL, &[], done);
 }
 
 /// Puts a tile of four numbers into the last slot.
-pub(crate) fn put_tens(rt: &(impl Abort + AllocGlobal), vol: &mut MemVolume) {
+pub(crate) fn put_tens(rt: &(impl Abort + AllocGlobal + Threads + Sync), vol: &mut MemVolume) {
     let done = (0, 1, b"put 127 127 72\n".as_slice(), b"".as_slice());
     fed(rt, vol, &PUT_WITHIN_1, &FOUR_TENS, &[], done);
 }
 
 /// The commands give the tile of four numbers, which was put over the first record's.
-fn gives_tens(rt: &(impl Abort + AllocGlobal), vol: &mut MemVolume) {
+fn gives_tens(rt: &(impl Abort + AllocGlobal + Threads + Sync), vol: &mut MemVolume) {
     gives(rt, vol, &["list"], b"127 127 131210 72\n");
     gives(rt, vol, &["check"], b"tiles 1\nbytes 72\nbad 0\n");
     gives(rt, vol, &["get", "127", "127"], &FOUR);
@@ -120,7 +121,7 @@ fn three_tiles_have_one_mark(rt: HostRuntime) {
 }
 
 /// The stream of a tile of one pixel for each of the first 65 slots, and the lines of their updates.
-fn sixty_five(rt: &(impl Abort + AllocGlobal)) -> (Vec<u8>, Vec<u8>) {
+fn sixty_five(rt: &(impl Abort + AllocGlobal + Threads + Sync)) -> (Vec<u8>, Vec<u8>) {
     let mut stream = Vec::new(rt.alloc());
     let mut lines = Vec::new(rt.alloc());
     for col in 0..65u8 {
@@ -160,7 +161,7 @@ fn the_last_of_two_tiles_in_a_slot_stands(rt: HostRuntime) {
 }
 
 /// Whether a put fails at this call of the volume, and then gives no line.
-fn fails_at(rt: &(impl Abort + AllocGlobal), call: u64) -> bool {
+fn fails_at(rt: &(impl Abort + AllocGlobal + Threads + Sync), call: u64) -> bool {
     let mut vol = with_one(rt, &[call]);
     fails_alone(rt, &mut vol, &PUT_WITHIN_1, &FOUR_TENS)
 }
@@ -181,7 +182,7 @@ fn an_output_that_fails_leaves_the_tile_put(rt: HostRuntime) {
 }
 
 /// A put of these parts over a bundle is refused with this line, before a call of the volume.
-fn refused(rt: &(impl Abort + AllocGlobal), parts: &[&[u8]], line: &[u8]) {
+fn refused(rt: &(impl Abort + AllocGlobal + Threads + Sync), parts: &[&[u8]], line: &[u8]) {
     let mut vol = with_one(rt, &[]);
     fed(rt, &mut vol, &PUT, parts, &[], (2, 0, b"", line));
     same(rt, "calls of the volume", vol.moment(), 0);

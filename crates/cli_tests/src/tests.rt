@@ -11,6 +11,8 @@ use program_ends::{Arguments, words_from};
 use std::alloc::{AllocError, Global};
 use std::env::FillError;
 use std::process::Abort;
+use std::thread::Threads;
+use tile_workers::{Gate, Open};
 use worked_examples::{
     BAD_RUN, BLOB, EIGHT, GRID, MINUS_ZERO, MISCOUNTED, NO_MASK, NO_PIXEL, NO_SWEEP, NONE_VALID,
     NONE_VALID_ODD, RANGES, RUNS, RUNS_SPARE, SWEEP, TWO_ENDS, TWO_PAIRS, ZERO,
@@ -68,20 +70,46 @@ fn sink_of(alloc: Global, piece: usize, failing: &[u8], room: usize) -> Result<M
 }
 
 /// What a run answers, and the output and the error output behind it.
-fn ran<V: Volume>(
+fn ran<R: Threads + Sync, V: Volume, G: Gate>(
+    rt: &R,
     alloc: Global,
     words: &[Word],
     mut src: MemSource,
     mut out: MemSink,
     mut err: MemSink,
     vol: &mut V,
+    gate: &G,
 ) -> (Report, MemSink, MemSink) {
-    let report = run(alloc, words, &mut src, &mut out, &mut err, vol);
+    let report = run(
+        rt, alloc, words, &mut src, &mut out, &mut err, vol, gate,
+    );
     (report, out, err)
 }
 
+/// What a run over a volume and a gate answers, and the output and the error output behind it.
+pub(crate) fn told_through<R: Threads + Sync, V: Volume, G: Gate>(
+    rt: &R,
+    alloc: Global,
+    words: &[&str],
+    input: &[u8],
+    pieces: (usize, usize),
+    failing: (&[u8], &[u8]),
+    vol: &mut V,
+    gate: &G,
+) -> Result<(Report, MemSink, MemSink), AllocError>
+    requires source { 0 < pieces.0 }
+    requires output { 0 < pieces.1 }
+{
+    let words = words_of(alloc, words)?;
+    let src = source_of(alloc, input, pieces.0, failing.0)?;
+    let out = sink_of(alloc, pieces.1, failing.1, 100000)?;
+    let err = sink_of(alloc, 100, &[], 1000)?;
+    Ok(ran(rt, alloc, &words, src, out, err, vol, gate))
+}
+
 /// What a run over a volume answers, and the output and the error output behind it.
-pub(crate) fn told_over<V: Volume>(
+pub(crate) fn told_over<R: Threads + Sync, V: Volume>(
+    rt: &R,
     alloc: Global,
     words: &[&str],
     input: &[u8],
@@ -92,15 +120,12 @@ pub(crate) fn told_over<V: Volume>(
     requires source { 0 < pieces.0 }
     requires output { 0 < pieces.1 }
 {
-    let words = words_of(alloc, words)?;
-    let src = source_of(alloc, input, pieces.0, failing.0)?;
-    let out = sink_of(alloc, pieces.1, failing.1, 100000)?;
-    let err = sink_of(alloc, 100, &[], 1000)?;
-    Ok(ran(alloc, &words, src, out, err, vol))
+    told_through(rt, alloc, words, input, pieces, failing, vol, &Open)
 }
 
 /// The same, with the number of marks.
-pub(crate) fn left_over<V: Volume>(
+pub(crate) fn left_over<R: Threads + Sync, V: Volume>(
+    rt: &R,
     alloc: Global,
     words: &[&str],
     input: &[u8],
@@ -111,7 +136,7 @@ pub(crate) fn left_over<V: Volume>(
     requires source { 0 < pieces.0 }
     requires output { 0 < pieces.1 }
 {
-    let (report, out, err) = told_over(alloc, words, input, pieces, failing, vol)?;
+    let (report, out, err) = told_over(rt, alloc, words, input, pieces, failing, vol)?;
     Ok(Left {
         status: report.status,
         marks: report.marks.len(),
@@ -122,7 +147,8 @@ pub(crate) fn left_over<V: Volume>(
 
 /// Runs over a source of these bytes and an output, each with its pieces and the numbers of its
 /// failing calls.
-pub(crate) fn left_by(
+pub(crate) fn left_by<R: Threads + Sync>(
+    rt: &R,
     alloc: Global,
     words: &[&str],
     input: &[u8],
@@ -132,12 +158,12 @@ pub(crate) fn left_by(
     requires source { 0 < pieces.0 }
     requires output { 0 < pieces.1 }
 {
-    left_over(alloc, words, input, pieces, failing, &mut NoVolume::new())
+    left_over(rt, alloc, words, input, pieces, failing, &mut NoVolume::new())
 }
 
 /// The label of a run.
 fn label(
-    rt: &(impl Abort + AllocGlobal),
+    rt: &(impl Abort + AllocGlobal + Threads + Sync),
     words: &[&str],
     input: &[u8],
     pieces: (usize, usize),
@@ -152,19 +178,19 @@ fn label(
 
 /// What such a run leaves.
 pub(crate) fn left_behind(
-    rt: &(impl Abort + AllocGlobal),
+    rt: &(impl Abort + AllocGlobal + Threads + Sync),
     words: &[&str],
     input: &[u8],
     pieces: (usize, usize),
     failing: (&[u8], &[u8]),
 ) -> Left {
     assert!(rt; pieces.0 > 0 && pieces.1 > 0);
-    left_by(rt.alloc(), words, input, pieces, failing).expect(rt, "memory")
+    left_by(rt, rt.alloc(), words, input, pieces, failing).expect(rt, "memory")
 }
 
 /// Such a run leaves this status, this output, this error output and no mark.
 pub(crate) fn leaves(
-    rt: &(impl Abort + AllocGlobal),
+    rt: &(impl Abort + AllocGlobal + Threads + Sync),
     words: &[&str],
     input: &[u8],
     pieces: (usize, usize),
@@ -178,14 +204,14 @@ pub(crate) fn leaves(
 }
 
 /// A run of these words over these bytes, in any pieces, gives this output.
-pub(crate) fn gives(rt: &(impl Abort + AllocGlobal), words: &[&str], input: &[u8], output: &[u8]) {
+pub(crate) fn gives(rt: &(impl Abort + AllocGlobal + Threads + Sync), words: &[&str], input: &[u8], output: &[u8]) {
     for pieces in [(1, 1), (7, 5), (100, 100), (100, 1000)] {
         leaves(rt, words, input, pieces, (&[], &[]), (0, output, b""));
     }
 }
 
 /// A run of these words over these bytes, in any pieces, tells this line alone.
-pub(crate) fn refuses(rt: &(impl Abort + AllocGlobal), words: &[&str], input: &[u8], line: &[u8]) {
+pub(crate) fn refuses(rt: &(impl Abort + AllocGlobal + Threads + Sync), words: &[&str], input: &[u8], line: &[u8]) {
     for piece in [1, 7, 100] {
         leaves(rt, words, input, (piece, 100), (&[], &[]), (2, b"", line));
     }
@@ -193,7 +219,7 @@ pub(crate) fn refuses(rt: &(impl Abort + AllocGlobal), words: &[&str], input: &[
 
 /// The input with these bytes written over it at this place.
 fn written_over(
-    rt: &(impl Abort + AllocGlobal),
+    rt: &(impl Abort + AllocGlobal + Threads + Sync),
     input: &[u8],
     place: usize,
     bytes: &[u8],
@@ -206,7 +232,7 @@ fn written_over(
 
 /// The same where these bytes are written over the input at this place.
 pub(crate) fn refuses_with(
-    rt: &(impl Abort + AllocGlobal),
+    rt: &(impl Abort + AllocGlobal + Threads + Sync),
     words: &[&str],
     input: &[u8],
     (place, bytes, line): (usize, &[u8], &[u8]),
@@ -216,7 +242,7 @@ pub(crate) fn refuses_with(
 
 /// The same where one more byte stands behind the input.
 pub(crate) fn refuses_longer(
-    rt: &(impl Abort + AllocGlobal),
+    rt: &(impl Abort + AllocGlobal + Threads + Sync),
     words: &[&str],
     input: &[u8],
     line: &[u8],
@@ -226,14 +252,14 @@ pub(crate) fn refuses_longer(
 }
 
 /// A run over these bytes says that they are truncated at their end.
-fn refuses_cut(rt: &(impl Abort + AllocGlobal), words: &[&str], input: &[u8]) {
+fn refuses_cut(rt: &(impl Abort + AllocGlobal + Threads + Sync), words: &[&str], input: &[u8]) {
     let length = input.len();
     let line = format!(in rt.alloc(); "refused: Truncated at {length}\n");
     refuses(rt, words, input, line.expect(rt, "memory").as_bytes());
 }
 
 /// A run over any number of the first of these bytes, but not over all, says so.
-pub(crate) fn refuses_each_cut(rt: &(impl Abort + AllocGlobal), words: &[&str], input: &[u8]) {
+pub(crate) fn refuses_each_cut(rt: &(impl Abort + AllocGlobal + Threads + Sync), words: &[&str], input: &[u8]) {
     for length in 0..input.len() {
         refuses_cut(rt, words, &input[..length]);
     }
@@ -241,7 +267,7 @@ pub(crate) fn refuses_each_cut(rt: &(impl Abort + AllocGlobal), words: &[&str], 
 
 /// A run over these bytes, in pieces of 7, whose source fails at any of these calls gives nothing.
 pub(crate) fn fails_at_source(
-    rt: &(impl Abort + AllocGlobal),
+    rt: &(impl Abort + AllocGlobal + Threads + Sync),
     words: &[&str],
     input: &[u8],
     calls: &[u8],
@@ -255,7 +281,7 @@ pub(crate) fn fails_at_source(
 /// A run over these bytes whose output fails at any of its calls, each of which gives one byte of
 /// this output, has given those before.
 pub(crate) fn fails_at_output(
-    rt: &(impl Abort + AllocGlobal),
+    rt: &(impl Abort + AllocGlobal + Threads + Sync),
     words: &[&str],
     input: &[u8],
     output: &[u8],
@@ -268,7 +294,7 @@ pub(crate) fn fails_at_output(
 }
 
 /// These words are no command.
-pub(crate) fn is_no_command(rt: &(impl Abort + AllocGlobal), words: &[&str], input: &[u8]) {
+pub(crate) fn is_no_command(rt: &(impl Abort + AllocGlobal + Threads + Sync), words: &[&str], input: &[u8]) {
     leaves(rt, words, input, (100, 100), (&[], &[]), (1, b"", USAGE));
 }
 
@@ -325,7 +351,7 @@ fn a_blob_that_is_cut_is_truncated(rt: HostRuntime) {
 }
 
 /// The grid of the wide blob.
-fn wide_grid(rt: &(impl Abort + AllocGlobal)) -> Vec<u8> {
+fn wide_grid(rt: &(impl Abort + AllocGlobal + Threads + Sync)) -> Vec<u8> {
     let head = b"LGR1\x02\x64\0\0\0\x01\x01\0\0\x01\0\0\0".as_slice();
     let marks = [1].repeat(rt.alloc(), 25700).expect(rt, "memory");
     let values = [0x00, 0x80].repeat(rt.alloc(), 25700).expect(rt, "memory");
@@ -382,7 +408,7 @@ impl Arguments for ListedArguments {
 }
 
 /// These texts as arguments.
-fn arguments_of(rt: &(impl Abort + AllocGlobal), texts: &[&[u8]]) -> ListedArguments {
+fn arguments_of(rt: &(impl Abort + AllocGlobal + Threads + Sync), texts: &[&[u8]]) -> ListedArguments {
     let mut listed = Vec::new(rt.alloc());
     for text in texts {
         let text = Vec::from_slice(rt.alloc(), text).expect(rt, "memory");
@@ -400,7 +426,7 @@ fn words_are(rt: &impl Abort, words: &[Word], texts: &[&[u8]]) {
 }
 
 /// The words of a command line of these texts are those behind the second.
-fn words_are_behind_two(rt: &(impl Abort + AllocGlobal), texts: &[&[u8]]) {
+fn words_are_behind_two(rt: &(impl Abort + AllocGlobal + Threads + Sync), texts: &[&[u8]]) {
     let words = words_from(rt.alloc(), &arguments_of(rt, texts), 2).expect(rt, "memory");
     words_are(rt, &words, texts.get(2..).unwrap_or(&[]));
 }

@@ -6,6 +6,7 @@ use crate::same::same;
 use crate::tests::{Left, left_over, told_over};
 use outside_io::{Bytes, Marks, MemVolume, Piece, Start, VolFile, Volume};
 use std::process::Abort;
+use std::thread::Threads;
 use worked_examples::BLOB;
 
 /// The header of a bundle of 131,206 bytes that has one record.
@@ -30,7 +31,7 @@ pub(crate) const LAST: [&str; 4] = ["get", "127", "127", "raw"];
 pub(crate) const VOLUME_FAILED: &[u8] = b"volume failed\n";
 
 /// A file of this length that begins with these bytes.
-fn file_of(rt: &(impl Abort + AllocGlobal), len: u64, bytes: &[u8]) -> Start
+fn file_of(rt: &(impl Abort + AllocGlobal + Threads + Sync), len: u64, bytes: &[u8]) -> Start
     requires { length bytes.now ≤ len }
 {
     let mut pieces = Vec::new(rt.alloc());
@@ -41,7 +42,7 @@ fn file_of(rt: &(impl Abort + AllocGlobal), len: u64, bytes: &[u8]) -> Start
 
 /// This bundle beside this journal. The calls of these numbers fail.
 pub(crate) fn volume(
-    rt: &(impl Abort + AllocGlobal),
+    rt: &(impl Abort + AllocGlobal + Threads + Sync),
     bundle: &[u8],
     journal: &[u8],
     failing: &[u64],
@@ -53,30 +54,30 @@ pub(crate) fn volume(
 }
 
 /// Two files of no bytes.
-pub(crate) fn empty(rt: &(impl Abort + AllocGlobal)) -> MemVolume {
+pub(crate) fn empty(rt: &(impl Abort + AllocGlobal + Threads + Sync)) -> MemVolume {
     volume(rt, &[], &[], &[])
 }
 
 /// The bytes of these parts, one behind the other.
-pub(crate) fn joined(rt: &(impl Abort + AllocGlobal), parts: &[&[u8]]) -> Vec<u8> {
+pub(crate) fn joined(rt: &(impl Abort + AllocGlobal + Threads + Sync), parts: &[&[u8]]) -> Vec<u8> {
     parts.concat(rt.alloc()).expect(rt, "memory")
 }
 
 /// The entries of all slots but one, none of which has a tile.
-pub(crate) fn no_entries(rt: &(impl Abort + AllocGlobal)) -> Vec<u8> {
+pub(crate) fn no_entries(rt: &(impl Abort + AllocGlobal + Threads + Sync)) -> Vec<u8> {
     let mut index = Vec::new(rt.alloc());
     index.resize(131064, 0).expect(rt, "memory");
     index
 }
 
 /// A bundle with one record, of a blob, and this entry of the last slot.
-pub(crate) fn bundle_of(rt: &(impl Abort + AllocGlobal), entry: &[u8; 8]) -> Vec<u8> {
+pub(crate) fn bundle_of(rt: &(impl Abort + AllocGlobal + Threads + Sync), entry: &[u8; 8]) -> Vec<u8> {
     joined(rt, &[&HEADER, &no_entries(rt), entry, b"\x42\0\0\0", &BLOB])
 }
 
 /// That bundle beside this journal. The calls of these numbers fail.
 pub(crate) fn with_entry(
-    rt: &(impl Abort + AllocGlobal),
+    rt: &(impl Abort + AllocGlobal + Threads + Sync),
     entry: &[u8; 8],
     journal: &[u8],
     failing: &[u64],
@@ -85,12 +86,12 @@ pub(crate) fn with_entry(
 }
 
 /// A bundle with one tile in the last slot. The calls of these numbers fail.
-pub(crate) fn with_one(rt: &(impl Abort + AllocGlobal), failing: &[u64]) -> MemVolume {
+pub(crate) fn with_one(rt: &(impl Abort + AllocGlobal + Threads + Sync), failing: &[u64]) -> MemVolume {
     with_entry(rt, &ENTRY, &[], failing)
 }
 
 /// A bundle of no tiles that has this length, of which its header needs memory.
-pub(crate) fn long_bundle(rt: &(impl Abort + AllocGlobal), len: u64) -> MemVolume
+pub(crate) fn long_bundle(rt: &(impl Abort + AllocGlobal + Threads + Sync), len: u64) -> MemVolume
     requires { 64 ≤ len }
 {
     let bundle = file_of(rt, len, &FRESH);
@@ -104,7 +105,7 @@ pub(crate) type Wanted<'a> = (u8, usize, &'a [u8], &'a [u8]);
 
 /// Compares all that a run of these words, at this moment, left.
 fn left_is(
-    rt: &(impl Abort + AllocGlobal),
+    rt: &(impl Abort + AllocGlobal + Threads + Sync),
     words: &[&str],
     moment: u64,
     left: &Left,
@@ -115,23 +116,23 @@ fn left_is(
 }
 
 /// The label of a run of these words at this moment.
-fn label(rt: &(impl Abort + AllocGlobal), words: &[&str], moment: u64) -> String {
+fn label(rt: &(impl Abort + AllocGlobal + Threads + Sync), words: &[&str], moment: u64) -> String {
     let words = words.join(rt.alloc(), " ").expect(rt, "memory");
     format!(in rt.alloc(); "{words}, at moment {moment}").expect(rt, "memory")
 }
 
 /// What a run over a volume leaves, whose input is empty.
 pub(crate) fn over<V: Volume>(
-    rt: &(impl Abort + AllocGlobal),
+    rt: &(impl Abort + AllocGlobal + Threads + Sync),
     vol: &mut V,
     words: &[&str],
 ) -> Left {
-    left_over(rt.alloc(), words, &[], (1, 7), (&[], &[]), vol).expect(rt, "memory")
+    left_over(rt, rt.alloc(), words, &[], (1, 7), (&[], &[]), vol).expect(rt, "memory")
 }
 
 /// Such a run over what stood at this moment gives this output.
 pub(crate) fn gives_at<V: Volume>(
-    rt: &(impl Abort + AllocGlobal),
+    rt: &(impl Abort + AllocGlobal + Threads + Sync),
     vol: &mut V,
     moment: u64,
     words: &[&str],
@@ -143,7 +144,7 @@ pub(crate) fn gives_at<V: Volume>(
 
 /// Such a run leaves this.
 pub(crate) fn ends<V: Volume>(
-    rt: &(impl Abort + AllocGlobal),
+    rt: &(impl Abort + AllocGlobal + Threads + Sync),
     vol: &mut V,
     words: &[&str],
     wanted: Wanted<'_>,
@@ -154,7 +155,7 @@ pub(crate) fn ends<V: Volume>(
 
 /// Such a run gives this output.
 pub(crate) fn gives(
-    rt: &(impl Abort + AllocGlobal),
+    rt: &(impl Abort + AllocGlobal + Threads + Sync),
     vol: &mut MemVolume,
     words: &[&str],
     output: &[u8],
@@ -165,19 +166,19 @@ pub(crate) fn gives(
 /// What a run over a volume leaves whose input has these parts. The calls on its output of these
 /// numbers fail.
 fn over_parts<V: Volume>(
-    rt: &(impl Abort + AllocGlobal),
+    rt: &(impl Abort + AllocGlobal + Threads + Sync),
     vol: &mut V,
     words: &[&str],
     parts: &[&[u8]],
     failing: &[u8],
 ) -> Left {
     let input = joined(rt, parts);
-    left_over(rt.alloc(), words, &input, (7, 100), (&[], failing), vol).expect(rt, "memory")
+    left_over(rt, rt.alloc(), words, &input, (7, 100), (&[], failing), vol).expect(rt, "memory")
 }
 
 /// Such a run leaves this.
 pub(crate) fn fed<V: Volume>(
-    rt: &(impl Abort + AllocGlobal),
+    rt: &(impl Abort + AllocGlobal + Threads + Sync),
     vol: &mut V,
     words: &[&str],
     parts: &[&[u8]],
@@ -190,7 +191,7 @@ pub(crate) fn fed<V: Volume>(
 
 /// Whether such a run fails, and then by the volume alone.
 pub(crate) fn fails_alone<V: Volume>(
-    rt: &(impl Abort + AllocGlobal),
+    rt: &(impl Abort + AllocGlobal + Threads + Sync),
     vol: &mut V,
     words: &[&str],
     parts: &[&[u8]],
@@ -205,7 +206,7 @@ pub(crate) fn fails_alone<V: Volume>(
 
 /// The marks of such a run, which gives so many and this output.
 pub(crate) fn marks_of<V: Volume>(
-    rt: &(impl Abort + AllocGlobal),
+    rt: &(impl Abort + AllocGlobal + Threads + Sync),
     vol: &mut V,
     words: &[&str],
     parts: &[&[u8]],
@@ -213,7 +214,7 @@ pub(crate) fn marks_of<V: Volume>(
     output: &[u8],
 ) -> Marks {
     let input = joined(rt, parts);
-    let told = told_over(rt.alloc(), words, &input, (7, 100), (&[], &[]), vol);
+    let told = told_over(rt, rt.alloc(), words, &input, (7, 100), (&[], &[]), vol);
     let (report, out, err) = told.expect(rt, "memory");
     let found = (report.status, report.marks.len(), out.held(), err.held());
     same(
@@ -242,7 +243,7 @@ fn stands(vol: &mut MemVolume, file: VolFile, at: u64, bytes: &[u8]) -> bool {
 
 /// The file has this length, and at each of the places these bytes, 100 at most.
 pub(crate) fn holds(
-    rt: &(impl Abort + AllocGlobal),
+    rt: &(impl Abort + AllocGlobal + Threads + Sync),
     vol: &mut MemVolume,
     file: VolFile,
     len: u64,

@@ -22,17 +22,21 @@ pub fn within(word: &Word, least: u64, greatest: u64) -> Option<u64>
     }
 }
 
-/// The greatest error that a blob may have.
-const GREATEST_ERROR: u64 = 4_294_967_295;
+/// The number that the word stands for, where it is at most this one.
+pub fn up_to(word: &Word, greatest: u32) -> Option<u32>
+    ensures { (n : ℕ) → (result ≡ Some n) ↔ IsWithin word.now n 0 greatest }
+{
+    match within(word, 0, greatest.into()) {
+        Some(n) => Some(n as u32),
+        None => None,
+    }
+}
 
 /// The error that a word stands for.
 pub fn error_of(word: &Word) -> Option<u32>
     ensures { (error : ℕ) → (result ≡ Some error) ↔ IsWithin word.now error 0 4294967295 }
 {
-    match within(word, 0, GREATEST_ERROR) {
-        Some(error) => Some(error as u32),
-        None => None,
-    }
+    up_to(word, u32::MAX)
 }
 
 /// How many workers there may be.

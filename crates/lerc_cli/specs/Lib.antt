@@ -5,6 +5,7 @@ pub use Rattle.outside_io.specs.streams.Source
 pub use Rattle.lerc_header.specs.Written
 pub use Rattle.bundle_store.specs.Tiles.{TileMap}
 pub use Rattle.tile_updates.specs.Updates
+pub use Rattle.sample_tiles.specs.Sums
 pub use Rattle.program_ends.specs.Arguments
 pub use Rattle.program_ends.specs.Moves
 pub use Rattle.program_ends.specs.Stop

@@ -7,3 +7,4 @@ pub(crate) mod encode;
 pub(crate) mod get;
 pub(crate) mod info;
 pub(crate) mod put;
+pub(crate) mod sample;

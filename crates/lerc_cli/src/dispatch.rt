@@ -21,6 +21,7 @@ ghost use Rattle.lerc_cli.specs.declared.refusal.Refusal.{Refusal};
 ghost use Rattle.lerc_cli.specs.declared.words.Command.{Command};
 ghost use Rattle.lerc_cli.specs.inputs.Given.{given};
 ghost use Rattle.lerc_cli.specs.inputs.Refused.{IsBandsBlob};
+ghost use Rattle.lerc_cli.specs.inside.Spelling.{IsLawful};
 ghost use Rattle.lerc_cli.specs.run.InWords.{Builds, GivesBlobs, GivesGrid, GivesGridPrefix, GivesLines, IsGridFor, TellsFault, ToldHead};
 ghost use Rattle.lerc_cli.specs.run.Run.{OfSource, OfOutput, OfVolume, OfRun};
 ghost use Rattle.lerc_cli.specs.words.Commands.{IsSpelled, IsNoCommand, calls_volume};
@@ -32,22 +33,28 @@ use crate::commands::encode::encode;
 use crate::commands::get::{get, get_raw};
 use crate::commands::info::info;
 use crate::commands::put::put;
+use crate::commands::sample::sample;
 use crate::refusal::Refusal;
 use crate::words::{Command, USAGE, command_of};
 use outside_io::{Marks, Report, Sink, Source, Volume, Word};
 use program_ends::{Stop, ended_status};
 use std::alloc::Global;
+use std::thread::Threads;
+use tile_workers::Gate;
 
 /// Does the command.
-fn perform<S: Source, K: Sink, V: Volume>(
+fn perform<R: Threads + Sync, S: Source, K: Sink, V: Volume, G: Gate>(
+    rt: &R,
     alloc: Global,
     command: Command,
     src: &mut S,
     out: &mut K,
     vol: &mut V,
     marks: &mut Marks,
+    gate: &G,
 ) -> Result<(), Stop<Refusal>>
-    requires { marks.old.marks ≡ [] }
+    requires none { marks.old.marks ≡ [] }
+    requires lawful { IsLawful command }
     ensures source { OfSource command result (source_move S.left S.faults src.old src.new) }
     ensures output { OfOutput command
         (given (S.left src.old) (files_of (V.told vol.old) (V.history vol.old)))
@@ -65,24 +72,39 @@ fn perform<S: Source, K: Sink, V: Volume>(
         Command::Encode { version, error } => encode(alloc, version, error, src, out),
         Command::Decode => decode(alloc, src, out),
         Command::Info => info(alloc, src, out),
-        Command::Build { version, error, .. } => build(alloc, version, error, src, out, vol, marks),
-        Command::Put { version, error, .. } => put(alloc, version, error, src, out, vol, marks),
+        Command::Build {
+            version,
+            error,
+            workers,
+        } => build(
+            rt, alloc, version, error, workers, src, out, vol, marks, gate,
+        ),
+        Command::Put {
+            version,
+            error,
+            workers,
+        } => put(
+            rt, alloc, version, error, workers, src, out, vol, marks, gate,
+        ),
         Command::Get { slot } => get(alloc, slot, out, vol),
         Command::GetRaw { slot } => get_raw(alloc, slot, out, vol),
         Command::List => list(alloc, out, vol),
         Command::Check => check(alloc, out, vol),
         Command::Recover => recover(out, vol),
+        Command::Sample { start, count } => sample(rt, alloc, start, count, out, gate),
     }
 }
 
 /// Does what the words say.
-fn act<S: Source, K: Sink, V: Volume>(
+fn act<R: Threads + Sync, S: Source, K: Sink, V: Volume, G: Gate>(
+    rt: &R,
     alloc: Global,
     words: &[Word],
     src: &mut S,
     out: &mut K,
     vol: &mut V,
     marks: &mut Marks,
+    gate: &G,
 ) -> Result<(), Stop<Refusal>>
     requires { marks.old.marks ≡ [] }
     ensures usage { (result ≡ Err Stop.Usage) ↔ IsNoCommand words.now }
@@ -109,7 +131,7 @@ fn act<S: Source, K: Sink, V: Volume>(
         (record { old = K.held out.old; new = K.held out.new })) }
 {
     match command_of(words) {
-        Some(command) => perform(alloc, command, src, out, vol, marks),
+        Some(command) => perform(rt, alloc, command, src, out, vol, marks, gate),
         None => Err(Stop::Usage),
     }
 }
@@ -123,7 +145,13 @@ fn act<S: Source, K: Sink, V: Volume>(
 /// for each. `build` and `put` read tiles; `build` makes a bundle of each slot's last one in the
 /// place of an empty bundle, and `put` puts the blobs of each into its slot. `get`, `list` and
 /// `check` tell of the bundle, and `recover` of what a crash had left; these, `build` and `put`
-/// first make that whole.
+/// first make that whole. `sample` draws tiles, encodes and decodes them, and gives the lines of
+/// what they come to.
+///
+/// `build` and `put` encode by as many workers as their words say, and `sample` by four. A worker
+/// calls `gate.pass(at)` before it encodes the tile with number `at` of those that are encoded at
+/// once. Nothing of what a run leaves depends on the workers and the gate, but which of several
+/// refusals of a machine, as of memory, is answered.
 ///
 /// | status | it comes |
 /// |---|---|
@@ -139,13 +167,15 @@ fn act<S: Source, K: Sink, V: Volume>(
 /// On a status other than 0 one line is given to `err`. The faults of `err` change nothing. Each
 /// tile that a `put` was told is there has a mark, the moment of that, and each tile of a bundle
 /// that was built has one, the moment of its end; nothing else has one.
-pub fn run<S: Source, K: Sink, E: Sink, V: Volume>(
+pub fn run<R: Threads + Sync, S: Source, K: Sink, E: Sink, V: Volume, G: Gate>(
+    rt: &R,
     alloc: Global,
     words: &[Word],
     src: &mut S,
     out: &mut K,
     err: &mut E,
     vol: &mut V,
+    gate: &G,
 ) -> Report
     // The words come first.
     ensures usage { (result.status ≡ 1) ↔ IsNoCommand words.now }
@@ -248,7 +278,7 @@ pub fn run<S: Source, K: Sink, E: Sink, V: Volume>(
         → result.status ≢ 0 → result.status ≢ 4 → out.new ≡ out.old }
 {
     let mut marks = Marks::new(alloc);
-    let ended = act(alloc, words, src, out, vol, &mut marks);
+    let ended = act(rt, alloc, words, src, out, vol, &mut marks, gate);
     let status = ended_status(USAGE, &ended, err);
     Report { status, marks }
 }

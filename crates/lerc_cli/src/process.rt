@@ -15,17 +15,21 @@ use outside_io::{Sink, Source, Volume};
 use program_ends::{Arguments, end_without_memory, exit_code, words_from};
 use std::alloc::Global;
 use std::process::ExitCode;
+use std::thread::Threads;
+use tile_workers::Gate;
 
 /// The program over what gives its arguments and over its objects: a run of the words behind the
 /// program's name and the bundle's path. Where memory for these words is refused, the line of that
 /// is all that it gives.
-pub fn serve<A: Arguments, S: Source, K: Sink, E: Sink, V: Volume>(
+pub fn serve<R: Threads + Sync, A: Arguments, S: Source, K: Sink, E: Sink, V: Volume, G: Gate>(
+    rt: &R,
     alloc: Global,
     args: &A,
     src: &mut S,
     out: &mut K,
     err: &mut E,
     vol: &mut V,
+    gate: &G,
 ) -> ExitCode
     ensures usage { (texts : List (List ℕ)) → A.texts args.now ≡ Some texts
         → IsNoCommand (drop 2 texts) → (exit_status result ≡ 1) ⊎ (exit_status result ≡ 6) }
@@ -46,7 +50,7 @@ pub fn serve<A: Arguments, S: Source, K: Sink, E: Sink, V: Volume>(
         (sink_move E.held E.faults err.old err.new)) }
 {
     match words_from(alloc, args, 2) {
-        Ok(words) => exit_code(run(alloc, &words, src, out, err, vol).status),
+        Ok(words) => exit_code(run(rt, alloc, &words, src, out, err, vol, gate).status),
         Err(_) => end_without_memory(err),
     }
 }

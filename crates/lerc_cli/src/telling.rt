@@ -2,3 +2,4 @@
 
 pub(crate) mod outline;
 pub(crate) mod refusals;
+pub(crate) mod samples;

@@ -2,15 +2,15 @@
 
 ghost use Rattle.std.specs.Prelude.{◌≡◌, ◌↔◌, ◌∷◌, [], Some};
 ghost use Rattle.lerc_cli.specs.declared.words.Command.{Command};
-ghost use Rattle.lerc_cli.specs.inside.Spelling.{IsBuild, IsEncode, IsGet, IsGetRaw, IsPut};
+ghost use Rattle.lerc_cli.specs.inside.Spelling.{IsBuild, IsEncode, IsGet, IsGetRaw, IsPut, IsSample};
 ghost use Rattle.lerc_cli.specs.words.Commands.{IsSpelled};
 
 use bundle_index::Slot;
-use command_words::{error_of, has_text, slot_of, version_of, workers_of};
+use command_words::{error_of, has_text, slot_of, up_to, version_of, workers_of};
 use lerc_header::Version;
 use outside_io::Word;
 
-/// What is told where the words are no command: the commands that there are and will be.
+/// What is told where the words are no command: the commands that there are.
 pub const USAGE: &[u8] =
     b"usage: PATH encode V E, decode, info, build V E N, put V E N, get R C, get R C raw, list, \
     check, recover, sample START COUNT";
@@ -56,6 +56,12 @@ pub enum Command {
     Check,
     /// Makes whole what a crash left, and gives the line of what that was.
     Recover,
+    /// Draws so many tiles, encodes and decodes them, and gives the lines of what they come to. They
+    /// are drawn from the start on.
+    Sample {
+        start: u32,
+        count: u32,
+    },
 }
 
 /// The command `encode` of a version's word and an error's.
@@ -113,6 +119,18 @@ fn get_raw_of(row: &Word, col: &Word) -> Option<Command>
     Some(Command::GetRaw { slot })
 }
 
+/// How many tiles a sample may have.
+const MOST_TILES: u32 = 4096;
+
+/// The command `sample` of a start's word and that of a number of tiles.
+fn sample_of(start: &Word, count: &Word) -> Option<Command>
+    ensures { (c : Command) → (result ≡ Some c) ↔ IsSample start.now count.now c }
+{
+    let start = up_to(start, u32::MAX)?;
+    let count = up_to(count, MOST_TILES)?;
+    Some(Command::Sample { start, count })
+}
+
 /// The command of one word.
 fn plain_of(word: &Word) -> Option<Command>
     ensures { (c : Command) → (result ≡ Some c) ↔ IsSpelled c (word.now ∷ []) }
@@ -145,6 +163,9 @@ fn with_two(name: &Word, first: &Word, second: &Word) -> Option<Command>
     }
     if has_text(name, b"get") {
         return get_of(first, second);
+    }
+    if has_text(name, b"sample") {
+        return sample_of(first, second);
     }
     None
 }

@@ -6,6 +6,7 @@ use lerc_cli::serve;
 use outside_io::{FileVolume, NoVolume, StdSink, StdSource, hold_numbers};
 use program_ends::{ProcessArguments, end_without_memory, paths_at};
 use std::process::ExitCode;
+use tile_workers::Open;
 
 fn main(rt: HostRuntime) -> ExitCode {
     let alloc = rt.alloc();
@@ -18,11 +19,15 @@ fn main(rt: HostRuntime) -> ExitCode {
     match paths_at(alloc, &args, 1) {
         Ok(Some(paths)) if held.is_some() => {
             let mut vol = FileVolume::new(rt, paths.bundle, paths.journal);
-            serve(alloc, &args, &mut src, &mut out, &mut err, &mut vol)
+            serve(
+                &rt, alloc, &args, &mut src, &mut out, &mut err, &mut vol, &Open,
+            )
         }
         Ok(_) => {
             let mut vol = NoVolume::new();
-            serve(alloc, &args, &mut src, &mut out, &mut err, &mut vol)
+            serve(
+                &rt, alloc, &args, &mut src, &mut out, &mut err, &mut vol, &Open,
+            )
         }
         Err(_) => end_without_memory(&mut err),
     }

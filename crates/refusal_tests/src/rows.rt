@@ -29,7 +29,7 @@ fn with_one(alloc: Global) -> Result<MemVolume, AllocError> {
 #[test]
 fn a_blob_is_decoded(rt: HostRuntime) -> Result<(), AllocError> {
     let mut vol = volume(rt.alloc(), &[])?;
-    let left = run_over(rt.alloc(), &["decode"], &BLOB, &mut vol)?;
+    let left = run_over(&rt, rt.alloc(), &["decode"], &BLOB, &mut vol)?;
     gave_or_wanted(&rt, &left, &GRID);
     Ok(())
 }
@@ -37,7 +37,7 @@ fn a_blob_is_decoded(rt: HostRuntime) -> Result<(), AllocError> {
 #[test]
 fn a_grid_is_encoded(rt: HostRuntime) -> Result<(), AllocError> {
     let mut vol = volume(rt.alloc(), &[])?;
-    let left = run_over(rt.alloc(), &["encode", "3", "1"], &TENS, &mut vol)?;
+    let left = run_over(&rt, rt.alloc(), &["encode", "3", "1"], &TENS, &mut vol)?;
     gave_or_wanted(&rt, &left, &STEPS);
     Ok(())
 }
@@ -47,7 +47,7 @@ fn a_tile_is_put_into_nothing(rt: HostRuntime) -> Result<(), AllocError> {
     let alloc = rt.alloc();
     let input = [b"T\x7f\x7f".as_slice(), &GRID].concat(alloc)?;
     let mut vol = volume(alloc, &[])?;
-    let left = run_over(alloc, &["put", "3", "0", "1"], &input, &mut vol)?;
+    let left = run_over(&rt, alloc, &["put", "3", "0", "1"], &input, &mut vol)?;
     if gave_or_wanted(&rt, &left, b"put 127 127 66\n") {
         return gives(&rt, alloc, &LAST, &mut vol, &BLOB);
     }
@@ -59,7 +59,7 @@ fn a_tile_is_put_for_another(rt: HostRuntime) -> Result<(), AllocError> {
     let alloc = rt.alloc();
     let input = [b"T\x7f\x7f".as_slice(), &TENS].concat(alloc)?;
     let mut vol = with_one(alloc)?;
-    let left = run_over(alloc, &["put", "3", "1", "1"], &input, &mut vol)?;
+    let left = run_over(&rt, alloc, &["put", "3", "1", "1"], &input, &mut vol)?;
     if gave_or_wanted(&rt, &left, b"put 127 127 72\n") {
         return gives(&rt, alloc, &LAST, &mut vol, &STEPS);
     }
@@ -87,9 +87,18 @@ fn a_bundle_is_built(rt: HostRuntime) -> Result<(), AllocError> {
     let alloc = rt.alloc();
     let input = [b"T\0\0".as_slice(), &GRID, b"T\0\0", &NO_PIXEL].concat(alloc)?;
     let mut vol = volume(alloc, &[])?;
-    let left = run_over(alloc, &["build", "3", "0", "2"], &input, &mut vol)?;
+    let left = run_over(&rt, alloc, &["build", "3", "0", "2"], &input, &mut vol)?;
     if gave_or_wanted(&rt, &left, b"built 1 131206\n") {
         return gives(&rt, alloc, &["list"], &mut vol, b"0 0 131140 66\n");
     }
     all_recover(&rt, alloc, &vol, &["list"], b"")
+}
+
+#[test]
+fn a_sample_is_drawn(rt: HostRuntime) -> Result<(), AllocError> {
+    let mut vol = volume(rt.alloc(), &[])?;
+    let left = run_over(&rt, rt.alloc(), &["sample", "7", "2"], &[], &mut vol)?;
+    let lines = b"tiles 2\nbytes 6545\nworst 1\nsum 514240657\n";
+    gave_or_wanted(&rt, &left, lines);
+    Ok(())
 }

@@ -6,6 +6,8 @@ use lerc_cli::run;
 use outside_io::{Bytes, MemSink, MemSource, MemVolume, Pick, Piece, Start, Volume, Word};
 use std::alloc::{AllocError, Global};
 use std::process::Abort;
+use std::thread::Threads;
+use tile_workers::Open;
 
 /// These words.
 fn words_of(alloc: Global, words: &[&str]) -> Result<Vec<Word>, AllocError> {
@@ -41,7 +43,8 @@ pub(crate) struct Ending {
 }
 
 /// What a run of these words over this input and this volume leaves.
-pub(crate) fn run_over<V: Volume>(
+pub(crate) fn run_over<R: Threads + Sync, V: Volume>(
+    rt: &R,
     alloc: Global,
     words: &[&str],
     input: &[u8],
@@ -51,7 +54,7 @@ pub(crate) fn run_over<V: Volume>(
     let mut src = MemSource::new(Bytes::of(alloc, input)?, 7, Bytes::of(alloc, &[])?);
     let mut out = MemSink::new(alloc, 100, Bytes::of(alloc, &[])?, 1000)?;
     let mut err = MemSink::new(alloc, 100, Bytes::of(alloc, &[])?, 1000)?;
-    let report = run(alloc, &words, &mut src, &mut out, &mut err, vol);
+    let report = run(rt, alloc, &words, &mut src, &mut out, &mut err, vol, &Open);
     Ok(Ending {
         status: report.status,
         out,
@@ -71,20 +74,20 @@ pub(crate) fn gave_or_wanted(rt: &impl Abort, left: &Ending, output: &[u8]) -> b
 
 /// A run of these words over a volume gives this output, or none for want of memory.
 pub(crate) fn gives(
-    rt: &impl Abort,
+    rt: &(impl Abort + Threads + Sync),
     alloc: Global,
     words: &[&str],
     vol: &mut MemVolume,
     output: &[u8],
 ) -> Result<(), AllocError> {
-    let left = run_over(alloc, words, &[], vol)?;
+    let left = run_over(rt, alloc, words, &[], vol)?;
     gave_or_wanted(rt, &left, output);
     Ok(())
 }
 
 /// One image of a moment, recovered, gives this output of these words.
 fn recovers(
-    rt: &impl Abort,
+    rt: &(impl Abort + Threads + Sync),
     alloc: Global,
     vol: &MemVolume,
     moment: u64,
@@ -94,7 +97,7 @@ fn recovers(
 ) -> Result<(), AllocError> {
     assert!(rt; moment <= vol.moment());
     let mut crashed = vol.crash(alloc, moment, pick)?;
-    let recovered = run_over(alloc, &["recover"], &[], &mut crashed)?;
+    let recovered = run_over(rt, alloc, &["recover"], &[], &mut crashed)?;
     assert!(rt; recovered.status == 0);
     gives(rt, alloc, words, &mut crashed, output)
 }
@@ -102,7 +105,7 @@ fn recovers(
 /// Each image of each moment, recovered, gives this output of these words: of the files as last
 /// synced, as read, and torn.
 pub(crate) fn all_recover(
-    rt: &impl Abort,
+    rt: &(impl Abort + Threads + Sync),
     alloc: Global,
     vol: &MemVolume,
     words: &[&str],

@@ -7,16 +7,18 @@ use Rattle.lerc_header.specs.declared.header.Version.{Version}
 use Rattle.lerc_header.specs.Written.{step_of}
 use Rattle.lerc_encode.specs.Choice.{chosen_bands}
 use Rattle.lerc_cli.specs.declared.words.Command.{Command}
-use Rattle.lerc_cli.specs.declared.words.Command.TheVariants.{Encode, Decode, Info, Build, Put, Get, GetRaw, List as ListAll, Check, Recover}
+use Rattle.lerc_cli.specs.declared.words.Command.TheVariants.{Encode, Decode, Info, Build, Put, Get, GetRaw, List as ListAll, Check, Recover, Sample}
 use Rattle.lerc_cli.specs.declared.refusal.Fault.{Fault}
 use Rattle.program_ends.specs.declared.stop.Stop.TheVariants.{Refused}
 use Rattle.lerc_cli.specs.declared.refusal.Refusal.TheVariants.{Input, Store, Stream}
 use Rattle.std.specs.List.{flat_map}
 use Rattle.lerc_cli.specs.answers.Outline.{AreOutlines, outline_lines}
+use Rattle.lerc_cli.specs.answers.Samples.{sums_lines}
+use Rattle.sample_tiles.proofs.Once.{sums_once}
 use Rattle.opened_bundle.specs.declared.refusal.StoreRefusal.{StoreRefusal}
 use Rattle.lerc_cli.specs.answers.Table.{AnswersOnce, Answers}
 use Rattle.opened_bundle.specs.Files.{Files}
-use Rattle.lerc_cli.specs.inputs.Given.{given}
+use Rattle.lerc_cli.specs.inputs.Given.{Given, given}
 use Rattle.lerc_cli.specs.inputs.Refused.{band_reason_of}
 use Rattle.lerc_cli.proofs.AnswerLemmas.Answered.{Once, once_of, refused, well}
 use Rattle.opened_bundle.proofs.OneBundle.{done_or_refused, one_done, one_missing, one_opening, one_tile, one_unrecovered, recovered_or_opening, same_report, tile_or_missing}
@@ -171,6 +173,20 @@ recover_once input f n m (refused (Stream r)) other output another a b = absurd 
 recover_once input f n m well (refused (Stream s)) output another a b = absurd b.0
 recover_once input f n m (refused (Store r)) (refused (Stream s)) output another a b = absurd b.0
 
+-- what a command answers that reads neither
+sample_once : (first count : ℕ) (g : Given) → Once (Sample first count) g
+sample_once first count g n m well well output another a b = (refl, a.1.1 ∙ ap sums_lines (sums_once first count a.0 b.0 a.1.0 b.1.0) ∙ sym b.1.1)
+sample_once first count g n m well (refused (Input f)) output another a b = absurd b.0
+sample_once first count g n m well (refused (Store r)) output another a b = absurd b.0
+sample_once first count g n m well (refused (Stream r)) output another a b = absurd b.0
+sample_once first count g n m (refused (Input f)) other output another a b = absurd a.0
+sample_once first count g n m (refused (Store r)) other output another a b = absurd a.0
+sample_once first count g n m (refused (Stream r)) other output another a b = absurd a.0
+
+sample_answer : (first count : ℕ) → AnswersOnce (Sample first count)
+sample_answer first count g n m end other output another tells one two a b =
+    once_of (Sample first count) g (sample_once first count g) n m end other output another one two a b
+
 -- what a command answers that reads both, where all is told
 abbrev BothOnce : Command → Type 0
 BothOnce c = (input : List ℕ) (f : Files) → Once c (given (Some input) (Some f))
@@ -194,3 +210,4 @@ answers_once (GetRaw slot) = from_bundle (GetRaw slot) (search rules) (raw_once 
 answers_once ListAll = from_bundle ListAll (search rules) list_once
 answers_once Check = from_bundle Check (search rules) check_once
 answers_once Recover = from_bundle Recover (search rules) recover_once
+answers_once (Sample first count) = sample_answer first count

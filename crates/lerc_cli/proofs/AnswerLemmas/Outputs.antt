@@ -7,7 +7,7 @@ use Rattle.outside_io.specs.streams.Source.{IsAtEnd}
 use Rattle.outside_io.proofs.StreamLemmas.Gives.{Holds_none}
 use Rattle.program_ends.specs.Moves.{Change, SinkMove, SourceMove, sink_move}
 use Rattle.lerc_cli.specs.declared.words.Command.{Command}
-use Rattle.lerc_cli.specs.declared.words.Command.TheVariants.{Encode, Decode, Info, Build, Put, Get, GetRaw, List as ListAll, Check, Recover}
+use Rattle.lerc_cli.specs.declared.words.Command.TheVariants.{Encode, Decode, Info, Build, Put, Get, GetRaw, List as ListAll, Check, Recover, Sample}
 use Rattle.opened_bundle.specs.declared.refusal.StoreRefusal.{StoreRefusal}
 use Rattle.lerc_cli.specs.declared.refusal.StreamRefusal.{StreamRefusal}
 use Rattle.program_ends.specs.declared.stop.Stop.{Stop}
@@ -101,6 +101,7 @@ no_store (GetRaw slot) g n r calls is = cc
 no_store ListAll g n r calls is = cc
 no_store Check g n r calls is = cc
 no_store Recover g n r calls is = cc
+no_store (Sample first count) g n r calls is = is
 
 -- nor does its input have too many tiles, or one too large
 no_stream : (c : Command) (g : Given) (n : ℕ) (r : StreamRefusal) → IsFalse (calls_volume c) → IsRefusal c g n (Refused (Stream r)) → ⊥
@@ -114,6 +115,7 @@ no_stream (GetRaw slot) g n r calls is = cc
 no_stream ListAll g n r calls is = cc
 no_stream Check g n r calls is = cc
 no_stream Recover g n r calls is = cc
+no_stream (Sample first count) g n r calls is = is
 
 pub nothing_given : (c : Command) (g : Given) (n status : ℕ) (end : End) (sink : SinkMove)
     → IsFalse (calls_volume c) → status ≡ status_at end → status ≢ 0 → status ≢ 4 → OfOutput c g n end sink → sink.same

@@ -11,7 +11,7 @@ use Rattle.bundle_store.specs.Images.{StandsFor}
 use Rattle.bundle_store.specs.Tiles.{TileMap}
 use Rattle.bundle_lines.specs.Puts.{marked}
 use Rattle.lerc_cli.specs.declared.words.Command.{Command}
-use Rattle.lerc_cli.specs.declared.words.Command.TheVariants.{Encode, Decode, Info, Build, Put, Get, GetRaw, List as ListAll, Check, Recover}
+use Rattle.lerc_cli.specs.declared.words.Command.TheVariants.{Encode, Decode, Info, Build, Put, Get, GetRaw, List as ListAll, Check, Recover, Sample}
 use Rattle.opened_bundle.specs.Files.{Files}
 use Rattle.lerc_cli.specs.inputs.Given.{Given}
 use Rattle.lerc_cli.specs.answers.Table.{UpdatesOf}
@@ -55,6 +55,7 @@ module _ (g : Given) (end : End) (us : List TileRec) (marks : List ℕ) (start :
   stands_cut ListAll at kept = stands_same ListAll (λ is. is) at kept
   stands_cut Check at kept = stands_same Check (λ is. is) at kept
   stands_cut Recover at kept = stands_same Recover (λ is. is) at kept
+  stands_cut (Sample first count) at kept = stands_same (Sample first count) (λ is. is) at kept
 
 ready_for : (files : Files) (r : CutRun) (start : TileMap) → StandsFor files.bundle files.journal start → IsCutRun files r → IsReady r.told r.old start
 ready_for files r start stands is = record {

@@ -9,7 +9,7 @@ use Rattle.bundle_store.specs.Images.{EachImage, Shows, StandsFor}
 use Rattle.bundle_store.specs.Tiles.{TileMap}
 use Rattle.program_ends.specs.Moves.{SinkMove, VolumeMove, source_move, volume_move}
 use Rattle.lerc_cli.specs.declared.words.Command.{Command}
-use Rattle.lerc_cli.specs.declared.words.Command.TheVariants.{Encode, Decode, Info, Build, Put, Get, GetRaw, List as ListAll, Check, Recover}
+use Rattle.lerc_cli.specs.declared.words.Command.TheVariants.{Encode, Decode, Info, Build, Put, Get, GetRaw, List as ListAll, Check, Recover, Sample}
 use Rattle.program_ends.specs.declared.stop.Stop.TheVariants.{Usage, Refused, Source, Output, Volume, OutOfMemory}
 use Rattle.lerc_cli.specs.declared.refusal.Refusal.TheVariants.{Input, Store, Stream}
 use Rattle.lerc_cli.specs.words.Commands.{reads_source, calls_volume, makes_updates}
@@ -88,6 +88,7 @@ keeps_without_marks (GetRaw slot) us start told old new ready kept = kept
 keeps_without_marks ListAll us start told old new ready kept = kept
 keeps_without_marks Check us start told old new ready kept = kept
 keeps_without_marks Recover us start told old new ready kept = kept
+keeps_without_marks (Sample first count) us start told old new ready kept = kept
 
 -- a command that makes no updates has none
 no_updates : (c : Command) (g : Given) → IsFalse (makes_updates c) → UpdatesOf c g []
@@ -101,6 +102,7 @@ no_updates (GetRaw slot) g none = refl
 no_updates ListAll g none = refl
 no_updates Check g none = refl
 no_updates Recover g none = refl
+no_updates (Sample first count) g none = refl
 
 -- and leaves the bundle as it is recovered
 same_bundle : (c : Command) (end : End) (b : List ℕ) (us : List TileRec) → IsFalse (makes_updates c) → bundle_after c end b us ≡ b
@@ -114,6 +116,7 @@ same_bundle (GetRaw slot) end b us none = refl
 same_bundle ListAll end b us none = refl
 same_bundle Check end b us none = refl
 same_bundle Recover end b us none = refl
+same_bundle (Sample first count) end b us none = refl
 
 -- a command that does not call the volume is early, and one that makes updates calls it
 early_all : (c : Command) (end : End) → IsFalse (calls_volume c) → IsTrue (is_early c end)
@@ -127,6 +130,7 @@ early_all (GetRaw slot) end idle = absurd (let bad : ⊥ = cc in bad)
 early_all ListAll end idle = absurd (let bad : ⊥ = cc in bad)
 early_all Check end idle = absurd (let bad : ⊥ = cc in bad)
 early_all Recover end idle = absurd (let bad : ⊥ = cc in bad)
+early_all (Sample first count) end idle = search rules
 
 never_early : (c : Command) (end : End) → IsTrue (calls_volume c) → IsFalse (makes_updates c) → IsTrue (is_early c end) → ⊥
 never_early (Encode version error) end calls none early = cc
@@ -139,6 +143,7 @@ never_early (GetRaw slot) end calls none early = cc
 never_early ListAll end calls none early = cc
 never_early Check end calls none early = cc
 never_early Recover end calls none early = cc
+never_early (Sample first count) end calls none early = cc
 
 idle_makes : (c : Command) → IsFalse (calls_volume c) → IsFalse (makes_updates c)
 idle_makes (Encode version error) idle = refl
@@ -151,6 +156,7 @@ idle_makes (GetRaw slot) idle = refl
 idle_makes ListAll idle = refl
 idle_makes Check idle = refl
 idle_makes Recover idle = refl
+idle_makes (Sample first count) idle = refl
 
 -- there are no marks
 pub none_at : (c : Command) (moment : ℕ) → MarksAt c [] moment
@@ -164,6 +170,7 @@ none_at (GetRaw slot) moment = tt
 none_at ListAll moment = tt
 none_at Check moment = tt
 none_at Recover moment = tt
+none_at (Sample first count) moment = tt
 
 -- the volume was not touched, and the end makes no updates
 pub untouched : (c : Command) (g : Given) (end : End) (V : Type 0) (told : V → Bool) (history : V → History) (faults : V → ℕ) (vol : V)
@@ -201,6 +208,7 @@ memory (GetRaw slot) same P p = p
 memory ListAll same P p = p
 memory Check same P p = p
 memory Recover same P p = p
+memory (Sample first count) same P p = p
 
 answers : (end : End) (c : Command) (same P : Type 0) → ((end ≡ Err Volume → ⊥) → P) → OnAnswer end c same P
 answers (Ok x) c same P p = p (λ is. cc)
@@ -243,6 +251,7 @@ untaken (GetRaw slot) left idle = refl
 untaken ListAll left idle = refl
 untaken Check left idle = refl
 untaken Recover left idle = refl
+untaken (Sample first count) left idle = refl
 
 -- the source of a command that does not read it
 pub source_idle : (c : Command) (g : Given) (n : ℕ) (end : End) (sink : SinkMove) (S : Type 0) (left : S → Option (List ℕ)) (faults : S → ℕ) (src : S)

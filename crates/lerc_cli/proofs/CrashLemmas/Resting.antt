@@ -11,7 +11,7 @@ use Rattle.bundle_lines.specs.declared.stop.PutStop.TheVariants.{Output as PutOu
 use Rattle.bundle_lines.specs.Gave.{LineEnd, PutEnd, UnlessVolume}
 use Rattle.program_ends.specs.Moves.{VolumeMove}
 use Rattle.lerc_cli.specs.declared.words.Command.{Command}
-use Rattle.lerc_cli.specs.declared.words.Command.TheVariants.{Encode, Decode, Info, Build, Put, Get, GetRaw, List as ListAll, Check, Recover}
+use Rattle.lerc_cli.specs.declared.words.Command.TheVariants.{Encode, Decode, Info, Build, Put, Get, GetRaw, List as ListAll, Check, Recover, Sample}
 use Rattle.program_ends.specs.declared.stop.Stop.{Stop}
 use Rattle.lerc_cli.specs.declared.refusal.Refusal.{Refusal}
 use Rattle.lerc_cli.specs.words.Commands.{calls_volume}
@@ -85,6 +85,7 @@ late (GetRaw slot) calls = (refl, refl)
 late ListAll calls = (refl, refl)
 late Check calls = (refl, refl)
 late Recover calls = (refl, refl)
+late (Sample first count) calls = absurd (let bad : ⊥ = cc in bad)
 
 module _ (c : Command) (g : Given) (end : End) (marks : List ℕ) (vol : VolumeMove) where
   abbrev RestsAs : End → Type 0

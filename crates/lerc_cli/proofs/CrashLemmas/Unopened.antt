@@ -7,7 +7,7 @@ use Rattle.bundle_store.specs.declared.tile_rec.TileRec.{TileRec}
 use Rattle.bundle_lines.proofs.Marked.{no_marks}
 use Rattle.program_ends.specs.Moves.{VolumeMove, volume_move}
 use Rattle.lerc_cli.specs.declared.words.Command.{Command}
-use Rattle.lerc_cli.specs.declared.words.Command.TheVariants.{Encode, Decode, Info, Build, Put, Get, GetRaw, List as ListAll, Check, Recover}
+use Rattle.lerc_cli.specs.declared.words.Command.TheVariants.{Encode, Decode, Info, Build, Put, Get, GetRaw, List as ListAll, Check, Recover, Sample}
 use Rattle.opened_bundle.specs.declared.refusal.StoreRefusal.{StoreRefusal}
 use Rattle.opened_bundle.specs.declared.refusal.StoreRefusal.TheVariants.{NoTile, Beyond, BadBundle, BadJournal, NotEmpty, Full}
 use Rattle.program_ends.specs.declared.stop.Stop.{Stop}
@@ -36,6 +36,7 @@ refused_bundle (GetRaw slot) r b = refl
 refused_bundle ListAll r b = refl
 refused_bundle Check r b = refl
 refused_bundle Recover r b = refl
+refused_bundle (Sample first count) r b = refl
 
 memory_bundle : (c : Command) (b : List ℕ) → bundle_after c (Err OutOfMemory) b [] ≡ b
 memory_bundle (Encode version error) b = refl
@@ -48,6 +49,7 @@ memory_bundle (GetRaw slot) b = refl
 memory_bundle ListAll b = refl
 memory_bundle Check b = refl
 memory_bundle Recover b = refl
+memory_bundle (Sample first count) b = refl
 
 -- no update is done where memory was refused
 pub none_wanted : (c : Command) (g : Given) → UpdatesAt c g (Err OutOfMemory) []
@@ -64,6 +66,7 @@ still_wanted (GetRaw slot) same P makes is = absurd (let bad : ⊥ = cc in bad)
 still_wanted ListAll same P makes is = absurd (let bad : ⊥ = cc in bad)
 still_wanted Check same P makes is = absurd (let bad : ⊥ = cc in bad)
 still_wanted Recover same P makes is = absurd (let bad : ⊥ = cc in bad)
+still_wanted (Sample first count) same P makes is = absurd (let bad : ⊥ = cc in bad)
 
 -- memory was refused before the volume was called
 pub memory_still : (c : Command) (g : Given) (V : Type 0) (told : V → Bool) (history : V → History) (faults : V → ℕ) (vol : V) → IsTrue (makes_updates c) → OfVolume c g (Err OutOfMemory) [] (volume_move told history faults vol vol)
@@ -98,6 +101,7 @@ late (GetRaw slot) makes = absurd (let bad : ⊥ = cc in bad)
 late ListAll makes = absurd (let bad : ⊥ = cc in bad)
 late Check makes = absurd (let bad : ⊥ = cc in bad)
 late Recover makes = absurd (let bad : ⊥ = cc in bad)
+late (Sample first count) makes = absurd (let bad : ⊥ = cc in bad)
 
 module _ (c : Command) (g : Given) (vol : VolumeMove) where
   -- the store refuses before the first update

@@ -3,10 +3,10 @@ use Rattle.std.proofs.Common.{◌≡◌, ◌⊎◌, inl, inr, ℕ, ◌<◌, ◌�
 use Rattle.lerc_header.specs.declared.header.Version.{Version}
 use Rattle.command_words.proofs.OneWord.{one_number, one_slot, one_version}
 use Rattle.lerc_cli.specs.declared.words.Command.{Command}
-use Rattle.lerc_cli.specs.declared.words.Command.TheVariants.{Encode, Decode, Info, Build, Put, Get, GetRaw, List as ListAll, Check, Recover}
+use Rattle.lerc_cli.specs.declared.words.Command.TheVariants.{Encode, Decode, Info, Build, Put, Get, GetRaw, List as ListAll, Check, Recover, Sample}
 use Rattle.command_words.specs.Words.{AreSlotWords, IsVersionWord, IsWithin}
 use Rattle.lerc_cli.specs.words.Commands.{IsSpelled, SpellsOne}
-use Rattle.lerc_cli.specs.inside.Spelling.{IsBuild, IsEncode, IsGet, IsGetRaw, IsOfTiles, IsPut}
+use Rattle.lerc_cli.specs.inside.Spelling.{IsBuild, IsEncode, IsGet, IsGetRaw, IsLawful, IsOfTiles, IsPut, IsSample}
 
 -- ---- one command of two words
 
@@ -54,6 +54,26 @@ pub encode_none : (v e : List ℕ) (found : Option Command) → found ≡ None �
 encode_none v e found is never c = (
   λ same. absurd (let other = sym is ∙ same in cc),
   λ s. absurd (never s.0 s.1.0 s.1.1.1 s.1.1.2),
+)
+
+pub one_sample : (u v w x : List ℕ) (s t n m : ℕ) → u ≡ v → w ≡ x → IsWithin u s 0 4294967295 → IsWithin v t 0 4294967295 → IsWithin w n 0 4096 → IsWithin x m 0 4096 → Sample s n ≡ Sample t m
+one_sample u v w x s t n m same equal us vt wn xm =
+    let start = one_number u v s t same us.0 vt.0 in
+    let count = one_number w x n m equal wn.0 xm.0 in
+    λ i. Sample (start i) (count i)
+
+pub sample_some : (u w : List ℕ) (start count : ℕ) → IsWithin u start 0 4294967295 → IsWithin w count 0 4096
+    → (c : Command) → (◌≡◌ {A = Option Command} (Some (Sample start count)) (Some c)) ↔ IsSample u w c
+sample_some u w start count is within c = (
+  λ same. (start, count, ((let here : c ≡ Sample start count = cc in here), is, within)),
+  λ s. ap Some (one_sample u u w w start s.0 count s.1 refl refl is s.2.1 within s.2.2 ∙ sym s.2.0),
+)
+
+pub sample_none : (u w : List ℕ) (found : Option Command) → found ≡ None → ((start count : ℕ) → IsWithin u start 0 4294967295 → IsWithin w count 0 4096 → ⊥)
+    → (c : Command) → (found ≡ Some c) ↔ IsSample u w c
+sample_none u w found is never c = (
+  λ same. absurd (let other = sym is ∙ same in cc),
+  λ s. absurd (never s.0 s.1 s.2.1 s.2.2),
 )
 
 -- ---- words spell one command
@@ -191,6 +211,31 @@ spells_one (Build a e w) Recover words one other = absurd (let same : ◌≡◌ 
 spells_one (Put a e w) Recover words one other = absurd (let same : ◌≡◌ {A = ℕ} 4 1 = ap length (sym one.3.0 ∙ other) in omega (arith, same))
 spells_one Recover (Build b f x) words one other = absurd (let same : ◌≡◌ {A = ℕ} 1 4 = ap length (sym one ∙ other.3.0) in omega (arith, same))
 spells_one Recover (Put b f x) words one other = absurd (let same : ◌≡◌ {A = ℕ} 1 4 = ap length (sym one ∙ other.3.0) in omega (arith, same))
+spells_one (Sample s n) (Encode b f) words one other = absurd (let same : ◌≡◌ {A = ℕ} 115 101 = other_letters _ _ (sym one.2.0 ∙ other.2.0) in omega (arith, same))
+spells_one (Sample s n) Decode words one other = absurd (let same : ◌≡◌ {A = ℕ} 3 1 = ap length (sym one.2.0 ∙ other) in omega (arith, same))
+spells_one (Sample s n) Info words one other = absurd (let same : ◌≡◌ {A = ℕ} 3 1 = ap length (sym one.2.0 ∙ other) in omega (arith, same))
+spells_one (Sample s n) (Get t) words one other = absurd (let same : ◌≡◌ {A = ℕ} 115 103 = other_letters _ _ (sym one.2.0 ∙ other.2.0) in omega (arith, same))
+spells_one (Sample s n) (GetRaw t) words one other = absurd (let same : ◌≡◌ {A = ℕ} 3 4 = ap length (sym one.2.0 ∙ other.2.0) in omega (arith, same))
+spells_one (Sample s n) ListAll words one other = absurd (let same : ◌≡◌ {A = ℕ} 3 1 = ap length (sym one.2.0 ∙ other) in omega (arith, same))
+spells_one (Sample s n) Check words one other = absurd (let same : ◌≡◌ {A = ℕ} 3 1 = ap length (sym one.2.0 ∙ other) in omega (arith, same))
+spells_one (Sample s n) Recover words one other = absurd (let same : ◌≡◌ {A = ℕ} 3 1 = ap length (sym one.2.0 ∙ other) in omega (arith, same))
+spells_one (Sample s n) (Build b f x) words one other = absurd (let same : ◌≡◌ {A = ℕ} 3 4 = ap length (sym one.2.0 ∙ other.3.0) in omega (arith, same))
+spells_one (Sample s n) (Put b f x) words one other = absurd (let same : ◌≡◌ {A = ℕ} 3 4 = ap length (sym one.2.0 ∙ other.3.0) in omega (arith, same))
+spells_one (Encode a e) (Sample t m) words one other = absurd (let same : ◌≡◌ {A = ℕ} 101 115 = other_letters _ _ (sym one.2.0 ∙ other.2.0) in omega (arith, same))
+spells_one Decode (Sample t m) words one other = absurd (let same : ◌≡◌ {A = ℕ} 1 3 = ap length (sym one ∙ other.2.0) in omega (arith, same))
+spells_one Info (Sample t m) words one other = absurd (let same : ◌≡◌ {A = ℕ} 1 3 = ap length (sym one ∙ other.2.0) in omega (arith, same))
+spells_one (Get s) (Sample t m) words one other = absurd (let same : ◌≡◌ {A = ℕ} 103 115 = other_letters _ _ (sym one.2.0 ∙ other.2.0) in omega (arith, same))
+spells_one (GetRaw s) (Sample t m) words one other = absurd (let same : ◌≡◌ {A = ℕ} 4 3 = ap length (sym one.2.0 ∙ other.2.0) in omega (arith, same))
+spells_one ListAll (Sample t m) words one other = absurd (let same : ◌≡◌ {A = ℕ} 1 3 = ap length (sym one ∙ other.2.0) in omega (arith, same))
+spells_one Check (Sample t m) words one other = absurd (let same : ◌≡◌ {A = ℕ} 1 3 = ap length (sym one ∙ other.2.0) in omega (arith, same))
+spells_one Recover (Sample t m) words one other = absurd (let same : ◌≡◌ {A = ℕ} 1 3 = ap length (sym one ∙ other.2.0) in omega (arith, same))
+spells_one (Build a e w) (Sample t m) words one other = absurd (let same : ◌≡◌ {A = ℕ} 4 3 = ap length (sym one.3.0 ∙ other.2.0) in omega (arith, same))
+spells_one (Put a e w) (Sample t m) words one other = absurd (let same : ◌≡◌ {A = ℕ} 4 3 = ap length (sym one.3.0 ∙ other.2.0) in omega (arith, same))
+spells_one (Sample s n) (Sample t m) words one other =
+    let same = sym one.2.0 ∙ other.2.0 in
+    let u : one.0 ≡ other.0 = cc in
+    let v : one.1 ≡ other.1 = cc in
+    one_sample one.0 other.0 one.1 other.1 s t n m u v one.2.1 other.2.1 one.2.2 other.2.2
 
 -- words that spell one command spell no other
 pub spelled_some : (words : List (List ℕ)) (d : Command) → IsSpelled d words → (c : Command) → (◌≡◌ {A = Option Command} (Some d) (Some c)) ↔ IsSpelled c words
@@ -229,6 +274,7 @@ no_name word none (GetRaw s) is = let same : ◌≡◌ {A = ℕ} 1 4 = ap length
 no_name word none ListAll is = none.list (head_of word (codes "list") is)
 no_name word none Check is = none.check (head_of word (codes "check") is)
 no_name word none Recover is = none.recover (head_of word (codes "recover") is)
+no_name word none (Sample s n) is = let same : ◌≡◌ {A = ℕ} 1 3 = ap length is.2.0 in omega (arith, same)
 no_name word none (Build a e w) is = let same : ◌≡◌ {A = ℕ} 1 4 = ap length is.3.0 in omega (arith, same)
 no_name word none (Put a e w) is = let same : ◌≡◌ {A = ℕ} 1 4 = ap length is.3.0 in omega (arith, same)
 
@@ -242,7 +288,7 @@ other_name : (name one two : List ℕ) → (get_or one 0 0 ≡ get_or two 0 0 �
 other_name name one two differ is so = differ (ap (λ (u : List ℕ). get_or u 0 0) (sym is ∙ so))
 
 -- which commands three words spell
-two_words : (name a b : List ℕ) (c : Command) → IsSpelled c (name ∷ a ∷ b ∷ []) → ((name ≡ codes "encode") × IsEncode a b c) ⊎ ((name ≡ codes "get") × IsGet a b c)
+two_words : (name a b : List ℕ) (c : Command) → IsSpelled c (name ∷ a ∷ b ∷ []) → ((name ≡ codes "encode") × IsEncode a b c) ⊎ (((name ≡ codes "get") × IsGet a b c) ⊎ ((name ≡ codes "sample") × IsSample a b c))
 two_words name a b (Encode v n) s =
     let same = s.2.0 in
     let one : a ≡ s.0 = cc in
@@ -254,11 +300,16 @@ two_words name a b (Get slot) s =
     let same = s.2.0 in
     let one : a ≡ s.0 = cc in
     let other : b ≡ s.1 = cc in
-    inr (name_of _ _ same, (slot, (refl, subst (λ (u : List ℕ). AreSlotWords u b slot) (sym one) (subst (λ (u : List ℕ). AreSlotWords s.0 u slot) (sym other) s.2.1))))
+    inr (inl (name_of _ _ same, (slot, (refl, subst (λ (u : List ℕ). AreSlotWords u b slot) (sym one) (subst (λ (u : List ℕ). AreSlotWords s.0 u slot) (sym other) s.2.1)))))
 two_words name a b (GetRaw slot) s = absurd (let same : ◌≡◌ {A = ℕ} 3 4 = ap length s.2.0 in omega (arith, same))
 two_words name a b ListAll s = absurd (let same : ◌≡◌ {A = ℕ} 3 1 = ap length s in omega (arith, same))
 two_words name a b Check s = absurd (let same : ◌≡◌ {A = ℕ} 3 1 = ap length s in omega (arith, same))
 two_words name a b Recover s = absurd (let same : ◌≡◌ {A = ℕ} 3 1 = ap length s in omega (arith, same))
+two_words name a b (Sample start count) s =
+    let same = s.2.0 in
+    let one : a ≡ s.0 = cc in
+    let other : b ≡ s.1 = cc in
+    inr (inr (name_of _ _ same, (start, count, (refl, subst (λ (u : List ℕ). IsWithin u start 0 4294967295) (sym one) s.2.1, subst (λ (u : List ℕ). IsWithin u count 0 4096) (sym other) s.2.2))))
 two_words name a b (Build v n w) s = absurd (let same : ◌≡◌ {A = ℕ} 3 4 = ap length s.3.0 in omega (arith, same))
 two_words name a b (Put v n w) s = absurd (let same : ◌≡◌ {A = ℕ} 3 4 = ap length s.3.0 in omega (arith, same))
 
@@ -268,7 +319,10 @@ encode_to name v e named c s = subst (λ (x : Command). IsSpelled x (name ∷ v 
 pub encode_from : (name v e : List ℕ) → name ≡ codes "encode" → (c : Command) → IsSpelled c (name ∷ v ∷ e ∷ []) → IsEncode v e c
 encode_from name v e named c s = elim (two_words name v e c s) [
   | inl is ↦ is.1
-  | inr is ↦ absurd (other_name name (codes "encode") (codes "get") (λ same. omega (arith, same)) named is.0)
+  | inr other ↦ elim other [
+    | inl is ↦ absurd (other_name name (codes "encode") (codes "get") (λ same. omega (arith, same)) named is.0)
+    | inr is ↦ absurd (other_name name (codes "encode") (codes "sample") (λ same. omega (arith, same)) named is.0)
+  ]
 ]
 
 pub get_to : (name row col : List ℕ) → name ≡ codes "get" → (c : Command) → IsGet row col c → IsSpelled c (name ∷ row ∷ col ∷ [])
@@ -277,11 +331,29 @@ get_to name row col named c s = subst (λ (x : Command). IsSpelled x (name ∷ r
 pub get_from : (name row col : List ℕ) → name ≡ codes "get" → (c : Command) → IsSpelled c (name ∷ row ∷ col ∷ []) → IsGet row col c
 get_from name row col named c s = elim (two_words name row col c s) [
   | inl is ↦ absurd (other_name name (codes "get") (codes "encode") (λ same. omega (arith, same)) named is.0)
-  | inr is ↦ is.1
+  | inr other ↦ elim other [
+    | inl is ↦ is.1
+    | inr is ↦ absurd (other_name name (codes "get") (codes "sample") (λ same. omega (arith, same)) named is.0)
+  ]
 ]
 
-pub no_two : (name a b : List ℕ) → (name ≡ codes "encode" → ⊥) → (name ≡ codes "get" → ⊥) → (c : Command) → IsSpelled c (name ∷ a ∷ b ∷ []) → ⊥
-no_two name a b encode get c s = elim (two_words name a b c s) [ inl is ↦ encode is.0 | inr is ↦ get is.0 ]
+pub sample_to : (name u w : List ℕ) → name ≡ codes "sample" → (c : Command) → IsSample u w c → IsSpelled c (name ∷ u ∷ w ∷ [])
+sample_to name u w named c s = subst (λ (x : Command). IsSpelled x (name ∷ u ∷ w ∷ [])) (sym s.2.0) (u, w, (ap (λ (v : List ℕ). v ∷ u ∷ w ∷ []) named, s.2.1, s.2.2))
+
+pub sample_from : (name u w : List ℕ) → name ≡ codes "sample" → (c : Command) → IsSpelled c (name ∷ u ∷ w ∷ []) → IsSample u w c
+sample_from name u w named c s = elim (two_words name u w c s) [
+  | inl is ↦ absurd (other_name name (codes "sample") (codes "encode") (λ same. omega (arith, same)) named is.0)
+  | inr other ↦ elim other [
+    | inl is ↦ absurd (other_name name (codes "sample") (codes "get") (λ same. omega (arith, same)) named is.0)
+    | inr is ↦ is.1
+  ]
+]
+
+pub no_two : (name a b : List ℕ) → (name ≡ codes "encode" → ⊥) → (name ≡ codes "get" → ⊥) → (name ≡ codes "sample" → ⊥) → (c : Command) → IsSpelled c (name ∷ a ∷ b ∷ []) → ⊥
+no_two name a b encode get sample c s = elim (two_words name a b c s) [
+  | inl is ↦ encode is.0
+  | inr other ↦ elim other [ inl is ↦ get is.0 | inr is ↦ sample is.0 ]
+]
 
 -- ---- a name and three words
 
@@ -311,6 +383,7 @@ three_behind name a b d (GetRaw slot) s =
 three_behind name a b d ListAll s = absurd (let same : ◌≡◌ {A = ℕ} 4 1 = ap length s in omega (arith, same))
 three_behind name a b d Check s = absurd (let same : ◌≡◌ {A = ℕ} 4 1 = ap length s in omega (arith, same))
 three_behind name a b d Recover s = absurd (let same : ◌≡◌ {A = ℕ} 4 1 = ap length s in omega (arith, same))
+three_behind name a b d (Sample start count) s = absurd (let same : ◌≡◌ {A = ℕ} 4 3 = ap length s.2.0 in omega (arith, same))
 three_behind name a b d (Build v n w) s = inl (name_of _ _ s.3.0, as_tiles Build name a b d (codes "build") v n w s)
 three_behind name a b d (Put v n w) s = inr (inl (name_of _ _ s.3.0, as_tiles Put name a b d (codes "put") v n w s))
 
@@ -386,6 +459,7 @@ other_length words one three four (GetRaw t) s = four (ap length s.2.0)
 other_length words one three four ListAll s = one (ap length s)
 other_length words one three four Check s = one (ap length s)
 other_length words one three four Recover s = one (ap length s)
+other_length words one three four (Sample start count) s = three (ap length s.2.0)
 other_length words one three four (Build a e w) s = four (ap length s.3.0)
 other_length words one three four (Put a e w) s = four (ap length s.3.0)
 
@@ -397,3 +471,18 @@ three_words (u ∷ []) a b c least below x y z = absurd (omega arith)
 three_words (u ∷ v ∷ []) a b c least below x y z = absurd (omega arith)
 three_words (u ∷ v ∷ w ∷ []) a b c least below x y z = λ i. sym x i ∷ sym y i ∷ sym z i ∷ []
 three_words (u ∷ v ∷ w ∷ t ∷ ts) a b c least below x y z = absurd (omega arith)
+
+-- ---- what is known of a command that is spelled
+
+pub lawful : (c : Command) (words : List (List ℕ)) → IsSpelled c words → IsLawful c
+lawful (Encode a e) words s = tt
+lawful Decode words s = tt
+lawful Info words s = tt
+lawful (Build a e w) words s = (s.3.3.1, s.3.3.2)
+lawful (Put a e w) words s = (s.3.3.1, s.3.3.2)
+lawful (Get t) words s = tt
+lawful (GetRaw t) words s = tt
+lawful ListAll words s = tt
+lawful Check words s = tt
+lawful Recover words s = tt
+lawful (Sample start count) words s = s.2.2.2

@@ -19,6 +19,8 @@ use Rattle.lerc_grammar.specs.declared.bands.BandReason.{BandReason}
 use Rattle.lerc_grammar.specs.Bands.{BandsBlob, BandsFaultAt}
 use Rattle.lerc_encode.specs.Choice.{chosen_bands}
 use Rattle.lerc_encode.specs.Encoded.{BandsNeedV4}
+use Rattle.sample_tiles.specs.declared.adding.Sums.{Sums}
+use Rattle.sample_tiles.specs.Sums.{AreSums}
 use Rattle.program_ends.specs.declared.stop.Stop.{Stop}
 use Rattle.program_ends.specs.declared.stop.Stop.TheVariants.{Usage, Source, Output, Volume, OutOfMemory, Refused}
 use Rattle.opened_bundle.specs.declared.refusal.StoreRefusal.{StoreRefusal}
@@ -26,7 +28,7 @@ use Rattle.opened_bundle.specs.declared.refusal.StoreRefusal.TheVariants.{NotEmp
 use Rattle.opened_bundle.specs.Files.{Files, HasRecovered, OfBundle}
 use Rattle.opened_bundle.specs.Refusals.{IsMissing, IsOpening, IsUnrecovered}
 use Rattle.lerc_cli.specs.declared.words.Command.{Command}
-use Rattle.lerc_cli.specs.declared.words.Command.TheVariants.{Encode, Decode, Info, Build, Put, Get, GetRaw, List as ListAll, Check, Recover}
+use Rattle.lerc_cli.specs.declared.words.Command.TheVariants.{Encode, Decode, Info, Build, Put, Get, GetRaw, List as ListAll, Check, Recover, Sample}
 use Rattle.lerc_cli.specs.declared.refusal.Fault.{Fault}
 use Rattle.lerc_cli.specs.declared.refusal.Refusal.{Refusal}
 use Rattle.lerc_cli.specs.declared.refusal.Refusal.TheVariants.{Input, Store, Stream}
@@ -35,6 +37,7 @@ use Rattle.lerc_cli.specs.inputs.Given.{Given, OfInput}
 use Rattle.lerc_cli.specs.inputs.Refused.{IsBandsBlob, IsNoBandsBlob, HasHead, IsNoUpdates, IsNotEncoded, band_reason_of}
 use Rattle.lerc_cli.specs.answers.Names.{End}
 use Rattle.lerc_cli.specs.answers.Outline.{AreLinesOf}
+use Rattle.lerc_cli.specs.answers.Samples.{sums_lines}
 
 -- the updates of a command's input, where it is told; only `build` and `put` have any
 abbrev pub UpdatesOf : Command → Given → List TileRec → Type 0
@@ -75,6 +78,8 @@ IsOutput Check g n output = (report : CheckReport)
     × (OfBundle g.files (λ bundle. Reports bundle 16384 report) × (output ≡ check_lines report))
 IsOutput Recover g n output =
     (done : Recovery) × (HasRecovered g.files done × (output ≡ recovery_line done))
+IsOutput (Sample start count) g n output =
+    (sums : Sums) × (AreSums start count sums × (output ≡ sums_lines sums))
 
 -- the input has updates, and the bundle is not opened
 abbrev pub IsUnopened : Command → Given → Stop Refusal → Type 0
@@ -131,6 +136,7 @@ IsRefusal Check g n (Refused (Store refusal)) = IsOpening g.files refusal
 IsRefusal Check g n stop = ⊥
 IsRefusal Recover g n (Refused (Store refusal)) = IsUnrecovered g.files refusal
 IsRefusal Recover g n stop = ⊥
+IsRefusal (Sample start count) g n stop = ⊥
 
 -- the lines of some of the first rows of slots
 abbrev pub IsListed : Option Files → List ℕ → Type 0
@@ -178,6 +184,7 @@ MayWant (GetRaw slot) g = OfBundle g.files (λ bundle. Unit {0})
 MayWant ListAll g = OfBundle g.files (λ bundle. Unit {0})
 MayWant Check g = OfBundle g.files (λ bundle. Unit {0})
 MayWant Recover g = ⊥
+MayWant (Sample start count) g = Unit {0}
 
 -- The whole answer: how the command ends, how many updates are then done, and what it has meant to
 -- give by then.

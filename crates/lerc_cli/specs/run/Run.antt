@@ -14,7 +14,7 @@ use Rattle.program_ends.specs.declared.stop.Stop.TheVariants.{Usage, Refused, So
 use Rattle.opened_bundle.specs.Files.{files_of}
 use Rattle.opened_bundle.specs.Left.{IsLeft}
 use Rattle.lerc_cli.specs.declared.words.Command.{Command}
-use Rattle.lerc_cli.specs.declared.words.Command.TheVariants.{Encode, Decode, Info, Build, Put, Get, GetRaw, List as ListAll, Check, Recover}
+use Rattle.lerc_cli.specs.declared.words.Command.TheVariants.{Encode, Decode, Info, Build, Put, Get, GetRaw, List as ListAll, Check, Recover, Sample}
 use Rattle.lerc_cli.specs.declared.refusal.Refusal.TheVariants.{Input}
 use Rattle.lerc_cli.specs.words.Commands.{reads_source, makes_updates}
 use Rattle.lerc_cli.specs.inputs.Given.{Given, given}
@@ -37,6 +37,7 @@ TakesFor (GetRaw slot) left_old left_new = left_new ≡ left_old
 TakesFor ListAll left_old left_new = left_new ≡ left_old
 TakesFor Check left_old left_new = left_new ≡ left_old
 TakesFor Recover left_old left_new = left_new ≡ left_old
+TakesFor (Sample start count) left_old left_new = left_new ≡ left_old
 
 pub record OfSource (c : Command) (end : End) (src : SourceMove) : Type 0 where
   pub cause : IsCause (end ≡ Err Source) src.faults.old src.faults.new

@@ -3,7 +3,7 @@
 use Rattle.std.specs.Prelude.{◌≡◌, ℕ, Bool, true, false, List, [], ◌∷◌, codes}
 use Rattle.command_words.specs.Words.{AreSlotWords, IsVersionWord, IsWithin}
 use Rattle.lerc_cli.specs.declared.words.Command.{Command}
-use Rattle.lerc_cli.specs.declared.words.Command.TheVariants.{Encode, Decode, Info, Build, Put, Get, GetRaw, List as ListAll, Check, Recover}
+use Rattle.lerc_cli.specs.declared.words.Command.TheVariants.{Encode, Decode, Info, Build, Put, Get, GetRaw, List as ListAll, Check, Recover, Sample}
 
 -- the words, each a list of bytes, spell the command
 abbrev pub IsSpelled : Command → List (List ℕ) → Type 0
@@ -25,6 +25,9 @@ IsSpelled (GetRaw slot) words = (row col : List ℕ)
 IsSpelled ListAll words = words ≡ codes "list" ∷ []
 IsSpelled Check words = words ≡ codes "check" ∷ []
 IsSpelled Recover words = words ≡ codes "recover" ∷ []
+IsSpelled (Sample start count) words = (s n : List ℕ)
+    × ((words ≡ codes "sample" ∷ s ∷ n ∷ []) × IsWithin s start 0 4294967295
+    × IsWithin n count 0 4096)
 
 -- the words spell no command
 abbrev pub IsNoCommand : List (List ℕ) → Type 0
@@ -46,6 +49,7 @@ reads_source (GetRaw slot) = false
 reads_source ListAll = false
 reads_source Check = false
 reads_source Recover = false
+reads_source (Sample start count) = false
 
 -- it calls the volume
 abbrev pub calls_volume : Command → Bool
@@ -59,6 +63,7 @@ calls_volume (GetRaw slot) = true
 calls_volume ListAll = true
 calls_volume Check = true
 calls_volume Recover = true
+calls_volume (Sample start count) = false
 
 -- it makes updates, each of which gets a mark
 abbrev pub makes_updates : Command → Bool
@@ -72,3 +77,4 @@ makes_updates (GetRaw slot) = false
 makes_updates ListAll = false
 makes_updates Check = false
 makes_updates Recover = false
+makes_updates (Sample start count) = false

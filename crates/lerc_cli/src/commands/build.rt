@@ -1,6 +1,6 @@
 //! The tiles of an input become a bundle.
 
-ghost use Rattle.std.specs.Prelude.{◌≡◌, ℕ, [], length};
+ghost use Rattle.std.specs.Prelude.{◌≡◌, ◌≤◌, ℕ, [], length};
 ghost use Rattle.program_ends.specs.Moves.{sink_move, source_move, volume_move};
 ghost use Rattle.opened_bundle.specs.Files.{files_of};
 ghost use Rattle.lerc_cli.specs.declared.words.Command.{Command};
@@ -16,6 +16,8 @@ use opened_bundle::{StoreRefusal, open_bundle};
 use outside_io::{Marks, Sink, Source, Volume};
 use program_ends::Stop;
 use std::alloc::Global;
+use std::thread::Threads;
+use tile_workers::Gate;
 
 /// How a build ended, as a command's end.
 fn build_end(ended: Result<(), BuildStop>) -> Result<(), Stop<Refusal>>
@@ -34,16 +36,20 @@ fn build_end(ended: Result<(), BuildStop>) -> Result<(), Stop<Refusal>>
 
 /// Reads a whole input of tiles, and builds a bundle of each slot's last one in the place of an
 /// empty bundle. Once it stands, each tile of the input has its mark, and then the line is given.
-pub fn build<S: Source, K: Sink, V: Volume>(
+pub fn build<R: Threads + Sync, S: Source, K: Sink, V: Volume, G: Gate>(
+    rt: &R,
     alloc: Global,
     version: Version,
     error: u32,
+    workers: u32,
     src: &mut S,
     out: &mut K,
     vol: &mut V,
     marks: &mut Marks,
+    gate: &G,
 ) -> Result<(), Stop<Refusal>>
-    requires { marks.old.marks ≡ [] }
+    requires none { marks.old.marks ≡ [] }
+    requires workers { (1 ≤ workers) × (workers ≤ 64) }
     ensures source { (workers : ℕ) → OfSource (Command.Build version error workers) result
         (source_move S.left S.faults src.old src.new) }
     ensures output { (workers : ℕ) → OfOutput (Command.Build version error workers)
@@ -54,7 +60,7 @@ pub fn build<S: Source, K: Sink, V: Volume>(
         marks.new.marks
         (volume_move V.told V.history V.faults vol.old vol.new) }
 {
-    let updates = match take_updates(alloc, version, error, src, marks) {
+    let updates = match take_updates(rt, alloc, version, error, workers, src, marks, gate) {
         Ok(updates) => updates,
         Err(stop) => return Err(stop),
     };

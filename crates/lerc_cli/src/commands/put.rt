@@ -1,6 +1,6 @@
 //! The tiles of an input are put into the bundle, in groups.
 
-ghost use Rattle.std.specs.Prelude.{◌≡◌, ℕ, [], length};
+ghost use Rattle.std.specs.Prelude.{◌≡◌, ◌≤◌, ℕ, [], length};
 ghost use Rattle.program_ends.specs.Moves.{sink_move, source_move, volume_move};
 ghost use Rattle.opened_bundle.specs.Files.{files_of};
 ghost use Rattle.lerc_cli.specs.declared.words.Command.{Command};
@@ -16,6 +16,8 @@ use opened_bundle::{StoreRefusal, open_bundle};
 use outside_io::{Marks, Sink, Source, Volume};
 use program_ends::Stop;
 use std::alloc::Global;
+use std::thread::Threads;
+use tile_workers::Gate;
 
 /// How puts ended, as a command's end.
 fn put_end(ended: Result<(), PutStop>) -> Result<(), Stop<Refusal>>
@@ -33,16 +35,20 @@ fn put_end(ended: Result<(), PutStop>) -> Result<(), Stop<Refusal>>
 
 /// Reads a whole input of tiles, and puts each into its slot, up to 64 at once. A group is put
 /// before its marks are kept, and these are kept before its lines are given.
-pub fn put<S: Source, K: Sink, V: Volume>(
+pub fn put<R: Threads + Sync, S: Source, K: Sink, V: Volume, G: Gate>(
+    rt: &R,
     alloc: Global,
     version: Version,
     error: u32,
+    workers: u32,
     src: &mut S,
     out: &mut K,
     vol: &mut V,
     marks: &mut Marks,
+    gate: &G,
 ) -> Result<(), Stop<Refusal>>
-    requires { marks.old.marks ≡ [] }
+    requires none { marks.old.marks ≡ [] }
+    requires workers { (1 ≤ workers) × (workers ≤ 64) }
     ensures source { (workers : ℕ) → OfSource (Command.Put version error workers) result
         (source_move S.left S.faults src.old src.new) }
     ensures output { (workers : ℕ) → OfOutput (Command.Put version error workers)
@@ -53,7 +59,7 @@ pub fn put<S: Source, K: Sink, V: Volume>(
         marks.new.marks
         (volume_move V.told V.history V.faults vol.old vol.new) }
 {
-    let updates = match take_updates(alloc, version, error, src, marks) {
+    let updates = match take_updates(rt, alloc, version, error, workers, src, marks, gate) {
         Ok(updates) => updates,
         Err(stop) => return Err(stop),
     };

@@ -14,8 +14,10 @@ use lerc_header::{Step, Version};
 use outside_io::{Marks, Source};
 use program_ends::Stop;
 use std::alloc::Global;
+use std::thread::Threads;
 use tile_stream::TileReason;
 use tile_updates::{StreamStop, read_updates};
+use tile_workers::Gate;
 
 /// What is wrong in a tile, as a reason.
 fn tile_reason(reason: TileReason) -> Reason
@@ -53,15 +55,20 @@ fn stream_stop(stop: StreamStop) -> Stop<Refusal>
     }
 }
 
-/// Reads the updates that the input asks for, and takes memory for their marks.
-pub fn take_updates<S: Source>(
+/// Reads the updates that the input asks for, encoded by so many workers, and takes memory for their
+/// marks.
+pub fn take_updates<R: Threads + Sync, S: Source, G: Gate>(
+    rt: &R,
     alloc: Global,
     version: Version,
     error: u32,
+    workers: u32,
     src: &mut S,
     marks: &mut Marks,
+    gate: &G,
 ) -> Result<Vec<TileRec>, Stop<Refusal>>
-    requires { marks.old.marks ≡ [] }
+    requires none { marks.old.marks ≡ [] }
+    requires workers { (1 ≤ workers) × (workers ≤ 64) }
     ensures updates { TakesUpdates version error (S.left src.old) result }
     ensures fit { IfOk result (λ us. EachFits us.items) }
     ensures room { IfOk result (λ us. length us.items ≤ marks.new.spare) }
@@ -70,7 +77,15 @@ pub fn take_updates<S: Source>(
     ensures taken { TookSome (S.left src.old) (S.left src.new) }
     ensures end { OnOk result (IsAtEnd (S.left src.new)) }
 {
-    let updates = match read_updates(alloc, src, version, Step::of(error)) {
+    let updates = match read_updates(
+        rt,
+        alloc,
+        src,
+        version,
+        Step::of(error),
+        workers as usize,
+        gate,
+    ) {
         Ok(updates) => updates,
         Err(stop) => return Err(stream_stop(stop)),
     };

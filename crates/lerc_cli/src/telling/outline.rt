@@ -54,7 +54,7 @@ fn add_word(line: &mut Line, name: &[u8], word: &[u8])
 
 /// Adds a line of a name and a number.
 #[tactic(auto, unfolding(crate::specs::answers::Outline::word_line))]
-fn add_number(line: &mut Line, name: &[u8], n: u64)
+pub(super) fn add_number(line: &mut Line, name: &[u8], n: u64)
     requires { length line.old + length name.now ≤ 170 }
     ensures text { line.new ≡ line.old ++ number_line name.now n }
     ensures short { length line.new ≤ length line.old + length name.now + 22 }

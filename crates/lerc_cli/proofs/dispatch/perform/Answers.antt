@@ -2,72 +2,73 @@ use Rattle.std.proofs.Common.{◌≡◌, ℕ, List, Option, refl, rules, None, s
 use Rattle.std.specs.Prelude.{OnOk}
 use Rattle.lerc_header.specs.declared.header.Version.{Version}
 use Rattle.program_ends.specs.Moves.{Change}
+use Rattle.lerc_cli.specs.inputs.Given.{given}
 use Rattle.lerc_cli.specs.run.InWords.{GivesBlobs}
 use Rattle.lerc_cli.proofs.CrashLemmas.Idle.{reading_volume, source_idle, volume_idle}
 use Rattle.lerc_cli.proofs.dispatch.perform.Goals as goal
 
 pub returns-in-Encode-clause-output : goal.returns-in-Encode-clause-output
-returns-in-Encode-clause-output g c = rw (c.in-Encode.is, c.requires) (c.encode.ensures.output _)
+returns-in-Encode-clause-output g c = rw (c.in-Encode.is, c.requires.none) (c.encode.ensures.output _)
 
 pub returns-in-Encode-clause-volume : goal.returns-in-Encode-clause-volume
-returns-in-Encode-clause-volume g c = rw (c.in-Encode.is, c.requires) (volume_idle _ _ _ _ _ _ g.V.Volume.told g.V.Volume.history g.V.Volume.faults _ (search rules) (c.encode.ensures.output _))
+returns-in-Encode-clause-volume g c = rw (c.in-Encode.is, c.requires.none) (volume_idle _ _ _ _ _ _ g.V.Volume.told g.V.Volume.history g.V.Volume.faults _ (search rules) (c.encode.ensures.output _))
 
 pub returns-in-Decode-clause-output : goal.returns-in-Decode-clause-output
-returns-in-Decode-clause-output g c = rw (c.in-Decode.is, c.requires) (c.decode.ensures.output _)
+returns-in-Decode-clause-output g c = rw (c.in-Decode.is, c.requires.none) (c.decode.ensures.output _)
 
 pub returns-in-Decode-clause-volume : goal.returns-in-Decode-clause-volume
-returns-in-Decode-clause-volume g c = rw (c.in-Decode.is, c.requires) (volume_idle _ _ _ _ _ _ g.V.Volume.told g.V.Volume.history g.V.Volume.faults _ (search rules) (c.decode.ensures.output _))
+returns-in-Decode-clause-volume g c = rw (c.in-Decode.is, c.requires.none) (volume_idle _ _ _ _ _ _ g.V.Volume.told g.V.Volume.history g.V.Volume.faults _ (search rules) (c.decode.ensures.output _))
 
 pub returns-in-Info-clause-output : goal.returns-in-Info-clause-output
-returns-in-Info-clause-output g c = rw (c.in-Info.is, c.requires) (c.info.ensures.output _)
+returns-in-Info-clause-output g c = rw (c.in-Info.is, c.requires.none) (c.info.ensures.output _)
 
 pub returns-in-Info-clause-volume : goal.returns-in-Info-clause-volume
-returns-in-Info-clause-volume g c = rw (c.in-Info.is, c.requires) (volume_idle _ _ _ _ _ _ g.V.Volume.told g.V.Volume.history g.V.Volume.faults _ (search rules) (c.info.ensures.output _))
+returns-in-Info-clause-volume g c = rw (c.in-Info.is, c.requires.none) (volume_idle _ _ _ _ _ _ g.V.Volume.told g.V.Volume.history g.V.Volume.faults _ (search rules) (c.info.ensures.output _))
 
 pub returns-in-Get-clause-source : goal.returns-in-Get-clause-source
 returns-in-Get-clause-source g c = rw c.in-Get.is (source_idle _ _ _ _ _ _ g.S.Source.left g.S.Source.faults _ (search rules) (c.get.ensures.output None))
 
 pub returns-in-Get-clause-output : goal.returns-in-Get-clause-output
-returns-in-Get-clause-output g c = rw (c.in-Get.is, c.requires) (c.get.ensures.output _)
+returns-in-Get-clause-output g c = rw (c.in-Get.is, c.requires.none) (c.get.ensures.output _)
 
 pub returns-in-Get-clause-volume : goal.returns-in-Get-clause-volume
-returns-in-Get-clause-volume g c = rw (c.in-Get.is, c.requires) (reading_volume _ _ _ _ (search rules) refl c.get.ensures.volume c.get.ensures.rests)
+returns-in-Get-clause-volume g c = rw (c.in-Get.is, c.requires.none) (reading_volume _ _ _ _ (search rules) refl c.get.ensures.volume c.get.ensures.rests)
 
 pub returns-in-GetRaw-clause-source : goal.returns-in-GetRaw-clause-source
 returns-in-GetRaw-clause-source g c = rw c.in-GetRaw.is (source_idle _ _ _ _ _ _ g.S.Source.left g.S.Source.faults _ (search rules) (c.get_raw.ensures.output None))
 
 pub returns-in-GetRaw-clause-output : goal.returns-in-GetRaw-clause-output
-returns-in-GetRaw-clause-output g c = rw (c.in-GetRaw.is, c.requires) (c.get_raw.ensures.output _)
+returns-in-GetRaw-clause-output g c = rw (c.in-GetRaw.is, c.requires.none) (c.get_raw.ensures.output _)
 
 pub returns-in-GetRaw-clause-volume : goal.returns-in-GetRaw-clause-volume
-returns-in-GetRaw-clause-volume g c = rw (c.in-GetRaw.is, c.requires) (reading_volume _ _ _ _ (search rules) refl c.get_raw.ensures.volume c.get_raw.ensures.rests)
+returns-in-GetRaw-clause-volume g c = rw (c.in-GetRaw.is, c.requires.none) (reading_volume _ _ _ _ (search rules) refl c.get_raw.ensures.volume c.get_raw.ensures.rests)
 
 pub returns-in-List-clause-source : goal.returns-in-List-clause-source
 returns-in-List-clause-source g c = rw c.in-List.is (source_idle _ _ _ _ _ _ g.S.Source.left g.S.Source.faults _ (search rules) (c.list.ensures.output None))
 
 pub returns-in-List-clause-output : goal.returns-in-List-clause-output
-returns-in-List-clause-output g c = rw (c.in-List.is, c.requires) (c.list.ensures.output _)
+returns-in-List-clause-output g c = rw (c.in-List.is, c.requires.none) (c.list.ensures.output _)
 
 pub returns-in-List-clause-volume : goal.returns-in-List-clause-volume
-returns-in-List-clause-volume g c = rw (c.in-List.is, c.requires) (reading_volume _ _ _ _ (search rules) refl c.list.ensures.volume c.list.ensures.rests)
+returns-in-List-clause-volume g c = rw (c.in-List.is, c.requires.none) (reading_volume _ _ _ _ (search rules) refl c.list.ensures.volume c.list.ensures.rests)
 
 pub returns-in-Check-clause-source : goal.returns-in-Check-clause-source
 returns-in-Check-clause-source g c = rw c.in-Check.is (source_idle _ _ _ _ _ _ g.S.Source.left g.S.Source.faults _ (search rules) (c.check.ensures.output None))
 
 pub returns-in-Check-clause-output : goal.returns-in-Check-clause-output
-returns-in-Check-clause-output g c = rw (c.in-Check.is, c.requires) (c.check.ensures.output _)
+returns-in-Check-clause-output g c = rw (c.in-Check.is, c.requires.none) (c.check.ensures.output _)
 
 pub returns-in-Check-clause-volume : goal.returns-in-Check-clause-volume
-returns-in-Check-clause-volume g c = rw (c.in-Check.is, c.requires) (reading_volume _ _ _ _ (search rules) refl c.check.ensures.volume c.check.ensures.rests)
+returns-in-Check-clause-volume g c = rw (c.in-Check.is, c.requires.none) (reading_volume _ _ _ _ (search rules) refl c.check.ensures.volume c.check.ensures.rests)
 
 pub returns-in-Recover-clause-source : goal.returns-in-Recover-clause-source
 returns-in-Recover-clause-source g c = rw c.in-Recover.is (source_idle _ _ _ _ _ _ g.S.Source.left g.S.Source.faults _ (search rules) (c.recover.ensures.output None))
 
 pub returns-in-Recover-clause-output : goal.returns-in-Recover-clause-output
-returns-in-Recover-clause-output g c = rw (c.in-Recover.is, c.requires) (c.recover.ensures.output _)
+returns-in-Recover-clause-output g c = rw (c.in-Recover.is, c.requires.none) (c.recover.ensures.output _)
 
 pub returns-in-Recover-clause-volume : goal.returns-in-Recover-clause-volume
-returns-in-Recover-clause-volume g c = rw (c.in-Recover.is, c.requires) (reading_volume _ _ _ _ (search rules) refl c.recover.ensures.volume c.recover.ensures.rests)
+returns-in-Recover-clause-volume g c = rw (c.in-Recover.is, c.requires.none) (reading_volume _ _ _ _ (search rules) refl c.recover.ensures.volume c.recover.ensures.rests)
 
 pub returns-in-Encode-clause-blobs : goal.returns-in-Encode-clause-blobs
 returns-in-Encode-clause-blobs g c = λ version error is.
@@ -96,3 +97,12 @@ returns-in-Build-clause-output g c = rw c.in-Build.is (c.build.ensures.output _)
 
 pub returns-in-Build-clause-volume : goal.returns-in-Build-clause-volume
 returns-in-Build-clause-volume g c = rw c.in-Build.is (c.build.ensures.volume _)
+
+pub returns-in-Sample-clause-source : goal.returns-in-Sample-clause-source
+returns-in-Sample-clause-source g c = rw c.in-Sample.is (source_idle _ _ _ _ _ _ g.S.Source.left g.S.Source.faults _ (search rules) (c.sample.ensures (given None None)))
+
+pub returns-in-Sample-clause-output : goal.returns-in-Sample-clause-output
+returns-in-Sample-clause-output g c = rw (c.in-Sample.is, c.requires.none) (c.sample.ensures _)
+
+pub returns-in-Sample-clause-volume : goal.returns-in-Sample-clause-volume
+returns-in-Sample-clause-volume g c = rw (c.in-Sample.is, c.requires.none) (volume_idle _ _ _ _ _ _ g.V.Volume.told g.V.Volume.history g.V.Volume.faults _ (search rules) (c.sample.ensures _))

@@ -1,0 +1,62 @@
+//! Commands that encode two tiles at once, which a gate shows.
+
+use crate::same::same;
+use crate::tests::told_through;
+use crate::volumes::{empty, joined};
+use meeting_gate::Meeting;
+use std::process::Abort;
+use std::thread::Threads;
+use worked_examples::{GRID, NO_PIXEL};
+
+/// Two tiles for the first slot: of one pixel, and of one that is not valid.
+const TWO_TILES: [&[u8]; 4] = [b"T\0\0", &GRID, b"T\0\0", &NO_PIXEL];
+
+/// A run of these words over these parts and an empty volume gives this output, and the workers of
+/// the two tiles that it encodes see each other.
+fn meet(
+    rt: &(impl Abort + AllocGlobal + Threads + Sync),
+    words: &[&str],
+    parts: &[&[u8]],
+    output: &[u8],
+) {
+    let alloc = rt.alloc();
+    let input = joined(rt, parts);
+    let mut vol = empty(rt);
+    let gate = Meeting::new();
+    let told = told_through(
+        rt,
+        alloc,
+        words,
+        &input,
+        (7, 100),
+        (&[], &[]),
+        &mut vol,
+        &gate,
+    );
+    let (report, out, err) = told.expect(rt, "memory");
+    let found = (report.status, out.held(), err.held());
+    same(rt, "what is given", found, (0, output, b"".as_slice()));
+    same(rt, "the workers met", gate.both_met(), true);
+}
+
+#[test]
+fn a_build_encodes_two_tiles_at_once(rt: HostRuntime) {
+    meet(
+        &rt,
+        &["build", "3", "0", "2"],
+        &TWO_TILES,
+        b"built 1 131206\n",
+    );
+}
+
+#[test]
+fn a_put_encodes_two_tiles_at_once(rt: HostRuntime) {
+    let lines = b"put 0 0 66\nput 0 0 66\n";
+    meet(&rt, &["put", "3", "0", "2"], &TWO_TILES, lines);
+}
+
+#[test]
+fn a_sample_encodes_two_tiles_at_once(rt: HostRuntime) {
+    let lines = b"tiles 2\nbytes 6545\nworst 1\nsum 514240657\n";
+    meet(&rt, &["sample", "7", "2"], &[], lines);
+}

@@ -1,0 +1,5 @@
+mod Batch
+mod Drawing
+pub mod Once
+mod Summing
+mod Whole
