@@ -1,4 +1,5 @@
 mod Adding
+mod Asked
 mod Passing
 pub mod Refusals
 mod Refusing

@@ -24,8 +24,10 @@ use Rattle.tile_updates.specs.declared.updates.Waiting.{Waiting}
 use Rattle.tile_updates.specs.Adding.{StopsBatch, TellsBatchStop}
 use Rattle.tile_updates.specs.Stops.{HasTile, IsRefused, IsStreamStop, IsTooLong, IsTooMuch, TellsStop}
 use Rattle.tile_updates.specs.Updates.{AllPass, OfBytes, kept_bytes, update_of, updates_of}
-use Rattle.tile_updates.specs.inside.SoFar.{AreWaiting, AsksOne, IsSoFar, RefusesReading, TakesTile}
+use Rattle.program_ends.specs.Asks.{AsksOne}
+use Rattle.tile_updates.specs.inside.SoFar.{AreWaiting, IsSoFar, RefusesReading, TakesTile}
 use Rattle.tile_updates.specs.inside.StopOf.{stop_of}
+use Rattle.tile_updates.proofs.Asked.{Taken, more_asked}
 use Rattle.tile_updates.proofs.Passing.{all_behind, updates_push}
 use Rattle.tile_updates.proofs.SoFar.{counted, pass_join, updates_join}
 
@@ -194,14 +196,18 @@ refused_encoding v step old now mid done w (BatchKeptTooMuch at) s waiting few r
 -- one byte more behind as many tiles as there may be
 pub too_many : (v : Version) (step : ℕ) (old now new : Option (List ℕ)) (done : SoFar) (found : Bool) → IsSoFar v step old now done → 1048576 ≤ length done.list → found ≡ true → AsksOne (Ok found) now new → TellsStop v step old TooManyTiles
 too_many v step old now new done false s many is a = absurd (cc)
-too_many v step old now new done true s many is (bytes, (some, took)) =
-    of_bytes old now s.front bytes (λ all. IsStreamStop v step all TooManyTiles) (Refused v step s.tiles (length s.front) TooManyTiles) s.took
-    (λ rest is. by rest (subst (λ (o : Option (List ℕ)). TookBytes o new bytes) is took)) (λ none. record { more = some; refused = full }) (stops v step old now s.tiles (begun v step old now done s) TooManyTiles)
+too_many v step old now new done true s many is a =
+    of_bytes old now s.front more.bytes (λ all. IsStreamStop v step all TooManyTiles) (Refused v step s.tiles (length s.front) TooManyTiles) s.took
+    (λ rest is. by rest (subst (λ (o : Option (List ℕ)). TookBytes o new more.bytes) is more.took)) (λ none. record { more = more.some; refused = full }) (stops v step old now s.tiles (begun v step old now done s) TooManyTiles)
   where
+    more : Taken now new
+    more = more_asked now new a
+
     full : length s.tiles ≡ 1048576
     full = let count = counted v step old now done s in let few = s.pass.few in omega (arith, count, few, many)
 
-    by : (rest : List ℕ) → TookBytes (Some rest) new bytes → Refused v step s.tiles (length s.front) TooManyTiles rest
+    by : (rest : List ℕ) → TookBytes (Some rest) new more.bytes → Refused v step s.tiles (length s.front) TooManyTiles rest
     by rest (behind, (joined, then)) =
-        let size : length rest ≡ length (bytes ++ behind) = ap length joined in
-        record { more = omega (arith, some, size, length-append bytes behind); refused = full }
+        let size : length rest ≡ length (more.bytes ++ behind) = ap length joined in
+        let some = more.some in
+        record { more = omega (arith, some, size, length-append more.bytes behind); refused = full }

@@ -21,7 +21,9 @@ use Rattle.tile_updates.specs.Adding.{MayBeAdded}
 use Rattle.tile_updates.specs.declared.updates.SoFar.{SoFar}
 use Rattle.tile_updates.specs.declared.updates.Waiting.{Waiting}
 use Rattle.tile_updates.specs.Updates.{AllPass, AreEncoded, IsUpdates, OfBytes, Passes, kept_bytes, update_of, updates_of, tile_bytes}
-use Rattle.tile_updates.specs.inside.SoFar.{AreWaiting, AsksOne, IsAll, IsSoFar, WaitsToo}
+use Rattle.program_ends.specs.Asks.{AsksOne}
+use Rattle.tile_updates.specs.inside.SoFar.{AreWaiting, IsAll, IsSoFar, WaitsToo}
+use Rattle.tile_updates.proofs.Asked.{more_asked, none_asked}
 use Rattle.tile_updates.proofs.Passing.{none_pass}
 
 -- ---- at the start
@@ -111,10 +113,12 @@ so_far_more v step old now mid before after w s waiting may encoded few list pla
 -- none was left behind as many tiles as there may be
 pub none_more : (v : Version) (step : ℕ) (old mid new : Option (List ℕ)) (done : SoFar) (found : Bool) → IsSoFar v step old mid done → found ≡ false → AsksOne (Ok found) mid new → IsAll v step old new done
 none_more v step old mid new done true s is a = absurd (cc)
-none_more v step old mid new done false s is (end, same) = record {
-  so_far = subst (λ (o : Option (List ℕ)). IsSoFar v step old o done) (sym same) s;
-  end = subst IsAtEnd (sym same) end;
-}
+none_more v step old mid new done false s is a =
+    let end = none_asked mid new a in
+    record {
+      so_far = subst (λ (o : Option (List ℕ)). IsSoFar v step old o done) (sym end.1) s;
+      end = subst IsAtEnd (sym end.1) end.0;
+    }
 
 -- ---- the end
 
@@ -149,7 +153,7 @@ pub more_read : (v : Version) (step : ℕ) (old mid new : Option (List ℕ)) (do
 more_read v step old mid new done s more = took_more old mid new s.front s.took more
 
 pub asked_read : (v : Version) (step : ℕ) (old mid new : Option (List ℕ)) (done : SoFar) (found : Bool) → IsSoFar v step old mid done → found ≡ true → AsksOne (Ok found) mid new → TookSome old new
-asked_read v step old mid new done true s is (bytes, (some, took)) = more_read v step old mid new done s (bytes, took)
+asked_read v step old mid new done true s is a = let more = more_asked mid new a in more_read v step old mid new done s (more.bytes, more.took)
 asked_read v step old mid new done false s is a = absurd (cc)
 
 -- ---- causes

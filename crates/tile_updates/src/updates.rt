@@ -2,12 +2,12 @@
 
 ghost use Rattle.std.specs.Prelude.{◌≡◌, ◌+◌, ◌*◌, ◌^◌, ◌<◌, ◌≤◌, ℕ, List, Option, Err, IfOk, IfErr, OnOk, IsTrue, length};
 ghost use Rattle.bundle_store.specs.Build.{EachFits};
-ghost use Rattle.outside_io.specs.streams.Faults.{CountsFaults, IsCause};
+ghost use Rattle.outside_io.specs.streams.Faults.{IsCause};
 ghost use Rattle.outside_io.specs.streams.Source.{IsAtEnd};
 ghost use Rattle.raster_values.specs.ReadGrid.{TookSome};
 ghost use Rattle.tile_updates.specs.Stops.{TellsStop};
 ghost use Rattle.tile_updates.specs.Updates.{AreEncoded, IsUpdates, OfBytes};
-ghost use Rattle.tile_updates.specs.inside.SoFar.{AsksOne, Follows, IsFilled, IsMade, IsRoomy, IsSoFar};
+ghost use Rattle.tile_updates.specs.inside.SoFar.{Follows, IsFilled, IsMade, IsRoomy, IsSoFar};
 
 use crate::batch::Batch;
 use crate::encoding::encode_batch;
@@ -15,7 +15,8 @@ use crate::list::UpdateList;
 use crate::stop::{StreamStop, stream_stop};
 use bundle_store::TileRec;
 use lerc_header::{Step, Version};
-use outside_io::{Failed, Source, take_all};
+use outside_io::Source;
+use program_ends::has_more;
 use std::alloc::Global;
 use std::thread::Threads;
 use tile_stream::{Tile, TileStop, next_tile};
@@ -171,19 +172,6 @@ fn add_batch<R: Threads + Sync, S: Source, G: Gate>(
         Ending::More => Ok(true),
         Ending::AtEnd => Ok(false),
         Ending::Refused(stop) => Err(stop),
-    }
-}
-
-/// Whether the source has one byte more, which is taken.
-fn has_more<S: Source>(src: &mut S) -> Result<bool, Failed>
-    ensures asks { AsksOne result (S.left src.old) (S.left src.new) }
-    ensures counted { CountsFaults result (S.faults src.old) (S.faults src.new) }
-{
-    let mut buf = [0; 1];
-    match take_all(src, &mut buf) {
-        Ok(0) => Ok(false),
-        Ok(_) => Ok(true),
-        Err(failed) => Err(failed),
     }
 }
 

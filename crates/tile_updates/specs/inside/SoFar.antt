@@ -1,8 +1,7 @@
 -- What was made of the first tiles of an input, what waits behind them, and what follows.
-use Rattle.std.specs.Prelude.{◌≡◌, ℕ, ◌+◌, ◌*◌, ◌<◌, ◌≤◌, Bool, true, false, List, [], ◌∷◌, ◌++◌, length, All, Option, Result, Ok, Err}
-use Rattle.outside_io.specs.declared.streams.failed.Failed.{Failed}
+use Rattle.std.specs.Prelude.{◌≡◌, ℕ, ◌+◌, ◌*◌, ◌<◌, ◌≤◌, Bool, true, false, List, [], ◌∷◌, ◌++◌, length, All, Option}
 use Rattle.outside_io.specs.streams.Source.{IsAtEnd}
-use Rattle.raster_values.specs.ReadGrid.{TookBytes, TookSome}
+use Rattle.raster_values.specs.ReadGrid.{TookBytes}
 use Rattle.lerc_header.specs.declared.header.Version.{Version}
 use Rattle.lerc_encode.specs.Encoded.{AreEncodedOnce, BandsNeedV4}
 use Rattle.tile_stream.specs.declared.tile.Tile.{Tile}
@@ -119,10 +118,3 @@ pub record IsAll (v : Version) (step : ℕ) (old now : Option (List ℕ)) (done 
 abbrev pub IsMade : Version → ℕ → Option (List ℕ) → Option (List ℕ) → SoFar → Bool → Type 0
 IsMade v step old now done true = IsSoFar v step old now done
 IsMade v step old now done false = IsAll v step old now done
-
--- whether one byte more is there, which is then taken
-abbrev pub AsksOne : Result Bool Failed → Option (List ℕ) → Option (List ℕ) → Type 0
-AsksOne (Ok false) old new = IsAtEnd old × (new ≡ old)
-AsksOne (Ok true) old new =
-    (bytes : List ℕ) × ((0 < length bytes) × TookBytes old new bytes)
-AsksOne (Err e) old new = TookSome old new

@@ -3,7 +3,8 @@ use Rattle.bundle_store.specs.declared.tile_rec.TileRec.{TileRec}
 use Rattle.bundle_store.specs.Build.{EachFits}
 use Rattle.tile_updates.specs.Updates.{AreEncoded, IsUpdates, OfBytes}
 use Rattle.tile_updates.specs.inside.SoFar.{IsMade}
-use Rattle.tile_updates.proofs.SoFar.{all_encoded, all_fit, all_read, asked_read, more_read, so_far_none, some_read}
+use Rattle.tile_updates.proofs.SoFar.{all_encoded, all_fit, all_read, asked_read, more_read, none_more, so_far_none, some_read}
+use Rattle.tile_updates.proofs.Asked.{failure_asked}
 use Rattle.tile_updates.proofs.Refusing.{too_many}
 use Rattle.tile_updates.proofs.updates.read_updates.Goals as goal
 
@@ -61,9 +62,42 @@ pub returns-in-Ok-true-has_more-clause-taken : goal.returns-in-Ok-true-has_more-
 returns-in-Ok-true-has_more-clause-taken g c =
     asked_read c.args.version c.args.step (g.S.Source.left c.args.src.now) (g.S.Source.left c.loop-alloc.src) (g.S.Source.left c.has_more.new.src) c.loop-alloc.done c.in-Ok-true-has_more.field-0 c.loop-alloc.invariant.0 c.in-Ok-true-has_more.field-0-test c.in-Ok-true-has_more.ensures.asks
 
+pub returns-in-Ok-false-has_more-clause-ok : goal.returns-in-Ok-false-has_more-clause-ok
+returns-in-Ok-false-has_more-clause-ok g c =
+    let old = g.S.Source.left c.args.src.now in
+    let new = g.S.Source.left c.has_more.new.src in
+    let at = none_more c.args.version c.args.step old (g.S.Source.left c.loop-alloc.src) new c.loop-alloc.done c.in-Ok-false-has_more.field-0 c.loop-alloc.invariant.0 c.in-Ok-false-has_more.field-0-test c.in-Ok-false-has_more.ensures.asks in
+    subst (λ (us : List TileRec). OfBytes old (λ bytes. IsUpdates c.args.version c.args.step bytes us)) (sym c.into_vec-in-Ok-false-has_more.ensures) (all_read c.args.version c.args.step old new c.loop-alloc.done at.so_far at.end)
+
+pub returns-in-Ok-false-has_more-clause-end : goal.returns-in-Ok-false-has_more-clause-end
+returns-in-Ok-false-has_more-clause-end g c =
+    let old = g.S.Source.left c.args.src.now in
+    let new = g.S.Source.left c.has_more.new.src in
+    let at = none_more c.args.version c.args.step old (g.S.Source.left c.loop-alloc.src) new c.loop-alloc.done c.in-Ok-false-has_more.field-0 c.loop-alloc.invariant.0 c.in-Ok-false-has_more.field-0-test c.in-Ok-false-has_more.ensures.asks in
+    at.end
+
+pub returns-in-Ok-false-has_more-clause-encoded : goal.returns-in-Ok-false-has_more-clause-encoded
+returns-in-Ok-false-has_more-clause-encoded g c =
+    let old = g.S.Source.left c.args.src.now in
+    let new = g.S.Source.left c.has_more.new.src in
+    let at = none_more c.args.version c.args.step old (g.S.Source.left c.loop-alloc.src) new c.loop-alloc.done c.in-Ok-false-has_more.field-0 c.loop-alloc.invariant.0 c.in-Ok-false-has_more.field-0-test c.in-Ok-false-has_more.ensures.asks in
+    subst (AreEncoded c.args.version c.args.step) (sym c.into_vec-in-Ok-false-has_more.ensures) (all_encoded c.args.version c.args.step old new c.loop-alloc.done at.so_far)
+
 pub returns-in-Ok-false-has_more-clause-fits : goal.returns-in-Ok-false-has_more-clause-fits
 returns-in-Ok-false-has_more-clause-fits g c =
-    subst EachFits (sym c.into_vec-in-Ok-false-has_more.ensures) (all_fit c.args.version c.args.step (g.S.Source.left c.args.src.now) (g.S.Source.left c.loop-alloc.src) c.loop-alloc.done c.loop-alloc.invariant.0)
+    let old = g.S.Source.left c.args.src.now in
+    let new = g.S.Source.left c.has_more.new.src in
+    let at = none_more c.args.version c.args.step old (g.S.Source.left c.loop-alloc.src) new c.loop-alloc.done c.in-Ok-false-has_more.field-0 c.loop-alloc.invariant.0 c.in-Ok-false-has_more.field-0-test c.in-Ok-false-has_more.ensures.asks in
+    subst EachFits (sym c.into_vec-in-Ok-false-has_more.ensures) (all_fit c.args.version c.args.step old new c.loop-alloc.done at.so_far)
+
+pub returns-in-Ok-false-has_more-clause-taken : goal.returns-in-Ok-false-has_more-clause-taken
+returns-in-Ok-false-has_more-clause-taken g c =
+    let old = g.S.Source.left c.args.src.now in
+    let new = g.S.Source.left c.has_more.new.src in
+    let at = none_more c.args.version c.args.step old (g.S.Source.left c.loop-alloc.src) new c.loop-alloc.done c.in-Ok-false-has_more.field-0 c.loop-alloc.invariant.0 c.in-Ok-false-has_more.field-0-test c.in-Ok-false-has_more.ensures.asks in
+    some_read c.args.version c.args.step old new c.loop-alloc.done at.so_far
 
 pub returns-in-Err-has_more-clause-taken : goal.returns-in-Err-has_more-clause-taken
-returns-in-Err-has_more-clause-taken g c = more_read c.args.version c.args.step (g.S.Source.left c.args.src.now) (g.S.Source.left c.loop-alloc.src) (g.S.Source.left c.has_more.new.src) c.loop-alloc.done c.loop-alloc.invariant.0 c.in-Err-has_more.ensures.asks
+returns-in-Err-has_more-clause-taken g c =
+    more_read c.args.version c.args.step (g.S.Source.left c.args.src.now) (g.S.Source.left c.loop-alloc.src) (g.S.Source.left c.has_more.new.src) c.loop-alloc.done c.loop-alloc.invariant.0
+    (failure_asked _ (g.S.Source.left c.loop-alloc.src) (g.S.Source.left c.has_more.new.src) c.in-Err-has_more.ensures.asks)
