@@ -3,8 +3,6 @@
 //! of both forms whose gate is open. Each image that a crash then leaves has the tiles of before or
 //! of after.
 
-ghost use Rattle.std.specs.Prelude.{◌≤◌, length};
-
 use crate::put_tests::put_pixel;
 use crate::same::same;
 use crate::volumes::{ENTRY, HEADER, LAST, bundle_of, empty, fails_alone, gives, joined, over};
