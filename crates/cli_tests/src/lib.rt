@@ -26,6 +26,10 @@ mod same;
 #[cfg(test)]
 mod sample_tests;
 #[cfg(test)]
+mod stop_tests;
+#[cfg(test)]
+mod stream_tests;
+#[cfg(test)]
 mod tests;
 #[cfg(test)]
 mod volumes;
