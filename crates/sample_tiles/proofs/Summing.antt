@@ -1,11 +1,12 @@
 -- One tile more in the sums.
 use Rattle.std.proofs.Common.{◌≡◌, ℕ, ◌+◌, ◌*◌, ◌%◌, ◌^◌, ◌<◌, ◌≤◌, max, List, [], ◌∷◌, length, map, refl, sym, ap, subst, ◌∙◌, arith, ⊎_elim}
-use Rattle.std.specs.Prelude.{All, ℤ, pos, ◌-ℤ◌, unsigned_abs, slice_get, Some, get_or}
+use Rattle.std.specs.Prelude.{All, Bool, IsTrue, ℤ, pos, ◌/◌, ◌-ℤ◌, is_some, unsigned_abs, unwrap_or, slice_get, None, Option, Some, false, get_or, true}
+use Rattle.std.proofs.lemmas.List.{get_or-map}
 use Rattle.std.specs.List.{range_with_len, sum_by}
 use Rattle.std.proofs.lemmas.Bool.{cases_lt}
 use Rattle.std.proofs.lemmas.List.Elements.{All-head}
 use Rattle.std.proofs.lemmas.List.FromFn.{sum_by-map-range_with_len_more}
-use Rattle.raster_values.specs.Raster.{Pixels, IsRaster}
+use Rattle.raster_values.specs.Raster.{Pixels, IsRaster, valid_at, value_at}
 use Rattle.raster_values.specs.Bands.{AreBands}
 use Rattle.lerc_header.specs.Head.{u32_at}
 use Rattle.lerc_header.specs.Written.{step_of}
@@ -63,6 +64,49 @@ like_at tile x blob bands like f is at =
     let s = one.0 in
     let here : BandsBlob blob (s ∷ []) = subst (BandsBlob blob) one.1.0 is in
     subst IsTileLike (same_one tile x s blob bands f is at here) (like_decoded tile s blob like one.1.1 here)
+
+-- ---- how near it is
+
+abbrev first_of : Option (List ℤ) → ℤ
+first_of p = get_or (unwrap_or p []) 0 (pos 0)
+
+-- pixels that are both valid, and then near, or both not
+near_pixel : (p q : Option (List ℤ)) → is_some p ≡ is_some q → (is_some p ≡ true → 2 * unsigned_abs (first_of p -ℤ first_of q) ≤ 2) → unsigned_abs (first_of p -ℤ first_of q) ≤ 1
+near_pixel None None same near = omega arith
+near_pixel None (Some v) same near = absurd (let bad : ⊥ = cc in bad)
+near_pixel (Some u) None same near = absurd (let bad : ⊥ = cc in bad)
+near_pixel (Some u) (Some v) same near = let e = near refl in omega (arith, e)
+
+at_place : (r : Pixels) (k : ℕ) → r.cols ≡ 64 → k / 64 * r.cols + k % 64 ≡ k
+at_place r k cols = ap (λ (n : ℕ). k / 64 * n + k % 64) cols ∙ (let same : k / 64 * 64 + k % 64 ≡ k = omega arith in same)
+
+places_of : (r : Pixels) → IsTileLike r → length r.pixels ≡ 4096
+places_of r like = like.raster.places ∙ (λ i. like.rows i * like.cols i)
+
+near_off : (tile s : Pixels) → IsTileLike tile → IsTileLike s → Near tile s (step_of 1) → (k : ℕ) → k < 4096 → off_by tile s k ≤ 1
+near_off tile s like also near k within =
+    let one = get_or tile.pixels k None in
+    let two = get_or s.pixels k None in
+    let there : k < length tile.pixels = omega (arith, within, places_of tile like) in
+    let here : k < length s.pixels = omega (arith, within, places_of s also) in
+    let same : is_some one ≡ is_some two =
+    sym (get_or-map is_some tile.pixels k None false there) ∙ ap (λ (ms : List Bool). get_or ms k false) near.marks ∙ get_or-map is_some s.pixels k None false here in
+    let row : k / 64 < tile.rows = omega (arith, within, like.rows) in
+    let col : k % 64 < tile.cols = omega (arith, like.cols) in
+    let deep : 0 < tile.depth = omega (arith, like.depth) in
+    near_pixel one two same (λ valid.
+    let is : IsTrue (valid_at tile (k / 64) (k % 64)) = ap (λ (n : ℕ). is_some (get_or tile.pixels n None)) (at_place tile k like.cols) ∙ valid in
+    let e = near.values (k / 64) (k % 64) 0 (row, col) is deep in
+    let left : value_at tile (k / 64) (k % 64) 0 ≡ first_of one = ap (λ (n : ℕ). first_of (get_or tile.pixels n None)) (at_place tile k like.cols) in
+    let right : value_at s (k / 64) (k % 64) 0 ≡ first_of two = ap (λ (n : ℕ). first_of (get_or s.pixels n None)) (at_place s k also.cols) in
+    subst (λ (v : ℤ). 2 * unsigned_abs (v -ℤ first_of two) ≤ 2) left (subst (λ (w : ℤ). 2 * unsigned_abs (value_at tile (k / 64) (k % 64) 0 -ℤ w) ≤ 2) right e))
+
+pub near_at : (tile x : Pixels) (blob : List ℕ) (bands : List Pixels) → IsTileLike tile → IsFitting (tile ∷ []) blob → BandsBlob blob bands → slice_get bands 0 ≡ Some x → (k : ℕ) → k < 4096 → off_by tile x k ≤ 1
+near_at tile x blob bands like f is at k within =
+    let one = one_decoded tile blob bands f is in
+    let here : BandsBlob blob (one.0 ∷ []) = subst (BandsBlob blob) one.1.0 is in
+    let same = same_one tile x one.0 blob bands f is at here in
+    near_off tile x like (like_at tile x blob bands like f is at) (subst (λ (s : Pixels). Near tile s (step_of 1)) same one.1.1) k within
 
 -- the tile of one band
 pub tile_at : (bands : List Pixels) (x tile : Pixels) → bands ≡ tile ∷ [] → slice_get bands 0 ≡ Some x → x ≡ tile

@@ -83,6 +83,7 @@ fn error_of(alloc: Global, tile: &Raster, blob: &[u8]) -> Result<u64, AllocError
         → k < 4096 → off_by tile.now r k ≤ n) }
     ensures met { IfOk result (λ n. 0 < n → (r : Pixels) × ((k : ℕ)
         × (BandsBlob blob.now (r ∷ []) × (k < 4096) × (off_by tile.now r k ≡ n)))) }
+    ensures near { IfOk result (λ n. n ≤ 1) }
 {
     let bands = decoded(alloc, blob)?;
     Ok(farthest(tile, bands.at(0)))
@@ -101,10 +102,12 @@ fn checksum_in(blob: &[u8]) -> u32
 fn add(alloc: Global, tile: &Bands, blob: &[u8], sums: &mut Sums) -> Result<(), AllocError>
     requires few { sums.old.tiles < 4096 }
     requires roomy { AreRoomy sums.old }
+    requires near { sums.old.worst ≤ 1 }
     requires one { (start t : ℕ) × (tile.now ≡ sample_tile start t ∷ []) }
     requires fitting { IsFitting tile.now blob.now }
     ensures tiles { OnOk result (sums.new.tiles ≡ sums.old.tiles + 1) }
     ensures roomy { OnOk result (AreRoomy sums.new) }
+    ensures near { OnOk result (sums.new.worst ≤ 1) }
     ensures sums { (start : ℕ) → tile.now ≡ sample_tile start sums.old.tiles ∷ []
         → blob.now ≡ sample_blob start sums.old.tiles → AreSums start sums.old.tiles sums.old
         → OnOk result (AreSums start sums.new.tiles sums.new) }
@@ -128,10 +131,12 @@ pub(crate) fn add_all(
 ) -> Result<(), AllocError>
     requires few { sums.old.tiles + length tiles.now ≤ 4096 }
     requires roomy { AreRoomy sums.old }
+    requires near { sums.old.worst ≤ 1 }
     requires are { (start first : ℕ) × AreTiles start first (length tiles.now) tiles.now }
     requires theirs { AreTheirs tiles.now blobs.now }
     ensures tiles { OnOk result (sums.new.tiles ≡ sums.old.tiles + length tiles.now) }
     ensures roomy { OnOk result (AreRoomy sums.new) }
+    ensures near { OnOk result (sums.new.worst ≤ 1) }
     ensures sums { (start : ℕ) → AreTiles start sums.old.tiles (length tiles.now) tiles.now
         → AreSums start sums.old.tiles sums.old
         → OnOk result (AreSums start sums.new.tiles sums.new) }

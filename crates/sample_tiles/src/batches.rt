@@ -61,8 +61,10 @@ fn add_batch<R: Threads + Sync, G: Gate>(
 ) -> Result<(), AllocError>
     requires few { sums.old.tiles + count ≤ 4096 }
     requires roomy { AreRoomy sums.old }
+    requires near { sums.old.worst ≤ 1 }
     ensures tiles { OnOk result (sums.new.tiles ≡ sums.old.tiles + count) }
     ensures roomy { OnOk result (AreRoomy sums.new) }
+    ensures near { OnOk result (sums.new.worst ≤ 1) }
     ensures sums { (start : ℕ) → x.old ≡ drawn start (4096 * sums.old.tiles)
         → AreSums start sums.old.tiles sums.old
         → OnOk result (AreSums start sums.new.tiles sums.new) }
@@ -87,7 +89,8 @@ pub fn sample<R: Threads + Sync, G: Gate>(
     gate: &G,
 ) -> Result<Sums, AllocError>
     requires { count ≤ 4096 }
-    ensures { IfOk result (AreSums start count) }
+    ensures sums { IfOk result (AreSums start count) }
+    ensures near { IfOk result (λ sums. sums.worst ≤ 1) }
 {
     let mut x = start;
     let mut sums = Sums {

@@ -8,6 +8,7 @@ abbrev pub invariant-loop-sums : goal.invariant-loop-sums
 invariant-loop-sums g l = record {
   few : l.sums.tiles ≤ l.count;
   roomy : AreRoomy l.sums;
+  near : l.sums.worst ≤ 1;
   sums : AreSums l.start l.sums.tiles l.sums;
   number : l.x ≡ drawn l.start (4096 * l.sums.tiles);
 }

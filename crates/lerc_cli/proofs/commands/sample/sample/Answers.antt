@@ -13,5 +13,5 @@ returns-in-Err g c = λ some.
 pub returns-in-Ok-give_all : goal.returns-in-Ok-give_all
 returns-in-Ok-give_all g c = λ some.
     let sums = c.in-Ok.sums in
-    gave (Sample c.args.start c.args.count) some (sums_lines sums) _ (sums, (c.in-Ok.ensures, refl))
+    gave (Sample c.args.start c.args.count) some (sums_lines sums) _ (sums, (c.in-Ok.ensures.sums, refl))
     (subst (Holds (g.K.Sink.held c.args.out.now) (g.K.Sink.held c.give_all.new.sink)) (c.as_slice.ensures ∙ c.sums_text.ensures) c.in-Ok-give_all.ensures.ok) c.in-Ok-give_all.ensures.counted
