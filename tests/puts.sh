@@ -212,6 +212,13 @@ begins_as none none
 if [ "$(wc -c <big_stream)" -eq 3104112 ] && [ "$(wc -l <out)" -eq 16 ]; then holds=yes; else holds=no; fi
 count 'put: sixteen tiles' "$holds"
 has_sixteen_tiles put
+mv disk put_by_two
+for workers in 1 7 64; do
+    begins_as none none
+    "$program" disk put 4 1 "$workers" <big_stream >out 2>err
+    if [ "$(wc -l <out)" -eq 16 ] && cmp -s disk put_by_two; then holds=yes; else holds=no; fi
+    count "put: sixteen tiles, $workers workers" "$holds"
+done
 
 # ---- Many tiles
 
@@ -235,6 +242,21 @@ many_tiles() {
 }
 
 many_tiles 4000 >many
+
+# Forty tiles, of which one worker encodes sixteen at a time, and behind them one that is refused for its depths, or
+# a byte that begins no tile: the place does not depend on the workers.
+{ head -c 880 many; cat deep_tile; bytes 55; } >deep_behind
+{ head -c 880 many; bytes 55; } >bad_behind
+for workers in 1 2 7 64; do
+    begins_as none none
+    for command in put build; do
+        expect "$command: two depths behind forty tiles, $workers workers" 2 nothing 'refused: DepthNeedsV4 at 896' \
+            plainly disk "$command" 3 0 "$workers" <deep_behind
+        expect "$command: no tile behind forty tiles, $workers workers" 2 nothing 'refused: BadTileMark at 880' \
+            plainly disk "$command" 3 0 "$workers" <bad_behind
+    done
+    leaves "put, build: a stream that is refused behind forty tiles, $workers workers" none none
+done
 
 # The volume fails: the file may have 136,192 bytes. The first 64 tiles end at 135,616, and the records of the next
 # 64 would pass that.

@@ -3,6 +3,8 @@
 #![tactic(auto)]
 
 #[cfg(test)]
+mod band_encoding;
+#[cfg(test)]
 mod bands;
 #[cfg(test)]
 mod bands_grids;

@@ -82,6 +82,8 @@ fn target_is_cut(rt: &impl Abort, alloc: Global, source: &Pair, cut: Cut, call: 
     let mut to = cut_volume(rt, alloc, &nothing(alloc), cut, call);
     let packed = packs(rt, alloc, &mut from, &mut to);
     holds_either(rt, alloc, &to, Pick::Oldest);
+    holds_either(rt, alloc, &to, Pick::Newest);
+    holds_either(rt, alloc, &to, Pick::Torn(0));
     holds_either(rt, alloc, &to, Pick::Torn(255));
     packed
 }
@@ -93,6 +95,9 @@ fn source_is_cut(rt: &impl Abort, alloc: Global, source: &Pair, cut: Cut, call: 
     let mut to = empty(rt, alloc);
     let packed = packs(rt, alloc, &mut from, &mut to);
     for vol in &from {
+        keeps(rt, alloc, vol, Pick::Oldest);
+        keeps(rt, alloc, vol, Pick::Newest);
+        keeps(rt, alloc, vol, Pick::Torn(0));
         keeps(rt, alloc, vol, Pick::Torn(255));
     }
     same(rt, "the target's moment", to.moment() == 0, !packed);

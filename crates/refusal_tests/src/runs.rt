@@ -111,7 +111,7 @@ pub(crate) fn all_recover(
     words: &[&str],
     output: &[u8],
 ) -> Result<(), AllocError> {
-    for moment in 0..vol.moment() {
+    for moment in 0..=vol.moment() {
         recovers(rt, alloc, vol, moment, Pick::Oldest, words, output)?;
         recovers(rt, alloc, vol, moment, Pick::Newest, words, output)?;
         recovers(rt, alloc, vol, moment, Pick::Torn(255), words, output)?;
