@@ -1,5 +1,5 @@
-# The functions that the cases of tests/program.sh are made of. They run in a folder of their own; `program`
-# is the program, `passed` and `failed` count the cases.
+# The functions that the cases of tests/program.sh and of other scripts beside it are made of. They run in a folder of
+# their own, `room`; `program` is the program, `passed` and `failed` count the cases.
 #
 # A case is one call of `expect`, with standard input as it is redirected there:
 #
