@@ -44,7 +44,8 @@ use Rattle.lerc_cli.proofs.CrashLemmas.Idle.{clash, keeps_unbuilt, stays, untouc
 use Rattle.lerc_cli.proofs.AnswerLemmas.Outputs.{stopped}
 use Rattle.opened_bundle.proofs.Resting.{shut_ready}
 use Rattle.lerc_cli.proofs.CrashLemmas.Unopened.{refused_volume}
-use Rattle.lerc_cli.proofs.CrashLemmas.PutRuns.{closed_map, earlier_marks, joined_cause, not_output}
+use Rattle.bundle_store.proofs.Standing.{closed_map}
+use Rattle.lerc_cli.proofs.CrashLemmas.PutRuns.{earlier_marks, joined_cause, not_output}
 
 -- ---- the input has no updates, or memory was refused before the volume was called
 

@@ -16,6 +16,7 @@ use Rattle.bundle_store.specs.declared.tile_rec.TileRec.{TileRec}
 use Rattle.bundle_store.specs.Images.{HoldsClosed, Shows}
 use Rattle.bundle_store.specs.Session.{SessionState}
 use Rattle.bundle_store.specs.Tiles.{IsReadable, TileMap, tiles}
+use Rattle.bundle_store.proofs.Standing.{closed_map}
 use Rattle.bundle_lines.specs.declared.stop.PutStop.TheVariants.{Output as PutOutput, Volume as PutVolume, Full as PutFull}
 use Rattle.bundle_lines.specs.Gave.{PutEnd, PutGave, UnlessVolume}
 use Rattle.bundle_lines.specs.Lines.{put_lines}
@@ -202,12 +203,6 @@ put_all_output v e w input told h s d us n r sink of opened room full gave cause
 }
 
 -- ---- the volume
-
--- the journal does not count: the bundle is readable, and these are its tiles
-pub closed_map : (b j : List ℕ) (state : JournalState) (map : TileMap) → ¬ IsOpen j → Says j state → Shows state b map → IsReadable b × (map ≡ tiles b)
-closed_map b j Closed map shut says shows = shows
-closed_map b j (Open body) map shut says shows = absurd (shut says.0)
-closed_map b j (Bad place found) map shut says shows = absurd shows
 
 pub earlier_marks : (marks : List ℕ) (from mid to : ℕ) → from ≤ mid → AreMarks marks mid to → AreMarks marks from to
 earlier_marks marks from mid to first are = record { rising = are.rising; within = λ i lt. (let is = are.within i lt in (omega (arith, first, is.0), is.1)) }
