@@ -50,7 +50,12 @@ fn a_tile_is_given_as_bytes_and_as_a_grid(rt: HostRuntime) {
 }
 
 /// A bundle with this entry of the last slot is listed, checked and recovered so.
-fn is_told(rt: &(impl Abort + AllocGlobal + Threads + Sync), entry: &[u8; 8], listing: &[u8], report: &[u8]) {
+fn is_told(
+    rt: &(impl Abort + AllocGlobal + Threads + Sync),
+    entry: &[u8; 8],
+    listing: &[u8],
+    report: &[u8],
+) {
     gives_from(rt, entry, &[], &["list"], listing);
     gives_from(rt, entry, &[], &["check"], report);
     gives_from(rt, entry, &[], &["recover"], b"closed\n");
@@ -71,7 +76,12 @@ fn a_bundle_is_listed_checked_and_recovered(rt: HostRuntime) {
 
 /// A recovery of a bundle of no tiles beside a journal of these parts gives the line, and the next
 /// one does nothing. The listing is the same behind them as without them.
-fn recovers(rt: &(impl Abort + AllocGlobal + Threads + Sync), parts: &[&[u8]], line: &[u8], listing: &[u8]) {
+fn recovers(
+    rt: &(impl Abort + AllocGlobal + Threads + Sync),
+    parts: &[&[u8]],
+    line: &[u8],
+    listing: &[u8],
+) {
     let journal = joined(rt, parts);
     let mut vol = with_entry(rt, &[0; 8], &journal, &[]);
     gives(rt, &mut vol, &["recover"], line);
@@ -97,7 +107,12 @@ fn an_open_journal_counts_before_each_command(rt: HostRuntime) {
 }
 
 /// The tile of this row of the last column is not there, which both commands tell by this line.
-fn is_missing(rt: &(impl Abort + AllocGlobal + Threads + Sync), entry: &[u8; 8], row: &str, line: &[u8]) {
+fn is_missing(
+    rt: &(impl Abort + AllocGlobal + Threads + Sync),
+    entry: &[u8; 8],
+    row: &str,
+    line: &[u8],
+) {
     tells(rt, entry, &["get", row, "127"], 7, line);
     tells(rt, entry, &["get", row, "127", "raw"], 7, line);
 }
@@ -127,7 +142,12 @@ fn a_tile_that_is_no_blob_is_refused(rt: HostRuntime) {
 }
 
 /// These bytes beside this journal are refused with this line.
-fn refuses(rt: &(impl Abort + AllocGlobal + Threads + Sync), bundle: &[u8], journal: &[&[u8]], line: &[u8]) {
+fn refuses(
+    rt: &(impl Abort + AllocGlobal + Threads + Sync),
+    bundle: &[u8],
+    journal: &[&[u8]],
+    line: &[u8],
+) {
     let mut vol = volume(rt, bundle, &joined(rt, journal), &[]);
     ends(rt, &mut vol, &LAST, (7, 0, b"", line));
 }
@@ -153,7 +173,10 @@ fn a_failing_volume_ends_the_run(rt: HostRuntime) {
 }
 
 /// A bundle whose first slot has a tile of three bytes that are no blob, behind this size.
-fn with_other_format(rt: &(impl Abort + AllocGlobal + Threads + Sync), size: &[u8; 4]) -> MemVolume {
+fn with_other_format(
+    rt: &(impl Abort + AllocGlobal + Threads + Sync),
+    size: &[u8; 4],
+) -> MemVolume {
     let entry = b"\x44\0\x02\0\0\x03\0\0";
     let bundle = joined(rt, &[&FRESH, entry, &no_entries(rt), size, OTHER_FORMAT]);
     volume(rt, &bundle, &[], &[])

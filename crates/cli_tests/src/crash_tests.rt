@@ -19,7 +19,12 @@ const APPLIED: Recovered<'static> = (b"applied\n", &STEPS);
 const NEW: Recovered<'static> = (b"closed\n", &STEPS);
 
 /// One image of a moment.
-fn image(rt: &(impl Abort + AllocGlobal + Threads + Sync), vol: &MemVolume, moment: u64, pick: Pick) -> MemVolume {
+fn image(
+    rt: &(impl Abort + AllocGlobal + Threads + Sync),
+    vol: &MemVolume,
+    moment: u64,
+    pick: Pick,
+) -> MemVolume {
     assert!(rt; moment <= vol.moment());
     vol.crash(rt.alloc(), moment, pick).expect(rt, "memory")
 }
@@ -103,7 +108,12 @@ fn end_of(rt: &(impl Abort + AllocGlobal + Threads + Sync), vol: &MemVolume) -> 
 }
 
 /// A recovery of this image of the moment is recovered again at each of its own moments.
-fn is_recovered_again(rt: &(impl Abort + AllocGlobal + Threads + Sync), vol: &MemVolume, moment: u64, pick: Pick) {
+fn is_recovered_again(
+    rt: &(impl Abort + AllocGlobal + Threads + Sync),
+    vol: &MemVolume,
+    moment: u64,
+    pick: Pick,
+) {
     let mut crashed = image(rt, vol, moment, pick);
     gives(rt, &mut crashed, &["recover"], b"applied\n");
     let end = end_of(rt, &crashed);
@@ -133,7 +143,12 @@ fn gives_either(rt: &(impl Abort + AllocGlobal + Threads + Sync), vol: &mut MemV
 }
 
 /// A put over this image of the moment is cut off at each of its own moments.
-fn is_cut_off_again(rt: &(impl Abort + AllocGlobal + Threads + Sync), vol: &MemVolume, moment: u64, pick: Pick) {
+fn is_cut_off_again(
+    rt: &(impl Abort + AllocGlobal + Threads + Sync),
+    vol: &MemVolume,
+    moment: u64,
+    pick: Pick,
+) {
     let mut crashed = image(rt, vol, moment, pick);
     put_tens(rt, &mut crashed);
     for next in 0..crashed.moment() {

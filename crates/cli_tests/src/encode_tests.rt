@@ -27,7 +27,12 @@ fn grids_are_encoded_in_any_pieces(rt: HostRuntime) {
 }
 
 /// A run of these words over this grid gives a blob that has this image behind its header.
-fn gives_image(rt: &(impl Abort + AllocGlobal + Threads + Sync), words: &[&str], grid: &[u8], image: &[u8]) {
+fn gives_image(
+    rt: &(impl Abort + AllocGlobal + Threads + Sync),
+    words: &[&str],
+    grid: &[u8],
+    image: &[u8],
+) {
     let left = left_behind(rt, words, grid, (7, 100), (&[], &[]));
     same(rt, "status", left.status, 0);
     let found = left.out.held().get(66..).expect(rt, "a header");

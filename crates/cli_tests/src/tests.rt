@@ -80,9 +80,7 @@ fn ran<R: Threads + Sync, V: Volume, G: Gate>(
     vol: &mut V,
     gate: &G,
 ) -> (Report, MemSink, MemSink) {
-    let report = run(
-        rt, alloc, words, &mut src, &mut out, &mut err, vol, gate,
-    );
+    let report = run(rt, alloc, words, &mut src, &mut out, &mut err, vol, gate);
     (report, out, err)
 }
 
@@ -158,7 +156,15 @@ pub(crate) fn left_by<R: Threads + Sync>(
     requires source { 0 < pieces.0 }
     requires output { 0 < pieces.1 }
 {
-    left_over(rt, alloc, words, input, pieces, failing, &mut NoVolume::new())
+    left_over(
+        rt,
+        alloc,
+        words,
+        input,
+        pieces,
+        failing,
+        &mut NoVolume::new(),
+    )
 }
 
 /// The label of a run.
@@ -204,14 +210,24 @@ pub(crate) fn leaves(
 }
 
 /// A run of these words over these bytes, in any pieces, gives this output.
-pub(crate) fn gives(rt: &(impl Abort + AllocGlobal + Threads + Sync), words: &[&str], input: &[u8], output: &[u8]) {
+pub(crate) fn gives(
+    rt: &(impl Abort + AllocGlobal + Threads + Sync),
+    words: &[&str],
+    input: &[u8],
+    output: &[u8],
+) {
     for pieces in [(1, 1), (7, 5), (100, 100), (100, 1000)] {
         leaves(rt, words, input, pieces, (&[], &[]), (0, output, b""));
     }
 }
 
 /// A run of these words over these bytes, in any pieces, tells this line alone.
-pub(crate) fn refuses(rt: &(impl Abort + AllocGlobal + Threads + Sync), words: &[&str], input: &[u8], line: &[u8]) {
+pub(crate) fn refuses(
+    rt: &(impl Abort + AllocGlobal + Threads + Sync),
+    words: &[&str],
+    input: &[u8],
+    line: &[u8],
+) {
     for piece in [1, 7, 100] {
         leaves(rt, words, input, (piece, 100), (&[], &[]), (2, b"", line));
     }
@@ -259,7 +275,11 @@ fn refuses_cut(rt: &(impl Abort + AllocGlobal + Threads + Sync), words: &[&str],
 }
 
 /// A run over any number of the first of these bytes, but not over all, says so.
-pub(crate) fn refuses_each_cut(rt: &(impl Abort + AllocGlobal + Threads + Sync), words: &[&str], input: &[u8]) {
+pub(crate) fn refuses_each_cut(
+    rt: &(impl Abort + AllocGlobal + Threads + Sync),
+    words: &[&str],
+    input: &[u8],
+) {
     for length in 0..input.len() {
         refuses_cut(rt, words, &input[..length]);
     }
@@ -294,7 +314,11 @@ pub(crate) fn fails_at_output(
 }
 
 /// These words are no command.
-pub(crate) fn is_no_command(rt: &(impl Abort + AllocGlobal + Threads + Sync), words: &[&str], input: &[u8]) {
+pub(crate) fn is_no_command(
+    rt: &(impl Abort + AllocGlobal + Threads + Sync),
+    words: &[&str],
+    input: &[u8],
+) {
     leaves(rt, words, input, (100, 100), (&[], &[]), (1, b"", USAGE));
 }
 
@@ -408,7 +432,10 @@ impl Arguments for ListedArguments {
 }
 
 /// These texts as arguments.
-fn arguments_of(rt: &(impl Abort + AllocGlobal + Threads + Sync), texts: &[&[u8]]) -> ListedArguments {
+fn arguments_of(
+    rt: &(impl Abort + AllocGlobal + Threads + Sync),
+    texts: &[&[u8]],
+) -> ListedArguments {
     let mut listed = Vec::new(rt.alloc());
     for text in texts {
         let text = Vec::from_slice(rt.alloc(), text).expect(rt, "memory");

@@ -71,7 +71,10 @@ pub(crate) fn no_entries(rt: &(impl Abort + AllocGlobal + Threads + Sync)) -> Ve
 }
 
 /// A bundle with one record, of a blob, and this entry of the last slot.
-pub(crate) fn bundle_of(rt: &(impl Abort + AllocGlobal + Threads + Sync), entry: &[u8; 8]) -> Vec<u8> {
+pub(crate) fn bundle_of(
+    rt: &(impl Abort + AllocGlobal + Threads + Sync),
+    entry: &[u8; 8],
+) -> Vec<u8> {
     joined(rt, &[&HEADER, &no_entries(rt), entry, b"\x42\0\0\0", &BLOB])
 }
 
@@ -86,7 +89,10 @@ pub(crate) fn with_entry(
 }
 
 /// A bundle with one tile in the last slot. The calls of these numbers fail.
-pub(crate) fn with_one(rt: &(impl Abort + AllocGlobal + Threads + Sync), failing: &[u64]) -> MemVolume {
+pub(crate) fn with_one(
+    rt: &(impl Abort + AllocGlobal + Threads + Sync),
+    failing: &[u64],
+) -> MemVolume {
     with_entry(rt, &ENTRY, &[], failing)
 }
 

@@ -70,7 +70,15 @@ fn read(
     requires { (1 ≤ workers) × (workers ≤ 64) }
 {
     let mut src = source(rt, alloc, bytes, piece, failing);
-    let answer = read_updates(rt, alloc, &mut src, Version::V3, Step::of(0), workers, &Open);
+    let answer = read_updates(
+        rt,
+        alloc,
+        &mut src,
+        Version::V3,
+        Step::of(0),
+        workers,
+        &Open,
+    );
     if answer.is_ok() {
         same(rt, "left", src.take(&mut [0; 1]), Ok(0));
     }
@@ -132,7 +140,13 @@ fn fault(reason: TileReason, place: u64) -> StreamStop {
 }
 
 /// These bytes are refused so, by one worker and by two.
-fn expect_stop(rt: &(impl Abort + Threads + Sync), alloc: Global, bytes: &[u8], piece: usize, stop: StreamStop) {
+fn expect_stop(
+    rt: &(impl Abort + Threads + Sync),
+    alloc: Global,
+    bytes: &[u8],
+    piece: usize,
+    stop: StreamStop,
+) {
     let by_one = read(rt, alloc, bytes, piece, b"", 1).err();
     let by_two = read(rt, alloc, bytes, piece, b"", 2).err();
     same(rt, bytes.len(), by_one, Some(stop));
