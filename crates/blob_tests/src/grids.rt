@@ -284,7 +284,8 @@ fn chequered(rt: &impl Abort, alloc: Global) -> Vec<u8> {
     let head = b"LGR1\x02\xff\x01\x00\x00\x01\x02\x00\x00\x01\x00\x00\x00";
     let mut grid = Vec::from_slice(alloc, head).expect(rt, "memory");
     for k in 0..262143 {
-        grid.push((k % 2) as u8).expect(rt, "memory");
+        grid.push(if k % 2 == 1 { 1 } else { 0 })
+            .expect(rt, "memory");
     }
     for k in 0..262142 {
         grid.push((k % 251) as u8).expect(rt, "memory");
