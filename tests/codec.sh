@@ -174,7 +174,7 @@ expect 'a word of 5,000 bytes' 1 nothing "$usage" plainly - "$long" <blob
 expect 'a second word' 1 nothing "$usage" plainly - decode x <blob
 expect 'a second word that is empty' 1 nothing "$usage" plainly - decode '' <blob
 expect 'a second word that is no UTF-8' 1 nothing "$usage" plainly - decode "$bad_text" <blob
-for words in 'sample 7 0' 'build 3 0' 'build 3 0 0' 'build 3 0 65' 'build 5 0 1' 'put' 'put 3 4294967296 1' \
+for words in 'sample 7' 'build 3 0' 'build 3 0 0' 'build 3 0 65' 'build 5 0 1' 'put' 'put 3 4294967296 1' \
     'put 3 0 01' 'put 3 0 1 1' 'get 0' 'get 128 0' 'get 0 128' 'get 01 0' 'get 0 0 RAW' 'get 0 0 raw raw' 'list x' \
     'check x' 'recover x'; do
     # shellcheck disable=SC2086
