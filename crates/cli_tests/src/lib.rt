@@ -22,6 +22,8 @@ mod put_tests;
 #[cfg(test)]
 mod same;
 #[cfg(test)]
+mod stop_tests;
+#[cfg(test)]
 mod tests;
 #[cfg(test)]
 mod volumes;
