@@ -7,6 +7,7 @@ root=$(cd "$(dirname "$(readlink -f "${BASH_SOURCE[0]}")")/.." && pwd)
 programs() {
     echo lerc_cli lerc_main
     echo ascii_grid ascii_grid_main
+    echo level_cache level_cache_main
 }
 
 crate_of() { programs | awk -v name="$1" '$1 == name { print $2 }'; }

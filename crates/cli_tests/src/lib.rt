@@ -24,6 +24,8 @@ mod same;
 #[cfg(test)]
 mod stop_tests;
 #[cfg(test)]
+mod stream_tests;
+#[cfg(test)]
 mod tests;
 #[cfg(test)]
 mod volumes;
