@@ -4,6 +4,8 @@ ghost use Rattle.std.specs.Prelude.{◌≡◌, ◌<◌, ◌≤◌, Err, IfErr, I
 ghost use Rattle.outside_io.specs.streams.Faults.{IsCause};
 ghost use Rattle.outside_io.specs.streams.Source.{IsAtEnd};
 ghost use Rattle.raster_values.specs.Bands.{AreBands};
+ghost use Rattle.grid_blobs.specs.declared.stop.InputReason.{InputReason};
+ghost use Rattle.grid_blobs.specs.declared.stop.InputStop.{InputStop};
 ghost use Rattle.grid_blobs.specs.Blobs.{AreBlobsOf};
 ghost use Rattle.grid_blobs.specs.Stops.{IsStopOf};
 ghost use Rattle.grid_blobs.specs.inside.Reads.{MakesBlobs, ReadsGrid};
@@ -15,6 +17,16 @@ use outside_io::{Bytes, Source};
 use program_ends::has_more;
 use raster_values::{Bands, bands_read, bands_size};
 use std::alloc::Global;
+
+/// That a byte stands behind the grid.
+fn leftover(place: u64) -> InputStop
+    ensures { result ≡ InputStop.Fault (record { reason = InputReason.Leftover; place = place }) }
+{
+    InputStop::Fault(InputFault {
+        reason: InputReason::Leftover,
+        place,
+    })
+}
 
 /// Reads the bands of the grid that is all that the source has. Behind the grid it asks for one
 /// byte more, so that it knows the end.
@@ -30,10 +42,7 @@ fn read_grid<S: Source>(alloc: Global, src: &mut S) -> Result<Bands, InputStop>
     };
     match has_more(src) {
         Ok(false) => Ok(bands),
-        Ok(true) => Err(InputStop::Fault(InputFault {
-            reason: InputReason::Leftover,
-            place: bands_size(&bands),
-        })),
+        Ok(true) => Err(leftover(bands_size(&bands))),
         Err(_) => Err(InputStop::Source),
     }
 }
