@@ -46,12 +46,16 @@ reads_more bands place (Some input) mid new ends (grid, (stands, (rest, (joined,
 
 pub makes : (version : Version) (error step : ℕ) (bands : List Pixels) (blobs : List ℕ) → step ≡ step_of error → ¬ BandsNeedV4 version bands → blobs ≡ chosen_bands None bands version step → DeclareEach blobs bands version step
     → AreEncodedOnce blobs bands step → length blobs ≤ 134217728 → MakesBlobs version error bands (Ok blobs)
-makes version error step bands blobs said flat chosen declared once few =
-    (flat, record {
-      chosen = subst (λ (n : ℕ). blobs ≡ chosen_bands None bands version n) said chosen;
-      declared = subst (λ (n : ℕ). DeclareEach blobs bands version n) said declared;
-      once = subst (λ (n : ℕ). AreEncodedOnce blobs bands n) said once;
-    }, bands_some blobs once.rasters once.blobs, few)
+makes version error step bands blobs said flat chosen declared once few = (
+  flat,
+  record {
+    chosen = subst (λ (n : ℕ). blobs ≡ chosen_bands None bands version n) said chosen;
+    declared = subst (λ (n : ℕ). DeclareEach blobs bands version n) said declared;
+    once = subst (λ (n : ℕ). AreEncodedOnce blobs bands n) said once;
+  },
+  bands_some blobs once.rasters once.blobs,
+  few,
+)
 
 needs_v4 : (version : Version) (bands : List Pixels) → BandsNeedV4 version bands → version ≡ V3
 needs_v4 version [] deep = absurd deep

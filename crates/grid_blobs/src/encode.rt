@@ -48,12 +48,7 @@ fn read_grid<S: Source>(alloc: Global, src: &mut S) -> Result<Bands, InputStop>
 }
 
 /// The blobs that are chosen for bands.
-fn blobs_of(
-    alloc: Global,
-    bands: &Bands,
-    version: Version,
-    error: u32,
-) -> Result<Bytes, InputStop>
+fn blobs_of(alloc: Global, bands: &Bands, version: Version, error: u32) -> Result<Bytes, InputStop>
     requires { AreBands bands.now }
     ensures { MakesBlobs version error bands.now result }
 {

@@ -106,7 +106,6 @@ none_failed P Q old new never same = record {
   rose = λ more. absurd (omega (arith, same, more));
 }
 
-
 failed : (P Q : Type 0) (old new : ℕ) → P → (old < new) ⊎ ((old ≡ 18446744073709551615) × (new ≡ old)) → IsVolumeCause P Q old new
 failed P Q old new is how = record {
   counts = elim how [ inl more ↦ omega (arith, more) | inr same ↦ omega (arith, same.1) ];
@@ -119,7 +118,7 @@ steady : (place : Corner) (fault : StoreFault) (Q : Type 0) (old new : ℕ) → 
     → IsVolumeCause (◌≡◌ {A = End} (Err (store_stop_of place fault)) (Err Volume)) Q old new
 steady place fault Q old new other same = none_failed _ Q old new (λ e. other (stop_of _ _ e)) same
 
-pub put_cause : (place : Corner) (size : ℕ) (fault : LevelFault) (old new : ℕ) → 0 < size → OnStore (PutRefusal size) fault → DeviceRose {Unit {0}} (Err fault) old new
+pub put_cause : (place : Corner) (size : ℕ) (fault : LevelFault) (old new : ℕ) → 0 < size → OnStore (PutRefusal size) fault → DeviceRose {X = Unit {0}} (Err fault) old new
     → IsVolumeCause (◌≡◌ {A = End} (Err (level_stop_of place fault)) (Err Volume)) (◌≡◌ {A = End} (Err (level_stop_of place fault)) (Err (Refused ShelfFailed))) old new
 put_cause place size ShelfOf old new some why rose = record { counts = rose; cause = λ e. absurd (let is = stop_of _ _ e in cc); rose = λ more. inr refl }
 put_cause place size (StoreOf Device) old new some why rose = failed _ _ old new refl rose
@@ -134,7 +133,7 @@ put_cause place size (StoreOf (NotEmpty n)) old new some why rose = absurd why
 put_cause place size (StoreOf NoMemory) old new some why rose = steady place NoMemory _ old new (λ e. cc) rose
 put_cause place size (StoreOf Stopped) old new some why rose = absurd why
 
-pub get_cause : (place : Corner) (fault : LevelFault) (old new : ℕ) → OnStore GetRefusal fault → DeviceRose {List ℕ} (Err fault) old new
+pub get_cause : (place : Corner) (fault : LevelFault) (old new : ℕ) → OnStore GetRefusal fault → DeviceRose {X = List ℕ} (Err fault) old new
     → IsVolumeCause (◌≡◌ {A = End} (Err (level_stop_of place fault)) (Err Volume)) (◌≡◌ {A = End} (Err (level_stop_of place fault)) (Err (Refused ShelfFailed))) old new
 get_cause place ShelfOf old new why rose = record { counts = rose; cause = λ e. absurd (let is = stop_of _ _ e in cc); rose = λ more. inr refl }
 get_cause place (StoreOf Device) old new why rose = failed _ _ old new refl rose

@@ -20,7 +20,7 @@ pub record PutsTile {V : Type 0} (told : V → Bool) (history : V → History) (
   pub tile : List ℕ
   pub blobs : AreBlobsOf version error input tile
   pub line : Holds out.held.old out.held.new (put_line place (length tile))
-  pub puts : IsTrue shelf.told → Lends {V} {Unit {0}} told history faults
+  pub puts : IsTrue shelf.told → Lends {X = Unit {0}} told history faults
       (λ r old new. PutsIn r (slot_of place) tile old new) (Ok tt)
       (shelf.volumes.old (base_of place)) (shelf.volumes.new (base_of place))
   pub beside : IsTrue shelf.told

@@ -59,11 +59,11 @@ PutEnds place tile (Err fault) end out = (end ≡ Err (level_stop_of place fault
 -- The tile was handed to the level, which answers this of the place's volume.
 pub record PutsAt {V : Type 0} (told : V → Bool) (history : V → History) (faults : V → ℕ)
     (place : Corner) (tile : List ℕ) (end : End) (out : SinkMove) (shelf : ShelfMove V) : Type 0
-    where
-  pub answer : Result (Unit {0}) LevelFault
-  pub moves : IsTrue shelf.told → LevelMoves answer (base_of place) shelf.volumes.old
-      shelf.volumes.new (Lends told history faults (λ r old new. PutsIn r (slot_of place) tile old new))
-  pub ends : PutEnds place tile answer end out
+  where
+    pub answer : Result (Unit {0}) LevelFault
+    pub moves : IsTrue shelf.told → LevelMoves answer (base_of place) shelf.volumes.old
+        shelf.volumes.new (Lends told history faults (λ r old new. PutsIn r (slot_of place) tile old new))
+    pub ends : PutEnds place tile answer end out
 
 -- no blobs were made
 abbrev pub StopsBefore : Version → Option (List ℕ) → End → Type 0

@@ -12,8 +12,8 @@ ghost use Rattle.level_cache.specs.Places.{base_of};
 
 use crate::refusal::{Refusal, input_stop, level_stop};
 use grid_blobs::encode_grid;
-use level_cache::{Base, Place, Shelf, bundle_name, level_get, level_put};
 use lerc_header::Version;
+use level_cache::{Base, Place, Shelf, bundle_name, level_get, level_put};
 use outside_io::{Line, Sink, Source, give_all};
 use program_ends::Stop;
 use std::alloc::Global;

@@ -8,8 +8,8 @@ ghost use Rattle.level_cli.specs.Commands.{ArePlaceWords, IsSpelled};
 ghost use Rattle.level_cli.specs.inside.Spelling.{IsGet, IsName, IsPut};
 
 use command_words::{error_of, has_text, version_of, within};
-use level_cache::Place;
 use lerc_header::Version;
+use level_cache::Place;
 use outside_io::Word;
 
 /// What is told where the words are no command: the commands that there are.

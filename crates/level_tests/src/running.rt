@@ -52,7 +52,12 @@ fn a_tile_is_put_into_its_bundle(rt: HostRuntime) {
         (7, b"", b"store: NoTile 0 127\n"),
     );
     bundle_has(&rt, &mut shelf, base_at(&rt, 0, 0), 0, (0, [0; 8]));
-    gives(&rt, &mut shelf, &["get", "128", "127", "raw"], (0, &BLOB, b""));
+    gives(
+        &rt,
+        &mut shelf,
+        &["get", "128", "127", "raw"],
+        (0, &BLOB, b""),
+    );
 }
 
 #[test]
@@ -60,9 +65,26 @@ fn tiles_of_two_bundles_do_not_meet(rt: HostRuntime) {
     let mut shelf = shelf(&rt);
     ends(&rt, &mut shelf, &PUT, &GRID, NONE, PUT_DONE);
     let done = (0, b"put 127 127 72\n".as_slice(), b"".as_slice());
-    ends(&rt, &mut shelf, &["put", "3", "1", "127", "127"], &TENS, NONE, done);
-    gives(&rt, &mut shelf, &["get", "128", "127", "raw"], (0, &BLOB, b""));
-    gives(&rt, &mut shelf, &["get", "127", "127", "raw"], (0, &STEPS, b""));
+    ends(
+        &rt,
+        &mut shelf,
+        &["put", "3", "1", "127", "127"],
+        &TENS,
+        NONE,
+        done,
+    );
+    gives(
+        &rt,
+        &mut shelf,
+        &["get", "128", "127", "raw"],
+        (0, &BLOB, b""),
+    );
+    gives(
+        &rt,
+        &mut shelf,
+        &["get", "127", "127", "raw"],
+        (0, &STEPS, b""),
+    );
 }
 
 #[test]
@@ -87,7 +109,11 @@ fn an_input_that_is_no_grid_is_refused(rt: HostRuntime) {
     longer[..19].copy_from_slice(&GRID);
     let more = (2, b"".as_slice(), b"refused: Leftover at 19\n".as_slice());
     ends(&rt, &mut shelf, &PUT, &longer, NONE, more);
-    let deep = (2, b"".as_slice(), b"refused: DepthNeedsV4 at 13\n".as_slice());
+    let deep = (
+        2,
+        b"".as_slice(),
+        b"refused: DepthNeedsV4 at 13\n".as_slice(),
+    );
     ends(&rt, &mut shelf, &PUT, &TENS_DEEP, NONE, deep);
 }
 
@@ -104,7 +130,12 @@ fn a_stream_that_fails_is_told(rt: HostRuntime) {
     );
     let output = (4, b"put".as_slice(), b"output failed\n".as_slice());
     ends(&rt, &mut shelf, &PUT, &GRID, (&[], &[1]), output);
-    gives(&rt, &mut shelf, &["get", "128", "127", "raw"], (0, &BLOB, b""));
+    gives(
+        &rt,
+        &mut shelf,
+        &["get", "128", "127", "raw"],
+        (0, &BLOB, b""),
+    );
 }
 
 /// A shelf of which this call fails.
@@ -126,7 +157,12 @@ fn a_shelf_that_fails_is_told(rt: HostRuntime) {
     );
     let mut giving = failing(&rt, 1);
     ends(&rt, &mut giving, &PUT, &GRID, NONE, SHELF_FAILED);
-    gives(&rt, &mut giving, &["get", "128", "127", "raw"], (0, &BLOB, b""));
+    gives(
+        &rt,
+        &mut giving,
+        &["get", "128", "127", "raw"],
+        (0, &BLOB, b""),
+    );
 }
 
 #[test]
@@ -136,5 +172,10 @@ fn a_third_bundle_has_no_volume(rt: HostRuntime) {
     let none = (7, b"".as_slice(), b"store: NoTile 0 0\n".as_slice());
     gives(&rt, &mut shelf, &["get", "0", "0", "raw"], none);
     gives(&rt, &mut shelf, &["get", "0", "128", "raw"], SHELF_FAILED);
-    gives(&rt, &mut shelf, &["get", "128", "127", "raw"], (0, &BLOB, b""));
+    gives(
+        &rt,
+        &mut shelf,
+        &["get", "128", "127", "raw"],
+        (0, &BLOB, b""),
+    );
 }

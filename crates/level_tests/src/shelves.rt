@@ -143,7 +143,12 @@ pub(crate) fn ends_or_fails(
     let found = (left.status, left.out.held(), left.err.held());
     let fails = left.status != 0;
     if fails {
-        same(rt, "a run that fails", found, (5, b"".as_slice(), b"volume failed\n".as_slice()));
+        same(
+            rt,
+            "a run that fails",
+            found,
+            (5, b"".as_slice(), b"volume failed\n".as_slice()),
+        );
     } else {
         same(rt, "a run", found, (0, output, b"".as_slice()));
     }
