@@ -50,6 +50,13 @@ impl<R: Files + Drop> FileVolume<R> {
             tally: Tally::new(),
         }
     }
+
+    /// How many of its calls have failed, up to 2^64 - 1.
+    pub fn faults(&self) -> u64
+        ensures { result ≡ self.now.faults }
+    {
+        self.tally.faults()
+    }
 }
 
 // The two files of the machine.

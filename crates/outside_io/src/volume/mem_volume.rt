@@ -112,6 +112,13 @@ impl MemVolume {
         )
     }
 
+    /// How many of its calls have failed, up to 2^64 - 1.
+    pub fn faults(&self) -> u64
+        ensures { result ≡ self.now.faults }
+    {
+        self.faults
+    }
+
     // One image of that file at that moment.
     fn picked(
         &self,

@@ -39,6 +39,13 @@ impl Tally {
         self.clock
     }
 
+    /// How many calls have failed, up to 2^64 - 1.
+    pub fn faults(&self) -> u64
+        ensures { result ≡ self.now.faults }
+    {
+        self.failures
+    }
+
     /// Whether the clock can go on.
     pub fn has_time(&self) -> bool
         ensures { IsTrue result ↔ (self.now.moment < 2 ^ 64 - 1) }

@@ -1,0 +1,7 @@
+mod Corners
+mod Crashes
+mod Levels
+mod Naming
+mod Places
+mod Returns
+mod Steps

@@ -1,0 +1,17 @@
+pub use Rattle.outside_io.specs.streams.Faults
+pub use Rattle.outside_io.specs.volume.Disk
+pub use Rattle.outside_io.specs.volume.History
+pub use Rattle.bundle_store.specs.Causes
+pub use Rattle.bundle_store.specs.Images
+pub use Rattle.bundle_store.specs.Recover
+pub use Rattle.bundle_store.specs.Tiles
+pub use Rattle.opened_bundle.specs.Files
+pub mod Places
+pub mod Names
+pub mod Shelf
+pub mod Calls
+pub mod Maps
+pub mod Memory
+pub mod Folder
+pub mod Crashes
+pub mod inside
