@@ -112,7 +112,8 @@ fn digits_of(n: u32) -> usize
 /// The name of the base's bundle: `R`, its first row, `C`, its first column, both in four or more
 /// lower-case hexadecimal digits, and `.bundle`. It takes no memory.
 pub fn bundle_name(base: Base) -> Name
-    ensures { IsName base result }
+    ensures named { IsName base result }
+    ensures short { length result ≤ 25 }
 {
     let mut name = Name::new();
     name.text(b"R");
