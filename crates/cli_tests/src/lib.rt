@@ -22,10 +22,6 @@ mod put_tests;
 #[cfg(test)]
 mod same;
 #[cfg(test)]
-mod stop_tests;
-#[cfg(test)]
-mod stream_tests;
-#[cfg(test)]
 mod tests;
 #[cfg(test)]
 mod volumes;

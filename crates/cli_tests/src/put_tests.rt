@@ -28,7 +28,7 @@ const TWO_PIXELS: [&[u8]; 4] = [LAST_SLOT, &GRID, LAST_SLOT, &GRID];
 const FOUR_TENS: [&[u8]; 2] = [LAST_SLOT, &TENS];
 
 /// Puts a tile of one pixel into the last slot.
-pub(crate) fn put_pixel(rt: &(impl Abort + AllocGlobal), vol: &mut MemVolume) {
+fn put_pixel(rt: &(impl Abort + AllocGlobal), vol: &mut MemVolume) {
     let done = (0, 1, b"put 127 127 66\n".as_slice(), b"".as_slice());
     fed(rt, vol, &PUT, &PIXEL, &[], done);
 }
