@@ -8,7 +8,7 @@ pub use Rattle.opened_bundle.specs.Refusals
 pub use Rattle.grid_blobs.specs.Blobs
 pub use Rattle.grid_blobs.specs.Stops
 pub use Rattle.level_cache.specs.Calls
-pub use Rattle.level_cache.specs.Names
+pub use Rattle.level_cache.specs.Names as BundleNames
 pub use Rattle.level_cache.specs.Places
 pub mod Commands
 pub mod Folders

@@ -1,6 +1,6 @@
 //! A command is done.
 
-ghost use Rattle.std.specs.Prelude.{◌≡◌, ◌≤◌, None, Err, length};
+ghost use Rattle.std.specs.Prelude.{◌≡◌, ℕ, List, None, Err};
 ghost use Rattle.outside_io.specs.streams.Faults.{IsCause};
 ghost use Rattle.program_ends.specs.Moves.{sink_move};
 ghost use Rattle.program_ends.specs.declared.stop.Stop.{Stop};
