@@ -44,14 +44,20 @@ fn a_bundle_has_its_name(rt: HostRuntime) {
 fn a_tile_is_put_into_its_bundle(rt: HostRuntime) {
     let mut shelf = shelf(&rt);
     ends(&rt, &mut shelf, &PUT, &GRID, NONE, PUT_DONE);
-    bundle_has(&rt, &mut shelf, base_at(&rt, 128, 0), 1080, (131206, ENTRY));
+    bundle_has(
+        &rt,
+        &mut shelf,
+        base_at(&rt, 128, 0),
+        1080,
+        (131206, &ENTRY),
+    );
     gives(
         &rt,
         &mut shelf,
         &["get", "0", "127", "raw"],
         (7, b"", b"store: NoTile 0 127\n"),
     );
-    bundle_has(&rt, &mut shelf, base_at(&rt, 0, 0), 0, (0, [0; 8]));
+    bundle_has(&rt, &mut shelf, base_at(&rt, 0, 0), 0, (0, &[0; 8]));
     gives(
         &rt,
         &mut shelf,

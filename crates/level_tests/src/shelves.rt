@@ -160,8 +160,8 @@ pub(crate) fn base_at(rt: &impl Abort, row: u32, col: u32) -> Base {
     Place::of(row, col).expect(rt, "a place").base()
 }
 
-/// What was found in a bundle: its length, and eight bytes at a place.
-type Found = (u64, [u8; 8]);
+/// What a bundle has: its length, and eight bytes at a place.
+type Held<'a> = (u64, &'a [u8]);
 
 /// The bundle of a base has this length, and these bytes at the place.
 pub(crate) fn bundle_has(
@@ -169,7 +169,7 @@ pub(crate) fn bundle_has(
     shelf: &mut MemShelf,
     base: Base,
     place: u64,
-    wanted: Found,
+    wanted: Held<'_>,
 )
     requires { shelf.old.out ≡ None }
     ensures { shelf.new.out ≡ None }
@@ -181,5 +181,6 @@ pub(crate) fn bundle_has(
     let given = shelf.give(base, vol);
     same(rt, "the bundle is given back", given, Ok(()));
     same(rt, "the bundle is read", read.is_ok(), true);
-    same(rt, "the bundle", (len, found), (Ok(wanted.0), wanted.1));
+    same(rt, "its length", len, Ok(wanted.0));
+    same(rt, "its bytes", found.as_slice(), wanted.1);
 }
