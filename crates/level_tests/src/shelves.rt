@@ -22,7 +22,9 @@ pub(crate) struct Left {
 pub(crate) type Wanted<'a> = (u8, &'a [u8], &'a [u8]);
 
 /// A file of no bytes.
-fn no_bytes(alloc: Global) -> Start {
+fn no_bytes(alloc: Global) -> Start
+    ensures { result.len ≡ 0 }
+{
     Start::new(0, Vec::new(alloc))
 }
 
