@@ -8,6 +8,7 @@ programs() {
     echo lerc_cli lerc_main
     echo ascii_grid ascii_grid_main
     echo bundle_pack bundle_pack_main
+    echo level_cache level_cache_main
 }
 
 # How many of the first words of a program's worked example are paths of files that it makes.

@@ -1,0 +1,10 @@
+pub use Rattle.outside_io.specs.streams.Faults
+pub use Rattle.outside_io.specs.streams.Source
+pub use Rattle.raster_values.specs.Bands
+pub use Rattle.raster_values.specs.BandsGrid
+pub use Rattle.lerc_header.specs.Written
+pub use Rattle.lerc_encode.specs.Choice
+pub use Rattle.lerc_encode.specs.Encoded
+pub mod Blobs
+pub mod Stops
+pub mod inside

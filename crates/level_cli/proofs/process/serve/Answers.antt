@@ -1,0 +1,30 @@
+use Rattle.std.proofs.Common.{inl, inr, refl, subst, sym, ◌∙◌}
+use Rattle.program_ends.specs.Stop.{line_by}
+use Rattle.level_cli.specs.Commands.{IsNoCommand, IsSpelled}
+use Rattle.program_ends.proofs.Words.{told_words}
+use Rattle.level_cli.proofs.process.serve.Goals as goal
+
+pub returns-in-Ok-clause-usage : goal.returns-in-Ok-clause-usage
+returns-in-Ok-clause-usage g c = λ texts told none.
+    let words_are = c.deref.ensures.value ∙ told_words 2 _ texts _ told c.in-Ok.ensures in
+    inl (c.exit_code.ensures ∙ c.run_level.ensures.usage.1 (subst IsNoCommand (sym words_are) none))
+
+pub returns-in-Ok-clause-ran : goal.returns-in-Ok-clause-ran
+returns-in-Ok-clause-ran g c = λ texts told command spelled.
+    let words_are = c.deref.ensures.value ∙ told_words 2 _ texts _ told c.in-Ok.ensures in
+    inr (rw c.exit_code.ensures (c.run_level.ensures.ran command (subst (IsSpelled command) (sym words_are) spelled)))
+
+pub returns-in-Err-clause-ran : goal.returns-in-Err-clause-ran
+unfolding line_by
+returns-in-Err-clause-ran g c = λ texts told command spelled. inl (record {
+  status_is = c.end_without_memory.ensures.status;
+  source = refl;
+  output = refl;
+  level = refl;
+  line = c.end_without_memory.ensures.line;
+})
+
+pub returns-in-Ok-clause-unused : goal.returns-in-Ok-clause-unused
+returns-in-Ok-clause-unused g c = λ one.
+    let is = sym c.exit_code.ensures ∙ one in
+    let u = c.run_level.ensures.unused is in (u.0, u.1, u.2, c.run_level.ensures.usage_told is)

@@ -1,0 +1,18 @@
+pub use Rattle.outside_io.specs.program.Line
+pub use Rattle.outside_io.specs.streams.Faults
+pub use Rattle.outside_io.specs.streams.Sink
+pub use Rattle.program_ends.specs.Moves
+pub use Rattle.program_ends.specs.Stop
+pub use Rattle.command_words.specs.Words
+pub use Rattle.opened_bundle.specs.Refusals
+pub use Rattle.grid_blobs.specs.Blobs
+pub use Rattle.grid_blobs.specs.Stops
+pub use Rattle.level_cache.specs.Calls
+pub use Rattle.level_cache.specs.Names as BundleNames
+pub use Rattle.level_cache.specs.Places
+pub mod Commands
+pub mod Folders
+pub mod Names
+pub mod Run
+pub mod InWords
+pub mod inside

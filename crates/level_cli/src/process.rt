@@ -1,0 +1,54 @@
+//! The program over the words of its command line.
+
+ghost use Rattle.std.specs.Prelude.{◌≡◌, ◌⊎◌, ℕ, List, None, Some, drop};
+ghost use Rattle.std.specs.Process.{exit_status};
+ghost use Rattle.outside_io.specs.program.Line.{GivesLine};
+ghost use Rattle.program_ends.specs.Moves.{sink_move, source_move};
+ghost use Rattle.program_ends.specs.declared.stop.Stop.{Stop};
+ghost use Rattle.level_cli.specs.Commands.{IsNoCommand, IsSpelled};
+ghost use Rattle.level_cli.specs.Names.{line_of};
+ghost use Rattle.level_cli.specs.Run.{IsUnread, OfRun, shelf_move};
+ghost use Rattle.level_cli.specs.declared.words.Command.{Command};
+
+use crate::dispatch::run_level;
+use level_cache::Shelf;
+use outside_io::{Sink, Source};
+use program_ends::{Arguments, end_without_memory, exit_code, words_from};
+use std::alloc::Global;
+use std::process::ExitCode;
+
+/// The program over what gives its arguments and over its objects: a run of the words behind the
+/// program's name and the folder. Where memory for these words is refused, the line of that is all
+/// that it gives.
+pub fn serve<A: Arguments, S: Source, K: Sink, E: Sink, H: Shelf>(
+    alloc: Global,
+    args: &A,
+    src: &mut S,
+    out: &mut K,
+    err: &mut E,
+    shelf: &mut H,
+) -> ExitCode
+    requires none_out { H.out shelf.old ≡ None }
+    ensures usage { (texts : List (List ℕ)) → A.texts args.now ≡ Some texts
+        → IsNoCommand (drop 2 texts) → (exit_status result ≡ 1) ⊎ (exit_status result ≡ 6) }
+    ensures unused { exit_status result ≡ 1 → (src.new ≡ src.old) × (out.new ≡ out.old)
+        × (shelf.new ≡ shelf.old)
+        × GivesLine (E.held err.old) (E.held err.new) (E.faults err.old) (E.faults err.new)
+        (line_of Stop.Usage) }
+    ensures ran { (texts : List (List ℕ)) → A.texts args.now ≡ Some texts
+        → (c : Command) → IsSpelled c (drop 2 texts)
+        → IsUnread (exit_status result) (source_move S.left S.faults src.old src.new)
+        (sink_move K.held K.faults out.old out.new)
+        (shelf_move H.told H.volumes shelf.old shelf.new)
+        (sink_move E.held E.faults err.old err.new)
+        ⊎ OfRun H.Vol.told H.Vol.history H.Vol.faults c (exit_status result)
+        (source_move S.left S.faults src.old src.new)
+        (sink_move K.held K.faults out.old out.new)
+        (shelf_move H.told H.volumes shelf.old shelf.new)
+        (sink_move E.held E.faults err.old err.new) }
+{
+    match words_from(alloc, args, 2) {
+        Ok(words) => exit_code(run_level(alloc, &words, src, out, err, shelf)),
+        Err(_) => end_without_memory(err),
+    }
+}
