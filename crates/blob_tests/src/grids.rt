@@ -287,8 +287,10 @@ fn chequered(rt: &impl Abort, alloc: Global) -> Vec<u8> {
         grid.push(if k % 2 == 1 { 1 } else { 0 })
             .expect(rt, "memory");
     }
-    for k in 0..262142 {
-        grid.push((k % 251) as u8).expect(rt, "memory");
+    let mut byte: u8 = 0;
+    for _ in 0..262142 {
+        grid.push(byte).expect(rt, "memory");
+        byte = if byte < 250 { byte + 1 } else { 0 };
     }
     grid
 }
