@@ -3,8 +3,8 @@
 //! on `program_ends` and on `outside_io`.
 #![tactic(auto)]
 
-use level_cache::FileShelf;
-use level_cli::{NoShelf, folder_at, serve};
+use level_cache::{FileShelf, MemShelf};
+use level_cli::{folder_at, serve};
 use outside_io::{StdSink, StdSource, hold_numbers};
 use program_ends::{ProcessArguments, end_without_memory};
 use std::process::ExitCode;
@@ -22,10 +22,11 @@ fn main(rt: HostRuntime) -> ExitCode {
             let mut shelf = FileShelf::new(rt, folder);
             serve(alloc, &args, &mut src, &mut out, &mut err, &mut shelf)
         }
-        Ok(_) => {
-            let mut shelf = NoShelf::new();
-            serve(alloc, &args, &mut src, &mut out, &mut err, &mut shelf)
-        }
+        // A folder that cannot be named: no volume is left for any bundle, so that each take fails.
+        Ok(_) => match MemShelf::new(alloc, Vec::new(alloc), Vec::new(alloc)) {
+            Ok(mut shelf) => serve(alloc, &args, &mut src, &mut out, &mut err, &mut shelf),
+            Err(_) => end_without_memory(&mut err),
+        },
         Err(_) => end_without_memory(&mut err),
     }
 }

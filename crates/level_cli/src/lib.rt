@@ -12,7 +12,6 @@
 
 mod dispatch;
 mod folder;
-mod no_shelf;
 mod perform;
 mod process;
 mod refusal;
@@ -20,7 +19,6 @@ mod words;
 
 pub use dispatch::run_level;
 pub use folder::folder_at;
-pub use no_shelf::NoShelf;
 pub use process::serve;
 pub use refusal::Refusal;
 pub use words::{Command, USAGE};
