@@ -1,4 +1,5 @@
 mod Ended
 mod Ends
+mod Granted
 mod Outputs
 mod Spelled

@@ -14,7 +14,7 @@ use Rattle.grid_blobs.specs.declared.stop.InputStop.TheVariants.{Fault as FaultO
 use Rattle.grid_blobs.specs.Blobs.{AreBlobsOf}
 use Rattle.grid_blobs.specs.Stops.{IsStopOf}
 use Rattle.level_cache.specs.declared.level.LevelFault.{LevelFault}
-use Rattle.level_cache.specs.Calls.{GetsFrom, Lends, LevelMoves, PutsIn}
+use Rattle.level_cache.specs.Calls.{GetRefusal, GetsFrom, Lends, LevelMoves, OnStore, PutRefusal, PutsIn}
 use Rattle.level_cache.specs.Names.{IsName}
 use Rattle.level_cache.specs.Places.{Corner, base_of, slot_of}
 use Rattle.level_cli.specs.Names.{End, input_stop_of, level_stop_of, name_line, put_line}
@@ -50,37 +50,39 @@ module _ {V X K : Type 0} (told : V → Bool) (history : V → History) (faults 
 
   pub put_refused : (fault : LevelFault) (out : K) (old new : X) → AreBlobsOf version error input tile
       → (IsTrue (tells old) → LevelMoves (Err fault) (base_of place) (volumes old) (volumes new) (Lends told history faults (λ r h k. PutsIn r (slot_of place) tile h k)))
+      → OnStore (PutRefusal (length tile)) fault
       → OfPut told history faults version error place input (Err (level_stop_of place fault)) (sink_move held count out out) (shelf_move tells volumes old new)
-  put_refused fault out old new blobs moves = inr (tile, (blobs, record { answer = Err fault; moves = moves; ends = (refl, refl) }))
+  put_refused fault out old new blobs moves why = inr (tile, (blobs, record { answer = Err fault; moves = moves; fails = why; ends = (refl, refl) }))
 
   pub put_gave : (out_old out_new : K) (old new : X) → AreBlobsOf version error input tile
       → (IsTrue (tells old) → LevelMoves (Ok tt) (base_of place) (volumes old) (volumes new) (Lends told history faults (λ r h k. PutsIn r (slot_of place) tile h k)))
       → Holds (held out_old) (held out_new) (put_line place (length tile))
       → OfPut told history faults version error place input (Ok tt) (sink_move held count out_old out_new) (shelf_move tells volumes old new)
-  put_gave out_old out_new old new blobs moves gave = inr (tile, (blobs, record { answer = Ok tt; moves = moves; ends = gave }))
+  put_gave out_old out_new old new blobs moves gave = inr (tile, (blobs, record { answer = Ok tt; moves = moves; fails = tt; ends = gave }))
 
   pub put_cut : (out_old out_new : K) (old new : X) → AreBlobsOf version error input tile
       → (IsTrue (tells old) → LevelMoves (Ok tt) (base_of place) (volumes old) (volumes new) (Lends told history faults (λ r h k. PutsIn r (slot_of place) tile h k)))
       → HoldsPrefix (held out_old) (held out_new) (put_line place (length tile))
       → OfPut told history faults version error place input (Err Output) (sink_move held count out_old out_new) (shelf_move tells volumes old new)
-  put_cut out_old out_new old new blobs moves gave = inr (tile, (blobs, record { answer = Ok tt; moves = moves; ends = gave }))
+  put_cut out_old out_new old new blobs moves gave = inr (tile, (blobs, record { answer = Ok tt; moves = moves; fails = tt; ends = gave }))
 
 -- ---- `get`
 
 module _ {V X K : Type 0} (told : V → Bool) (history : V → History) (faults : V → ℕ) (held : K → Option (List ℕ)) (count : K → ℕ) (tells : X → Bool) (volumes : X → Corner → Option V) (place : Corner) where
   pub get_refused : (fault : LevelFault) (out : K) (old new : X)
       → (IsTrue (tells old) → LevelMoves (Err fault) (base_of place) (volumes old) (volumes new) (Lends told history faults (λ r h k. GetsFrom r (slot_of place) h k)))
+      → OnStore GetRefusal fault
       → OfGet told history faults place (Err (level_stop_of place fault)) (sink_move held count out out) (shelf_move tells volumes old new)
-  get_refused fault out old new moves = record { answer = Err fault; moves = moves; ends = (refl, refl) }
+  get_refused fault out old new moves why = record { answer = Err fault; moves = moves; fails = why; ends = (refl, refl) }
 
   pub get_gave : (tile : List ℕ) (out_old out_new : K) (old new : X)
       → (IsTrue (tells old) → LevelMoves (Ok tile) (base_of place) (volumes old) (volumes new) (Lends told history faults (λ r h k. GetsFrom r (slot_of place) h k)))
       → Holds (held out_old) (held out_new) tile
       → OfGet told history faults place (Ok tt) (sink_move held count out_old out_new) (shelf_move tells volumes old new)
-  get_gave tile out_old out_new old new moves gave = record { answer = Ok tile; moves = moves; ends = gave }
+  get_gave tile out_old out_new old new moves gave = record { answer = Ok tile; moves = moves; fails = tt; ends = gave }
 
   pub get_cut : (tile : List ℕ) (out_old out_new : K) (old new : X)
       → (IsTrue (tells old) → LevelMoves (Ok tile) (base_of place) (volumes old) (volumes new) (Lends told history faults (λ r h k. GetsFrom r (slot_of place) h k)))
       → HoldsPrefix (held out_old) (held out_new) tile
       → OfGet told history faults place (Err Output) (sink_move held count out_old out_new) (shelf_move tells volumes old new)
-  get_cut tile out_old out_new old new moves gave = record { answer = Ok tile; moves = moves; ends = gave }
+  get_cut tile out_old out_new old new moves gave = record { answer = Ok tile; moves = moves; fails = tt; ends = gave }

@@ -8,10 +8,12 @@ pub use Rattle.opened_bundle.specs.Refusals
 pub use Rattle.grid_blobs.specs.Blobs
 pub use Rattle.grid_blobs.specs.Stops
 pub use Rattle.level_cache.specs.Calls
+pub use Rattle.level_cache.specs.Crashes
 pub use Rattle.level_cache.specs.Names as BundleNames
 pub use Rattle.level_cache.specs.Places
 pub mod Commands
 pub mod Folders
+pub mod Granted
 pub mod Names
 pub mod Run
 pub mod InWords

@@ -1,5 +1,5 @@
 -- What a run leaves of the objects that it is lent, whatever it answers.
-use Rattle.std.specs.Prelude.{◌≡◌, ◌⊎◌, ℕ, ◌≤◌, ◌<◌, List, length, Bool, IsTrue, Option, Result, Ok, Err}
+use Rattle.std.specs.Prelude.{◌≡◌, ◌⊎◌, ℕ, ◌≤◌, ◌<◌, List, length, Bool, IsTrue, Option, Result, Ok, Err, IfErr}
 use Rattle.outside_io.specs.streams.Faults.{FailedBetween, IsCause}
 use Rattle.outside_io.specs.streams.Sink.{Holds, HoldsPrefix}
 use Rattle.outside_io.specs.program.Line.{GivesLine}
@@ -11,7 +11,7 @@ use Rattle.grid_blobs.specs.declared.stop.InputStop.{InputStop}
 use Rattle.grid_blobs.specs.Blobs.{AreBlobsOf}
 use Rattle.grid_blobs.specs.Stops.{IsStopOf}
 use Rattle.level_cache.specs.declared.level.LevelFault.{LevelFault}
-use Rattle.level_cache.specs.Calls.{GetsFrom, Lends, LevelMoves, PutsIn}
+use Rattle.level_cache.specs.Calls.{GetRefusal, GetsFrom, Lends, LevelMoves, OnStore, PutRefusal, PutsIn}
 use Rattle.level_cache.specs.Names.{IsName}
 use Rattle.level_cache.specs.Places.{Corner, base_of, slot_of}
 use Rattle.level_cli.specs.declared.words.Command.{Command}
@@ -56,13 +56,15 @@ abbrev pub PutEnds : Corner → List ℕ → Result (Unit {0}) LevelFault → En
 PutEnds place tile (Ok u) end out = GaveBehind end out (put_line place (length tile))
 PutEnds place tile (Err fault) end out = (end ≡ Err (level_stop_of place fault)) × out.same
 
--- The tile was handed to the level, which answers this of the place's volume.
+-- The tile was handed to the level, which answers this of the place's volume. The numbers of a
+-- refusal fail the test that they name.
 pub record PutsAt {V : Type 0} (told : V → Bool) (history : V → History) (faults : V → ℕ)
     (place : Corner) (tile : List ℕ) (end : End) (out : SinkMove) (shelf : ShelfMove V) : Type 0
   where
     pub answer : Result (Unit {0}) LevelFault
     pub moves : IsTrue shelf.told → LevelMoves answer (base_of place) shelf.volumes.old
         shelf.volumes.new (Lends told history faults (λ r old new. PutsIn r (slot_of place) tile old new))
+    pub fails : IfErr answer (λ fault. OnStore (PutRefusal (length tile)) fault)
     pub ends : PutEnds place tile answer end out
 
 -- no blobs were made
@@ -85,12 +87,13 @@ abbrev pub GetEnds : Corner → Result (List ℕ) LevelFault → End → SinkMov
 GetEnds place (Ok tile) end out = GaveBehind end out tile
 GetEnds place (Err fault) end out = (end ≡ Err (level_stop_of place fault)) × out.same
 
--- The level was asked for the place's tile, and answers this of its volume.
+-- The level was asked for the place's tile, and answers this of its volume, likewise.
 pub record OfGet {V : Type 0} (told : V → Bool) (history : V → History) (faults : V → ℕ)
     (place : Corner) (end : End) (out : SinkMove) (shelf : ShelfMove V) : Type 0 where
   pub answer : Result (List ℕ) LevelFault
   pub moves : IsTrue shelf.told → LevelMoves answer (base_of place) shelf.volumes.old
       shelf.volumes.new (Lends told history faults (λ r old new. GetsFrom r (slot_of place) old new))
+  pub fails : IfErr answer (λ fault. OnStore GetRefusal fault)
   pub ends : GetEnds place answer end out
 
 -- ---- `name`

@@ -6,10 +6,12 @@ ghost use Rattle.outside_io.specs.streams.Faults.{IsCause};
 ghost use Rattle.program_ends.specs.Moves.{sink_move, source_move};
 ghost use Rattle.program_ends.specs.declared.stop.Stop.{Stop};
 ghost use Rattle.lerc_header.specs.declared.header.Version.{Version};
+ghost use Rattle.level_cache.specs.Crashes.{Tells};
 ghost use Rattle.level_cache.specs.Places.{Corner};
 ghost use Rattle.level_cli.specs.declared.refusal.Refusal.{Refusal};
 ghost use Rattle.level_cli.specs.declared.words.Command.{Command};
 ghost use Rattle.level_cli.specs.Commands.{IsNoCommand, IsSpelled};
+ghost use Rattle.level_cli.specs.Granted.{IsGranted};
 ghost use Rattle.level_cli.specs.Names.{line_of};
 ghost use Rattle.level_cli.specs.InWords.{GaveName, GetsTile, PutsTile};
 ghost use Rattle.level_cli.specs.Run.{IsVolumeCause, OfCommand, OfRun, shelf_move};
@@ -146,6 +148,12 @@ pub fn run_level<S: Source, K: Sink, E: Sink, H: Shelf>(
         (sink_move K.held K.faults out.old out.new)
         (shelf_move H.told H.volumes shelf.old shelf.new)
         (sink_move E.held E.faults err.old err.new) }
+
+    // Where nothing refuses, no object fails and memory is there, the command ends well.
+    ensures complete { (c : Command) → IsSpelled c words.now → IsTrue (H.told shelf.old)
+        → Tells H.Vol.told (H.volumes shelf.old)
+        → IsGranted H.Vol.told H.Vol.history H.Vol.faults (H.volumes shelf.old) (S.left src.old) c
+        → result ≢ 3 → result ≢ 4 → result ≢ 5 → result ≢ 6 → result ≢ 8 → result ≡ 0 }
 
     // What follows for `put`: a run that ends well has put the chosen blobs of the input's grid at
     // the place, and no other volume has changed.

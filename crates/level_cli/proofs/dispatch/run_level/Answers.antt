@@ -3,6 +3,7 @@ use Rattle.level_cli.specs.Names.{status_at}
 use Rattle.level_cli.specs.declared.words.Command.TheVariants.{Put, Get, Name}
 use Rattle.level_cli.proofs.Ended.{ok_at, output_status, shelf_status, source_status, usage_said, usage_status, volume_status}
 use Rattle.level_cli.proofs.Ends.{get_well, name_well, put_well}
+use Rattle.level_cli.proofs.Granted.{granted}
 use Rattle.level_cli.proofs.dispatch.run_level.Goals as goal
 
 pub returns-clause-usage : goal.returns-clause-usage
@@ -52,3 +53,10 @@ pub returns-clause-names : goal.returns-clause-names
 returns-clause-names g c = λ place spelled.
     let did = c.act-ended.ensures.done (Name place) spelled in
     (did.0.0, did.0.1, λ zero. name_well place _ _ (ok_at _ (sym c.ended_status.ensures.status ∙ zero)) did.1)
+
+pub returns-clause-complete : goal.returns-clause-complete
+returns-clause-complete g c = λ command spelled told tells grants n3 n4 n5 n6 n8.
+    let is = c.ended_status.ensures.status in
+    is ∙ granted _ _ _ _ told tells command _ _ _ (c.act-ended.ensures.done command spelled) grants
+    (λ e. c.act-ended.ensures.usage.0 (usage_status _ _ is (is ∙ e)) command spelled)
+    (λ e. n3 (is ∙ e)) (λ e. n4 (is ∙ e)) (λ e. n5 (is ∙ e)) (λ e. n6 (is ∙ e)) (λ e. n8 (is ∙ e))

@@ -26,7 +26,7 @@ returns-in-Err-level_put-clause-done g c =
     subst (λ (s : Stop Refusal). OfPut g.H.Vol.Volume.told g.H.Vol.Volume.history g.H.Vol.Volume.faults c.args.version c.args.error c.args.place input (Err s)
     (sink_move g.K.Sink.held g.K.Sink.faults c.args.out.now c.args.out.now) (shelf_move g.H.Shelf.told g.H.Shelf.volumes c.args.shelf.now c.level_put.new.shelf)) (sym c.level_stop.ensures)
     (put_refused g.H.Vol.Volume.told g.H.Vol.Volume.history g.H.Vol.Volume.faults g.K.Sink.held g.K.Sink.faults g.H.Shelf.told g.H.Shelf.volumes c.args.version c.args.error c.args.place input c.as_slice.result.now
-    c.in-Err-level_put.fault c.args.out.now c.args.shelf.now c.level_put.new.shelf blobs c.in-Err-level_put.ensures.moved)
+    c.in-Err-level_put.fault c.args.out.now c.args.shelf.now c.level_put.new.shelf blobs c.in-Err-level_put.ensures.moved c.in-Err-level_put.ensures.answers)
 
 pub returns-in-Ok-give_all-clause-done : goal.returns-in-Ok-give_all-clause-done
 returns-in-Ok-give_all-clause-done g c =
