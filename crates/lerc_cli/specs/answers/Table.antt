@@ -1,5 +1,6 @@
 -- What a command answers: the rows of one table. Each relation below has one case for each command.
 use Rattle.std.specs.Prelude.{◌≡◌, ◌⊎◌, ℕ, ◌+◌, ◌*◌, ◌^◌, ◌<◌, ◌≤◌, take, List, [], length, Option, None, Some, Ok, Err, IsTrue}
+use Rattle.bundle_index.specs.Sizes.{slot_count}
 use Rattle.bundle_store.specs.declared.recovery.Recovery.{Recovery}
 use Rattle.bundle_store.specs.Session.{GetGives}
 use Rattle.bundle_store.specs.declared.check.CheckReport.{CheckReport}
@@ -73,9 +74,9 @@ IsOutput (Get slot) g n output =
     × OfBundle g.files (λ bundle. HoldsBands bundle slot bands)
     × (output ≡ bands_grid_of bands))
 IsOutput (GetRaw slot) g n output = OfBundle g.files (λ bundle. GetGives bundle slot output)
-IsOutput ListAll g n output = OfBundle g.files (λ bundle. output ≡ listing bundle 16384)
+IsOutput ListAll g n output = OfBundle g.files (λ bundle. output ≡ listing bundle slot_count)
 IsOutput Check g n output = (report : CheckReport)
-    × (OfBundle g.files (λ bundle. Reports bundle 16384 report) × (output ≡ check_lines report))
+    × (OfBundle g.files (λ bundle. Reports bundle slot_count report) × (output ≡ check_lines report))
 IsOutput Recover g n output =
     (done : Recovery) × (HasRecovered g.files done × (output ≡ recovery_line done))
 IsOutput (Sample start count) g n output =
