@@ -39,6 +39,11 @@ fn means_of_single_pixels(rt: HostRuntime) {
         ],
         b"LGR1\x02\x01\x00\x00\x00\x01\x00\x00\x00\x01\x00\x00\x00\x01\xfe\xff",
     );
+}
+
+#[test]
+fn means_of_negative_pixels(rt: HostRuntime) {
+    let alloc = rt.alloc();
     half_is(
         &rt,
         alloc,
@@ -85,6 +90,11 @@ fn means_of_single_pixels(rt: HostRuntime) {
         ],
         b"LGR1\x02\x01\x00\x00\x00\x01\x00\x00\x00\x01\x00\x00\x00\x01\xfe\xff",
     );
+}
+
+#[test]
+fn invalid_pixels_are_not_counted(rt: HostRuntime) {
+    let alloc = rt.alloc();
     half_is(
         &rt,
         alloc,
@@ -128,7 +138,7 @@ fn means_of_single_pixels(rt: HostRuntime) {
 }
 
 #[test]
-fn the_ends_of_the_types(rt: HostRuntime) {
+fn the_ends_of_two_types(rt: HostRuntime) {
     let alloc = rt.alloc();
     half_is(
         &rt,
@@ -178,6 +188,11 @@ fn the_ends_of_the_types(rt: HostRuntime) {
         ],
         b"LGR1\x05\x01\x00\x00\x00\x01\x00\x00\x00\x01\x00\x00\x00\x01\xff\xff\xff\xff",
     );
+}
+
+#[test]
+fn the_ends_of_the_widest_type(rt: HostRuntime) {
+    let alloc = rt.alloc();
     half_is(
         &rt,
         alloc,
@@ -260,6 +275,11 @@ fn odd_rows_and_columns(rt: HostRuntime) {
         b"LGR1\x02\x03\x00\x00\x00\x03\x00\x00\x00\x01\x00\x00\x00\x01\x01\x01\x01\x01\x01\x01\x01\
 \x01\xf8\xff\xaf\xffK\x00\xdc\xffp\x00v\x00}\xffG\x00\xd6\xfe",
     );
+}
+
+#[test]
+fn odd_sides_without_an_upper_quarter(rt: HostRuntime) {
+    let alloc = rt.alloc();
     half_is(
         &rt,
         alloc,
@@ -308,6 +328,11 @@ fn odd_rows_and_columns(rt: HostRuntime) {
         b"LGR1\x02\x03\x00\x00\x00\x03\x00\x00\x00\x01\x00\x00\x00\x01\x01\x00\x01\x01\x01\x01\x01\
 \x01\xf8\xffy\x00\xdc\xffp\x00l\x00}\xffG\x00\xd6\xfe",
     );
+}
+
+#[test]
+fn odd_sides_without_a_lower_quarter(rt: HostRuntime) {
+    let alloc = rt.alloc();
     half_is(
         &rt,
         alloc,
