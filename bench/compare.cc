@@ -64,10 +64,10 @@ size_t theirs_encode(const Raster &r, uint32_t error, uint8_t *out, size_t room)
 
 void ours_decode(const uint8_t *blob, size_t size, Raster &out) {
     futskheri_fault fault{};
-    uint32_t status = futskheri_decode(blob, size, out.values.data(), out.values.size(), out.mask.data(), out.mask.size(),
-                                       &fault);
+    uint32_t status = futskheri_decode_over(blob, size, out.values.data(), out.values.size(), out.mask.data(),
+                                            out.mask.size(), &fault);
     if (status != FUTSKHERI_OK)
-        fail("futskheri_decode answers " + std::to_string(status) + ", reason " + std::to_string(fault.reason));
+        fail("futskheri_decode_over answers " + std::to_string(status) + ", reason " + std::to_string(fault.reason));
 }
 
 void theirs_decode(const uint8_t *blob, size_t size, Raster &out) {

@@ -9,12 +9,13 @@ programs() {
     echo ascii_grid ascii_grid_main
     echo bundle_pack bundle_pack_main
     echo level_cache level_cache_main
+    echo overview_tiles overview_tiles_main
 }
 
 # How many of the first words of a program's worked example are paths of files that it makes.
 made_by() {
     case $1 in
-    bundle_pack_main) echo 2 ;;
+    bundle_pack_main | overview_tiles_main) echo 2 ;;
     *) echo 0 ;;
     esac
 }
@@ -42,13 +43,13 @@ crates_with() {
         END { reach(wanted); print count }' "$root/crates.txt"
 }
 
-# Where a build is, by its log: which crate is being proved, the how many-th of those that this build began, and how
-# far it is.
+# Where a build is, by its log: which crate is being proved, the how many-th it is of those that this build proves, and
+# how far it is.
 stage_of() {
-    awk '/^rt: chose --jobs .* for / { crate = $NF; done = ""; begun++ }
-        /^so far: / { done = ", " $3 " of " $5 " functions" }
-        /^logic=proved / { done = ", proved" }
-        END { if (crate != "") printf "%s (crate %d)%s", crate, begun, done }' "$1"
+    awk -v most="$2" '/^rt: chose --jobs .* for / { crate = $NF; done = ""; begun++ }
+        /^so far: / { done = ": " $3 " of " $5 " functions" }
+        /^logic=proved / { done = ": proved" }
+        END { if (crate != "") printf "%s, crate %d of at most %d%s", crate, begun, most, done }' "$1"
 }
 
 minutes_since() { echo $((($(date +%s) - $1) / 60)); }
@@ -56,16 +57,15 @@ minutes_since() { echo $((($(date +%s) - $1) / 60)); }
 # Tells on standard error how far a build is, until it has ended: at a terminal one line that is written over, else a
 # line each time that another crate is begun. What it is told by is the build's log.
 watch_build() {
-    local log=$1 process=$2 most=$3 begun last='' stage text
+    local log=$1 process=$2 most=$3 begun last='' stage
     begun=$(date +%s)
     while kill -0 "$process" 2>/dev/null; do
-        stage=$(stage_of "$log")
-        text="proving ${stage:-nothing yet} of at most $most; $(minutes_since "$begun") min"
+        stage=$(stage_of "$log" "$most")
         if [ -t 2 ]; then
-            printf '\r\033[K%s' "$text" >&2
-        elif [ "${stage%%)*}" != "$last" ]; then
-            printf '%s\n' "$text" >&2
-            last=${stage%%)*}
+            printf '\r\033[Kproving %s; %s min' "${stage:-the first crate}" "$(minutes_since "$begun")" >&2
+        elif [ "${stage%%:*}" != "$last" ]; then
+            last=${stage%%:*}
+            printf 'proving %s; %s min\n' "$last" "$(minutes_since "$begun")" >&2
         fi
         sleep 1
     done
@@ -92,16 +92,17 @@ build_by() {
     rm -f "$log" "$started"
 }
 
-# Builds a program where it is missing or older than its sources, which runs it once on its worked example. The files
-# that it makes then stand in a folder of their own, which is thrown away.
+# Builds a program where it is missing or older than its sources, which runs it once on its worked example, which may
+# have no input. The files that it makes then stand in a folder of their own, which is thrown away.
 build_program() {
-    local crate=$1 program=$root/crates/$1/out/$1 words place at
+    local crate=$1 program=$root/crates/$1/out/$1 input=$root/crates/$1/stdin words place at
     if ! is_current "$program"; then
         echo "${0##*/}: building, which proves $crate and all that it stands on first" >&2
         mapfile -t words <"$root/crates/$crate/args"
         place=$(mktemp -d)
         for ((at = 0; at < $(made_by "$crate"); at++)); do words[at]=$place/${words[at]}; done
-        build_by "$program" "$crate" "$root/crates/$crate/stdin" rt run -- "${words[@]}"
+        [ -e "$input" ] || input=/dev/null
+        build_by "$program" "$crate" "$input" rt run -- "${words[@]}"
         rm -rf "$place"
     fi
 }
@@ -129,6 +130,17 @@ show_manual() {
     else
         cat "$root/man/$1.1"
     fi
+}
+
+# What a script that is no program says of itself: to --help its first comment, to --version the repository's and the
+# kit's.
+answer_words() {
+    case $#:${1-} in
+    1:--help) sed -n '2,/^[^#]/s/^# \{0,1\}//p' "$0" ;;
+    1:--version) echo "futskheri $(version), $(rt version)" ;;
+    *) return ;;
+    esac
+    exit 0
 }
 
 version() { cat "$root/VERSION"; }

@@ -1,5 +1,14 @@
-# What bin/install puts below `prefix` and bin/uninstall takes away; behind building.sh.
+# What bin/install puts below `prefix`, which is their word, and bin/uninstall takes away; behind building.sh.
 
+answer_words "$@"
+prefix=${1-/usr/local}
+case $#:$prefix in
+[01]:/*) ;;
+*)
+    echo "usage: bin/${0##*/} [PREFIX], a path that begins with /" >&2
+    exit 1
+    ;;
+esac
 target=${DESTDIR-}$prefix
 
 # The shared library's own file, to which its other two names lead.

@@ -90,11 +90,21 @@ uint32_t futskheri_header(const uint8_t *blob, size_t blob_size, struct futskher
 /* Decodes the blob with which the bytes begin; what follows it is not looked at.
  * OK: values has the raster's values, 0 at the places of invalid pixels, and mask its mask, the bits behind the
  * last pixel 0. REFUSED: *fault is the blob's first fault, `Truncated` where the bytes end before the blob does.
- * NO_MEMORY comes only behind a whole header. BAD_SIZES: the bytes begin with a blob, and values_size or
- * mask_size is not what its raster asks for (see the head of this file; the header has type and shape).
+ * NO_MEMORY comes only behind a whole header, there also in the place of OK. BAD_SIZES: the bytes begin with a
+ * blob, and values_size or mask_size is not what its raster asks for (see the head of this file; the header has
+ * type and shape).
  * Where it is not OK the arrays stay as they were; where it is not REFUSED *fault does. */
 uint32_t futskheri_decode(const uint8_t *blob, size_t blob_size, void *values, size_t values_size,
                           uint8_t *mask, size_t mask_size, struct futskheri_fault *fault);
+
+/* The same without a copy: the values are laid into the caller's arrays at once, which is faster where every pixel is
+ * valid. It takes memory for the values that a blob has as code words, a byte for each, and eight bytes for each depth.
+ * OK, REFUSED and NO_MEMORY: as above. BAD_SIZES: the bytes begin with a header that asks for arrays of other lengths;
+ * what follows the header was not looked at. Where it is not OK the arrays may hold anything; where it is not REFUSED
+ * *fault stays. Take it where the arrays are there for this raster. Where they have to keep what they have if the blob
+ * turns out to be none, take futskheri_decode. */
+uint32_t futskheri_decode_over(const uint8_t *blob, size_t blob_size, void *values, size_t values_size,
+                               uint8_t *mask, size_t mask_size, struct futskheri_fault *fault);
 
 /* A size that no blob of a raster of this type and shape passes, whatever its values, its mask, the version and
  * the error are; 0 where there is no such raster. */
@@ -121,8 +131,9 @@ uint32_t futskheri_count_bands(const uint8_t *blob, size_t blob_size, uint32_t *
 
 /* Decodes a tile of so many bands. OK: values has the values of all bands, 0 at the places of invalid pixels, and
  * masks a mask for each. REFUSED: *fault is what is wrong first: that of a blob, its place counted from the first
- * byte, or BadBand, where a header is not like the first blob's. NO_MEMORY comes only behind a whole header.
- * BAD_SIZES: the bytes are a tile of more or fewer bands, or values_size or masks_size is not what they ask for.
+ * byte, or BadBand, where a header is not like the first blob's. NO_MEMORY comes only behind a whole header, there
+ * also in the place of OK. BAD_SIZES: the bytes are a tile of more or fewer bands, or values_size or masks_size is
+ * not what they ask for.
  * Where it is not OK the arrays stay as they were; where it is not REFUSED *fault does. */
 uint32_t futskheri_decode_bands(const uint8_t *blob, size_t blob_size, uint32_t bands, void *values,
                                 size_t values_size, uint8_t *masks, size_t masks_size,
@@ -134,7 +145,7 @@ uint32_t futskheri_decode_bands(const uint8_t *blob, size_t blob_size, uint32_t 
  * OK: *size is the size of all blobs. NO_ROOM: *size is the size that they would have. Else *size stays; where it is
  * not OK, out stays. The first of these that holds is answered: BAD_KIND, BAD_VERSION, BAD_SHAPE (also for no bands),
  * TOO_LARGE (also for more than 16 bands or 2^24 values in all), BAD_SIZES, DEPTH_NEEDS_V4, NO_ROOM; NO_MEMORY may
- * come instead of the last. */
+ * come instead of the last, and instead of OK. */
 uint32_t futskheri_encode_bands(uint32_t kind, uint32_t rows, uint32_t cols, uint32_t depth, uint32_t bands,
                                 uint32_t version, uint32_t error, const void *values, size_t values_size,
                                 const uint8_t *masks, size_t masks_size, uint8_t *out, size_t out_size,

@@ -89,7 +89,7 @@ def _load():
     number, size, address = ctypes.c_uint32, ctypes.c_size_t, ctypes.c_void_p
     calls = {
         "header": (number, [address, size, address, address]),
-        "decode": (number, [address, size, address, size, address, size, address]),
+        "decode_over": (number, [address, size, address, size, address, size, address]),
         "greatest_size": (ctypes.c_uint64, [number] * 4),
         "encode": (number, [number] * 6 + [address, size, address, size, address, size, address]),
         "decode_bands": (number, [address, size, number, address, size, address, size, address]),
@@ -160,9 +160,14 @@ def _shape(head):
     return (head.rows, head.columns) if head.depth == 1 else (head.rows, head.columns, head.depth)
 
 
-def _mask(bits, rows, columns):
-    """The bits of a mask, whose last byte is padded, as an array of bool."""
-    return numpy.unpackbits(bits, count=rows * columns).view(bool).reshape(rows, columns)
+def _bits(bands, rows, columns):
+    """Room for the bits of as many masks, the last byte of each padded."""
+    return numpy.empty((bands, (rows * columns + 7) // 8), numpy.uint8)
+
+
+def _masks(bits, rows, columns):
+    """The bits of masks as an array of bool."""
+    return numpy.unpackbits(bits, axis=1, count=rows * columns).view(bool).reshape(-1, rows, columns)
 
 
 def decode(blob):
@@ -175,14 +180,14 @@ def decode(blob):
     given = _bytes(blob)
     head = header(given)
     values = numpy.empty(_shape(head), head.dtype)
-    bits = numpy.empty((head.rows * head.columns + 7) // 8, numpy.uint8)
+    bits = _bits(1, head.rows, head.columns)
     fault = _Fault()
     answer = _call(
-        "decode", _where(given), given.size, _where(values), values.nbytes, _where(bits), bits.nbytes,
+        "decode_over", _where(given), given.size, _where(values), values.nbytes, _where(bits), bits.nbytes,
         ctypes.byref(fault),
     )
     _answered(answer, fault)
-    return values, _mask(bits, head.rows, head.columns)
+    return values, _masks(bits, head.rows, head.columns)[0]
 
 
 def _count(given):
@@ -212,14 +217,14 @@ def decode_bands(tile):
     if bands * head.rows * head.columns * head.depth > 2**24:
         bands = 1
     values = numpy.empty((bands, *_shape(head)), head.dtype)
-    bits = numpy.empty((bands, (head.rows * head.columns + 7) // 8), numpy.uint8)
+    bits = _bits(bands, head.rows, head.columns)
     fault = _Fault()
     answer = _call(
         "decode_bands", _where(given), given.size, bands, _where(values), values.nbytes, _where(bits), bits.nbytes,
         ctypes.byref(fault),
     )
     _answered(answer, fault)
-    return values, numpy.stack([_mask(band, head.rows, head.columns) for band in bits])
+    return values, _masks(bits, head.rows, head.columns)
 
 
 def _kind(values):

@@ -6,15 +6,10 @@
 set -u
 
 here=$(cd "$(dirname "$0")/.." && pwd) || exit 1
+. "$here/tests/lib.sh"
 program=$(readlink -f "${1:-$here/bin/ascii_grid}")
 codec=$(readlink -f "${2:-$here/bin/lerc_cli}")
-room=$(mktemp -d) || exit 1
-trap 'rm -rf "$room"' EXIT
-cd "$room" || exit 1
-passed=0
-failed=0
-
-. "$here/tests/lib.sh"
+begin
 
 # The worked example of the gate, both ways, also in pieces.
 row=$here/crates/ascii_grid_main/stdin
@@ -76,5 +71,4 @@ else
     count 'GDAL: where they lie comes back' "$holds"
 fi
 
-echo "$passed passed, $failed failed"
-[ "$failed" -eq 0 ]
+tell

@@ -5,15 +5,10 @@
 set -u
 
 here=$(cd "$(dirname "$0")/.." && pwd) || exit 1
+. "$here/tests/lib.sh"
 program=$(readlink -f "${1:-$here/bin/bundle_pack}")
 codec=$(readlink -f "${2:-$here/bin/lerc_cli}")
-room=$(mktemp -d) || exit 1
-trap 'rm -rf "$room"' EXIT
-cd "$room" || exit 1
-passed=0
-failed=0
-
-. "$here/tests/lib.sh"
+begin
 
 # ---- What is given
 
@@ -180,5 +175,4 @@ else
     echo 'skipped: there is no other user than this one'
 fi
 
-echo "$passed passed, $failed failed"
-[ "$failed" -eq 0 ]
+tell

@@ -2,12 +2,12 @@
 # Builds the example in C over libfutskheri.a and runs it. Where there is no C compiler it says so and passes.
 set -u
 here=$(cd "$(dirname "$0")/.." && pwd) || exit 1
+. "$here/tests/lib.sh"
 if ! command -v cc >/dev/null 2>&1; then
     echo "c_example: skipped, no C compiler is there"
     exit 0
 fi
-room=$(mktemp -d) || exit 1
-trap 'rm -rf "$room"' EXIT
+begin
 library=$("$here/bin/build_c") || exit 1
 cc -std=c99 -Wall -Wextra -Werror -I "$here/include" -o "$room/tile" "$here/examples/c/tile.c" "$library" || exit 1
 "$room/tile" >"$room/given" || exit 1

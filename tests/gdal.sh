@@ -2,11 +2,7 @@
 
 gdal_size() { gdalinfo "$1" 2>err | sed -n 's/^Size is //p'; }
 
-if ! command -v gdalinfo >/dev/null || ! command -v gdal_translate >/dev/null; then
-    echo 'skipped: gdalinfo and gdal_translate are not here'
-elif ! gdalinfo --formats | grep -q ESRIC; then
-    echo 'skipped: this GDAL has no driver ESRIC'
-else
+if has_gdal; then
     # A grid of 256 by 256 bytes, each the number of its column.
     column=0
     while [ "$column" -lt 256 ]; do

@@ -3,12 +3,8 @@
 # takes it away again. What has no tool on this machine is skipped with a word. Its last line is 'N passed, M failed'.
 set -u
 here=$(cd "$(dirname "$0")/.." && pwd) || exit 1
-room=$(mktemp -d) || exit 1
-trap 'rm -rf "$room"' EXIT
-cd "$room" || exit 1
-passed=0
-failed=0
 . "$here/tests/lib.sh"
+begin
 
 if ! command -v cc >/dev/null 2>&1; then
     echo "install: skipped, no C compiler is there"
@@ -25,6 +21,30 @@ holds() {
 
 # The example, run with these libraries in reach, gives what it is to give.
 runs() { LD_LIBRARY_PATH=$2 "$1" | cmp - "$here/examples/c/tile.stdout"; }
+
+# A script's --help has this word and nothing of a comment's form, and its --version is the repository's and the kit's.
+explains() { "$here/bin/$1" --help >told && grep -q "$2" told && ! grep -q '^#' told && [ "$(wc -l <told)" -gt 1 ]; }
+names_version() { "$here/bin/$1" --version | grep -q "^futskheri $(cat "$here/VERSION"), rattle"; }
+# It refuses two words with its usage alone.
+refuses_two() {
+    "$here/bin/$1" /one /two >told 2>line
+    [ $? -eq 1 ] && [ ! -s told ] && [ "$(wc -l <line)" -eq 1 ] && grep -q "^usage: bin/$1 " line
+}
+for script in install uninstall build_c; do
+    word=PREFIX
+    [ "$script" != build_c ] || word=libfutskheri.so
+    holds "bin/$script says what it does" explains "$script" "$word"
+    holds "and its version" names_version "$script"
+    holds "and refuses two words" refuses_two "$script"
+done
+for script in install uninstall; do
+    holds "bin/$script takes no path that begins elsewhere" sh -c '! "$1/bin/$2" place && [ ! -e place ]' sh "$here" "$script"
+done
+mkdir -p kept/bin
+: >kept/bin/lerc_cli
+: >kept/bin/other
+holds "bin/uninstall takes away what is there of an install" "$here/bin/uninstall" "$room/kept"
+holds "and leaves the rest" sh -c '[ -e kept/bin/other ] && [ ! -e kept/bin/lerc_cli ]'
 
 prefix=$room/place
 holds "everything is installed" "$here/bin/install" "$prefix"
@@ -73,5 +93,4 @@ holds "it goes below DESTDIR" env DESTDIR="$room/root" "$here/bin/install" /usr
 holds "where the texts say the prefix" grep -q '^prefix=/usr$' root/usr/lib/pkgconfig/futskheri.pc
 holds "and is taken away from there" sh -c 'DESTDIR="$1/root" "$2/bin/uninstall" /usr && [ -z "$(find "$1/root" ! -type d)" ]' sh "$room" "$here"
 
-echo "$passed passed, $failed failed"
-[ "$failed" -eq 0 ]
+tell

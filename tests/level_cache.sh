@@ -6,14 +6,9 @@
 set -u
 
 here=$(cd "$(dirname "$0")/.." && pwd) || exit 1
-program=$(readlink -f "${1:-$here/bin/level_cache}")
-room=$(mktemp -d) || exit 1
-trap 'rm -rf "$room"' EXIT
-cd "$room" || exit 1
-passed=0
-failed=0
-
 . "$here/tests/lib.sh"
+program=$(readlink -f "${1:-$here/bin/level_cache}")
+begin
 
 # A blob, and the grid of which it is.
 blob=$here/crates/lerc_main/stdin
@@ -109,11 +104,7 @@ count 'and its bundle is whole' "$holds"
 
 # ---- A level of four bundles, read by GDAL
 
-if ! command -v gdalinfo >/dev/null || ! command -v gdal_translate >/dev/null; then
-    echo 'skipped: gdalinfo and gdal_translate are not here'
-elif ! gdalinfo --formats | grep -q ESRIC; then
-    echo 'skipped: this GDAL has no driver ESRIC'
-else
+if has_gdal; then
     # A grid of 256 by 256 bytes that are all this one, in octal digits.
     plain() {
         bytes 4c 47 52 31 01 00 01 00 00 00 01 00 00 01 00 00 00
@@ -139,5 +130,4 @@ else
     count 'GDAL: where four bundles meet' "$holds"
 fi
 
-echo "$passed passed, $failed failed"
-[ "$failed" -eq 0 ]
+tell

@@ -1,5 +1,11 @@
-# The functions that the cases of tests/program.sh and of other scripts beside it are made of. They run in a folder of
-# their own, `room`; `program` is the program, `passed` and `failed` count the cases.
+# The functions that the scripts beside this one, and the cases of tests/program.sh, are made of. A script begins
+#
+#     here=$(cd "$(dirname "$0")/.." && pwd) || exit 1
+#     . "$here/tests/lib.sh"
+#     program=$(readlink -f "${1:-$here/bin/lerc_cli}")
+#     begin
+#
+# and ends with `tell`. Its cases run in a folder of their own, `room`; `program` is the program.
 #
 # A case is one call of `expect`, with standard input as it is redirected there:
 #
@@ -8,6 +14,43 @@
 # OUTPUT is the file that standard output has to be like, LINE the one line of standard error (empty:
 # none), and HOW one of the functions of 'Ways to run it'. `leaves` is a case, too: that the two files of
 # the store are then like these.
+
+# ---- From the beginning to the end
+
+# Makes the folder, which is gone at the end, and enters it. No case was counted yet.
+begin() {
+    room=$(mktemp -d) || exit 1
+    trap 'rm -rf "$room"' EXIT
+    cd "$room" || exit 1
+    passed=0
+    failed=0
+}
+
+# Tells the counts. Its status is the script's: whether no case has failed.
+tell() {
+    echo "$passed passed, $failed failed"
+    [ "$failed" -eq 0 ]
+}
+
+# ---- What may not be here
+
+# Whether GDAL's programs and its driver for caches of bundles are here; where one is not, that is said.
+has_gdal() {
+    for tool in gdalinfo gdal_translate gdalsrsinfo; do
+        command -v "$tool" >/dev/null || { echo "skipped: $tool is not here"; return 1; }
+    done
+    gdalinfo --formats | grep -q ESRIC || { echo 'skipped: this GDAL has no driver ESRIC'; return 1; }
+}
+
+# A Python that has numpy; nothing where there is none.
+python_with_numpy() {
+    for python in python3 /usr/bin/python3; do
+        if "$python" -c 'import numpy' >/dev/null 2>&1; then
+            echo "$python"
+            return
+        fi
+    done
+}
 
 # ---- Comparing
 
@@ -183,4 +226,58 @@ journal() {
 opened() {
     bytes 01
     tail -c +2 "$1"
+}
+
+# ---- Making streams of tiles
+
+# A tile of a stream: row and column of its slot, and its grid.
+tile() {
+    bytes 54
+    numbers 1 "$1" "$2"
+    cat "$3"
+}
+
+# Sixteen tiles of 257 by 257 heights, tile t in the slot (t div 4, t mod 4). The pixel in row r and column c is
+# (r * r + 3 * c + 17 * t) mod 1000 - 100, and it is not valid where r + c is below 64.
+pixels() {
+    awk -v t="$1" -v show="$2" 'BEGIN {
+        for (r = 0; r < 257; r++) {
+            for (c = 0; c < 257; c++) {
+                value = (r * r + 3 * c + 17 * t) % 1000 - 100 + 65536
+                if (show == "marks") printf("\\0%d", r + c < 64 ? 0 : 1)
+                else if (r + c >= 64) printf("\\0%o\\0%o", value % 256, int(value / 256) % 256)
+            }
+            print ""
+        }
+    }' | while read -r row; do printf '%b' "$row"; done
+}
+
+# Makes the stream of them, big_stream, and the parts of each grid: its head, its marks and its values.
+sixteen_tiles() {
+    { printf 'LGR1'; numbers 1 2; numbers 4 257 257 1; } >big_head
+    pixels 0 marks >big_marks
+    for t in 0 1 2 3 4 5 6 7 8 9 10 11 12 13 14 15; do
+        pixels "$t" values >"big_values_$t"
+        cat big_head big_marks "big_values_$t" >"big_grid_$t"
+        tile $((t / 4)) $((t % 4)) "big_grid_$t"
+    done >big_stream
+}
+
+# A stream of this many tiles of one pixel, in the order of the slots, and the lines of its updates and of its
+# tiles. A blob of one pixel has 66 bytes.
+many_tiles() {
+    slot=0
+    : >many_puts
+    : >many_rows
+    while [ "$slot" -lt "$1" ]; do
+        row=$((slot / 128))
+        col=$((slot % 128))
+        bytes 54
+        numbers 1 "$row" "$col"
+        printf 'LGR1\1\1\0\0\0\1\0\0\0\1\0\0\0\1'
+        numbers 1 $((slot % 256))
+        echo "put $row $col 66" >>many_puts
+        echo "$row $col $((131140 + 70 * slot)) 66" >>many_rows
+        slot=$((slot + 1))
+    done
 }

@@ -3,13 +3,10 @@
 # compares what each gives; and has man read each page, where it is there. Its last line is 'N passed, M failed'.
 set -u
 here=$(cd "$(dirname "$0")/.." && pwd) || exit 1
+. "$here/tests/lib.sh"
 PATH=$(cd "${1:-$here/bin}" && pwd):$PATH
 export PATH
-room=$(mktemp -d) || exit 1
-trap 'rm -rf "$room"' EXIT
-passed=0
-failed=0
-. "$here/tests/lib.sh"
+begin
 
 # The examples of a page: the lines between .EX and .EE, as a reader sees them.
 examples_of() { sed -n '/^\.EX$/,/^\.EE$/{/^\.E[XE]$/d;s/^\\&//;s/\\-/-/g;s/\\e/\\/g;p}' "$1"; }
@@ -50,5 +47,4 @@ for page in "$here"/man/*.1; do
     count "$name --version tells both" "$([ $? -eq 0 ] && echo yes || echo no)"
 done
 
-echo "$passed passed, $failed failed"
-[ "$failed" -eq 0 ]
+tell

@@ -5,14 +5,10 @@
 set -u
 
 here=$(cd "$(dirname "$0")/.." && pwd) || exit 1
-program=$(readlink -f "${1:-$here/bin/lerc_cli}")
-room=$(mktemp -d) || exit 1
-trap 'rm -rf "$room"' EXIT
-cd "$room" || exit 1
-passed=0
-failed=0
-
 . "$here/tests/lib.sh"
+program=$(readlink -f "${1:-$here/bin/lerc_cli}")
+begin
+
 . "$here/tests/codec.sh"
 . "$here/tests/bands.sh"
 . "$here/tests/bundles.sh"
@@ -23,5 +19,4 @@ failed=0
 . "$here/tests/gdal.sh"
 . "$here/tests/liblerc.sh"
 
-echo "$passed passed, $failed failed"
-[ "$failed" -eq 0 ]
+tell

@@ -2,13 +2,6 @@
 
 # ---- What is given
 
-# A tile of a stream: row and column of its slot, and its grid.
-tile() {
-    bytes 54
-    numbers 1 "$1" "$2"
-    cat "$3"
-}
-
 # A tile for the last slot, another one for it, and one that version 3 has no place for; two tiles for the first
 # slot; a stream whose second tile has a mark that is none.
 tile 127 127 grid >one_tile
@@ -158,29 +151,7 @@ done
 
 # ---- Tiles of a real size
 
-# Sixteen tiles of 257 by 257 heights, tile t in the slot (t div 4, t mod 4). The pixel in row r and column c is
-# (r * r + 3 * c + 17 * t) mod 1000 - 100, and it is not valid where r + c is below 64.
-pixels() {
-    awk -v t="$1" -v show="$2" 'BEGIN {
-        for (r = 0; r < 257; r++) {
-            for (c = 0; c < 257; c++) {
-                value = (r * r + 3 * c + 17 * t) % 1000 - 100 + 65536
-                if (show == "marks") printf("\\0%d", r + c < 64 ? 0 : 1)
-                else if (r + c >= 64) printf("\\0%o\\0%o", value % 256, int(value / 256) % 256)
-            }
-            print ""
-        }
-    }' | while read -r row; do printf '%b' "$row"; done
-}
-
-# Its three parts: head, marks, values.
-{ printf 'LGR1'; numbers 1 2; numbers 4 257 257 1; } >big_head
-pixels 0 marks >big_marks
-for t in 0 1 2 3 4 5 6 7 8 9 10 11 12 13 14 15; do
-    pixels "$t" values >"big_values_$t"
-    cat big_head big_marks "big_values_$t" >"big_grid_$t"
-    tile $((t / 4)) $((t % 4)) "big_grid_$t"
-done >big_stream
+sixteen_tiles
 
 # Whether two files of numbers of two bytes differ by at most 1 at each place.
 is_near() {
@@ -221,25 +192,6 @@ for workers in 1 7 64; do
 done
 
 # ---- Many tiles
-
-# A stream of this many tiles of one pixel, in the order of the slots, and the lines of its updates and of its
-# tiles. A blob of one pixel has 66 bytes.
-many_tiles() {
-    slot=0
-    : >many_puts
-    : >many_rows
-    while [ "$slot" -lt "$1" ]; do
-        row=$((slot / 128))
-        col=$((slot % 128))
-        bytes 54
-        numbers 1 "$row" "$col"
-        printf 'LGR1\1\1\0\0\0\1\0\0\0\1\0\0\0\1'
-        numbers 1 $((slot % 256))
-        echo "put $row $col 66" >>many_puts
-        echo "$row $col $((131140 + 70 * slot)) 66" >>many_rows
-        slot=$((slot + 1))
-    done
-}
 
 many_tiles 4000 >many
 

@@ -3,10 +3,9 @@
 # where no Python with numpy, or no C compiler, is there. Its last line is 'N passed, M failed'.
 set -u
 here=$(cd "$(dirname "$0")/.." && pwd) || exit 1
-for python in python3 /usr/bin/python3 none; do
-    "$python" -c 'import numpy' >/dev/null 2>&1 && break
-done
-if [ "$python" = none ] || ! command -v cc >/dev/null 2>&1; then
+. "$here/tests/lib.sh"
+python=$(python_with_numpy)
+if [ -z "$python" ] || ! command -v cc >/dev/null 2>&1; then
     echo "python: skipped, no Python with numpy or no C compiler is there"
     exit 0
 fi

@@ -115,6 +115,34 @@ def by_esri(library, blob, values, mask):
     return answer == 0 and (valid.astype(bool) == mask).all() and (back[mask] == values[mask]).all()
 
 
+def esris_blob(library, values, mask, version, error):
+    """The blob of this version that Esri's library makes of an array and a mask."""
+    depth = values.shape[2] if values.ndim == 3 else 1
+    rows, columns = values.shape[:2]
+    marks, room = mask.astype(numpy.uint8), numpy.zeros(values.nbytes + 65536, numpy.uint8)
+    kind, size = list(LIMITS).index(values.dtype.name), ctypes.c_uint(0)
+    answer = library.lerc_encodeForVersion(
+        ctypes.c_void_p(values.ctypes.data), version, ctypes.c_uint(kind), depth, columns, rows, 1, 1,
+        ctypes.c_void_p(marks.ctypes.data), ctypes.c_double(error), ctypes.c_void_p(room.ctypes.data),
+        ctypes.c_uint(room.size), ctypes.byref(size),
+    )
+    return room[: size.value].tobytes() if answer == 0 else b""
+
+
+def of_esri(library, values, mask, version, error):
+    """Whether the blob that Esri's library makes is decoded to these values, within the error, and this mask."""
+    blob = esris_blob(library, values, mask, version, error)
+    back, valid = futskheri.decode(blob)
+    head = futskheri.header(blob)
+    apart = numpy.abs(back.astype("int64") - values.astype("int64"))[mask]
+    return (
+        (head.version, head.size) == (version, len(blob))
+        and (back.dtype, back.shape) == (values.dtype, values.shape)
+        and (valid == mask).all()
+        and (apart <= error).all()
+    )
+
+
 def bands_by_esri(library, tile, values, masks):
     """The same of the bands of a tile."""
     bands, rows, columns = values.shape
@@ -202,6 +230,13 @@ else:
             values, mask = hills(dtype, 33, 40, depth, seed + 50)
             same.append(by_esri(library, futskheri.encode(values, mask), values, mask))
     case(f"Esri's library decodes {len(same)} blobs to the same arrays", all(same))
+    same = []
+    for seed, dtype in enumerate(LIMITS):
+        for depth, version in ((1, 3), (1, 4), (3, 4)):
+            values, mask = hills(dtype, 33, 40, depth, seed + 70)
+            for given in (mask, numpy.ones_like(mask), numpy.zeros_like(mask)):
+                same += [of_esri(library, values, given, version, error) for error in (0, 2)]
+    case(f"{len(same)} blobs that Esri's library made are decoded to their arrays, within their error", all(same))
     same = []
     for seed, dtype in enumerate(LIMITS):
         pairs = [hills(dtype, 33, 40, 1, seed + 10 * band) for band in range(3)]

@@ -8,21 +8,16 @@
 set -u
 
 here=$(cd "$(dirname "$0")/.." && pwd) || exit 1
-room=$(mktemp -d) || exit 1
-trap 'rm -rf "$room"' EXIT
-if ! cc -std=c99 -shared -fPIC -O1 -o "$room/refuse.so" "$here/tests/refuse.c" 2>"$room/why"; then
+. "$here/tests/lib.sh"
+tests=$(readlink -f "${1:-$here/crates/refusal_tests/out/refusal_tests_tests}")
+begin
+if ! cc -std=c99 -shared -fPIC -O1 -o refuse.so "$here/tests/refuse.c" 2>why; then
     echo "no growth is refused: there is no cc, or it cannot build tests/refuse.c"
     exit 0
 fi
-if [ $# -gt 0 ]; then
-    tests=$(readlink -f "$1")
-else
+if [ $# -eq 0 ]; then
     (cd "$here/crates/refusal_tests" && rt test) || exit 1
-    tests=$here/crates/refusal_tests/out/refusal_tests_tests
 fi
-cd "$room" || exit 1
-passed=0
-failed=0
 
 # one test with growth number $2 refused; whether there was one
 refused() {
@@ -50,5 +45,4 @@ while read -r name; do
     echo "$name: growths 1 to $((number - 1))"
 done <names
 
-echo "$passed passed, $failed failed"
-[ "$failed" -eq 0 ] && [ "$passed" -gt 0 ]
+tell && [ "$passed" -gt 0 ]

@@ -16,7 +16,7 @@ int main(void) {
         return 1;
     printf("%u rows, %u columns, values from %d to %d\n", head.rows, head.cols, (int)head.least,
            (int)head.greatest);
-    if (futskheri_decode(blob, size, back, sizeof back, mask, sizeof mask, &fault) != FUTSKHERI_OK)
+    if (futskheri_decode_over(blob, size, back, sizeof back, mask, sizeof mask, &fault) != FUTSKHERI_OK)
         return 1;
     printf("the same values: %s, mask %02x %02x\n", memcmp(tile, back, sizeof tile) ? "no" : "yes", mask[0],
            mask[1]);

@@ -1,8 +1,7 @@
 -- How a run ends: its status, and the one line that is given to the error output.
 use Rattle.std.specs.Prelude.{ℕ, List, ◌++◌, codes}
 use Rattle.outside_io.specs.program.Line.{and_number}
-use Rattle.raster_values.specs.declared.reading.GridReason.{GridReason}
-use Rattle.raster_values.specs.declared.reading.GridReason.TheVariants.{Truncated as GridTruncated, BadMagic as GridBadMagic, BadType, BadSize as GridBadSize, TooLarge as GridTooLarge, BadMark}
+use Rattle.reason_names.specs.Names.{grid_name_of}
 use Rattle.ascii_grid.specs.declared.fault.AsciiReason.{AsciiReason}
 use Rattle.ascii_grid.specs.declared.fault.AsciiReason.TheVariants.{Truncated, BadKey, Repeated, Missing, BadText, BadNumber, BadSize, TooLarge, OutOfRange, Leftover, BadMagic, BadFlags, Collision, DepthNot1, TooLong, Grid}
 use Rattle.ascii_grid.specs.declared.fault.AsciiStop.{AsciiStop}
@@ -33,14 +32,6 @@ abbrev pub status_at : End → ℕ
 status_at end = status_at_by refusal_status end
 
 -- ---- the line
-
-abbrev pub grid_name_of : GridReason → List ℕ
-grid_name_of GridTruncated = codes "Truncated"
-grid_name_of GridBadMagic = codes "BadMagic"
-grid_name_of BadType = codes "BadType"
-grid_name_of GridBadSize = codes "BadSize"
-grid_name_of GridTooLarge = codes "TooLarge"
-grid_name_of BadMark = codes "BadMark"
 
 abbrev pub name_of : AsciiReason → List ℕ
 name_of Truncated = codes "Truncated"

@@ -1,12 +1,12 @@
 //! The program's own reason for a stop, beside those of any program.
 
 ghost use Rattle.std.specs.Prelude.{◌≡◌, ◌≤◌, length};
-ghost use Rattle.ascii_cli.specs.Names.{grid_name_of, name_of, refusal_text, stop_of};
+ghost use Rattle.ascii_cli.specs.Names.{name_of, refusal_text, stop_of};
 
 use ascii_grid::{AsciiFault, AsciiReason, AsciiStop};
 use outside_io::Line;
 use program_ends::Stop;
-use raster_values::GridReason;
+use reason_names::grid_name;
 
 /// Why the program refuses its input: what is wrong with it first, and where.
 #[derive(Clone, Copy)]
@@ -27,21 +27,6 @@ impl program_ends::Refusal for Refusal {
 
     fn text(&self) -> Line {
         refusal_line(*self)
-    }
-}
-
-/// The name of a reason that the grid of an `LGA1` is refused for.
-fn grid_name(reason: GridReason) -> &'static [u8]
-    ensures name { result.now ≡ grid_name_of reason }
-    ensures short { length result.now ≤ 30 }
-{
-    match reason {
-        GridReason::Truncated => b"Truncated",
-        GridReason::BadMagic => b"BadMagic",
-        GridReason::BadType => b"BadType",
-        GridReason::BadSize => b"BadSize",
-        GridReason::TooLarge => b"TooLarge",
-        GridReason::BadMark => b"BadMark",
     }
 }
 

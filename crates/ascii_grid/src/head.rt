@@ -11,6 +11,7 @@ use crate::token::{Token, demand};
 use crate::window::Window;
 use crate::words::{Key, begins_with_letter, integer_of, is_text, key_of};
 use outside_io::Source;
+use raster_values::GREATEST_VALUES;
 
 /// What the pairs so far say.
 #[derive(Drop)]
@@ -79,7 +80,7 @@ fn size_of(bytes: &[u8], other: Option<u64>) -> Result<u64, AsciiReason>
         return Err(AsciiReason::BadSize);
     };
     if let Some(other) = other {
-        if size as u128 * other as u128 > 16777216 {
+        if size as u128 * other as u128 > GREATEST_VALUES as u128 {
             return Err(AsciiReason::TooLarge);
         }
     }

@@ -1,6 +1,9 @@
 //! Esri ASCII grids of whole numbers: a text and its grid, and the file `LGA1`, which keeps a grid
 //! with the texts of its corner and its cells. This crate stands on `raster_values`, `outside_io`
 //! and `first_fault`.
+//!
+//! The contract that the layer above uses: a text, or an `LGA1`, is read to its grid exactly where
+//! it is one, and else its first fault is told; a grid has one text and one `LGA1`.
 #![tactic(auto)]
 
 mod canon;

@@ -2,6 +2,7 @@
 
 ghost use Rattle.std.specs.Prelude.{◌<◌};
 
+use crate::arrays::{fills_arrays, is_refused};
 use crate::fixtures::{has_grid, source};
 use crate::same::same;
 use lerc_decode::{DecodeFault, Decoder, Fed, FedState, FromFault, decode_from, decode_sized};
@@ -30,16 +31,17 @@ fn fed_in(alloc: Global, bytes: &[u8], piece: usize) -> Result<Raster, DecodeFau
     decoder.finish()
 }
 
-/// The blob has this grid, in pieces of any length.
+/// The blob has this grid, in pieces of any length, and fills a caller's arrays with it.
 pub(crate) fn decodes(rt: &impl Abort, alloc: Global, blob: &[u8], grid: &[u8]) {
     for piece in PIECES {
         assert!(rt; piece > 0);
         let raster = fed_in(alloc, blob, piece).expect(rt, "a raster");
         has_grid(rt, alloc, piece, &raster, grid);
+        fills_arrays(rt, alloc, blob, &raster);
     }
 }
 
-/// The bytes have this fault, in pieces of any length.
+/// The bytes have this fault, in pieces of any length and for a caller's arrays.
 pub(crate) fn has_fault(
     rt: &impl Abort,
     alloc: Global,
@@ -52,6 +54,7 @@ pub(crate) fn has_fault(
         assert!(rt; piece > 0);
         same(rt, piece, fed_in(alloc, bytes, piece).err(), Some(want));
     }
+    is_refused(rt, alloc, bytes, reason, place);
 }
 
 /// Blobs and their grids.

@@ -3,6 +3,10 @@
 #![tactic(auto)]
 
 #[cfg(test)]
+mod alike;
+#[cfg(test)]
+mod arrays;
+#[cfg(test)]
 mod band_encoding;
 #[cfg(test)]
 mod bands;

@@ -103,6 +103,7 @@ pub(crate) fn give_put<K: Sink>(slot: Slot, size: usize, out: &mut K) -> Result<
     ensures slot { slot < slot_count }
     ensures counted { CountsFaults result (K.faults out.old) (K.faults out.new) }
 {
+    // for the proof: `number` ensures that there is such a slot
     let _number = slot.number();
     give_all(out, put_line(slot, size).as_slice())
 }

@@ -40,6 +40,7 @@ fn fitting(len: u64, updates: &[TileRec]) -> usize
     let mut end = first_place(len);
     let most = updates.len().min(MOST);
     for i in 0..most {
+        // for the proof: `number` ensures that there is such a slot
         let _number = updates[i].slot.number();
         let size = updates[i].bytes.len() as u64;
         if end > GREATEST_LENGTH - 4 - size {

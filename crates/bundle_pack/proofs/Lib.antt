@@ -1,6 +1,8 @@
 mod Volumes
 mod Opened
 mod Choosing
+mod Recovered
+mod Telling
 mod Turning
 mod Reading
 mod Targets

@@ -8,7 +8,7 @@ use Rattle.bundle_store.specs.declared.fault.StoreFault.TheVariants.{Device, Bad
 use Rattle.bundle_store.specs.Built.{filled}
 use Rattle.bundle_store.specs.Layout.{layout}
 use Rattle.opened_bundle.specs.Files.{Files}
-use Rattle.bundle_pack.specs.Chosen.{AreWhole, IsChosen, chosen_bytes}
+use Rattle.bundle_pack.specs.Chosen.{AreWhole, IsChosen, chosen_bytes, most_bytes}
 use Rattle.bundle_pack.specs.Opening.{AreOpened, IsFirstUnopened, OpeningFault, OpensAs}
 use Rattle.bundle_pack.specs.Packing.{AreRead, AreTaken, IsFirstBeyond, IsFree, PackSays, SourceSays, TargetFault, merged_tiles}
 use Rattle.bundle_pack.specs.declared.fault.PackFault.{PackFault}
@@ -33,7 +33,7 @@ record TooMuch (sources : List Files) (r : Result PackReport PackFault) : Type 0
   bundles : List (List ℕ)
   opened : AreOpened sources bundles
   sum : len ≡ chosen_bytes bundles 16384
-  many : 1073741824 < len
+  many : most_bytes < len
 
 record Beyonds (sources : List Files) (r : Result PackReport PackFault) : Type 0 where
   at : ℕ

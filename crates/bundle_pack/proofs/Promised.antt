@@ -1,32 +1,33 @@
 -- What a run leaves, in the words of the tiles that its bundles stand for.
 use Rattle.std.proofs.Common.{◌≡◌, ◌⊎◌, inl, inr, ℕ, ◌≤◌, List, [], length, Some, None, Result, Ok, Err, Bool, refl, sym, ap, subst, ◌∙◌, arith}
-use Rattle.std.specs.Prelude.{IfErr}
+use Rattle.std.specs.Prelude.{IfErr, IsTrue}
 use Rattle.outside_io.specs.declared.volume.VolFile.TheVariants.{Bundle, Journal}
 use Rattle.outside_io.specs.streams.Sink.{Holds}
-use Rattle.outside_io.specs.volume.Disk.{Disk}
-use Rattle.outside_io.specs.volume.History.{History, contents, current}
+use Rattle.outside_io.specs.volume.Disk.{Disk, IsImage}
+use Rattle.outside_io.specs.volume.History.{During, History, contents, current}
 use Rattle.outside_io.proofs.VolumeLemmas.Images.{only_image}
 use Rattle.outside_io.proofs.VolumeLemmas.Moments.{during_map}
 use Rattle.bundle_index.specs.Sizes.{slot_count}
 use Rattle.bundle_store.specs.declared.fault.StoreFault.TheVariants.{Device, BadBundle, BadJournal, NoTile, Beyond, TileTooLarge, EmptyTile, Full, NotEmpty, OutOfMemory, Stopped}
 use Rattle.bundle_store.specs.Images.{EachImage, StandsFor}
-use Rattle.bundle_store.specs.Recover.{EachStandsForOneOf, StandsForOneOf}
+use Rattle.bundle_store.specs.Recover.{EachBundleMidway, EachStandsForOneOf, IsMidway, StandsForOneOf}
 use Rattle.bundle_store.specs.Tiles.{TileMap, no_tiles}
 use Rattle.bundle_store.proofs.Recovering.{tiles_empty}
 use Rattle.opened_bundle.specs.Files.{Files}
-use Rattle.opened_bundle.specs.Left.{IsReady, KeepsStart}
+use Rattle.opened_bundle.specs.Left.{IsReady, IsShut, KeepsStart}
 use Rattle.program_ends.specs.Moves.{SinkMove}
 use Rattle.program_ends.specs.declared.stop.Stop.{Stop}
 use Rattle.program_ends.specs.declared.stop.Stop.TheVariants.{Usage, Source as SourceStop, Output, Volume, OutOfMemory as NoMemory, Refused}
 use Rattle.program_ends.proofs.Ends as ends
-use Rattle.bundle_pack.specs.Chosen.{chosen_bytes}
+use Rattle.bundle_pack.specs.Chosen.{chosen_bytes, most_bytes}
 use Rattle.bundle_pack.specs.Files.{files_in}
 use Rattle.bundle_pack.specs.Merged.{StandFor, merged}
 use Rattle.bundle_pack.specs.Names.{End, packed_line, refusal_status, status_at}
 use Rattle.bundle_pack.specs.Opening.{AreOpened, OpensAs}
-use Rattle.bundle_pack.specs.Packing.{EachKeptOr, IsOfSound, PackSays, PacksMaps, TargetKeeps, merged_tiles}
-use Rattle.bundle_pack.specs.Run.{EndsAs, EndsWith, KeepsOrPacks, PackedAll}
-use Rattle.bundle_pack.specs.Sources.{KeepsImages}
+use Rattle.bundle_pack.specs.Packing.{EachKeptOr, IsOfSound, OnUnpacked, PackSays, PacksMaps, TargetKeeps, merged_tiles}
+use Rattle.bundle_pack.specs.Recovering.{AtMostRecovers}
+use Rattle.bundle_pack.specs.Run.{EndsAs, EndsWith, KeepsBytes, KeepsOrPacks, PackedAll}
+use Rattle.bundle_pack.specs.Sources.{RecoversAlone}
 use Rattle.bundle_pack.specs.declared.fault.PackFault.{PackFault}
 use Rattle.bundle_pack.specs.declared.fault.PackFault.TheVariants.{Source, Target, KeptTooMuch, OutOfMemory as NoRoom}
 use Rattle.bundle_pack.specs.declared.packing.PackReport.{PackReport}
@@ -44,10 +45,66 @@ start_image start told h b j ready one =
     let journal : one.journal ≡ contents Journal h = only_image (current h).journal one.journal ready.quiet.journal one.journal_is in
     one.same start (subst (λ (l : List ℕ). StandsFor l one.journal start) (sym bundle) (subst (λ (l : List ℕ). StandsFor (contents Bundle h) l start) (sym journal) ready.stands))
 
-pub source_keeps : {V : Type 0} (told : V → Bool) (history : V → History) (old new : V) (start : TileMap) → KeepsImages told history old new → IsReady (told old) (history old) start → KeepsStart start (history old) (history new)
-source_keeps told history old new start kept ready =
-    during_map (EachStandsForOneOf (current (history old))) (EachImage (λ map. map ≡ start)) (history old) (history new)
-    (λ d each b j ib ij. record { map = start; stands = start_image start (told old) (history old) b j ready (each b j ib ij); passes = refl }) (kept.images ready.tells)
+images_keep : (told : Bool) (old new : History) (start : TileMap) → IsReady told old start → During (EachStandsForOneOf (current old)) old new → KeepsStart start old new
+images_keep told old new start ready during =
+    during_map (EachStandsForOneOf (current old)) (EachImage (λ map. map ≡ start)) old new
+    (λ d each b j ib ij. record { map = start; stands = start_image start told old b j ready (each b j ib ij); passes = refl }) during
+
+pub source_keeps : {V : Type 0} (told : V → Bool) (history : V → History) (old new : V) (start : TileMap) → RecoversAlone told history old new → IsReady (told old) (history old) start → KeepsStart start (history old) (history new)
+source_keeps told history old new start kept ready = images_keep (told old) (history old) (history new) start ready (kept.images ready.tells)
+
+-- no tiles are put, and none is being built: the bytes are those of the start
+bytes_stay : (old new : History) → IsShut (current old) → During (EachBundleMidway (current old)) old new → KeepsBytes old new
+bytes_stay old new shut during = during_map (EachBundleMidway (current old)) (λ d. (b : List ℕ) → IsImage d.bundle b → b ≡ contents Bundle old) old new (λ d each b ib. same b (each b ib)) during
+  where
+    same : (b : List ℕ) → IsImage (current old).bundle b ⊎ IsMidway (contents Bundle old) (contents Journal old) b → b ≡ contents Bundle old
+    same b (inl image) = only_image (current old).bundle b shut.quiet.bundle image
+    same b (inr (inl is)) = is
+    same b (inr (inr (inl part))) = absurd (shut.closed part.applies.opened)
+    same b (inr (inr (inr (opened, built)))) = absurd (shut.closed opened)
+
+pub source_stays : {V : Type 0} (told : V → Bool) (history : V → History) (old new : V) → RecoversAlone told history old new → IsTrue (told old) → IsShut (current (history old)) → KeepsBytes (history old) (history new)
+source_stays told history old new kept tells shut = bytes_stay (history old) (history new) shut (kept.bytes tells)
+
+pub unpacked_stays : (old new : History) → IsShut (current old) → AtMostRecovers old new → KeepsBytes old new
+unpacked_stays old new shut so = bytes_stay old new shut so.bytes
+
+pub unpacked_keeps : (told : Bool) (old new : History) (start : TileMap) → IsReady told old start → AtMostRecovers old new → KeepsStart start old new
+unpacked_keeps told old new start ready so = images_keep told old new start ready so.images
+
+-- a status of memory, or of a refusal, is of a target that was not packed
+pub target_unpacked : (answer : Result PackReport PackFault) (end : End) (status : ℕ) (P : Type 0) → EndsAs answer end → status ≡ status_at end → (status ≡ 6) ⊎ (status ≡ 7) → OnUnpacked answer P → P
+target_unpacked answer end status P so is late on = go answer end so (elim late [ inl six ↦ inl (sym is ∙ six) | inr seven ↦ inr (sym is ∙ seven) ]) on
+  where
+    never : {A : Type 0} → ◌≡◌ {A = ℕ} 5 6 ⊎ ◌≡◌ {A = ℕ} 5 7 → A
+    never (inl e) = absurd (omega (arith, e))
+    never (inr e) = absurd (omega (arith, e))
+
+    go : (answer : Result PackReport PackFault) (end : End) → EndsAs answer end → (status_at end ≡ 6) ⊎ (status_at end ≡ 7) → OnUnpacked answer P → P
+    go (Ok report) (Ok u) so (inl e) on = absurd (omega (arith, e))
+    go (Ok report) (Ok u) so (inr e) on = absurd (omega (arith, e))
+    go (Ok report) (Err Output) so (inl e) on = absurd (omega (arith, e))
+    go (Ok report) (Err Output) so (inr e) on = absurd (omega (arith, e))
+    go (Ok report) (Err Usage) so e on = absurd so
+    go (Ok report) (Err SourceStop) so e on = absurd so
+    go (Ok report) (Err Volume) so e on = absurd so
+    go (Ok report) (Err NoMemory) so e on = absurd so
+    go (Ok report) (Err (Refused r)) so e on = absurd so
+    go (Err fault) (Ok u) so e on = absurd so
+    go (Err (Source at slot fault)) (Err stop) so e on = on
+    go (Err (KeptTooMuch len)) (Err stop) so e on = on
+    go (Err NoRoom) (Err stop) so e on = on
+    go (Err (Target Device)) (Err stop) so e on = never (subst (λ (s : Stop Refusal). (status_at (Err s) ≡ 6) ⊎ (status_at (Err s) ≡ 7)) so e)
+    go (Err (Target (BadBundle place found))) (Err stop) so e on = on
+    go (Err (Target (BadJournal place found))) (Err stop) so e on = on
+    go (Err (Target NoTile)) (Err stop) so e on = on
+    go (Err (Target (Beyond entry got))) (Err stop) so e on = on
+    go (Err (Target (TileTooLarge place len))) (Err stop) so e on = on
+    go (Err (Target (EmptyTile place))) (Err stop) so e on = on
+    go (Err (Target (Full len))) (Err stop) so e on = on
+    go (Err (Target (NotEmpty len))) (Err stop) so e on = on
+    go (Err (Target OutOfMemory)) (Err stop) so e on = on
+    go (Err (Target Stopped)) (Err stop) so e on = on
 
 pub target_keeps : (sources : List Files) (told : Bool) (old new : History) (maps : List TileMap) (start : TileMap) → StandFor sources maps → IsReady told old start → TargetKeeps sources (files_in old) old new → KeepsOrPacks maps start old new
 target_keeps sources told old new maps start stand ready (inl kept) =
@@ -77,7 +134,7 @@ packed_all (Err fault) end status maps d out err so is zero packs with_all = abs
 -- Sound bundles of few tiles are packed into a sound target that is empty, unless an object fails
 -- or memory is refused.
 pub complete : (sources : List Files) (target : Files) (answer : Result PackReport PackFault) (end : End) (status : ℕ) → EndsAs answer end → status ≡ status_at end → PackSays sources target answer → IfErr answer (λ f. IsOfSound f)
-    → ((bundles : List (List ℕ)) → AreOpened sources bundles → chosen_bytes bundles slot_count ≤ 1073741824) → OpensAs target [] → (status ≡ 4 → ⊥) → (status ≡ 5 → ⊥) → (status ≡ 0) ⊎ (status ≡ 6)
+    → ((bundles : List (List ℕ)) → AreOpened sources bundles → chosen_bytes bundles slot_count ≤ most_bytes) → OpensAs target [] → (status ≡ 4 → ⊥) → (status ≡ 5 → ⊥) → (status ≡ 0) ⊎ (status ≡ 6)
 complete sources target answer end status so is says sound few empty four five = go answer end so is says sound
   where
     go : (answer : Result PackReport PackFault) (end : End) → EndsAs answer end → status ≡ status_at end → PackSays sources target answer → IfErr answer (λ f. IsOfSound f) → (status ≡ 0) ⊎ (status ≡ 6)

@@ -1,29 +1,30 @@
 -- Sources that are read from are still, and serve what they served.
-use Rattle.std.proofs.Common.{◌≡◌, ◌≢◌, inl, inr, ℕ, List, slice_get, slice_set, Some, Bool, IsTrue, refl, sym, ap, subst, ◌∙◌, arith}
+use Rattle.std.proofs.Common.{◌≡◌, ◌≢◌, inl, inr, ℕ, List, slice_get, slice_set, Some, Bool, IsTrue, refl, sym, subst, ◌∙◌, arith}
 use Rattle.std.specs.Prelude.{All}
 use Rattle.std.proofs.lemmas.Bool.{cases_lt}
 use Rattle.std.proofs.lemmas.List.{length-map}
 use Rattle.std.proofs.lemmas.Option.{slice_get_within}
 use Rattle.outside_io.specs.declared.volume.VolFile.TheVariants.{Bundle, Journal}
 use Rattle.outside_io.specs.streams.Faults.{IsCause}
-use Rattle.outside_io.specs.volume.Disk.{Disk}
-use Rattle.outside_io.specs.volume.History.{During, History, contents, current}
-use Rattle.outside_io.proofs.VolumeLemmas.Moments.{during_end, during_join, during_map, started}
-use Rattle.bundle_store.specs.Recover.{EachStandsForOneOf}
+use Rattle.outside_io.specs.volume.History.{History, contents, current}
+use Rattle.outside_io.proofs.VolumeLemmas.Moments.{started}
+use Rattle.bundle_store.specs.Recover.{EachBundleMidway, EachStandsForOneOf}
 use Rattle.bundle_store.specs.Session.{Serves, SessionState}
 use Rattle.bundle_pack.specs.Files.{all_bundles}
 use Rattle.opened_bundle.specs.Left.{IsLeft}
-use Rattle.bundle_pack.specs.Sources.{Each, IsServing, KeepsImages, SourceMoves}
+use Rattle.bundle_pack.specs.Sources.{Each, IsServing, RecoversAlone, SourceMoves}
 use Rattle.bundle_pack.specs.inside.Collecting.{AreServed, IsStill}
 use Rattle.opened_bundle.proofs.BundleOpening.{still}
+use Rattle.bundle_pack.proofs.Recovered.{bytes_on, bytes_themselves, changes_on, contents_on, images_on, keeps_itself, still_on, unchanged}
 use Rattle.bundle_pack.proofs.Volumes.{all_of, each_join, each_map, each_same, each_turn, from_map, get_some, same_maps, told_at}
 
--- each image stands for what it stands for
-pub keeps_itself : (d : Disk) → EachStandsForOneOf d d
-keeps_itself d = λ b j ib ij. record { bundle = b; journal = j; bundle_is = ib; journal_is = ij; same = λ m stands. stands }
-
-pub images_same : {V : Type 0} (told : V → Bool) (history : V → History) (v : V) → KeepsImages told history v v
-images_same told history v = record { told_same = refl; images = λ tells. started (EachStandsForOneOf (current (history v))) (history v) (keeps_itself (current (history v))) }
+pub images_same : {V : Type 0} (told : V → Bool) (history : V → History) (v : V) → RecoversAlone told history v v
+images_same told history v = record {
+  told_same = refl;
+  images = λ tells. started (EachStandsForOneOf (current (history v))) (history v) (keeps_itself (current (history v)));
+  bytes = λ tells. started (EachBundleMidway (current (history v))) (history v) (bytes_themselves (current (history v)));
+  changes = λ tells. unchanged (history v);
+}
 
 -- what a source that is read leaves, where none failed
 pub still_same : {V : Type 0} (told : V → Bool) (history : V → History) (faults : V → ℕ) (failed : Type 0) (v : V) → (failed → ⊥) → IsStill told history faults failed v v
@@ -49,8 +50,7 @@ still_join told history faults failed v m w first second =
       still = λ tells.
           let one = first.still tells in
           let two = second.still (subst (λ b. IsTrue b) (sym first.told_same) tells) in
-          let end : current (history m) ≡ current (history v) = during_end (λ d. d ≡ current (history v)) (history v) (history m) one in
-          during_join (λ d. d ≡ current (history v)) (history v) (history m) (history w) one (during_map (λ d. d ≡ current (history m)) (λ d. d ≡ current (history v)) (history m) (history w) (λ d e. e ∙ end) two);
+          still_on (history v) (history m) (history w) one two;
       cause = subst (λ n. IsCause failed n (faults w)) same second.cause;
     }
   where
@@ -61,9 +61,6 @@ still_join told history faults failed v m w first second =
     ]
 
 -- it serves what it served
-pub still_contents : (old new : History) → During (λ d. d ≡ current old) old new → contents Bundle new ≡ contents Bundle old
-still_contents old new during = ap (λ (d : Disk). d.bundle.now) (during_end (λ d. d ≡ current old) old new during)
-
 pub still_serving : {V : Type 0} (told : V → Bool) (history : V → History) (faults : V → ℕ) (failed : ℕ → Type 0) (sessions : List SessionState) (old new : List V)
     → Each (λ i v w. IsStill told history faults (failed i) v w) old new → IsServing told history sessions old → IsServing told history sessions new
 still_serving told history faults failed sessions old new so serving = record {
@@ -75,14 +72,14 @@ still_serving told history faults failed sessions old new so serving = record {
         was.0,
         λ tells.
             let told_old = subst (λ b. IsTrue b) p.told_same tells in
-            subst (Serves s) (sym (still_contents (history v.0) (history w) (p.still told_old))) (was.1 told_old),
+            subst (Serves s) (sym (contents_on (history v.0) (history w) (p.still told_old))) (was.1 told_old),
       );
 }
 
 pub still_bundles : {V : Type 0} (told : V → Bool) (history : V → History) (faults : V → ℕ) (failed : ℕ → Type 0) (old new : List V)
     → Each (λ i v w. IsStill told history faults (failed i) v w) old new → All (λ v. IsTrue (told v)) old → all_bundles history new ≡ all_bundles history old
 still_bundles told history faults failed old new so all = same_maps (λ v. contents Bundle (history v)) old new so.many
-    (λ i v w first then. still_contents (history v) (history w) ((so.each i v w first then).still (told_at told old i v all first)))
+    (λ i v w first then. contents_on (history v) (history w) ((so.each i v w first then).still (told_at told old i v all first)))
 
 -- what is told stays told
 pub still_told : {V : Type 0} (told : V → Bool) (history : V → History) (faults : V → ℕ) (failed : ℕ → Type 0) (old new : List V)
@@ -105,14 +102,12 @@ pub moved_still : {V : Type 0} (told : V → Bool) (history : V → History) (fa
 moved_still told history faults before failed v m w never moved rest = record {
   kept = record {
     told_same = rest.told_same ∙ moved.kept.told_same;
-    images = λ tells.
-        let one = moved.kept.images tells in
-        let base = during_end (EachStandsForOneOf (current (history v))) (history v) (history m) one in
-        during_join (EachStandsForOneOf (current (history v))) (history v) (history m) (history w) one
-        (during_map (λ d. d ≡ current (history m)) (EachStandsForOneOf (current (history v))) (history m) (history w) (λ d e. subst (EachStandsForOneOf (current (history v))) (sym e) base) (rest.still (later tells)));
+    images = λ tells. images_on (history v) (history m) (history w) (moved.kept.images tells) (rest.still (later tells));
+    bytes = λ tells. bytes_on (history v) (history m) (history w) (moved.kept.bytes tells) (rest.still (later tells));
+    changes = λ tells. changes_on (history v) (history m) (history w) (moved.kept.changes tells) (rest.still (later tells));
   };
   bundle = λ tells _.
-      let same : contents Bundle (history w) ≡ contents Bundle (history m) = still_contents (history m) (history w) (rest.still (later tells)) in
+      let same : contents Bundle (history w) ≡ contents Bundle (history m) = contents_on (history m) (history w) (rest.still (later tells)) in
       elim (moved.bundle tells never) [
         | inl left ↦ inl (subst (λ (c : List ℕ). IsLeft (contents Bundle (history v)) (contents Journal (history v)) c) (sym same) left)
         | inr is ↦ inr (same ∙ is)

@@ -1,5 +1,5 @@
 -- From what one step says and leaves to what the whole does.
-use Rattle.std.proofs.Common.{◌≡◌, inr, ℕ, ◌<◌, List, Some, None, Result, Ok, Err, Bool, IsTrue, refl, sym, ap, subst, arith}
+use Rattle.std.proofs.Common.{◌≡◌, inr, ℕ, ◌<◌, List, Some, None, Result, Ok, Err, Bool, IsTrue, sym, ap, subst, arith}
 use Rattle.std.specs.Prelude.{All, Vec}
 use Rattle.std.specs.declared.alloc.Global.{Global}
 use Rattle.std.proofs.lemmas.Option.{slice_get_within}
@@ -18,7 +18,9 @@ use Rattle.bundle_pack.specs.declared.fault.PackFault.TheVariants.{Source, Targe
 use Rattle.bundle_pack.specs.inside.Collecting.{IsGetFault, IsStill, ReadFails, ReadSays, TilesSay}
 use Rattle.bundle_pack.specs.inside.Turns.{OpenAnswers, TargetAnswers}
 use Rattle.bundle_pack.proofs.Reading.{moved_still}
+use Rattle.bundle_store.proofs.Refusals.{device_cause}
 use Rattle.opened_bundle.proofs.BundleOpening.{still}
+use Rattle.bundle_pack.proofs.Telling.{by_target, cause_map}
 use Rattle.bundle_pack.proofs.Volumes.{all_of, each_join, each_map, get_some, told_at}
 
 -- ---- answers
@@ -26,9 +28,6 @@ use Rattle.bundle_pack.proofs.Volumes.{all_of, each_join, each_map, get_some, to
 -- the same fault, of another call
 pub err_as : {X Y : Type 0} (f g : PackFault) → ◌≡◌ {A = Result X PackFault} (Err f) (Err g) → ◌≡◌ {A = Result Y PackFault} (Err f) (Err g)
 err_as f g e = ap Err (let same : f ≡ g = cc in same)
-
-pub cause_map : (P Q : Type 0) (old new : ℕ) → (P → Q) → (Q → P) → IsCause P old new → IsCause Q old new
-cause_map P Q old new to from c = record { counts = c.counts; failed = λ q. c.failed (from q); rose = λ more. to (c.rose more) }
 
 pub moved_map : {V : Type 0} (told : V → Bool) (history : V → History) (faults : V → ℕ) (P Q : Type 0) (v w : V) → (P → Q) → (Q → P) → SourceMoves told history faults P v w → SourceMoves told history faults Q v w
 moved_map told history faults P Q v w to from m = record {
@@ -137,31 +136,13 @@ target_fails count Stopped fails = absurd fails
 
 -- a fault of the target is none of a source
 pub not_source : (i : ℕ) (fault : StoreFault) → target_fault_of fault ≡ Source i None Device → ⊥
-not_source i Device is = absurd cc
-not_source i (BadBundle place found) is = absurd cc
-not_source i (BadJournal place found) is = absurd cc
-not_source i NoTile is = absurd cc
-not_source i (Beyond entry got) is = absurd cc
-not_source i (TileTooLarge place len) is = absurd cc
-not_source i (EmptyTile place) is = absurd cc
-not_source i (Full len) is = absurd cc
-not_source i (NotEmpty len) is = absurd cc
-not_source i StoreMemory is = absurd cc
-not_source i Stopped is = absurd cc
+not_source i fault = by_target (λ f told. told ≡ Source i None Device → ⊥) (λ is. absurd cc) (λ f is. absurd cc) fault
 
 -- the count of the target
 pub target_cause : (fault : StoreFault) (old new : ℕ) → FaultFrom fault old new → IsCause (target_fault_of fault ≡ Target Device) old new
-target_cause Device old new from = record { counts = from.0; failed = λ _. from.1; rose = λ _. refl }
-target_cause (BadBundle place found) old new same = still _ old new same (λ is. absurd cc)
-target_cause (BadJournal place found) old new same = still _ old new same (λ is. absurd cc)
-target_cause NoTile old new same = still _ old new same (λ is. absurd cc)
-target_cause (Beyond entry got) old new same = still _ old new same (λ is. absurd cc)
-target_cause (TileTooLarge place len) old new same = still _ old new same (λ is. absurd cc)
-target_cause (EmptyTile place) old new same = still _ old new same (λ is. absurd cc)
-target_cause (Full len) old new same = still _ old new same (λ is. absurd cc)
-target_cause (NotEmpty len) old new same = still _ old new same (λ is. absurd cc)
-target_cause StoreMemory old new same = still _ old new same (λ is. absurd cc)
-target_cause Stopped old new same = still _ old new same (λ is. absurd cc)
+target_cause fault old new =
+    by_target (λ f told. FaultFrom f old new → IsCause (told ≡ Target Device) old new) (λ same. still _ old new same (λ is. absurd cc))
+    (λ f from. cause_map (f ≡ Device) (Target f ≡ Target Device) old new (ap Target) (λ is. let same : f ≡ Device = cc in same) (device_cause f old new from)) fault
 
 -- ---- what is said
 

@@ -15,21 +15,23 @@ use Rattle.opened_bundle.specs.Files.{Files}
 use Rattle.bundle_pack.specs.Files.{all_bundles, all_files, files_in}
 use Rattle.bundle_pack.specs.Opening.{AreOpened, OpensAs, StandsLeft}
 use Rattle.bundle_pack.specs.Refusals.{source_fault_of}
-use Rattle.bundle_pack.specs.Sources.{DeviceAt, Each, IsServing, KeepsImages, SourceMoves}
+use Rattle.bundle_pack.specs.Sources.{DeviceAt, Each, IsServing, RecoversAlone, SourceMoves}
 use Rattle.bundle_pack.specs.declared.fault.PackFault.{PackFault}
 use Rattle.bundle_pack.specs.declared.fault.PackFault.TheVariants.{Source, OutOfMemory as NoMemory}
 use Rattle.bundle_pack.specs.inside.Turns.{IsTurn, IsTurned, OpenSays, OpeningSays}
+use Rattle.bundle_store.proofs.Refusals.{device_cause, unless_device}
 use Rattle.opened_bundle.proofs.BundleOpening.{still}
+use Rattle.bundle_pack.proofs.Telling.{by_source, cause_map}
 use Rattle.bundle_pack.proofs.Volumes.{each_map, each_same, each_turn, from_map, get_before, get_pushed, get_some, map_at, one_some, told_at}
 
 -- one source more is opened
 pub turn_more : {V : Type 0} (told : V → Bool) (history : V → History) (faults : V → ℕ) (sessions : List SessionState) (at : ℕ) (old mid : List V) (x y : V) (s : SessionState)
-    → length sessions ≡ at → slice_get mid at ≡ Some x → KeepsImages told history x y → faults y ≡ faults x → IsTurned told history s x y
+    → length sessions ≡ at → slice_get mid at ≡ Some x → RecoversAlone told history x y → faults y ≡ faults x → IsTurned told history s x y
     → Each (IsTurn told history faults sessions at) old mid → Each (IsTurn told history faults (sessions ++ s ∷ []) (at + 1)) old (slice_set mid at y)
 turn_more told history faults sessions at old mid x y s size there kept count turned so =
     each_turn (IsTurn told history faults sessions at) (IsTurn told history faults (sessions ++ s ∷ []) (at + 1)) old mid at x y so there
     (λ v was p. let e : x ≡ v = p.rest (omega arith) in record {
-      kept = subst (λ a. KeepsImages told history a y) e kept;
+      kept = subst (λ a. RecoversAlone told history a y) e kept;
       count = count ∙ ap faults e;
       turned = λ _. (s, (ap (slice_get (sessions ++ s ∷ [])) (sym size) ∙ get_pushed sessions s, subst (λ a. IsTurned told history s a y) e turned));
       rest = λ le. absurd (omega (arith, le));
@@ -42,7 +44,7 @@ turn_more told history faults sessions at old mid x y s size there kept count tu
     })
 
 -- before the first
-pub turn_none : {V : Type 0} (told : V → Bool) (history : V → History) (faults : V → ℕ) (vs : List V) → ((i : ℕ) (v : V) → KeepsImages told history v v) → Each (IsTurn told history faults [] 0) vs vs
+pub turn_none : {V : Type 0} (told : V → Bool) (history : V → History) (faults : V → ℕ) (vs : List V) → ((i : ℕ) (v : V) → RecoversAlone told history v v) → Each (IsTurn told history faults [] 0) vs vs
 turn_none told history faults vs keeps = each_same (IsTurn told history faults [] 0) vs (λ i v. record { kept = keeps i v; count = refl; turned = λ less. absurd (omega (arith, less)); rest = λ le. refl })
 
 -- all were opened
@@ -85,45 +87,18 @@ turns_moved told history faults sessions at old new result end never so =
 
 -- no other source failed
 other_fault : (at i : ℕ) (fault : StoreFault) → at ≢ i → source_fault_of at fault ≡ Source i None Device → ⊥
-other_fault at i Device differs is = differs cc
-other_fault at i (BadBundle place found) differs is = absurd cc
-other_fault at i (BadJournal place found) differs is = absurd cc
-other_fault at i NoTile differs is = absurd cc
-other_fault at i (Beyond entry got) differs is = absurd cc
-other_fault at i (TileTooLarge place len) differs is = absurd cc
-other_fault at i (EmptyTile place) differs is = absurd cc
-other_fault at i (Full len) differs is = absurd cc
-other_fault at i (NotEmpty len) differs is = absurd cc
-other_fault at i OutOfMemory differs is = absurd cc
-other_fault at i Stopped differs is = absurd cc
+other_fault at i fault differs = by_source at (λ f told. told ≡ Source i None Device → ⊥) (λ is. absurd cc) (λ f is. differs cc) fault
 
 -- the count of the source that was opened last, which refuses
 this_cause : (at : ℕ) (fault : StoreFault) (old new : ℕ) → FaultFrom fault old new → IsCause (source_fault_of at fault ≡ Source at None Device) old new
-this_cause at Device old new from = record { counts = from.0; failed = λ _. from.1; rose = λ _. refl }
-this_cause at (BadBundle place found) old new same = still _ old new same (λ is. absurd cc)
-this_cause at (BadJournal place found) old new same = still _ old new same (λ is. absurd cc)
-this_cause at NoTile old new same = still _ old new same (λ is. absurd cc)
-this_cause at (Beyond entry got) old new same = still _ old new same (λ is. absurd cc)
-this_cause at (TileTooLarge place len) old new same = still _ old new same (λ is. absurd cc)
-this_cause at (EmptyTile place) old new same = still _ old new same (λ is. absurd cc)
-this_cause at (Full len) old new same = still _ old new same (λ is. absurd cc)
-this_cause at (NotEmpty len) old new same = still _ old new same (λ is. absurd cc)
-this_cause at OutOfMemory old new same = still _ old new same (λ is. absurd cc)
-this_cause at Stopped old new same = still _ old new same (λ is. absurd cc)
+this_cause at fault old new =
+    by_source at (λ f told. FaultFrom f old new → IsCause (told ≡ Source at None Device) old new) (λ same. still _ old new same (λ is. absurd cc))
+    (λ f from. cause_map (f ≡ Device) (Source at None f ≡ Source at None Device) old new (ap (Source at None)) (λ is. let same : f ≡ Device = cc in same) (device_cause f old new from)) fault
 
 -- what holds of a cause but the failure of the source
 unless_failed : (at : ℕ) (fault : StoreFault) (P : Type 0) → OnCause fault P → (source_fault_of at fault ≡ Source at None Device → ⊥) → P
-unless_failed at Device P on never = absurd (never refl)
-unless_failed at (BadBundle place found) P on never = on
-unless_failed at (BadJournal place found) P on never = on
-unless_failed at NoTile P on never = on
-unless_failed at (Beyond entry got) P on never = on
-unless_failed at (TileTooLarge place len) P on never = on
-unless_failed at (EmptyTile place) P on never = on
-unless_failed at (Full len) P on never = on
-unless_failed at (NotEmpty len) P on never = on
-unless_failed at OutOfMemory P on never = on
-unless_failed at Stopped P on never = on
+unless_failed at fault P =
+    by_source at (λ f told. OnCause f P → (told ≡ Source at None Device → ⊥) → P) (λ on never. on) (λ f on never. unless_device f P on (λ is. never (ap (Source at None) is))) fault
 
 err_same : {X : Type 0} (f g : PackFault) (a b : Result X PackFault) → a ≡ Err f → b ≡ Err g → a ≡ b → f ≡ g
 err_same f g a b ea eb e = cc
@@ -141,7 +116,7 @@ cause_of a f g old new is cause = record {
 
 -- one source refuses
 pub turn_fails : {V X : Type 0} (told : V → Bool) (history : V → History) (faults : V → ℕ) (sessions : List SessionState) (at : ℕ) (old mid : List V) (x y : V) (fault : StoreFault) (result : Result X PackFault)
-    → result ≡ Err (source_fault_of at fault) → slice_get mid at ≡ Some x → KeepsImages told history x y → FaultFrom fault (faults x) (faults y) → (IsTrue (told x) → OnCause fault (StandsLeft (history x) (history y)))
+    → result ≡ Err (source_fault_of at fault) → slice_get mid at ≡ Some x → RecoversAlone told history x y → FaultFrom fault (faults x) (faults y) → (IsTrue (told x) → OnCause fault (StandsLeft (history x) (history y)))
     → Each (IsTurn told history faults sessions at) old mid → Each (λ i v w. SourceMoves told history faults (DeviceAt result i) v w) old (slice_set mid at y)
 turn_fails told history faults sessions at old mid x y fault result is there kept from left so =
     each_turn (IsTurn told history faults sessions at) (λ i v w. SourceMoves told history faults (DeviceAt result i) v w) old mid at x y so there
@@ -164,7 +139,7 @@ turn_fails told history faults sessions at old mid x y fault result is there kep
 
 -- memory is refused behind the opening of one
 pub turn_stops : {V X : Type 0} (told : V → Bool) (history : V → History) (faults : V → ℕ) (sessions : List SessionState) (at : ℕ) (old mid : List V) (x y : V) (s : SessionState) (result : Result X PackFault)
-    → result ≡ Err NoMemory → slice_get mid at ≡ Some x → KeepsImages told history x y → faults y ≡ faults x → (IsTrue (told x) → StandsLeft (history x) (history y))
+    → result ≡ Err NoMemory → slice_get mid at ≡ Some x → RecoversAlone told history x y → faults y ≡ faults x → (IsTrue (told x) → StandsLeft (history x) (history y))
     → Each (IsTurn told history faults sessions at) old mid → Each (λ i v w. SourceMoves told history faults (DeviceAt result i) v w) old (slice_set mid at y)
 turn_stops told history faults sessions at old mid x y s result is there kept count left so =
     let never : (i : ℕ) → DeviceAt result i → ⊥ = λ i e. absurd (no_failure i (err_same NoMemory (Source i None Device) result (Err (Source i None Device)) is refl e)) in

@@ -24,3 +24,7 @@ chosen_bytes bundles (suc slot) = chosen_bytes bundles slot + chosen_size bundle
 abbrev pub AreWhole : List (List ℕ) → ℕ → Type 0
 AreWhole bundles n = (slot at : ℕ) (bundle : List ℕ) → slot < n → IsChosen bundles slot at bundle
     → (entry_at bundle slot).offset + (entry_at bundle slot).size ≤ length bundle
+
+-- how many bytes the chosen tiles have together at most: 2^30
+abbrev pub most_bytes : ℕ
+most_bytes = 1073741824

@@ -11,6 +11,7 @@ pub mod Files
 pub mod Merged
 pub mod Chosen
 pub mod Opening
+pub mod Recovering
 pub mod Refusals
 pub mod Sources
 pub mod Packing

@@ -7,13 +7,14 @@ use Rattle.bundle_index.specs.declared.entry.Entry.{Entry}
 use Rattle.bundle_store.specs.declared.fault.StoreFault.{StoreFault}
 use Rattle.bundle_store.specs.declared.fault.StoreFault.TheVariants as store
 use Rattle.bundle_store.specs.Built.{filled}
+use Rattle.bundle_store.specs.Causes.{OnCause}
 use Rattle.bundle_store.specs.Images.{HoldsClosed, StandsFor}
 use Rattle.bundle_store.specs.Layout.{layout}
 use Rattle.bundle_store.specs.Recover.{EachStandsForOneOf, StandsForOneOf}
 use Rattle.bundle_store.specs.Session.{IsBeyond}
 use Rattle.bundle_store.specs.Tiles.{TileMap, tiles}
 use Rattle.opened_bundle.specs.Files.{Files}
-use Rattle.bundle_pack.specs.Chosen.{AreWhole, IsChosen, chosen_bytes}
+use Rattle.bundle_pack.specs.Chosen.{AreWhole, IsChosen, chosen_bytes, most_bytes}
 use Rattle.bundle_pack.specs.Merged.{merged}
 use Rattle.bundle_pack.specs.Opening.{AreOpened, IsFirstUnopened, OpeningFault, OpensAs}
 use Rattle.bundle_pack.specs.declared.fault.PackFault.{PackFault}
@@ -27,7 +28,7 @@ merged_tiles bundles = merged (map tiles bundles)
 -- All sources open, as these bundles, and their chosen tiles are not too many bytes.
 pub record AreTaken (sources : List Files) (bundles : List (List ℕ)) : Type 0 where
   pub opened : AreOpened sources bundles
-  pub few : chosen_bytes bundles slot_count ≤ 1073741824
+  pub few : chosen_bytes bundles slot_count ≤ most_bytes
 
 -- and each chosen tile lies in its bundle, so that it was read
 pub record AreRead (sources : List Files) (bundles : List (List ℕ)) : Type 0 where
@@ -76,7 +77,7 @@ PackSays sources target (Ok report) = (bundles : List (List ℕ)) × (AreRead so
 PackSays sources target (Err (Source at slot fault)) = SourceSays sources at slot fault
 PackSays sources target (Err (KeptTooMuch len)) = (bundles : List (List ℕ))
     × (AreOpened sources bundles
-    × ((len ≡ chosen_bytes bundles slot_count) × (1073741824 < len)))
+    × ((len ≡ chosen_bytes bundles slot_count) × (most_bytes < len)))
 PackSays sources target (Err (Target fault)) = ((bundles : List (List ℕ)) × AreRead sources bundles)
     × TargetFault target fault
 PackSays sources target (Err OutOfMemory) = Unit {0}
@@ -121,6 +122,17 @@ abbrev pub IsOfSources : Result PackReport PackFault → Type 0
 IsOfSources (Err (Source at slot fault)) = Unit {0}
 IsOfSources (Err (KeptTooMuch len)) = Unit {0}
 IsOfSources _ = ⊥
+
+-- where the target was not packed, nor failed
+abbrev pub OnUnpacked : Result PackReport PackFault → Type 0 → Type 0
+OnUnpacked (Ok report) P = Unit {0}
+OnUnpacked (Err (Target fault)) P = OnCause fault P
+OnUnpacked (Err fault) P = P
+
+-- where the target refused, and did not fail
+abbrev pub OnTarget : Result PackReport PackFault → Type 0 → Type 0
+OnTarget (Err (Target fault)) P = OnCause fault P
+OnTarget _ P = Unit {0}
 
 -- The answers that depend on more than the files: a volume failed, or memory was refused.
 abbrev pub IsFree : Result PackReport PackFault → Type 0

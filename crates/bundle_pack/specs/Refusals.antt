@@ -3,6 +3,7 @@ use Rattle.std.specs.Prelude.{ℕ, ◌<◌, Some, None}
 use Rattle.bundle_index.specs.Sizes.{slot_count}
 use Rattle.bundle_store.specs.declared.fault.StoreFault.{StoreFault}
 use Rattle.bundle_store.specs.declared.fault.StoreFault.TheVariants as store
+use Rattle.bundle_pack.specs.Chosen.{most_bytes}
 use Rattle.bundle_pack.specs.Opening.{OpeningFails}
 use Rattle.bundle_pack.specs.declared.fault.PackFault.{PackFault}
 use Rattle.bundle_pack.specs.declared.fault.PackFault.TheVariants.{Source, Target, KeptTooMuch, OutOfMemory}
@@ -37,6 +38,6 @@ abbrev pub PackFails : ℕ → PackFault → Type 0
 PackFails count OutOfMemory = Unit {0}
 PackFails count (Source at None fault) = (at < count) × OpeningFails fault
 PackFails count (Source at (Some slot) fault) = (at < count) × ((slot < slot_count) × NamesMore fault)
-PackFails count (KeptTooMuch len) = 1073741824 < len
+PackFails count (KeptTooMuch len) = most_bytes < len
 PackFails count (Target (store.NotEmpty len)) = 0 < len
 PackFails count (Target fault) = OpeningFails fault

@@ -1,10 +1,11 @@
 -- What a run leaves of the objects that it is lent, whatever it answers.
 use Rattle.std.specs.Prelude.{◌≡◌, ◌⊎◌, ℕ, ◌<◌, ◌≤◌, List, [], ◌∷◌, length, slice_get, Some, Result, Ok, Err, IfErr, OnOk, Bool, IsTrue, All, codes}
+use Rattle.outside_io.specs.declared.volume.VolFile.TheVariants.{Bundle}
 use Rattle.outside_io.specs.program.Line.{GivesLine}
 use Rattle.outside_io.specs.streams.Faults.{FailedBetween, IsCause}
 use Rattle.outside_io.specs.streams.Sink.{Holds}
-use Rattle.outside_io.specs.volume.Disk.{Disk}
-use Rattle.outside_io.specs.volume.History.{During, History, current}
+use Rattle.outside_io.specs.volume.Disk.{Disk, IsImage}
+use Rattle.outside_io.specs.volume.History.{During, History, contents, current}
 use Rattle.bundle_index.specs.Sizes.{slot_count}
 use Rattle.bundle_store.specs.declared.fault.StoreFault.TheVariants.{Device}
 use Rattle.bundle_store.specs.Built.{filled}
@@ -12,7 +13,7 @@ use Rattle.bundle_store.specs.Images.{EachImage, HoldsClosed}
 use Rattle.bundle_store.specs.Layout.{layout}
 use Rattle.bundle_store.specs.Tiles.{TileMap, no_tiles}
 use Rattle.opened_bundle.specs.Files.{Files}
-use Rattle.opened_bundle.specs.Left.{IsReady, KeepsStart}
+use Rattle.opened_bundle.specs.Left.{IsReady, IsShut, KeepsStart}
 use Rattle.program_ends.specs.Moves.{Change, SinkMove, VolumeMove}
 use Rattle.program_ends.specs.Stop.{Gained}
 use Rattle.program_ends.specs.declared.stop.Stop.TheVariants.{Output, OutOfMemory}
@@ -22,7 +23,9 @@ use Rattle.bundle_pack.specs.declared.packing.PackReport.{PackReport}
 use Rattle.bundle_pack.specs.Files.{all_files, files_in}
 use Rattle.bundle_pack.specs.Merged.{merged}
 use Rattle.bundle_pack.specs.Names.{End, GivesLineOf, line_of, packed_line, status_at, stop_of}
-use Rattle.bundle_pack.specs.Packing.{HoldsMerged, IsOfSources, PackSays, TargetKeeps}
+use Rattle.bundle_pack.specs.Opening.{StandsLeft}
+use Rattle.bundle_pack.specs.Packing.{HoldsMerged, IsOfSources, OnTarget, OnUnpacked, PackSays, TargetKeeps}
+use Rattle.bundle_pack.specs.Recovering.{AtMostRecovers}
 use Rattle.bundle_pack.specs.Refusals.{PackFails}
 use Rattle.bundle_pack.specs.Sources.{DeviceAt, Each, SourceMoves}
 
@@ -78,6 +81,9 @@ pub record OfTarget (all_told : Type 0) (sources : List Files)
   pub untouched : IsOfSources answer → to.same
   pub keeps : all_told → IsTrue to.told.old →
       TargetKeeps sources (files_in to.history.old) to.history.old to.history.new
+  pub unpacked : IsTrue to.told.old →
+      OnUnpacked answer (AtMostRecovers to.history.old to.history.new)
+  pub left : IsTrue to.told.old → OnTarget answer (StandsLeft to.history.old to.history.new)
   pub packed : all_told → IsTrue to.told.old →
       OnOk answer (HoldsMerged sources (current to.history.new))
 
@@ -134,6 +140,16 @@ KeepsOrPacks maps start old new = During (EachImage (λ map. (map ≡ start)
 abbrev pub EachKeepsStart : {V : Type 0} → (V → Bool) → (V → History) → List V → List V → Type 0
 EachKeepsStart told history old new = Each (λ i v w. (start : TileMap)
     → IsReady (told v) (history v) start → KeepsStart start (history v) (history w)) old new
+
+-- at each moment, whatever a crash leaves, the bundle has its bytes
+abbrev pub KeepsBytes : History → History → Type 0
+KeepsBytes old new = During (λ d. (b : List ℕ) → IsImage d.bundle b → b ≡ contents Bundle old)
+    old new
+
+-- each source does whose journal is not open, and of which nothing is pending
+abbrev pub EachKeepsBytes : {V : Type 0} → (V → Bool) → (V → History) → List V → List V → Type 0
+EachKeepsBytes told history old new = Each (λ i v w. IsTrue (told v) → IsShut (current (history v))
+    → KeepsBytes (history v) (history w)) old new
 
 -- ---- the words
 

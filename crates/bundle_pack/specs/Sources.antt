@@ -4,9 +4,10 @@ use Rattle.outside_io.specs.declared.volume.VolFile.TheVariants.{Bundle}
 use Rattle.outside_io.specs.streams.Faults.{IsCause}
 use Rattle.outside_io.specs.volume.History.{During, History, contents, current}
 use Rattle.bundle_store.specs.declared.fault.StoreFault.TheVariants.{Device}
-use Rattle.bundle_store.specs.Recover.{EachStandsForOneOf}
+use Rattle.bundle_store.specs.Recover.{EachBundleMidway, EachStandsForOneOf}
 use Rattle.bundle_store.specs.Session.{Serves, SessionState}
 use Rattle.bundle_pack.specs.Opening.{StandsLeft}
+use Rattle.bundle_pack.specs.Recovering.{ChangesByRecovery}
 use Rattle.bundle_pack.specs.declared.fault.PackFault.{PackFault}
 use Rattle.bundle_pack.specs.declared.fault.PackFault.TheVariants.{Source}
 
@@ -15,18 +16,24 @@ pub record Each {V : Type 0} (P : ℕ → V → V → Type 0) (old new : List V)
   pub many : length new ≡ length old
   pub each : (i : ℕ) (v w : V) → slice_get old i ≡ Some v → slice_get new i ≡ Some w → P i v w
 
--- At each moment each image stands for a map that an image at the start stood for.
-pub record KeepsImages {V : Type 0} (told : V → Bool) (history : V → History) (old new : V) :
+-- At each moment each image stands for a map that an image at the start stood for, and has a bundle
+-- of the start, or one that a recovery makes of it; and the files change by a recovery alone. All this
+-- holds where the volume fails, too.
+pub record RecoversAlone {V : Type 0} (told : V → Bool) (history : V → History) (old new : V) :
     Type 0 where
   pub told_same : told new ≡ told old
   pub images : IsTrue (told old) → During (EachStandsForOneOf (current (history old)))
       (history old) (history new)
+  pub bytes : IsTrue (told old) → During (EachBundleMidway (current (history old)))
+      (history old) (history new)
+  pub changes : IsTrue (told old) → ChangesByRecovery (history old) (history new)
 
--- What is left of one source: its images keep what they stood for; its bundle changes only by the
--- recovery, unless the source failed; and its failure is the cause of that answer.
+-- What is left of one source: its images keep what they stood for; its files change only by a
+-- recovery, and unless the source failed its bundle is what that leaves, or as it was; and its
+-- failure is the cause of that answer.
 pub record SourceMoves {V : Type 0} (told : V → Bool) (history : V → History) (faults : V → ℕ)
     (failed : Type 0) (old new : V) : Type 0 where
-  pub kept : KeepsImages told history old new
+  pub kept : RecoversAlone told history old new
   pub bundle : IsTrue (told old) → (failed → ⊥) → StandsLeft (history old) (history new)
       ⊎ (contents Bundle (history new) ≡ contents Bundle (history old))
   pub cause : IsCause failed (faults old) (faults new)

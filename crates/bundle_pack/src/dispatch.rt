@@ -9,18 +9,18 @@ ghost use Rattle.outside_io.specs.volume.History.{contents, current};
 ghost use Rattle.bundle_index.specs.Sizes.{slot_count};
 ghost use Rattle.bundle_store.specs.Images.{StandsFor};
 ghost use Rattle.bundle_store.specs.Tiles.{TileMap};
-ghost use Rattle.opened_bundle.specs.Left.{IsReady};
+ghost use Rattle.opened_bundle.specs.Left.{IsReady, IsShut, KeepsStart};
 ghost use Rattle.program_ends.specs.Moves.{sink_move, volume_move};
 ghost use Rattle.program_ends.specs.declared.stop.Stop.{Stop};
 ghost use Rattle.bundle_pack.specs.declared.fault.PackFault.{PackFault};
 ghost use Rattle.bundle_pack.specs.declared.packing.PackReport.{PackReport};
-ghost use Rattle.bundle_pack.specs.Chosen.{chosen_bytes};
+ghost use Rattle.bundle_pack.specs.Chosen.{chosen_bytes, most_bytes};
 ghost use Rattle.bundle_pack.specs.Files.{all_files, files_in};
 ghost use Rattle.bundle_pack.specs.Merged.{StandFor};
 ghost use Rattle.bundle_pack.specs.Names.{line_of, packed_line};
 ghost use Rattle.bundle_pack.specs.Opening.{AreOpened, OpensAs};
 ghost use Rattle.bundle_pack.specs.Packing.{IsFree, PackSays};
-ghost use Rattle.bundle_pack.specs.Run.{EachKeepsStart, EndsAs, EndsWith, IsVolumeCause, KeepsOrPacks, OfOutput, OfRun, PackedAll};
+ghost use Rattle.bundle_pack.specs.Run.{EachKeepsBytes, EachKeepsStart, EndsAs, EndsWith, IsVolumeCause, KeepsBytes, KeepsOrPacks, OfOutput, OfRun, PackedAll};
 ghost use Rattle.bundle_pack.specs.Words.{IsAsked};
 
 use crate::PackFault;
@@ -135,19 +135,30 @@ pub fn run_pack<K: Sink, E: Sink, V: Volume, W: Volume>(
         → StandFor (all_files V.history from.old) maps
         → StandsFor (contents Bundle (W.history to.old)) (contents Journal (W.history to.old)) start
         → ((bundles : List (List ℕ)) → AreOpened (all_files V.history from.old) bundles
-        → chosen_bytes bundles slot_count ≤ 1073741824)
+        → chosen_bytes bundles slot_count ≤ most_bytes)
         → OpensAs (files_in (W.history to.old)) [] → result ≢ 4 → result ≢ 5
         → (result ≡ 0) ⊎ (result ≡ 6) }
 
-    // At each moment, whatever the answer: a source keeps its tiles, and the target those of the
-    // start, or, from none, these or all that is packed.
+    // At each moment, whatever the answer: a source keeps its tiles, and its bytes where no put of it
+    // is under way, and the target those of the start, or, from none, these or all that is packed.
     ensures sources_keep { IsAsked words.now (length from.old)
         → EachKeepsStart V.told V.history from.old from.new }
+    ensures sources_stay { IsAsked words.now (length from.old)
+        → EachKeepsBytes V.told V.history from.old from.new }
     ensures target_keeps { IsAsked words.now (length from.old)
         → All (λ v. IsTrue (V.told v)) from.old → (maps : List TileMap) (start : TileMap)
         → StandFor (all_files V.history from.old) maps
         → IsReady (W.told to.old) (W.history to.old) start
         → KeepsOrPacks maps start (W.history to.old) (W.history to.new) }
+
+    // Where the run refuses, or memory is refused, the target stays unpacked: it keeps its tiles, and
+    // its bytes where no put of it is under way.
+    ensures target_unpacked { IsAsked words.now (length from.old) → (start : TileMap)
+        → IsReady (W.told to.old) (W.history to.old) start → (result ≡ 6) ⊎ (result ≡ 7)
+        → KeepsStart start (W.history to.old) (W.history to.new) }
+    ensures target_stays { IsAsked words.now (length from.old) → IsTrue (W.told to.old)
+        → IsShut (current (W.history to.old)) → (result ≡ 6) ⊎ (result ≡ 7)
+        → KeepsBytes (W.history to.old) (W.history to.new) }
 {
     if !asks_to_pack(words, from.len()) {
         tell(USAGE, &Stop::<Refusal>::Usage, err);

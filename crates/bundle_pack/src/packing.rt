@@ -10,7 +10,9 @@ ghost use Rattle.bundle_store.specs.Images.{StandsFor};
 ghost use Rattle.bundle_store.specs.Tiles.{TileMap};
 ghost use Rattle.bundle_pack.specs.Files.{all_files, files_in};
 ghost use Rattle.bundle_pack.specs.Merged.{StandFor};
-ghost use Rattle.bundle_pack.specs.Packing.{HoldsMerged, IsOfSound, IsOfSources, PackSays, PacksMaps, TargetKeeps};
+ghost use Rattle.bundle_pack.specs.Opening.{StandsLeft};
+ghost use Rattle.bundle_pack.specs.Packing.{HoldsMerged, IsOfSound, IsOfSources, OnTarget, OnUnpacked, PackSays, PacksMaps, TargetKeeps};
+ghost use Rattle.bundle_pack.specs.Recovering.{AtMostRecovers};
 ghost use Rattle.bundle_pack.specs.Refusals.{PackFails};
 ghost use Rattle.bundle_pack.specs.Sources.{DeviceAt, Each, SourceMoves};
 ghost use Rattle.bundle_pack.specs.inside.Collecting.{ReadFails, ReadSays};
@@ -85,6 +87,10 @@ pub fn pack<V: Volume, W: Volume>(
         TargetKeeps (all_files V.history from.old) (files_in (W.history to.old))
         (W.history to.old) (W.history to.new) }
     ensures untouched { IsOfSources result → to.new ≡ to.old }
+    ensures unpacked { IsTrue (W.told to.old) →
+        OnUnpacked result (AtMostRecovers (W.history to.old) (W.history to.new)) }
+    ensures left { IsTrue (W.told to.old) →
+        OnTarget result (StandsLeft (W.history to.old) (W.history to.new)) }
     ensures answers { IfErr result (λ f. PackFails (length from.old) f) }
     ensures told { W.told to.new ≡ W.told to.old }
     ensures target { IsCause (result ≡ Err (PackFault.Target Device)) (W.faults to.old)

@@ -8,7 +8,7 @@ ghost use Rattle.bundle_store.specs.Causes.{CountsDevice, UnlessDevice};
 ghost use Rattle.bundle_pack.specs.Files.{all_bundles, all_files, files_in};
 ghost use Rattle.bundle_pack.specs.Opening.{StandsLeft};
 ghost use Rattle.bundle_pack.specs.Refusals.{OpeningAnswers};
-ghost use Rattle.bundle_pack.specs.Sources.{DeviceAt, Each, IsServing, KeepsImages, SourceMoves};
+ghost use Rattle.bundle_pack.specs.Sources.{DeviceAt, Each, IsServing, RecoversAlone, SourceMoves};
 ghost use Rattle.bundle_pack.specs.inside.Turns.{OpenAnswers, OpenSays, OpeningSays};
 
 use crate::PackFault;
@@ -19,7 +19,7 @@ use std::alloc::Global;
 
 /// Makes whole what a crash left of one source, and opens it.
 pub(crate) fn open_one<V: Volume>(alloc: Global, vol: &mut V) -> Result<Session, StoreFault>
-    ensures kept { KeepsImages V.told V.history vol.old vol.new }
+    ensures kept { RecoversAlone V.told V.history vol.old vol.new }
     ensures says { IsTrue (V.told vol.old) → OpenSays (files_in (V.history vol.old)) result
         (contents Bundle (V.history vol.new)) }
     ensures left { IsTrue (V.told vol.old) → UnlessDevice result

@@ -9,6 +9,7 @@ mod GroupWrites
 mod Grouping
 mod Keeping
 mod Kept
+mod Midway
 pub mod PutLaws
 pub mod Layouts
 mod Numbering
@@ -19,7 +20,7 @@ mod Overlays
 mod Padded
 mod Putting
 pub mod Recovering
-mod Refusals
+pub mod Refusals
 mod Region
 mod Rests
 pub mod Standing

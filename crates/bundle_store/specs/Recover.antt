@@ -67,6 +67,25 @@ abbrev pub EachStandsForOneOf : Disk → Disk → Type 0
 EachStandsForOneOf old now = (b j : List ℕ) → IsImage now.bundle b → IsImage now.journal j →
     StandsForOneOf old b j
 
+-- The bundle with the tiles of an open journal put in part: it is as long, and all put leave of it
+-- what they leave of the bundle. So it differs from that under the header and the entries alone.
+pub record IsPutInPart (bundle journal now : List ℕ) : Type 0 where
+  pub applies : AppliesTo bundle journal
+  pub size : length now ≡ length bundle
+  pub all : with_body applies.body now ≡ with_body applies.body bundle
+
+-- What a recovery of these files makes of the bundle before it ends: nothing, or one whose tiles are
+-- put in part, or an empty one where it was being built.
+abbrev pub IsMidway : List ℕ → List ℕ → List ℕ → Type 0
+IsMidway bundle journal now = (now ≡ bundle) ⊎ (IsPutInPart bundle journal now
+    ⊎ (IsOpen journal × (SaysBuild journal × (now ≡ []))))
+
+-- What a crash may leave of the bundle is what it might leave of it on this disk, or what a recovery
+-- makes of it as it is read there.
+abbrev pub EachBundleMidway : Disk → Disk → Type 0
+EachBundleMidway old now = (b : List ℕ) → IsImage now.bundle b →
+    IsImage old.bundle b ⊎ IsMidway old.bundle.now old.journal.now b
+
 -- nothing is pending, the journal does not count, and the disk stands for what these files stood
 -- for
 pub record IsRecovered (bundle journal : List ℕ) (d : Disk) : Type 0 where

@@ -7,9 +7,9 @@ ghost use Rattle.side_journal.specs.Groups.{AreNew};
 ghost use Rattle.side_journal.specs.Says.{IsOpen, SaysBuild};
 ghost use Rattle.bundle_store.specs.Causes.{CountsDevice};
 ghost use Rattle.bundle_store.specs.inside.Grouped.{SaysThese};
-ghost use Rattle.bundle_store.specs.inside.Parts.{EachKeeps};
+ghost use Rattle.bundle_store.specs.inside.Parts.{EachKeeps, EachMidway, EachWholeOrNone};
 ghost use Rattle.bundle_store.specs.Images.{EachImage};
-ghost use Rattle.bundle_store.specs.Recover.{EachStandsForOneOf, IsRecovered, Leaves, OnBadJournal, RecoverFails, RecoverySays, synced_disk};
+ghost use Rattle.bundle_store.specs.Recover.{EachBundleMidway, EachStandsForOneOf, IsRecovered, Leaves, OnBadJournal, RecoverFails, RecoverySays, synced_disk};
 ghost use Rattle.bundle_store.specs.Tiles.{no_tiles};
 
 mod syncs;
@@ -43,6 +43,8 @@ fn empty<V: Volume>(vol: &mut V) -> Result<(), Failed>
     }) }
     ensures images { IsTrue (V.told vol.old) → During (EachImage (λ map. map ≡ no_tiles))
         (V.history vol.old) (V.history vol.new) }
+    ensures bytes { IsTrue (V.told vol.old) → During (EachWholeOrNone (contents Bundle
+        (V.history vol.old))) (V.history vol.old) (V.history vol.new) }
     ensures told { V.told vol.new ≡ V.told vol.old }
     ensures counted { CountsFaults result (V.faults vol.old) (V.faults vol.new) }
 {
@@ -71,6 +73,9 @@ fn finish_group<V: Volume>(
     ensures images { IsTrue (V.told vol.old) →
         During (EachKeeps (contents Bundle (V.history vol.old)) (contents Journal
         (V.history vol.old))) (V.history vol.old) (V.history vol.new) }
+    ensures bytes { IsTrue (V.told vol.old) →
+        During (EachMidway (contents Bundle (V.history vol.old)) (contents Journal
+        (V.history vol.old))) (V.history vol.old) (V.history vol.new) }
     ensures done { IsTrue (V.told vol.old) →
         OnOk result (IsRecovered (contents Bundle (V.history vol.old)) (contents Journal
         (V.history vol.old)) (current (V.history vol.new))) }
@@ -97,6 +102,9 @@ fn finish<V: Volume>(vol: &mut V) -> Result<Recovery, StoreFault>
         (contents Journal (V.history vol.old)) result }
     ensures images { IsTrue (V.told vol.old) →
         During (EachKeeps (contents Bundle (V.history vol.old)) (contents Journal
+        (V.history vol.old))) (V.history vol.old) (V.history vol.new) }
+    ensures bytes { IsTrue (V.told vol.old) →
+        During (EachMidway (contents Bundle (V.history vol.old)) (contents Journal
         (V.history vol.old))) (V.history vol.old) (V.history vol.new) }
     ensures done { IsTrue (V.told vol.old) →
         OnOk result (IsRecovered (contents Bundle (V.history vol.old)) (contents Journal
@@ -143,6 +151,9 @@ pub fn recover<V: Volume>(vol: &mut V) -> Result<Recovery, StoreFault>
         (contents Journal (V.history vol.old)) result }
     ensures images { IsTrue (V.told vol.old) →
         During (EachStandsForOneOf (current (V.history vol.old))) (V.history vol.old)
+        (V.history vol.new) }
+    ensures bytes { IsTrue (V.told vol.old) →
+        During (EachBundleMidway (current (V.history vol.old))) (V.history vol.old)
         (V.history vol.new) }
     ensures done { IsTrue (V.told vol.old) →
         OnOk result (IsRecovered (contents Bundle (V.history vol.old)) (contents Journal

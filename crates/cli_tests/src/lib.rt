@@ -1,6 +1,6 @@
 //! Tests of what the program does, over the public calls of `lerc_cli`: grids encoded, blobs
-//! decoded and told of, bundles read, put into and built, their crashes, samples, and the words of a command
-//! line. They stand apart from `lerc_cli` so that it is proved once.
+//! decoded and told of, bundles read, put into and built, their crashes, samples, and the words of
+//! a command line. They stand apart from `lerc_cli` so that it is proved once.
 #![tactic(auto)]
 
 #[cfg(test)]

@@ -67,3 +67,11 @@ mask_through r s t a b = record {
 
 pub all_marks : (r s : Pixels) → IsRaster r → IsRaster s → SameMask r s → is_valid s ≡ is_valid r
 all_marks r s hr hs same = λ i k. same_marks r s hr hs same k i
+
+-- past the end there is 0
+pub each_in_range : (kind : PixelType) (values : List ℤ) (n : ℕ) → length values ≡ n
+    → ((i : ℕ) → i < n → InRange kind (get_or values i (pos 0))) → (i : ℕ) → InRange kind (get_or values i (pos 0))
+each_in_range kind values n long within i = elim (cases_lt i n) [
+  | inl lt ↦ within i lt
+  | inr ge ↦ subst (InRange kind) (sym (get_or_past values i (pos 0) (omega (arith, long, ge)))) (zero_in_range kind)
+]

@@ -8,7 +8,9 @@ ghost use Rattle.delta_mode.specs.Symbols.{IsByteType};
 ghost use Rattle.delta_mode.specs.Deltas.{ArePlain, TakesPlain};
 ghost use Rattle.delta_mode.specs.inside.Turned.{turned, TurnsPixels, TurnsDepths};
 
-use raster_values::{PixelType, Raster};
+use raster_target::Target;
+use raster_values::PixelType;
+use raster_view::View;
 
 /// How many pixels are turned together, at most.
 const PIECE: usize = 256;
@@ -23,10 +25,10 @@ fn add_bias(bytes: &mut [u8])
 }
 
 /// The symbols of the valid pixels' values, pixel by pixel and depth innermost, in plain mode.
-pub fn plain_of(raster: &Raster, out: &mut [u8])
-    requires kind { IsByteType raster.now.kind }
-    requires count { length out.old ≡ valid_count raster.now * raster.now.depth }
-    ensures { ArePlain raster.now out.new }
+pub fn plain_of<V: View>(raster: &V, out: &mut [u8])
+    requires kind { IsByteType (V.pixels raster.now).kind }
+    requires count { length out.old ≡ valid_count (V.pixels raster.now) * (V.pixels raster.now).depth }
+    ensures { ArePlain (V.pixels raster.now) out.new }
 {
     raster.value_bytes(out);
     match raster.kind() {
@@ -58,12 +60,14 @@ fn turn_all(values: &mut [i64])
 }
 
 /// Turns the values at a depth of the valid ones among the pixels from number `place` on.
-fn turn_piece(raster: &mut Raster, d: u32, place: usize, values: &mut [i64])
-    requires kind { raster.old.kind ≡ I8 }
-    requires sound { IsRaster raster.old }
-    requires depth { d < raster.old.depth }
-    requires within { place + length values.old ≤ raster.old.rows * raster.old.cols }
-    ensures { TurnsPixels raster.old raster.new d place (place + length values.old) }
+fn turn_piece<T: Target>(raster: &mut T, d: u32, place: usize, values: &mut [i64])
+    requires kind { (T.pixels raster.old).kind ≡ I8 }
+    requires depth { d < (T.pixels raster.old).depth }
+    requires within { place + length values.old ≤ (T.pixels raster.old).rows * (T.pixels raster.old).cols }
+    requires sound { T.sound raster.old }
+    ensures turns { TurnsPixels (T.pixels raster.old) (T.pixels raster.new) d place (place + length values.old) }
+    ensures sound { T.sound raster.new }
+    ensures kept { T.kept raster.new ≡ T.kept raster.old }
 {
     raster.values_from(place, d, values);
     turn_all(values);
@@ -71,10 +75,13 @@ fn turn_piece(raster: &mut Raster, d: u32, place: usize, values: &mut [i64])
 }
 
 /// Turns the values at a depth of all valid pixels.
-fn turn_depth(raster: &mut Raster, d: u32)
-    requires kind { raster.old.kind ≡ I8 }
-    requires depth { d < raster.old.depth }
-    ensures { TurnsPixels raster.old raster.new d 0 (raster.old.rows * raster.old.cols) }
+fn turn_depth<T: Target>(raster: &mut T, d: u32)
+    requires kind { (T.pixels raster.old).kind ≡ I8 }
+    requires depth { d < (T.pixels raster.old).depth }
+    requires sound { T.sound raster.old }
+    ensures turns { TurnsPixels (T.pixels raster.old) (T.pixels raster.new) d 0 ((T.pixels raster.old).rows * (T.pixels raster.old).cols) }
+    ensures sound { T.sound raster.new }
+    ensures kept { T.kept raster.new ≡ T.kept raster.old }
 {
     let pixels = raster.rows() as usize * raster.cols() as usize;
     let mut values = [0; PIECE];
@@ -87,10 +94,12 @@ fn turn_depth(raster: &mut Raster, d: u32)
 }
 
 /// Turns the values of all valid pixels.
-fn turn_raster(raster: &mut Raster)
-    requires { raster.old.kind ≡ I8 }
-    ensures sound { IsRaster raster.new }
-    ensures turned { TurnsDepths raster.old raster.new raster.old.depth }
+fn turn_raster<T: Target>(raster: &mut T)
+    requires kind { (T.pixels raster.old).kind ≡ I8 }
+    requires sound { T.sound raster.old }
+    ensures turned { TurnsDepths (T.pixels raster.old) (T.pixels raster.new) (T.pixels raster.old).depth }
+    ensures sound { T.sound raster.new }
+    ensures kept { T.kept raster.new ≡ T.kept raster.old }
 {
     let mut d = 0;
     while d < raster.depth() {
@@ -101,10 +110,13 @@ fn turn_raster(raster: &mut Raster)
 
 /// Gives the valid pixels of a raster of bytes the values that the symbols say, in plain mode. All
 /// else stays.
-pub fn unplain(symbols: &[u8], raster: &mut Raster)
-    requires kind { IsByteType raster.old.kind }
-    requires count { length symbols.now ≡ valid_count raster.old * raster.old.depth }
-    ensures { TakesPlain raster.old raster.new symbols.now }
+pub fn unplain<T: Target>(symbols: &[u8], raster: &mut T)
+    requires kind { IsByteType (T.pixels raster.old).kind }
+    requires count { length symbols.now ≡ valid_count (T.pixels raster.old) * (T.pixels raster.old).depth }
+    requires sound { T.sound raster.old }
+    ensures taken { TakesPlain (T.pixels raster.old) (T.pixels raster.new) symbols.now }
+    ensures sound { T.sound raster.new }
+    ensures kept { T.kept raster.new ≡ T.kept raster.old }
 {
     raster.pour(symbols);
     match raster.kind() {

@@ -10,7 +10,8 @@ ghost use Rattle.delta_mode.specs.Deltas.{has_upper, is_valid};
 ghost use Rattle.delta_mode.specs.inside.Pieces.{rank, last_from, left_of, predicted_by, guess};
 ghost use Rattle.delta_mode.specs.inside.Pieces.{biased, IsSmall, mark_at, value_of_place};
 
-use raster_values::{PixelType, Raster};
+use raster_target::Target;
+use raster_values::PixelType;
 
 /// What is kept from pixel to pixel of a depth.
 #[derive(Clone, Copy)]
@@ -193,18 +194,25 @@ pub(super) fn enter(walk: Walk, place: usize, cols: usize) -> Walk
 }
 
 /// Reads the marks and the values above a piece of a row; above the first row nothing is valid.
-pub(super) fn read_above(raster: &Raster, d: u32, place: usize, up: &mut [bool], above: &mut [i64])
-    requires depth { d < raster.now.depth }
-    requires across { place % raster.now.cols + length up.old ≤ raster.now.cols }
-    requires within { place + length up.old ≤ raster.now.rows * raster.now.cols }
+pub(super) fn read_above<T: Target>(
+    raster: &T,
+    d: u32,
+    place: usize,
+    up: &mut [bool],
+    above: &mut [i64],
+)
+    requires depth { d < (T.pixels raster.now).depth }
+    requires across { place % (T.pixels raster.now).cols + length up.old ≤ (T.pixels raster.now).cols }
+    requires within { place + length up.old ≤ (T.pixels raster.now).rows * (T.pixels raster.now).cols }
     requires room { length above.old ≡ length up.old }
+    requires sound { T.sound raster.now }
     ensures up_room { length up.new ≡ length up.old }
     ensures above_room { length above.new ≡ length above.old }
     ensures up { (i : ℕ) → i < length up.old → mark_at up.new i
-        ≡ has_upper raster.now.cols (is_valid raster.now) (place + i) }
+        ≡ has_upper (T.pixels raster.now).cols (is_valid (T.pixels raster.now)) (place + i) }
     ensures above { (i : ℕ) → i < length up.old → mark_at up.new i ≡ true
-        → value_of_place above.new i ≡ value_in raster.now d (place + i - raster.now.cols) }
-    ensures in_range { (i : ℕ) → InRange raster.now.kind (value_of_place above.new i) }
+        → value_of_place above.new i ≡ value_in (T.pixels raster.now) d (place + i - (T.pixels raster.now).cols) }
+    ensures in_range { (i : ℕ) → InRange (T.pixels raster.now).kind (value_of_place above.new i) }
 {
     let cols = raster.cols() as usize;
     if place < cols {

@@ -45,7 +45,7 @@ decided_in_order part own behind faults is later bytes are = first (is bytes are
     first (inr w) = inr (record { place = w.place; reason = w.reason; fault = inl w.fault })
 
 -- one numbered part more
-numbered_push : {X : Type 0} (part : ℕ → List ℕ → X → Type 0) (k j : ℕ) (a b : List ℕ) (xs : List X) (y : X) → j ≡ k + length xs → Numbered part k a xs → part j b y → Numbered part k (a ++ b) (xs ++ y ∷ [])
+pub numbered_push : {X : Type 0} (part : ℕ → List ℕ → X → Type 0) (k j : ℕ) (a b : List ℕ) (xs : List X) (y : X) → j ≡ k + length xs → Numbered part k a xs → part j b y → Numbered part k (a ++ b) (xs ++ y ∷ [])
 numbered_push part k j a b [] y at na p = (b, ([], (ap (λ (u : List ℕ). u ++ b) na ∙ sym (append-nil b), (subst (λ n. part n b y) (let t : j ≡ k = omega (arith, at) in t) p, refl))))
 numbered_push part k j a b (x ∷ xs) y at (front, (rest, (joined, (stands, more)))) p =
     (front, (rest ++ b, (ap (λ (u : List ℕ). u ++ b) joined ∙ append_assoc front rest b, (stands, numbered_push part (suc k) j rest b xs y (omega (arith, at)) more p))))

@@ -78,6 +78,7 @@ impl Prefixes {
     pub fn of(codes: &Codes) -> Prefixes
         ensures { ArePrefixes codes.now result }
     {
+        // for the proof: `know` ensures what always holds of codes
         codes.know();
         let mut looks = [Look::Nothing; 256];
         for s in 0..256 {

@@ -253,6 +253,7 @@ pub fn read_symbols(bytes: &[u8], codes: &Codes, out: &mut [u8]) -> Result<usize
     ensures fault { (f : CodeFault) → (result ≡ Err f)
         ↔ word_faults codes.now (length out.old) bytes.now f.at f.reason }
 {
+    // for the proof: `know` ensures what always holds of codes
     codes.know();
     read_all(bytes, codes, out)
 }

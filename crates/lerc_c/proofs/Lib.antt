@@ -1,5 +1,6 @@
 mod Telling
 mod Giving
+mod Repeating
 mod BandGiving
 mod BandLaying
 mod ReasonNames

@@ -12,6 +12,9 @@ use Rattle.lerc_decode.specs.declared.decoder.DecodeFault.{DecodeFault}
 use Rattle.lerc_decode.specs.declared.decoder.FedState.TheVariants.{More}
 use Rattle.lerc_decode.specs.Decoding.{Decoding, Stage, Key, Fields, Body, Whole, Wrong, NoMemory, HasTaken}
 use Rattle.lerc_decode.specs.States.{state_at, finished_at, IsTold}
+use Rattle.lerc_decode.specs.Over.{IsFaultOf}
+use Rattle.lerc_header.specs.declared.fault.BlobFault.{BlobFault}
+use Rattle.lerc_c.specs.Told.{IsRefused}
 use Rattle.lerc_c.specs.inside.Stops.{IsRasterStop}
 
 abbrev Told : List ℕ → Result Pixels DecodeFault → Type 0
@@ -41,3 +44,8 @@ pub told : (old new : Decoding) (blob : List ℕ) (used : ℕ) (result : Result 
 told old new blob used result none alone took whole is_told is =
     subst (Told blob) (sym is) (told_at new.stage blob new.taken used took.within (took.taken ∙ ap (λ xs. xs ++ take used blob) none) whole
     (subst (λ (before : Option Previous). IsTold before new.taken new.stage) (took.before ∙ alone) is_told))
+
+-- what a decode into arrays tells of a blob
+pub told_over : (blob : List ℕ) (f : BlobFault) → IsFaultOf blob f → IsRefused blob f.place f.reason
+told_over blob f (inl first) = inl (length blob, (omega arith, subst (λ bytes. FirstFault bytes f.place f.reason) (sym (take_all (length blob) blob (omega arith))) first))
+told_over blob f (inr cut_off) = inr (cut_off.0, (ap (λ (g : BlobFault). g.place) cut_off.1, ap (λ (g : BlobFault). g.reason) cut_off.1))

@@ -9,8 +9,8 @@ ghost use Rattle.lerc_c.specs.inside.Stops.{AreFit, IsBandsArgumentStop, IsBands
 
 use crate::encoding::{EncodeStop, given};
 use lerc_encode::{EncodeFault, encode_bands};
-use lerc_header::{Step, Version, is_shape, needs_v4};
-use raster_values::{Bands, PixelType, Raster};
+use lerc_header::{Step, Version, needs_v4};
+use raster_values::{Bands, GREATEST_BANDS, GREATEST_VALUES, PixelType, Raster, is_shape};
 use std::alloc::Global;
 
 /// Part number i of an array whose parts have this size.
@@ -77,7 +77,7 @@ fn are_small(rows: u32, cols: u32, depth: u32, count: u32) -> bool
     ensures { IsTrue result ↔ ((count ≤ 16) × (count * (rows * cols * depth) ≤ 16777216)) }
 {
     let values = rows as u64 * cols as u64 * depth as u64;
-    count <= 16 && count as u64 * values <= 16777216
+    count <= GREATEST_BANDS && count as u64 * values <= GREATEST_VALUES
 }
 
 /// Whether there are so many bands of the shape, arrays of these lengths give them, and the version

@@ -1,18 +1,20 @@
 //! Arrays encoded into a blob.
 
-ghost use Rattle.std.specs.Prelude.{◌≡◌, ◌<◌, ◌↔◌, [], IfOk, IfErr, IfSome, OnOk, OnErr, IsTrue, length};
+ghost use Rattle.std.specs.Prelude.{◌≡◌, ℕ, ◌-◌, ◌<◌, ◌≤◌, ◌↔◌, [], drop, get_or, take, IfOk, IfErr, IfSome, OnOk, OnErr, IsTrue, length};
 ghost use Rattle.raster_values.specs.Raster.{IsRaster, IsShape, blank};
 ghost use Rattle.raster_values.specs.Flat.{PutsAll};
 ghost use Rattle.lerc_header.specs.Head.{version_number};
 ghost use Rattle.lerc_header.specs.Written.{step_of};
-ghost use Rattle.raster_values.specs.PixelType.{code_of};
 ghost use Rattle.lerc_c.specs.Arrays.{GivesSizes, IsGiven, IsEncoded, values_size, mask_array_size};
 ghost use Rattle.lerc_c.specs.inside.Stops.{IsArgumentStop, IsFit, IsWriteStop, IsWritten, IsEncodeStop};
 ghost use Rattle.lerc_c.specs.inside.Marked.{IsMarked};
+ghost use Rattle.lerc_c.specs.inside.Repeated.{IsOneValue};
+ghost use Rattle.lerc_encode.specs.AllAlike.{alike};
+ghost use Rattle.raster_values.specs.PixelType.{InRange, bytes_of, code_of};
 
-use lerc_encode::{LayFault, encode_over};
-use lerc_header::{Step, Version, is_shape, kind_of, needs_v4};
-use raster_values::{PixelType, Raster};
+use lerc_encode::{LayFault, encode_alike_over, encode_over};
+use lerc_header::{Step, Version, kind_of, needs_v4};
+use raster_values::{PixelType, Raster, is_shape};
 use std::alloc::Global;
 
 /// Why no blob was written.
@@ -186,6 +188,75 @@ pub(crate) fn given(
     masked(alloc, kind, rows, cols, depth, values, mask)
 }
 
+/// What pixels that are all alike are: of one value at each depth, or invalid.
+#[derive(Clone, Copy)]
+struct Alike {
+    value: Option<i64>,
+}
+
+/// Whether as many bytes are the same.
+fn are_same(one: &[u8], other: &[u8]) -> bool
+    requires { length one.now ≡ length other.now }
+    ensures { IsTrue result ↔ (one.now ≡ other.now) }
+{
+    *one == *other
+}
+
+/// Whether the bytes from number `size` on repeat those before them.
+fn repeat(bytes: &[u8], size: usize) -> bool
+    requires { size ≤ length bytes.now }
+    ensures { IsTrue result
+        ↔ (drop size bytes.now ≡ take (length bytes.now - size) bytes.now) }
+{
+    are_same(&bytes[size..], &bytes[..bytes.len() - size])
+}
+
+/// Whether all bytes are 0.
+fn are_zero(bytes: &[u8]) -> bool
+    ensures { IsTrue result → (k : ℕ) → get_or bytes.now k 0 ≡ 0 }
+{
+    bytes.is_empty() || (bytes[0] == 0 && repeat(bytes, 1))
+}
+
+/// The value that all of the values are, where they are one.
+fn one_value(kind: PixelType, values: &[u8]) -> Option<i64>
+    requires { bytes_of kind ≤ length values.now }
+    ensures { IfSome result (IsOneValue kind values.now) }
+{
+    if repeat(values, kind.bytes()) {
+        Some(kind.read_value(values))
+    } else {
+        None
+    }
+}
+
+/// What the pixels are, where they are found to be all alike: nothing is read beyond the first
+/// difference. They are not where the mask has a bit behind the last pixel, which says nothing.
+fn alike_of(
+    kind: PixelType,
+    rows: u32,
+    cols: u32,
+    depth: u32,
+    values: &[u8],
+    mask: &[u8],
+) -> Option<Alike>
+    requires shape { IsShape rows cols depth }
+    requires sizes { GivesSizes kind rows cols depth (length values.now) (length mask.now) }
+    ensures given { IfSome result (λ found.
+        IsGiven kind rows cols depth values.now mask.now (alike kind rows cols depth found.value)) }
+    ensures in_range { IfSome result (λ found. IfSome found.value (InRange kind)) }
+{
+    if mask.is_empty() {
+        let value = one_value(kind, values)?;
+        return Some(Alike { value: Some(value) });
+    }
+    if are_zero(mask) {
+        Some(Alike { value: None })
+    } else {
+        None
+    }
+}
+
 /// Lays the blob of a raster over the front of `out`, and answers how many bytes it has.
 fn write_blob(
     alloc: Global,
@@ -201,6 +272,33 @@ fn write_blob(
 {
     match encode_over(alloc, raster, version, step, out) {
         Ok(size) => Ok(size),
+        Err(LayFault::DepthNeedsV4) => Err(EncodeStop::DepthNeedsV4),
+        Err(LayFault::NoRoom(size)) => Err(EncodeStop::NoRoom(size)),
+        Err(LayFault::OutOfMemory) => Err(EncodeStop::OutOfMemory),
+    }
+}
+
+/// Does what `write_blob` does, for a raster whose pixels are all alike.
+fn write_alike(
+    kind: PixelType,
+    rows: u32,
+    cols: u32,
+    depth: u32,
+    found: Alike,
+    version: Version,
+    step: Step,
+    out: &mut [u8],
+) -> Result<usize, EncodeStop>
+    requires shape { IsShape rows cols depth }
+    requires in_range { IfSome found.value (InRange kind) }
+    ensures ok { IfOk result (λ size.
+        IsWritten (alike kind rows cols depth found.value) version step size out.old out.new) }
+    ensures stop { IfErr result (λ stop.
+        IsWriteStop (alike kind rows cols depth found.value) version step (length out.old) stop) }
+    ensures kept { OnErr result (out.new ≡ out.old) }
+{
+    match encode_alike_over(kind, rows, cols, depth, found.value, version, step, out) {
+        Ok(laid) => Ok(laid),
         Err(LayFault::DepthNeedsV4) => Err(EncodeStop::DepthNeedsV4),
         Err(LayFault::NoRoom(size)) => Err(EncodeStop::NoRoom(size)),
         Err(LayFault::OutOfMemory) => Err(EncodeStop::OutOfMemory),
@@ -228,6 +326,18 @@ pub(crate) fn encode_into(
     ensures kept { OnErr result (out.new ≡ out.old) }
 {
     test_arguments(kind, rows, cols, depth, version, values.len(), mask.len())?;
+    if let Some(found) = alike_of(kind, rows, cols, depth, values, mask) {
+        return write_alike(
+            kind,
+            rows,
+            cols,
+            depth,
+            found,
+            version,
+            Step::of(error),
+            out,
+        );
+    }
     let Some(raster) = given(alloc, kind, rows, cols, depth, values, mask) else {
         return Err(EncodeStop::OutOfMemory);
     };

@@ -28,6 +28,7 @@ ghost use Rattle.lerc_header.specs.declared.header.Version.{Version};
 ghost use Rattle.lerc_header.specs.HeadFaults.{header_faults};
 ghost use Rattle.lerc_header.specs.Written.{step_of};
 ghost use Rattle.lerc_decode.specs.Decoding.{HasHeader};
+ghost use Rattle.lerc_decode.specs.Over.{AskOtherRoom};
 ghost use Rattle.lerc_c.specs.Told.{reason_number, TellsBandsRefusal, TellsFault, TellsHead, TellsRefusal};
 ghost use Rattle.lerc_c.specs.Arrays.{AreNamed, IsAllowed, GivesSizes, AreDecoded, IsEncoded, IsMisfit, IsTooLong, WithKind, WithVersion};
 ghost use Rattle.lerc_c.specs.BandArrays.{AreAllowed, AreBandsDecoded, AreBandsMisfit, AreEncodedInto, AreTooLong, GiveBandSizes};
@@ -37,9 +38,11 @@ use band_decoding::{BandsDecodeStop, count_of, decode_bands_into};
 use band_encoding::encode_bands_into;
 use decoding::{DecodeStop, decode_into};
 use encoding::{EncodeStop, encode_into, kind_numbered, version_numbered};
+use lerc_decode::{OverFault, decode_over};
 use lerc_encode::blobs_are_small;
-use lerc_header::{is_shape, read_header};
+use lerc_header::read_header;
 use naming::name_of;
+use raster_values::is_shape;
 use sizes::size_of;
 use std::alloc::Global;
 use told::{Fault, Head, fault_of, fault_of_bands, head_of};
@@ -117,6 +120,38 @@ pub extern "C" fn futskheri_decode(
         }
         Err(DecodeStop::OutOfMemory) => NO_MEMORY,
         Err(DecodeStop::Sizes) => BAD_SIZES,
+    }
+}
+
+/// Decodes the blob with which the bytes begin, into arrays of all values and of the mask, where the
+/// values lie at once: none is copied.
+///
+/// 0: the arrays have the raster. 1: `fault` has the blob's first fault. 2: memory was refused,
+/// behind a whole header. 3: an array is not as long as the header asks for, which is tested before
+/// what follows the header. Where it is not 0 the arrays may hold anything.
+#[unsafe(no_mangle)]
+pub extern "C" fn futskheri_decode_over(
+    alloc: Global,
+    blob: &[u8],
+    values: &mut [u8],
+    mask: &mut [u8],
+    fault: &mut Fault,
+) -> u32
+    ensures status { result ≤ 3 }
+    ensures ok { result ≡ 0 → AreDecoded blob.now values.new mask.new }
+    ensures refused { result ≡ 1 → TellsRefusal blob.now fault.new }
+    ensures memory { result ≡ 2 → HasHeader blob.now }
+    ensures sizes { (result ≡ 3) ↔ AskOtherRoom blob.now (length values.old) (length mask.old) }
+    ensures no_fault { result ≢ 1 → fault.new ≡ fault.old }
+{
+    match decode_over(alloc, blob, values, mask) {
+        Ok(_) => OK,
+        Err(OverFault::Blob(found)) => {
+            *fault = fault_of(found);
+            REFUSED
+        }
+        Err(OverFault::OutOfMemory) => NO_MEMORY,
+        Err(OverFault::Sizes) => BAD_SIZES,
     }
 }
 

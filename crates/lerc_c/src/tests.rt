@@ -2,8 +2,9 @@
 
 use crate::told::{Fault, Head};
 use crate::{
-    futskheri_count_bands, futskheri_decode, futskheri_decode_bands, futskheri_encode,
-    futskheri_encode_bands, futskheri_greatest_size, futskheri_header, futskheri_reason_name,
+    futskheri_count_bands, futskheri_decode, futskheri_decode_bands, futskheri_decode_over,
+    futskheri_encode, futskheri_encode_bands, futskheri_greatest_size, futskheri_header,
+    futskheri_reason_name,
 };
 use std::alloc::Global;
 use std::process::Abort;
@@ -55,6 +56,30 @@ fn expect_raster(rt: &impl Abort, alloc: Global, blob: &[u8]) {
     same_bytes(rt, "mask", &mask, &[0xd0]);
 }
 
+/// The same where the values are laid into the arrays at once.
+fn decode_over(alloc: Global, blob: &[u8], values: &mut [u8], mask: &mut [u8]) -> (u32, u64, u32) {
+    let mut fault = NO_FAULT;
+    let status = futskheri_decode_over(alloc, blob, values, mask, &mut fault);
+    (status, fault.place, fault.reason)
+}
+
+/// The blob has that raster, laid over what stood in the arrays; arrays of other lengths are told, and
+/// the fault of a blob that is cut.
+fn expect_raster_over(rt: &impl Abort, alloc: Global, blob: &[u8; 200]) {
+    let mut back = [7; 4];
+    let mut mask = [7];
+    let (status, ..) = decode_over(alloc, blob, &mut back, &mut mask);
+    same(rt, "decoded over", u64::from(status), 0);
+    same_bytes(rt, "values", &back, &[1, 2, 0, 200]);
+    same_bytes(rt, "mask", &mask, &[0xd0]);
+    let (status, ..) = decode_over(alloc, blob, &mut [7; 5], &mut mask);
+    same(rt, "a value too many", u64::from(status), 3);
+    let (status, place, reason) = decode_over(alloc, &blob[..80], &mut back, &mut mask);
+    same(rt, "cut", u64::from(status), 1);
+    same(rt, "place of the cut", place, 80);
+    same(rt, "reason of the cut", u64::from(reason), 1);
+}
+
 /// There is no room in three bytes for that blob, whose size is told, and they are left.
 fn expect_no_room(rt: &impl Abort, alloc: Global, size: u64) {
     let mut short = [5; 3];
@@ -73,6 +98,7 @@ fn a_raster_out_and_in(rt: HostRuntime) {
     same(&rt, "not above the greatest size", u64::from(is_small), 1);
     expect_no_room(&rt, rt.alloc(), size);
     expect_raster(&rt, rt.alloc(), &blob);
+    expect_raster_over(&rt, rt.alloc(), &blob);
 }
 
 /// The status of a look at a header, and the place that is told.
@@ -196,4 +222,217 @@ fn bands_out_and_in(rt: HostRuntime) {
     let tile = &blobs[..size as usize];
     expect_two(&rt, rt.alloc(), tile);
     expect_bands(&rt, rt.alloc(), tile);
+}
+
+/// Arrays of a raster: the number of its type, its rows, columns and depths, the version that is
+/// asked for, its values and its mask.
+#[derive(Clone, Copy)]
+struct Given<'a> {
+    kind: u32,
+    shape: (u32, u32, u32),
+    version: u32,
+    values: &'a [u8],
+    mask: &'a [u8],
+}
+
+/// The status where the arrays are encoded without an error, and the size that is told.
+fn encode_given(alloc: Global, given: Given<'_>, blob: &mut [u8]) -> (u32, u64) {
+    let (rows, cols, depth) = given.shape;
+    let mut size = 0;
+    let status = futskheri_encode(
+        alloc,
+        given.kind,
+        rows,
+        cols,
+        depth,
+        given.version,
+        0,
+        given.values,
+        given.mask,
+        blob,
+        &mut size,
+    );
+    (status, size)
+}
+
+/// The blob gives back these values and this mask.
+fn gives_back(rt: &impl Abort, alloc: Global, blob: &[u8], values: &[u8], mask: &[u8]) {
+    assert!(rt; values.len() <= 40 && mask.len() <= 40);
+    let mut back = [7; 40];
+    let mut back_mask = [7; 40];
+    let back = &mut back[..values.len()];
+    let back_mask = &mut back_mask[..mask.len()];
+    let (status, ..) = decode(alloc, blob, back, back_mask);
+    same(rt, "decoded", u64::from(status), 0);
+    same_bytes(rt, "values", back, values);
+    same_bytes(rt, "mask", back_mask, mask);
+}
+
+/// How many bytes a blob has that is nothing but its header and the length of its mask, which is
+/// nothing, too: one of pixels that are all alike.
+fn least_size(version: u32) -> u64 {
+    if version == 3 { 66 } else { 70 }
+}
+
+/// The arrays have a blob that gives back these values and this mask; and it is as short as that or
+/// not.
+fn comes_back(
+    rt: &impl Abort,
+    alloc: Global,
+    given: Given<'_>,
+    is_short: bool,
+    values: &[u8],
+    mask: &[u8],
+) {
+    let mut blob = [0; 200];
+    let (status, size) = encode_given(alloc, given, &mut blob);
+    same(rt, "encoded", u64::from(status), 0);
+    let found = size == least_size(given.version);
+    same(rt, "short", u64::from(found), u64::from(is_short));
+    gives_back(rt, alloc, &blob, values, mask);
+}
+
+/// The values, of which every pixel is valid, come back.
+fn all_come_back(
+    rt: &impl Abort,
+    alloc: Global,
+    kind: u32,
+    shape: (u32, u32, u32),
+    version: u32,
+    is_short: bool,
+    values: &[u8],
+) {
+    let given = Given {
+        kind,
+        shape,
+        version,
+        values,
+        mask: b"",
+    };
+    let pixels = shape.0.wrapping_mul(shape.1);
+    let mask: &[u8] = if pixels == 8 { b"\xff" } else { b"\xc0" };
+    comes_back(rt, alloc, given, is_short, values, mask);
+}
+
+/// The values of two pixels or of eight come back, by both versions where there is one depth. In all
+/// but the last byte they are one value.
+fn all_come_back_by_both(
+    rt: &impl Abort,
+    alloc: Global,
+    kind: u32,
+    shape: (u32, u32, u32),
+    is_short: bool,
+    values: &[u8],
+) {
+    all_come_back(rt, alloc, kind, shape, 4, is_short, values);
+    if shape.2 == 1 {
+        all_come_back(rt, alloc, kind, shape, 3, is_short, values);
+    }
+}
+
+#[test]
+fn values_that_are_one_come_back(rt: HostRuntime) {
+    let alloc = rt.alloc();
+    all_come_back_by_both(&rt, alloc, 0, (4, 2, 1), true, &[0x80; 8]);
+    all_come_back_by_both(&rt, alloc, 1, (1, 8, 1), true, &[0; 8]);
+    all_come_back_by_both(&rt, alloc, 1, (2, 1, 3), true, &[200; 6]);
+    all_come_back_by_both(&rt, alloc, 2, (1, 2, 1), true, b"\xfd\xff\xfd\xff");
+    let words = b"\x01\x02\x01\x02\x01\x02\x01\x02";
+    all_come_back_by_both(&rt, alloc, 3, (1, 2, 2), true, words);
+    let least = b"\x00\x00\x00\x80\x00\x00\x00\x80";
+    all_come_back_by_both(&rt, alloc, 4, (2, 1, 1), true, least);
+    all_come_back_by_both(&rt, alloc, 5, (1, 8, 1), true, &[0xff; 32]);
+}
+
+#[test]
+fn a_last_value_that_is_another_comes_back(rt: HostRuntime) {
+    let alloc = rt.alloc();
+    let signed = b"\x80\x80\x80\x80\x80\x80\x80\x7f";
+    all_come_back_by_both(&rt, alloc, 0, (4, 2, 1), false, signed);
+    all_come_back_by_both(&rt, alloc, 1, (1, 8, 1), false, b"\0\0\0\0\0\0\0\x01");
+    let deep = b"\xc8\xc8\xc8\xc8\xc8\xc9";
+    all_come_back_by_both(&rt, alloc, 1, (2, 1, 3), false, deep);
+    all_come_back_by_both(&rt, alloc, 2, (1, 2, 1), false, b"\xfd\xff\xfd\xfe");
+    let words = b"\x01\x02\x01\x02\x01\x02\x01\x03";
+    all_come_back_by_both(&rt, alloc, 3, (1, 2, 2), false, words);
+    let least = b"\x00\x00\x00\x80\x00\x00\x00\x81";
+    all_come_back_by_both(&rt, alloc, 4, (2, 1, 1), false, least);
+    let mut greatest = [0xff; 32];
+    greatest[31] = 0xfe;
+    all_come_back_by_both(&rt, alloc, 5, (1, 8, 1), false, &greatest);
+}
+
+/// The blob of the one value 7, worked by hand, and four bytes behind it.
+const SEVEN: [u8; 70] =
+    *b"\x4c\x65\x72\x63\x32\x20\x03\x00\x00\x00\xc0\x66\x45\x59\x01\x00\x00\x00\x01\x00\x00\x00\
+    \x01\x00\x00\x00\x08\x00\x00\x00\x42\x00\x00\x00\x01\x00\x00\x00\x00\x00\x00\x00\x00\x00\
+    \xe0\x3f\x00\x00\x00\x00\x00\x00\x1c\x40\x00\x00\x00\x00\x00\x00\x1c\x40\x00\x00\x00\x00\
+    \x05\x05\x05\x05";
+
+/// One value 7, with this mask, has that blob, which has no room in a byte less.
+fn is_seven(rt: &impl Abort, alloc: Global, mask: &[u8]) {
+    let given = Given {
+        kind: 1,
+        shape: (1, 1, 1),
+        version: 3,
+        values: b"\x07",
+        mask,
+    };
+    let mut blob = [5; 70];
+    let (status, size) = encode_given(alloc, given, &mut blob);
+    same(rt, "encoded", u64::from(status), 0);
+    same(rt, "size", size, 66);
+    same_bytes(rt, "blob, and what stands behind it", &blob, &SEVEN);
+    let mut short = [5; 65];
+    let (status, size) = encode_given(alloc, given, &mut short);
+    same(rt, "no room", u64::from(status), 9);
+    same(rt, "wanted", size, 66);
+}
+
+#[test]
+fn one_value_has_the_blob_that_was_worked_by_hand(rt: HostRuntime) {
+    is_seven(&rt, rt.alloc(), b"");
+    is_seven(&rt, rt.alloc(), b"\x80");
+    is_seven(&rt, rt.alloc(), b"\xff");
+}
+
+/// Nine pixels of one value each, with this mask, come back as these values, with this mask.
+fn nine_come_back(
+    rt: &impl Abort,
+    alloc: Global,
+    mask: &[u8; 2],
+    is_short: bool,
+    values: &[u8; 9],
+    back_mask: &[u8; 2],
+) {
+    let given = Given {
+        kind: 1,
+        shape: (3, 3, 1),
+        version: 3,
+        values: b"\x01\x02\x03\x04\x05\x06\x07\x08\x09",
+        mask,
+    };
+    comes_back(rt, alloc, given, is_short, values, back_mask);
+    let given = Given {
+        version: 4,
+        ..given
+    };
+    comes_back(rt, alloc, given, is_short, values, back_mask);
+}
+
+#[test]
+fn a_mask_of_no_pixel_and_one_of_the_last_alone(rt: HostRuntime) {
+    let alloc = rt.alloc();
+    nine_come_back(&rt, alloc, &[0, 0], true, &[0; 9], &[0, 0]);
+    nine_come_back(&rt, alloc, &[0, 0x7f], true, &[0; 9], &[0, 0]);
+    let last = b"\0\0\0\0\0\0\0\0\x09";
+    nine_come_back(&rt, alloc, &[0, 0x80], false, last, &[0, 0x80]);
+    let given = Given {
+        kind: 3,
+        shape: (1, 2, 2),
+        version: 4,
+        values: b"\x01\x02\x03\x04\x05\x06\x07\x08",
+        mask: b"\0",
+    };
+    comes_back(&rt, alloc, given, true, &[0; 8], b"\0");
 }

@@ -10,6 +10,7 @@ pub use Rattle.program_ends.specs.Arguments
 pub use Rattle.program_ends.specs.Moves
 pub use Rattle.program_ends.specs.Stop
 pub use Rattle.command_words.specs.Words
+pub use Rattle.reason_names.specs.Names as ReasonNames
 pub use Rattle.opened_bundle.specs.Files
 pub use Rattle.opened_bundle.specs.Left
 pub use Rattle.opened_bundle.specs.Refusals

@@ -1,10 +1,11 @@
 -- One block more is read.
-use Rattle.std.proofs.Common.{◌≡◌, ℕ, ℤ, ◌+◌, ◌-◌, ◌*◌, ◌/◌, ◌%◌, ◌<◌, ◌≤◌, min, suc, Bool, false, List, [], ◌∷◌, ◌++◌, length, get_or, map, take, drop, refl, sym, ap, ◌∙◌, subst, arith, inl, inr}
+use Rattle.std.proofs.Common.{◌≡◌, ℕ, ℤ, ◌+◌, ◌-◌, ◌*◌, ◌/◌, ◌%◌, ◌<◌, ◌≤◌, min, Bool, false, List, [], ◌∷◌, ◌++◌, length, get_or, map, take, drop, refl, sym, ap, ◌∙◌, subst, arith, inl, inr}
 use Rattle.std.specs.List.{filter, flat_map, range_with_len}
-use Rattle.std.proofs.lemmas.List.{append-nil, append_assoc, length-map, length-take-le, length-drop, take-append-drop, take-take, drop-take, take_all, take_rest}
+use Rattle.std.proofs.lemmas.List.{length-map, length-take-le, length-drop, take-append-drop, take-take, drop-take, take_all, take_rest}
 use Rattle.std.proofs.lemmas.List.FromFn.{length-map-range_with_len, map-range_with_len_more}
 use Rattle.std.proofs.lemmas.Nat.{div-add-mod', mod_below}
 use Rattle.first_fault.specs.Faults.{Faults, wrong, unless, moved, in_order, ends, AllNumbered, InNumbered, Numbered}
+use Rattle.first_fault.proofs.Decided.{numbered_push}
 use Rattle.raster_values.specs.Raster.{Pixels, IsShape}
 use Rattle.raster_values.specs.Block.{InBlock, PoursBlock, block_count, block_values}
 use Rattle.raster_values.specs.Flat.{marks_of, valid_numbers, value_in}
@@ -18,12 +19,12 @@ use Rattle.micro_block.specs.declared.context.BlockFault.{BlockFault}
 use Rattle.lerc_header.specs.declared.header.Header.{Header}
 use Rattle.lerc_header.specs.declared.fault.BlobReason.{BlobReason}
 use Rattle.lerc_grammar.specs.Reasons.{told, block_reason}
-use Rattle.lerc_grammar.specs.Blocks.{AreBlocks, all_blocks, blocks_faults, blocks_across, blocks_down, coded_blocks, block_depth, block_row, block_col, block_frame, coded_values, first_block_faults, valid_in_block}
+use Rattle.lerc_grammar.specs.Blocks.{AreBlocks, all_blocks, blocks_faults, blocks_across, blocks_down, coded_blocks, block_depth, block_row, block_col, block_frame, coded_values, first_block_faults, count_in_block}
 use Rattle.std.proofs.Math.Nat.{mul-le-mul_left, mul-le-mul_right}
 use Rattle.lerc_header.specs.declared.fault.BlobReason.TheVariants.{BadBlockSize, Leftover}
 use Rattle.lerc_grammar.proofs.BlockRasters.{begins_within}
 use Rattle.lerc_grammar.proofs.OneBlocks.{mask_by_marks, number_below, number_col, number_depth, number_row}
-use Rattle.lerc_decode.specs.inside.Blocks.{HasBlocks, HasRead, IsBlockHead, IsSquare, number_of, top_in}
+use Rattle.lerc_decode.specs.inside.Blocks.{HasBlocks, HasRead, IsBlockHead, IsSquare, block_number, top_in}
 use Rattle.lerc_decode.specs.inside.Body.{HasHeadShape, KeepsMarks}
 
 -- ---- the frame
@@ -33,8 +34,8 @@ abbrev numbers_in : ℕ → ℕ → List Bool → ℕ → ℕ → ℕ → List �
 numbers_in rows cols marks row col side =
     filter (λ p. get_or marks p false) (flat_map (λ i. map (λ j. i * cols + j) (range_with_len col (min side (cols - col)))) (range_with_len row (min side (rows - row))))
 
-pub count_is : (h : Header) (r : Pixels) (a b d : ℕ) → HasHeadShape h r → b < blocks_across h → d < h.depth → block_count r (a * h.side) (b * h.side) h.side ≡ valid_in_block h (marks_of r) (number_of h a b d)
-unfolding valid_in_block
+pub count_is : (h : Header) (r : Pixels) (a b d : ℕ) → HasHeadShape h r → b < blocks_across h → d < h.depth → block_count r (a * h.side) (b * h.side) h.side ≡ count_in_block h (marks_of r) (block_number h a b d)
+unfolding count_in_block
 count_is h r a b d shape across low =
     let row = a * h.side in
     let col = b * h.side in
@@ -42,19 +43,14 @@ count_is h r a b d shape across low =
     ∙ (λ i. length (numbers_in (sym shape.rows i) (sym shape.cols i) (marks_of r) (sym (number_row h a b d across low) i) (sym (number_col h a b d across low) i) h.side))
 
 pub frame_is : (h : Header) (r : Pixels) (tops : List ℤ) (top : ℤ) (a b d n : ℕ) → HasHeadShape h r → b < blocks_across h → d < h.depth → top ≡ top_in tops d → n ≡ block_count r (a * h.side) (b * h.side) h.side
-    → record { kind = h.kind; col = b * h.side; step = h.step; top = top; count = n } ≡ block_frame h (marks_of r) (top_in tops) (number_of h a b d)
+    → record { kind = h.kind; col = b * h.side; step = h.step; top = top; count = n } ≡ block_frame h (marks_of r) (top_in tops) (block_number h a b d)
 unfolding block_frame
 frame_is h r tops top a b d n shape across low top_is count =
-    let top_there : top ≡ top_in tops (block_depth h (number_of h a b d)) = top_is ∙ ap (top_in tops) (sym (number_depth h a b d low)) in
-    let count_there : n ≡ valid_in_block h (marks_of r) (number_of h a b d) = count ∙ count_is h r a b d shape across low in
+    let top_there : top ≡ top_in tops (block_depth h (block_number h a b d)) = top_is ∙ ap (top_in tops) (sym (number_depth h a b d low)) in
+    let count_there : n ≡ count_in_block h (marks_of r) (block_number h a b d) = count ∙ count_is h r a b d shape across low in
     λ i. record { kind = h.kind; col = sym (number_col h a b d across low) i; step = h.step; top = top_there i; count = count_there i }
 
 -- ---- numbered parts
-
-numbered_push : {X : Type 0} (part : ℕ → List ℕ → X → Type 0) (k j : ℕ) (a b : List ℕ) (xs : List X) (y : X) → j ≡ k + length xs → Numbered part k a xs → part j b y → Numbered part k (a ++ b) (xs ++ y ∷ [])
-numbered_push part k j a b [] y at na p = (b, ([], (ap (λ (u : List ℕ). u ++ b) na ∙ sym (append-nil b), (subst (λ n. part n b y) (let t : j ≡ k = omega (arith, at) in t) p, refl))))
-numbered_push part k j a b (x ∷ xs) y at (front, (rest, (joined, (stands, more)))) p =
-    (front, (rest ++ b, (ap (λ (u : List ℕ). u ++ b) joined ∙ append_assoc front rest b, (stands, numbered_push part (suc k) j rest b xs y (omega (arith, at)) more p))))
 
 take_more : (m n : ℕ) (xs : List ℕ) → take (m + n) xs ≡ take m xs ++ take n (drop m xs)
 take_more m n xs =
@@ -63,33 +59,33 @@ take_more m n xs =
 -- ---- other blocks
 
 -- a number is that of its row, column and depth
-whole_number : (h : Header) (k : ℕ) → number_of h (k / h.depth / blocks_across h) (k / h.depth % blocks_across h) (k % h.depth) ≡ k
+whole_number : (h : Header) (k : ℕ) → block_number h (k / h.depth / blocks_across h) (k / h.depth % blocks_across h) (k % h.depth) ≡ k
 whole_number h k = ap (λ n. n * h.depth + k % h.depth) (div-add-mod' (k / h.depth) (blocks_across h)) ∙ div-add-mod' k h.depth
 
-apart : (h : Header) (a b d j i l : ℕ) → 0 < h.side → j < number_of h a b d → InBlock (block_row h j) (block_col h j) h.side i l → InBlock (a * h.side) (b * h.side) h.side i l → block_depth h j ≡ d → ⊥
+apart : (h : Header) (a b d j i l : ℕ) → 0 < h.side → j < block_number h a b d → InBlock (block_row h j) (block_col h j) h.side i l → InBlock (a * h.side) (b * h.side) h.side i l → block_depth h j ≡ d → ⊥
 apart h a b d j i l some less there here same =
     let one = (partition h.side i l some).1 (j / h.depth / blocks_across h) (j / h.depth % blocks_across h) there in
     let two = (partition h.side i l some).1 a b here in
     let rows : j / h.depth / blocks_across h ≡ a = one.0 ∙ sym two.0 in
     let cols : j / h.depth % blocks_across h ≡ b = one.1 ∙ sym two.1 in
-    let is : j ≡ number_of h a b d = sym (whole_number h j) ∙ (λ t. number_of h (rows t) (cols t) (same t)) in
+    let is : j ≡ block_number h a b d = sym (whole_number h j) ∙ (λ t. block_number h (rows t) (cols t) (same t)) in
     omega (arith, less, is)
 
 earlier : (h : Header) (old new : Pixels) (values : List ℤ) (a b d : ℕ) → IsBlockHead h → HasHeadShape h old → PoursBlock old new (a * h.side) (b * h.side) h.side d values
-    → map (coded_values h new) (range_with_len 0 (number_of h a b d)) ≡ map (coded_values h old) (range_with_len 0 (number_of h a b d))
+    → map (coded_values h new) (range_with_len 0 (block_number h a b d)) ≡ map (coded_values h old) (range_with_len 0 (block_number h a b d))
 earlier h old new values a b d head shape pours =
-    same_map (coded_values h new) (coded_values h old) (range_with_len 0 (number_of h a b d))
-    (every_range (λ j. coded_values h new j ≡ coded_values h old j) 0 (number_of h a b d) (λ j from below.
+    same_map (coded_values h new) (coded_values h old) (range_with_len 0 (block_number h a b d))
+    (every_range (λ j. coded_values h new j ≡ coded_values h old j) 0 (block_number h a b d) (λ j from below.
     leaves_others old new (a * h.side) (b * h.side) h.side d values (block_row h j) (block_col h j) h.side (block_depth h j) pours
     (omega (arith, mod_below j h.depth (omega (arith, head.shape.depth_above)), shape.depth))
     (λ i l there here same. apart h a b d j i l head.side_above (omega (arith, below)) there here same)))
 
 pub one_read : (h : Header) (old new : Pixels) (tops values : List ℤ) (rest : List ℕ) (top : ℤ) (a b d at used n : ℕ) → IsBlockHead h → IsSquare h a b → d < h.depth → HasHeadShape h old
-    → top ≡ top_in tops d → n ≡ block_count old (a * h.side) (b * h.side) h.side → HasRead h (marks_of old) tops rest (number_of h a b d) at old
+    → top ≡ top_in tops d → n ≡ block_count old (a * h.side) (b * h.side) h.side → HasRead h (marks_of old) tops rest (block_number h a b d) at old
     → (used ≤ length (take (length rest - at) (drop at rest))) × IsBlock (record { kind = h.kind; col = b * h.side; step = h.step; top = top; count = n }) (take used (take (length rest - at) (drop at rest))) values
-    → PoursBlock old new (a * h.side) (b * h.side) h.side d values → HasRead h (marks_of old) tops rest (number_of h a b d + 1) (at + used) new
+    → PoursBlock old new (a * h.side) (b * h.side) h.side d values → HasRead h (marks_of old) tops rest (block_number h a b d + 1) (at + used) new
 one_read h old new tops values rest top a b d at used n head square low shape top_is count read block pours =
-    let k = number_of h a b d in
+    let k = block_number h a b d in
     let part : ℕ → List ℕ → List ℤ → Type 0 = λ j. IsBlock (block_frame h (marks_of old) (top_in tops) j) in
     let back : take (length rest - at) (drop at rest) ≡ drop at rest = take_rest rest at in
     let stands : IsBlock (block_frame h (marks_of old) (top_in tops) k) (take used (drop at rest)) values =
@@ -107,11 +103,11 @@ one_read h old new tops values rest top a b d at used n head square low shape to
     }
 
 pub one_fault : (h : Header) (old : Pixels) (tops : List ℤ) (rest : List ℕ) (top : ℤ) (a b d at n : ℕ) (f : BlockFault) → IsSquare h a b → d < h.depth → HasHeadShape h old
-    → top ≡ top_in tops d → n ≡ block_count old (a * h.side) (b * h.side) h.side → HasRead h (marks_of old) tops rest (number_of h a b d) at old
+    → top ≡ top_in tops d → n ≡ block_count old (a * h.side) (b * h.side) h.side → HasRead h (marks_of old) tops rest (block_number h a b d) at old
     → block_faults (record { kind = h.kind; col = b * h.side; step = h.step; top = top; count = n }) (take (length rest - at) (drop at rest)) f.at f.reason
     → first_block_faults h (marks_of old) (top_in tops) rest (at + f.at) (block_reason f.reason)
 one_fault h old tops rest top a b d at n f square low shape top_is count read fault =
-    let k = number_of h a b d in
+    let k = block_number h a b d in
     let before = map (coded_values h old) (range_with_len 0 k) in
     let long : k ≡ length before = sym (length-map-range_with_len (coded_values h old) 0 k) in
     let there : block_faults (block_frame h (marks_of old) (top_in tops) k) (drop at rest) f.at f.reason =
@@ -151,20 +147,20 @@ col_begins h b head across = let low = begins_within b h.cols h.side head.side_a
 
 -- ---- all blocks
 
-pub all_read : (h : Header) (marks : List Bool) (tops : List ℤ) (rest : List ℕ) (at : ℕ) (r : Pixels) → HasRead h marks tops rest (number_of h (blocks_down h) 0 0) at r → AreBlocks h marks (top_in tops) (take at rest) (all_blocks h r)
+pub all_read : (h : Header) (marks : List Bool) (tops : List ℤ) (rest : List ℕ) (at : ℕ) (r : Pixels) → HasRead h marks tops rest (block_number h (blocks_down h) 0 0) at r → AreBlocks h marks (top_in tops) (take at rest) (all_blocks h r)
 all_read h marks tops rest at r read =
-    let n : number_of h (blocks_down h) 0 0 ≡ coded_blocks h = omega arith in (
+    let n : block_number h (blocks_down h) 0 0 ≡ coded_blocks h = omega arith in (
       length-map-range_with_len (coded_values h r) 0 (coded_blocks h),
       subst (λ k. Numbered (λ j. IsBlock (block_frame h marks (top_in tops) j)) 0 (take at rest) (map (coded_values h r) (range_with_len 0 k))) n read.stand,
     )
 
-pub all_stand : (h : Header) (marks : List Bool) (tops : List ℤ) (rest : List ℕ) (at : ℕ) (r : Pixels) → h.side ≤ 32 → length rest ≤ at → HasRead h marks tops rest (number_of h (blocks_down h) 0 0) at r → HasBlocks h marks tops rest r
+pub all_stand : (h : Header) (marks : List Bool) (tops : List ℤ) (rest : List ℕ) (at : ℕ) (r : Pixels) → h.side ≤ 32 → length rest ≤ at → HasRead h marks tops rest (block_number h (blocks_down h) 0 0) at r → HasBlocks h marks tops rest r
 all_stand h marks tops rest at r low whole read = record {
   side = low;
   stand = subst (λ (u : List ℕ). AreBlocks h marks (top_in tops) u (all_blocks h r)) (take_all at rest (omega (arith, whole, read.within))) (all_read h marks tops rest at r read);
 }
 
-pub bytes_behind_blocks : (h : Header) (marks : List Bool) (tops : List ℤ) (rest : List ℕ) (place at : ℕ) (r : Pixels) → h.side ≤ 32 → at < length rest → HasRead h marks tops rest (number_of h (blocks_down h) 0 0) at r
+pub bytes_behind_blocks : (h : Header) (marks : List Bool) (tops : List ℤ) (rest : List ℕ) (place at : ℕ) (r : Pixels) → h.side ≤ 32 → at < length rest → HasRead h marks tops rest (block_number h (blocks_down h) 0 0) at r
     → moved place (blocks_faults h marks (top_in tops) rest) (place + at) Leftover
 bytes_behind_blocks h marks tops rest place at r low more read = (
   at,
@@ -188,7 +184,7 @@ bytes_behind_blocks h marks tops rest place at r low more read = (
 
 frames_same : (h : Header) (marks : List Bool) (f g : ℕ → ℤ) (k : ℕ) → f (block_depth h k) ≡ g (block_depth h k) → block_frame h marks f k ≡ block_frame h marks g k
 unfolding block_frame
-frames_same h marks f g k same = λ i. record { kind = h.kind; col = block_col h k; step = h.step; top = same i; count = valid_in_block h marks k }
+frames_same h marks f g k same = λ i. record { kind = h.kind; col = block_col h k; step = h.step; top = same i; count = count_in_block h marks k }
 
 all_frames : (h : Header) (marks : List Bool) (f g : ℕ → ℤ) → 0 < h.depth → ((d : ℕ) → d < h.depth → f d ≡ g d) → ◌≡◌ {A = ℕ → Frame} (block_frame h marks f) (block_frame h marks g)
 all_frames h marks f g some same = λ i k. frames_same h marks f g k (same (block_depth h k) (mod_below k h.depth some)) i

@@ -94,15 +94,15 @@ runs_there : (h : Header) (blob : List ℕ) (place n : ℕ) → place ≡ head_l
 runs_there h blob place n is =
     ap (λ k. take k (drop place blob)) (let t : place + n - place ≡ n = omega arith in t) ∙ ap (λ k. take n (drop k blob)) is ∙ ap (take n) (sym (drop-drop 4 (head_length h.version) blob))
 
-pub runs_mask : (before : Option Previous) (h : Header) (blob : List ℕ) (form : MaskForm) (r : Pixels) (at len place : ℕ) → form ≡ RunsAt at len → IsMaskForm h blob form → place ≡ head_length h.version + 4
-    → IsMarkedBy (h.rows * h.cols) h.valid (take (place + len - place) (drop place blob)) r
-    → IsMaskAfter (marks_for before h) (h.rows * h.cols) h.valid (take (image_place h form - head_length h.version) (rest_of h blob)) (marks_of r)
-runs_mask before h blob form r at len place is m place_is b =
+pub runs_mask : (before : Option Previous) (h : Header) (blob : List ℕ) (form : MaskForm) (marks : List Bool) (at len place : ℕ) → form ≡ RunsAt at len → IsMaskForm h blob form → place ≡ head_length h.version + 4
+    → IsMarkedBy (h.rows * h.cols) h.valid (take (place + len - place) (drop place blob)) marks
+    → IsMaskAfter (marks_for before h) (h.rows * h.cols) h.valid (take (image_place h form - head_length h.version) (rest_of h blob)) marks
+runs_mask before h blob form marks at len place is m place_is b =
     let f : IsMaskForm h blob (RunsAt at len) = subst (IsMaskForm h blob) is m in
     let runs : Runs (take len (drop 4 (rest_of h blob))) b.mask = subst (λ (u : List ℕ). Runs u b.mask) (runs_there h blob place len place_is) b.runs_of in
-    subst (λ (x : MaskForm). IsMaskAfter (marks_for before h) (h.rows * h.cols) h.valid (take (image_place h x - head_length h.version) (rest_of h blob)) (marks_of r)) (sym is)
-    (subst (λ (n : ℕ). IsMaskAfter (marks_for before h) (h.rows * h.cols) h.valid (take n (rest_of h blob)) (marks_of r)) (let t : 4 + len ≡ head_length h.version + 4 + len - head_length h.version = omega arith in t)
-    (subst (IsMaskAfter (marks_for before h) (h.rows * h.cols) h.valid (take (4 + len) (rest_of h blob))) (sym b.marks)
+    subst (λ (x : MaskForm). IsMaskAfter (marks_for before h) (h.rows * h.cols) h.valid (take (image_place h x - head_length h.version) (rest_of h blob)) marks) (sym is)
+    (subst (λ (n : ℕ). IsMaskAfter (marks_for before h) (h.rows * h.cols) h.valid (take n (rest_of h blob)) marks) (let t : 4 + len ≡ head_length h.version + 4 + len - head_length h.version = omega arith in t)
+    (subst (IsMaskAfter (marks_for before h) (h.rows * h.cols) h.valid (take (4 + len) (rest_of h blob))) (sym b.marks_are)
     (mixed_stands (marks_for before h) (h.rows * h.cols) h.valid (rest_of h blob) b.mask len f.0 f.1.1.1.number (rest_long h blob len f.1.1.1) runs b.size b.count)))
 
 pub runs_fault : (before : Option Previous) (h : Header) (blob : List ℕ) (form : MaskForm) (at len place p : ℕ) (reason : BlobReason) → form ≡ RunsAt at len → IsMaskForm h blob form → place ≡ head_length h.version + 4
@@ -448,6 +448,12 @@ pub image_err : (before : Option Previous) (h : Header) (blob : List ℕ) (mask 
     → IsStopOf (moved (image_place h mask) (image_faults h (marks_of old) (image_of h blob mask))) stop → IsStopOf (blob_faults before h blob) stop
 image_err before h blob mask old stop sum form m w = stop_map _ (blob_faults before h blob) (λ p r x. image_stop before h blob mask (marks_of old) p r sum form m.mask x) stop w
 
+-- the same, whatever the raster before is
+pub image_errs : {T : Type 0} (h : Header) (blob : List ℕ) (mask : MaskForm) (old : Pixels) (result : Result T BodyStop) → h.checksum ≡ sum_of (drop 14 blob) → IsMaskForm h blob mask
+    → IfErr result (IsStopOf (moved (image_place h mask) (image_faults h (marks_of old) (image_of h blob mask)))) → IfErr result (λ stop. (before : Option Previous) → IsMarkedFor before h blob mask old → IsStopOf (blob_faults before h blob) stop)
+image_errs h blob mask old (Ok x) sum form w = tt
+image_errs h blob mask old (Err stop) sum form w = λ before m. image_err before h blob mask old stop sum form m w
+
 pub picture_made : (before : Option Previous) (h : Header) (blob : List ℕ) (mask : MaskForm) (old r : Pixels) → HeadAt blob h → length blob ≡ h.size → h.checksum ≡ sum_of (drop 14 blob) → IsMaskForm h blob mask → IsMarkedFor before h blob mask old
     → IsRaster r → KeepsMarks old r → IsImage h (image_of h blob mask) r → BlobAfter before blob r
 picture_made before h blob mask old r head size sum form m sound keeps image = blob_made before h blob mask old r head size sum form sound m.shape keeps m.mask image
@@ -458,7 +464,7 @@ pub picked_ok : (before : Option Previous) (h : Header) (blob : List ℕ) (mask 
 picked_ok before h blob mask old (Ok r) m w = w before m
 picked_ok before h blob mask old (Err stop) m w = tt
 
-pub picked_err : (before : Option Previous) (h : Header) (blob : List ℕ) (mask : MaskForm) (old : Pixels) (result : Result Pixels BodyStop) → IsMarkedFor before h blob mask old
+pub picked_err : {T : Type 0} (before : Option Previous) (h : Header) (blob : List ℕ) (mask : MaskForm) (old : Pixels) (result : Result T BodyStop) → IsMarkedFor before h blob mask old
     → IfErr result (λ stop. (b : Option Previous) → IsMarkedFor b h blob mask old → IsStopOf (blob_faults b h blob) stop) → IfErr result (λ stop. IsStopOf (blob_faults before h blob) stop)
 picked_err before h blob mask old (Ok r) m w = tt
 picked_err before h blob mask old (Err stop) m w = w before m

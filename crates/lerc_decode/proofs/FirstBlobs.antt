@@ -16,7 +16,7 @@ use Rattle.lerc_grammar.specs.Bands.{BlobsAfter, BandsFaultAt, FirstBandsFault, 
 use Rattle.lerc_grammar.specs.BandsReading.{IsBehind, IsInside}
 use Rattle.lerc_grammar.proofs.BandsReader.{begin}
 use Rattle.lerc_grammar.proofs.BandsSteps.{cut_there, fault_there, inside_undecided, bands_faults_stay}
-use Rattle.lerc_decode.specs.Decoding.{HasHeader, IsLeast}
+use Rattle.lerc_decode.specs.Decoding.{HasHeader, IsLeastTaken}
 
 -- ---- a whole header
 
@@ -49,7 +49,7 @@ first_inside bytes more = record { behind = no_blob bytes; begun = inl refl; lik
 pub first_cut : (bytes : List ℕ) → IsMoreAfter None bytes → BandsFaultAt bytes (length bytes) (OfBlob Truncated)
 first_cut bytes more = cut_there bytes [] [] bytes (first_inside bytes more)
 
-pub first_least : (bytes : List ℕ) → IsLeast bytes → IsLeastFault bytes
+pub first_least : (bytes : List ℕ) → IsLeastTaken bytes → IsLeastFault bytes
 first_least bytes least n below p a w = inside_undecided (take n bytes) [] [] (take n bytes) (first_inside (take n bytes) (least n below)) p a w
 
 -- ---- what a source has left

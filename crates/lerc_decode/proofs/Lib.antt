@@ -1,6 +1,7 @@
 mod Marks
 mod Filling
 mod Bodies
+mod CallersArrays
 mod Befores
 mod Fields
 mod Steps

@@ -29,8 +29,8 @@ abbrev pub IsLeastAfter : Option Previous → List ℕ → Type 0
 IsLeastAfter before taken = (n : ℕ) → n < length taken → IsMoreAfter before (take n taken)
 
 -- where there is no raster before
-abbrev pub IsLeast : List ℕ → Type 0
-IsLeast taken = IsLeastAfter None taken
+abbrev pub IsLeastTaken : List ℕ → Type 0
+IsLeastTaken taken = IsLeastAfter None taken
 
 -- a lawful header stands whole
 pub record HasHeader (taken : List ℕ) : Type 0 where

@@ -5,7 +5,7 @@ use Rattle.raster_values.specs.Raster.{Pixels}
 use Rattle.lerc_header.specs.declared.fault.BlobFault.{BlobFault}
 use Rattle.lerc_header.specs.declared.fault.BlobReason.TheVariants.{Truncated}
 use Rattle.lerc_grammar.specs.Verdict.{FirstFault, IsDone, IsMore}
-use Rattle.lerc_decode.specs.Decoding.{HasHeader, IsLeast}
+use Rattle.lerc_decode.specs.Decoding.{HasHeader, IsLeastTaken}
 use Rattle.lerc_decode.specs.declared.from_source.Decoded.{Decoded}
 use Rattle.lerc_decode.specs.declared.from_source.FromFault.{FromFault}
 use Rattle.lerc_decode.specs.declared.from_source.FromFault.TheVariants.{Blob, Source, OutOfMemory}
@@ -18,7 +18,7 @@ CountsSource _ old new = new ≡ old
 -- the bytes taken decide this fault, and no fewer of them; or the source ended before anything was
 -- decided
 abbrev pub IsFaultIn : BlobFault → List ℕ → List ℕ → Type 0
-IsFaultIn f taken rest = (FirstFault taken f.place f.reason × IsLeast taken)
+IsFaultIn f taken rest = (FirstFault taken f.place f.reason × IsLeastTaken taken)
     ⊎ (IsMore taken × ((rest ≡ []) × (f ≡ record { reason = Truncated; place = length taken })))
 
 -- `done` holds of the answer and the bytes taken, or their first fault is decided

@@ -5,4 +5,5 @@ pub mod FromSource
 pub mod Reading
 pub mod BandsStates
 pub mod BandsSource
+pub mod Over
 pub mod inside

@@ -16,7 +16,7 @@ use crate::kept::KeptBlobs;
 use crate::turns::{Ended, Next, Turned, turn};
 use lerc_grammar::{BandReason, BandsFault};
 use lerc_header::{BlobReason, KEY};
-use raster_values::Bands;
+use raster_values::{Bands, GREATEST_BANDS};
 use std::alloc::{AllocError, Global};
 use std::marker::Model;
 use std::mem;
@@ -136,7 +136,7 @@ fn followed(alloc: Global, front: &FrontBlobs, have: usize, byte: u8) -> BandsPr
         → IsBetween taken front.now.bands bytes (take have (codes "Lerc2 "))
         → IsAt (taken ++ byte ∷ []) front.now (stage_in result) }
 {
-    if front.len() == 16 || byte != KEY[have] {
+    if front.len() == GREATEST_BANDS as usize || byte != KEY[have] {
         return BandsProgress::Refused(BandsFault {
             reason: BandReason::Blob(BlobReason::Leftover),
             place: front.place(),

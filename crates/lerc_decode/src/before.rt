@@ -1,15 +1,15 @@
 //! What a blob's mask may take of the raster before.
 
-ghost use Rattle.std.specs.Prelude.{◌≡◌, IfOk, Some};
+ghost use Rattle.std.specs.Prelude.{◌≡◌, ◌≤◌, ◌*◌, ℕ, IfOk, Some, false, length};
 ghost use Rattle.raster_values.specs.Flat.{marks_of};
-ghost use Rattle.raster_values.specs.Order.{IsMaskOf};
+ghost use Rattle.raster_values.specs.Order.{IsMaskOf, marks_in, mask_bit};
 ghost use Rattle.raster_values.specs.Raster.{blank};
-ghost use Rattle.lerc_grammar.specs.Mask.{count_before, marks_before, previous_of};
+ghost use Rattle.lerc_grammar.specs.Mask.{count_before, marks_before, mask_size, previous_of};
 ghost use Rattle.lerc_decode.specs.inside.Body.{HasHeadShape};
 
 use crate::body::note_sound;
 use lerc_header::Header;
-use raster_values::Raster;
+use raster_values::{Raster, clear_spare};
 use std::alloc::{AllocError, Global};
 use std::marker::Model;
 
@@ -81,5 +81,20 @@ impl Before {
     {
         raster.mark_from_bits(&self.mask);
         note_sound(raster);
+    }
+
+    /// Copies a bit for each pixel, and clears those behind the last one.
+    pub(crate) fn bits(&self, header: &Header, bits: &mut [u8])
+        requires rows { self.now.rows ≡ header.now.rows }
+        requires cols { self.now.cols ≡ header.now.cols }
+        requires pixels { header.now.rows * header.now.cols ≤ 16777216 }
+        requires room { length bits.old ≡ mask_size (header.now.rows * header.now.cols) }
+        ensures room { length bits.new ≡ length bits.old }
+        ensures marks { marks_in (header.now.rows * header.now.cols) bits.new ≡ self.now.marks }
+        ensures spare { (k : ℕ) → header.now.rows * header.now.cols ≤ k
+            → mask_bit bits.new k ≡ false }
+    {
+        bits.copy_from_slice(&self.mask);
+        clear_spare(bits, header.rows as usize * header.cols as usize);
     }
 }

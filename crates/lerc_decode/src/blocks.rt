@@ -5,18 +5,18 @@ ghost use Rattle.first_fault.specs.Faults.{moved};
 ghost use Rattle.raster_values.specs.Block.{block_count};
 ghost use Rattle.raster_values.specs.Flat.{marks_of};
 ghost use Rattle.raster_values.specs.Raster.{InShape};
-ghost use Rattle.lerc_header.specs.Head.{IsTwiceError};
+ghost use Rattle.raster_values.specs.Step.{IsTwiceError};
 ghost use Rattle.raster_values.specs.Raster.{IsShape};
-ghost use Rattle.lerc_grammar.specs.Blocks.{blocks_across, blocks_down, blocks_faults, first_block_faults, valid_in_block};
+ghost use Rattle.lerc_grammar.specs.Blocks.{blocks_across, blocks_down, blocks_faults, first_block_faults, count_in_block};
 ghost use Rattle.lerc_grammar.specs.Reasons.{block_reason, list_reason};
-ghost use Rattle.lerc_decode.specs.inside.Blocks.{AreTops, HasBlocks, HasRead, IsBlockHead, IsSquare, number_of, top_in};
+ghost use Rattle.lerc_decode.specs.inside.Blocks.{AreTops, HasBlocks, HasRead, IsBlockHead, IsSquare, block_number, top_in};
 ghost use Rattle.lerc_decode.specs.inside.Body.{HasHeadShape, IsStopOf, KeepsMarks};
 
-use crate::body::{BodyStop, note_sound, stopped};
+use crate::body::{BodyStop, stopped};
 use bit_stuff::ListReason;
 use lerc_header::{BlobFault, BlobReason, Header};
 use micro_block::{BlockCtx, BlockFault, BlockReason, read_block};
-use raster_values::Raster;
+use raster_target::Target;
 
 /// The reason of a list's fault.
 pub(crate) fn reason_of_list(reason: ListReason) -> BlobReason
@@ -59,7 +59,7 @@ fn refused(fault: BlockFault, at: usize) -> Result<usize, BlobFault>
 
 /// Reads the block in row `a` and column `b` of blocks at depth `d`, which begins at this place,
 /// and answers the place behind it.
-fn read_one(
+fn read_one<T: Target>(
     rest: &[u8],
     at: usize,
     header: &Header,
@@ -68,26 +68,28 @@ fn read_one(
     b: u32,
     d: u32,
     values: &mut [i64],
-    raster: &mut Raster,
+    raster: &mut T,
 ) -> Result<usize, BlobFault>
     requires head { IsBlockHead header.now }
     requires tops { AreTops header.now tops.now }
     requires square { IsSquare header.now a b }
     requires depth { d < header.now.depth }
-    requires shape { HasHeadShape header.now raster.old }
+    requires shape { HasHeadShape header.now (T.pixels raster.old) }
     requires few { length values.old ≤ 1024 }
     requires count { length values.old
-        ≡ block_count raster.old (a * header.now.side) (b * header.now.side) header.now.side }
-    requires read { HasRead header.now (marks_of raster.old) tops.now rest.now
-        (number_of header.now a b d) at raster.old }
-    ensures marks { KeepsMarks raster.old raster.new }
-    ensures ok { IfOk result (λ next. HasRead header.now (marks_of raster.old) tops.now rest.now
-        (number_of header.now a b d + 1) next raster.new) }
-    ensures fault { IfErr result (λ f. first_block_faults header.now (marks_of raster.old)
+        ≡ block_count (T.pixels raster.old) (a * header.now.side) (b * header.now.side) header.now.side }
+    requires read { HasRead header.now (marks_of (T.pixels raster.old)) tops.now rest.now
+        (block_number header.now a b d) at (T.pixels raster.old) }
+    requires sound { T.sound raster.old }
+    ensures marks { KeepsMarks (T.pixels raster.old) (T.pixels raster.new) }
+    ensures ok { IfOk result (λ next. HasRead header.now (marks_of (T.pixels raster.old)) tops.now rest.now
+        (block_number header.now a b d + 1) next (T.pixels raster.new)) }
+    ensures fault { IfErr result (λ f. first_block_faults header.now (marks_of (T.pixels raster.old))
         (top_in tops.now) rest.now f.place f.reason) }
     ensures near { IfErr result (λ f. f.place ≤ length rest.now) }
+    ensures sound { T.sound raster.new }
+    ensures kept { T.kept raster.new ≡ T.kept raster.old }
 {
-    note_sound(raster);
     let row = a * header.side;
     let col = b * header.side;
     let ctx = BlockCtx {
@@ -99,7 +101,6 @@ fn read_one(
     match read_block(&rest[at..], &ctx, values) {
         Ok(used) => {
             raster.pour_block(row, col, header.side, d, values);
-            note_sound(raster);
             Ok(at + used)
         }
         Err(fault) => refused(fault, at),
@@ -107,7 +108,7 @@ fn read_one(
 }
 
 /// Reads the blocks of all depths in row `a` and column `b` of blocks.
-fn read_depths(
+fn read_depths<T: Target>(
     rest: &[u8],
     from: usize,
     header: &Header,
@@ -115,23 +116,26 @@ fn read_depths(
     a: u32,
     b: u32,
     values: &mut [i64],
-    raster: &mut Raster,
+    raster: &mut T,
 ) -> Result<usize, BlobFault>
     requires head { IsBlockHead header.now }
     requires tops { AreTops header.now tops.now }
     requires square { IsSquare header.now a b }
-    requires shape { HasHeadShape header.now raster.old }
+    requires shape { HasHeadShape header.now (T.pixels raster.old) }
     requires few { length values.old ≤ 1024 }
     requires count { length values.old
-        ≡ block_count raster.old (a * header.now.side) (b * header.now.side) header.now.side }
-    requires read { HasRead header.now (marks_of raster.old) tops.now rest.now
-        (number_of header.now a b 0) from raster.old }
-    ensures marks { KeepsMarks raster.old raster.new }
-    ensures ok { IfOk result (λ next. HasRead header.now (marks_of raster.old) tops.now rest.now
-        (number_of header.now a (b + 1) 0) next raster.new) }
-    ensures fault { IfErr result (λ f. first_block_faults header.now (marks_of raster.old)
+        ≡ block_count (T.pixels raster.old) (a * header.now.side) (b * header.now.side) header.now.side }
+    requires read { HasRead header.now (marks_of (T.pixels raster.old)) tops.now rest.now
+        (block_number header.now a b 0) from (T.pixels raster.old) }
+    requires sound { T.sound raster.old }
+    ensures marks { KeepsMarks (T.pixels raster.old) (T.pixels raster.new) }
+    ensures ok { IfOk result (λ next. HasRead header.now (marks_of (T.pixels raster.old)) tops.now rest.now
+        (block_number header.now a (b + 1) 0) next (T.pixels raster.new)) }
+    ensures fault { IfErr result (λ f. first_block_faults header.now (marks_of (T.pixels raster.old))
         (top_in tops.now) rest.now f.place f.reason) }
     ensures near { IfErr result (λ f. f.place ≤ length rest.now) }
+    ensures sound { T.sound raster.new }
+    ensures kept { T.kept raster.new ≡ T.kept raster.old }
 {
     let mut at = from;
     for d in 0..header.depth {
@@ -141,7 +145,7 @@ fn read_depths(
 }
 
 /// Reads the blocks in row `a` and column `b` of blocks, with room for the values of a block.
-fn read_square(
+fn read_square<T: Target>(
     rest: &[u8],
     from: usize,
     header: &Header,
@@ -149,21 +153,24 @@ fn read_square(
     a: u32,
     b: u32,
     room: &mut [i64],
-    raster: &mut Raster,
+    raster: &mut T,
 ) -> Result<usize, BlobFault>
     requires head { IsBlockHead header.now }
     requires tops { AreTops header.now tops.now }
     requires square { IsSquare header.now a b }
-    requires shape { HasHeadShape header.now raster.old }
+    requires shape { HasHeadShape header.now (T.pixels raster.old) }
     requires room { length room.old ≡ 1024 }
-    requires read { HasRead header.now (marks_of raster.old) tops.now rest.now
-        (number_of header.now a b 0) from raster.old }
-    ensures marks { KeepsMarks raster.old raster.new }
-    ensures ok { IfOk result (λ next. HasRead header.now (marks_of raster.old) tops.now rest.now
-        (number_of header.now a (b + 1) 0) next raster.new) }
-    ensures fault { IfErr result (λ f. first_block_faults header.now (marks_of raster.old)
+    requires read { HasRead header.now (marks_of (T.pixels raster.old)) tops.now rest.now
+        (block_number header.now a b 0) from (T.pixels raster.old) }
+    requires sound { T.sound raster.old }
+    ensures marks { KeepsMarks (T.pixels raster.old) (T.pixels raster.new) }
+    ensures ok { IfOk result (λ next. HasRead header.now (marks_of (T.pixels raster.old)) tops.now rest.now
+        (block_number header.now a (b + 1) 0) next (T.pixels raster.new)) }
+    ensures fault { IfErr result (λ f. first_block_faults header.now (marks_of (T.pixels raster.old))
         (top_in tops.now) rest.now f.place f.reason) }
     ensures near { IfErr result (λ f. f.place ≤ length rest.now) }
+    ensures sound { T.sound raster.new }
+    ensures kept { T.kept raster.new ≡ T.kept raster.old }
 {
     let count = raster.block_valid_count(a * header.side, b * header.side, header.side);
     read_depths(rest, from, header, tops, a, b, &mut room[..count], raster)
@@ -180,28 +187,31 @@ fn blocks_in(pixels: u32, side: u32) -> u32
 }
 
 /// Reads row `a` of blocks.
-fn read_row(
+fn read_row<T: Target>(
     rest: &[u8],
     from: usize,
     header: &Header,
     tops: &[i64],
     a: u32,
     room: &mut [i64],
-    raster: &mut Raster,
+    raster: &mut T,
 ) -> Result<usize, BlobFault>
     requires head { IsBlockHead header.now }
     requires tops { AreTops header.now tops.now }
     requires row { a < blocks_down header.now }
-    requires shape { HasHeadShape header.now raster.old }
+    requires shape { HasHeadShape header.now (T.pixels raster.old) }
     requires room { length room.old ≡ 1024 }
-    requires read { HasRead header.now (marks_of raster.old) tops.now rest.now
-        (number_of header.now a 0 0) from raster.old }
-    ensures marks { KeepsMarks raster.old raster.new }
-    ensures ok { IfOk result (λ next. HasRead header.now (marks_of raster.old) tops.now rest.now
-        (number_of header.now (a + 1) 0 0) next raster.new) }
-    ensures fault { IfErr result (λ f. first_block_faults header.now (marks_of raster.old)
+    requires read { HasRead header.now (marks_of (T.pixels raster.old)) tops.now rest.now
+        (block_number header.now a 0 0) from (T.pixels raster.old) }
+    requires sound { T.sound raster.old }
+    ensures marks { KeepsMarks (T.pixels raster.old) (T.pixels raster.new) }
+    ensures ok { IfOk result (λ next. HasRead header.now (marks_of (T.pixels raster.old)) tops.now rest.now
+        (block_number header.now (a + 1) 0 0) next (T.pixels raster.new)) }
+    ensures fault { IfErr result (λ f. first_block_faults header.now (marks_of (T.pixels raster.old))
         (top_in tops.now) rest.now f.place f.reason) }
     ensures near { IfErr result (λ f. f.place ≤ length rest.now) }
+    ensures sound { T.sound raster.new }
+    ensures kept { T.kept raster.new ≡ T.kept raster.old }
 {
     let mut at = from;
     for b in 0..blocks_in(header.cols, header.side) {
@@ -211,23 +221,26 @@ fn read_row(
 }
 
 /// Reads all blocks, and answers the place behind them.
-fn read_rows(
+fn read_rows<T: Target>(
     rest: &[u8],
     header: &Header,
     tops: &[i64],
     room: &mut [i64],
-    raster: &mut Raster,
+    raster: &mut T,
 ) -> Result<usize, BlobFault>
     requires head { IsBlockHead header.now }
     requires tops { AreTops header.now tops.now }
-    requires shape { HasHeadShape header.now raster.old }
+    requires shape { HasHeadShape header.now (T.pixels raster.old) }
     requires room { length room.old ≡ 1024 }
-    ensures marks { KeepsMarks raster.old raster.new }
-    ensures ok { IfOk result (λ next. HasRead header.now (marks_of raster.old) tops.now rest.now
-        (number_of header.now (blocks_down header.now) 0 0) next raster.new) }
-    ensures fault { IfErr result (λ f. first_block_faults header.now (marks_of raster.old)
+    requires sound { T.sound raster.old }
+    ensures marks { KeepsMarks (T.pixels raster.old) (T.pixels raster.new) }
+    ensures ok { IfOk result (λ next. HasRead header.now (marks_of (T.pixels raster.old)) tops.now rest.now
+        (block_number header.now (blocks_down header.now) 0 0) next (T.pixels raster.new)) }
+    ensures fault { IfErr result (λ f. first_block_faults header.now (marks_of (T.pixels raster.old))
         (top_in tops.now) rest.now f.place f.reason) }
     ensures near { IfErr result (λ f. f.place ≤ length rest.now) }
+    ensures sound { T.sound raster.new }
+    ensures kept { T.kept raster.new ≡ T.kept raster.old }
 {
     let mut at = 0;
     for a in 0..blocks_in(header.rows, header.side) {
@@ -238,24 +251,27 @@ fn read_rows(
 
 /// Gives the valid pixels the values of blocks, the first of which begins at this place of the
 /// blob.
-pub(crate) fn pour_blocks(
+pub(crate) fn pour_blocks<T: Target>(
     rest: &[u8],
     place: usize,
     header: &Header,
     tops: &[i64],
-    raster: &mut Raster,
+    raster: &mut T,
 ) -> Result<(), BodyStop>
     requires side { 0 < header.now.side }
     requires head { IsShape header.now.rows header.now.cols header.now.depth }
     requires step { IsTwiceError header.now.step }
     requires tops { AreTops header.now tops.now }
-    requires shape { HasHeadShape header.now raster.old }
+    requires shape { HasHeadShape header.now (T.pixels raster.old) }
     requires few { place + length rest.now < 2 ^ 62 }
-    ensures marks { KeepsMarks raster.old raster.new }
-    ensures ok { OnOk result (HasBlocks header.now (marks_of raster.old) tops.now rest.now
-        raster.new) }
+    requires sound { T.sound raster.old }
+    ensures marks { KeepsMarks (T.pixels raster.old) (T.pixels raster.new) }
+    ensures ok { OnOk result (HasBlocks header.now (marks_of (T.pixels raster.old)) tops.now rest.now
+        (T.pixels raster.new)) }
     ensures fault { IfErr result (λ stop. IsStopOf (moved place (blocks_faults header.now
-        (marks_of raster.old) (top_in tops.now) rest.now)) stop) }
+        (marks_of (T.pixels raster.old)) (top_in tops.now) rest.now)) stop) }
+    ensures sound { T.sound raster.new }
+    ensures kept { T.kept raster.new ≡ T.kept raster.old }
 {
     if header.side > 32 {
         return stopped(BlobReason::BadBlockSize, place);

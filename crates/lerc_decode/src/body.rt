@@ -5,6 +5,7 @@ ghost use Rattle.first_fault.specs.Faults.{moved};
 ghost use Rattle.raster_values.specs.PixelType.{InRange, bytes_of};
 ghost use Rattle.raster_values.specs.Raster.{IsRaster, IsShape, blank};
 ghost use Rattle.raster_values.specs.Flat.{EachValid, marks_of};
+ghost use Rattle.raster_values.specs.Order.{marks_in};
 ghost use Rattle.lerc_header.specs.Head.{HeadAt, head_length};
 ghost use Rattle.lerc_header.specs.Checksum.{sum_of};
 ghost use Rattle.lerc_grammar.specs.Mask.{IsMaskAfter, Previous, count_before, count_of, mask_faults, mask_size, runs_faults};
@@ -18,10 +19,11 @@ ghost use Rattle.lerc_decode.specs.inside.Body.{HasHeadShape, HasSum, IsFilledWi
 use crate::before::Before;
 use crate::blocks::pour_blocks;
 use crate::codes::{pour_deltas, pour_plain};
+use crate::masks::bits_of_runs;
 use lerc_grammar::{ImageForm, MaskForm, image_part, mask_part, place_behind};
 use lerc_header::{BlobFault, BlobReason, Header, Version, sum_behind};
-use mask_runs::read_runs;
 use micro_block::read_values;
+use raster_target::Target;
 use raster_values::Raster;
 use std::alloc::Global;
 
@@ -72,44 +74,19 @@ pub(crate) fn many(alloc: Global, value: i64, count: usize) -> Option<Vec<i64>>
     vec![in alloc; value; count].ok()
 }
 
-/// Makes the pixels valid that the runs say, which begin at this place of the blob. The mask's
-/// bytes are read into `mask`.
-fn mark_by(
-    runs: &[u8],
-    place: usize,
-    header: &Header,
-    mask: &mut [u8],
-    raster: &mut Raster,
-) -> Result<(), BodyStop>
+/// Makes the pixels valid whose bits of the mask are 1.
+fn mark_by(mask: &[u8], header: &Header, raster: &mut Raster)
     requires blank { raster.old
         ≡ blank header.now.kind header.now.rows header.now.cols header.now.depth }
-    requires mask { length mask.old ≡ mask_size (header.now.rows * header.now.cols) }
-    requires few { place + length runs.now < 2 ^ 62 }
+    requires mask { length mask.now ≡ mask_size (header.now.rows * header.now.cols) }
     ensures shape { HasHeadShape header.now raster.new }
-    ensures ok { OnOk result (IsMarkedBy (header.now.rows * header.now.cols) header.now.valid
-        runs.now raster.new) }
-    ensures fault { IfErr result (λ stop. IsStopOf (moved place
-        (runs_faults (header.now.rows * header.now.cols) header.now.valid runs.now)) stop) }
+    ensures marks { marks_of raster.new ≡ marks_in (header.now.rows * header.now.cols) mask.now }
 {
-    if let Err(fault) = read_runs(runs, mask) {
-        return stopped(BlobReason::BadRun, place + fault.at);
-    }
     raster.mark_from_bits(mask);
     note_sound(raster);
-    let counted = raster.valid_count();
-    if counted != header.valid {
-        return stopped(
-            BlobReason::BadMaskCount {
-                header: header.valid,
-                counted,
-            },
-            place,
-        );
-    }
-    Ok(())
 }
 
-/// The same, with the memory for the mask's bytes.
+/// Makes the pixels valid that the runs say, which begin at this place of the blob.
 fn mark_runs(
     alloc: Global,
     runs: &[u8],
@@ -118,12 +95,13 @@ fn mark_runs(
     raster: &mut Raster,
 ) -> Result<(), BodyStop>
     requires shape { IsShape header.now.rows header.now.cols header.now.depth }
+    requires pixels { header.now.rows * header.now.cols ≤ 16777216 }
     requires blank { raster.old
         ≡ blank header.now.kind header.now.rows header.now.cols header.now.depth }
     requires few { place + length runs.now < 2 ^ 62 }
     ensures shape { HasHeadShape header.now raster.new }
     ensures ok { OnOk result (IsMarkedBy (header.now.rows * header.now.cols) header.now.valid
-        runs.now raster.new) }
+        runs.now (marks_of raster.new)) }
     ensures fault { IfErr result (λ stop. IsStopOf (moved place
         (runs_faults (header.now.rows * header.now.cols) header.now.valid runs.now)) stop) }
 {
@@ -131,7 +109,9 @@ fn mark_runs(
     let Some(mut mask) = room_for(alloc, (pixels + 7) / 8) else {
         return Err(BodyStop::OutOfMemory);
     };
-    mark_by(runs, place, header, &mut mask, raster)
+    bits_of_runs(runs, place, header, &mut mask)?;
+    mark_by(&mask, header, raster);
+    Ok(())
 }
 
 /// How many pixels are valid in the raster before, where there is one of the header's rows and
@@ -201,51 +181,56 @@ fn read_mask(
 }
 
 /// Gives each valid pixel the one value that the header has.
-fn fill_constant(alloc: Global, header: &Header, raster: &mut Raster) -> Result<(), BodyStop>
-    requires shape { HasHeadShape header.now raster.old }
+fn fill_constant<T: Target>(alloc: Global, header: &Header, raster: &mut T) -> Result<(), BodyStop>
+    requires shape { HasHeadShape header.now (T.pixels raster.old) }
     requires in_range { InRange header.now.kind header.now.least }
-    ensures marks { KeepsMarks raster.old raster.new }
-    ensures ok { OnOk result (EachValid raster.new
+    requires sound { T.sound raster.old }
+    ensures marks { KeepsMarks (T.pixels raster.old) (T.pixels raster.new) }
+    ensures ok { OnOk result (EachValid (T.pixels raster.new)
         (λ values. values ≡ replicate header.now.depth header.now.least)) }
     ensures stop { IfErr result (λ stop. stop ≡ BodyStop.OutOfMemory) }
+    ensures sound { T.sound raster.new }
+    ensures kept { T.kept raster.new ≡ T.kept raster.old }
 {
     let Some(values) = many(alloc, header.least, header.depth as usize) else {
         return Err(BodyStop::OutOfMemory);
     };
-    note_sound(raster);
     raster.fill_valid(&values);
-    note_sound(raster);
     Ok(())
 }
 
 /// Gives each valid pixel the list that these bytes stand for. The values are read into `values`.
-fn fill_read(list: &[u8], header: &Header, values: &mut [i64], raster: &mut Raster)
-    requires shape { HasHeadShape header.now raster.old }
+fn fill_read<T: Target>(list: &[u8], header: &Header, values: &mut [i64], raster: &mut T)
+    requires shape { HasHeadShape header.now (T.pixels raster.old) }
     requires few { header.now.depth ≤ 65536 }
     requires size { length list.now ≡ header.now.depth * bytes_of header.now.kind }
     requires room { length values.old ≡ header.now.depth }
-    ensures marks { KeepsMarks raster.old raster.new }
-    ensures filled { IsFilledWith header.now.kind list.now raster.new }
+    requires sound { T.sound raster.old }
+    ensures marks { KeepsMarks (T.pixels raster.old) (T.pixels raster.new) }
+    ensures filled { IsFilledWith header.now.kind list.now (T.pixels raster.new) }
+    ensures sound { T.sound raster.new }
+    ensures kept { T.kept raster.new ≡ T.kept raster.old }
 {
     read_values(header.kind, list, values);
-    note_sound(raster);
     raster.fill_valid(values);
-    note_sound(raster);
 }
 
 /// Gives each valid pixel the list that these bytes stand for.
-fn fill_list(
+fn fill_list<T: Target>(
     alloc: Global,
     list: &[u8],
     header: &Header,
-    raster: &mut Raster,
+    raster: &mut T,
 ) -> Result<(), BodyStop>
-    requires shape { HasHeadShape header.now raster.old }
+    requires shape { HasHeadShape header.now (T.pixels raster.old) }
     requires few { header.now.depth ≤ 65536 }
     requires size { length list.now ≡ header.now.depth * bytes_of header.now.kind }
-    ensures marks { KeepsMarks raster.old raster.new }
-    ensures ok { OnOk result (IsFilledWith header.now.kind list.now raster.new) }
+    requires sound { T.sound raster.old }
+    ensures marks { KeepsMarks (T.pixels raster.old) (T.pixels raster.new) }
+    ensures ok { OnOk result (IsFilledWith header.now.kind list.now (T.pixels raster.new)) }
     ensures stop { IfErr result (λ stop. stop ≡ BodyStop.OutOfMemory) }
+    ensures sound { T.sound raster.new }
+    ensures kept { T.kept raster.new ≡ T.kept raster.old }
 {
     let Some(mut values) = many(alloc, 0, header.depth as usize) else {
         return Err(BodyStop::OutOfMemory);
@@ -264,20 +249,23 @@ fn sweep_len(header: &Header) -> usize
 }
 
 /// Gives the valid pixels the values of a sweep, which begins at this place of the blob.
-fn pour_sweep(
+fn pour_sweep<T: Target>(
     sweep: &[u8],
     place: usize,
     header: &Header,
-    raster: &mut Raster,
+    raster: &mut T,
 ) -> Result<(), BodyStop>
-    requires shape { HasHeadShape header.now raster.old }
-    requires valid { count_of (marks_of raster.old) ≡ header.now.valid }
+    requires shape { HasHeadShape header.now (T.pixels raster.old) }
+    requires valid { count_of (marks_of (T.pixels raster.old)) ≡ header.now.valid }
     requires values { header.now.valid * header.now.depth ≤ 16777216 }
     requires few { place + length sweep.now < 2 ^ 62 }
-    ensures marks { KeepsMarks raster.old raster.new }
-    ensures ok { OnOk result (IsSwept header.now sweep.now raster.new) }
+    requires sound { T.sound raster.old }
+    ensures marks { KeepsMarks (T.pixels raster.old) (T.pixels raster.new) }
+    ensures ok { OnOk result (IsSwept header.now sweep.now (T.pixels raster.new)) }
     ensures fault { IfErr result (λ stop. IsStopOf
         (moved place (sweep_faults header.now sweep.now)) stop) }
+    ensures sound { T.sound raster.new }
+    ensures kept { T.kept raster.new ≡ T.kept raster.old }
 {
     let need = sweep_len(header);
     if sweep.len() < need {
@@ -286,9 +274,7 @@ fn pour_sweep(
     if sweep.len() > need {
         return stopped(BlobReason::Leftover, place + need);
     }
-    note_sound(raster);
     raster.pour(sweep);
-    note_sound(raster);
     Ok(())
 }
 
@@ -316,21 +302,24 @@ fn read_tops(bytes: &[u8], header: &Header, tops: &mut [i64])
 }
 
 /// The same, with the tops read into `tops`.
-fn pour_topped(
+fn pour_topped<T: Target>(
     blob: &[u8],
     header: &Header,
     mask: &MaskForm,
     place: usize,
     tops: &mut [i64],
-    raster: &mut Raster,
+    raster: &mut T,
 ) -> Result<(), BodyStop>
     requires head { HeadAt blob.now header.now }
     requires size { length blob.now ≡ header.now.size }
     requires mask { IsMaskForm header.now blob.now mask.now }
     requires form { IsImageForm header.now blob.now mask.now (ImageForm.Blocks place) }
     requires filled { tops.old ≡ replicate header.now.depth header.now.greatest }
-    requires shape { HasHeadShape header.now raster.old }
-    ensures { ReadsImage header.now blob.now mask.now raster.old raster.new result }
+    requires shape { HasHeadShape header.now (T.pixels raster.old) }
+    requires sound { T.sound raster.old }
+    ensures read { ReadsImage header.now blob.now mask.now (T.pixels raster.old) (T.pixels raster.new) result }
+    ensures sound { T.sound raster.new }
+    ensures kept { T.kept raster.new ≡ T.kept raster.old }
 {
     let start = place_behind(header, mask);
     read_tops(&blob[start..], header, tops);
@@ -338,20 +327,23 @@ fn pour_topped(
 }
 
 /// Gives the valid pixels the values of blocks, the first of which begins at this place.
-fn read_blocks(
+fn read_blocks<T: Target>(
     alloc: Global,
     blob: &[u8],
     header: &Header,
     mask: &MaskForm,
     place: usize,
-    raster: &mut Raster,
+    raster: &mut T,
 ) -> Result<(), BodyStop>
     requires head { HeadAt blob.now header.now }
     requires size { length blob.now ≡ header.now.size }
     requires mask { IsMaskForm header.now blob.now mask.now }
     requires form { IsImageForm header.now blob.now mask.now (ImageForm.Blocks place) }
-    requires shape { HasHeadShape header.now raster.old }
-    ensures { ReadsImage header.now blob.now mask.now raster.old raster.new result }
+    requires shape { HasHeadShape header.now (T.pixels raster.old) }
+    requires sound { T.sound raster.old }
+    ensures read { ReadsImage header.now blob.now mask.now (T.pixels raster.old) (T.pixels raster.new) result }
+    ensures sound { T.sound raster.new }
+    ensures kept { T.kept raster.new ≡ T.kept raster.old }
 {
     let Some(mut tops) = many(alloc, header.greatest, header.depth as usize) else {
         return Err(BodyStop::OutOfMemory);
@@ -369,21 +361,24 @@ fn value_len(header: &Header) -> usize
 }
 
 /// Gives the valid pixels the values of a code table and differences, which begin at this place.
-fn read_deltas(
+fn read_deltas<T: Target>(
     alloc: Global,
     blob: &[u8],
     header: &Header,
     mask: &MaskForm,
     place: usize,
-    raster: &mut Raster,
+    raster: &mut T,
 ) -> Result<(), BodyStop>
     requires head { HeadAt blob.now header.now }
     requires size { length blob.now ≡ header.now.size }
     requires mask { IsMaskForm header.now blob.now mask.now }
     requires form { IsImageForm header.now blob.now mask.now (ImageForm.Delta place) }
-    requires shape { HasHeadShape header.now raster.old }
-    requires valid { count_of (marks_of raster.old) ≡ header.now.valid }
-    ensures { ReadsImage header.now blob.now mask.now raster.old raster.new result }
+    requires shape { HasHeadShape header.now (T.pixels raster.old) }
+    requires valid { count_of (marks_of (T.pixels raster.old)) ≡ header.now.valid }
+    requires sound { T.sound raster.old }
+    ensures read { ReadsImage header.now blob.now mask.now (T.pixels raster.old) (T.pixels raster.new) result }
+    ensures sound { T.sound raster.new }
+    ensures kept { T.kept raster.new ≡ T.kept raster.old }
 {
     let Some(mut symbols) = room_for(alloc, value_len(header)) else {
         return Err(BodyStop::OutOfMemory);
@@ -392,21 +387,24 @@ fn read_deltas(
 }
 
 /// Gives the valid pixels the values of a code table and words, which begin at this place.
-fn read_plain(
+fn read_plain<T: Target>(
     alloc: Global,
     blob: &[u8],
     header: &Header,
     mask: &MaskForm,
     place: usize,
-    raster: &mut Raster,
+    raster: &mut T,
 ) -> Result<(), BodyStop>
     requires head { HeadAt blob.now header.now }
     requires size { length blob.now ≡ header.now.size }
     requires mask { IsMaskForm header.now blob.now mask.now }
     requires form { IsImageForm header.now blob.now mask.now (ImageForm.Plain place) }
-    requires shape { HasHeadShape header.now raster.old }
-    requires valid { count_of (marks_of raster.old) ≡ header.now.valid }
-    ensures { ReadsImage header.now blob.now mask.now raster.old raster.new result }
+    requires shape { HasHeadShape header.now (T.pixels raster.old) }
+    requires valid { count_of (marks_of (T.pixels raster.old)) ≡ header.now.valid }
+    requires sound { T.sound raster.old }
+    ensures read { ReadsImage header.now blob.now mask.now (T.pixels raster.old) (T.pixels raster.new) result }
+    ensures sound { T.sound raster.new }
+    ensures kept { T.kept raster.new ≡ T.kept raster.old }
 {
     let Some(mut symbols) = room_for(alloc, value_len(header)) else {
         return Err(BodyStop::OutOfMemory);
@@ -415,21 +413,24 @@ fn read_plain(
 }
 
 /// Gives the valid pixels the values that the image says.
-fn read_image(
+fn read_image<T: Target>(
     alloc: Global,
     blob: &[u8],
     header: &Header,
     mask: &MaskForm,
     form: &ImageForm,
-    raster: &mut Raster,
+    raster: &mut T,
 ) -> Result<(), BodyStop>
     requires head { HeadAt blob.now header.now }
     requires size { length blob.now ≡ header.now.size }
     requires mask { IsMaskForm header.now blob.now mask.now }
     requires form { IsImageForm header.now blob.now mask.now form.now }
-    requires shape { HasHeadShape header.now raster.old }
-    requires valid { count_of (marks_of raster.old) ≡ header.now.valid }
-    ensures { ReadsImage header.now blob.now mask.now raster.old raster.new result }
+    requires shape { HasHeadShape header.now (T.pixels raster.old) }
+    requires valid { count_of (marks_of (T.pixels raster.old)) ≡ header.now.valid }
+    requires sound { T.sound raster.old }
+    ensures read { ReadsImage header.now blob.now mask.now (T.pixels raster.old) (T.pixels raster.new) result }
+    ensures sound { T.sound raster.new }
+    ensures kept { T.kept raster.new ≡ T.kept raster.old }
 {
     match *form {
         ImageForm::Empty => Ok(()),
@@ -450,7 +451,11 @@ fn read_image(
 }
 
 /// The form of the mask.
-fn mask_form(blob: &[u8], header: &Header, before: &Option<Before>) -> Result<MaskForm, BodyStop>
+pub(crate) fn mask_form(
+    blob: &[u8],
+    header: &Header,
+    before: &Option<Before>,
+) -> Result<MaskForm, BodyStop>
     requires head { HeadAt blob.now header.now }
     requires size { length blob.now ≡ header.now.size }
     requires sum { HasSum header.now blob.now }
@@ -489,6 +494,38 @@ fn marked(
     }
 }
 
+/// Gives the valid pixels the values that the image says, behind a mask that stands, whatever the
+/// raster before is.
+pub(crate) fn image_of<T: Target>(
+    alloc: Global,
+    blob: &[u8],
+    header: &Header,
+    mask: &MaskForm,
+    raster: &mut T,
+) -> Result<(), BodyStop>
+    requires head { HeadAt blob.now header.now }
+    requires size { length blob.now ≡ header.now.size }
+    requires sum { HasSum header.now blob.now }
+    requires mask { IsMaskForm header.now blob.now mask.now }
+    requires shape { HasHeadShape header.now (T.pixels raster.old) }
+    requires valid { count_of (marks_of (T.pixels raster.old)) ≡ header.now.valid }
+    requires sound { T.sound raster.old }
+    ensures ok { OnOk result ((before : Option Previous) →
+        IsMarkedFor before header.now blob.now mask.now (T.pixels raster.old) →
+        BlobAfter before blob.now (T.pixels raster.new)) }
+    ensures fault { IfErr result (λ stop. (before : Option Previous) →
+        IsMarkedFor before header.now blob.now mask.now (T.pixels raster.old) →
+        IsStopOf (blob_faults before header.now blob.now) stop) }
+    ensures marks { KeepsMarks (T.pixels raster.old) (T.pixels raster.new) }
+    ensures sound { T.sound raster.new }
+    ensures kept { T.kept raster.new ≡ T.kept raster.old }
+{
+    match image_part(blob, header, mask) {
+        Ok(form) => read_image(alloc, blob, header, mask, &form, raster),
+        Err(fault) => Err(BodyStop::Fault(fault)),
+    }
+}
+
 /// The raster with the values that the image says, behind a mask that stands, whatever the raster
 /// before is.
 fn pictured(
@@ -510,15 +547,9 @@ fn pictured(
         IsMarkedFor before header.now blob.now mask.now raster →
         IsStopOf (blob_faults before header.now blob.now) stop) }
 {
-    let form = match image_part(blob, header, mask) {
-        Ok(form) => form,
-        Err(fault) => return Err(BodyStop::Fault(fault)),
-    };
-    match read_image(alloc, blob, header, mask, &form, &mut raster) {
-        Ok(()) => {
-            note_sound(&raster);
-            Ok(raster)
-        }
+    note_sound(&raster);
+    match image_of(alloc, blob, header, mask, &mut raster) {
+        Ok(()) => Ok(raster),
         Err(stop) => Err(stop),
     }
 }
@@ -542,6 +573,27 @@ fn raster_of(
     pictured(alloc, blob, header, &mask, raster)
 }
 
+/// Whether the checksum stands.
+pub(crate) fn test_sum(blob: &[u8], header: &Header) -> Result<(), BodyStop>
+    requires head { HeadAt blob.now header.now }
+    requires size { length blob.now ≡ header.now.size }
+    ensures ok { OnOk result (HasSum header.now blob.now) }
+    ensures fault { IfErr result (λ stop. (before : Option Previous) →
+        IsStopOf (blob_faults before header.now blob.now) stop) }
+{
+    let computed = sum_behind(blob);
+    if header.checksum != computed {
+        return stopped(
+            BlobReason::BadChecksum {
+                stored: header.checksum,
+                computed,
+            },
+            10,
+        );
+    }
+    Ok(())
+}
+
 /// The raster of a blob behind that of the raster before, or what is wrong with the blob first.
 pub(crate) fn body(
     alloc: Global,
@@ -555,15 +607,8 @@ pub(crate) fn body(
     ensures fault { IfErr result (λ stop.
         IsStopOf (blob_faults before.now header.now blob.now) stop) }
 {
-    let computed = sum_behind(blob);
-    if header.checksum != computed {
-        return stopped(
-            BlobReason::BadChecksum {
-                stored: header.checksum,
-                computed,
-            },
-            10,
-        );
+    match test_sum(blob, header) {
+        Ok(()) => raster_of(alloc, blob, header, before),
+        Err(stop) => Err(stop),
     }
-    raster_of(alloc, blob, header, before)
 }

@@ -15,11 +15,11 @@ ghost use Rattle.lerc_decode.specs.inside.Body.{HasHeadShape, IsStopOf, KeepsMar
 ghost use Rattle.lerc_decode.specs.inside.Codes.{HasDeltas, HasPlain, words_faults};
 
 use crate::blocks::reason_of_list;
-use crate::body::{BodyStop, note_sound, stopped};
+use crate::body::{BodyStop, stopped};
 use delta_mode::{undelta, unplain};
 use huff_codes::{CodeFault, CodeReason, Codes, read_symbols, read_table};
 use lerc_header::{BlobReason, Header};
-use raster_values::Raster;
+use raster_target::Target;
 
 /// The reason of a fault of codes.
 fn reason_of_code(reason: CodeReason) -> BlobReason
@@ -76,43 +76,47 @@ fn read_codes(rest: &[u8], place: usize, symbols: &mut [u8]) -> Result<(), BodyS
 }
 
 /// Gives the valid pixels the values that the symbols of the differences say, depth by depth.
-fn take_deltas(symbols: &[u8], header: &Header, raster: &mut Raster)
-    requires shape { HasHeadShape header.now raster.old }
+fn take_deltas<T: Target>(symbols: &[u8], header: &Header, raster: &mut T)
+    requires shape { HasHeadShape header.now (T.pixels raster.old) }
     requires kind { IsByteType header.now.kind }
-    requires valid { count_of (marks_of raster.old) ≡ header.now.valid }
+    requires valid { count_of (marks_of (T.pixels raster.old)) ≡ header.now.valid }
     requires count { length symbols.now ≡ value_count header.now }
-    ensures marks { KeepsMarks raster.old raster.new }
-    ensures taken { AreAllDeltas header.now raster.new symbols.now }
+    requires sound { T.sound raster.old }
+    ensures marks { KeepsMarks (T.pixels raster.old) (T.pixels raster.new) }
+    ensures taken { AreAllDeltas header.now (T.pixels raster.new) symbols.now }
+    ensures sound { T.sound raster.new }
+    ensures kept { T.kept raster.new ≡ T.kept raster.old }
 {
     let valid = header.valid as usize;
     let mut at = 0;
     for d in 0..header.depth {
-        note_sound(raster);
         undelta(&symbols[at..at + valid], raster, d);
-        note_sound(raster);
         at += valid;
     }
 }
 
 /// Gives the valid pixels the values of a table and words of differences, which begin at this
 /// place.
-pub(crate) fn pour_deltas(
+pub(crate) fn pour_deltas<T: Target>(
     rest: &[u8],
     place: usize,
     header: &Header,
     symbols: &mut [u8],
-    raster: &mut Raster,
+    raster: &mut T,
 ) -> Result<(), BodyStop>
-    requires shape { HasHeadShape header.now raster.old }
+    requires shape { HasHeadShape header.now (T.pixels raster.old) }
     requires kind { IsByteType header.now.kind }
-    requires valid { count_of (marks_of raster.old) ≡ header.now.valid }
+    requires valid { count_of (marks_of (T.pixels raster.old)) ≡ header.now.valid }
     requires count { length symbols.old ≡ value_count header.now }
     requires values { value_count header.now ≤ 16777216 }
     requires few { place + length rest.now < 2 ^ 62 }
-    ensures marks { KeepsMarks raster.old raster.new }
-    ensures ok { OnOk result (HasDeltas header.now rest.now raster.new) }
+    requires sound { T.sound raster.old }
+    ensures marks { KeepsMarks (T.pixels raster.old) (T.pixels raster.new) }
+    ensures ok { OnOk result (HasDeltas header.now rest.now (T.pixels raster.new)) }
     ensures fault { IfErr result (λ stop. IsStopOf
         (moved place (codes_faults (value_count header.now) rest.now)) stop) }
+    ensures sound { T.sound raster.new }
+    ensures kept { T.kept raster.new ≡ T.kept raster.old }
 {
     match read_codes(rest, place, symbols) {
         Ok(()) => {
@@ -124,36 +128,40 @@ pub(crate) fn pour_deltas(
 }
 
 /// Gives the valid pixels the values that the symbols say.
-fn take_plain(symbols: &[u8], raster: &mut Raster)
-    requires kind { IsByteType raster.old.kind }
+fn take_plain<T: Target>(symbols: &[u8], raster: &mut T)
+    requires kind { IsByteType (T.pixels raster.old).kind }
     requires count { length symbols.now
-        ≡ count_of (marks_of raster.old) * raster.old.depth }
-    ensures marks { KeepsMarks raster.old raster.new }
-    ensures taken { TakesPlain raster.old raster.new symbols.now }
+        ≡ count_of (marks_of (T.pixels raster.old)) * (T.pixels raster.old).depth }
+    requires sound { T.sound raster.old }
+    ensures marks { KeepsMarks (T.pixels raster.old) (T.pixels raster.new) }
+    ensures taken { TakesPlain (T.pixels raster.old) (T.pixels raster.new) symbols.now }
+    ensures sound { T.sound raster.new }
+    ensures kept { T.kept raster.new ≡ T.kept raster.old }
 {
-    note_sound(raster);
     unplain(symbols, raster);
-    note_sound(raster);
 }
 
 /// Gives the valid pixels the values of a table and words, which begin at this place.
-pub(crate) fn pour_plain(
+pub(crate) fn pour_plain<T: Target>(
     rest: &[u8],
     place: usize,
     header: &Header,
     symbols: &mut [u8],
-    raster: &mut Raster,
+    raster: &mut T,
 ) -> Result<(), BodyStop>
-    requires shape { HasHeadShape header.now raster.old }
+    requires shape { HasHeadShape header.now (T.pixels raster.old) }
     requires kind { IsByteType header.now.kind }
-    requires valid { count_of (marks_of raster.old) ≡ header.now.valid }
+    requires valid { count_of (marks_of (T.pixels raster.old)) ≡ header.now.valid }
     requires count { length symbols.old ≡ value_count header.now }
     requires values { value_count header.now ≤ 16777216 }
     requires few { place + length rest.now < 2 ^ 62 }
-    ensures marks { KeepsMarks raster.old raster.new }
-    ensures ok { OnOk result (HasPlain header.now rest.now raster.new) }
+    requires sound { T.sound raster.old }
+    ensures marks { KeepsMarks (T.pixels raster.old) (T.pixels raster.new) }
+    ensures ok { OnOk result (HasPlain header.now rest.now (T.pixels raster.new)) }
     ensures fault { IfErr result (λ stop. IsStopOf
         (moved place (codes_faults (value_count header.now) rest.now)) stop) }
+    ensures sound { T.sound raster.new }
+    ensures kept { T.kept raster.new ≡ T.kept raster.old }
 {
     match read_codes(rest, place, symbols) {
         Ok(()) => {

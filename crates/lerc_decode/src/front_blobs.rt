@@ -15,7 +15,7 @@ use crate::decoder::Decoder;
 use crate::kept::KeptBlobs;
 use lerc_grammar::{BandReason, BandsFault};
 use lerc_header::{BlobReason, Header};
-use raster_values::{Bands, Raster};
+use raster_values::{Bands, GREATEST_VALUES, Raster};
 use std::alloc::{AllocError, Global};
 use std::marker::Model;
 use std::mem;
@@ -145,7 +145,7 @@ impl FrontBlobs {
             return bad_band(head - 28);
         }
         let values = header.rows as u64 * header.cols as u64 * header.depth as u64;
-        if (count as u64 + 1) * values > 16777216 {
+        if (count as u64 + 1) * values > GREATEST_VALUES {
             return Some(BandsFault {
                 reason: BandReason::Blob(BlobReason::TooLarge),
                 place: head as u64 - 44,

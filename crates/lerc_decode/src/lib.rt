@@ -1,4 +1,9 @@
-//! A decoder that takes a blob in pieces of any size, and one that takes the blobs of a tile.
+//! A decoder that takes a blob in pieces of any size, one that takes the blobs of a tile, and one
+//! that fills a caller's arrays from a whole blob. It stands on `lerc_grammar` and the crates that
+//! read a blob's parts, and fills rasters however they are kept (`raster_target`).
+//!
+//! The contract that the layers above use: the answer is the verdict on the bytes taken, however
+//! they came.
 #![tactic(auto)]
 
 mod bands;
@@ -12,6 +17,8 @@ mod from_source;
 mod front;
 mod front_blobs;
 mod kept;
+mod masks;
+mod over;
 mod turns;
 
 pub use bands::{BandsDecoder, BandsFed, BandsState, BandsStop, decode_bands};
@@ -19,3 +26,4 @@ pub use bands_source::{BandsFromFault, decode_bands_from, keep_bands_from};
 pub use decoder::{DecodeFault, Decoder, Fed, FedState};
 pub use from_source::{Decoded, FromFault, decode_from, decode_sized, feed_from};
 pub use kept::KeptBlobs;
+pub use over::{OverFault, decode_over};

@@ -12,7 +12,8 @@ use Rattle.raster_values.specs.Flat.{marks_of, value_in}
 use Rattle.raster_values.proofs.Spelled.{few_bytes}
 use Rattle.lerc_header.specs.declared.header.Version.{Version}
 use Rattle.lerc_header.specs.declared.header.Version.TheVariants.{V3, V4}
-use Rattle.lerc_header.specs.Head.{HeadAt, head_length, IsTwiceError}
+use Rattle.raster_values.specs.Step.{IsTwiceError}
+use Rattle.lerc_header.specs.Head.{HeadAt, head_length}
 use Rattle.lerc_header.specs.Written.{IsHeader, AreEnds, head_bytes, field_bytes}
 use Rattle.lerc_header.specs.Checksum.{sum_of}
 use Rattle.lerc_header.proofs.WrittenHeads.{length-head, drop-head, head_stands, field-checksum}

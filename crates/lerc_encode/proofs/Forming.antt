@@ -1,7 +1,7 @@
 -- The forms of an image's values, and the choice among them.
-use Rattle.std.proofs.Common.{◌≡◌, ℕ, ◌+◌, ◌-◌, ◌*◌, ◌/◌, ◌<◌, Bool, true, false, List, [], ◌∷◌, ◌++◌, length, refl, sym, ap, ◌∙◌, subst, arith, length-append, ◌⊎◌, inl, inr}
+use Rattle.std.proofs.Common.{◌≡◌, ℕ, ◌+◌, ◌-◌, ◌*◌, ◌/◌, ◌<◌, Bool, true, false, List, [], ◌∷◌, ◌++◌, length, refl, sym, ap, ◌∙◌, subst, arith, length-append}
 use Rattle.std.specs.Prelude.{ℤ, nat_eq, ◌&&◌, if◌then◌else◌, ◌≢◌, set}
-use Rattle.std.proofs.lemmas.Bool.{eqb-true, cases_eq}
+use Rattle.std.proofs.lemmas.Bool.{eqb-true}
 use Rattle.std.proofs.lemmas.Bool.Decides.{nat_tests, Decides-int_eq}
 use Rattle.std.specs.Ordering.{int_eq}
 use Rattle.std.specs.Cmp.Lexicographic.{pointwise}
@@ -19,9 +19,7 @@ use Rattle.raster_values.proofs.Pack.{length-values_bytes}
 use Rattle.lerc_header.specs.declared.header.Header.{Header}
 use Rattle.lerc_header.specs.declared.header.Version.{Version}
 use Rattle.lerc_header.specs.declared.header.Version.TheVariants.{V4}
-use Rattle.lerc_header.specs.Head.{IsTwiceError}
 use Rattle.micro_block.specs.ChosenBlock.{least_value}
-use Rattle.micro_block.specs.Frame.{IsBlockStep}
 use Rattle.raster_values.proofs.Views.{same_bits}
 use Rattle.lerc_encode.specs.Heads.{header_of}
 use Rattle.lerc_encode.specs.Ranges.{greatest_value, leasts, greatests, lists_bytes, has_equal_ranges, is_constant, is_empty}
@@ -32,13 +30,6 @@ use Rattle.lerc_encode.specs.inside.Choosing.{IsBase}
 use Rattle.lerc_encode.proofs.Extremes.{all_least_fits, all_greatest_fits, length_values, length_leasts, length_greatests}
 
 -- ---- the header so far
-
-block_step : (step : ℕ) → IsTwiceError step → IsBlockStep step
-block_step step is = by (cases_eq step 1)
-  where
-    by : (step ≡ 1) ⊎ (step ≢ 1) → IsBlockStep step
-    by (inl e) = inl e
-    by (inr ne) = let even = is.even ne in let above = is.above in inr (even, (omega (arith, even, above, ne), is.below))
 
 pub base_blocked : (h : Header) (r : Pixels) → IsBase h r → IsBlocked h r
 unfolding header_of
@@ -52,7 +43,7 @@ base_blocked h r b =
       depth = ap (λ (x : Header). x.depth) is;
       side_above = let e : h.side ≡ 8 = ap (λ (x : Header). x.side) is in omega (arith, e);
       side_below = let e : h.side ≡ 8 = ap (λ (x : Header). x.side) is in omega (arith, e);
-      step = block_step h.step b.step;
+      step = b.step;
     }
 
 pub large_blocked : (h g : Header) (r : Pixels) → IsBase h r → g ≡ record h { side = 16 } → IsBlocked g r

@@ -21,7 +21,7 @@ use Rattle.micro_block.specs.Block.{IsBlock}
 use Rattle.micro_block.specs.Near.{IsNear}
 use Rattle.micro_block.proofs.Written.{written_stands, kept_near, kept_between, least_in_range}
 use Rattle.lerc_grammar.specs.Image.{Ends, top_of}
-use Rattle.lerc_grammar.specs.Blocks.{blocks_across, block_depth, block_row, block_col, block_places, block_frame, valid_in_block, coded_values}
+use Rattle.lerc_grammar.specs.Blocks.{blocks_across, block_depth, block_row, block_col, pixels_in_block, block_frame, count_in_block, coded_values}
 use Rattle.lerc_encode.specs.inside.Suits.{Suits, IsBeside}
 use Rattle.lerc_encode.proofs.Members.{Has, has_filter, has_flat_map, has_map, has_range, in_flat_map, in_map, in_filter, in_range, at_index, index_of, map_same}
 use Rattle.lerc_encode.proofs.Extremes.{all_of, is_valid}
@@ -34,9 +34,9 @@ number_at h row col d = (row / h.side * blocks_across h + col / h.side) * h.dept
 
 -- the numbers of the valid pixels of a coded block
 abbrev pub valid_places_in : Header → List Bool → ℕ → List ℕ
-valid_places_in h marks k = filter (λ place. get_or marks place false) (block_places h k)
+valid_places_in h marks k = filter (λ place. get_or marks place false) (pixels_in_block h k)
 
-pub in_block : (h : Header) (row col d : ℕ) → 0 < h.side → row < h.rows → col < h.cols → d < h.depth → Has (row * h.cols + col) (block_places h (number_at h row col d))
+pub in_block : (h : Header) (row col d : ℕ) → 0 < h.side → row < h.rows → col < h.cols → d < h.depth → Has (row * h.cols + col) (pixels_in_block h (number_at h row col d))
 in_block h row col d side r c below =
     let across : col / h.side < blocks_across h = omega (arith, le-div (col / h.side + 1) (h.cols + h.side - 1) h.side side (let m = div-add-mod' col h.side in omega (arith, c, side, m, mul-one (col / h.side) h.side))) in
     let k = number_at h row col d in
@@ -72,7 +72,7 @@ pub record IsPlaceOf (h : Header) (k p : ℕ) : Type 0 where
   pub within : p < h.rows * h.cols
   pub number : number_at h (p / h.cols) (p % h.cols) (block_depth h k) ≡ k
 
-pub place_of : (h : Header) (k p : ℕ) → 0 < h.side → Has p (block_places h k) → IsPlaceOf h k p
+pub place_of : (h : Header) (k p : ℕ) → 0 < h.side → Has p (pixels_in_block h k) → IsPlaceOf h k p
 place_of h k p side m =
     let rows = in_flat_map (λ (row : ℕ). map (λ (col : ℕ). row * h.cols + col) (range_with_len (block_col h k) (min h.side (h.cols - block_col h k)))) p (range_with_len (block_row h k) (min h.side (h.rows - block_row h k))) m in
     let row = rows.0 in
@@ -125,11 +125,11 @@ length_flat f w (x ∷ xs) h =
     let t : suc (length xs) * w ≡ w + length xs * w = omega arith in
     omega (arith, one, more, joined, t)
 
-few_places : (h : Header) (k : ℕ) → h.side ≤ 16 → length (block_places h k) ≤ 256
+few_places : (h : Header) (k : ℕ) → h.side ≤ 16 → length (pixels_in_block h k) ≤ 256
 few_places h k side =
     let wide = min h.side (h.cols - block_col h k) in
     let high = min h.side (h.rows - block_row h k) in
-    let size : length (block_places h k) ≡ length (range_with_len (block_row h k) high) * wide = length_flat (λ (row : ℕ). map (λ (col : ℕ). row * h.cols + col) (range_with_len (block_col h k) wide)) wide (range_with_len (block_row h k) high)
+    let size : length (pixels_in_block h k) ≡ length (range_with_len (block_row h k) high) * wide = length_flat (λ (row : ℕ). map (λ (col : ℕ). row * h.cols + col) (range_with_len (block_col h k) wide)) wide (range_with_len (block_row h k) high)
     (λ row. length-map (range_with_len (block_col h k) wide) (λ (col : ℕ). row * h.cols + col) ∙ length-range_with_len (block_col h k) wide) in
     let rows : length (range_with_len (block_row h k) high) ≡ high = length-range_with_len (block_row h k) high in
     let w : wide ≤ 16 = omega (arith, side) in
@@ -150,7 +150,7 @@ pub record IsValidOf (h : Header) (r : Pixels) (k p : ℕ) : Type 0 where
 
 valid_of : (h : Header) (front : Option Ends) (r : Pixels) → Suits h front r → (k p : ℕ) → Has p (valid_places_in h (marks_of r) k) → IsValidOf h r k p
 valid_of h front r s k p m =
-    let f = in_filter (λ (q : ℕ). get_or (marks_of r) q false) p (block_places h k) m in
+    let f = in_filter (λ (q : ℕ). get_or (marks_of r) q false) p (pixels_in_block h k) m in
     let at = place_of h k p s.side f.1 in
     record { there = subst (λ n. p < n) (sym (s.sound.places ∙ (λ i. sym s.rows_is i * sym s.cols_is i))) at.within; valid = f.0; number = at.number }
 
@@ -176,10 +176,10 @@ member_of h front r s k v m =
     (at.0, (valid_of h front r s k at.0 at.1.0, at.1.1))
 
 pub writable : (h : Header) (front : Option Ends) (r : Pixels) → Suits h front r → (k : ℕ) → AreWritable (block_frame h (marks_of r) (top_of h front) k) (coded_values h r k)
-unfolding block_frame valid_in_block
+unfolding block_frame count_in_block
 writable h front r s k =
     let long : length (coded_values h r k) ≡ length (valid_places_in h (marks_of r) k) = ap length (values_are h front r s k) ∙ length-map (valid_places_in h (marks_of r) k) (value_in r (block_depth h k)) in
-    let few = filter_few (λ (q : ℕ). get_or (marks_of r) q false) (block_places h k) in
+    let few = filter_few (λ (q : ℕ). get_or (marks_of r) q false) (pixels_in_block h k) in
     let few_too = few_places h k s.side_below in
     let d_low = depth_below h front r s k in
     record {
@@ -236,8 +236,8 @@ value_in_block h front r s p d there valid low =
     let k = number_at h (p / h.cols) (p % h.cols) d in
     let low_too : d < h.depth = subst (λ n. d < n) (sym s.depth_is) low in
     let depth : block_depth h k ≡ d = mod-mul-add (p / h.cols / h.side * blocks_across h + p % h.cols / h.side) h.depth d low_too in
-    let place : Has p (block_places h k) = subst (λ n. Has n (block_places h k)) at (in_block h (p / h.cols) (p % h.cols) d s.side row col low_too) in
-    let among : Has p (valid_places_in h (marks_of r) k) = has_filter (λ (q : ℕ). get_or (marks_of r) q false) p (block_places h k) valid place in
+    let place : Has p (pixels_in_block h k) = subst (λ n. Has n (pixels_in_block h k)) at (in_block h (p / h.cols) (p % h.cols) d s.side row col low_too) in
+    let among : Has p (valid_places_in h (marks_of r) k) = has_filter (λ (q : ℕ). get_or (marks_of r) q false) p (pixels_in_block h k) valid place in
     subst (λ (vs : List ℤ). Has (value_in r d p) vs) (sym (values_are h front r s k))
     (subst (λ e. Has (value_in r e p) (map (value_in r (block_depth h k)) (valid_places_in h (marks_of r) k))) depth (has_map (value_in r (block_depth h k)) p (valid_places_in h (marks_of r) k) among))
 

@@ -22,6 +22,7 @@ mod Asked
 mod Own
 mod Laying
 mod Plans
+pub mod AlikeBlobs
 mod Small
 mod Joining
 mod BandsSmall

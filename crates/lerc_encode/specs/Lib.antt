@@ -5,6 +5,7 @@ pub mod Heads
 pub mod Codings
 pub mod Images
 pub mod Choice
+pub mod AllAlike
 pub mod Encoded
 pub mod Sizes
 pub mod Laws

@@ -19,6 +19,7 @@ use crate::ranging::{Ranges, ranges_of, whole_range};
 use lerc_header::{Header, Step, Version, needs_v4, sum_behind, write_header};
 use outside_io::Bytes;
 use raster_values::Raster;
+use raster_view::View;
 use std::alloc::{AllocError, Global};
 use thiserror::Error;
 
@@ -58,10 +59,10 @@ pub(crate) struct Plan {
 }
 
 /// The header as far as it is known before the blob is laid out.
-fn base_header(raster: &Raster, version: Version, step: u64, found: &Ranges) -> Header
-    requires asked { IsAsked raster.now version step }
-    requires ranges { AreRanges raster.now found.now }
-    ensures base { IsBase result raster.now }
+fn base_header<V: View>(raster: &V, version: Version, step: u64, found: &Ranges) -> Header
+    requires asked { IsAsked (V.pixels raster.now) version step }
+    requires ranges { AreRanges (V.pixels raster.now) found.now }
+    ensures base { IsBase result (V.pixels raster.now) }
     ensures version { result.version ≡ version }
     ensures step { result.step ≡ step }
 {
@@ -83,17 +84,17 @@ fn base_header(raster: &Raster, version: Version, step: u64, found: &Ranges) -> 
 }
 
 /// What is known of the blob of a raster, whose mask is taken from the raster before or is not.
-pub(crate) fn plan_of(
+pub(crate) fn plan_of<V: View>(
     alloc: Global,
-    raster: &Raster,
+    raster: &V,
     taken: bool,
     version: Version,
     step: u64,
 ) -> Result<Plan, AllocError>
-    requires { IsAsked raster.now version step }
-    ensures plan { IfOk result (λ p. IsPlan raster.now version step p) }
+    requires { IsAsked (V.pixels raster.now) version step }
+    ensures plan { IfOk result (λ p. IsPlan (V.pixels raster.now) version step p) }
     ensures runs { IfOk result (λ p.
-        planned_runs p ≡ runs_unless taken (marks_of raster.now)) }
+        planned_runs p ≡ runs_unless taken (marks_of (V.pixels raster.now))) }
 {
     let ranges = ranges_of(alloc, raster)?;
     let mask = mask_of(alloc, raster, taken)?;
@@ -110,28 +111,28 @@ pub(crate) fn plan_of(
 }
 
 /// How many bytes stand behind the head.
-fn behind_len(plan: &Plan, raster: &Raster) -> usize
-    requires { IsPlanOf raster.now plan.now }
-    ensures value { result ≡ length (planned_behind plan.now raster.now) }
+fn behind_len<V: View>(plan: &Plan, raster: &V) -> usize
+    requires { IsPlanOf (V.pixels raster.now) plan.now }
+    ensures value { result ≡ length (planned_behind plan.now (V.pixels raster.now)) }
     ensures few { result ≤ 73924615 }
 {
     4 + plan.runs + image_len(&plan.ending, &plan.base, raster)
 }
 
 /// How many bytes the blob has.
-pub(crate) fn blob_len(plan: &Plan, raster: &Raster) -> usize
-    requires { IsPlanOf raster.now plan.now }
-    ensures value { result ≡ length (planned_blob plan.now raster.now) }
+pub(crate) fn blob_len<V: View>(plan: &Plan, raster: &V) -> usize
+    requires { IsPlanOf (V.pixels raster.now) plan.now }
+    ensures value { result ≡ length (planned_blob plan.now (V.pixels raster.now)) }
     ensures few { result ≤ 73924681 }
 {
     plan.base.version.head_length() + behind_len(plan, raster)
 }
 
 /// Writes what stands behind the head over all of `out`.
-fn write_behind(plan: &Plan, raster: &Raster, out: &mut [u8])
-    requires plan { IsPlanOf raster.now plan.now }
-    requires room { length out.old ≡ length (planned_behind plan.now raster.now) }
-    ensures { out.new ≡ planned_behind plan.now raster.now }
+fn write_behind<V: View>(plan: &Plan, raster: &V, out: &mut [u8])
+    requires plan { IsPlanOf (V.pixels raster.now) plan.now }
+    requires room { length out.old ≡ length (planned_behind plan.now (V.pixels raster.now)) }
+    ensures { out.new ≡ planned_behind plan.now (V.pixels raster.now) }
 {
     let front = (4 + plan.runs).min(out.len());
     write_mask(&plan.mask, plan.runs, &mut out[..front]);
@@ -145,11 +146,11 @@ fn write_behind(plan: &Plan, raster: &Raster, out: &mut [u8])
 }
 
 /// The header of the blob, with the checksum 0.
-fn header_of(plan: &Plan, raster: &Raster, size: usize) -> Header
-    requires plan { IsPlanOf raster.now plan.now }
-    requires size { size ≡ length (planned_blob plan.now raster.now) }
+fn header_of<V: View>(plan: &Plan, raster: &V, size: usize) -> Header
+    requires plan { IsPlanOf (V.pixels raster.now) plan.now }
+    requires size { size ≡ length (planned_blob plan.now (V.pixels raster.now)) }
     requires few { size < 2 ^ 32 }
-    ensures { result ≡ header_with (planned_runs plan.now) raster.now plan.now.base.version plan.now.base.step 0 }
+    ensures { result ≡ header_with (planned_runs plan.now) (V.pixels raster.now) plan.now.base.version plan.now.base.step 0 }
 {
     Header {
         side: side_of(&plan.ending, &plan.base, raster),
@@ -180,7 +181,7 @@ fn with_sum(header: &Header, sum: u32) -> Header
 }
 
 /// Lays the header with its checksum over the front of a blob.
-fn seal(header: &Header, blob: &mut [u8])
+pub(crate) fn seal(header: &Header, blob: &mut [u8])
     requires header { IsHeader header.now }
     requires room { head_length header.now.version ≤ length blob.old }
     ensures { IsSealed header.now (drop (head_length header.now.version) blob.old) blob.new }
@@ -191,11 +192,11 @@ fn seal(header: &Header, blob: &mut [u8])
 }
 
 /// Writes the blob over all of `blob`, whose length is its size.
-fn fill(plan: &Plan, raster: &Raster, blob: &mut [u8])
-    requires asked { IsAsked raster.now plan.now.base.version plan.now.base.step }
-    requires plan { IsPlanOf raster.now plan.now }
-    requires room { length blob.old ≡ length (planned_blob plan.now raster.now) }
-    ensures { blob.new ≡ planned_blob plan.now raster.now }
+fn fill<V: View>(plan: &Plan, raster: &V, blob: &mut [u8])
+    requires asked { IsAsked (V.pixels raster.now) plan.now.base.version plan.now.base.step }
+    requires plan { IsPlanOf (V.pixels raster.now) plan.now }
+    requires room { length blob.old ≡ length (planned_blob plan.now (V.pixels raster.now)) }
+    ensures { blob.new ≡ planned_blob plan.now (V.pixels raster.now) }
 {
     let size = blob.len();
     let head = plan.base.version.head_length().min(size);
@@ -204,12 +205,12 @@ fn fill(plan: &Plan, raster: &Raster, blob: &mut [u8])
 }
 
 /// Lays the blob over the front of `out`, and answers how many bytes it has.
-pub(crate) fn lay(plan: &Plan, raster: &Raster, out: &mut [u8]) -> usize
-    requires asked { IsAsked raster.now plan.now.base.version plan.now.base.step }
-    requires plan { IsPlanOf raster.now plan.now }
-    requires room { length (planned_blob plan.now raster.now) ≤ length out.old }
-    ensures size { result ≡ length (planned_blob plan.now raster.now) }
-    ensures laid { out.new ≡ planned_blob plan.now raster.now ++ drop result out.old }
+pub(crate) fn lay<V: View>(plan: &Plan, raster: &V, out: &mut [u8]) -> usize
+    requires asked { IsAsked (V.pixels raster.now) plan.now.base.version plan.now.base.step }
+    requires plan { IsPlanOf (V.pixels raster.now) plan.now }
+    requires room { length (planned_blob plan.now (V.pixels raster.now)) ≤ length out.old }
+    ensures size { result ≡ length (planned_blob plan.now (V.pixels raster.now)) }
+    ensures laid { out.new ≡ planned_blob plan.now (V.pixels raster.now) ++ drop result out.old }
 {
     let size = blob_len(plan, raster);
     fill(plan, raster, &mut out[..size]);
@@ -217,14 +218,14 @@ pub(crate) fn lay(plan: &Plan, raster: &Raster, out: &mut [u8]) -> usize
 }
 
 /// The bytes of the chosen blob.
-pub(crate) fn blob_of(
+pub(crate) fn blob_of<V: View>(
     alloc: Global,
-    raster: &Raster,
+    raster: &V,
     version: Version,
     step: u64,
 ) -> Result<Vec<u8>, AllocError>
-    requires { IsAsked raster.now version step }
-    ensures { IfOk result (λ blob. blob.items ≡ chosen_blob raster.now version step) }
+    requires { IsAsked (V.pixels raster.now) version step }
+    ensures { IfOk result (λ blob. blob.items ≡ chosen_blob (V.pixels raster.now) version step) }
 {
     let plan = plan_of(alloc, raster, false, version, step)?;
     let size = blob_len(&plan, raster);
@@ -233,11 +234,33 @@ pub(crate) fn blob_of(
     Ok(blob)
 }
 
-/// The blob of a raster, in this version and with this step between values that it can tell.
+/// The blob of a raster, however it is kept, in this version and with this step between values that
+/// it can tell.
 ///
 /// Of the forms that an image may have it is the one with the fewest bytes, of several the first; a
 /// block likewise. It is a blob of exactly one raster, whose values are within half a step of the
 /// given ones, and are these at step 1. It has at most 2^27 bytes.
+pub fn encode_view<V: View>(
+    alloc: Global,
+    raster: &V,
+    version: Version,
+    step: Step,
+) -> Result<Bytes, EncodeFault>
+    ensures depth { IsErrOf result EncodeFault.DepthNeedsV4
+        ↔ ((version ≡ V3) × (1 < (V.pixels raster.now).depth)) }
+    ensures chosen { IfOk result (λ blob. blob ≡ chosen_blob (V.pixels raster.now) version step) }
+    ensures few { IfOk result (λ blob. length blob ≤ 134217728) }
+    ensures decodes { IfOk result (λ blob. IsEncodedOnce blob (V.pixels raster.now) step) }
+    ensures declares { IfOk result (λ blob. Declares blob version step) }
+{
+    if needs_v4(version, raster.depth()) {
+        return Err(EncodeFault::DepthNeedsV4);
+    }
+    let blob = blob_of(alloc, raster, version, step.get())?;
+    Ok(Bytes::from_vec(blob))
+}
+
+/// The blob of a raster that keeps its values itself: the same.
 pub fn encode(
     alloc: Global,
     raster: &Raster,
@@ -251,11 +274,7 @@ pub fn encode(
     ensures decodes { IfOk result (λ blob. IsEncodedOnce blob raster.now step) }
     ensures declares { IfOk result (λ blob. Declares blob version step) }
 {
-    if needs_v4(version, raster.depth()) {
-        return Err(EncodeFault::DepthNeedsV4);
-    }
-    let blob = blob_of(alloc, raster, version, step.get())?;
-    Ok(Bytes::from_vec(blob))
+    encode_view(alloc, raster, version, step)
 }
 
 /// Why the blob of a raster was not laid over a buffer.
@@ -279,8 +298,40 @@ impl From<AllocError> for LayFault {
     }
 }
 
-/// Lays the blob of a raster, which is that of `encode`, over the front of `out`, and answers how
+/// Lays the blob of a raster, which is that of `encode_view`, over the front of `out`, and answers how
 /// many bytes it has. What stands behind it stays, and all of `out` where there is a fault.
+pub fn encode_view_over<V: View>(
+    alloc: Global,
+    raster: &V,
+    version: Version,
+    step: Step,
+    out: &mut [u8],
+) -> Result<usize, LayFault>
+    ensures depth { IsErrOf result LayFault.DepthNeedsV4
+        ↔ ((version ≡ V3) × (1 < (V.pixels raster.now).depth)) }
+    ensures room { (n : ℕ) → IsErrOf result (LayFault.NoRoom n)
+        → (n ≡ length (chosen_blob (V.pixels raster.now) version step)) × ((length out.old < n)
+        × IsEncodedOnce (chosen_blob (V.pixels raster.now) version step) (V.pixels raster.now) step) }
+    ensures few { IfOk result (λ n. n ≤ 134217728) }
+    ensures kept { OnErr result (out.new ≡ out.old) }
+    ensures size { IfOk result (λ n. n ≡ length (chosen_blob (V.pixels raster.now) version step)) }
+    ensures laid { IfOk result (λ n. out.new ≡ chosen_blob (V.pixels raster.now) version step ++ drop n out.old) }
+    ensures decodes { OnOk result (IsEncodedOnce (chosen_blob (V.pixels raster.now) version step) (V.pixels raster.now) step) }
+    ensures declares { OnOk result (Declares (chosen_blob (V.pixels raster.now) version step) version step) }
+{
+    if needs_v4(version, raster.depth()) {
+        return Err(LayFault::DepthNeedsV4);
+    }
+    let plan = plan_of(alloc, raster, false, version, step.get())?;
+    let size = blob_len(&plan, raster);
+    if size > out.len() {
+        return Err(LayFault::NoRoom(size));
+    }
+    fill(&plan, raster, &mut out[..size]);
+    Ok(size)
+}
+
+/// Lays the blob of a raster that keeps its values itself: the same.
 pub fn encode_over(
     alloc: Global,
     raster: &Raster,
@@ -300,14 +351,5 @@ pub fn encode_over(
     ensures decodes { OnOk result (IsEncodedOnce (chosen_blob raster.now version step) raster.now step) }
     ensures declares { OnOk result (Declares (chosen_blob raster.now version step) version step) }
 {
-    if needs_v4(version, raster.depth()) {
-        return Err(LayFault::DepthNeedsV4);
-    }
-    let plan = plan_of(alloc, raster, false, version, step.get())?;
-    let size = blob_len(&plan, raster);
-    if size > out.len() {
-        return Err(LayFault::NoRoom(size));
-    }
-    fill(&plan, raster, &mut out[..size]);
-    Ok(size)
+    encode_view_over(alloc, raster, version, step, out)
 }

@@ -10,7 +10,7 @@ ghost use Rattle.lerc_encode.specs.inside.Blocked.{AreFlags, HasTableAt, IsBlock
 
 use lerc_header::Header;
 use micro_block::{BlockCtx, BlockSize, block_size, write_distances};
-use raster_values::Raster;
+use raster_view::View;
 use std::alloc::{AllocError, Global};
 
 /// The most values that a block may have.
@@ -41,8 +41,8 @@ pub(crate) struct Measured {
 }
 
 /// How many blocks stand side by side.
-fn across(h: &Header, raster: &Raster) -> usize
-    requires { IsBlocked h.now raster.now }
+fn across<V: View>(h: &Header, raster: &V) -> usize
+    requires { IsBlocked h.now (V.pixels raster.now) }
     ensures value { result ≡ blocks_across h.now }
     ensures within { result ≤ h.now.cols }
     ensures some { 0 < result }
@@ -52,8 +52,8 @@ fn across(h: &Header, raster: &Raster) -> usize
 }
 
 /// How many blocks are coded.
-fn count(h: &Header, raster: &Raster) -> usize
-    requires { IsBlocked h.now raster.now }
+fn count<V: View>(h: &Header, raster: &V) -> usize
+    requires { IsBlocked h.now (V.pixels raster.now) }
     ensures value { result ≡ coded_blocks h.now }
     ensures few { result ≤ 16777216 }
 {
@@ -63,8 +63,8 @@ fn count(h: &Header, raster: &Raster) -> usize
 
 /// Where the block behind this one stands: at the next depth, else to the right, else at the left
 /// end of the next row of blocks.
-fn next_spot(h: &Header, raster: &Raster, spot: Spot) -> Spot
-    requires blocked { IsBlocked h.now raster.now }
+fn next_spot<V: View>(h: &Header, raster: &V, spot: Spot) -> Spot
+    requires blocked { IsBlocked h.now (V.pixels raster.now) }
     requires within { IsWithin h.now spot }
     ensures { (k : ℕ) → IsSpot h.now k spot → IsSpot h.now (k + 1) result }
 {
@@ -88,8 +88,8 @@ fn next_spot(h: &Header, raster: &Raster, spot: Spot) -> Spot
 }
 
 /// What a block depends on besides its values. Its bytes do not depend on the top.
-fn context(h: &Header, raster: &Raster, col: u32) -> BlockCtx
-    requires { IsBlocked h.now raster.now }
+fn context<V: View>(h: &Header, raster: &V, col: u32) -> BlockCtx
+    requires { IsBlocked h.now (V.pixels raster.now) }
     ensures value { result ≡ record {
       kind = h.now.kind;
       col = col;
@@ -108,48 +108,48 @@ fn context(h: &Header, raster: &Raster, col: u32) -> BlockCtx
 
 /// Puts the values of the block at a spot in front of `distances`, as how far each is above the
 /// least of its type, and answers how many these are.
-fn gather(h: &Header, raster: &Raster, spot: Spot, distances: &mut [u32]) -> usize
-    requires blocked { IsBlocked h.now raster.now }
+fn gather<V: View>(h: &Header, raster: &V, spot: Spot, distances: &mut [u32]) -> usize
+    requires blocked { IsBlocked h.now (V.pixels raster.now) }
     requires within { IsWithin h.now spot }
     requires room { length distances.old ≡ 256 }
     ensures few { result ≤ 256 }
     ensures fit { All (IsDistance h.now.kind) (take result distances.new) }
     ensures are { map (value_above h.now.kind) (take result distances.new)
-        ≡ values_at h.now raster.now spot }
+        ≡ values_at h.now (V.pixels raster.now) spot }
 {
     raster.gather_distances(spot.row, spot.col, h.side, spot.d, distances)
 }
 
 /// How long the block at a spot is, and whether it has a table. `distances` is room for its values.
-fn size_at(h: &Header, raster: &Raster, spot: Spot, distances: &mut [u32]) -> BlockSize
-    requires blocked { IsBlocked h.now raster.now }
+fn size_at<V: View>(h: &Header, raster: &V, spot: Spot, distances: &mut [u32]) -> BlockSize
+    requires blocked { IsBlocked h.now (V.pixels raster.now) }
     requires within { IsWithin h.now spot }
     requires room { length distances.old ≡ 256 }
-    ensures length { result.len ≡ length (bytes_at h.now raster.now spot) }
+    ensures length { result.len ≡ length (bytes_at h.now (V.pixels raster.now) spot) }
     ensures few { result.len ≤ 1025 }
-    ensures table { IsTrue result.has_table ↔ HasTableAt h.now raster.now spot }
+    ensures table { IsTrue result.has_table ↔ HasTableAt h.now (V.pixels raster.now) spot }
 {
     let n = gather(h, raster, spot, distances);
     block_size(&distances[..n], &context(h, raster, spot.col))
 }
 
 /// Writes the block at a spot over the front of `out`, and answers how many bytes it takes.
-fn write_at(
+fn write_at<V: View>(
     h: &Header,
-    raster: &Raster,
+    raster: &V,
     spot: Spot,
     has_table: bool,
     distances: &mut [u32],
     out: &mut [u8],
 ) -> usize
-    requires blocked { IsBlocked h.now raster.now }
+    requires blocked { IsBlocked h.now (V.pixels raster.now) }
     requires within { IsWithin h.now spot }
     requires room { length distances.old ≡ 256 }
-    requires table { IsTrue has_table ↔ HasTableAt h.now raster.now spot }
-    requires fits { length (bytes_at h.now raster.now spot) ≤ length out.old }
-    ensures count { result ≡ length (bytes_at h.now raster.now spot) }
-    ensures bytes { out.new ≡ bytes_at h.now raster.now spot
-        ++ drop (length (bytes_at h.now raster.now spot)) out.old }
+    requires table { IsTrue has_table ↔ HasTableAt h.now (V.pixels raster.now) spot }
+    requires fits { length (bytes_at h.now (V.pixels raster.now) spot) ≤ length out.old }
+    ensures count { result ≡ length (bytes_at h.now (V.pixels raster.now) spot) }
+    ensures bytes { out.new ≡ bytes_at h.now (V.pixels raster.now) spot
+        ++ drop (length (bytes_at h.now (V.pixels raster.now) spot)) out.old }
 {
     let n = gather(h, raster, spot, distances);
     let ctx = context(h, raster, spot.col);
@@ -158,15 +158,15 @@ fn write_at(
 
 /// What is known of all blocks. None where they take more than `most` bytes, for then they are not
 /// looked at to the end.
-pub(crate) fn measure(
+pub(crate) fn measure<V: View>(
     alloc: Global,
     h: &Header,
-    raster: &Raster,
+    raster: &V,
     most: usize,
 ) -> Result<Option<Measured>, AllocError>
-    requires { IsBlocked h.now raster.now }
+    requires { IsBlocked h.now (V.pixels raster.now) }
     ensures { IfOk result (λ found. MatchOption found
-        (most < length (blocks_bytes h.now raster.now)) (IsMeasured h.now raster.now)) }
+        (most < length (blocks_bytes h.now (V.pixels raster.now))) (IsMeasured h.now (V.pixels raster.now))) }
 {
     let count = count(h, raster);
     let mut tables = vec![in alloc; false; count]?;
@@ -186,11 +186,11 @@ pub(crate) fn measure(
 }
 
 /// Writes all blocks into `out`, which has as many bytes as they take.
-pub(crate) fn write_blocks(h: &Header, raster: &Raster, tables: &[bool], out: &mut [u8])
-    requires blocked { IsBlocked h.now raster.now }
-    requires tables { AreFlags h.now raster.now (coded_blocks h.now) tables.now }
-    requires room { length out.old ≡ length (blocks_bytes h.now raster.now) }
-    ensures { out.new ≡ blocks_bytes h.now raster.now }
+pub(crate) fn write_blocks<V: View>(h: &Header, raster: &V, tables: &[bool], out: &mut [u8])
+    requires blocked { IsBlocked h.now (V.pixels raster.now) }
+    requires tables { AreFlags h.now (V.pixels raster.now) (coded_blocks h.now) tables.now }
+    requires room { length out.old ≡ length (blocks_bytes h.now (V.pixels raster.now)) }
+    ensures { out.new ≡ blocks_bytes h.now (V.pixels raster.now) }
 {
     let mut distances = [0; MOST];
     let mut spot = FIRST;

@@ -12,7 +12,7 @@ use crate::forms::{ValueForm, block_form_len, sweep_len, with_large};
 use crate::ranging::Ranges;
 use lerc_header::{Header, Version};
 use micro_block::first_least;
-use raster_values::Raster;
+use raster_view::View;
 use std::alloc::{AllocError, Global};
 
 /// The form that is chosen for an image's values, and the number of its bytes; and what is known of
@@ -73,9 +73,9 @@ fn most_of_large(most: usize, small: &Option<Measured>) -> usize
 
 /// The form with the fewest bytes, of several the first. Blocks are measured no further than up to
 /// the size of another form.
-fn choose(alloc: Global, base: &Header, raster: &Raster) -> Result<Chosen, AllocError>
-    requires { IsBase base.now raster.now }
-    ensures { IfOk result (IsChosen raster.now base.now.version base.now.step) }
+fn choose<V: View>(alloc: Global, base: &Header, raster: &V) -> Result<Chosen, AllocError>
+    requires { IsBase base.now (V.pixels raster.now) }
+    ensures { IfOk result (IsChosen (V.pixels raster.now) base.now.version base.now.step) }
 {
     let codings = codings_of(alloc, raster, base.version, base.step)?;
     let sweep = sweep_len(raster);
@@ -103,25 +103,25 @@ fn choose(alloc: Global, base: &Header, raster: &Raster) -> Result<Chosen, Alloc
 }
 
 /// Whether no pixel is valid.
-fn is_empty(base: &Header, raster: &Raster) -> bool
-    requires { IsBase base.now raster.now }
-    ensures { result ≡ ranges.is_empty raster.now }
+fn is_empty<V: View>(base: &Header, raster: &V) -> bool
+    requires { IsBase base.now (V.pixels raster.now) }
+    ensures { result ≡ ranges.is_empty (V.pixels raster.now) }
 {
     base.valid == 0
 }
 
 /// Whether all values are one.
-fn is_constant(base: &Header, raster: &Raster) -> bool
-    requires { IsBase base.now raster.now }
-    ensures { result ≡ ranges.is_constant raster.now }
+fn is_constant<V: View>(base: &Header, raster: &V) -> bool
+    requires { IsBase base.now (V.pixels raster.now) }
+    ensures { result ≡ ranges.is_constant (V.pixels raster.now) }
 {
     base.least == base.greatest
 }
 
 /// Whether each depth has one value.
-fn has_equal_ranges(found: &Ranges, raster: &Raster) -> bool
-    requires { AreRanges raster.now found.now }
-    ensures { result ≡ ranges.has_equal_ranges raster.now }
+fn has_equal_ranges<V: View>(found: &Ranges, raster: &V) -> bool
+    requires { AreRanges (V.pixels raster.now) found.now }
+    ensures { result ≡ ranges.has_equal_ranges (V.pixels raster.now) }
 {
     // for the proof: `depth` ensures that the raster is a lawful one
     let _depth = raster.depth();
@@ -130,9 +130,9 @@ fn has_equal_ranges(found: &Ranges, raster: &Raster) -> bool
 }
 
 /// Whether the image ends behind the lists.
-fn ends_behind_lists(version: Version, found: &Ranges, raster: &Raster) -> bool
-    requires { AreRanges raster.now found.now }
-    ensures { result ≡ (is_v4 version && ranges.has_equal_ranges raster.now) }
+fn ends_behind_lists<V: View>(version: Version, found: &Ranges, raster: &V) -> bool
+    requires { AreRanges (V.pixels raster.now) found.now }
+    ensures { result ≡ (is_v4 version && ranges.has_equal_ranges (V.pixels raster.now)) }
 {
     match version {
         Version::V3 => false,
@@ -141,15 +141,15 @@ fn ends_behind_lists(version: Version, found: &Ranges, raster: &Raster) -> bool
 }
 
 /// How the image of a raster ends.
-pub(crate) fn ending_of(
+pub(crate) fn ending_of<V: View>(
     alloc: Global,
     base: &Header,
     found: &Ranges,
-    raster: &Raster,
+    raster: &V,
 ) -> Result<Ending, AllocError>
-    requires base { IsBase base.now raster.now }
-    requires ranges { AreRanges raster.now found.now }
-    ensures { IfOk result (IsEnding raster.now base.now.version base.now.step) }
+    requires base { IsBase base.now (V.pixels raster.now) }
+    requires ranges { AreRanges (V.pixels raster.now) found.now }
+    ensures { IfOk result (IsEnding (V.pixels raster.now) base.now.version base.now.step) }
 {
     if is_empty(base, raster) {
         return Ok(Ending::Empty);

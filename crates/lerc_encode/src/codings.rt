@@ -15,7 +15,8 @@ use huff_codes::{
     Lengths, count_symbols, counted_len, table_size, write_code_table, write_symbols,
 };
 use lerc_header::Version;
-use raster_values::{PixelType, Raster};
+use raster_values::PixelType;
+use raster_view::View;
 use std::alloc::{AllocError, Global};
 
 /// The lengths of the codes of some symbols, and how many bytes their table and words take.
@@ -93,18 +94,18 @@ pub(crate) fn coded_form_len(symbols: &Symbols) -> Option<usize>
 }
 
 /// How many symbols a raster has.
-fn symbol_count(raster: &Raster) -> usize
-    ensures value { result ≡ valid_count raster.now * raster.now.depth }
+fn symbol_count<V: View>(raster: &V) -> usize
+    ensures value { result ≡ valid_count (V.pixels raster.now) * (V.pixels raster.now).depth }
     ensures few { result ≤ 2 ^ 24 }
 {
     raster.valid_count() as usize * raster.depth() as usize
 }
 
 /// Writes the symbols of the differences of all depths, one depth behind the other.
-fn write_deltas(raster: &Raster, out: &mut [u8])
-    requires kind { IsByteType raster.now.kind }
-    requires room { length out.old ≡ valid_count raster.now * raster.now.depth }
-    ensures { out.new ≡ all_deltas raster.now }
+fn write_deltas<V: View>(raster: &V, out: &mut [u8])
+    requires kind { IsByteType (V.pixels raster.now).kind }
+    requires room { length out.old ≡ valid_count (V.pixels raster.now) * (V.pixels raster.now).depth }
+    ensures { out.new ≡ all_deltas (V.pixels raster.now) }
 {
     let count = raster.valid_count() as usize;
     for d in 0..raster.depth() {
@@ -114,8 +115,8 @@ fn write_deltas(raster: &Raster, out: &mut [u8])
 }
 
 /// Whether symbols may stand for values: these take a byte each and none may change.
-pub(crate) fn has_mode(raster: &Raster, step: u64) -> bool
-    ensures { result ≡ images.has_mode raster.now step }
+pub(crate) fn has_mode<V: View>(raster: &V, step: u64) -> bool
+    ensures { result ≡ images.has_mode (V.pixels raster.now) step }
 {
     raster.kind().bytes() == 1 && step == 1
 }
@@ -131,9 +132,9 @@ fn no_symbols(alloc: Global) -> Symbols
 }
 
 /// The symbols of the differences, where they are wanted.
-fn delta_symbols(alloc: Global, raster: &Raster, wanted: bool) -> Result<Symbols, AllocError>
-    requires { IsTrue wanted → IsByteType raster.now.kind }
-    ensures { IfOk result (AreSymbols ⊥ wanted (all_deltas raster.now)) }
+fn delta_symbols<V: View>(alloc: Global, raster: &V, wanted: bool) -> Result<Symbols, AllocError>
+    requires { IsTrue wanted → IsByteType (V.pixels raster.now).kind }
+    ensures { IfOk result (AreSymbols ⊥ wanted (all_deltas (V.pixels raster.now))) }
 {
     if !wanted {
         return Ok(no_symbols(alloc));
@@ -145,9 +146,9 @@ fn delta_symbols(alloc: Global, raster: &Raster, wanted: bool) -> Result<Symbols
 }
 
 /// Whether the plain symbols are the raster's bytes: all pixels are valid, and of u8.
-fn is_lying(raster: &Raster) -> bool
-    ensures lies { IsTrue result ↔ IsLying raster.now }
-    ensures sound { IsRaster raster.now }
+fn is_lying<V: View>(raster: &V) -> bool
+    ensures lies { IsTrue result ↔ IsLying (V.pixels raster.now) }
+    ensures sound { IsRaster (V.pixels raster.now) }
 {
     match raster.kind() {
         PixelType::U8 => raster.valid_count() == raster.rows() * raster.cols(),
@@ -156,9 +157,9 @@ fn is_lying(raster: &Raster) -> bool
 }
 
 /// The symbols of the values, where they are wanted.
-fn plain_symbols(alloc: Global, raster: &Raster, wanted: bool) -> Result<Symbols, AllocError>
-    requires { IsTrue wanted → IsByteType raster.now.kind }
-    ensures { IfOk result (AreSymbols (IsLying raster.now) wanted (plain raster.now)) }
+fn plain_symbols<V: View>(alloc: Global, raster: &V, wanted: bool) -> Result<Symbols, AllocError>
+    requires { IsTrue wanted → IsByteType (V.pixels raster.now).kind }
+    ensures { IfOk result (AreSymbols (IsLying (V.pixels raster.now)) wanted (plain (V.pixels raster.now))) }
 {
     if !wanted {
         return Ok(no_symbols(alloc));
@@ -177,9 +178,9 @@ fn plain_symbols(alloc: Global, raster: &Raster, wanted: bool) -> Result<Symbols
 }
 
 /// The list of the plain symbols.
-pub(crate) fn plain_list<'a>(raster: &'a Raster, plains: &'a Symbols) -> &'a [u8]
-    requires { (IsLying raster.now → ⊥) → plains.now.all.items ≡ plain raster.now }
-    ensures { result.now ≡ plain raster.now }
+pub(crate) fn plain_list<'a, V: View>(raster: &'a V, plains: &'a Symbols) -> &'a [u8]
+    requires { (IsLying (V.pixels raster.now) → ⊥) → plains.now.all.items ≡ plain (V.pixels raster.now) }
+    ensures { result.now ≡ plain (V.pixels raster.now) }
 {
     if is_lying(raster) {
         raster.cells()
@@ -189,13 +190,13 @@ pub(crate) fn plain_list<'a>(raster: &'a Raster, plains: &'a Symbols) -> &'a [u8
 }
 
 /// The symbols of a raster's values, as far as the version and the step allow them.
-pub(crate) fn codings_of(
+pub(crate) fn codings_of<V: View>(
     alloc: Global,
-    raster: &Raster,
+    raster: &V,
     version: Version,
     step: u64,
 ) -> Result<Codings, AllocError>
-    ensures { IfOk result (AreCodings raster.now version step) }
+    ensures { IfOk result (AreCodings (V.pixels raster.now) version step) }
 {
     let mode = has_mode(raster, step);
     let deltas = delta_symbols(alloc, raster, mode)?;

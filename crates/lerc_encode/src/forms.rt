@@ -1,8 +1,7 @@
 // The forms of an image's values: how many bytes each takes, and these bytes.
 
-ghost use Rattle.std.specs.Prelude.{◌≡◌, ◌+◌, ◌*◌, ◌≤◌, ◌∷◌, ◌++◌, All, length, MatchOption};
+ghost use Rattle.std.specs.Prelude.{◌≡◌, ◌+◌, ◌*◌, ◌≤◌, ◌∷◌, ◌++◌, length, MatchOption};
 ghost use Rattle.std.specs.Option.{option_map};
-ghost use Rattle.raster_values.specs.PixelType.{InRange, bytes_of};
 ghost use Rattle.raster_values.specs.Grid.{values_bytes};
 ghost use Rattle.lerc_header.specs.declared.header.Version.TheVariants.{V4};
 ghost use Rattle.raster_values.specs.Raster.{values_of};
@@ -20,7 +19,8 @@ use crate::choosing::Chosen;
 use crate::codings::{Symbols, has_mode, plain_list, write_coded_form};
 use crate::ranging::Ranges;
 use lerc_header::{Header, Version};
-use raster_values::{PixelType, Raster};
+use raster_values::write_values;
+use raster_view::View;
 
 /// The forms of an image's values, in the order in which they are tried.
 #[derive(Clone, Copy)]
@@ -45,19 +45,23 @@ pub(crate) fn with_large(base: &Header) -> Header
 }
 
 /// How many bytes the sweep takes.
-pub(crate) fn sweep_len(raster: &Raster) -> usize
+pub(crate) fn sweep_len<V: View>(raster: &V) -> usize
     ensures value { result
-        ≡ length (1 ∷ values_bytes raster.now.kind (values_of raster.now.pixels)) }
+        ≡ length (1 ∷ values_bytes (V.pixels raster.now).kind (values_of (V.pixels raster.now).pixels)) }
     ensures few { result ≤ 67108865 }
 {
     1 + raster.valid_count() as usize * raster.depth() as usize * raster.kind().bytes()
 }
 
 /// How many bytes the form of blocks takes, where all of these were measured.
-pub(crate) fn block_form_len(h: &Header, raster: &Raster, found: &Option<Measured>) -> Option<usize>
+pub(crate) fn block_form_len<V: View>(
+    h: &Header,
+    raster: &V,
+    found: &Option<Measured>,
+) -> Option<usize>
     requires { MatchOption found.now Unit (λ m. m.size ≤ 1025 * 16777216) }
     ensures { result
-        ≡ option_map (λ m. 1 + length (mode_bytes raster.now h.now.step) + m.size) found.now }
+        ≡ option_map (λ m. 1 + length (mode_bytes (V.pixels raster.now) h.now.step) + m.size) found.now }
 {
     match found {
         Some(measured) => Some(1 + usize::from(has_mode(raster, h.step)) + measured.size),
@@ -66,10 +70,10 @@ pub(crate) fn block_form_len(h: &Header, raster: &Raster, found: &Option<Measure
 }
 
 /// Writes the sweep.
-fn write_sweep(raster: &Raster, out: &mut [u8])
+fn write_sweep<V: View>(raster: &V, out: &mut [u8])
     requires { length out.old
-        ≡ length (1 ∷ values_bytes raster.now.kind (values_of raster.now.pixels)) }
-    ensures { out.new ≡ 1 ∷ values_bytes raster.now.kind (values_of raster.now.pixels) }
+        ≡ length (1 ∷ values_bytes (V.pixels raster.now).kind (values_of (V.pixels raster.now).pixels)) }
+    ensures { out.new ≡ 1 ∷ values_bytes (V.pixels raster.now).kind (values_of (V.pixels raster.now).pixels) }
 {
     // for the proof: `kind` ensures that the raster is a lawful one
     let _kind = raster.kind();
@@ -78,12 +82,12 @@ fn write_sweep(raster: &Raster, out: &mut [u8])
 }
 
 /// Writes the form of blocks, of which those that are told have tables.
-fn write_measured(h: &Header, raster: &Raster, tables: &[bool], out: &mut [u8])
-    requires blocked { IsBlocked h.now raster.now }
-    requires tables { AreFlags h.now raster.now (coded_blocks h.now) tables.now }
+fn write_measured<V: View>(h: &Header, raster: &V, tables: &[bool], out: &mut [u8])
+    requires blocked { IsBlocked h.now (V.pixels raster.now) }
+    requires tables { AreFlags h.now (V.pixels raster.now) (coded_blocks h.now) tables.now }
     requires room { length out.old
-        ≡ length (0 ∷ (mode_bytes raster.now h.now.step ++ blocks_bytes h.now raster.now)) }
-    ensures { out.new ≡ 0 ∷ (mode_bytes raster.now h.now.step ++ blocks_bytes h.now raster.now) }
+        ≡ length (0 ∷ (mode_bytes (V.pixels raster.now) h.now.step ++ blocks_bytes h.now (V.pixels raster.now))) }
+    ensures { out.new ≡ 0 ∷ (mode_bytes (V.pixels raster.now) h.now.step ++ blocks_bytes h.now (V.pixels raster.now)) }
 {
     out[0] = 0;
     if has_mode(raster, h.step) {
@@ -95,12 +99,12 @@ fn write_measured(h: &Header, raster: &Raster, tables: &[bool], out: &mut [u8])
 }
 
 /// Writes the form of blocks, which were measured.
-fn write_block_form(h: &Header, raster: &Raster, found: &Option<Measured>, out: &mut [u8])
-    requires blocked { IsBlocked h.now raster.now }
-    requires measured { MatchOption found.now ⊥ (IsMeasured h.now raster.now) }
+fn write_block_form<V: View>(h: &Header, raster: &V, found: &Option<Measured>, out: &mut [u8])
+    requires blocked { IsBlocked h.now (V.pixels raster.now) }
+    requires measured { MatchOption found.now ⊥ (IsMeasured h.now (V.pixels raster.now)) }
     requires room { length out.old
-        ≡ length (0 ∷ (mode_bytes raster.now h.now.step ++ blocks_bytes h.now raster.now)) }
-    ensures { out.new ≡ 0 ∷ (mode_bytes raster.now h.now.step ++ blocks_bytes h.now raster.now) }
+        ≡ length (0 ∷ (mode_bytes (V.pixels raster.now) h.now.step ++ blocks_bytes h.now (V.pixels raster.now))) }
+    ensures { out.new ≡ 0 ∷ (mode_bytes (V.pixels raster.now) h.now.step ++ blocks_bytes h.now (V.pixels raster.now)) }
 {
     if let Some(measured) = found {
         write_measured(h, raster, &measured.tables, out);
@@ -108,30 +112,30 @@ fn write_block_form(h: &Header, raster: &Raster, found: &Option<Measured>, out: 
 }
 
 /// Writes the differences in code words.
-fn write_delta_form(deltas: &Symbols, raster: &Raster, out: &mut [u8])
-    requires there { AreThere ⊥ (all_deltas raster.now) deltas.now }
-    requires room { length out.old ≡ length (0 ∷ 1 ∷ coding_bytes (all_deltas raster.now)) }
-    ensures { out.new ≡ 0 ∷ 1 ∷ coding_bytes (all_deltas raster.now) }
+fn write_delta_form<V: View>(deltas: &Symbols, raster: &V, out: &mut [u8])
+    requires there { AreThere ⊥ (all_deltas (V.pixels raster.now)) deltas.now }
+    requires room { length out.old ≡ length (0 ∷ 1 ∷ coding_bytes (all_deltas (V.pixels raster.now))) }
+    ensures { out.new ≡ 0 ∷ 1 ∷ coding_bytes (all_deltas (V.pixels raster.now)) }
 {
     write_coded_form(1, &deltas.coding, &deltas.all, out);
 }
 
 /// Writes the plain symbols in code words.
-fn write_plain_form(plains: &Symbols, raster: &Raster, out: &mut [u8])
-    requires there { AreThere (IsLying raster.now) (plain raster.now) plains.now }
-    requires room { length out.old ≡ length (0 ∷ 2 ∷ coding_bytes (plain raster.now)) }
-    ensures { out.new ≡ 0 ∷ 2 ∷ coding_bytes (plain raster.now) }
+fn write_plain_form<V: View>(plains: &Symbols, raster: &V, out: &mut [u8])
+    requires there { AreThere (IsLying (V.pixels raster.now)) (plain (V.pixels raster.now)) plains.now }
+    requires room { length out.old ≡ length (0 ∷ 2 ∷ coding_bytes (plain (V.pixels raster.now))) }
+    ensures { out.new ≡ 0 ∷ 2 ∷ coding_bytes (plain (V.pixels raster.now)) }
 {
     write_coded_form(2, &plains.coding, plain_list(raster, plains), out);
 }
 
 /// Writes the chosen form over all of `out`.
-pub(crate) fn write_form(chosen: &Chosen, base: &Header, raster: &Raster, out: &mut [u8])
-    requires base { IsBase base.now raster.now }
-    requires chosen { IsChosen raster.now base.now.version base.now.step chosen.now }
-    requires room { length out.old ≡ length (coded_form_bytes raster.now base.now.version base.now.step
+pub(crate) fn write_form<V: View>(chosen: &Chosen, base: &Header, raster: &V, out: &mut [u8])
+    requires base { IsBase base.now (V.pixels raster.now) }
+    requires chosen { IsChosen (V.pixels raster.now) base.now.version base.now.step chosen.now }
+    requires room { length out.old ≡ length (coded_form_bytes (V.pixels raster.now) base.now.version base.now.step
         (named chosen.now.form)) }
-    ensures { out.new ≡ coded_form_bytes raster.now base.now.version base.now.step
+    ensures { out.new ≡ coded_form_bytes (V.pixels raster.now) base.now.version base.now.step
         (named chosen.now.form) }
 {
     match chosen.form {
@@ -145,21 +149,9 @@ pub(crate) fn write_form(chosen: &Chosen, base: &Header, raster: &Raster, out: &
     }
 }
 
-/// Writes the bytes of the values.
-fn write_values(kind: PixelType, values: &[i64], out: &mut [u8])
-    requires room { length out.old ≡ length values.now * bytes_of kind }
-    requires in_range { All (InRange kind) values.now }
-    ensures { out.new ≡ values_bytes kind values.now }
-{
-    let size = kind.bytes();
-    for (i, value) in values.iter().enumerate() {
-        kind.write_value(*value, &mut out[i * size..]);
-    }
-}
-
 /// How many bytes the lists in front of an image take.
-pub(crate) fn front_len(version: Version, raster: &Raster) -> usize
-    ensures value { result ≡ length (lists_bytes raster.now version) }
+pub(crate) fn front_len<V: View>(version: Version, raster: &V) -> usize
+    ensures value { result ≡ length (lists_bytes (V.pixels raster.now) version) }
     ensures few { result ≤ 524288 }
 {
     match version {
@@ -169,10 +161,10 @@ pub(crate) fn front_len(version: Version, raster: &Raster) -> usize
 }
 
 /// Writes both lists.
-fn write_lists(ranges: &Ranges, raster: &Raster, out: &mut [u8])
-    requires ranges { AreRanges raster.now ranges.now }
-    requires room { length out.old ≡ length (lists_bytes raster.now V4) }
-    ensures { out.new ≡ lists_bytes raster.now V4 }
+fn write_lists<V: View>(ranges: &Ranges, raster: &V, out: &mut [u8])
+    requires ranges { AreRanges (V.pixels raster.now) ranges.now }
+    requires room { length out.old ≡ length (lists_bytes (V.pixels raster.now) V4) }
+    ensures { out.new ≡ lists_bytes (V.pixels raster.now) V4 }
 {
     let kind = raster.kind();
     let half = out.len() / 2;
@@ -181,10 +173,10 @@ fn write_lists(ranges: &Ranges, raster: &Raster, out: &mut [u8])
 }
 
 /// Writes the lists in front of an image, if the version has them.
-pub(crate) fn write_front(version: Version, ranges: &Ranges, raster: &Raster, out: &mut [u8])
-    requires ranges { AreRanges raster.now ranges.now }
-    requires room { length out.old ≡ length (lists_bytes raster.now version) }
-    ensures { out.new ≡ lists_bytes raster.now version }
+pub(crate) fn write_front<V: View>(version: Version, ranges: &Ranges, raster: &V, out: &mut [u8])
+    requires ranges { AreRanges (V.pixels raster.now) ranges.now }
+    requires room { length out.old ≡ length (lists_bytes (V.pixels raster.now) version) }
+    ensures { out.new ≡ lists_bytes (V.pixels raster.now) version }
 {
     match version {
         Version::V3 => {}

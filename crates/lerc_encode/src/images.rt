@@ -8,13 +8,13 @@ use crate::choosing::Ending;
 use crate::forms::{ValueForm, front_len, write_form, write_front};
 use crate::ranging::Ranges;
 use lerc_header::Header;
-use raster_values::Raster;
+use raster_view::View;
 
 /// The side of blocks that the header says.
-pub(crate) fn side_of(end: &Ending, base: &Header, raster: &Raster) -> u32
-    requires base { IsBase base.now raster.now }
-    requires ending { IsEnding raster.now base.now.version base.now.step end.now }
-    ensures { result ≡ side_at (ending raster.now base.now.version base.now.step) }
+pub(crate) fn side_of<V: View>(end: &Ending, base: &Header, raster: &V) -> u32
+    requires base { IsBase base.now (V.pixels raster.now) }
+    requires ending { IsEnding (V.pixels raster.now) base.now.version base.now.step end.now }
+    ensures { result ≡ side_at (ending (V.pixels raster.now) base.now.version base.now.step) }
 {
     match end {
         Ending::Coded(chosen) => match chosen.form {
@@ -26,11 +26,11 @@ pub(crate) fn side_of(end: &Ending, base: &Header, raster: &Raster) -> u32
 }
 
 /// How many bytes the image takes.
-pub(crate) fn image_len(end: &Ending, base: &Header, raster: &Raster) -> usize
-    requires base { IsBase base.now raster.now }
-    requires ending { IsEnding raster.now base.now.version base.now.step end.now }
-    ensures value { result ≡ length (image_bytes raster.now base.now.version base.now.step
-        (ending raster.now base.now.version base.now.step)) }
+pub(crate) fn image_len<V: View>(end: &Ending, base: &Header, raster: &V) -> usize
+    requires base { IsBase base.now (V.pixels raster.now) }
+    requires ending { IsEnding (V.pixels raster.now) base.now.version base.now.step end.now }
+    ensures value { result ≡ length (image_bytes (V.pixels raster.now) base.now.version base.now.step
+        (ending (V.pixels raster.now) base.now.version base.now.step)) }
     ensures few { result ≤ 67633153 }
 {
     match end {
@@ -41,20 +41,20 @@ pub(crate) fn image_len(end: &Ending, base: &Header, raster: &Raster) -> usize
 }
 
 /// Writes the image over all of `out`.
-pub(crate) fn write_image(
+pub(crate) fn write_image<V: View>(
     end: &Ending,
     base: &Header,
     found: &Ranges,
-    raster: &Raster,
+    raster: &V,
     out: &mut [u8],
 )
-    requires base { IsBase base.now raster.now }
-    requires ranges { AreRanges raster.now found.now }
-    requires ending { IsEnding raster.now base.now.version base.now.step end.now }
-    requires room { length out.old ≡ length (image_bytes raster.now base.now.version base.now.step
-        (ending raster.now base.now.version base.now.step)) }
-    ensures { out.new ≡ image_bytes raster.now base.now.version base.now.step
-        (ending raster.now base.now.version base.now.step) }
+    requires base { IsBase base.now (V.pixels raster.now) }
+    requires ranges { AreRanges (V.pixels raster.now) found.now }
+    requires ending { IsEnding (V.pixels raster.now) base.now.version base.now.step end.now }
+    requires room { length out.old ≡ length (image_bytes (V.pixels raster.now) base.now.version base.now.step
+        (ending (V.pixels raster.now) base.now.version base.now.step)) }
+    ensures { out.new ≡ image_bytes (V.pixels raster.now) base.now.version base.now.step
+        (ending (V.pixels raster.now) base.now.version base.now.step) }
 {
     match end {
         Ending::Empty | Ending::Constant => {}

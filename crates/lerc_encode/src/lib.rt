@@ -1,6 +1,12 @@
-//! The encoder: the blob that is chosen for a raster, and the blobs that are chosen for bands.
+//! The encoder: the blob that is chosen for a raster, and the blobs that are chosen for bands. It
+//! stands on `lerc_grammar` and the crates that write a blob's parts, and reads rasters however
+//! they are kept (`raster_view`).
+//!
+//! The contract that the layers above use: the blob is the chosen one, and it is a blob of exactly
+//! one raster, which is near the given one.
 #![tactic(auto)]
 
+mod alike;
 mod bands;
 mod blob;
 mod blocks;
@@ -12,8 +18,9 @@ mod laws;
 mod masks;
 mod ranging;
 
+pub use alike::encode_alike_over;
 pub use bands::encode_bands;
-pub use blob::{EncodeFault, LayFault, encode, encode_over};
+pub use blob::{EncodeFault, LayFault, encode, encode_over, encode_view, encode_view_over};
 pub use laws::{
     bands_decode, blobs_are_small, choices_decode, codings_are_written, masks_are_taken,
 };

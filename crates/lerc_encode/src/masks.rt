@@ -9,11 +9,12 @@ ghost use Rattle.lerc_encode.specs.inside.Layout.{written_runs};
 use byteorder::{ByteOrder, LittleEndian};
 use mask_runs::{runs_len, write_runs};
 use raster_values::Raster;
+use raster_view::View;
 use std::alloc::{AllocError, Global};
 
 /// Whether no pixel of a raster is valid, or every one.
-fn is_alike(raster: &Raster) -> bool
-    ensures { result ≡ are_alike (marks_of raster.now) }
+fn is_alike<V: View>(raster: &V) -> bool
+    ensures { result ≡ are_alike (marks_of (V.pixels raster.now)) }
 {
     let valid = raster.valid_count();
     valid == 0 || valid == raster.rows() * raster.cols()
@@ -31,9 +32,13 @@ pub(crate) fn takes_mask(previous: &Raster, raster: &Raster) -> bool
 
 /// The bytes of a raster's mask, where runs of them are written: not where pixels are alike, nor
 /// where the mask is taken from the raster before.
-pub(crate) fn mask_of(alloc: Global, raster: &Raster, taken: bool) -> Result<Vec<u8>, AllocError>
+pub(crate) fn mask_of<V: View>(
+    alloc: Global,
+    raster: &V,
+    taken: bool,
+) -> Result<Vec<u8>, AllocError>
     ensures runs { IfOk result (λ mask.
-        written_runs mask.items ≡ runs_unless taken (marks_of raster.now)) }
+        written_runs mask.items ≡ runs_unless taken (marks_of (V.pixels raster.now))) }
     ensures few { IfOk result (λ mask. length mask.items ≤ 2097152) }
 {
     if taken || is_alike(raster) {

@@ -8,7 +8,8 @@ ghost use Rattle.micro_block.specs.ChosenBlock.{least_value};
 ghost use Rattle.lerc_encode.specs.Ranges.{depth_values, greatest_value, greatests, leasts};
 
 use lane_kernels::range;
-use raster_values::{PixelType, Raster};
+use raster_values::PixelType;
+use raster_view::View;
 use std::alloc::{AllocError, Global};
 
 /// The least and the greatest of values.
@@ -19,10 +20,10 @@ pub(crate) struct Range {
 }
 
 /// The range of the values at a depth, which is from 0 to 0 where no pixel is valid.
-fn range_of(raster: &Raster, d: u32) -> Range
-    requires { d < raster.now.depth }
-    ensures least { result.least ≡ least_value (depth_values raster.now d) }
-    ensures greatest { result.greatest ≡ greatest_value (depth_values raster.now d) }
+fn range_of<V: View>(raster: &V, d: u32) -> Range
+    requires { d < (V.pixels raster.now).depth }
+    ensures least { result.least ≡ least_value (depth_values (V.pixels raster.now) d) }
+    ensures greatest { result.greatest ≡ greatest_value (depth_values (V.pixels raster.now) d) }
 {
     match raster.range(d) {
         Some((least, greatest)) => Range { least, greatest },
@@ -41,9 +42,9 @@ pub(crate) struct Ranges {
 }
 
 /// The ranges of all depths of a raster.
-pub(crate) fn ranges_of(alloc: Global, raster: &Raster) -> Result<Ranges, AllocError>
-    ensures least { IfOk result (λ ranges. ranges.leasts.items ≡ leasts raster.now) }
-    ensures greatest { IfOk result (λ ranges. ranges.greatests.items ≡ greatests raster.now) }
+pub(crate) fn ranges_of<V: View>(alloc: Global, raster: &V) -> Result<Ranges, AllocError>
+    ensures least { IfOk result (λ ranges. ranges.leasts.items ≡ leasts (V.pixels raster.now)) }
+    ensures greatest { IfOk result (λ ranges. ranges.greatests.items ≡ greatests (V.pixels raster.now)) }
 {
     let depth = raster.depth();
     let mut leasts = Vec::with_capacity(alloc, depth as usize)?;
@@ -81,11 +82,11 @@ fn greatest_of(values: &[i64], kind: PixelType) -> i64
 }
 
 /// The range of all values of a raster, by those of its depths.
-pub(crate) fn whole_range(ranges: &Ranges, raster: &Raster) -> Range
-    requires least { ranges.now.leasts.items ≡ leasts raster.now }
-    requires greatest { ranges.now.greatests.items ≡ greatests raster.now }
-    ensures least { result.least ≡ least_value (values_of raster.now.pixels) }
-    ensures greatest { result.greatest ≡ greatest_value (values_of raster.now.pixels) }
+pub(crate) fn whole_range<V: View>(ranges: &Ranges, raster: &V) -> Range
+    requires least { ranges.now.leasts.items ≡ leasts (V.pixels raster.now) }
+    requires greatest { ranges.now.greatests.items ≡ greatests (V.pixels raster.now) }
+    ensures least { result.least ≡ least_value (values_of (V.pixels raster.now).pixels) }
+    ensures greatest { result.greatest ≡ greatest_value (values_of (V.pixels raster.now).pixels) }
 {
     let kind = raster.kind();
     Range {

@@ -1,4 +1,9 @@
-//! Whole blobs: which bytes are a blob of which raster, and else what is wrong with them first.
+//! Whole blobs, and tiles of one to 16 of them: which bytes are one of which raster, and else what
+//! is wrong with them first. It stands on `lerc_header`, `raster_values`, `mask_runs`,
+//! `micro_block`, `bit_stuff`, `huff_codes`, `delta_mode` and `first_fault`, and takes no memory.
+//!
+//! The contract that the layers above use: bytes have one verdict, a raster (or a list of bands) or
+//! one first fault, and the parts of a blob are told exactly.
 #![tactic(auto)]
 
 mod bands;

@@ -17,7 +17,8 @@ use Rattle.lerc_header.specs.declared.fault.BlobReason.TheVariants.{Truncated, B
 use Rattle.lerc_header.specs.declared.header.Version.{Version}
 use Rattle.lerc_header.specs.declared.header.Version.TheVariants.{V3, V4}
 use Rattle.lerc_header.specs.declared.header.Header.{Header}
-use Rattle.lerc_header.specs.Head.{HeadAt, RangeAt, IsTwiceError, i32_at, u32_at, double_at, shift, head_length, depth_at}
+use Rattle.raster_values.specs.Step.{IsTwiceError}
+use Rattle.lerc_header.specs.Head.{HeadAt, RangeAt, i32_at, u32_at, double_at, shift, head_length, depth_at}
 use Rattle.lerc_header.specs.HeadFaults.{HasKey, HasVersion, key_tests, key_faults, IsWithin, pixels_at, values_at, HasKind, HasStep, HasLeast, HasEnds, HasNone, field_faults, whole_faults, header_faults}
 use Rattle.lerc_header.proofs.HeadLemmas.{number_once, kind_once}
 use Rattle.lerc_header.proofs.ReadParts.{IsValueAt, not_least, not_ends, pixels_found}

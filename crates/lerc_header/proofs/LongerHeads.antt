@@ -11,7 +11,8 @@ use Rattle.lerc_header.specs.declared.fault.BlobReason.TheVariants.{Truncated, B
 use Rattle.lerc_header.specs.declared.header.Version.{Version}
 use Rattle.lerc_header.specs.declared.header.Version.TheVariants.{V3, V4}
 use Rattle.lerc_header.specs.declared.header.Header.{Header}
-use Rattle.lerc_header.specs.Head.{HeadAt, i32_at, double_at, shift, head_length, depth_at, IsTwiceError}
+use Rattle.raster_values.specs.Step.{IsTwiceError}
+use Rattle.lerc_header.specs.Head.{HeadAt, i32_at, double_at, shift, head_length, depth_at}
 use Rattle.lerc_header.specs.HeadFaults.{HasVersion, key_tests, key_faults, IsWithin, field_faults, whole_faults, header_faults}
 use Rattle.lerc_header.proofs.FaultLemmas.{in_key_tests}
 use Rattle.lerc_header.proofs.Prefixes.{HaveSame, same_front, same_back, same_depth}

@@ -1,8 +1,9 @@
 -- The header of a LERC2 blob, versions 3 and 4: which bytes stand for it.
-use Rattle.std.specs.Prelude.{◌≡◌, ◌≢◌, ℕ, ℤ, pos, ◌+◌, ◌*◌, ◌%◌, ◌<◌, ◌≤◌, ◌≤ℤ◌, ◌*ℤ◌, ◌⊎◌, List, codes, length, take, drop}
+use Rattle.std.specs.Prelude.{◌≡◌, ℕ, ℤ, pos, ◌+◌, ◌*◌, ◌<◌, ◌≤◌, ◌≤ℤ◌, ◌*ℤ◌, ◌⊎◌, List, codes, length, take, drop}
 use Rattle.byteorder.specs.Endian.{little_number, twos_complement}
 use Rattle.raster_values.specs.PixelType.{InRange, code_of}
 use Rattle.raster_values.specs.Raster.{IsShape}
+use Rattle.raster_values.specs.Step.{IsTwiceError}
 use Rattle.double_bits.specs.Halves.{HalfDouble}
 use Rattle.raster_values.specs.declared.kind.PixelType.{PixelType}
 use Rattle.lerc_header.specs.declared.header.Version.{Version}
@@ -44,13 +45,6 @@ depth_at V3 bytes = pos 1
 depth_at V4 bytes = i32_at bytes 22
 
 -- ---- the header
-
--- twice an error that a header may declare: 1 for the error 0.5, else an even number, for a whole
--- error from 1 to 2 ^ 32 - 1
-pub record IsTwiceError (n : ℕ) : Type 0 where
-  pub above : 0 < n
-  pub below : n ≤ 8589934590
-  pub even : n ≢ 1 → n % 2 ≡ 0
 
 -- zMin at this place and zMax behind it are whole numbers of the type, zMax not below zMin
 pub record HasRange (bytes : List ℕ) (place : ℕ) (kind : PixelType) (least greatest : ℤ) :

@@ -9,7 +9,8 @@ use Rattle.lerc_header.specs.declared.header.Version.{Version}
 use Rattle.lerc_header.specs.declared.header.Version.TheVariants.{V3, V4}
 use Rattle.lerc_header.specs.declared.fault.BlobReason.{BlobReason}
 use Rattle.lerc_header.specs.declared.fault.BlobReason.TheVariants.{Truncated, BadKey, BadVersion, BadRows, BadCols, BadDepth, TooLarge, BadCount, BadBlockSize, BadBlobSize, FloatPixels, BadType, BadError, BadRange}
-use Rattle.lerc_header.specs.Head.{i32_at, double_at, version_number, shift, head_length, depth_at, IsTwiceError}
+use Rattle.raster_values.specs.Step.{IsTwiceError}
+use Rattle.lerc_header.specs.Head.{i32_at, double_at, version_number, shift, head_length, depth_at}
 
 -- ---- key and version
 

@@ -5,6 +5,7 @@ pub use Rattle.first_fault.specs.Faults
 pub use Rattle.first_fault.specs.Parts
 pub use Rattle.raster_values.specs.PixelType
 pub use Rattle.raster_values.specs.Raster
+pub use Rattle.raster_values.specs.Step
 pub mod Checksum
 pub mod Head
 pub mod HeadFaults

@@ -8,7 +8,8 @@ use Rattle.double_bits.specs.Bits.{half_bits}
 use Rattle.lerc_header.specs.declared.header.Version.{Version}
 use Rattle.lerc_header.specs.declared.header.Version.TheVariants.{V3, V4}
 use Rattle.lerc_header.specs.declared.header.Header.{Header}
-use Rattle.lerc_header.specs.Head.{version_number, head_length, IsTwiceError}
+use Rattle.raster_values.specs.Step.{IsTwiceError}
+use Rattle.lerc_header.specs.Head.{version_number, head_length}
 
 -- the least and the greatest of the valid values are values of the type, in order; both are 0
 -- where no pixel is valid

@@ -12,7 +12,6 @@ mod fault;
 mod fletcher;
 mod header;
 mod laws;
-mod limits;
 mod numbers;
 mod reading;
 mod step;
@@ -26,7 +25,6 @@ pub use laws::{
     fields_stand_or_fail, first_faults_stay, head_bytes_are_a_header,
     headers_depend_on_their_bytes, headers_have_no_fault, headers_of_bytes_are_headers,
 };
-pub use limits::is_shape;
 pub use numbers::signed_at;
 pub use reading::{kind_of, read_header, read_version};
 pub use step::Step;

@@ -8,7 +8,8 @@ ghost use Rattle.double_bits.specs.Halves.{HalfDouble};
 ghost use Rattle.lerc_header.specs.declared.fault.BlobFault.{BlobFault};
 ghost use Rattle.lerc_header.specs.declared.header.Header.{Header};
 ghost use Rattle.lerc_header.specs.declared.header.Version.{Version};
-ghost use Rattle.lerc_header.specs.Head.{i32_at, double_at, shift, head_length, depth_at, IsTwiceError, RangeAt, HeadAt};
+ghost use Rattle.raster_values.specs.Step.{IsTwiceError};
+ghost use Rattle.lerc_header.specs.Head.{i32_at, double_at, shift, head_length, depth_at, RangeAt, HeadAt};
 ghost use Rattle.lerc_header.specs.HeadFaults.{HasKey, HasVersion, HasKind, IsWithin, field_faults, key_faults, whole_faults, header_faults};
 ghost use Rattle.lerc_header.specs.Written.{IsHeader};
 ghost use Rattle.lerc_header.specs.inside.Parts.{IsShapeAt, AreCountsAt, IsStepAt};
@@ -17,10 +18,9 @@ ghost use Rattle.lerc_header.specs.inside.Tails.{count_faults, kind_faults, step
 use crate::KEY;
 use crate::fault::{BlobFault, BlobReason};
 use crate::header::{Header, Version};
-use crate::limits::{GREATEST_DEPTH, is_shape};
 use crate::numbers::{bits_at, signed_at, unsigned_at};
 use double_bits::halves_of;
-use raster_values::PixelType;
+use raster_values::{GREATEST_DEPTH, PixelType, is_shape};
 
 /// How many bytes hold the key and the version.
 const FRONT_LENGTH: usize = 10;

@@ -1,5 +1,6 @@
 //! The program: `main` makes the objects over the machine and hands them to `serve`. It stands on
-//! `lerc_cli`, which says what the program does, on `program_ends` and on `outside_io`.
+//! `lerc_cli`, which says what the program does, on `program_ends` and `outside_io`, and on
+//! `tile_workers`, whose gate that lets every worker pass it hands in.
 #![tactic(auto)]
 
 use lerc_cli::serve;

@@ -1,19 +1,16 @@
 -- Over steps each image stands for what they leave.
-use Rattle.std.proofs.Common.{◌≡◌, ◌≢◌, inl, inr, ℕ, ◌≤◌, ◌==◌, ◌&&◌, Bool, true, false, List, [], ◌∷◌, Option, Some, None, Result, Ok, Err, refl, sym, ap, subst, ◌∙◌, arith}
-use Rattle.std.specs.Prelude.{IsTrue, IfSome, if◌then◌else◌, is_ok}
+use Rattle.std.proofs.Common.{◌≡◌, ◌≢◌, inl, inr, ℕ, ◌==◌, ◌&&◌, Bool, true, false, List, [], ◌∷◌, Option, Some, refl, sym, subst, ◌∙◌}
+use Rattle.std.specs.Prelude.{if◌then◌else◌}
 use Rattle.outside_io.specs.volume.Disk.{Disk, IsDiskImage, settled}
-use Rattle.outside_io.specs.volume.History.{During, History, current}
 use Rattle.outside_io.proofs.VolumeLemmas.Images.{only_image}
-use Rattle.bundle_store.specs.declared.fault.StoreFault.{StoreFault}
 use Rattle.bundle_store.specs.Images.{EachImage, StandsFor}
-use Rattle.bundle_store.specs.Recover.{EachStandsForOneOf}
 use Rattle.bundle_store.specs.Tiles.{TileMap, with_tile}
 use Rattle.bundle_store.proofs.Recovering.{one_map}
 use Rattle.level_cache.specs.Places.{Corner, same_corner}
-use Rattle.level_cache.specs.Calls.{CouldBe, EachIsSound, EachWith, EachWithOrWithout}
-use Rattle.level_cache.specs.Crashes.{After, AreSteps, Behind, Disks, EachAfterPut, Either, IsLeftOf, IsStep, LastOrLater, Step, StepsKeepTiles, last_disks}
+use Rattle.level_cache.specs.Calls.{CouldBe, EachIsSound}
+use Rattle.level_cache.specs.Crashes.{After, Behind, Disks, EachAfterPut, Either, IsLeftOf, IsStep, LastOrLater, Step, StepsKeepTiles}
 use Rattle.level_cache.specs.Crashes.Step.{Put, Get, Crash}
-use Rattle.level_cache.proofs.Corners.{by_bool, is_same, not_same, same_is}
+use Rattle.level_cache.proofs.Corners.{by_bool, is_same, same_is}
 
 -- ---- images
 

@@ -1,15 +1,16 @@
 -- What calls on a level make of its maps.
 use Rattle.std.proofs.Common.{◌≡◌, ◌≢◌, ◌⊎◌, inl, inr, ℕ, Bool, true, false, List, [], Option, Some, None, Result, Ok, Err, refl, sym, ap, subst, ◌∙◌, arith}
-use Rattle.std.specs.Prelude.{IsTrue, IfSome, OnOk, if◌then◌else◌}
+use Rattle.std.specs.Prelude.{IsTrue, IfSome, if◌then◌else◌}
 use Rattle.outside_io.specs.declared.volume.VolFile.TheVariants.{Bundle, Journal}
 use Rattle.outside_io.specs.volume.Disk.{Disk, IsQuiet}
 use Rattle.outside_io.specs.volume.History.{History, contents, current}
 use Rattle.side_journal.specs.declared.body.JournalState.TheVariants.{Closed}
 use Rattle.bundle_store.specs.declared.fault.StoreFault.{StoreFault}
 use Rattle.bundle_store.specs.Causes.{OnCause}
-use Rattle.bundle_store.specs.Images.{StandsFor, WithOrWithout}
+use Rattle.bundle_store.specs.Images.{StandsFor}
 use Rattle.bundle_store.specs.Tiles.{TileMap, no_tiles, with_tile}
 use Rattle.bundle_store.proofs.Recovering.{one_map, tiles_empty}
+use Rattle.bundle_store.proofs.Refusals.{cause_weaker}
 use Rattle.level_cache.specs.declared.level.LevelFault.{LevelFault}
 use Rattle.level_cache.specs.declared.level.LevelFault.TheVariants.{Shelf, Store}
 use Rattle.level_cache.specs.Places.{Corner, base_of, same_corner, slot_of}
@@ -17,7 +18,6 @@ use Rattle.level_cache.specs.Shelf.{Hands, SameBeside, empty_disk}
 use Rattle.level_cache.specs.Calls.{GetsFrom, Lends, LevelMoves, PutsIn, ReadsAs}
 use Rattle.level_cache.specs.Maps.{AreMaps, AreQuiet, Maps, ReadsFor, maps_with, tile_at}
 use Rattle.level_cache.proofs.Corners.{by_bool, is_same, not_same, same_is}
-use Rattle.level_cache.proofs.Steps.{cause_map}
 
 -- an empty disk stands for no tiles
 nothing : StandsFor [] [] no_tiles
@@ -80,7 +80,7 @@ module _ {V : Type 0} (told : V → Bool) (history : V → History) (faults : V 
       pub no_place : (fault : StoreFault) → LentPut (Err fault) → SameBeside base old new → OnCause fault (AreMaps told history new maps)
       no_place fault l beside =
           let was = lent_map (old base) l.lent (maps base) l.hands (are base) in
-          cause_map fault (ReadsAs (maps base) (current (history l.back))) (AreMaps told history new maps)
+          cause_weaker fault (ReadsAs (maps base) (current (history l.back))) (AreMaps told history new maps)
           (λ (reads : ReadsAs (maps base) (current (history l.back))). kept base old new maps beside are (back_map l.lent l.back (new base) (maps base) l.there l.tells was.0 reads.stands))
           ((l.made was.0).refused (maps base) was.1)
 

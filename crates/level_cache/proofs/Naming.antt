@@ -5,8 +5,8 @@ use Rattle.std.proofs.lemmas.Bool.Decides.{nat_tests}
 use Rattle.std.proofs.lemmas.List.{append_assoc}
 use Rattle.std.proofs.lemmas.List.Elements.{All-append, All-cons, All-head, All-nil, All-tail}
 use Rattle.std.proofs.lemmas.Nat.{pow-add}
-use Rattle.std.proofs.Math.Nat.{pow-suc, pow-le-pow_right, mul-le-mul_right}
-use Rattle.level_cache.specs.Names.{IsHex, IsHexDigit, IsName, digit_value, hex_value}
+use Rattle.std.proofs.Math.Nat.{pow-suc, mul-le-mul_right}
+use Rattle.level_cache.specs.Names.{IsHexDigit, IsName, digit_value, hex_value}
 use Rattle.level_cache.specs.Places.{Corner}
 use Rattle.level_cache.specs.inside.Digits.{AddsDigits, AddsHex}
 

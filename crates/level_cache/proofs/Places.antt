@@ -1,5 +1,5 @@
 -- The places of a shelf in memory.
-use Rattle.std.proofs.Common.{◌≡◌, ◌≢◌, inl, inr, ℕ, ◌+◌, ◌-◌, ◌^◌, ◌<◌, ◌≤◌, ◌==◌, ◌&&◌, Bool, true, false, List, [], ◌∷◌, ◌++◌, length, take, drop, get_or, map, set, Option, Some, None, All, refl, sym, ap, subst, ◌∙◌, arith}
+use Rattle.std.proofs.Common.{◌≡◌, ◌≢◌, inl, inr, ℕ, ◌+◌, ◌-◌, ◌^◌, ◌<◌, ◌≤◌, Bool, true, false, List, [], ◌∷◌, ◌++◌, length, take, drop, get_or, map, set, Option, Some, None, All, refl, sym, ap, subst, ◌∙◌, arith}
 use Rattle.std.specs.Prelude.{IsSome, IsSomeAnd, IfSome, if◌then◌else◌}
 use Rattle.std.proofs.lemmas.List.Elements.{All-head, All-tail}
 use Rattle.std.proofs.lemmas.List.{drop_more, get_or_at, length-append, length-take-le, set_at, take_at, take-append-drop, take_all, take_more}
@@ -8,7 +8,7 @@ use Rattle.level_cache.specs.declared.memory.Lent.{Lent}
 use Rattle.level_cache.specs.declared.memory.MemShelf.TheInside.{Inside}
 use Rattle.outside_io.specs.volume.Recorded.{Recorded, history_of}
 use Rattle.level_cache.specs.Memory.{IsSpare, MemState, fresh, is_base, one_if_none, spare_of, used_for, volume_of}
-use Rattle.level_cache.specs.Places.{Corner, same_corner}
+use Rattle.level_cache.specs.Places.{Corner}
 use Rattle.level_cache.specs.Shelf.{Hands, IsOut, PutsBack, SameBeside}
 use Rattle.level_cache.proofs.Corners.{is_same, not_same, same_is}
 use Rattle.level_cache.specs.inside.Places.{AreNot, Cut, FirstOf, FirstSpare, HaveVolumes, IsLent, IsReady, LendsAt, NoneIsLeft, PutsBackAt, SparesAreNew, Takes, IsShelf, Lending, held, state_of, taken_of}

@@ -1,13 +1,13 @@
 -- What recovering, opening, and putting or getting leave, one after the other.
-use Rattle.std.proofs.Common.{◌≡◌, ◌≤◌, inl, inr, List, [], refl, sym, subst, arith, ap, ◌∙◌, Option, Some, None, length, ℕ, ◌<◌, ◌+◌, ◌^◌, Result, Ok, Err, OnOk, IfOk, IfErr, IsErrOf}
-use Rattle.outside_io.specs.volume.Disk.{Disk, IsImage, IsQuiet, IsSettled, settled}
+use Rattle.std.proofs.Common.{◌≡◌, ◌≤◌, inl, inr, List, refl, sym, subst, arith, ap, ◌∙◌, Some, None, length, ℕ, ◌<◌, ◌+◌, ◌^◌, Result, Ok, Err, OnOk, IfOk, IfErr, IsErrOf}
+use Rattle.outside_io.specs.volume.Disk.{Disk, IsImage, IsQuiet, IsSettled}
 use Rattle.outside_io.specs.volume.History.{During, History, IsPresent, contents, current}
 use Rattle.outside_io.proofs.VolumeLemmas.Images.{only_image, present_of}
 use Rattle.outside_io.proofs.VolumeLemmas.Moments.{during_end, during_join, during_map}
 use Rattle.outside_io.specs.declared.volume.VolFile.TheVariants.{Bundle, Journal}
 use Rattle.bundle_index.specs.Entry.{entry_at}
 use Rattle.bundle_index.specs.declared.entry.Entry.{Entry}
-use Rattle.side_journal.specs.Says.{IsOpen, Says}
+use Rattle.side_journal.specs.Says.{Says}
 use Rattle.side_journal.specs.declared.body.Body.TheVariants.{Tile, Build, Group}
 use Rattle.side_journal.specs.declared.body.JournalState.{JournalState}
 use Rattle.side_journal.specs.declared.body.JournalState.TheVariants.{Closed, Open, Bad}
@@ -16,7 +16,7 @@ use Rattle.bundle_store.specs.declared.fault.StoreFault.TheVariants.{Device, Bad
 use Rattle.bundle_store.specs.declared.recovery.Recovery.{Recovery}
 use Rattle.bundle_store.specs.declared.recovery.Recovery.TheVariants.{Closed as DidNothing, Applied, Emptied}
 use Rattle.bundle_store.specs.Appended.{bundle_after_put}
-use Rattle.bundle_store.specs.Causes.{OnCause, OnRefusal, UnlessDevice}
+use Rattle.bundle_store.specs.Causes.{OnCause, OnRefusal}
 use Rattle.bundle_store.specs.Images.{EachImage, HoldsClosed, Shows, StandsFor, WithOrWithout}
 use Rattle.bundle_store.specs.Recover.{EachStandsForOneOf, IsRecovered, Leaves, RecoverFails, RecoverySays, Refuses}
 use Rattle.bundle_store.specs.Session.{GetFails, GetGives, GetRefuses as GetRefusesOf, IsBeyond, KeepsLength, OpenFails, OpenRefuses, PutFails}
@@ -24,9 +24,10 @@ use Rattle.bundle_store.specs.Tiles.{IsReadable, Opens, TileMap, tiles, with_til
 use Rattle.bundle_store.proofs.OneRecovery.{one_answer}
 use Rattle.bundle_store.proofs.PutLaws.{put_readable, put_replaces, tiles_there}
 use Rattle.bundle_store.proofs.Recovering.{one_map}
+use Rattle.bundle_store.proofs.Refusals.{by_opening, by_recovery, on_unless, refusal_weaker}
 use Rattle.bundle_store.proofs.Standing.{closed_map, weaker}
 use Rattle.opened_bundle.specs.declared.refusal.StoreRefusal.TheVariants.{BadBundle as NoBundle}
-use Rattle.opened_bundle.specs.Files.{Files, OfBundle}
+use Rattle.opened_bundle.specs.Files.{OfBundle}
 use Rattle.opened_bundle.proofs.OneBundle.{recovered_or_opening}
 use Rattle.level_cache.specs.Calls.{CanBeSound, CouldBe, EachIsSound, EachWith, EachWithOrWithout, GetRefusal, GetRefuses, GetsFrom, PutRefusal, PutRefuses, PutsIn, ReadsAs, files_in}
 
@@ -136,79 +137,45 @@ module _ (old mid at : History) (left : IsLeft old mid at) where
 
 pub unrecovered : (fault : StoreFault) (slot : ℕ) (tile : List ℕ) (old new : History) → IsPresent new → During (EachStandsForOneOf (current old)) old new → RecoverFails fault
     → RecoverySays (contents Bundle old) (contents Journal old) (Err fault) → PutsIn (Err fault) slot tile old new
-unrecovered Device slot tile old new present during fails says = record { later = during.later; kept = recovering slot tile old new during; gained = λ sound. tt; done = λ start stands. tt; refused = λ start stands. tt; read = λ start quiet stands. read_put old start quiet stands slot tile new present (recovering slot tile old new during); sound = λ start stands. tt; quiet = tt; room = tt; why = tt }
-unrecovered (BadJournal place number) slot tile old new present during fails says = record {
-  later = during.later;
-  kept = recovering slot tile old new during;
-  gained = λ sound. tt;
-  done = λ start stands. tt;
-  refused = λ start stands. absurd (stands_or_refused (contents Bundle old) (contents Journal old) start place number stands says);
-  read = λ start quiet stands. read_put old start quiet stands slot tile new present (recovering slot tile old new during);
-  sound = λ start stands. stands_or_refused (contents Bundle old) (contents Journal old) start place number stands says;
-  quiet = tt;
-  room = tt;
-  why = says;
-}
-unrecovered (BadBundle place number) slot tile old new present during fails says = absurd fails
-unrecovered NoTile slot tile old new present during fails says = absurd fails
-unrecovered (Beyond entry got) slot tile old new present during fails says = absurd fails
-unrecovered (TileTooLarge at len) slot tile old new present during fails says = absurd fails
-unrecovered (EmptyTile at) slot tile old new present during fails says = absurd fails
-unrecovered (Full len) slot tile old new present during fails says = absurd fails
-unrecovered (NotEmpty len) slot tile old new present during fails says = absurd fails
-unrecovered OutOfMemory slot tile old new present during fails says = absurd fails
-unrecovered Stopped slot tile old new present during fails says = absurd fails
+unrecovered fault slot tile old new present during fails =
+    by_recovery (λ f. RecoverySays (contents Bundle old) (contents Journal old) (Err f) → PutsIn (Err f) slot tile old new)
+    (λ says. record { later = during.later; kept = recovering slot tile old new during; gained = λ sound. tt; done = λ start stands. tt; refused = λ start stands. tt; read = λ start quiet stands. read_put old start quiet stands slot tile new present (recovering slot tile old new during); sound = λ start stands. tt; quiet = tt; room = tt; why = tt })
+    (λ place number fails says. record {
+      later = during.later;
+      kept = recovering slot tile old new during;
+      gained = λ sound. tt;
+      done = λ start stands. tt;
+      refused = λ start stands. absurd (stands_or_refused (contents Bundle old) (contents Journal old) start place number stands says);
+      read = λ start quiet stands. read_put old start quiet stands slot tile new present (recovering slot tile old new during);
+      sound = λ start stands. stands_or_refused (contents Bundle old) (contents Journal old) start place number stands says;
+      quiet = tt;
+      room = tt;
+      why = says;
+    }) fault fails
 
 pub unrecovered_get : (fault : StoreFault) (slot : ℕ) (old new : History) → IsPresent new → During (EachStandsForOneOf (current old)) old new → RecoverFails fault
     → RecoverySays (contents Bundle old) (contents Journal old) (Err fault) → GetsFrom (Err fault) slot old new
-unrecovered_get Device slot old new present during fails says = record { kept = during; gives = λ start stands. tt; none = λ start stands is. absurd cc; unchanged = λ start stands. tt; stays = λ start quiet stands. read_get old start quiet stands new present during; sound = λ start stands. tt; quiet = tt; read = tt; why = tt }
-unrecovered_get (BadJournal place number) slot old new present during fails says = record {
-  kept = during;
-  gives = λ start stands. tt;
-  none = λ start stands is. absurd cc;
-  unchanged = λ start stands. absurd (stands_or_refused (contents Bundle old) (contents Journal old) start place number stands says);
-  stays = λ start quiet stands. read_get old start quiet stands new present during;
-  sound = λ start stands. stands_or_refused (contents Bundle old) (contents Journal old) start place number stands says;
-  quiet = tt;
-  read = tt;
-  why = says;
-}
-unrecovered_get (BadBundle place number) slot old new present during fails says = absurd fails
-unrecovered_get NoTile slot old new present during fails says = absurd fails
-unrecovered_get (Beyond entry got) slot old new present during fails says = absurd fails
-unrecovered_get (TileTooLarge at len) slot old new present during fails says = absurd fails
-unrecovered_get (EmptyTile at) slot old new present during fails says = absurd fails
-unrecovered_get (Full len) slot old new present during fails says = absurd fails
-unrecovered_get (NotEmpty len) slot old new present during fails says = absurd fails
-unrecovered_get OutOfMemory slot old new present during fails says = absurd fails
-unrecovered_get Stopped slot old new present during fails says = absurd fails
+unrecovered_get fault slot old new present during fails =
+    by_recovery (λ f. RecoverySays (contents Bundle old) (contents Journal old) (Err f) → GetsFrom (Err f) slot old new)
+    (λ says. record { kept = during; gives = λ start stands. tt; none = λ start stands is. absurd cc; unchanged = λ start stands. tt; stays = λ start quiet stands. read_get old start quiet stands new present during; sound = λ start stands. tt; quiet = tt; read = tt; why = tt })
+    (λ place number fails says. record {
+      kept = during;
+      gives = λ start stands. tt;
+      none = λ start stands is. absurd cc;
+      unchanged = λ start stands. absurd (stands_or_refused (contents Bundle old) (contents Journal old) start place number stands says);
+      stays = λ start quiet stands. read_get old start quiet stands new present during;
+      sound = λ start stands. stands_or_refused (contents Bundle old) (contents Journal old) start place number stands says;
+      quiet = tt;
+      read = tt;
+      why = says;
+    }) fault fails
 
 -- its numbers
 pub recovery_put : (size : ℕ) (fault : StoreFault) → RecoverFails fault → PutRefusal size fault
-recovery_put size Device fails = tt
-recovery_put size (BadJournal place number) fails = fails
-recovery_put size (BadBundle place number) fails = absurd fails
-recovery_put size NoTile fails = absurd fails
-recovery_put size (Beyond entry got) fails = absurd fails
-recovery_put size (TileTooLarge at len) fails = absurd fails
-recovery_put size (EmptyTile at) fails = absurd fails
-recovery_put size (Full len) fails = absurd fails
-recovery_put size (NotEmpty len) fails = absurd fails
-recovery_put size OutOfMemory fails = absurd fails
-recovery_put size Stopped fails = absurd fails
+recovery_put size fault fails = by_recovery (PutRefusal size) tt (λ place found fails. fails) fault fails
 
 pub recovery_get : (fault : StoreFault) → RecoverFails fault → GetRefusal fault
-recovery_get Device fails = tt
-recovery_get (BadJournal place number) fails = fails
-recovery_get (BadBundle place number) fails = absurd fails
-recovery_get NoTile fails = absurd fails
-recovery_get (Beyond entry got) fails = absurd fails
-recovery_get (TileTooLarge at len) fails = absurd fails
-recovery_get (EmptyTile at) fails = absurd fails
-recovery_get (Full len) fails = absurd fails
-recovery_get (NotEmpty len) fails = absurd fails
-recovery_get OutOfMemory fails = absurd fails
-recovery_get Stopped fails = absurd fails
+recovery_get fault fails = by_recovery GetRefusal tt (λ place found fails. fails) fault fails
 
 -- ---- a bundle that is not opened
 
@@ -221,24 +188,20 @@ record NotOpened (old new : History) (fault : StoreFault) : Type 0 where
   sound : (start : TileMap) → StandsFor (contents Bundle old) (contents Journal old) start → CanBeSound fault
 
 not_opened : (fault : StoreFault) (old mid new : History) → IsLeft old mid new → OpenFails fault → OpenRefuses (contents Bundle mid) fault → NotOpened old new fault
-not_opened Device old mid new left fails refuses = record { ends = λ start stands. tt; put = tt; get = λ slot. tt; some = λ is. cc; sound = λ start stands. tt }
-not_opened (BadBundle place number) old mid new left fails refuses =
-    let found : PutRefuses (files_in old) (BadBundle place number) = (left.found, (contents Bundle mid, (left.leaves, refuses))) in
-    let never : (start : TileMap) → StandsFor (contents Bundle old) (contents Journal old) start → ⊥ = λ start stands. (
-    let opens = readable_opens (contents Bundle mid) (subst (λ (d : Disk). IsReadable d.bundle.now) (same old mid new left) (serves old mid new left start stands).0) in
-    recovered_or_opening (files_in old) (λ b. Unit {0}) (NoBundle place number) (left.found, (contents Bundle mid, (left.leaves, (opens, tt)))) (fails, found)) in
-    record { ends = λ start stands. absurd (never start stands); put = found; get = λ slot. found; some = λ is. cc; sound = never }
-not_opened OutOfMemory old mid new left fails refuses =
-    let opened = of_bundle old mid new left (λ b. Unit {0}) (subst (λ (d : Disk). Opens d.bundle.now) (sym (same old mid new left)) refuses) tt in
-    record { ends = reads_as old mid new left; put = opened; get = λ slot. opened; some = λ is. cc; sound = λ start stands. tt }
-not_opened (BadJournal place number) old mid new left fails refuses = absurd fails
-not_opened NoTile old mid new left fails refuses = absurd fails
-not_opened (Beyond entry got) old mid new left fails refuses = absurd fails
-not_opened (TileTooLarge at len) old mid new left fails refuses = absurd fails
-not_opened (EmptyTile at) old mid new left fails refuses = absurd fails
-not_opened (Full len) old mid new left fails refuses = absurd fails
-not_opened (NotEmpty len) old mid new left fails refuses = absurd fails
-not_opened Stopped old mid new left fails refuses = absurd fails
+not_opened fault old mid new left fails = by_opening (λ f. OpenRefuses (contents Bundle mid) f → NotOpened old new f) (λ refuses. record { ends = λ start stands. tt; put = tt; get = λ slot. tt; some = λ is. cc; sound = λ start stands. tt }) bundle memory fault fails
+  where
+    bundle : (place number : ℕ) → OpenFails (BadBundle place number) → OpenRefuses (contents Bundle mid) (BadBundle place number) → NotOpened old new (BadBundle place number)
+    bundle place number fails refuses =
+        let found : PutRefuses (files_in old) (BadBundle place number) = (left.found, (contents Bundle mid, (left.leaves, refuses))) in
+        let never : (start : TileMap) → StandsFor (contents Bundle old) (contents Journal old) start → ⊥ = λ start stands. (
+        let opens = readable_opens (contents Bundle mid) (subst (λ (d : Disk). IsReadable d.bundle.now) (same old mid new left) (serves old mid new left start stands).0) in
+        recovered_or_opening (files_in old) (λ b. Unit {0}) (NoBundle place number) (left.found, (contents Bundle mid, (left.leaves, (opens, tt)))) (fails, found)) in
+        record { ends = λ start stands. absurd (never start stands); put = found; get = λ slot. found; some = λ is. cc; sound = never }
+
+    memory : OpenRefuses (contents Bundle mid) OutOfMemory → NotOpened old new OutOfMemory
+    memory refuses =
+        let opened = of_bundle old mid new left (λ b. Unit {0}) (subst (λ (d : Disk). Opens d.bundle.now) (sym (same old mid new left)) refuses) tt in
+        record { ends = reads_as old mid new left; put = opened; get = λ slot. opened; some = λ is. cc; sound = λ start stands. tt }
 
 pub unopened : (fault : StoreFault) (slot : ℕ) (tile : List ℕ) (old mid new : History) → IsPresent new → IsLeft old mid new → OpenFails fault → OpenRefuses (contents Bundle mid) fault → PutsIn (Err fault) slot tile old new
 unopened fault slot tile old mid new present left fails refuses =
@@ -272,49 +235,12 @@ unopened_get fault slot old mid new present left fails refuses =
     }
 
 pub opening_put : (size : ℕ) (fault : StoreFault) → OpenFails fault → PutRefusal size fault
-opening_put size Device fails = tt
-opening_put size (BadBundle place number) fails = fails
-opening_put size OutOfMemory fails = tt
-opening_put size (BadJournal place number) fails = absurd fails
-opening_put size NoTile fails = absurd fails
-opening_put size (Beyond entry got) fails = absurd fails
-opening_put size (TileTooLarge at len) fails = absurd fails
-opening_put size (EmptyTile at) fails = absurd fails
-opening_put size (Full len) fails = absurd fails
-opening_put size (NotEmpty len) fails = absurd fails
-opening_put size Stopped fails = absurd fails
+opening_put size fault fails = by_opening (PutRefusal size) tt (λ place found fails. fails) tt fault fails
 
 pub opening_get : (fault : StoreFault) → OpenFails fault → GetRefusal fault
-opening_get Device fails = tt
-opening_get (BadBundle place number) fails = fails
-opening_get OutOfMemory fails = tt
-opening_get (BadJournal place number) fails = absurd fails
-opening_get NoTile fails = absurd fails
-opening_get (Beyond entry got) fails = absurd fails
-opening_get (TileTooLarge at len) fails = absurd fails
-opening_get (EmptyTile at) fails = absurd fails
-opening_get (Full len) fails = absurd fails
-opening_get (NotEmpty len) fails = absurd fails
-opening_get Stopped fails = absurd fails
+opening_get fault fails = by_opening GetRefusal tt (λ place found fails. fails) tt fault fails
 
 -- ---- the put
-
-pub cause_map : (f : StoreFault) (P Q : Type 0) → (P → Q) → OnCause f P → OnCause f Q
-cause_map Device P Q so p = tt
-cause_map (BadBundle place number) P Q so p = so p
-cause_map (BadJournal place number) P Q so p = so p
-cause_map NoTile P Q so p = so p
-cause_map (Beyond entry got) P Q so p = so p
-cause_map (TileTooLarge at len) P Q so p = so p
-cause_map (EmptyTile at) P Q so p = so p
-cause_map (Full len) P Q so p = so p
-cause_map (NotEmpty len) P Q so p = so p
-cause_map OutOfMemory P Q so p = so p
-cause_map Stopped P Q so p = so p
-
-refusal_map : {X : Type 0} (r : Result X StoreFault) (P Q : Type 0) → (P → Q) → OnRefusal r P → OnRefusal r Q
-refusal_map (Ok x) P Q so p = tt
-refusal_map (Err f) P Q so p = cause_map f P Q so p
 
 -- what the put's own clauses say
 pub record PutSaid (result : Result (Unit {0}) StoreFault) (slot : ℕ) (tile b : List ℕ) (old new : History) : Type 0 where
@@ -405,7 +331,7 @@ put r slot tile old mid at new below present after left opens said = record {
       let s = serves old mid at left was.map was.stands in
       gained_by r slot tile (current old) (current new) was.map of (put_done r slot tile (contents Bundle at) was.map at new below s.0 s.1 said);
   done = λ start stands. (let s = serves old mid at left start stands in put_done r slot tile (contents Bundle at) start at new below s.0 s.1 said);
-  refused = λ start stands. refusal_map r _ _ (λ (kept : During (λ d. d ≡ current at) at new). subst (ReadsAs start) (sym (during_end (λ d. d ≡ current at) at new kept)) (reads_as old mid at left start stands)) said.kept;
+  refused = λ start stands. refusal_weaker r _ _ (λ (kept : During (λ d. d ≡ current at) at new). subst (ReadsAs start) (sym (during_end (λ d. d ≡ current at) at new kept)) (reads_as old mid at left start stands)) said.kept;
   read = λ start quiet stands. read_put old start quiet stands slot tile new after keeps;
   sound = λ start stands. if_err r CanBeSound (λ f is. put_sound (length tile) f (subst (λ x. IfErr x (λ g. PutFails (length tile) g)) is said.answers));
   quiet = held_quiet r slot tile (contents Bundle at) at new said;
@@ -454,23 +380,6 @@ on_ok : (r : Result (List ℕ) StoreFault) (P : Type 0) → P → OnOk r P
 on_ok (Ok t) P p = p
 on_ok (Err f) P p = tt
 
-always : (r : Result (List ℕ) StoreFault) (P : Type 0) → P → UnlessDevice r P
-always (Ok t) P p = p
-always (Err f) P p = cause_map f (Unit {0}) P (λ _. p) (each f)
-  where
-    each : (f : StoreFault) → OnCause f (Unit {0})
-    each Device = tt
-    each (BadBundle place number) = tt
-    each (BadJournal place number) = tt
-    each NoTile = tt
-    each (Beyond entry got) = tt
-    each (TileTooLarge at len) = tt
-    each (EmptyTile at) = tt
-    each (Full len) = tt
-    each (NotEmpty len) = tt
-    each OutOfMemory = tt
-    each Stopped = tt
-
 get_why : (fault : StoreFault) (slot : ℕ) (old mid at new : History) → IsLeft old mid at → Opens (contents Bundle at) → GetSaid (Err fault) slot (contents Bundle at) at new → GetRefuses (files_in old) slot fault
 get_why Device slot old mid at new left opens said = tt
 get_why NoTile slot old mid at new left opens said = of_bundle old mid at left (λ b. (entry_at b slot).size ≡ 0) opens said.refused
@@ -509,7 +418,7 @@ got r slot old mid at new below present left opens said = record {
   kept = staying _ old at new (all old mid at left) said.during;
   gives = λ start stands. (let s = serves old mid at left start stands in ok_map r _ _ (λ t there. ap (λ (m : TileMap). m slot) s.1 ∙ there) said.tile);
   none = λ start stands e. (let s = serves old mid at left start stands in ap (λ (m : TileMap). m slot) s.1 ∙ said.none e);
-  unchanged = λ start stands. always r _ (subst (ReadsAs start) (sym end) (reads_as old mid at left start stands));
+  unchanged = λ start stands. on_unless r _ (subst (ReadsAs start) (sym end) (reads_as old mid at left start stands));
   stays = λ start quiet stands. read_get old start quiet stands new present (staying _ old at new (all old mid at left) said.during);
   sound = λ start stands. if_err r CanBeSound (λ f is. get_sound f slot (contents Bundle at) at new below (serves old mid at left start stands).0 (subst (λ x. GetSaid x slot (contents Bundle at) at new) is said));
   quiet = on_ok r _ (subst IsQuiet (sym end) (quiet old mid at left));

@@ -1,12 +1,12 @@
 -- What a call at a place leaves of a shelf, and why it refuses.
-use Rattle.std.specs.Prelude.{◌≡◌, ◌≢◌, ◌⊎◌, ℕ, ◌+◌, ◌^◌, ◌-◌, ◌<◌, ◌≤◌, List, length, Bool, IsTrue, Option, None, Some, Result, Ok, Err, OnOk, IfOk, IfErr, IsErrOf}
+use Rattle.std.specs.Prelude.{◌≡◌, ◌⊎◌, ℕ, ◌+◌, ◌^◌, ◌-◌, ◌<◌, ◌≤◌, List, length, Bool, IsTrue, Option, None, Some, Result, Ok, Err, OnOk, IfOk, IfErr, IsErrOf}
 use Rattle.outside_io.specs.declared.volume.VolFile.TheVariants.{Bundle, Journal}
 use Rattle.outside_io.specs.volume.Disk.{Disk, IsDiskImage, IsQuiet}
 use Rattle.outside_io.specs.volume.History.{During, History, contents, current}
 use Rattle.bundle_index.specs.Entry.{entry_at}
 use Rattle.side_journal.specs.Says.{IsOpen}
 use Rattle.bundle_store.specs.declared.fault.StoreFault.{StoreFault}
-use Rattle.bundle_store.specs.declared.fault.StoreFault.TheVariants.{Device, BadBundle, BadJournal, NoTile, Beyond, TileTooLarge, EmptyTile, Full, NotEmpty, OutOfMemory, Stopped}
+use Rattle.bundle_store.specs.declared.fault.StoreFault.TheVariants.{Device, BadBundle, BadJournal, NoTile, Beyond, TileTooLarge, EmptyTile, Full, OutOfMemory}
 use Rattle.bundle_store.specs.Causes.{OnRefusal, UnlessDevice}
 use Rattle.bundle_store.specs.Images.{EachImage, StandsFor, WithOrWithout}
 use Rattle.bundle_store.specs.Recover.{EachStandsForOneOf, RecoverFails, Refuses}

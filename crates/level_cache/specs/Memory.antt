@@ -1,5 +1,5 @@
 -- A shelf in memory.
-use Rattle.std.specs.Prelude.{◌≡◌, ◌⊎◌, ◌<◌, ◌-◌, ◌^◌, ◌+◌, ℕ, List, [], ◌∷◌, map, Bool, true, false, Option, None, Some, IsSomeAnd, Contains, Result, OnOk, OnErr, if◌then◌else◌}
+use Rattle.std.specs.Prelude.{◌≡◌, ◌⊎◌, ◌-◌, ◌^◌, ◌+◌, ℕ, List, [], ◌∷◌, map, Bool, true, false, Option, None, Some, IsSomeAnd, Contains, Result, OnOk, OnErr, if◌then◌else◌}
 use Rattle.outside_io.specs.streams.Faults.{one_more}
 use Rattle.outside_io.specs.volume.Recorded.{Recorded, history_of}
 use Rattle.level_cache.specs.declared.memory.Kept.{Kept}

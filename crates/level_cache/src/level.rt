@@ -2,6 +2,7 @@
 
 ghost use Rattle.std.specs.Prelude.{◌≡◌, ◌⊎◌, ◌≤◌, ◌<◌, ℕ, None, Some, Ok, Err, IsTrue, IfOk, IfErr, OnOk, length};
 ghost use Rattle.outside_io.specs.streams.Faults.{IsCause};
+ghost use Rattle.bundle_index.specs.Sizes.{slot_count};
 ghost use Rattle.bundle_store.specs.Causes.{CountsDevice};
 ghost use Rattle.level_cache.specs.Places.{base_of, slot_of};
 ghost use Rattle.level_cache.specs.Calls.{DeviceRose, GetRefusal, GetsFrom, Lends, LevelMoves, OnStore, PutRefusal, PutsIn};
@@ -23,7 +24,7 @@ pub enum LevelFault {
 
 /// Puts a tile into the bundle of one volume.
 fn put_in<V: Volume>(alloc: Global, vol: &mut V, slot: Slot, tile: &[u8]) -> Result<(), StoreFault>
-    requires slot { slot < 16384 }
+    requires slot { slot < slot_count }
     ensures puts { IsTrue (V.told vol.old) → PutsIn result slot tile.now
         (V.history vol.old) (V.history vol.new) }
     ensures answers { IfErr result (λ fault. PutRefusal (length tile.now) fault) }
@@ -83,7 +84,7 @@ pub fn level_put<H: Shelf>(
 
 /// Gets a tile from the bundle of one volume.
 fn get_from<V: Volume>(alloc: Global, vol: &mut V, slot: Slot) -> Result<Bytes, StoreFault>
-    requires slot { slot < 16384 }
+    requires slot { slot < slot_count }
     ensures gets { IsTrue (V.told vol.old) → GetsFrom result slot (V.history vol.old)
         (V.history vol.new) }
     ensures answers { IfErr result (λ fault. GetRefusal fault) }

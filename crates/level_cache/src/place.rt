@@ -1,4 +1,5 @@
 ghost use Rattle.std.specs.Prelude.{◌≡◌, ◌↔◌, ◌⊎◌, ◌+◌, ◌*◌, ◌%◌, ◌-◌, ◌^◌, ◌<◌, ◌≤◌, IfSome};
+ghost use Rattle.bundle_index.specs.Sizes.{slot_count};
 ghost use Rattle.level_cache.specs.Places.{base_of, slot_of};
 
 use bundle_index::Slot;
@@ -100,7 +101,7 @@ impl Place {
     /// Its slot in that bundle: the two remainders.
     pub fn slot(self) -> Slot
         ensures value { result ≡ slot_of self }
-        ensures below { result < 16384 }
+        ensures below { result < slot_count }
     {
         match Slot::of((self.row % 128) as u8, (self.col % 128) as u8) {
             Some(slot) => slot,

@@ -4,6 +4,7 @@ pub use Rattle.outside_io.specs.streams.Sink
 pub use Rattle.program_ends.specs.Moves
 pub use Rattle.program_ends.specs.Stop
 pub use Rattle.command_words.specs.Words
+pub use Rattle.reason_names.specs.Names as ReasonNames
 pub use Rattle.opened_bundle.specs.Refusals
 pub use Rattle.grid_blobs.specs.Blobs
 pub use Rattle.grid_blobs.specs.Stops

@@ -1,8 +1,7 @@
 -- How a run ends: its status, the lines that it gives, and the one of the error output.
 use Rattle.std.specs.Prelude.{ℕ, List, [], ◌∷◌, ◌++◌, codes}
 use Rattle.outside_io.specs.program.Line.{and_number}
-use Rattle.raster_values.specs.declared.reading.GridReason.{GridReason}
-use Rattle.raster_values.specs.declared.reading.GridReason.TheVariants.{Truncated, BadMagic, BadType, BadSize, TooLarge as GridTooLarge, BadMark}
+use Rattle.reason_names.specs.Names.{grid_name_of}
 use Rattle.bundle_store.specs.declared.fault.StoreFault.{StoreFault}
 use Rattle.bundle_store.specs.declared.fault.StoreFault.TheVariants as found
 use Rattle.program_ends.specs.declared.stop.Stop.{Stop}
@@ -64,14 +63,6 @@ abbrev pub status_at : End → ℕ
 status_at end = status_at_by refusal_status end
 
 -- ---- the line of a stop
-
-abbrev pub grid_name_of : GridReason → List ℕ
-grid_name_of Truncated = codes "Truncated"
-grid_name_of BadMagic = codes "BadMagic"
-grid_name_of BadType = codes "BadType"
-grid_name_of BadSize = codes "BadSize"
-grid_name_of GridTooLarge = codes "TooLarge"
-grid_name_of BadMark = codes "BadMark"
 
 abbrev pub name_of : InputReason → List ℕ
 name_of (Grid why) = grid_name_of why

@@ -1,7 +1,7 @@
 //! The program's own reasons for a stop, beside those of any program.
 
 ghost use Rattle.std.specs.Prelude.{◌≡◌, ◌≤◌, length};
-ghost use Rattle.level_cli.specs.Names.{fault_text, grid_name_of, input_stop_of, level_stop_of, name_of, refusal_text, store_stop_of};
+ghost use Rattle.level_cli.specs.Names.{fault_text, input_stop_of, level_stop_of, name_of, refusal_text, store_stop_of};
 
 use bundle_store::StoreFault;
 use grid_blobs::{InputFault, InputReason, InputStop};
@@ -9,7 +9,7 @@ use level_cache::{LevelFault, Place};
 use opened_bundle::{StoreRefusal, add_two};
 use outside_io::Line;
 use program_ends::Stop;
-use raster_values::GridReason;
+use reason_names::grid_name;
 
 /// Why the program refuses what it was given.
 #[derive(Clone, Copy)]
@@ -47,21 +47,6 @@ impl program_ends::Refusal for Refusal {
             Refusal::TooLarge { len } => too_large_line(*len),
             Refusal::ShelfFailed => shelf_line(),
         }
-    }
-}
-
-/// The name of a reason that a grid is refused for.
-fn grid_name(reason: GridReason) -> &'static [u8]
-    ensures name { result.now ≡ grid_name_of reason }
-    ensures short { length result.now ≤ 30 }
-{
-    match reason {
-        GridReason::Truncated => b"Truncated",
-        GridReason::BadMagic => b"BadMagic",
-        GridReason::BadType => b"BadType",
-        GridReason::BadSize => b"BadSize",
-        GridReason::TooLarge => b"TooLarge",
-        GridReason::BadMark => b"BadMark",
     }
 }
 

@@ -1,12 +1,10 @@
 -- A volume in memory over two empty files is new.
-use Rattle.std.proofs.Common.{◌≡◌, ℕ, List, [], Option, Result, Ok, Err, refl, subst, sym, ap, true, rules}
+use Rattle.std.proofs.Common.{◌≡◌, ℕ, List, [], Option, Result, Ok, Err, refl, subst, sym, true, rules}
 use Rattle.std.specs.Prelude.{IfOk, IsTrue}
-use Rattle.outside_io.specs.volume.Disk.{Disk, settled}
-use Rattle.outside_io.specs.volume.History.{current}
-use Rattle.outside_io.specs.volume.Recorded.{Recorded, first_of, first_record, history_of}
+use Rattle.outside_io.specs.volume.Disk.{settled}
+use Rattle.outside_io.specs.volume.Recorded.{Recorded, first_record}
 use Rattle.outside_io.specs.volume.Sparse.{SparseFile, sparse, sparse_bytes}
 use Rattle.level_cache.specs.Memory.{IsSpare}
-use Rattle.level_cache.specs.Shelf.{empty_disk}
 
 none_there : (pieces : List (ℕ × List ℕ)) → sparse 0 pieces ≡ []
 unfolding sparse

@@ -2,7 +2,7 @@
 
 ghost use Rattle.std.specs.Prelude.{◌≡◌, None};
 
-use crate::shelves::{Wanted, base_at, bundle_has, ends, gives, shelf, shelf_of};
+use crate::shelves::{Wanted, base_at, bundle_has, ends, gives, is_empty, shelf, shelf_of};
 use level_cache::MemShelf;
 use std::process::Abort;
 use worked_examples::{BLOB, GRID, STEPS, TENS, TENS_DEEP};
@@ -57,7 +57,7 @@ fn a_tile_is_put_into_its_bundle(rt: HostRuntime) {
         &["get", "0", "127", "raw"],
         (7, b"", b"store: NoTile 0 127\n"),
     );
-    bundle_has(&rt, &mut shelf, base_at(&rt, 0, 0), 0, (0, &[0; 8]));
+    is_empty(&rt, &mut shelf, base_at(&rt, 0, 0));
     gives(
         &rt,
         &mut shelf,
@@ -148,7 +148,7 @@ fn a_stream_that_fails_is_told(rt: HostRuntime) {
 fn failing(rt: &(impl Abort + AllocGlobal), call: u64) -> MemShelf
     ensures { result.out ≡ None }
 {
-    shelf_of(rt.alloc(), &[call], &[], None).expect(rt, "memory")
+    shelf_of(rt.alloc(), &[call]).expect(rt, "memory")
 }
 
 #[test]

@@ -28,34 +28,23 @@ fn no_bytes(alloc: Global) -> Start
     Start::new(0, Vec::new(alloc))
 }
 
-/// A volume of no bytes, of which the calls of these numbers fail, and each from `stop` on.
-fn spare(alloc: Global, failing: &[u64], stop: Option<u64>) -> Result<MemVolume, AllocError>
+/// A volume of no bytes.
+fn spare(alloc: Global) -> Result<MemVolume, AllocError>
     ensures { IfOk result IsSpare }
 {
-    let failing = Vec::from_slice(alloc, failing)?;
-    MemVolume::new(
-        alloc,
-        no_bytes(alloc),
-        no_bytes(alloc),
-        failing,
-        stop,
-        200,
-        300_000,
-    )
+    let bundle = no_bytes(alloc);
+    let journal = no_bytes(alloc);
+    let failing = Vec::new(alloc);
+    MemVolume::new(alloc, bundle, journal, failing, None, 200, 300_000)
 }
 
 /// A shelf with two such volumes for new bases. Its calls of these numbers fail.
-pub(crate) fn shelf_of(
-    alloc: Global,
-    calls: &[u64],
-    failing: &[u64],
-    stop: Option<u64>,
-) -> Result<MemShelf, AllocError>
+pub(crate) fn shelf_of(alloc: Global, calls: &[u64]) -> Result<MemShelf, AllocError>
     ensures { IfOk result (λ s. s.out ≡ None) }
 {
     let mut volumes = Vec::new(alloc);
-    volumes.push(spare(alloc, failing, stop)?)?;
-    volumes.push(spare(alloc, failing, stop)?)?;
+    volumes.push(spare(alloc)?)?;
+    volumes.push(spare(alloc)?)?;
     MemShelf::new(alloc, volumes, Vec::from_slice(alloc, calls)?)
 }
 
@@ -63,7 +52,7 @@ pub(crate) fn shelf_of(
 pub(crate) fn shelf(rt: &(impl Abort + AllocGlobal)) -> MemShelf
     ensures { result.out ≡ None }
 {
-    shelf_of(rt.alloc(), &[], &[], None).expect(rt, "memory")
+    shelf_of(rt.alloc(), &[]).expect(rt, "memory")
 }
 
 /// These words.
@@ -77,7 +66,7 @@ fn words_of(alloc: Global, words: &[&str]) -> Result<Vec<Word>, AllocError> {
 
 /// What a run over a shelf leaves. The calls of these numbers of the source and of the output, which
 /// takes three bytes a call, fail.
-fn left_over(
+pub(crate) fn left_over(
     alloc: Global,
     words: &[&str],
     input: &[u8],
@@ -130,30 +119,22 @@ pub(crate) fn gives(
     ends(rt, shelf, words, &[], (&[], &[]), wanted);
 }
 
-/// Whether such a run fails by its volume alone. Else it gives this output.
+/// Whether such a run fails by its volume alone. Else it leaves this.
 pub(crate) fn ends_or_fails(
     rt: &(impl Abort + AllocGlobal),
     shelf: &mut MemShelf,
     words: &[&str],
     input: &[u8],
-    output: &[u8],
+    wanted: Wanted<'_>,
 ) -> bool
     requires { shelf.old.out ≡ None }
     ensures { shelf.new.out ≡ None }
 {
     let left = left_over(rt.alloc(), words, input, (&[], &[]), shelf).expect(rt, "memory");
     let found = (left.status, left.out.held(), left.err.held());
-    let fails = left.status != 0;
-    if fails {
-        same(
-            rt,
-            "a run that fails",
-            found,
-            (5, b"".as_slice(), b"volume failed\n".as_slice()),
-        );
-    } else {
-        same(rt, "a run", found, (0, output, b"".as_slice()));
-    }
+    let failed = (5, b"".as_slice(), b"volume failed\n".as_slice());
+    let fails = found.0 == 5;
+    same(rt, "a run", found, if fails { failed } else { wanted });
     fails
 }
 
@@ -185,4 +166,18 @@ pub(crate) fn bundle_has(
     same(rt, "the bundle is read", read.is_ok(), true);
     same(rt, "its length", len, Ok(wanted.0));
     same(rt, "its bytes", found.as_slice(), wanted.1);
+}
+
+/// The volume of a base has no byte, neither in its bundle nor in its journal.
+pub(crate) fn is_empty(rt: &impl Abort, shelf: &mut MemShelf, base: Base)
+    requires { shelf.old.out ≡ None }
+    ensures { shelf.new.out ≡ None }
+{
+    let mut vol = shelf.take(base).expect(rt, "a volume");
+    let bundle = vol.len(VolFile::Bundle);
+    let journal = vol.len(VolFile::Journal);
+    let given = shelf.give(base, vol);
+    same(rt, "the volume is given back", given, Ok(()));
+    same(rt, "its bundle", bundle, Ok(0));
+    same(rt, "its journal", journal, Ok(0));
 }

@@ -1,71 +1,89 @@
-//! Puts that are stopped at each call of their volume, or have one failing call: each image that a
-//! crash then leaves has the tile, or none.
+//! Puts and gets that are stopped at each call of their bundle's volume, or of which one such call
+//! fails: each image that a crash then leaves of the shelf has the tiles of before or of after.
 
-ghost use Rattle.std.specs.Prelude.{◌≡◌, None};
-
+use crate::images::{Cut, Folder, PICKS, image};
 use crate::same::same;
-use crate::shelves::{base_at, ends_or_fails, shelf_of};
-use bundle_index::Slot;
-use level_cache::Shelf;
-use opened_bundle::{StoreRefusal, read_tile};
-use outside_io::{MemVolume, Pick, Volume};
-use program_ends::Stop;
+use crate::works::{
+    GET, GET_NONE, PUT, PUT_BESIDE, PUT_OVER, Work, folder_before, has, has_either, run_over,
+};
+use outside_io::{MemVolume, Volume};
 use std::process::Abort;
-use worked_examples::{BLOB, GRID};
 
-const PUT: [&str; 5] = ["put", "3", "0", "128", "127"];
-
-/// The images of a moment that are tried: as last synced, as read, torn with 0 and with 255.
-const PICKS: [Pick; 4] = [Pick::Oldest, Pick::Newest, Pick::Torn(0), Pick::Torn(255)];
-
-/// Whether the image has the tile in slot (0, 127). Else it has none.
-fn has_tile(rt: &(impl Abort + AllocGlobal), mut image: MemVolume) -> bool {
-    let slot = Slot::of(0, 127).expect(rt, "a slot");
-    match read_tile(rt.alloc(), slot, &mut image) {
-        Ok(tile) => {
-            same(rt, "the tile", tile.as_slice(), BLOB.as_slice());
-            true
-        }
-        Err(Stop::Refused(StoreRefusal::NoTile { .. })) => false,
-        Err(_) => panic!(rt; "the image is no bundle"),
-    }
-}
-
-/// The images of the last moment are bundles, and where the put ended well they have the tile.
-fn images_hold(rt: &(impl Abort + AllocGlobal), vol: &MemVolume, done: bool) {
+/// Each image of a moment has the tiles of before or of after.
+fn images_have_either(
+    rt: &(impl Abort + AllocGlobal),
+    folder: &Folder,
+    work: Work<'_>,
+    vol: &MemVolume,
+    moment: u64,
+) {
     for pick in PICKS {
-        let image = vol.crash(rt.alloc(), vol.moment(), pick);
-        let has = has_tile(rt, image.expect(rt, "memory"));
-        assert!(rt; has || !done);
+        has_either(rt, folder, work, image(rt, vol, moment, pick));
     }
 }
 
-/// Whether a put fails over a volume of which these calls fail.
-fn fails(rt: &(impl Abort + AllocGlobal), failing: &[u64], stop: Option<u64>) -> bool {
-    let mut shelf = shelf_of(rt.alloc(), &[], failing, stop).expect(rt, "memory");
-    let fails = ends_or_fails(rt, &mut shelf, &PUT, &GRID, b"put 128 127 66\n");
-    let base = base_at(rt, 128, 0);
-    let vol = shelf.take(base).expect(rt, "the volume");
-    images_hold(rt, &vol, !fails);
+/// Each image of the last moment has the tiles of after.
+fn images_have_new(
+    rt: &(impl Abort + AllocGlobal),
+    folder: &Folder,
+    work: Work<'_>,
+    vol: &MemVolume,
+) {
+    for pick in PICKS {
+        has(
+            rt,
+            folder,
+            work.row,
+            image(rt, vol, vol.moment(), pick),
+            work.after,
+        );
+    }
+}
+
+/// Whether a run fails whose volume is cut off so. Each image of its moments has the tiles of before
+/// or of after; where it does not fail, each of the last has those of after.
+fn fails_over(rt: &(impl Abort + AllocGlobal), folder: &Folder, work: Work<'_>, cut: Cut) -> bool {
+    let (fails, vol) = run_over(rt, folder, work, cut);
+    for moment in 0..=vol.moment() {
+        images_have_either(rt, folder, work, &vol, moment);
+    }
+    if !fails {
+        images_have_new(rt, folder, work, &vol);
+    }
     fails
 }
 
-#[test]
-fn a_put_that_is_stopped_leaves_the_tile_or_none(rt: HostRuntime) {
+/// The run fails where it is stopped at any of its calls, and where any of them fails.
+fn fails_at_each(rt: &(impl Abort + AllocGlobal), work: Work<'_>) {
+    let folder = folder_before(rt, work);
     for call in 0..60 {
-        if !fails(&rt, &[], Some(call)) {
+        let stopped = fails_over(rt, &folder, work, Cut::Stop(call));
+        let failed = fails_over(rt, &folder, work, Cut::Once(call));
+        same(rt, call, failed, stopped);
+        if !stopped {
             return;
         }
     }
-    panic!(&rt; "a put of 60 calls");
+    panic!(rt; "a run of 60 calls");
 }
 
 #[test]
-fn a_put_with_a_failing_call_leaves_the_tile_or_none(rt: HostRuntime) {
-    for call in 0..60 {
-        if !fails(&rt, &[call], None) {
-            return;
-        }
-    }
-    panic!(&rt; "a put of 60 calls");
+fn a_put_that_fails_at_any_call_leaves_its_tile_or_none(rt: HostRuntime) {
+    fails_at_each(&rt, PUT);
+}
+
+#[test]
+fn a_put_over_a_tile_that_fails_at_any_call_leaves_the_old_or_the_new(rt: HostRuntime) {
+    fails_at_each(&rt, PUT_OVER);
+}
+
+#[test]
+fn a_put_into_a_second_bundle_that_fails_at_any_call_leaves_the_first(rt: HostRuntime) {
+    fails_at_each(&rt, PUT_BESIDE);
+}
+
+#[test]
+fn a_get_that_fails_at_any_call_leaves_all(rt: HostRuntime) {
+    fails_at_each(&rt, GET);
+    fails_at_each(&rt, GET_NONE);
 }

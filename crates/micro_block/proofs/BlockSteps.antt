@@ -24,7 +24,8 @@ use Rattle.micro_block.specs.declared.context.BlockReason.TheVariants as reasons
 use Rattle.micro_block.specs.Block.{IsBlock, IsOffset, offset_type, offset_types}
 use Rattle.micro_block.specs.Block as forms
 use Rattle.micro_block.specs.Faults.{block_faults, code_faults, form_faults, offset_faults, tag_faults, told_of_list}
-use Rattle.micro_block.specs.Frame.{Frame, IsBlockStep}
+use Rattle.raster_values.specs.Step.{IsTwiceError}
+use Rattle.micro_block.specs.Frame.{Frame}
 use Rattle.micro_block.specs.Near.{stands_for}
 use Rattle.micro_block.specs.inside.Tagged.{HasConstant, HasSteps, HasStuffed, HasTagged, as_raw, as_stuffed, as_constant}
 use Rattle.micro_block.proofs.Blocks.{block_part, of_tag}
@@ -57,9 +58,8 @@ pub steps_values : (qs : List ℕ) (out : List ℤ) (offset far top : ℤ) (step
 steps_values qs out offset far top step e o =
     o ∙ (λ i. capped_sums (map pos qs) offset (e i) top) ∙ map-map (λ q. int_min (offset +ℤ q *ℤ pos step) top) pos qs
 
-pub step_small : (step : ℕ) → IsBlockStep step → (1 ≤ step) × (step ≤ 8589934590)
-step_small step (inl one) = (omega (arith, one), omega (arith, one))
-step_small step (inr even) = (omega (arith, even.1.0), even.1.1)
+pub step_small : (step : ℕ) → IsTwiceError step → (1 ≤ step) × (step ≤ 8589934590)
+step_small step is = (omega (arith, is.above), is.below)
 
 -- the same, of numbers as the code reads them again
 pub steps_read : (qs : List ℕ) (out : List ℤ) (x far t offset top : ℤ) (step : ℕ) → x ≡ offset → far ≡ pos step → t ≡ top → out ≡ capped_sums (map pos qs) x far t → out ≡ map (stands_for step top offset) qs

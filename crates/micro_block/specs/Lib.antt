@@ -6,5 +6,6 @@ pub mod Block
 pub mod Faults
 pub mod inside
 pub use Rattle.raster_values.specs.PixelType
+pub use Rattle.raster_values.specs.Step
 pub use Rattle.raster_values.specs.Values
 pub use Rattle.lut_stuff.specs.Lists

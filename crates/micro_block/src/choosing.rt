@@ -5,7 +5,8 @@ ghost use Rattle.std.specs.Prelude.{IsTrue, IfSome};
 ghost use Rattle.raster_values.specs.Distance.{IsDistance, value_above};
 ghost use Rattle.raster_values.specs.PixelType.{InRange, bytes_of};
 ghost use Rattle.micro_block.specs.ChosenBlock as chosen_block;
-ghost use Rattle.micro_block.specs.Frame.{IsBlockCtx, IsBlockStep};
+ghost use Rattle.micro_block.specs.Frame.{IsBlockCtx};
+ghost use Rattle.raster_values.specs.Step.{IsTwiceError};
 ghost use Rattle.micro_block.specs.inside.Sizes.{IsFirst, IsTabledLength};
 ghost use Rattle.micro_block.specs.inside.Forms as inside;
 ghost use Rattle.micro_block.specs.inside.Forms.{IsChosen, named};
@@ -92,7 +93,7 @@ fn fewest(count: usize, kind: PixelType, spread: Spread, tabled: Option<usize>) 
 fn choose(distances: &[u32], kind: PixelType, step: u64) -> Chosen
     requires few { length distances.now ≤ 256 }
     requires in_range { All (IsDistance kind) distances.now }
-    requires step { IsBlockStep step }
+    requires step { IsTwiceError step }
     ensures { (col : ℕ) → IsChosen kind col step (values_above kind distances.now) result }
 {
     let spread = spread_of(distances, kind, step);

@@ -3,7 +3,7 @@
 ghost use Rattle.std.specs.Prelude.{◌≡◌, ℤ, pos, ◌+◌, ◌*◌, ◌/◌, ◌≤ℤ◌, ◌≤◌, ◌<◌, length, map, All};
 ghost use Rattle.std.specs.Prelude.{unsigned_abs};
 ghost use Rattle.lane_kernels.specs.Kernels.{IsSmall};
-ghost use Rattle.micro_block.specs.Frame.{IsBlockStep};
+ghost use Rattle.raster_values.specs.Step.{IsTwiceError};
 ghost use Rattle.micro_block.specs.Near.{quantised};
 ghost use Rattle.micro_block.specs.inside.Products.{rounded_steps, AreUpTo};
 
@@ -13,7 +13,7 @@ use lane_kernels::{minus, range};
 /// Puts for each distance the number of steps, rounded to the nearest, halves upwards: by the rule by
 /// which a block's distances of 32 bits are made into numbers of steps.
 fn near_each(distances: &mut [i64], reach: u32, step: u64)
-    requires step { IsBlockStep step }
+    requires step { IsTwiceError step }
     requires near { AreUpTo reach distances.old }
     ensures { distances.new ≡ map (λ d. pos (rounded_steps step (unsigned_abs d))) distances.old }
 {
@@ -25,7 +25,7 @@ fn near_each(distances: &mut [i64], reach: u32, step: u64)
 
 /// The same of distances of any size, by a division for each.
 fn far_each(distances: &mut [i64], step: u64)
-    requires step { IsBlockStep step }
+    requires step { IsTwiceError step }
     requires far { AreUpTo 8589934592 distances.old }
     ensures { distances.new ≡ map (λ d. pos (rounded_steps step (unsigned_abs d))) distances.old }
 {
@@ -36,7 +36,7 @@ fn far_each(distances: &mut [i64], step: u64)
 
 /// Puts for each distance the number of steps.
 fn step_each(distances: &mut [i64], step: u64)
-    requires step { IsBlockStep step }
+    requires step { IsTwiceError step }
     requires far { AreUpTo 8589934592 distances.old }
     ensures { distances.new ≡ map (λ d. pos (rounded_steps step (unsigned_abs d))) distances.old }
 {
@@ -54,7 +54,7 @@ pub fn quantise(values: &[i64], least: i64, step: u64, out: &mut [i64])
     requires small { All IsSmall values.now }
     requires small_least { IsSmall least }
     requires order { All (λ v. least ≤ℤ v) values.now }
-    requires step { IsBlockStep step }
+    requires step { IsTwiceError step }
     ensures { out.new ≡ map (λ v. pos (quantised step least v)) values.now }
 {
     minus(values, least, out);

@@ -2,7 +2,7 @@
 
 ghost use Rattle.std.specs.Prelude.{◌≡◌, ◌<◌, ◌≤◌, ℕ, [], length, All};
 ghost use Rattle.raster_values.specs.Distance.{IsDistance};
-ghost use Rattle.micro_block.specs.Frame.{IsBlockStep};
+ghost use Rattle.raster_values.specs.Step.{IsTwiceError};
 ghost use Rattle.micro_block.specs.inside.Stepping.{IsSpread};
 
 use crate::distances::ends;
@@ -35,7 +35,7 @@ fn no_spread(kind: PixelType) -> Spread
 fn some_spread(distances: &[u32], kind: PixelType, step: u64) -> Spread
     requires some { 0 < length distances.now }
     requires in_range { All (IsDistance kind) distances.now }
-    requires step { IsBlockStep step }
+    requires step { IsTwiceError step }
     ensures { IsSpread kind step distances.now result }
 {
     let (least, greatest) = ends(distances);
@@ -47,7 +47,7 @@ fn some_spread(distances: &[u32], kind: PixelType, step: u64) -> Spread
 /// What the least and the greatest value tell.
 pub(crate) fn spread_of(distances: &[u32], kind: PixelType, step: u64) -> Spread
     requires in_range { All (IsDistance kind) distances.now }
-    requires step { IsBlockStep step }
+    requires step { IsTwiceError step }
     ensures { IsSpread kind step distances.now result }
 {
     if distances.is_empty() {

@@ -1,7 +1,7 @@
 // How many steps lie between distances.
 
 ghost use Rattle.std.specs.Prelude.{◌≡◌, ◌+◌, ◌-◌, ◌*◌, ◌^◌, ◌<◌, ◌≤◌, length, map, All, IfSome};
-ghost use Rattle.micro_block.specs.Frame.{IsBlockStep};
+ghost use Rattle.raster_values.specs.Step.{IsTwiceError};
 ghost use Rattle.micro_block.specs.inside.Products.{IsProduct, rounded_steps};
 ghost use Rattle.micro_block.specs.inside.Stepping.{AreStepped, IsRule, steps_above};
 
@@ -111,7 +111,7 @@ fn even_rule(half: u32, reach: u32) -> Rule
 
 /// How numbers of steps are found of distances that are at most `reach` above the least.
 pub(crate) fn rule_for(step: u64, reach: u32) -> Rule
-    requires { IsBlockStep step }
+    requires { IsTwiceError step }
     ensures { IsRule step reach result }
 {
     if step == 1 {

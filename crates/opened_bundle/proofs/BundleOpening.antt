@@ -17,6 +17,7 @@ use Rattle.bundle_store.specs.Images.{EachImage, StandsFor}
 use Rattle.bundle_store.specs.Recover.{EachStandsForOneOf, Leaves, OnBadJournal, RecoverFails, RecoverySays, synced_disk}
 use Rattle.bundle_store.specs.Session.{GetFails, GetRefuses, IsBeyond, OpenFails, OpenRefuses, SessionState}
 use Rattle.bundle_store.specs.Tiles.{TileMap}
+use Rattle.bundle_store.proofs.Refusals.{by_opening, by_recovery}
 use Rattle.program_ends.specs.Moves.{VolumeMove, volume_move}
 use Rattle.program_ends.specs.declared.stop.Stop.{Stop}
 use Rattle.program_ends.specs.declared.stop.Stop.TheVariants.{Usage, Refused, Source, Output, Volume, OutOfMemory as NoMemory}
@@ -36,22 +37,15 @@ still P old new same never = record { counts = omega (arith, same); failed = λ 
 abbrev Fails : StoreFault → Type 0
 Fails fault = RecoverFails fault ⊎ OpenFails fault
 
-never : {P : Type 0} → ⊥ ⊎ ⊥ → P
-never (inl bad) = absurd bad
-never (inr bad) = absurd bad
+volume_cause : (old new : ℕ) → FaultFrom Device old new → IsCause (stop_of Device ≡ Volume) old new
+volume_cause old new from = record { counts = from.0; failed = λ _. from.1; rose = λ _. refl }
 
 pub opening_cause : (fault : StoreFault) (old new : ℕ) → Fails fault → FaultFrom fault old new → IsCause (stop_of fault ≡ Volume) old new
-opening_cause Device old new fails from = record { counts = from.0; failed = λ _. from.1; rose = λ _. refl }
-opening_cause (BadBundle place found) old new fails same = still (Refused (NoBundle place found) ≡ Volume) old new same (λ is. cc)
-opening_cause (BadJournal place found) old new fails same = still (Refused (NoJournal place found) ≡ Volume) old new same (λ is. cc)
-opening_cause NoTile old new fails same = never fails
-opening_cause (Beyond entry got) old new fails same = never fails
-opening_cause (TileTooLarge at len) old new fails same = never fails
-opening_cause (EmptyTile at) old new fails same = never fails
-opening_cause (Full len) old new fails same = never fails
-opening_cause (NotEmpty len) old new fails same = never fails
-opening_cause OutOfMemory old new fails same = still (NoMemory ≡ Volume) old new same (λ is. cc)
-opening_cause Stopped old new fails same = never fails
+opening_cause fault old new (inl fails) from =
+    by_recovery (λ f. FaultFrom f old new → IsCause (stop_of f ≡ Volume) old new) (volume_cause old new) (λ place found fails same. still (Refused (NoJournal place found) ≡ Volume) old new same (λ is. cc)) fault fails from
+opening_cause fault old new (inr fails) from =
+    by_opening (λ f. FaultFrom f old new → IsCause (stop_of f ≡ Volume) old new) (volume_cause old new) (λ place found fails same. still (Refused (NoBundle place found) ≡ Volume) old new same (λ is. cc))
+    (λ same. still (NoMemory ≡ Volume) old new same (λ is. cc)) fault fails from
 
 pub tile_cause : (slot : ℕ) (fault : StoreFault) (old new : ℕ) → GetFails fault → (fault ≡ Stopped → ⊥) → FaultFrom fault old new → IsCause (tile_stop_of slot fault ≡ Volume) old new
 tile_cause slot Device old new fails running from = record { counts = from.0; failed = λ _. from.1; rose = λ _. refl }
@@ -73,18 +67,11 @@ recovers true h done left leaves = (left, leaves (search rules))
 recovers false h done left leaves = tt
 
 pub unrecovered : (told : Bool) (h : History) (fault : StoreFault) → RecoverFails fault → (IsTrue told → RecoverySays (contents Bundle h) (contents Journal h) (Err fault)) → Recovers (files_of told h) (Err (stop_of fault))
-unrecovered told h Device fails says = tt
-unrecovered true h (BadJournal place found) fails says = (fails, says (search rules))
-unrecovered false h (BadJournal place found) fails says = (fails, tt)
-unrecovered told h (BadBundle place found) fails says = absurd fails
-unrecovered told h NoTile fails says = absurd fails
-unrecovered told h (Beyond entry got) fails says = absurd fails
-unrecovered told h (TileTooLarge at len) fails says = absurd fails
-unrecovered told h (EmptyTile at) fails says = absurd fails
-unrecovered told h (Full len) fails says = absurd fails
-unrecovered told h (NotEmpty len) fails says = absurd fails
-unrecovered told h OutOfMemory fails says = absurd fails
-unrecovered told h Stopped fails says = absurd fails
+unrecovered told h fault fails = by_recovery (λ f. (IsTrue told → RecoverySays (contents Bundle h) (contents Journal h) (Err f)) → Recovers (files_of told h) (Err (stop_of f))) (λ says. tt) (journal told) fault fails
+  where
+    journal : (told : Bool) (place found : ℕ) → RecoverFails (BadJournal place found) → (IsTrue told → RecoverySays (contents Bundle h) (contents Journal h) (Err (BadJournal place found))) → Recovers (files_of told h) (Err (stop_of (BadJournal place found)))
+    journal true place found fails says = (fails, says (search rules))
+    journal false place found fails says = (fails, tt)
 
 -- the refusal of a recovery is one of opening
 pub stops_opening : (files : Option Files) (stop : Stop StoreRefusal) → Recovers files (Err stop) → OpeningStops files stop
@@ -102,19 +89,15 @@ stops_opening files (Refused (SomeBytes len)) is = absurd is
 
 pub open_stops : (told : Bool) (h : History) (done : Recovery) (bundle : List ℕ) (fault : StoreFault) → OpenFails fault
     → (IsTrue told → Leaves (contents Bundle h) (contents Journal h) done bundle) → (IsTrue told → OpenRefuses bundle fault) → OpeningStops (files_of told h) (stop_of fault)
-open_stops told h done bundle Device fails leaves refuses = tt
-open_stops true h done bundle (BadBundle place found) fails leaves refuses = (fails, (done, (bundle, (leaves (search rules), refuses (search rules)))))
-open_stops false h done bundle (BadBundle place found) fails leaves refuses = (fails, tt)
-open_stops told h done bundle (BadJournal place found) fails leaves refuses = absurd fails
-open_stops told h done bundle NoTile fails leaves refuses = absurd fails
-open_stops told h done bundle (Beyond entry got) fails leaves refuses = absurd fails
-open_stops told h done bundle (TileTooLarge at len) fails leaves refuses = absurd fails
-open_stops told h done bundle (EmptyTile at) fails leaves refuses = absurd fails
-open_stops told h done bundle (Full len) fails leaves refuses = absurd fails
-open_stops told h done bundle (NotEmpty len) fails leaves refuses = absurd fails
-open_stops true h done bundle OutOfMemory fails leaves refuses = (done, (bundle, (leaves (search rules), (refuses (search rules), tt))))
-open_stops false h done bundle OutOfMemory fails leaves refuses = tt
-open_stops told h done bundle Stopped fails leaves refuses = absurd fails
+open_stops told h done bundle fault fails leaves = by_opening (λ f. (IsTrue told → OpenRefuses bundle f) → OpeningStops (files_of told h) (stop_of f)) (λ refuses. tt) (refused told leaves) (memory told leaves) fault fails
+  where
+    refused : (told : Bool) → (IsTrue told → Leaves (contents Bundle h) (contents Journal h) done bundle) → (place found : ℕ) → OpenFails (BadBundle place found) → (IsTrue told → OpenRefuses bundle (BadBundle place found)) → OpeningStops (files_of told h) (stop_of (BadBundle place found))
+    refused true leaves place found fails refuses = (fails, (done, (bundle, (leaves (search rules), refuses (search rules)))))
+    refused false leaves place found fails refuses = (fails, tt)
+
+    memory : (told : Bool) → (IsTrue told → Leaves (contents Bundle h) (contents Journal h) done bundle) → (IsTrue told → OpenRefuses bundle OutOfMemory) → OpeningStops (files_of told h) (stop_of OutOfMemory)
+    memory true leaves refuses = (done, (bundle, (leaves (search rules), (refuses (search rules), tt))))
+    memory false leaves refuses = tt
 
 -- the bundle that was opened is such
 pub of_bundle : (told : Bool) (h : History) (P : List ℕ → Type 0) (s : SessionState) (d : Disk)
@@ -182,17 +165,9 @@ recovering P vol cause same images left = record {
 -- a recovery that was refused leaves the bundle as it was
 pub left_alone : (fault : StoreFault) (old new : History) → RecoverFails fault → (stop_of fault ≡ Volume → ⊥) → RecoverySays (contents Bundle old) (contents Journal old) (Err fault)
     → OnBadJournal {X = Recovery} (Err fault) (current new ≡ synced_disk (current old)) → IsLeft (contents Bundle old) (contents Journal old) (contents Bundle new)
-left_alone Device old new fails other says kept = absurd (other refl)
-left_alone (BadJournal place found) old new fails other says kept = inr (place, found, (says, ap (λ (d : Disk). d.bundle.now) kept))
-left_alone (BadBundle place found) old new fails other says kept = absurd fails
-left_alone NoTile old new fails other says kept = absurd fails
-left_alone (Beyond entry got) old new fails other says kept = absurd fails
-left_alone (TileTooLarge at len) old new fails other says kept = absurd fails
-left_alone (EmptyTile at) old new fails other says kept = absurd fails
-left_alone (Full len) old new fails other says kept = absurd fails
-left_alone (NotEmpty len) old new fails other says kept = absurd fails
-left_alone OutOfMemory old new fails other says kept = absurd fails
-left_alone Stopped old new fails other says kept = absurd fails
+left_alone fault old new fails =
+    by_recovery (λ f. (stop_of f ≡ Volume → ⊥) → RecoverySays (contents Bundle old) (contents Journal old) (Err f) → OnBadJournal {X = Recovery} (Err f) (current new ≡ synced_disk (current old)) → IsLeft (contents Bundle old) (contents Journal old) (contents Bundle new))
+    (λ other. absurd (other refl)) (λ place found fails other says kept. inr (place, found, (says, ap (λ (d : Disk). d.bundle.now) kept))) fault fails
 
 pub failed_later : (f m n : ℕ) → f ≤ m → FailedBetween m n → FailedBetween f n
 failed_later f m n first (inl rose) = inl (omega (arith, first, rose))

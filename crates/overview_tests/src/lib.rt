@@ -1,5 +1,6 @@
-//! Tests of mosaics, over the public calls of `overview_tiles`. They stand apart from the library so
-//! that it is proved once.
+//! Tests of mosaics, over the public calls of `overview_tiles`, and of runs of the program over
+//! volumes in memory, by `run_overview`. They stand apart from the libraries so that each is proved
+//! once.
 #![tactic(auto)]
 
 #[cfg(test)]
@@ -9,4 +10,14 @@ mod halves;
 #[cfg(test)]
 mod long_rows;
 #[cfg(test)]
+mod moments;
+#[cfg(test)]
+mod refused;
+#[cfg(test)]
+mod runs;
+#[cfg(test)]
 mod same;
+#[cfg(test)]
+mod volumes;
+#[cfg(test)]
+mod workers;

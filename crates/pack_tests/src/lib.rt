@@ -4,6 +4,10 @@
 #![tactic(auto)]
 
 #[cfg(test)]
+mod images;
+#[cfg(test)]
+mod recoveries;
+#[cfg(test)]
 mod refusals;
 #[cfg(test)]
 mod rows;

@@ -5,7 +5,8 @@ use crate::volumes::{
     LARGE, OTHER, Pair, SMALL, bytes_of, empty, expect_run, expect_tile, files_of, held, nothing,
     put, put_all, run, volume, volumes,
 };
-use outside_io::{MemVolume, NoVolume, Pick, VolFile, Volume};
+use bundle_store::{Recovery, recover};
+use outside_io::{NoVolume, Pick, VolFile, Volume};
 use std::alloc::Global;
 use std::process::Abort;
 
@@ -145,20 +146,28 @@ fn bundles_of_no_tiles_are_packed(rt: HostRuntime) {
     expect_run(&rt, alloc, "and of that", &mut again, &mut other, wanted);
 }
 
-/// A source whose put of the large tile over the small one was cut off behind the open gate.
-fn cut_off(rt: &impl Abort, alloc: Global) -> MemVolume {
+/// What a put of the large tile over the small one leaves whose journal's gate is synced, and whose
+/// bundle is as it was but for the tile's record.
+pub(crate) fn left_by_put(rt: &impl Abort, alloc: Global) -> Pair {
     let before = put_all(rt, alloc, &[(127, 127, &SMALL)]);
     let mut vol = volume(rt, alloc, &before, None, &[]);
     put(rt, alloc, &mut vol, (127, 127, &LARGE));
     let moment = vol.moment().saturating_sub(3);
-    vol.crash(alloc, moment, Pick::Oldest).expect(rt, "memory")
+    let mut crashed = vol.crash(alloc, moment, Pick::Oldest).expect(rt, "memory");
+    let files = files_of(rt, alloc, &mut crashed);
+    same(
+        rt,
+        "the recovery",
+        recover(&mut crashed),
+        Ok(Recovery::Applied),
+    );
+    files
 }
 
 #[test]
 fn a_source_is_read_once_it_is_recovered(rt: HostRuntime) {
     let alloc = rt.alloc();
-    let mut from = Vec::new(alloc);
-    from.push(cut_off(&rt, alloc)).expect(&rt, "memory");
+    let mut from = volumes(&rt, alloc, &[&left_by_put(&rt, alloc)]);
     let mut to = empty(&rt, alloc);
     let wanted = (0, b"packed 1 131212\n".as_slice(), b"".as_slice());
     expect_run(&rt, alloc, "recovered", &mut from, &mut to, wanted);

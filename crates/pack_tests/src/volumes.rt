@@ -125,6 +125,13 @@ pub(crate) fn volumes(rt: &impl Abort, alloc: Global, all: &[&Pair]) -> Vec<MemV
     list
 }
 
+/// One volume as a list.
+pub(crate) fn one(rt: &impl Abort, alloc: Global, vol: MemVolume) -> Vec<MemVolume> {
+    let mut list = Vec::new(alloc);
+    list.push(vol).expect(rt, "memory");
+    list
+}
+
 /// An empty target.
 pub(crate) fn empty(rt: &impl Abort, alloc: Global) -> MemVolume {
     volume(rt, alloc, &nothing(alloc), None, &[])

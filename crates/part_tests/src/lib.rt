@@ -1,6 +1,6 @@
 //! Tests of the parts of blobs, each over the public calls of its library: lists and stuffed bits,
-//! mask runs, code words, symbols, lanes, blocks and halves. They stand apart from the libraries so
-//! that each library is proved once.
+//! mask runs, code words, symbols, lanes, blocks, halves, and rasters in a caller's arrays. They
+//! stand apart from the libraries so that each library is proved once.
 #![tactic(auto)]
 
 #[cfg(test)]
@@ -15,6 +15,8 @@ mod halves;
 mod kernels;
 #[cfg(test)]
 mod lanes;
+#[cfg(test)]
+mod lent;
 #[cfg(test)]
 mod list_forms;
 #[cfg(test)]

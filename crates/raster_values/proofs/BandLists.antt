@@ -1,7 +1,6 @@
 -- Bands that stand behind one head.
-use Rattle.std.proofs.Common.{◌≡◌, ℕ, ◌+◌, ◌*◌, ◌≤◌, suc, List, [], ◌∷◌, ◌++◌, length, refl, sym, ap, ◌∙◌, subst, arith, append_assoc}
+use Rattle.std.proofs.Common.{◌≡◌, ℕ, ◌+◌, ◌*◌, ◌≤◌, suc, List, [], ◌∷◌, length, sym, ap, ◌∙◌, subst, arith}
 use Rattle.std.specs.Prelude.{All}
-use Rattle.std.proofs.lemmas.List.{append-nil}
 use Rattle.std.proofs.lemmas.List.Elements.{All-nil, All-cons}
 use Rattle.std.proofs.Math.Nat.{mul-le-mul_right}
 use Rattle.first_fault.specs.Faults.{Numbered}
@@ -11,12 +10,6 @@ use Rattle.raster_values.specs.Places.{SameShape}
 use Rattle.raster_values.specs.Bands.{IsLike, AreLike, MayBeBands, AreBands}
 use Rattle.raster_values.specs.BandsGrid.{IsBandGrid}
 use Rattle.raster_values.proofs.GridParts.{head_in}
-
--- one band more behind others
-pub one_more : (h : Head) (k : ℕ) (a b : List ℕ) (xs : List Pixels) (y : Pixels) → Numbered (λ k. IsBandGrid h) k a xs → IsBandGrid h b y → Numbered (λ k. IsBandGrid h) k (a ++ b) (xs ++ y ∷ [])
-one_more h k a b [] y na p = (b, ([], (ap (λ u. u ++ b) na ∙ sym (append-nil b), (p, refl))))
-one_more h k a b (x ∷ xs) y (front, (rest, (joined, (stands, more)))) p =
-    (front, (rest ++ b, (ap (λ u. u ++ b) joined ∙ append_assoc front rest b, (stands, one_more h (suc k) rest b xs y more p))))
 
 all_sound : (h : Head) (k : ℕ) (bytes : List ℕ) (xs : List Pixels) → Numbered (λ k. IsBandGrid h) k bytes xs → All IsRaster xs
 all_sound h k bytes [] n = All-nil IsRaster

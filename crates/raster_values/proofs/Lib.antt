@@ -46,3 +46,5 @@ mod AllCells
 pub mod Distances
 mod Ranges
 mod CellDistances
+pub mod LentArrays
+mod MixedRuns

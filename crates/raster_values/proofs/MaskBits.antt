@@ -280,10 +280,10 @@ run_counted a new marks read after_read from before after h within bits r s b e 
     count_after ms _ a.bytes.items new marks from a.valid before after within (bit_is a h) (λ k. bits k ∙ run_marks a.bytes.items ms marks from k within (bit_is a h)) refl h.counted
     (b ∙ ap (λ xs. length (filter (mask_bit xs) (range_with_len from n))) r) (e ∙ ap (λ xs. length (filter (mask_bit xs) (range_with_len from n))) s)
 
--- the marks that the bits of one byte from one of them on say
-pub in_byte : (a : Inside) (ms : List Bool) (at k run byte : ℕ) (mark : Bool) → IsMask a → seen_mask a ≡ ms → at ≤ k → k < at + run → at % 8 + run ≤ 8 → byte ≡ get_or a.bytes.items (at / 8) 0
-    → ((q : ℕ) → at % 8 ≤ q → q < at % 8 + run → byte_bit byte q ≡ mark) → get_or ms k false ≡ mark
-in_byte a ms at k run byte mark h e low high one is equal =
+-- the bits of one byte from one of them on
+pub in_byte : (bytes : List ℕ) (at k run byte : ℕ) (mark : Bool) → at ≤ k → k < at + run → at % 8 + run ≤ 8 → byte ≡ get_or bytes (at / 8) 0
+    → ((q : ℕ) → at % 8 ≤ q → q < at % 8 + run → byte_bit byte q ≡ mark) → mask_bit bytes k ≡ mark
+in_byte bytes at k run byte mark low high one is equal =
     let here : k / 8 ≡ at / 8 = omega arith in
     let bit : k % 8 ≡ at % 8 + (k - at) = omega arith in
-    ap (λ (xs : List Bool). get_or xs k false) (sym e) ∙ sym (bit_is a h k) ∙ ap (λ i. byte_bit (get_or a.bytes.items i 0) (k % 8)) here ∙ ap (λ b. byte_bit b (k % 8)) (sym is) ∙ equal (k % 8) (omega (arith, bit)) (omega (arith, bit, low, high))
+    ap (λ i. byte_bit (get_or bytes i 0) (k % 8)) here ∙ ap (λ b. byte_bit b (k % 8)) (sym is) ∙ equal (k % 8) (omega (arith, bit)) (omega (arith, bit, low, high))

@@ -5,6 +5,7 @@ pub use Rattle.outside_io.specs.streams.Sink.{Holds, HoldsPrefix}
 pub mod PixelType
 pub mod Distance
 pub mod Raster
+pub mod Step
 pub mod Places
 pub mod Grid
 pub mod Block
@@ -14,4 +15,5 @@ pub mod Flat
 pub mod ReadGrid
 pub mod Bands
 pub mod BandsGrid
+pub mod Lent
 pub mod inside

@@ -11,3 +11,5 @@ pub mod Sizes
 pub mod TakenRun
 pub mod Bits
 pub mod MaskView
+pub mod LentBytes
+pub mod LentMask

@@ -9,6 +9,7 @@ ghost use Rattle.raster_values.specs.inside.Heads.{front_faults, letters_of};
 ghost use Rattle.raster_values.specs.inside.Sizes.{band_bytes};
 
 use super::bands::Bands;
+use super::limits::{GREATEST_BANDS, GREATEST_VALUES};
 use super::raster::Raster;
 use super::reading::{GridReason, GridStop, Head, ONE, fault, head_of, read_band, stop_at};
 use byteorder::{ByteOrder, LittleEndian};
@@ -68,11 +69,11 @@ fn take_count<S: Source>(src: &mut S, at: u64, head: Head) -> Result<usize, Grid
         return Err(stop_at(at, fault(GridReason::Truncated, n)));
     }
     let count = LittleEndian::read_u32(&bytes);
-    if count < 2 || count > 16 {
+    if count < 2 || count > GREATEST_BANDS {
         return Err(stop_at(at, fault(GridReason::BadSize, 0)));
     }
     let values = head.rows as u64 * head.cols as u64 * head.depth as u64;
-    if count as u64 * values > 16777216 {
+    if count as u64 * values > GREATEST_VALUES {
         return Err(stop_at(at, fault(GridReason::TooLarge, 0)));
     }
     Ok(count as usize)

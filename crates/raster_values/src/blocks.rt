@@ -8,7 +8,44 @@ ghost use Rattle.lane_kernels.specs.Kernels.{IsLeast, IsGreatest};
 
 use super::cells::{Cells, by_kind};
 use super::kind::PixelType;
+use super::marked::Marked;
 use super::mask::{Mask, Run};
+use super::valued::{Valued, put_pixels};
+
+/// Puts the distances of the marked pixels among `count` from `from` on behind the first `at` of
+/// `out`, and answers where they end; the number that stands there may be another then. Each pixel is
+/// put where the next marked one belongs, so that only places depend on marks, and no jump does.
+#[inline(always)]
+fn gather_mixed(
+    kind: PixelType,
+    marks: &Mask,
+    values: &Cells,
+    depth: usize,
+    d: usize,
+    from: usize,
+    count: usize,
+    out: &mut [u32],
+    at: usize,
+) -> usize
+    requires size { length values.now.values ≡ length marks.now * depth }
+    requires few { length values.now.values ≤ 16777216 }
+    requires within { from + count ≤ length marks.now }
+    requires depth { d < depth }
+    requires room { at + count ≤ length out.old }
+    requires kind { kind ≡ values.now.kind }
+    ensures end { result ≡ at + length (run_places marks.now from count) }
+    ensures front { take result out.new ≡ take at out.old ++ map (distance_of values.now.kind)
+        (run_values depth d marks.now values.now.values from count) }
+    ensures rest { drop (result + 1) out.new ≡ drop (result + 1) out.old }
+{
+    let mut n = at;
+    for i in 0..count {
+        let k = from + i;
+        out[n] = values.distance_as(kind, k * depth + d);
+        n += usize::from(marks.get(k));
+    }
+    n
+}
 
 /// Puts the distances of the marked pixels among `count` from `from` on behind the first `at` of
 /// `out`, and answers where they end. The type is known before.
@@ -33,26 +70,27 @@ fn gather_run(
     ensures { Gathers (map (distance_of values.now.kind)
         (run_values depth d marks.now values.now.values from count)) out.old out.new at result }
 {
-    let end = from + count;
-    let mut n = at;
-    let mut k = from;
-    while k < end {
-        let run = marks.next_run(k, end);
-        let next = n + (run.end - run.start);
-        values.get_distances_as(kind, run.start, depth, d, &mut out[n..next]);
-        n = next;
-        k = run.end;
+    let end = at + marks.count_run(from, count);
+    if end == at {
+        return at;
     }
-    n
+    if end == at + count {
+        values.get_distances_as(kind, from, depth, d, &mut out[at..end]);
+        return end;
+    }
+    let kept = out[end];
+    gather_mixed(kind, marks, values, depth, d, from, count, out, at);
+    out[end] = kept;
+    end
 }
 
 /// The next run of marked pixels, as `next_run` has it, which is not looked for where it is known
 /// that all are marked.
-fn run_from(marks: &Mask, at: usize, limit: usize, all: bool) -> Run
+fn run_from<M: Marked>(marks: &M, at: usize, limit: usize, all: bool) -> Run
     requires order { at ≤ limit }
-    requires within { limit ≤ length marks.now }
-    requires all { all ≡ true → (k : ℕ) → at ≤ k → k < limit → get_or marks.now k false ≡ true }
-    ensures runs { AreRuns marks.now at result.start result.end }
+    requires within { limit ≤ length (M.marks marks.now) }
+    requires all { all ≡ true → (k : ℕ) → at ≤ k → k < limit → get_or (M.marks marks.now) k false ≡ true }
+    ensures runs { AreRuns (M.marks marks.now) at result.start result.end }
     ensures within { result.end ≤ limit }
     ensures forth { at < limit → at < result.end }
 {
@@ -68,8 +106,8 @@ fn run_from(marks: &Mask, at: usize, limit: usize, all: bool) -> Run
 
 /// Gives the marked pixels among `count` from `from` on, which are all of these where `all` says
 /// so, the values of `input` from `at` on, and answers where these end.
-fn pour_run(
-    marks: &Mask,
+fn pour_run<M: Marked, V: Valued>(
+    marks: &M,
     depth: usize,
     d: usize,
     from: usize,
@@ -77,24 +115,27 @@ fn pour_run(
     all: bool,
     input: &[i64],
     at: usize,
-    values: &mut Cells,
+    values: &mut V,
 ) -> usize
-    requires size { length values.old.values ≡ length marks.now * depth }
-    requires few { length values.old.values ≤ 16777216 }
-    requires within { from + count ≤ length marks.now }
+    requires sound { V.sound values.old }
+    requires size { length (V.cells values.old).values ≡ length (M.marks marks.now) * depth }
+    requires few { length (V.cells values.old).values ≤ 16777216 }
+    requires within { from + count ≤ length (M.marks marks.now) }
     requires depth { d < depth }
     requires all { all ≡ true → (k : ℕ) → from ≤ k → k < from + count
-        → get_or marks.now k false ≡ true }
-    requires in_range { All (InRange values.old.kind) input.now }
-    requires room { at + length (run_places marks.now from count) ≤ length input.now }
-    ensures end { result ≡ at + length (run_places marks.now from count) }
-    ensures poured { take at input.now ++ run_values depth d marks.now values.new.values from count
+        → get_or (M.marks marks.now) k false ≡ true }
+    requires in_range { All (InRange (V.cells values.old).kind) input.now }
+    requires room { at + length (run_places (M.marks marks.now) from count) ≤ length input.now }
+    ensures end { result ≡ at + length (run_places (M.marks marks.now) from count) }
+    ensures poured { take at input.now ++ run_values depth d (M.marks marks.now) (V.cells values.new).values from count
         ≡ take result input.now }
-    ensures kind { values.new.kind ≡ values.old.kind }
-    ensures in_range { All (InRange values.old.kind) values.old.values
-        → All (InRange values.old.kind) values.new.values }
-    ensures size { length values.new.values ≡ length values.old.values }
-    ensures rest { LeavesRun depth d marks.now from count values.old.values values.new.values }
+    ensures kind { (V.cells values.new).kind ≡ (V.cells values.old).kind }
+    ensures in_range { All (InRange (V.cells values.old).kind) (V.cells values.old).values
+        → All (InRange (V.cells values.old).kind) (V.cells values.new).values }
+    ensures size { length (V.cells values.new).values ≡ length (V.cells values.old).values }
+    ensures rest { LeavesRun depth d (M.marks marks.now) from count (V.cells values.old).values (V.cells values.new).values }
+    ensures sound { V.sound values.new }
+    ensures kept { V.kept values.new ≡ V.kept values.old }
 {
     let end = from + count;
     let mut n = at;
@@ -102,7 +143,7 @@ fn pour_run(
     while k < end {
         let run = run_from(marks, k, end, all);
         let next = n + (run.end - run.start);
-        values.put_pixels(run.start, depth, d, &input[n..next]);
+        put_pixels(values, run.start, depth, d, &input[n..next]);
         n = next;
         k = run.end;
     }
@@ -110,19 +151,19 @@ fn pour_run(
 }
 
 /// How many pixels of a block are marked.
-pub(super) fn count_rows(
-    marks: &Mask,
+pub(super) fn count_rows<M: Marked>(
+    marks: &M,
     cols: usize,
     row: usize,
     col: usize,
     high: usize,
     wide: usize,
 ) -> usize
-    requires few { length marks.now ≤ 16777216 }
+    requires few { length (M.marks marks.now) ≤ 16777216 }
     requires across { col + wide ≤ cols }
-    requires rows { row + high ≤ length marks.now }
-    requires within { (row + high) * cols ≤ length marks.now }
-    ensures value { result ≡ length (rows_places marks.now cols row col high wide) }
+    requires rows { row + high ≤ length (M.marks marks.now) }
+    requires within { (row + high) * cols ≤ length (M.marks marks.now) }
+    ensures value { result ≡ length (rows_places (M.marks marks.now) cols row col high wide) }
     ensures within { result ≤ high * wide }
 {
     let mut n = 0;
@@ -234,8 +275,8 @@ pub(super) fn range_of(marks: &Mask, values: &Cells, depth: usize, d: usize) -> 
 }
 
 /// Gives a block's marked pixels these values.
-pub(super) fn pour_rows(
-    marks: &Mask,
+pub(super) fn pour_rows<M: Marked, V: Valued>(
+    marks: &M,
     depth: usize,
     d: usize,
     cols: usize,
@@ -244,24 +285,27 @@ pub(super) fn pour_rows(
     high: usize,
     wide: usize,
     input: &[i64],
-    values: &mut Cells,
+    values: &mut V,
 )
-    requires size { length values.old.values ≡ length marks.now * depth }
-    requires few { length values.old.values ≤ 16777216 }
+    requires sound { V.sound values.old }
+    requires size { length (V.cells values.old).values ≡ length (M.marks marks.now) * depth }
+    requires few { length (V.cells values.old).values ≤ 16777216 }
     requires across { col + wide ≤ cols }
-    requires rows { row + high ≤ length marks.now }
-    requires within { (row + high) * cols ≤ length marks.now }
+    requires rows { row + high ≤ length (M.marks marks.now) }
+    requires within { (row + high) * cols ≤ length (M.marks marks.now) }
     requires depth { d < depth }
-    requires in_range { All (InRange values.old.kind) input.now }
-    requires count { length input.now ≡ length (rows_places marks.now cols row col high wide) }
-    ensures poured { rows_values depth d marks.now values.new.values cols row col high wide
+    requires in_range { All (InRange (V.cells values.old).kind) input.now }
+    requires count { length input.now ≡ length (rows_places (M.marks marks.now) cols row col high wide) }
+    ensures poured { rows_values depth d (M.marks marks.now) (V.cells values.new).values cols row col high wide
         ≡ input.now }
-    ensures kind { values.new.kind ≡ values.old.kind }
-    ensures in_range { All (InRange values.old.kind) values.old.values
-        → All (InRange values.old.kind) values.new.values }
-    ensures size { length values.new.values ≡ length values.old.values }
-    ensures rest { LeavesRows depth d marks.now cols row col high wide
-        values.old.values values.new.values }
+    ensures kind { (V.cells values.new).kind ≡ (V.cells values.old).kind }
+    ensures in_range { All (InRange (V.cells values.old).kind) (V.cells values.old).values
+        → All (InRange (V.cells values.old).kind) (V.cells values.new).values }
+    ensures size { length (V.cells values.new).values ≡ length (V.cells values.old).values }
+    ensures rest { LeavesRows depth d (M.marks marks.now) cols row col high wide
+        (V.cells values.old).values (V.cells values.new).values }
+    ensures sound { V.sound values.new }
+    ensures kept { V.kept values.new ≡ V.kept values.old }
 {
     let all = input.len() == high * wide;
     let mut n = 0;

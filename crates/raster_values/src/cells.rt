@@ -7,20 +7,18 @@ ghost use Rattle.outside_io.specs.streams.Faults.{CountsFaults};
 ghost use Rattle.raster_values.specs.inside.TakenRun.{Laid, PutsRun, TakesRun, behind};
 ghost use Rattle.raster_values.specs.ReadGrid.{TookSome};
 ghost use Rattle.raster_values.specs.inside.Cleared.{cleared};
-ghost use Rattle.raster_values.specs.inside.Ordered.{FillsPixels, PutsPixels};
 ghost use Rattle.raster_values.specs.inside.Runs.{AreEnds, Gathers, whole_rows};
 ghost use Rattle.std.specs.List.{range_with_len};
 ghost use Rattle.raster_values.specs.Distance.{distance_of};
 ghost use Rattle.lane_kernels.specs.Kernels.{IsLeast, IsGreatest};
 
 use super::ahead::Ahead;
+use super::byte_runs;
 use super::kind::PixelType;
+use super::valued::{fill_pixels, put_run};
 use outside_io::{Failed, Source};
 use std::alloc::{AllocError, Global};
 use std::marker::Model;
-
-/// How many values are laid down at once where one list is repeated.
-const SPAN: usize = 8192;
 
 /// Values of one type, kept as the bytes that stand for them in a file.
 #[derive(Drop)]
@@ -77,7 +75,7 @@ macro_rules! by_kind {
 pub(super) use by_kind;
 
 /// Where the bytes of the value at a place begin.
-fn place(kind: PixelType, count: usize, at: usize) -> usize
+pub(super) fn place(kind: PixelType, count: usize, at: usize) -> usize
     requires few { count ≤ 16777216 }
     requires within { at ≤ count }
     ensures value { result ≡ at * bytes_of kind }
@@ -93,8 +91,7 @@ fn clear_bytes(bytes: &mut Vec<u8>, at: usize, count: usize)
     ensures { bytes.new.items ≡ take at bytes.old.items
         ++ (replicate count 0 ++ drop (at + count) bytes.old.items) }
 {
-    let run = &mut bytes[at..at + count];
-    run.fill(0);
+    byte_runs::clear(&mut bytes[..], at, count);
 }
 
 /// Lays bytes over as many from `at` on.
@@ -103,8 +100,7 @@ fn lay_bytes(bytes: &mut Vec<u8>, at: usize, run: &[u8])
     ensures { bytes.new.items ≡ take at bytes.old.items
         ++ (run.now ++ drop (at + length run.now) bytes.old.items) }
 {
-    let place = &mut bytes[at..at + run.len()];
-    place.copy_from_slice(run);
+    byte_runs::lay(&mut bytes[..], at, run);
 }
 
 /// Lays the bytes from `from` to `end` also over as many from `to` on, which stand behind them.
@@ -116,9 +112,7 @@ fn repeat_bytes(bytes: &mut Vec<u8>, from: usize, end: usize, to: usize)
         ++ (take (end - from) (drop from bytes.old.items)
         ++ drop (to + (end - from)) bytes.old.items) }
 {
-    let all = &mut bytes[..];
-    let (front, back) = all.split_at_mut(to);
-    back[..end - from].copy_from_slice(&front[from..end]);
+    byte_runs::repeat(&mut bytes[..], from, end, to);
 }
 
 /// So many bytes 0.
@@ -128,9 +122,10 @@ fn zeros(alloc: Global, count: usize) -> Result<Vec<u8>, AllocError>
     vec![in alloc; 0u8; count]
 }
 
-/// Lays the bytes of values over the front.
+/// Lays the bytes of values of a type over the front of `out`, one behind the other. The bytes
+/// behind them stay.
 #[inline(always)]
-fn write_values(kind: PixelType, values: &[i64], out: &mut [u8])
+pub fn write_values(kind: PixelType, values: &[i64], out: &mut [u8])
     requires room { length values.now * bytes_of kind ≤ length out.old }
     requires in_range { All (InRange kind) values.now }
     ensures { out.new ≡ values_bytes kind values.now
@@ -140,6 +135,63 @@ fn write_values(kind: PixelType, values: &[i64], out: &mut [u8])
     for (i, value) in values.iter().enumerate() {
         kind.write_value(*value, &mut out[i * size..]);
     }
+}
+
+/// The values at a depth of the pixels from `first` on, of which each has `depth`: of `count` values
+/// that the bytes stand for.
+pub(super) fn read_pixels(
+    kind: PixelType,
+    count: usize,
+    bytes: &[u8],
+    first: usize,
+    depth: usize,
+    d: usize,
+    out: &mut [i64],
+)
+    requires few { count ≤ 16777216 }
+    requires size { length bytes.now ≡ count * bytes_of kind }
+    requires depth { d < depth }
+    requires within { (first + length out.old) * depth ≤ count }
+    ensures { out.new ≡ map (λ k. get_or (values_in kind count bytes.now) (k * depth + d) (pos 0))
+        (range_with_len first (length out.old)) }
+{
+    by_kind!(kind, kind => read_pixels_as(kind, count, bytes, first, depth, d, out))
+}
+
+/// Does what `read_pixels` does, for a type that is known before.
+#[inline(always)]
+fn read_pixels_as(
+    kind: PixelType,
+    count: usize,
+    bytes: &[u8],
+    first: usize,
+    depth: usize,
+    d: usize,
+    out: &mut [i64],
+)
+    requires few { count ≤ 16777216 }
+    requires size { length bytes.now ≡ count * bytes_of kind }
+    requires depth { d < depth }
+    requires within { (first + length out.old) * depth ≤ count }
+    ensures { out.new ≡ map (λ k. get_or (values_in kind count bytes.now) (k * depth + d) (pos 0))
+        (range_with_len first (length out.old)) }
+{
+    for i in 0..out.len() {
+        out[i] = value_at(kind, count, bytes, (first + i) * depth + d);
+    }
+}
+
+/// The value whose bytes stand at a place, of `count` values.
+#[inline(always)]
+fn value_at(kind: PixelType, count: usize, bytes: &[u8], at: usize) -> i64
+    requires few { count ≤ 16777216 }
+    requires size { length bytes.now ≡ count * bytes_of kind }
+    requires within { at < count }
+    ensures value { result ≡ get_or (values_in kind count bytes.now) at (pos 0) }
+    ensures in_range { InRange kind result }
+{
+    let from = place(kind, count, at);
+    kind.read_value(&bytes[from..])
 }
 
 /// How far the value whose bytes stand at a place is above the type's least.
@@ -250,19 +302,7 @@ impl Cells {
         ensures value { result ≡ get_or self.now.values at (pos 0) }
         ensures in_range { InRange self.now.kind result }
     {
-        self.get_as(self.kind, at)
-    }
-
-    /// Does what `get` does, for a type that is known before.
-    #[inline(always)]
-    fn get_as(&self, kind: PixelType, at: usize) -> i64
-        requires kind { kind ≡ self.now.kind }
-        requires within { at < length self.now.values }
-        ensures value { result ≡ get_or self.now.values at (pos 0) }
-        ensures in_range { InRange self.now.kind result }
-    {
-        let from = place(kind, self.count, at);
-        kind.read_value(&self.bytes[from..])
+        value_at(self.kind, self.count, &self.bytes, at)
     }
 
     /// The values at a depth of the pixels from `first` on, of which each has `depth`.
@@ -273,22 +313,18 @@ impl Cells {
         ensures { out.new ≡ map (λ k. get_or self.now.values (k * depth + d) (pos 0))
             (range_with_len first (length out.old)) }
     {
-        by_kind!(self.kind, kind => self.get_pixels_as(kind, first, depth, d, out))
+        read_pixels(self.kind, self.count, &self.bytes, first, depth, d, out);
     }
 
-    /// Does what `get_pixels` does, for a type that is known before.
+    /// How far the value at a place is above the type's least, for a type that is known before.
     #[inline(always)]
-    fn get_pixels_as(&self, kind: PixelType, first: usize, depth: usize, d: usize, out: &mut [i64])
+    pub fn distance_as(&self, kind: PixelType, at: usize) -> u32
         requires kind { kind ≡ self.now.kind }
         requires few { length self.now.values ≤ 16777216 }
-        requires depth { d < depth }
-        requires within { (first + length out.old) * depth ≤ length self.now.values }
-        ensures { out.new ≡ map (λ k. get_or self.now.values (k * depth + d) (pos 0))
-            (range_with_len first (length out.old)) }
+        requires within { at < length self.now.values }
+        ensures { result ≡ distance_of self.now.kind (get_or self.now.values at (pos 0)) }
     {
-        for i in 0..out.len() {
-            out[i] = self.get_as(kind, (first + i) * depth + d);
-        }
+        distance_at(kind, self.bytes.as_slice(), at)
     }
 
     /// How far the values at a depth of the pixels from `first` on are above the type's least: of
@@ -534,21 +570,10 @@ impl Cells {
         (near, far)
     }
 
-    /// Puts a run of values of the type in the place of as many from `at` on.
-    pub fn put_run(&mut self, at: usize, values: &[i64])
-        requires within { at + length values.now ≤ length self.old.values }
-        requires in_range { All (InRange self.old.kind) values.now }
-        ensures { self.new ≡ record self.old {
-          values = take at self.old.values
-              ++ (values.now ++ drop (at + length values.now) self.old.values);
-        } }
-    {
-        by_kind!(self.kind, kind => self.put_run_as(kind, at, values))
-    }
-
-    /// Does what `put_run` does, for a type that is known before.
+    /// Puts a run of values of the type, which is known before, in the place of as many from `at`
+    /// on.
     #[inline(always)]
-    fn put_run_as(&mut self, kind: PixelType, at: usize, values: &[i64])
+    pub fn put_run_as(&mut self, kind: PixelType, at: usize, values: &[i64])
         requires kind { kind ≡ self.old.kind }
         requires within { at + length values.now ≤ length self.old.values }
         requires in_range { All (InRange self.old.kind) values.now }
@@ -561,83 +586,9 @@ impl Cells {
         write_values(kind, values, &mut self.bytes[from..]);
     }
 
-    /// Puts values of the type at a depth of as many pixels from `first` on, of which each has
-    /// `depth` values.
-    pub fn put_pixels(&mut self, first: usize, depth: usize, d: usize, values: &[i64])
-        requires few { length self.old.values ≤ 16777216 }
-        requires depth { d < depth }
-        requires within { (first + length values.now) * depth ≤ length self.old.values }
-        requires in_range { All (InRange self.old.kind) values.now }
-        ensures kind { self.new.kind ≡ self.old.kind }
-        ensures in_range { All (InRange self.old.kind) self.old.values
-            → All (InRange self.old.kind) self.new.values }
-        ensures size { length self.new.values ≡ length self.old.values }
-        ensures put { PutsPixels depth d first
-            (length values.now) values.now self.old.values self.new.values }
-    {
-        if depth == 1 {
-            return self.put_run(first, values);
-        }
-        by_kind!(self.kind, kind => self.put_pixels_as(kind, first, depth, d, values))
-    }
-
-    /// Does what `put_pixels` does, for a type that is known before.
-    #[inline(always)]
-    fn put_pixels_as(
-        &mut self,
-        kind: PixelType,
-        first: usize,
-        depth: usize,
-        d: usize,
-        values: &[i64],
-    )
-        requires kind { kind ≡ self.old.kind }
-        requires few { length self.old.values ≤ 16777216 }
-        requires depth { d < depth }
-        requires within { (first + length values.now) * depth ≤ length self.old.values }
-        requires in_range { All (InRange self.old.kind) values.now }
-        ensures kind { self.new.kind ≡ self.old.kind }
-        ensures in_range { All (InRange self.old.kind) self.old.values
-            → All (InRange self.old.kind) self.new.values }
-        ensures size { length self.new.values ≡ length self.old.values }
-        ensures put { PutsPixels depth d first
-            (length values.now) values.now self.old.values self.new.values }
-    {
-        for (i, value) in values.iter().enumerate() {
-            self.put_run_as(kind, (first + i) * depth + d, &[*value]);
-        }
-    }
-
-    /// Gives each of `count` pixels from `first` on this list of values.
-    pub fn fill_pixels(&mut self, first: usize, count: usize, pixel: &[i64])
-        requires few { length self.old.values ≤ 16777216 }
-        requires depth { 0 < length pixel.now }
-        requires within { (first + count) * length pixel.now ≤ length self.old.values }
-        requires in_range { All (InRange self.old.kind) pixel.now }
-        ensures kind { self.new.kind ≡ self.old.kind }
-        ensures in_range { All (InRange self.old.kind) self.old.values
-            → All (InRange self.old.kind) self.new.values }
-        ensures size { length self.new.values ≡ length self.old.values }
-        ensures filled { FillsPixels first count pixel.now self.old.values self.new.values }
-    {
-        if count == 0 {
-            return;
-        }
-        let depth = pixel.len();
-        let span = (SPAN / depth).max(1);
-        let at = first * depth;
-        self.put_run(at, pixel);
-        let mut done = 1;
-        while done < count {
-            let more = done.min(count - done).min(span);
-            self.repeat_run(at, at + done * depth, more * depth);
-            done += more;
-        }
-    }
-
     /// Puts the `count` values from `at` on also in the place of those from `to` on, which stand
     /// behind them.
-    fn repeat_run(&mut self, at: usize, to: usize, count: usize)
+    pub fn repeat_run(&mut self, at: usize, to: usize, count: usize)
         requires behind { at + count ≤ to }
         requires within { to + count ≤ length self.old.values }
         ensures { self.new ≡ record self.old {
@@ -726,7 +677,7 @@ impl Cells {
         requires in_range { InRange self.old.kind value }
         ensures { self.new ≡ record self.old { values = slice_set self.old.values at value } }
     {
-        self.put_run(at, &[value]);
+        put_run(self, at, &[value]);
     }
 
     /// Sets a run of values to 0.
@@ -745,6 +696,6 @@ impl Cells {
         ensures { self.new ≡ record self.old { values = replicate (length self.old.values) value } }
     {
         let count = self.count;
-        self.fill_pixels(0, count, &[value]);
+        fill_pixels(self, 0, count, &[value]);
     }
 }

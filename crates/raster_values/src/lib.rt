@@ -9,19 +9,29 @@
 mod ahead;
 mod bands;
 mod bands_grid;
+mod bits;
 mod blocks;
+mod byte_runs;
 mod cells;
 mod grid;
 mod kind;
 mod laws;
+mod lent;
+mod lent_mask;
+mod limits;
+mod marked;
 mod mask;
+mod mask_bits;
 mod order;
 mod raster;
 mod reading;
+mod valued;
 mod waiting;
 
 pub use bands::Bands;
 pub use bands_grid::{bands_read, bands_size, grid_size};
+pub use bits::clear_spare;
+pub use cells::write_values;
 pub use grid::{bands_write, grid_write};
 pub use kind::PixelType;
 pub use laws::{
@@ -31,6 +41,9 @@ pub use laws::{
     in_order_is_a_raster, marks_one_place, numbers_are_places, order_is_one, pouring_is_one,
     pouring_leaves_others, values_may_change, writes_one_value,
 };
+pub use lent::Lent;
+pub use limits::{GREATEST_BANDS, GREATEST_DEPTH, GREATEST_VALUES, is_shape};
+pub use mask_bits::{clear_bits, count_marked, set_bits};
 pub use raster::{Raster, ShapeFault};
 pub use reading::{GridFault, GridReason, GridStop, grid_read};
 

@@ -7,6 +7,7 @@ ghost use Rattle.raster_values.specs.inside.Bits.{byte_bit, bit_after};
 ghost use Rattle.raster_values.specs.inside.Runs.{run_places, AreRuns};
 ghost use Rattle.raster_values.specs.inside.Pack.{mark_bytes};
 
+use super::bits;
 use byteorder::{ByteOrder, LittleEndian};
 use std::alloc::{AllocError, Global};
 use std::marker::Model;
@@ -54,7 +55,7 @@ fn zeros_from(byte: u8, from: usize) -> usize
 }
 
 /// How many bits of a byte from `from` on are `mark` before one that is not.
-fn equal_from(byte: u8, from: usize, mark: bool) -> usize
+pub(super) fn equal_from(byte: u8, from: usize, mark: bool) -> usize
     requires { from < 8 }
     ensures within { from + result ≤ 8 }
     ensures equal { (q : ℕ) → from ≤ q → q < from + result → byte_bit byte q ≡ mark }
@@ -78,7 +79,7 @@ fn with_bit(byte: u8, place: usize, mark: bool) -> u8
 }
 
 /// The byte with its first bits alone.
-fn front_bits(byte: u8, count: usize) -> u8
+pub(super) fn front_bits(byte: u8, count: usize) -> u8
     requires above { 0 < count }
     requires below { count < 8 }
     ensures { (q : ℕ) → q < 8 → byte_bit result q ≡ (nat_lt q count && byte_bit byte q) }
@@ -104,9 +105,7 @@ fn clear_spare(bytes: &mut Vec<u8>, count: usize)
     ensures bits { (k : ℕ)
         → mask_bit bytes.new.items k ≡ (nat_lt k count && mask_bit bytes.old.items k) }
 {
-    if count % 8 > 0 {
-        bytes[count / 8] = front_bits(bytes[count / 8], count % 8);
-    }
+    bits::clear_spare(&mut bytes[..], count);
 }
 
 /// Sets every bit.
@@ -183,7 +182,7 @@ fn count_part(bytes: &[u8], from: usize, count: usize) -> usize
 
 /// How many of `count` bits from `from` on are 1: those of the bytes that lie in them whole, and
 /// those before and behind these.
-fn count_bits(bytes: &[u8], from: usize, count: usize) -> usize
+pub(super) fn count_bits(bytes: &[u8], from: usize, count: usize) -> usize
     requires few { from + count ≤ 16777216 }
     requires within { from + count ≤ 8 * length bytes.now }
     ensures { result ≡ length (filter (mask_bit bytes.now) (range_with_len from count)) }
@@ -428,6 +427,7 @@ impl Mask {
         requires room { count ≤ length out.old }
         ensures { out.new ≡ mark_bytes (take count (drop from self.now)) ++ drop count out.old }
     {
+        // for the proof: `len` ensures that there are at most 2^24 pixels
         let _ = self.len();
         if self.valid == self.count {
             out[..count].fill(1);
@@ -445,6 +445,7 @@ impl Mask {
         ensures { (k : ℕ) → k < length out.old
             → get_or out.new k 0 ≡ (if get_or self.now (from + k) false then 1 else 0) }
     {
+        // for the proof: `len` ensures that there are at most 2^24 pixels
         let _ = self.len();
         for i in 0..out.len() {
             out[i] = u8::from(self.get(from + i));
@@ -457,44 +458,13 @@ impl Mask {
         ensures { (i : ℕ) → i < length out.old
             → get_or out.new i false ≡ get_or self.now (from + i) false }
     {
+        // for the proof: `len` ensures that there are at most 2^24 pixels
         let _ = self.len();
         if self.valid == self.count {
             out.fill(true);
             return;
         }
-        for i in 0..out.len() {
-            out[i] = self.get(from + i);
-        }
-    }
-
-    /// The first place behind a pixel with this mark, at most eight further, before which all have
-    /// it.
-    fn past(&self, at: usize, limit: usize, mark: bool) -> usize
-        requires order { at < limit }
-        requires within { limit ≤ length self.now }
-        requires here { get_or self.now at false ≡ mark }
-        ensures from { at < result }
-        ensures within { result ≤ limit }
-        ensures run { (k : ℕ) → at ≤ k → k < result → get_or self.now k false ≡ mark }
-    {
-        let byte = self.bytes[at / 8];
-        limit.min(at + equal_from(byte, at % 8, mark).max(1))
-    }
-
-    /// Where the run of equal marks from `at` on ends, which is looked for before `limit`.
-    pub fn run_end(&self, at: usize, limit: usize, mark: bool) -> usize
-        requires order { at ≤ limit }
-        requires within { limit ≤ length self.now }
-        ensures from { at ≤ result }
-        ensures within { result ≤ limit }
-        ensures run { (k : ℕ) → at ≤ k → k < result → get_or self.now k false ≡ mark }
-        ensures end { result < limit → get_or self.now result false ≡ mark → ⊥ }
-    {
-        let mut end = at;
-        while end < limit && self.get(end) == mark {
-            end = self.past(end, limit, mark);
-        }
-        end
+        bits::copy_bits(&self.bytes, from, out);
     }
 
     /// The next run of valid pixels from `at` on, before `limit`. It is empty, and at `limit`,
@@ -512,8 +482,6 @@ impl Mask {
                 end: limit,
             };
         }
-        let start = self.run_end(at, limit, false);
-        let end = self.run_end(start, limit, true);
-        Run { start, end }
+        bits::run_after(&self.bytes, at, limit)
     }
 }

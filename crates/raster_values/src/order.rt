@@ -9,40 +9,53 @@ ghost use Rattle.raster_values.specs.Grid.{values_bytes};
 ghost use Rattle.raster_values.specs.inside.Ordered.{ChangesMarked, FillsMarked, PutsMarked, PutsMarkedBytes};
 
 use super::cells::Cells;
+use super::marked::Marked;
 use super::mask::Mask;
+use super::valued::{Valued, fill_pixels, put_pixels};
 
 /// Gives each marked pixel this list of values, one for each depth.
-pub(super) fn fill_marked(marks: &Mask, pixel: &[i64], values: &mut Cells)
-    requires size { length values.old.values ≡ length marks.now * length pixel.now }
-    requires few { length values.old.values ≤ 16777216 }
+pub(super) fn fill_marked<M: Marked, V: Valued>(marks: &M, pixel: &[i64], values: &mut V)
+    requires sound { V.sound values.old }
+    requires size { length (V.cells values.old).values ≡ length (M.marks marks.now) * length pixel.now }
+    requires few { length (V.cells values.old).values ≤ 16777216 }
     requires depth { 0 < length pixel.now }
-    requires in_range { All (InRange values.old.kind) pixel.now }
-    ensures kind { values.new.kind ≡ values.old.kind }
-    ensures in_range { All (InRange values.old.kind) values.old.values
-        → All (InRange values.old.kind) values.new.values }
-    ensures size { length values.new.values ≡ length values.old.values }
-    ensures filled { FillsMarked (length marks.now) marks.now pixel.now values.old.values
-        values.new.values }
+    requires in_range { All (InRange (V.cells values.old).kind) pixel.now }
+    ensures kind { (V.cells values.new).kind ≡ (V.cells values.old).kind }
+    ensures in_range { All (InRange (V.cells values.old).kind) (V.cells values.old).values
+        → All (InRange (V.cells values.old).kind) (V.cells values.new).values }
+    ensures size { length (V.cells values.new).values ≡ length (V.cells values.old).values }
+    ensures filled { FillsMarked (length (M.marks marks.now)) (M.marks marks.now) pixel.now (V.cells values.old).values
+        (V.cells values.new).values }
+    ensures sound { V.sound values.new }
+    ensures kept { V.kept values.new ≡ V.kept values.old }
 {
     let mut at = 0;
     while at < marks.len() {
         let run = marks.next_run(at, marks.len());
-        values.fill_pixels(run.start, run.end - run.start, pixel);
+        fill_pixels(values, run.start, run.end - run.start, pixel);
         at = run.end;
     }
 }
 
 /// Gives the marked pixels the values that the bytes stand for, run by run.
-pub(super) fn pour_bytes(marks: &Mask, depth: usize, bytes: &[u8], values: &mut Cells)
-    requires size { length values.old.values ≡ length marks.now * depth }
-    requires few { length values.old.values ≤ 16777216 }
+pub(super) fn pour_bytes<M: Marked, V: Valued>(
+    marks: &M,
+    depth: usize,
+    bytes: &[u8],
+    values: &mut V,
+)
+    requires sound { V.sound values.old }
+    requires size { length (V.cells values.old).values ≡ length (M.marks marks.now) * depth }
+    requires few { length (V.cells values.old).values ≤ 16777216 }
     requires count { length bytes.now ≡ length (values_of
-        (pixels_of depth marks.now values.old.values)) * bytes_of values.old.kind }
-    ensures kind { values.new.kind ≡ values.old.kind }
-    ensures changed { ChangesMarked values.old.kind depth marks.now
-        values.old.values values.new.values }
-    ensures poured { values_bytes values.old.kind
-        (values_of (pixels_of depth marks.now values.new.values)) ≡ bytes.now }
+        (pixels_of depth (M.marks marks.now) (V.cells values.old).values)) * bytes_of (V.cells values.old).kind }
+    ensures kind { (V.cells values.new).kind ≡ (V.cells values.old).kind }
+    ensures changed { ChangesMarked (V.cells values.old).kind depth (M.marks marks.now)
+        (V.cells values.old).values (V.cells values.new).values }
+    ensures poured { values_bytes (V.cells values.old).kind
+        (values_of (pixels_of depth (M.marks marks.now) (V.cells values.new).values)) ≡ bytes.now }
+    ensures sound { V.sound values.new }
+    ensures kept { V.kept values.new ≡ V.kept values.old }
 {
     let size = values.kind().bytes();
     let mut at = 0;
@@ -58,32 +71,35 @@ pub(super) fn pour_bytes(marks: &Mask, depth: usize, bytes: &[u8], values: &mut 
 }
 
 /// Gives the marked ones among the pixels from `place` on these values at a depth.
-pub(super) fn put_values(
-    marks: &Mask,
+pub(super) fn put_values<M: Marked, V: Valued>(
+    marks: &M,
     depth: usize,
     d: usize,
     place: usize,
     input: &[i64],
-    values: &mut Cells,
+    values: &mut V,
 )
-    requires size { length values.old.values ≡ length marks.now * depth }
-    requires few { length values.old.values ≤ 16777216 }
-    requires within { place + length input.now ≤ length marks.now }
+    requires sound { V.sound values.old }
+    requires size { length (V.cells values.old).values ≡ length (M.marks marks.now) * depth }
+    requires few { length (V.cells values.old).values ≤ 16777216 }
+    requires within { place + length input.now ≤ length (M.marks marks.now) }
     requires depth { d < depth }
-    requires in_range { All (InRange values.old.kind) input.now }
-    ensures kind { values.new.kind ≡ values.old.kind }
-    ensures in_range { All (InRange values.old.kind) values.old.values
-        → All (InRange values.old.kind) values.new.values }
-    ensures size { length values.new.values ≡ length values.old.values }
-    ensures put { PutsMarked depth d marks.now place (length input.now) input.now values.old.values
-        values.new.values }
+    requires in_range { All (InRange (V.cells values.old).kind) input.now }
+    ensures kind { (V.cells values.new).kind ≡ (V.cells values.old).kind }
+    ensures in_range { All (InRange (V.cells values.old).kind) (V.cells values.old).values
+        → All (InRange (V.cells values.old).kind) (V.cells values.new).values }
+    ensures size { length (V.cells values.new).values ≡ length (V.cells values.old).values }
+    ensures put { PutsMarked depth d (M.marks marks.now) place (length input.now) input.now (V.cells values.old).values
+        (V.cells values.new).values }
+    ensures sound { V.sound values.new }
+    ensures kept { V.kept values.new ≡ V.kept values.old }
 {
     let end = place + input.len();
     let mut k = place;
     while k < end {
         let run = marks.next_run(k, end);
         let piece = &input[run.start - place..run.end - place];
-        values.put_pixels(run.start, depth, d, piece);
+        put_pixels(values, run.start, depth, d, piece);
         k = run.end;
     }
 }

@@ -16,6 +16,7 @@ ghost use Rattle.raster_values.specs.Block.{SameMask, block_count, block_values,
 
 use super::cells::Cells;
 use super::kind::PixelType;
+use super::limits::is_shape;
 use super::mask::Mask;
 use super::reading::GridStop;
 use super::{blocks, grid, order, reading};
@@ -88,20 +89,11 @@ fn offset(rows: u32, cols: u32, depth: u32, row: u32, col: u32, d: u32) -> usize
 }
 
 /// How many of `side` rows or columns from `from` on there are: a block is cut off at the edge.
-fn edge(side: u32, from: u32, size: u32) -> u32
+pub(super) fn edge(side: u32, from: u32, size: u32) -> u32
     requires { from < size }
     ensures { result ≡ min side (size - from) }
 {
     side.min(size - from)
-}
-
-/// Whether a shape of which no number is 0 is within the limits.
-pub(super) fn is_allowed(rows: u32, cols: u32, depth: u32) -> bool
-    requires { 0 < depth }
-    ensures { IsTrue result ↔ ((depth ≤ 65536) × (rows * cols * depth ≤ 16777216)) }
-{
-    let places = rows as u64 * cols as u64;
-    depth <= 65536 && places <= 16777216 && places * depth as u64 <= 16777216
 }
 
 /// How many pixels a raster of a shape has.
@@ -114,7 +106,7 @@ fn places_of(rows: u32, cols: u32, depth: u32) -> Result<usize, ShapeFault>
     if rows == 0 || cols == 0 || depth == 0 {
         return Err(ShapeFault::BadSize);
     }
-    if !is_allowed(rows, cols, depth) {
+    if !is_shape(rows, cols, depth) {
         return Err(ShapeFault::TooLarge);
     }
     Ok(rows as usize * cols as usize)

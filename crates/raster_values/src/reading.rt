@@ -14,8 +14,9 @@ use super::PIECE;
 use super::ahead::Ahead;
 use super::cells::Cells;
 use super::kind::PixelType;
+use super::limits::is_shape;
 use super::mask::Mask;
-use super::raster::{Raster, is_allowed};
+use super::raster::Raster;
 use byteorder::{ByteOrder, LittleEndian};
 use outside_io::{Failed, Source, take_all};
 use std::alloc::{AllocError, Global};
@@ -148,7 +149,7 @@ pub(super) fn head_of(magic: [u8; 4], bytes: &[u8]) -> Result<Head, GridFault>
     let rows = size_at(bytes, 5)?;
     let cols = size_at(bytes, 9)?;
     let depth = size_at(bytes, 13)?;
-    if !is_allowed(rows, cols, depth) {
+    if !is_shape(rows, cols, depth) {
         return Err(fault(GridReason::TooLarge, 13));
     }
     Ok(Head {

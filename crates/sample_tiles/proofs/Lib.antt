@@ -2,4 +2,3 @@ mod Batch
 mod Drawing
 pub mod Once
 mod Summing
-mod Whole

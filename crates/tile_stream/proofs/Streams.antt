@@ -1,7 +1,7 @@
 -- Streams.
 use Rattle.std.proofs.Common.{◌≡◌, ℕ, ◌≤◌, suc, List, [], ◌∷◌, ◌++◌, length, refl, sym, ap, ◌∙◌, subst, arith, append_assoc, length-append}
-use Rattle.std.proofs.lemmas.List.{append-nil}
 use Rattle.first_fault.specs.Faults.{Numbered}
+use Rattle.first_fault.proofs.Decided.{numbered_push}
 use Rattle.first_fault.proofs.Parts.{same_rest}
 use Rattle.tile_stream.specs.declared.tile.Tile.{Tile}
 use Rattle.tile_stream.specs.Stream.{IsStream, StreamsHaveOneList}
@@ -11,14 +11,9 @@ use Rattle.tile_stream.proofs.Tiles.{tile_part}
 pub tile_long : (bytes : List ℕ) (t : Tile) → IsTile bytes t → 3 ≤ length bytes
 tile_long bytes t is = let size : length bytes ≡ length (is.head ++ is.grid) = ap length is.joined in omega (arith, length-append is.head is.grid, is.head_is.size)
 
--- ---- one tile more
-
-pushed : (k : ℕ) (a b : List ℕ) (tiles : List Tile) (t : Tile) → Numbered (λ k. IsTile) k a tiles → IsTile b t → Numbered (λ k. IsTile) k (a ++ b) (tiles ++ t ∷ [])
-pushed k a b [] t is tile = (b, ([], (ap (λ (u : List ℕ). u ++ b) is ∙ sym (append-nil b), (tile, refl))))
-pushed k a b (x ∷ xs) t (front, (rest, (joined, (stands, more)))) tile = (front, (rest ++ b, (ap (λ (u : List ℕ). u ++ b) joined ∙ append_assoc front rest b, (stands, pushed (suc k) rest b xs t more tile))))
-
+-- one tile more
 pub stream_push : (bytes more : List ℕ) (tiles : List Tile) (t : Tile) → IsStream bytes tiles → IsTile more t → IsStream (bytes ++ more) (tiles ++ t ∷ [])
-stream_push bytes more tiles t is tile = pushed 0 bytes more tiles t is tile
+stream_push bytes more tiles t is tile = numbered_push (λ k. IsTile) 0 (length tiles) bytes more tiles t (omega arith) is tile
 
 -- the numbers of the tiles say nothing
 renumbered : (k j : ℕ) (bytes : List ℕ) (tiles : List Tile) → Numbered (λ k. IsTile) k bytes tiles → Numbered (λ k. IsTile) j bytes tiles

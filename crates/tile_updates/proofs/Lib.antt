@@ -1,8 +1,8 @@
 mod Adding
 mod Asked
-mod Passing
+pub mod Passing
 pub mod Refusals
 mod Refusing
-mod SoFar
+pub mod SoFar
 mod StreamsDecided
 mod Tiles

@@ -138,7 +138,7 @@ all_encoded v step old now done s = record { tiles = s.tiles; updates_are = s.li
 fits : (v : Version) (step : ℕ) (t : Tile) → AreEncodedOnce (tile_bytes v step t) t.bands step → Passes v step t → (0 < length (tile_bytes v step t)) × (length (tile_bytes v step t) < 16777216)
 fits v step t e p = let small = p.small in (bands_some (tile_bytes v step t) e.rasters e.blobs, (let low : length (tile_bytes v step t) < 16777216 = omega (arith, small) in low))
 
-all_fit_of : (v : Version) (step : ℕ) (tiles : List Tile) → All (λ t. AreEncodedOnce (tile_bytes v step t) t.bands step) tiles → All (Passes v step) tiles → EachFits (updates_of v step tiles)
+pub all_fit_of : (v : Version) (step : ℕ) (tiles : List Tile) → All (λ t. AreEncodedOnce (tile_bytes v step t) t.bands step) tiles → All (Passes v step) tiles → EachFits (updates_of v step tiles)
 all_fit_of v step tiles encoded pass i below =
     All-get_or (λ (u : TileRec). (0 < length u.bytes) × (length u.bytes < 16777216)) (updates_of v step tiles) i (record { slot = 0; bytes = [] }) below
     (All-map (λ (u : TileRec). (0 < length u.bytes) × (length u.bytes < 16777216)) (update_of v step) tiles (λ k d less. fits v step (get_or tiles k d) (encoded k d less) (pass k d less)))

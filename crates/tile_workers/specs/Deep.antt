@@ -4,10 +4,10 @@ use Rattle.raster_values.specs.Raster.{Pixels}
 use Rattle.lerc_header.specs.declared.header.Version.{Version}
 use Rattle.lerc_encode.specs.Encoded.{BandsNeedV4}
 use Rattle.lerc_encode.specs.declared.blob.EncodeFault.{EncodeFault}
-use Rattle.tile_workers.specs.declared.workers.TileFault.{TileFault}
+use Rattle.tile_workers.specs.declared.workers.NoBlobs.{NoBlobs}
 
 -- a fault of a tile
-abbrev pub told : ℕ → EncodeFault → TileFault
+abbrev pub told : ℕ → EncodeFault → NoBlobs
 told at cause = record { at = at; cause = cause }
 
 -- the version has a place for the depths of each tile

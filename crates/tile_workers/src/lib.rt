@@ -11,4 +11,4 @@ mod workers;
 
 pub use blobs::Blobs;
 pub use gate::{Gate, Open};
-pub use workers::{TileFault, bands_need_v4, encode_tiles};
+pub use workers::{NoBlobs, bands_need_v4, encode_tiles};

@@ -19,7 +19,7 @@ use std::thread::{Threads, join};
 
 /// Which tile has no blobs, and why.
 #[derive(Debug, Drop)]
-pub struct TileFault {
+pub struct NoBlobs {
     /// The number of the tile, counted from 0. Of want of memory it is that of a tile whose blobs
     /// could not be made or kept.
     pub at: usize,
@@ -48,10 +48,10 @@ fn first_deep(tiles: &[Bands], version: Version) -> Option<usize>
 }
 
 /// The fault of a tile for which there is no memory.
-fn want(at: usize) -> TileFault
+fn want(at: usize) -> NoBlobs
     ensures { result ≡ told at EncodeFault.OutOfMemory }
 {
-    TileFault {
+    NoBlobs {
         at,
         cause: EncodeFault::OutOfMemory,
     }
@@ -101,7 +101,7 @@ fn encode_run<G: Gate>(
     version: Version,
     step: Step,
     gate: &G,
-) -> Result<Vec<Bytes>, TileFault>
+) -> Result<Vec<Bytes>, NoBlobs>
     requires flat { AreFlat version tiles.now }
     requires room { first + length tiles.now < 2 ^ 64 }
     ensures blobs { IfOk result (λ bs.
@@ -141,7 +141,7 @@ fn encode_halves<R: Threads + Sync, G: Gate>(
     step: Step,
     workers: usize,
     gate: &G,
-) -> Result<Vec<Bytes>, TileFault>
+) -> Result<Vec<Bytes>, NoBlobs>
     requires workers { (0 < workers) × (workers ≤ 64) }
     requires flat { AreFlat version tiles.now }
     requires room { first + length tiles.now < 2 ^ 64 }
@@ -160,7 +160,7 @@ fn encode_halves<R: Threads + Sync, G: Gate>(
     let (front, back) = tiles.split_at(middle);
     let (these, those) = join(
         rt,
-        || -> Result<Vec<Bytes>, TileFault>
+        || -> Result<Vec<Bytes>, NoBlobs>
             requires { IsSync R.row × (IsSync G.row × (((0 < low) × (low ≤ 64))
                 × (AreFlat version front.now × (first + length front.now < 2 ^ 64)))) }
             ensures blobs { IfOk result (λ bs.
@@ -169,7 +169,7 @@ fn encode_halves<R: Threads + Sync, G: Gate>(
             ensures want { IfErr result (λ f. (f.cause ≡ EncodeFault.OutOfMemory)
                 × ((first ≤ f.at) × (f.at < first + length front.entry.now))) }
         { encode_halves(rt, alloc, front, first, version, step, low, gate) },
-        || -> Result<Vec<Bytes>, TileFault>
+        || -> Result<Vec<Bytes>, NoBlobs>
             requires { IsSync R.row × (IsSync G.row × (((0 < high) × (high ≤ 64))
                 × (AreFlat version back.now × (first + middle + length back.now < 2 ^ 64)))) }
             ensures blobs { IfOk result (λ bs.
@@ -202,7 +202,7 @@ pub fn encode_tiles<R: Threads + Sync, G: Gate>(
     step: Step,
     workers: usize,
     gate: &G,
-) -> Result<Blobs, TileFault>
+) -> Result<Blobs, NoBlobs>
     requires workers { (1 ≤ workers) × (workers ≤ 64) }
     ensures depth { (at : ℕ) → IsErrOf result (told at EncodeFault.DepthNeedsV4)
         ↔ IsFirstDeep version tiles.now at }
@@ -216,7 +216,7 @@ pub fn encode_tiles<R: Threads + Sync, G: Gate>(
         (All (λ t. DeclareEach (chosen_bands None t version step) t version step) tiles.now) }
 {
     if let Some(at) = first_deep(tiles, version) {
-        return Err(TileFault {
+        return Err(NoBlobs {
             at,
             cause: EncodeFault::DepthNeedsV4,
         });

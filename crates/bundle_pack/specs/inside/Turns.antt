@@ -11,7 +11,7 @@ use Rattle.opened_bundle.specs.Files.{Files}
 use Rattle.bundle_pack.specs.Files.{files_in}
 use Rattle.bundle_pack.specs.Opening.{AreOpened, IsFirstUnopened, OpeningFails, OpeningFault, OpensAs, StandsLeft}
 use Rattle.bundle_pack.specs.Packing.{EachKeptOr, TargetFault}
-use Rattle.bundle_pack.specs.Sources.{KeepsImages}
+use Rattle.bundle_pack.specs.Sources.{RecoversAlone}
 use Rattle.bundle_pack.specs.declared.fault.PackFault.{PackFault}
 use Rattle.bundle_pack.specs.declared.fault.PackFault.TheVariants.{Source, OutOfMemory}
 
@@ -44,7 +44,7 @@ pub record IsTurned {V : Type 0} (told : V → Bool) (history : V → History) (
 -- of the sources, those below a number were opened, and the others are as they were
 pub record IsTurn {V : Type 0} (told : V → Bool) (history : V → History) (faults : V → ℕ)
     (sessions : List SessionState) (at i : ℕ) (old new : V) : Type 0 where
-  pub kept : KeepsImages told history old new
+  pub kept : RecoversAlone told history old new
   pub count : faults new ≡ faults old
   pub turned : i < at → (s : SessionState)
       × ((slice_get sessions i ≡ Some s) × IsTurned told history s old new)

@@ -18,6 +18,10 @@ pub record SameUnderAll (header : List ℕ) (es : List NewEntry) (old now : List
   pub size : length now ≡ length old
   pub over : with_entries header es now ≡ with_entries header es old
 
+-- a crash leaves a bundle that differs from this one under the header and the entries alone
+abbrev pub EachUnderAll : List ℕ → List NewEntry → List ℕ → Disk → Type 0
+EachUnderAll header es bundle now = (c : List ℕ) → IsImage now.bundle c → SameUnderAll header es bundle c
+
 -- the journal is as it was, and a crash leaves a bundle that differs under the header and the
 -- entries alone
 pub record KeepsUnderAll (header : List ℕ) (es : List NewEntry) (old now : Disk) : Type 0 where

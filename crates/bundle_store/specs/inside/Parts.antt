@@ -1,9 +1,10 @@
 -- What the parts of a put, a build and a recovery leave.
-use Rattle.std.specs.Prelude.{◌≡◌, ℕ, List, ◌++◌}
+use Rattle.std.specs.Prelude.{◌≡◌, ◌⊎◌, ℕ, List, [], ◌++◌}
 use Rattle.outside_io.specs.volume.Disk.{Disk, IsImage, IsQuiet, IsSettled}
 use Rattle.side_journal.specs.Says.{IsOpen, SaysBuild}
 use Rattle.bundle_store.specs.Images.{StandsFor}
 use Rattle.bundle_store.specs.Kept.{FrontBytes, Keeps}
+use Rattle.bundle_store.specs.Recover.{IsMidway}
 use Rattle.bundle_store.specs.Tiles.{Opens, TileMap}
 
 -- the bytes begin with these
@@ -19,6 +20,14 @@ pub record KeepsFront (old now : Disk) : Type 0 where
 -- the journal is as it was, whatever the bundle holds
 pub record KeepsJournal (old now : Disk) : Type 0 where
   pub journal : now.journal ≡ old.journal
+
+-- a crash leaves of the bundle these bytes, or none
+abbrev pub EachWholeOrNone : List ℕ → Disk → Type 0
+EachWholeOrNone bundle now = (c : List ℕ) → IsImage now.bundle c → (c ≡ bundle) ⊎ (c ≡ [])
+
+-- a crash leaves of the bundle what a recovery of these files makes of it before it ends
+abbrev pub EachMidway : List ℕ → List ℕ → Disk → Type 0
+EachMidway bundle journal now = (c : List ℕ) → IsImage now.bundle c → IsMidway bundle journal c
 
 -- a crash leaves nothing that it would not have left before
 pub record Narrows (old now : Disk) : Type 0 where

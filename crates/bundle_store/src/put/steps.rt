@@ -12,7 +12,7 @@ ghost use Rattle.side_journal.specs.Groups.{AreNew};
 ghost use Rattle.bundle_store.specs.Build.{EachFits};
 ghost use Rattle.side_journal.specs.Says.{IsOpen, IsWhole};
 ghost use Rattle.bundle_store.specs.GroupPuts.{group_records, with_entries};
-ghost use Rattle.bundle_store.specs.inside.Grouped.{AreUnderWay, IsOfGroup};
+ghost use Rattle.bundle_store.specs.inside.Grouped.{AreUnderWay, EachUnderAll, IsOfGroup};
 ghost use Rattle.bundle_store.specs.LaidOver.{size_in, with_body};
 ghost use Rattle.bundle_store.specs.Images.{EachImage};
 ghost use Rattle.bundle_store.specs.Tiles.{IsBundle, IsReadable, tiles};
@@ -55,6 +55,8 @@ pub(crate) fn redo<V: Volume>(
         (V.history vol.old)) group.now header.now
         → EachImage (λ map. map ≡ tiles (with_entries header.now group.now (contents Bundle
         (V.history vol.old)))) d) (V.history vol.old) (V.history vol.new) }
+    ensures bytes { IsTrue (V.told vol.old) → During (EachUnderAll header.now group.now
+        (contents Bundle (V.history vol.old))) (V.history vol.old) (V.history vol.new) }
     ensures told { V.told vol.new ≡ V.told vol.old }
     ensures counted { CountsFaults result (V.faults vol.old) (V.faults vol.new) }
 {

@@ -4,7 +4,7 @@ ghost use Rattle.outside_io.specs.volume.Disk.{IsSettled, change, settled};
 ghost use Rattle.outside_io.specs.streams.Faults.{CountsFaults};
 ghost use Rattle.outside_io.specs.volume.History.{During, contents, current};
 ghost use Rattle.bundle_store.specs.Recover.{synced_disk};
-ghost use Rattle.bundle_store.specs.inside.Parts.{KeepsJournal, Narrows};
+ghost use Rattle.bundle_store.specs.inside.Parts.{EachWholeOrNone, KeepsJournal, Narrows};
 
 use outside_io::{Failed, VolFile, Volume};
 
@@ -28,6 +28,8 @@ pub(crate) fn wipe<V: Volume>(vol: &mut V) -> Result<(), Failed>
         ≡ change Bundle (λ _. settled []) (current (V.history vol.old))) }
     ensures during { IsTrue (V.told vol.old) → During (KeepsJournal (current (V.history vol.old)))
         (V.history vol.old) (V.history vol.new) }
+    ensures bytes { IsTrue (V.told vol.old) → During (EachWholeOrNone (contents Bundle
+        (V.history vol.old))) (V.history vol.old) (V.history vol.new) }
     ensures told { V.told vol.new ≡ V.told vol.old }
     ensures counted { CountsFaults result (V.faults vol.old) (V.faults vol.new) }
 {

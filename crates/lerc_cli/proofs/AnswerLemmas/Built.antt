@@ -1,5 +1,5 @@
 -- What the end of `build` tells of its output, its bundle and its marks.
-use Rattle.std.proofs.Common.{◌≡◌, ℕ, List, length, replicate, take, Option, Some, Ok, sym, ap, subst, ◌∙◌, rules, refl, arith}
+use Rattle.std.proofs.Common.{◌≡◌, ℕ, List, length, replicate, take, Option, Some, Ok, sym, ap, subst, ◌∙◌, arith}
 use Rattle.std.proofs.lemmas.List.{take_all}
 use Rattle.outside_io.specs.streams.Sink.{Holds}
 use Rattle.lerc_header.specs.declared.header.Version.{Version}
@@ -16,6 +16,7 @@ use Rattle.lerc_cli.specs.answers.Names.{End, status_at}
 use Rattle.opened_bundle.specs.Files.{Files}
 use Rattle.lerc_cli.specs.run.InWords.{Builds}
 use Rattle.lerc_cli.specs.run.Run.{OfOutput, OfVolume}
+use Rattle.lerc_cli.specs.crashes.Phase.{Phase, IsLeftIn}
 use Rattle.lerc_cli.specs.inputs.Given.{given}
 use Rattle.lerc_cli.proofs.AnswerLemmas.Statuses.{ok_at}
 
@@ -35,8 +36,9 @@ built v e w left input files us status end marks sink vol is s zero of out leave
     record {
       line = subst (Holds sink.held.old sink.held.new) (ends.1.3 ∙ ap built_line_of one) gives.gave.1.1;
       bundle = λ t.
-          let reads = leaves.reads t refl in
-          let other : reads.0 ≡ us = updates_once v (step_of e) input reads.0 us (reads.1.0.some (search rules)) of in
-          reads.1.1.1.1 ∙ ap (λ (xs : List TileRec). layout (last_tiles xs)) (ap (λ (xs : List TileRec). take (length marks) xs) other ∙ take_all (length marks) us (omega (arith, many)));
+          let left = subst (λ (p : Phase). IsLeftIn p (Build v e w) (given (Some input) files) (Ok tt) marks vol) leaves.comes leaves.left in
+          let so = left t (λ bad. cc) in
+          let other : so.updates ≡ us = updates_once v (step_of e) input so.updates us so.are of in
+          so.reads ∙ ap (λ (xs : List TileRec). layout (last_tiles xs)) (ap (λ (xs : List TileRec). take (length marks) xs) other ∙ take_all (length marks) us (omega (arith, many)));
       marks_are = leaves.marks_at ∙ ap (λ (n : ℕ). replicate n vol.history.new.moment) many;
     }

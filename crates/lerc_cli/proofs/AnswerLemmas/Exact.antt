@@ -17,7 +17,7 @@ use Rattle.program_ends.specs.Stop.{Gained}
 use Rattle.lerc_cli.specs.run.InWords.{GivesGrid, GivesGridPrefix, TellsFault, ToldHead}
 use Rattle.lerc_cli.proofs.AnswerLemmas.Statuses.{ok_at, refused_at, output_at, memory_at}
 use Rattle.lerc_cli.proofs.AnswerLemmas.Once.{answers_once}
-use Rattle.lerc_cli.proofs.InputLemmas.Whole.{bands_or_fault}
+use Rattle.lerc_grammar.proofs.WholeBands.{bands_or_fault}
 
 decides : (input : List ℕ) (files : Option Files) (n status : ℕ) (end : End) (output : List ℕ) → status ≡ status_at end → (status ≡ 0) ⊎ (status ≡ 2)
     → Answers Decode (given (Some input) files) n end output → (status ≡ 0) ↔ IsBandsBlob input

@@ -12,7 +12,7 @@ use Rattle.lerc_cli.specs.run.Run.{OfOutput}
 use Rattle.lerc_cli.specs.inputs.Given.{given}
 use Rattle.lerc_cli.specs.run.InWords.{GivesLines}
 use Rattle.lerc_cli.proofs.AnswerLemmas.Statuses.{ok_at}
-use Rattle.lerc_cli.proofs.InputLemmas.Whole.{bands_or_fault}
+use Rattle.lerc_grammar.proofs.WholeBands.{bands_or_fault}
 
 decides : (input : List ℕ) (files : Option Files) (n status : ℕ) (end : End) (output : List ℕ) → status ≡ status_at end → (status ≡ 0) ⊎ (status ≡ 2)
     → Answers Info (given (Some input) files) n end output → (status ≡ 0) ↔ IsBandsBlob input

@@ -24,7 +24,7 @@ use Rattle.lerc_cli.proofs.AnswerLemmas.Answered.{Once, once_of, refused, well}
 use Rattle.opened_bundle.proofs.OneBundle.{done_or_refused, one_done, one_missing, one_opening, one_tile, one_unrecovered, recovered_or_opening, same_report, tile_or_missing}
 use Rattle.lerc_cli.proofs.AnswerLemmas.OneTile.{fault_or_missing, held_or_fault, held_or_missing, one_held, one_tile_fault, same_listing}
 use Rattle.lerc_cli.specs.words.Commands.{calls_volume, reads_source}
-use Rattle.lerc_cli.proofs.InputLemmas.Whole.{bands_or_fault, one_list, one_whole_fault}
+use Rattle.lerc_grammar.proofs.WholeBands.{bands_or_fault, one_list, one_whole_fault}
 use Rattle.lerc_cli.proofs.AnswerLemmas.BuildOnce.{build_once}
 use Rattle.lerc_cli.proofs.AnswerLemmas.PutOnce.{put_once}
 use Rattle.lerc_cli.proofs.InputLemmas.WholeGrids.{grid_or_refusal, one_grid, one_refusal}

@@ -10,7 +10,7 @@ use Rattle.opened_bundle.specs.Files.{Files, OfBundle}
 use Rattle.lerc_cli.specs.answers.Table.{HoldsBands}
 use Rattle.opened_bundle.specs.Refusals.{IsMissing}
 use Rattle.opened_bundle.proofs.OneBundle.{both, same_tile, tile_or_missing}
-use Rattle.lerc_cli.proofs.InputLemmas.Whole.{bands_or_fault, one_list, one_whole_fault}
+use Rattle.lerc_grammar.proofs.WholeBands.{bands_or_fault, one_list, one_whole_fault}
 
 -- ---- one listing
 

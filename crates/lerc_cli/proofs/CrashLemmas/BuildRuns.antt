@@ -1,6 +1,6 @@
 -- What a run of `build` leaves, by how it ends.
 use Rattle.std.proofs.Common.{◌≡◌, ◌⊎◌, inl, inr, ℕ, ◌≤◌, List, [], length, replicate, take, Bool, Option, Ok, Err, refl, sym, ◌∙◌, ap, subst, rules, arith}
-use Rattle.std.specs.Prelude.{IsFalse, IsTrue}
+use Rattle.std.specs.Prelude.{IsTrue}
 use Rattle.std.proofs.lemmas.List.{length-replicate, take_all}
 use Rattle.outside_io.specs.declared.volume.VolFile.TheVariants.{Bundle, Journal}
 use Rattle.outside_io.specs.streams.Faults.{IsCause}
@@ -20,7 +20,7 @@ use Rattle.bundle_lines.proofs.Marked.{no_marks}
 use Rattle.bundle_lines.proofs.Raised.{builds_join, equal_marks}
 use Rattle.tile_updates.specs.declared.stop.StreamStop.{StreamStop}
 use Rattle.tile_updates.specs.declared.stop.StreamStop.TheVariants.{TooManyTiles as ManyTiles, Fault as TileFaultOf, DepthNeedsV4 as DeepTile, TileTooLarge as LargeTile, KeptTooMuch as MuchKept, Source as StreamSource, OutOfMemory as StreamMemory}
-use Rattle.program_ends.specs.Moves.{VolumeMove, sink_move, volume_move}
+use Rattle.program_ends.specs.Moves.{sink_move, volume_move}
 use Rattle.lerc_cli.specs.declared.words.Command.TheVariants.{Build}
 use Rattle.opened_bundle.specs.declared.refusal.StoreRefusal.TheVariants.{NotEmpty}
 use Rattle.program_ends.specs.declared.stop.Stop.{Stop}
@@ -34,18 +34,17 @@ use Rattle.lerc_cli.specs.run.Run.{OfOutput, OfVolume}
 use Rattle.opened_bundle.specs.Files.{files_of}
 use Rattle.lerc_cli.specs.answers.Names.{End}
 use Rattle.opened_bundle.specs.Left.{IsReady, IsShut, OfReading}
-use Rattle.lerc_cli.specs.crashes.Kept.{OnAnswer, Rests, UpdatesAt, bundle_after, has_updates, is_early}
+use Rattle.lerc_cli.specs.crashes.Phase.{Updated, UpdatesComeTo}
 use Rattle.opened_bundle.specs.Opening.{IsOpened, OpeningStops}
 use Rattle.lerc_cli.specs.inside.Updates.{build_end_of}
 use Rattle.opened_bundle.proofs.BundleOpening.{of_bundle, reads_on}
 use Rattle.opened_bundle.specs.declared.refusal.StoreRefusal.{StoreRefusal}
 use Rattle.lerc_cli.specs.inside.Opening.{of_store}
-use Rattle.lerc_cli.proofs.CrashLemmas.Idle.{clash, keeps_unbuilt, stays, untouched}
 use Rattle.lerc_cli.proofs.AnswerLemmas.Outputs.{stopped}
 use Rattle.opened_bundle.proofs.Resting.{shut_ready}
-use Rattle.lerc_cli.proofs.CrashLemmas.Unopened.{refused_volume}
+use Rattle.lerc_cli.proofs.CrashLemmas.Unopened.{stopped_volume}
 use Rattle.bundle_store.proofs.Standing.{closed_map}
-use Rattle.lerc_cli.proofs.CrashLemmas.PutRuns.{earlier_marks, joined_cause, not_output}
+use Rattle.lerc_cli.proofs.CrashLemmas.PutRuns.{earlier_marks, early_not_output, joined_cause, not_output}
 
 -- ---- the input has no updates, or memory was refused before the volume was called
 
@@ -70,62 +69,10 @@ any_early_ends v e w g stop (inl is) = subst (λ (s : Stop Refusal). Answers (Bu
 any_early_ends v e w g stop (inr (s, (is, tells))) =
     subst (λ (x : Stop Refusal). Answers (Build v e w) g 0 (Err x) []) (sym is) (early_ends v e w g s (s, (refl, tells)))
 
-stream_not_output : (s : StreamStop) → stream_stop_of s ≡ Output → ⊥
-stream_not_output ManyTiles is = cc
-stream_not_output (TileFaultOf f) is = cc
-stream_not_output (DeepTile at) is = cc
-stream_not_output (LargeTile at len) is = cc
-stream_not_output (MuchKept at) is = cc
-stream_not_output StreamSource is = cc
-stream_not_output StreamMemory is = cc
-
-early_not_output : (v : Version) (e : ℕ) (g : Given) (stop : Stop Refusal) → Early v e g stop → stop ≡ Output → ⊥
-early_not_output v e g stop (inl is) so = let bad : OutOfMemory ≡ Output = sym is ∙ so in cc
-early_not_output v e g stop (inr (s, (is, tells))) so = stream_not_output s (sym is ∙ so)
-
 pub early_output : (v : Version) (e w : ℕ) (g : Given) (K : Type 0) (held : K → Option (List ℕ)) (faults : K → ℕ) (out out_new : K) (stop : Stop Refusal) → out_new ≡ out → Early v e g stop
     → OfOutput (Build v e w) g 0 (Err stop) (sink_move held faults out out_new)
 early_output v e w g K held faults out out_new stop same early =
     stopped (Build v e w) g K held faults out out_new stop (any_early_ends v e w g stop early) same (early_not_output v e g stop early)
-
-none_at : (v : Version) (e w : ℕ) (g : Given) (stop : Stop Refusal) → IsFalse (has_updates (Err stop)) → UpdatesAt (Build v e w) g (Err stop) []
-none_at v e w g stop none = record { some = λ yes_. absurd (clash (has_updates (Err stop)) yes_ none); none = λ _. refl }
-
-module _ (v : Version) (e w : ℕ) (g : Given) (V : Type 0) (told : V → Bool) (history : V → History) (faults : V → ℕ) (vol : V) where
-  -- what the volume is left as where it was not called
-  abbrev Still : Stop Refusal → Type 0
-  Still stop = OfVolume (Build v e w) g (Err stop) [] (volume_move told history faults vol vol)
-
-  still_volume : (stop : Stop Refusal) → IsTrue (is_early (Build v e w) (Err stop)) → (stop ≡ Volume → ⊥) → IsFalse (has_updates (Err stop)) → Still stop
-  still_volume stop early well none =
-      untouched (Build v e w) g (Err stop) V told history faults vol early (λ failed. well (let here : stop ≡ Volume = cc in here)) (none_at v e w g stop none)
-
-  memory_volume : Still OutOfMemory
-  memory_volume = record {
-    cause = record { counts = omega arith; failed = λ bad. absurd cc; rose = λ rose. absurd (omega arith) };
-    told = refl;
-    later = λ tells none. omega arith;
-    idle = λ _. refl;
-    unmarked = λ _. refl;
-    marks_are = λ tells. no_marks (history vol).moment (history vol).moment;
-    marks_at = refl;
-    reads = λ tells late. inl refl;
-    rests = λ tells late. inl refl;
-    tiles = λ start ready. ([], (none_at v e w g OutOfMemory refl, keeps_unbuilt [] start (history vol) (history vol) (stays start (told vol) (history vol) ready)));
-  }
-
-  stream_volume : (s : StreamStop) → Still (stream_stop_of s)
-  stream_volume ManyTiles = still_volume (stream_stop_of ManyTiles) (search rules) (λ bad. cc) refl
-  stream_volume (TileFaultOf fault) = still_volume (stream_stop_of (TileFaultOf fault)) (search rules) (λ bad. cc) refl
-  stream_volume (DeepTile at) = still_volume (stream_stop_of (DeepTile at)) (search rules) (λ bad. cc) refl
-  stream_volume (LargeTile at len) = still_volume (stream_stop_of (LargeTile at len)) (search rules) (λ bad. cc) refl
-  stream_volume (MuchKept at) = still_volume (stream_stop_of (MuchKept at)) (search rules) (λ bad. cc) refl
-  stream_volume StreamSource = still_volume Source (search rules) (λ bad. cc) refl
-  stream_volume StreamMemory = memory_volume
-
-  pub early_volume : (stop : Stop Refusal) → Early v e g stop → Still stop
-  early_volume stop (inl so) = subst Still (sym so) memory_volume
-  early_volume stop (inr (s, (so, tells))) = subst Still (sym so) (stream_volume s)
 
 -- ---- the bundle was not opened
 
@@ -141,26 +88,6 @@ pub unopened_output : (v : Version) (e w : ℕ) (g : Given) (us : List TileRec) 
     → UpdatesOf (Build v e w) g us → OpeningStops g.files stop → OfOutput (Build v e w) g 0 (Err (of_store stop)) (sink_move held faults out out_new)
 unopened_output v e w g us K held faults out out_new stop same of stops =
     stopped (Build v e w) g K held faults out out_new (of_store stop) (unopened_ends v e w g us stop of stops) same (not_output g.files stop stops)
-
--- memory was refused behind a recovery
-late_memory : (v : Version) (e w : ℕ) (g : Given) (P : Type 0) (vol : VolumeMove) → (P → ⊥)
-    → OfReading P vol → (IsTrue vol.told.old → IsShut (current vol.history.new)) → OfVolume (Build v e w) g (Err OutOfMemory) [] vol
-late_memory v e w g P vol well so shut = record {
-  cause = record { counts = so.cause.counts; failed = λ is. absurd (let bad : ⊥ = cc in bad); rose = λ rose. absurd (well (so.cause.rose rose)) };
-  told = so.told;
-  later = λ t none. so.later t;
-  idle = λ early. absurd (let bad : ⊥ = cc in bad);
-  unmarked = λ is. absurd (let bad : ⊥ = cc in bad);
-  marks_are = λ t. no_marks vol.history.old.moment vol.history.new.moment;
-  marks_at = refl;
-  reads = λ t _. inr ([], (none_at v e w g OutOfMemory refl, (contents Bundle vol.history.new, (so.reads t well, refl))));
-  rests = λ t _. inr (shut t);
-  tiles = λ start ready. ([], (none_at v e w g OutOfMemory refl, keeps_unbuilt [] start vol.history.old vol.history.new (so.tiles start ready)));
-}
-
--- all updates may be done where the volume failed
-volume_at : (v : Version) (e w : ℕ) (g : Given) (us : List TileRec) → UpdatesOf (Build v e w) g us → UpdatesAt (Build v e w) g (Err Volume) us
-volume_at v e w g us of = record { some = λ _. of; none = λ is. absurd (let bad : ⊥ = cc in bad) }
 
 -- ---- the bundle was built, or was not
 
@@ -259,50 +186,47 @@ module _ (v : Version) (e w : ℕ) (g : Given) (failed : Type 0) (V : Type 0) (t
   Leaves marks r = OfVolume (Build v e w) g (build_end_of r) marks (volume_move told history faults vol new)
 
   -- the bundle stands, where all went well or the output alone failed
-  stands_built : (marks : List ℕ) (end : End) → IsCause (end ≡ Err Volume) (faults mid) (faults new) → IsTrue (has_updates end) → IsFalse (is_early (Build v e w) end)
-      → ((P : Type 0) → P → OnAnswer end (Build v e w) (new ≡ vol) P) → ((b : List ℕ) (xs : List TileRec) → bundle_after (Build v e w) end b xs ≡ layout (last_tiles xs))
+  stands_built : (marks : List ℕ) (end : End) → IsCause (end ≡ Err Volume) (faults mid) (faults new) → UpdatesComeTo end Updated
       → IsBuilt marks → (IsTrue (told mid) → IsReadable (contents Bundle (history mid)) → BuildKeeps (tiles (contents Bundle (history mid))) us marks (history mid) (history new))
-      → (IsTrue (told vol) → Rests end (contents Journal (history vol)) (current (history new))) → OfVolume (Build v e w) g end marks (volume_move told history faults vol new)
-  stands_built marks end cause has late answers after built images rests = record {
+      → (IsTrue (told vol) → IsShut (current (history new))) → OfVolume (Build v e w) g end marks (volume_move told history faults vol new)
+  stands_built marks end cause comes built images shut = record {
     cause = joined_cause failed (end ≡ Err Volume) (faults vol) (faults mid) (faults new) well so.cause cause;
     told = tells ∙ so.told;
     later = λ t none. absurd (let bad : ⊥ = cc in bad);
-    idle = λ early. absurd (clash (is_early (Build v e w) end) early late);
     unmarked = λ none. absurd (let bad : ⊥ = cc in bad);
     marks_are = λ t. earlier_marks marks (history vol).moment (history mid).moment (history new).moment (so.later t) (marks_after marks built.0 t);
     marks_at = all_at marks built.0;
-    reads = λ t _. answers _ (us, (all_made, (contents Bundle (history mid), (inl ((opened t).done, (opened t).leaves), layout_after marks built t ∙ sym (after (contents Bundle (history mid)) (take (length marks) us))))));
-    rests = λ t _. answers _ (rests t);
-    tiles = λ start ready. (us, (all_made, built_tiles marks images (marks_after marks built.0 ready.tells) start ready));
+    phase = Updated;
+    comes = comes;
+    left = λ t _. record { updates = us; are = of; bundle = contents Bundle (history mid); left = inl ((opened t).done, (opened t).leaves); reads = layout_after marks built t; rests = shut t };
+    tiles = λ start ready. (us, ((Updated, (comes, of)), built_tiles marks images (marks_after marks built.0 ready.tells) start ready));
   }
-    where
-      all_made : UpdatesAt (Build v e w) g end us
-      all_made = record { some = λ _. of; none = λ no_. absurd (clash (has_updates end) has no_) }
 
   pub build_all_volume : (marks : List ℕ) (r : BuildEnd) → BuildMarks r us marks (history new).moment → (IsTrue (told mid) → BuildReads r us (contents Bundle (history mid)) (contents Bundle (history new)))
       → (IsTrue (told mid) → IsReadable (contents Bundle (history mid)) → BuildKeeps (tiles (contents Bundle (history mid))) us marks (history mid) (history new))
       → (IsTrue (told mid) → OnNoBuild r (During (λ d. d ≡ current (history mid)) (history mid) (history new))) → (s_new : SessionState) → (IsTrue (told mid) → OnBuildAnswer r (IsReadyToPut s_new (current (history new)))) → IsCause (r ≡ Err BuildVolume) (faults mid) (faults new) → Leaves marks r
   build_all_volume marks (Ok x) is reads images kept s_new ready cause =
-      stands_built marks (Ok tt) (build_volume (Ok x) (faults mid) (faults new) cause) (search rules) refl (λ P p. p) (λ b xs. refl) (is, λ m. (reads m).1) images (λ t. shut_ready s_new (current (history new)) (ready (so.told ∙ t)))
+      stands_built marks (Ok tt) (build_volume (Ok x) (faults mid) (faults new) cause) refl (is, λ m. (reads m).1) images (λ t. shut_ready s_new (current (history new)) (ready (so.told ∙ t)))
   build_all_volume marks (Err BuildOutput) is reads images kept s_new ready cause =
-      stands_built marks (Err Output) (build_volume (Err BuildOutput) (faults mid) (faults new) cause) (search rules) refl (λ P p. p) (λ b xs. refl) (is, λ m. (reads m).1) images (λ t. shut_ready s_new (current (history new)) (ready (so.told ∙ t)))
+      stands_built marks (Err Output) (build_volume (Err BuildOutput) (faults mid) (faults new) cause) refl (is, λ m. (reads m).1) images (λ t. shut_ready s_new (current (history new)) (ready (so.told ∙ t)))
   build_all_volume marks (Err BuildVolume) is reads images kept s_new ready cause = record {
     cause = joined_cause failed (◌≡◌ {A = End} (Err Volume) (Err Volume)) (faults vol) (faults mid) (faults new) well so.cause (build_volume (Err BuildVolume) (faults mid) (faults new) cause);
     told = tells ∙ so.told;
     later = λ t none. absurd (let bad : ⊥ = cc in bad);
-    idle = λ early. absurd (let bad : ⊥ = cc in bad);
     unmarked = λ none. absurd (let bad : ⊥ = cc in bad);
     marks_are = λ t. subst (λ (m : List ℕ). AreMarks m (history vol).moment (history new).moment) (sym is) (no_marks (history vol).moment (history new).moment);
     marks_at = subst (λ (m : List ℕ). m ≡ replicate (length m) (history new).moment) (sym is) refl;
-    reads = λ t _. tt;
-    rests = λ t _. tt;
-    tiles = λ start ready. (us, (volume_at v e w g us of, built_tiles marks images (subst (λ (m : List ℕ). AreMarks m (history mid).moment (history new).moment) (sym is) (no_marks (history mid).moment (history new).moment)) start ready));
+    phase = Updated;
+    comes = refl;
+    left = λ t other. absurd (other refl);
+    tiles = λ start ready. (us, ((Updated, (refl, of)), built_tiles marks images (subst (λ (m : List ℕ). AreMarks m (history mid).moment (history new).moment) (sym is) (no_marks (history mid).moment (history new).moment)) start ready));
   }
   build_all_volume marks (Err (BuildNotEmpty len)) is reads images kept s_new ready cause =
       subst (λ (m : List ℕ). Leaves m (Err (BuildNotEmpty len))) (sym is)
-      (refused_volume (Build v e w) g (volume_move told history faults vol new) (NotEmpty len) (◌≡◌ {A = Stop Refusal} (Refused (Store (NotEmpty len))) Volume) (λ bad. cc) refl refl
+      (stopped_volume (Build v e w) g (search rules) (Refused (Store (NotEmpty len))) (◌≡◌ {A = Stop Refusal} (Refused (Store (NotEmpty len))) Volume) (volume_move told history faults vol new) refl (λ bad. cc) (λ bad. cc)
       (on (Refused (Store (NotEmpty len))) (stop_cause (Refused (Store (NotEmpty len))) (build_volume (Err (BuildNotEmpty len)) (faults mid) (faults new) cause)) kept)
       (λ t. shut_ready s_new (current (history new)) (ready (so.told ∙ t))))
   build_all_volume marks (Err BuildMemory) is reads images kept s_new ready cause =
       subst (λ (m : List ℕ). Leaves m (Err BuildMemory)) (sym is)
-      (late_memory v e w g (◌≡◌ {A = Stop Refusal} OutOfMemory Volume) (volume_move told history faults vol new) (λ bad. cc) (on OutOfMemory (stop_cause OutOfMemory (build_volume (Err BuildMemory) (faults mid) (faults new) cause)) kept) (λ t. shut_ready s_new (current (history new)) (ready (so.told ∙ t))))
+      (stopped_volume (Build v e w) g (search rules) OutOfMemory (◌≡◌ {A = Stop Refusal} OutOfMemory Volume) (volume_move told history faults vol new) (inr refl) (λ bad. cc) (λ bad. cc)
+      (on OutOfMemory (stop_cause OutOfMemory (build_volume (Err BuildMemory) (faults mid) (faults new) cause)) kept) (λ t. shut_ready s_new (current (history new)) (ready (so.told ∙ t))))

@@ -1,6 +1,5 @@
 -- Runs that crashes cut off leave what stands for the tiles after some updates of each.
-use Rattle.std.proofs.Common.{◌≡◌, ℕ, ◌≤◌, List, [], ◌∷◌, take, Bool, true, false, refl, inl, inr, rules, sym, ap, subst, ◌∙◌, arith}
-use Rattle.std.specs.Prelude.{IsFalse, IsTrue}
+use Rattle.std.proofs.Common.{◌≡◌, ℕ, ◌≤◌, List, [], ◌∷◌, take, refl, inl, inr, sym, ap, subst, ◌∙◌, arith}
 use Rattle.std.proofs.lemmas.List.{take_all}
 use Rattle.outside_io.specs.declared.volume.VolFile.TheVariants.{Journal}
 use Rattle.outside_io.specs.volume.Disk.{IsDiskImage}
@@ -18,11 +17,14 @@ use Rattle.lerc_cli.specs.answers.Table.{UpdatesOf}
 use Rattle.lerc_cli.specs.crashes.CutRuns.{CutRun, IsCutRun, SurvivesCuts}
 use Rattle.lerc_cli.specs.answers.Names.{End}
 use Rattle.opened_bundle.specs.Left.{IsReady, KeepsStart}
-use Rattle.lerc_cli.specs.crashes.Kept.{KeepsTiles, UpdatesAt, has_updates}
+use Rattle.lerc_cli.specs.crashes.Kept.{KeepsTiles}
+use Rattle.lerc_cli.specs.crashes.Phase.{Phase, NotCalled, Recovered, Updated, UpdatesAt, UpdatesIn}
 
-either_way : (b : Bool) (P : Type 0) → (IsTrue b → P) → (IsFalse b → P) → P
-either_way true P yes_ no_ = yes_ (search rules)
-either_way false P yes_ no_ = no_ refl
+-- a command that makes no updates has none in any phase
+none_in : (c : Command) (g : Given) (us : List TileRec) (phase : Phase) → (UpdatesOf c g us → us ≡ []) → UpdatesIn phase c g us → us ≡ []
+none_in c g us NotCalled none is = is
+none_in c g us Recovered none is = is
+none_in c g us Updated none is = none is
 
 -- an image, by some of the first updates
 abbrev Stands : TileMap → List TileRec → List ℕ → ℕ → List ℕ → List ℕ → Type 0
@@ -33,7 +35,7 @@ module _ (g : Given) (end : End) (us : List TileRec) (marks : List ℕ) (start :
   -- a command that makes no updates
   stands_same : (c : Command) → (UpdatesOf c g us → us ≡ []) → UpdatesAt c g end us → KeepsStart start old new → Stands start us marks t b j
   stands_same c none at kept =
-      let is : us ≡ [] = either_way (has_updates end) (us ≡ []) (λ some. none (at.some some)) at.none in
+      let is : us ≡ [] = none_in c g us at.0 none at.1.1 in
       let sound = kept.each t from to b j image.bundle image.journal in
       let all : take (marked marks t) us ≡ [] = ap (take (marked marks t)) is ∙ take_all (marked marks t) [] (omega arith) in
       (marked marks t, (omega arith, subst (λ (xs : List TileRec). StandsFor b j (map_after start xs)) (sym all) (subst (StandsFor b j) sound.passes sound.stands)))

@@ -1,6 +1,6 @@
 -- What a run of `put` leaves, by how it ends.
 use Rattle.std.proofs.Common.{◌≡◌, ◌⊎◌, inl, inr, ℕ, ◌≤◌, List, [], length, take, Bool, Option, Result, Ok, Err, refl, sym, ◌∙◌, ap, subst, rules, arith}
-use Rattle.std.specs.Prelude.{IsFalse, IsTrue, Vec}
+use Rattle.std.specs.Prelude.{IsTrue, Vec}
 use Rattle.std.specs.declared.alloc.Global.{Global}
 use Rattle.std.proofs.lemmas.Bool.{cases_lt}
 use Rattle.outside_io.specs.declared.volume.VolFile.TheVariants.{Bundle, Journal}
@@ -9,13 +9,10 @@ use Rattle.outside_io.specs.volume.Disk.{Disk, File}
 use Rattle.outside_io.specs.volume.History.{History, contents, current}
 use Rattle.lerc_header.specs.declared.header.Version.{Version}
 use Rattle.lerc_header.specs.Written.{step_of}
-use Rattle.side_journal.specs.declared.body.JournalState.{JournalState}
-use Rattle.side_journal.specs.declared.body.JournalState.TheVariants.{Closed, Open, Bad}
-use Rattle.side_journal.specs.Says.{IsOpen, Says}
 use Rattle.bundle_store.specs.declared.tile_rec.TileRec.{TileRec}
-use Rattle.bundle_store.specs.Images.{HoldsClosed, Shows}
+use Rattle.bundle_store.specs.Images.{HoldsClosed}
 use Rattle.bundle_store.specs.Session.{SessionState}
-use Rattle.bundle_store.specs.Tiles.{IsReadable, TileMap, tiles}
+use Rattle.bundle_store.specs.Tiles.{TileMap, tiles}
 use Rattle.bundle_store.proofs.Standing.{closed_map}
 use Rattle.bundle_lines.specs.declared.stop.PutStop.TheVariants.{Output as PutOutput, Volume as PutVolume, Full as PutFull}
 use Rattle.bundle_lines.specs.Gave.{PutEnd, PutGave, UnlessVolume}
@@ -37,16 +34,14 @@ use Rattle.program_ends.specs.Stop.{Gained}
 use Rattle.lerc_cli.specs.run.Run.{OfOutput, OfVolume, StopsBeforeOutput}
 use Rattle.lerc_cli.specs.answers.Names.{End}
 use Rattle.opened_bundle.specs.Left.{OfReading}
-use Rattle.lerc_cli.specs.crashes.Kept.{OnAnswer, UpdatesAt, has_updates, is_early}
+use Rattle.lerc_cli.specs.crashes.Phase.{Updated, UpdatesComeTo}
 use Rattle.opened_bundle.specs.Opening.{IsOpened, OpeningStops}
 use Rattle.lerc_cli.specs.inside.Updates.{put_end_of}
 use Rattle.opened_bundle.proofs.BundleOpening.{failed_later, of_bundle}
 use Rattle.opened_bundle.specs.declared.refusal.StoreRefusal.{StoreRefusal}
 use Rattle.lerc_cli.specs.inside.Opening.{of_store}
 use Rattle.lerc_cli.proofs.AnswerLemmas.Stores.{store_output, store_source}
-use Rattle.lerc_cli.proofs.CrashLemmas.Idle.{clash, untouched}
-use Rattle.lerc_cli.proofs.CrashLemmas.Resting.{rests_put}
-use Rattle.lerc_cli.proofs.CrashLemmas.Unopened.{memory_still}
+use Rattle.opened_bundle.proofs.Resting.{shut_held}
 use Rattle.lerc_cli.proofs.AnswerLemmas.Outputs.{stopped}
 
 -- ---- reading the updates
@@ -87,41 +82,23 @@ any_early_ends v e w g stop (inl is) = subst (λ (s : Stop Refusal). Answers (Pu
 any_early_ends v e w g stop (inr (s, (is, tells))) =
     subst (λ (x : Stop Refusal). Answers (Put v e w) g 0 (Err x) []) (sym is) (early_ends v e w g s (s, (refl, tells)))
 
--- Neither the output nor the volume failed, and no update was made. The volume was not called, or
--- memory was refused.
-record IsQuietStop (v : Version) (e w : ℕ) (stop : Stop Refusal) : Type 0 where
-  output : stop ≡ Output → ⊥
-  volume : stop ≡ Volume → ⊥
-  early : (stop ≡ OutOfMemory) ⊎ IsTrue (is_early (Put v e w) (Err stop))
-  none : IsFalse (has_updates (Err stop))
+stream_not_output : (s : StreamStop) → stream_stop_of s ≡ Output → ⊥
+stream_not_output ManyTiles is = cc
+stream_not_output (TileFaultOf f) is = cc
+stream_not_output (DeepTile at) is = cc
+stream_not_output (LargeTile at len) is = cc
+stream_not_output (MuchKept at) is = cc
+stream_not_output StreamSource is = cc
+stream_not_output StreamMemory is = cc
 
-quiet_stop : (v : Version) (e w : ℕ) (s : StreamStop) → IsQuietStop v e w (stream_stop_of s)
-quiet_stop v e w ManyTiles = record { output = λ is. cc; volume = λ is. cc; early = inr (search rules); none = refl }
-quiet_stop v e w (TileFaultOf f) = record { output = λ is. cc; volume = λ is. cc; early = inr (search rules); none = refl }
-quiet_stop v e w (DeepTile at) = record { output = λ is. cc; volume = λ is. cc; early = inr (search rules); none = refl }
-quiet_stop v e w (LargeTile at len) = record { output = λ is. cc; volume = λ is. cc; early = inr (search rules); none = refl }
-quiet_stop v e w (MuchKept at) = record { output = λ is. cc; volume = λ is. cc; early = inr (search rules); none = refl }
-quiet_stop v e w StreamSource = record { output = λ is. cc; volume = λ is. cc; early = inr (search rules); none = refl }
-quiet_stop v e w StreamMemory = record { output = λ is. cc; volume = λ is. cc; early = inl refl; none = refl }
-
-any_quiet : (v : Version) (e w : ℕ) (g : Given) (stop : Stop Refusal) → Early v e g stop → IsQuietStop v e w stop
-any_quiet v e w g stop (inl is) = subst (λ (s : Stop Refusal). IsQuietStop v e w s) (sym is) (record { output = λ is. cc; volume = λ is. cc; early = inl refl; none = refl })
-any_quiet v e w g stop (inr (s, (is, tells))) = subst (λ (x : Stop Refusal). IsQuietStop v e w x) (sym is) (quiet_stop v e w s)
+pub early_not_output : (v : Version) (e : ℕ) (g : Given) (stop : Stop Refusal) → Early v e g stop → stop ≡ Output → ⊥
+early_not_output v e g stop (inl is) so = let bad : OutOfMemory ≡ Output = sym is ∙ so in cc
+early_not_output v e g stop (inr (s, (is, tells))) so = stream_not_output s (sym is ∙ so)
 
 pub early_output : (v : Version) (e w : ℕ) (g : Given) (K : Type 0) (held : K → Option (List ℕ)) (faults : K → ℕ) (out out_new : K) (stop : Stop Refusal) → out_new ≡ out → Early v e g stop
     → OfOutput (Put v e w) g 0 (Err stop) (sink_move held faults out out_new)
 early_output v e w g K held faults out out_new stop same early =
-    stopped (Put v e w) g K held faults out out_new stop (any_early_ends v e w g stop early) same (any_quiet v e w g stop early).output
-
-pub early_volume : (v : Version) (e w : ℕ) (g : Given) (stop : Stop Refusal) (V : Type 0) (told : V → Bool) (history : V → History) (faults : V → ℕ) (vol : V) → Early v e g stop
-    → OfVolume (Put v e w) g (Err stop) [] (volume_move told history faults vol vol)
-early_volume v e w g stop V told history faults vol early =
-    let q = any_quiet v e w g stop early in
-    elim q.early [
-      | inl so ↦ subst (λ (s : Stop Refusal). OfVolume (Put v e w) g (Err s) [] (volume_move told history faults vol vol)) (sym so) (memory_still (Put v e w) g V told history faults vol (search rules))
-      | inr so ↦ untouched (Put v e w) g (Err stop) V told history faults vol so (λ is_volume. q.volume (let same_stop : stop ≡ Volume = cc in same_stop))
-          (record { some = λ yes_. absurd (clash (has_updates (Err stop)) yes_ q.none); none = λ _. refl })
-    ]
+    stopped (Put v e w) g K held faults out out_new stop (any_early_ends v e w g stop early) same (early_not_output v e g stop early)
 
 -- ---- the bundle was not opened
 
@@ -214,33 +191,18 @@ joined_cause P Q f f_mid f_new well one two = record {
   rose = λ rose. elim (cases_lt f f_mid) [ inl before ↦ absurd (well (one.rose before)) | inr after ↦ two.rose (omega (arith, after, rose)) ];
 }
 
--- the end of puts has updates, and is not early
-late : (v : Version) (e w : ℕ) (r : PutEnd) → IsTrue (has_updates (put_end_of r))
-late v e w (Ok x) = search rules
-late v e w (Err PutOutput) = search rules
-late v e w (Err PutVolume) = search rules
-late v e w (Err (PutFull len)) = search rules
+-- updates are begun
+puts_come : (r : PutEnd) → UpdatesComeTo (put_end_of r) Updated
+puts_come (Ok x) = refl
+puts_come (Err PutOutput) = refl
+puts_come (Err PutVolume) = refl
+puts_come (Err (PutFull len)) = refl
 
-not_early : (v : Version) (e w : ℕ) (r : PutEnd) → IsTrue (is_early (Put v e w) (put_end_of r)) → ⊥
-not_early v e w (Ok x) is = cc
-not_early v e w (Err PutOutput) is = cc
-not_early v e w (Err PutVolume) is = cc
-not_early v e w (Err (PutFull len)) is = cc
-
-updates_at : (v : Version) (e w : ℕ) (g : Given) (r : PutEnd) (us : List TileRec) → UpdatesOf (Put v e w) g us → UpdatesAt (Put v e w) g (put_end_of r) us
-updates_at v e w g r us of = record { some = λ _. of; none = λ bad. absurd (clash (has_updates (put_end_of r)) (late v e w r) bad) }
-
-on_answer : (v : Version) (e w : ℕ) (r : PutEnd) (same P : Type 0) → UnlessVolume r P → OnAnswer (put_end_of r) (Put v e w) same P
-on_answer v e w (Ok x) same P p = p
-on_answer v e w (Err PutOutput) same P p = p
-on_answer v e w (Err PutVolume) same P p = tt
-on_answer v e w (Err (PutFull len)) same P p = p
-
-unless_map : (r : PutEnd) (P Q : Type 0) → (P → Q) → UnlessVolume r P → UnlessVolume r Q
-unless_map (Ok x) P Q so p = so p
-unless_map (Err PutOutput) P Q so p = so p
-unless_map (Err PutVolume) P Q so p = tt
-unless_map (Err (PutFull len)) P Q so p = so p
+answered : (r : PutEnd) (P : Type 0) → (put_end_of r ≡ Err Volume → ⊥) → UnlessVolume r P → P
+answered (Ok x) P well p = p
+answered (Err PutOutput) P well p = p
+answered (Err PutVolume) P well p = absurd (well refl)
+answered (Err (PutFull len)) P well p = p
 
 pub put_all_volume : (v : Version) (e w : ℕ) (g : Given) (failed : Type 0) (V : Type 0) (told : V → Bool) (history : V → History) (faults : V → ℕ) (vol mid new : V) (s : SessionState) (us : List TileRec) (marks : List ℕ) (r : PutEnd)
     → UpdatesOf (Put v e w) g us → (failed → ⊥) → OfReading failed (volume_move told history faults vol mid)
@@ -252,13 +214,22 @@ put_all_volume v e w g failed V told history faults vol mid new s us marks r of 
   cause = joined_cause failed (put_end_of r ≡ Err Volume) (faults vol) (faults mid) (faults new) well so.cause (put_volume r (faults mid) (faults new) cause);
   told = tells ∙ so.told;
   later = λ t none. absurd (let bad : ⊥ = cc in bad);
-  idle = λ early. absurd (not_early v e w r early);
   unmarked = λ is. absurd (let bad : ⊥ = cc in bad);
   marks_are = λ t. earlier_marks marks (history vol).moment (history mid).moment (history new).moment (so.later t) (leaves (so.told ∙ t)).marks_are;
   marks_at = tt;
-  reads = λ t _. on_answer v e w r _ _ (unless_map r _ _ (λ (held : HoldsClosed (bundle_after_puts (contents Bundle (history mid)) (take (length marks) us)) (current (history new))).
-      let o = opened t in (us, (updates_at v e w g r us of, (contents Bundle (history mid), (inl (o.done, o.leaves), ap (λ (x : File). x.now) held.bundle_is))))) (leaves (so.told ∙ t)).reads);
-  rests = λ t _. rests_put v e w _ (contents Journal (history vol)) (current (history new)) r _ (leaves (so.told ∙ t)).reads;
+  phase = Updated;
+  comes = puts_come r;
+  left = λ t well_ended.
+      let held : HoldsClosed (bundle_after_puts (contents Bundle (history mid)) (take (length marks) us)) (current (history new)) = answered r _ well_ended (leaves (so.told ∙ t)).reads in
+      let o = opened t in
+      record {
+        updates = us;
+        are = of;
+        bundle = contents Bundle (history mid);
+        left = inl (o.done, o.leaves);
+        reads = ap (λ (x : File). x.now) held.bundle_is;
+        rests = shut_held _ (current (history new)) held;
+      };
   tiles = λ start ready.
       let o = opened ready.tells in
       let stands = o.recovered.same start ready.stands in
@@ -266,7 +237,7 @@ put_all_volume v e w g failed V told history faults vol mid new s us marks r of 
       let t = so.told ∙ ready.tells in (
         us,
         (
-          updates_at v e w g r us of,
+          (Updated, (puts_come r, of)),
           (
             contents Bundle (history mid),
             (

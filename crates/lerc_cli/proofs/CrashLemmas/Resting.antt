@@ -1,14 +1,11 @@
 -- What stands on the disk behind a command on a bundle.
-use Rattle.std.proofs.Common.{◌≡◌, ◌⊎◌, ◌∙◌, ℕ, List, Ok, Err, inl, inr, refl, sym, subst}
-use Rattle.std.specs.Prelude.{IsFalse, IsTrue}
+use Rattle.std.proofs.Common.{◌≡◌, ◌⊎◌, ◌∙◌, ℕ, List, Ok, Err, inl, inr, sym, subst}
+use Rattle.std.specs.Prelude.{IsTrue}
 use Rattle.outside_io.specs.declared.volume.VolFile.TheVariants.{Journal}
 use Rattle.outside_io.specs.volume.Disk.{Disk}
 use Rattle.outside_io.specs.volume.History.{contents, current}
-use Rattle.lerc_header.specs.declared.header.Version.{Version}
-use Rattle.bundle_store.specs.Images.{HoldsClosed}
 use Rattle.bundle_lines.specs.declared.stop.LineStop.TheVariants.{Output as LineOutput, Volume as LineVolume}
-use Rattle.bundle_lines.specs.declared.stop.PutStop.TheVariants.{Output as PutOutput, Volume as PutVolume, Full as PutFull}
-use Rattle.bundle_lines.specs.Gave.{LineEnd, PutEnd, UnlessVolume}
+use Rattle.bundle_lines.specs.Gave.{LineEnd}
 use Rattle.program_ends.specs.Moves.{VolumeMove}
 use Rattle.lerc_cli.specs.declared.words.Command.{Command}
 use Rattle.lerc_cli.specs.declared.words.Command.TheVariants.{Encode, Decode, Info, Build, Put, Get, GetRaw, List as ListAll, Check, Recover, Sample}
@@ -19,15 +16,13 @@ use Rattle.lerc_cli.specs.inputs.Given.{Given}
 use Rattle.lerc_cli.specs.run.Run.{OfVolume}
 use Rattle.lerc_cli.specs.answers.Names.{End, status_at}
 use Rattle.opened_bundle.specs.Left.{IsShut}
-use Rattle.lerc_cli.specs.crashes.Kept.{OnAnswer, Rests, RestsBehind, is_early}
+use Rattle.lerc_cli.specs.crashes.Phase.{Phase, Recovered, Updated, ComesTo, IsLeftIn, Rests, RestsBehind}
 use Rattle.lerc_cli.specs.inside.Opening.{DecodesTile, end_of}
-use Rattle.lerc_cli.specs.inside.Updates.{put_end_of}
 use Rattle.lerc_cli.proofs.AnswerLemmas.Statuses.{ok_at, output_at}
 use Rattle.program_ends.specs.declared.stop.Stop.TheVariants.{Usage, Refused, Source, Output, Volume, OutOfMemory}
 use Rattle.opened_bundle.specs.declared.refusal.StoreRefusal.{StoreRefusal}
 use Rattle.opened_bundle.specs.declared.refusal.StoreRefusal.TheVariants.{NoTile, Beyond, BadBundle, BadJournal, NotEmpty, Full}
 use Rattle.opened_bundle.specs.Left.{RestsBehind as RestsUnopened}
-use Rattle.opened_bundle.proofs.Resting.{shut_held}
 use Rattle.lerc_cli.specs.declared.refusal.Refusal.TheVariants.{Input, Store, Stream}
 use Rattle.lerc_cli.specs.inside.Opening.{of_store}
 
@@ -63,36 +58,53 @@ rests_lines (Ok x) journal d shut = shut
 rests_lines (Err LineOutput) journal d shut = shut
 rests_lines (Err LineVolume) journal d shut = tt
 
--- ---- updates
-
-module _ (v : Version) (e w : ℕ) (same : Type 0) (journal : List ℕ) (d : Disk) where
-  pub rests_put : (r : PutEnd) (bundle : List ℕ) → UnlessVolume r (HoldsClosed bundle d) → OnAnswer (put_end_of r) (Put v e w) same (Rests (put_end_of r) journal d)
-  rests_put (Ok x) bundle held = shut_held bundle d held
-  rests_put (Err PutOutput) bundle held = shut_held bundle d held
-  rests_put (Err PutVolume) bundle held = tt
-  rests_put (Err (PutFull len)) bundle held = shut_held bundle d held
-
 -- ---- by the status
 
-late : (c : Command) → IsTrue (calls_volume c) → IsFalse (is_early c (Ok tt)) × IsFalse (is_early c (Err Output))
-late (Encode version error) calls = absurd (let bad : ⊥ = cc in bad)
-late Decode calls = absurd (let bad : ⊥ = cc in bad)
-late Info calls = absurd (let bad : ⊥ = cc in bad)
-late (Build version error workers) calls = (refl, refl)
-late (Put version error workers) calls = (refl, refl)
-late (Get slot) calls = (refl, refl)
-late (GetRaw slot) calls = (refl, refl)
-late ListAll calls = (refl, refl)
-late Check calls = (refl, refl)
-late Recover calls = (refl, refl)
-late (Sample first count) calls = absurd (let bad : ⊥ = cc in bad)
+called_well : (c : Command) (phase : Phase) → IsTrue (calls_volume c) → ComesTo c (Ok tt) phase → (phase ≡ Recovered) ⊎ (phase ≡ Updated)
+called_well (Encode version error) phase calls comes = absurd (let bad : ⊥ = cc in bad)
+called_well Decode phase calls comes = absurd (let bad : ⊥ = cc in bad)
+called_well Info phase calls comes = absurd (let bad : ⊥ = cc in bad)
+called_well (Build version error workers) phase calls comes = inr comes
+called_well (Put version error workers) phase calls comes = inr comes
+called_well (Get slot) phase calls comes = inl comes
+called_well (GetRaw slot) phase calls comes = inl comes
+called_well ListAll phase calls comes = inl comes
+called_well Check phase calls comes = inl comes
+called_well Recover phase calls comes = inl comes
+called_well (Sample first count) phase calls comes = absurd (let bad : ⊥ = cc in bad)
+
+called_cut : (c : Command) (phase : Phase) → IsTrue (calls_volume c) → ComesTo c (Err Output) phase → (phase ≡ Recovered) ⊎ (phase ≡ Updated)
+called_cut (Encode version error) phase calls comes = absurd (let bad : ⊥ = cc in bad)
+called_cut Decode phase calls comes = absurd (let bad : ⊥ = cc in bad)
+called_cut Info phase calls comes = absurd (let bad : ⊥ = cc in bad)
+called_cut (Build version error workers) phase calls comes = inr comes
+called_cut (Put version error workers) phase calls comes = inr comes
+called_cut (Get slot) phase calls comes = inl comes
+called_cut (GetRaw slot) phase calls comes = inl comes
+called_cut ListAll phase calls comes = inl comes
+called_cut Check phase calls comes = inl comes
+called_cut Recover phase calls comes = inl comes
+called_cut (Sample first count) phase calls comes = absurd (let bad : ⊥ = cc in bad)
+
+module _ (c : Command) (g : Given) (marks : List ℕ) (vol : VolumeMove) (yes_ : IsTrue vol.told.old) where
+  shut_in : (end : End) (phase : Phase) → (end ≡ Err Volume → ⊥) → (Rests end (contents Journal vol.history.old) (current vol.history.new) → IsShut (current vol.history.new))
+      → (phase ≡ Recovered) ⊎ (phase ≡ Updated) → IsLeftIn phase c g end marks vol → IsShut (current vol.history.new)
+  shut_in end phase well shut (inl is) left = let here : IsLeftIn Recovered c g end marks vol = subst (λ (p : Phase). IsLeftIn p c g end marks vol) is left in shut (here yes_ well).rests
+  shut_in end phase well shut (inr is) left = let here : IsLeftIn Updated c g end marks vol = subst (λ (p : Phase). IsLeftIn p c g end marks vol) is left in (here yes_ well).rests
+
+  shut_well : (end : End) → end ≡ Ok tt → IsTrue (calls_volume c) → OfVolume c g end marks vol → IsShut (current vol.history.new)
+  shut_well end is calls leaves =
+      let so = subst (λ (x : End). OfVolume c g x marks vol) is leaves in
+      shut_in (Ok tt) so.phase (λ bad. cc) (λ shut. shut) (called_well c so.phase calls so.comes) so.left
+
+  shut_cut : (end : End) → end ≡ Err Output → IsTrue (calls_volume c) → OfVolume c g end marks vol → IsShut (current vol.history.new)
+  shut_cut end is calls leaves =
+      let so = subst (λ (x : End). OfVolume c g x marks vol) is leaves in
+      shut_in (Err Output) so.phase (λ bad. cc) (λ shut. shut) (called_cut c so.phase calls so.comes) so.left
 
 module _ (c : Command) (g : Given) (end : End) (marks : List ℕ) (vol : VolumeMove) where
-  abbrev RestsAs : End → Type 0
-  RestsAs x = IsTrue vol.told.old → IsFalse (is_early c x) → OnAnswer x c vol.same (Rests x (contents Journal vol.history.old) (current vol.history.new))
-
   -- all went well, or the output alone failed
   pub shut_at : (status : ℕ) → status ≡ status_at end → IsTrue (calls_volume c) → IsTrue vol.told.old → (status ≡ 0) ⊎ (status ≡ 4)
       → OfVolume c g end marks vol → IsShut (current vol.history.new)
-  shut_at status is calls yes_ (inl zero) left = subst RestsAs (ok_at end (sym is ∙ zero)) left.rests yes_ (late c calls).0
-  shut_at status is calls yes_ (inr four) left = subst RestsAs (output_at end (sym is ∙ four)) left.rests yes_ (late c calls).1
+  shut_at status is calls yes_ (inl zero) leaves = shut_well c g marks vol yes_ end (ok_at end (sym is ∙ zero)) calls leaves
+  shut_at status is calls yes_ (inr four) leaves = shut_cut c g marks vol yes_ end (output_at end (sym is ∙ four)) calls leaves

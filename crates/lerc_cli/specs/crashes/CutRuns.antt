@@ -12,7 +12,8 @@ use Rattle.opened_bundle.specs.Files.{Files}
 use Rattle.lerc_cli.specs.declared.words.Command.{Command}
 use Rattle.lerc_cli.specs.inputs.Given.{Given}
 use Rattle.lerc_cli.specs.answers.Names.{End}
-use Rattle.lerc_cli.specs.crashes.Kept.{KeepsUpdates, UpdatesAt}
+use Rattle.lerc_cli.specs.crashes.Kept.{KeepsUpdates}
+use Rattle.lerc_cli.specs.crashes.Phase.{UpdatesAt}
 
 -- A run of a command with its volume's history, and the crash behind it: its moment, and what it
 -- left of both files. A run that returned may be cut off at its last moment.

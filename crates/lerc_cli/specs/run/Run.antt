@@ -1,18 +1,14 @@
 -- What a run leaves of the objects that it is lent, whatever it answers.
-use Rattle.std.specs.Prelude.{◌≡◌, ℕ, ◌≤◌, List, [], length, replicate, take, Option, IsTrue, IsFalse, Ok, Err}
-use Rattle.outside_io.specs.declared.volume.VolFile.TheVariants.{Bundle, Journal}
+use Rattle.std.specs.Prelude.{◌≡◌, ℕ, ◌≤◌, List, [], length, replicate, Option, IsTrue, IsFalse, Ok, Err}
 use Rattle.outside_io.specs.streams.Faults.{IsCause}
 use Rattle.outside_io.specs.streams.Source.{TakesUpTo, IsAtEnd}
 use Rattle.outside_io.specs.program.Line.{GivesLine}
-use Rattle.outside_io.specs.volume.History.{contents, current}
 use Rattle.raster_values.specs.ReadGrid.{TookSome}
-use Rattle.bundle_store.specs.declared.tile_rec.TileRec.{TileRec}
 use Rattle.bundle_lines.specs.Puts.{AreMarks}
 use Rattle.program_ends.specs.Moves.{SinkMove, SourceMove, VolumeMove}
 use Rattle.program_ends.specs.Stop.{Gained}
 use Rattle.program_ends.specs.declared.stop.Stop.TheVariants.{Usage, Refused, Source, Output, Volume, OutOfMemory}
 use Rattle.opened_bundle.specs.Files.{files_of}
-use Rattle.opened_bundle.specs.Left.{IsLeft}
 use Rattle.lerc_cli.specs.declared.words.Command.{Command}
 use Rattle.lerc_cli.specs.declared.words.Command.TheVariants.{Encode, Decode, Info, Build, Put, Get, GetRaw, List as ListAll, Check, Recover, Sample}
 use Rattle.lerc_cli.specs.declared.refusal.Refusal.TheVariants.{Input}
@@ -20,7 +16,8 @@ use Rattle.lerc_cli.specs.words.Commands.{reads_source, makes_updates}
 use Rattle.lerc_cli.specs.inputs.Given.{Given, given}
 use Rattle.lerc_cli.specs.answers.Names.{End, GivesLineOf, line_of, status_at, status_of}
 use Rattle.lerc_cli.specs.answers.Table.{Answers}
-use Rattle.lerc_cli.specs.crashes.Kept.{KeepsUpdates, OnAnswer, Rests, UpdatesAt, bundle_after, is_early}
+use Rattle.lerc_cli.specs.crashes.Kept.{KeepsUpdates}
+use Rattle.lerc_cli.specs.crashes.Phase.{Phase, ComesTo, IsLeftIn}
 
 -- ---- the source
 
@@ -75,22 +72,15 @@ pub record OfVolume (c : Command) (g : Given) (end : End) (marks : List ℕ) (vo
   pub told : vol.told.new ≡ vol.told.old
   pub later : IsTrue vol.told.old → IsFalse (makes_updates c)
       → vol.history.old.moment ≤ vol.history.new.moment
-  pub idle : IsTrue (is_early c end) → vol.same
   pub unmarked : IsFalse (makes_updates c) → marks ≡ []
   -- they never fall, and none is earlier than the start or later than the end
   pub marks_are : IsTrue vol.told.old
       → AreMarks marks vol.history.old.moment vol.history.new.moment
   pub marks_at : MarksAt c marks vol.history.new.moment
-  -- what the bundle reads as: what a recovery leaves, with the updates done that have a mark
-  pub reads : IsTrue vol.told.old → IsFalse (is_early c end)
-      → OnAnswer end c vol.same ((updates : List TileRec)
-      × (UpdatesAt c g end updates × ((bundle : List ℕ)
-      × (IsLeft (contents Bundle vol.history.old) (contents Journal vol.history.old) bundle
-      × (contents Bundle vol.history.new
-      ≡ bundle_after c end bundle (take (length marks) updates))))))
-  -- nothing is pending then, and the journal is not open, unless it was refused
-  pub rests : IsTrue vol.told.old → IsFalse (is_early c end) → OnAnswer end c vol.same
-      (Rests end (contents Journal vol.history.old) (current vol.history.new))
+  -- how far the run came with it, and what it is left as then
+  pub phase : Phase
+  pub comes : ComesTo c end phase
+  pub left : IsLeftIn phase c g end marks vol
   -- what a crash may leave at each moment
   pub tiles : KeepsUpdates c g end marks vol.told.old vol.history.old vol.history.new
 

@@ -6,7 +6,7 @@ ghost use Rattle.outside_io.specs.volume.History.{contents, current};
 ghost use Rattle.program_ends.specs.Moves.{sink_move, volume_move};
 ghost use Rattle.opened_bundle.specs.Files.{files_of};
 ghost use Rattle.opened_bundle.specs.Left.{OfReading};
-ghost use Rattle.lerc_cli.specs.crashes.Kept.{Rests};
+ghost use Rattle.lerc_cli.specs.crashes.Phase.{Rests};
 ghost use Rattle.lerc_cli.specs.declared.words.Command.{Command};
 ghost use Rattle.lerc_cli.specs.inputs.Given.{given};
 ghost use Rattle.lerc_cli.specs.inside.Opening.{end_of};

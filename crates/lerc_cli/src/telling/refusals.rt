@@ -1,68 +1,13 @@
 //! What is told of an input that is refused: the names of the reasons, and their numbers.
 
 ghost use Rattle.std.specs.Prelude.{◌≡◌, ◌+◌, ◌≤◌, ◌++◌, length};
-ghost use Rattle.lerc_cli.specs.answers.Names.{blob_name_of, blob_numbers_of, fault_text, grid_name_of, name_of, stream_text};
+ghost use Rattle.lerc_cli.specs.answers.Names.{blob_numbers_of, fault_text, name_of, stream_text};
 
 use crate::refusal::{Fault, Reason, StreamRefusal};
 use lerc_header::BlobReason;
 use opened_bundle::{add_one, add_two};
 use outside_io::Line;
-use raster_values::GridReason;
-
-/// The name of a reason that a blob is refused for.
-fn blob_name(reason: BlobReason) -> &'static [u8]
-    ensures name { result.now ≡ blob_name_of reason }
-    ensures short { length result.now ≤ 30 }
-{
-    match reason {
-        BlobReason::Truncated => b"Truncated",
-        BlobReason::BadKey => b"BadKey",
-        BlobReason::BadVersion => b"BadVersion",
-        BlobReason::BadRows => b"BadRows",
-        BlobReason::BadCols => b"BadCols",
-        BlobReason::BadDepth => b"BadDepth",
-        BlobReason::TooLarge => b"TooLarge",
-        BlobReason::BadCount => b"BadCount",
-        BlobReason::BadBlockSize => b"BadBlockSize",
-        BlobReason::BadBlobSize => b"BadBlobSize",
-        BlobReason::FloatPixels => b"FloatPixels",
-        BlobReason::BadType => b"BadType",
-        BlobReason::BadError => b"BadError",
-        BlobReason::BadRange => b"BadRange",
-        BlobReason::BadChecksum { .. } => b"BadChecksum",
-        BlobReason::BadMaskLength => b"BadMaskLength",
-        BlobReason::BadRun => b"BadRun",
-        BlobReason::BadMaskCount { .. } => b"BadMaskCount",
-        BlobReason::MaskMissing => b"MaskMissing",
-        BlobReason::BadSweep => b"BadSweep",
-        BlobReason::BadMode => b"BadMode",
-        BlobReason::BadBlockTag => b"BadBlockTag",
-        BlobReason::BadOffsetCode => b"BadOffsetCode",
-        BlobReason::BadListHead => b"BadListHead",
-        BlobReason::BadListCount => b"BadListCount",
-        BlobReason::BadTable => b"BadTable",
-        BlobReason::BadIndex => b"BadIndex",
-        BlobReason::BadCodeTable => b"BadCodeTable",
-        BlobReason::NoCode => b"NoCode",
-        BlobReason::PastEnd => b"PastEnd",
-        BlobReason::Leftover => b"Leftover",
-    }
-}
-
-/// The name of a reason that a grid is refused for.
-fn grid_name(reason: GridReason) -> &'static [u8]
-    ensures name { result.now ≡ grid_name_of reason }
-    ensures short { length result.now ≤ 30 }
-{
-    match reason {
-        GridReason::Truncated => b"Truncated",
-        GridReason::BadMagic => b"BadMagic",
-        GridReason::BadType => b"BadType",
-        GridReason::BadSize => b"BadSize",
-        GridReason::TooLarge => b"TooLarge",
-        GridReason::BadMark => b"BadMark",
-    }
-}
+use reason_names::{blob_name, grid_name};
 
 /// The name of a reason.
 fn name(reason: Reason) -> &'static [u8]

@@ -7,14 +7,14 @@ use Rattle.raster_values.specs.Raster.{Pixels, IsShape}
 use Rattle.micro_block.specs.Block.{IsBlock}
 use Rattle.lerc_header.specs.declared.header.Header.{Header}
 use Rattle.lerc_header.specs.declared.header.Version.TheVariants.{V3, V4}
-use Rattle.lerc_header.specs.Head.{IsTwiceError}
+use Rattle.raster_values.specs.Step.{IsTwiceError}
 use Rattle.lerc_grammar.specs.Blocks.{AreBlocks, all_blocks, block_frame, blocks_across, blocks_down, coded_values}
 use Rattle.lerc_grammar.specs.Image.{Ends, top_of}
 use Rattle.lerc_grammar.specs.Outline.{HasLists}
 
 -- the number of the block in row a and column b of blocks, at depth d
-abbrev pub number_of : Header → ℕ → ℕ → ℕ → ℕ
-number_of h a b d = (a * blocks_across h + b) * h.depth + d
+abbrev pub block_number : Header → ℕ → ℕ → ℕ → ℕ
+block_number h a b d = (a * blocks_across h + b) * h.depth + d
 
 -- there is a block in row a and column b of blocks
 pub record IsSquare (h : Header) (a b : ℕ) : Type 0 where

@@ -5,7 +5,8 @@ use Rattle.mask_runs.specs.Runs.{Runs}
 use Rattle.raster_values.specs.declared.kind.PixelType.{PixelType}
 use Rattle.raster_values.specs.Raster.{Pixels, values_of}
 use Rattle.raster_values.specs.Values.{AreValues}
-use Rattle.raster_values.specs.Flat.{EachValid, marks_of}
+use Rattle.raster_values.specs.Flat.{EachValid, all_values, marks_of}
+use Rattle.raster_values.specs.Grid.{values_bytes}
 use Rattle.raster_values.specs.Order.{marks_in}
 use Rattle.lerc_header.specs.declared.header.Header.{Header}
 use Rattle.lerc_header.specs.declared.fault.BlobReason.{BlobReason}
@@ -14,6 +15,7 @@ use Rattle.lerc_header.specs.Checksum.{sum_of}
 use Rattle.lerc_grammar.specs.declared.parts.MaskForm.{MaskForm}
 use Rattle.lerc_grammar.specs.Outline.{IsMaskFormAfter, image_place}
 use Rattle.lerc_grammar.specs.Mask.{Previous, IsMaskAfter, count_before, marks_before, mask_size, count_of}
+use Rattle.lerc_grammar.specs.Blob.{Blob}
 use Rattle.lerc_grammar.specs.Image.{IsImage, image_faults, value_count}
 use Rattle.lerc_decode.specs.declared.body.BodyStop.{BodyStop}
 use Rattle.lerc_decode.specs.declared.body.BodyStop.TheVariants.{Fault, OutOfMemory}
@@ -31,11 +33,11 @@ pub record HasHeadShape (h : Header) (r : Pixels) : Type 0 where
   pub depth : h.depth ≡ r.depth
 
 -- the pixels are valid that these runs say, as many as there are to be
-pub record IsMarkedBy (pixels valid : ℕ) (runs : List ℕ) (r : Pixels) : Type 0 where
+pub record IsMarkedBy (pixels valid : ℕ) (runs : List ℕ) (marks : List Bool) : Type 0 where
   pub mask : List ℕ
   pub runs_of : Runs runs mask
   pub size : length mask ≡ mask_size pixels
-  pub marks : marks_of r ≡ marks_in pixels mask
+  pub marks_are : marks ≡ marks_in pixels mask
   pub count : count_of (marks_in pixels mask) ≡ valid
 
 -- the image is filled in: type, shape and marks are as they were
@@ -85,3 +87,11 @@ pub record ReadsImage (h : Header) (blob : List ℕ) (mask : MaskForm) (old new 
   pub ok : OnOk result (IsImage h (drop (image_place h mask) blob) new)
   pub fault : IfErr result (λ stop. IsStopOf (moved (image_place h mask)
       (image_faults h (marks_of old) (drop (image_place h mask) blob))) stop)
+
+-- the array has the values of the raster of the blob, whose marks are those of the bits
+pub record IsPouredOver (h : Header) (blob bits values : List ℕ) : Type 0 where
+  pub raster : Pixels
+  pub blob_of : Blob blob raster
+  pub shape : HasHeadShape h raster
+  pub marks : marks_of raster ≡ marks_in (h.rows * h.cols) bits
+  pub values_are : values ≡ values_bytes raster.kind (all_values raster)

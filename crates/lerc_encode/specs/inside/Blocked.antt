@@ -2,8 +2,8 @@
 use Rattle.std.specs.Prelude.{◌≡◌, ℕ, ◌*◌, ◌<◌, ◌≤◌, ◌↔◌, IsTrue, Bool, false, List, ℤ, length, get_or}
 use Rattle.raster_values.specs.Raster.{Pixels, IsRaster}
 use Rattle.raster_values.specs.Block.{block_values}
+use Rattle.raster_values.specs.Step.{IsTwiceError}
 use Rattle.lerc_header.specs.declared.header.Header.{Header}
-use Rattle.micro_block.specs.Frame.{IsBlockStep}
 use Rattle.micro_block.specs.ChosenBlock as micro
 use Rattle.micro_block.specs.ChosenBlock.{block_bytes, chosen_form}
 use Rattle.lerc_grammar.specs.Blocks.{block_col, block_depth, block_row, coded_blocks, coded_values}
@@ -20,7 +20,7 @@ pub record IsBlocked (h : Header) (r : Pixels) : Type 0 where
   pub depth : h.depth ≡ r.depth
   pub side_above : 0 < h.side
   pub side_below : h.side ≤ 16
-  pub step : IsBlockStep h.step
+  pub step : IsTwiceError h.step
 
 -- coded block number k stands here
 pub record IsSpot (h : Header) (k : ℕ) (spot : Spot) : Type 0 where

@@ -4,7 +4,7 @@ use Rattle.raster_values.specs.Raster.{Pixels, IsRaster}
 use Rattle.lerc_header.specs.declared.header.Header.{Header}
 use Rattle.lerc_header.specs.declared.header.Version.{Version}
 use Rattle.lerc_header.specs.declared.header.Version.TheVariants.{V3}
-use Rattle.lerc_header.specs.Head.{IsTwiceError}
+use Rattle.raster_values.specs.Step.{IsTwiceError}
 use Rattle.lerc_encode.specs.Heads.{header_of}
 use Rattle.lerc_encode.specs.Ranges.{leasts, greatests}
 use Rattle.lerc_encode.specs.inside.Coded.{AreCodings}

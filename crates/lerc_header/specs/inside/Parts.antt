@@ -5,7 +5,8 @@ use Rattle.double_bits.specs.Halves.{HalfDouble}
 use Rattle.lerc_header.specs.declared.header.Version.{Version}
 use Rattle.lerc_header.specs.declared.reading.Shape.{Shape}
 use Rattle.lerc_header.specs.declared.reading.Counts.{Counts}
-use Rattle.lerc_header.specs.Head.{i32_at, double_at, shift, head_length, depth_at, IsTwiceError}
+use Rattle.raster_values.specs.Step.{IsTwiceError}
+use Rattle.lerc_header.specs.Head.{i32_at, double_at, shift, head_length, depth_at}
 
 -- rows, columns and depth, which are a raster's
 pub record IsShapeAt (v : Version) (bytes : List ℕ) (s : Shape) : Type 0 where

@@ -1,5 +1,5 @@
 -- The places of a shelf in memory, of which each has a volume, a new one or that of a base.
-use Rattle.std.specs.Prelude.{◌≡◌, ◌⊎◌, ℕ, ◌+◌, ◌-◌, ◌^◌, ◌<◌, List, [], ◌∷◌, ◌++◌, length, Bool, IsTrue, true, false, All, Option, None, Some, IsSome, IsSomeAnd, if◌then◌else◌}
+use Rattle.std.specs.Prelude.{◌≡◌, ◌⊎◌, ℕ, ◌+◌, ◌-◌, ◌^◌, ◌<◌, List, [], ◌∷◌, ◌++◌, length, true, false, Option, None, Some, IsSome, IsSomeAnd}
 use Rattle.outside_io.specs.volume.Recorded.{Recorded, history_of}
 use Rattle.level_cache.specs.declared.memory.Kept.{Kept}
 use Rattle.level_cache.specs.declared.memory.Lent.{Lent}

@@ -13,19 +13,19 @@ returns-in_default-positive-clause-err c =
     let never = rw c.in_default-positive.is at c.positive.ensures.none in
     inr (inl (refl, (c.in-Some.number, ((c.integer_of.ensures.value c.in-Some.number).0 c.in-Some.is, λ n some e. never n some (same ∙ e)))))
 
-pub returns-then-size-other-gt16777216-clause-err : goal.returns-then-size-other-gt16777216-clause-err
-returns-then-size-other-gt16777216-clause-err c =
+pub returns-then-size-other-clause-err : goal.returns-then-size-other-clause-err
+returns-then-size-other-clause-err c =
     let found = rw c.in-Some-positive.is at c.positive.ensures.some in
     let same = to_z-of_z w64 c.in-Some.number (rw c.in-Some.is at c.integer_of.ensures.fits) in
     let number = (c.integer_of.ensures.value c.in-Some.number).0 c.in-Some.is in
-    inr (inr (refl, (c.in-Some-positive.size, c.in-Some-other.other, (subst (IsInteger c.args.bytes.now) (sym same ∙ found.0) number, (found.1, (c.in-Some-other.is, c.if-size-other-gt16777216.true))))))
+    inr (inr (refl, (c.in-Some-positive.size, c.in-Some-other.other, (subst (IsInteger c.args.bytes.now) (sym same ∙ found.0) number, (found.1, (c.in-Some-other.is, c.if-size-other.true))))))
 
-pub returns-else-size-other-gt16777216-clause-ok : goal.returns-else-size-other-gt16777216-clause-ok
-returns-else-size-other-gt16777216-clause-ok c =
+pub returns-else-size-other-clause-ok : goal.returns-else-size-other-clause-ok
+returns-else-size-other-clause-ok c =
     let found = rw c.in-Some-positive.is at c.positive.ensures.some in
     let same = to_z-of_z w64 c.in-Some.number (rw c.in-Some.is at c.integer_of.ensures.fits) in
     let number = (c.integer_of.ensures.value c.in-Some.number).0 c.in-Some.is in
-    (subst (IsInteger c.args.bytes.now) (sym same ∙ found.0) number, (found.1, rw c.in-Some-other.is c.if-size-other-gt16777216.false))
+    (subst (IsInteger c.args.bytes.now) (sym same ∙ found.0) number, (found.1, rw c.in-Some-other.is c.if-size-other.false))
 
 pub returns-in_default-other-clause-ok : goal.returns-in_default-other-clause-ok
 returns-in_default-other-clause-ok c =

@@ -1,7 +1,7 @@
 use Rattle.std.proofs.Common.{sym, ◌∙◌, rules, arith}
 use Rattle.bundle_pack.proofs.Ended.{ends_as, ends_with, never_usage, not_free, output_status, volume_status}
 use Rattle.bundle_pack.proofs.OneAnswer.{one_answer}
-use Rattle.bundle_pack.proofs.Promised.{complete, packed_all, source_keeps, target_keeps}
+use Rattle.bundle_pack.proofs.Promised.{complete, packed_all, source_keeps, source_stays, target_keeps, target_unpacked, unpacked_keeps, unpacked_stays}
 use Rattle.bundle_pack.proofs.Volumes.{each_map}
 use Rattle.bundle_pack.proofs.dispatch.run_pack.Goals as goal
 
@@ -39,6 +39,8 @@ returns-clause-ran g c = λ asked. record {
     told = c.pack-answer.ensures.told;
     untouched = c.pack-answer.ensures.untouched;
     keeps = c.pack-answer.ensures.images;
+    unpacked = c.pack-answer.ensures.unpacked;
+    left = c.pack-answer.ensures.left;
     packed = c.pack-answer.ensures.packed;
   };
   output = c.end_of-ended.ensures.output;
@@ -67,6 +69,18 @@ pub returns-clause-sources_keep : goal.returns-clause-sources_keep
 returns-clause-sources_keep g c = λ asked.
     each_map _ _ _ _ (λ i v w less moves start ready. source_keeps g.V.Volume.told g.V.Volume.history v w start moves.kept ready) c.pack-answer.ensures.sources
 
+pub returns-clause-sources_stay : goal.returns-clause-sources_stay
+returns-clause-sources_stay g c = λ asked.
+    each_map _ _ _ _ (λ i v w less moves tells shut. source_stays g.V.Volume.told g.V.Volume.history v w moves.kept tells shut) c.pack-answer.ensures.sources
+
 pub returns-clause-target_keeps : goal.returns-clause-target_keeps
 returns-clause-target_keeps g c = λ asked from_told maps start stand ready.
     target_keeps _ _ _ _ maps start stand ready (c.pack-answer.ensures.images from_told ready.tells)
+
+pub returns-clause-target_unpacked : goal.returns-clause-target_unpacked
+returns-clause-target_unpacked g c = λ asked start ready late.
+    unpacked_keeps _ _ _ start ready (target_unpacked _ _ _ _ c.end_of-ended.ensures.ends c.ended_status.ensures.status late (c.pack-answer.ensures.unpacked ready.tells))
+
+pub returns-clause-target_stays : goal.returns-clause-target_stays
+returns-clause-target_stays g c = λ asked tells shut late.
+    unpacked_stays _ _ shut (target_unpacked _ _ _ _ c.end_of-ended.ensures.ends c.ended_status.ensures.status late (c.pack-answer.ensures.unpacked tells))

@@ -14,9 +14,11 @@ use Rattle.bundle_pack.specs.Refusals.{target_fault_of}
 use Rattle.bundle_pack.specs.declared.fault.PackFault.TheVariants.{Target}
 use Rattle.bundle_pack.specs.declared.packing.PackReport.{PackReport}
 use Rattle.bundle_pack.specs.inside.Turns.{TargetImages}
-use Rattle.bundle_pack.proofs.Packs.{holds_merged, packs_ill, packs_well, reads_refuse, target_keeps, untouched_keeps}
+use Rattle.bundle_pack.proofs.Packs.{holds_merged, is_left, never_begun, not_left, packs_ill, packs_well, reads_refuse, stays_unpacked, target_keeps, untouched_keeps}
+use Rattle.bundle_pack.proofs.Recovered.{untouched}
 use Rattle.bundle_pack.proofs.Sound.{sound_answers, sound_packed}
-use Rattle.bundle_pack.proofs.Steps.{all_moved, cause_map, err_as, not_source, not_target, read_fails, target_cause, target_fails}
+use Rattle.bundle_pack.proofs.Steps.{all_moved, err_as, not_source, not_target, read_fails, target_cause, target_fails}
+use Rattle.bundle_pack.proofs.Telling.{cause_map}
 use Rattle.opened_bundle.proofs.BundleOpening.{still}
 use Rattle.bundle_pack.proofs.packing.pack.Goals as goal
 
@@ -46,7 +48,16 @@ returns-in-Err-clause-answers g c = read_fails (length c.args.from.now) c.in-Err
 pub returns-in-Err-clause-target : goal.returns-in-Err-clause-target
 returns-in-Err-clause-target g c = still _ _ _ refl (λ is. not_target PackReport (length c.args.from.now) c.in-Err.fault Device c.in-Err.ensures.answers is)
 
+pub returns-in-Err-clause-unpacked : goal.returns-in-Err-clause-unpacked
+returns-in-Err-clause-unpacked g c = λ tells. never_begun c.in-Err.fault _ (untouched (g.W.Volume.history c.args.to.now))
+
+pub returns-in-Err-clause-left : goal.returns-in-Err-clause-left
+returns-in-Err-clause-left g c = λ tells. not_left (length c.args.from.now) c.in-Err.fault _ c.in-Err.ensures.answers
+
 -- memory is refused
+
+pub returns-in-Err-built_size-clause-unpacked : goal.returns-in-Err-built_size-clause-unpacked
+returns-in-Err-built_size-clause-unpacked g c = λ tells. untouched (g.W.Volume.history c.args.to.now)
 
 pub returns-in-Err-built_size-clause-sources : goal.returns-in-Err-built_size-clause-sources
 returns-in-Err-built_size-clause-sources g c =
@@ -133,3 +144,9 @@ pub returns-clause-target : goal.returns-clause-target
 returns-clause-target g c =
     cause_map _ _ _ _ (λ e. ap Err (c.target_fault.ensures ∙ e)) (λ is. sym c.target_fault.ensures ∙ (let same : c.target_fault.result ≡ Target Device = cc in same))
     (target_cause c.in-Err-write_target.fault _ _ c.in-Err-write_target.ensures.counted)
+
+pub returns-clause-unpacked : goal.returns-clause-unpacked
+returns-clause-unpacked g c = λ tells. rw c.target_fault.ensures (stays_unpacked c.in-Err-write_target.fault _ (c.in-Err-write_target.ensures.unpacked tells))
+
+pub returns-clause-left : goal.returns-clause-left
+returns-clause-left g c = λ tells. rw c.target_fault.ensures (is_left c.in-Err-write_target.fault _ (c.in-Err-write_target.ensures.left tells))

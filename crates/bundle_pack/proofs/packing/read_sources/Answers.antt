@@ -2,7 +2,7 @@ use Rattle.std.proofs.Common.{◌≤◌, Ok, Err, List, ℕ, length, subst, sym,
 use Rattle.std.specs.Prelude.{IfErr, Vec}
 use Rattle.std.specs.declared.alloc.Global.{Global}
 use Rattle.bundle_store.specs.Session.{SessionState}
-use Rattle.bundle_pack.specs.Chosen.{chosen_bytes}
+use Rattle.bundle_pack.specs.Chosen.{chosen_bytes, most_bytes}
 use Rattle.bundle_pack.specs.Files.{all_bundles, all_files}
 use Rattle.bundle_pack.specs.Sources.{DeviceAt}
 use Rattle.bundle_pack.specs.inside.Collecting.{AreServed, ReadFails}
@@ -43,7 +43,7 @@ returns-clause-says g c = λ all.
     let told = moved_told vol.told vol.history vol.faults (λ i. DeviceAt {X = Vec SessionState Global} (Ok c.in-Ok.sessions) i) c.args.from.now from c.in-Ok.ensures.sources all in
     let all_served = subst (λ (ss : List SessionState). AreServed ss bundles) (sym c.as_slice.ensures.value) (served vol.told vol.history c.in-Ok.sessions.items from c.in-Ok.ensures.serving told) in
     let sum = c.bytes_of_chosen-len.ensures bundles all_served in
-    let few : chosen_bytes bundles 16384 ≤ 1073741824 = omega (arith, sum, c.if-len-gt-MOST_BYTES.false) in
+    let few : chosen_bytes bundles 16384 ≤ most_bytes = omega (arith, sum, c.if-len-gt-MOST_BYTES.false) in
     read_tiles (all_files vol.history c.args.from.now) bundles c.collect_tiles.result (record { opened = c.in-Ok.ensures.says all; few = few }) (c.collect_tiles.ensures.says told)
 
 pub returns-in-Err-clause-answers : goal.returns-in-Err-clause-answers

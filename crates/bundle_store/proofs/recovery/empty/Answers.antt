@@ -4,6 +4,7 @@ use Rattle.outside_io.specs.volume.History.{current}
 use Rattle.outside_io.proofs.VolumeLemmas.Moments.{during_join, during_map}
 use Rattle.bundle_store.specs.Images.{EachImage}
 use Rattle.bundle_store.specs.Tiles.{no_tiles}
+use Rattle.bundle_store.proofs.Midway.{empty_midway}
 use Rattle.bundle_store.proofs.Recovering.{in_emptied, in_wiping}
 use Rattle.bundle_store.proofs.recovery.empty.Goals as goal
 
@@ -25,3 +26,7 @@ returns-clause-images g c = λ told.
     let bundle = ap (λ (d : Disk). d.bundle) done in
     let journal = ap (λ (d : Disk). d.journal.now) done in
     during_join Pass _ _ _ wiping (during_map _ Pass _ _ (λ d. in_emptied j (current (g.V.Volume.history c.wipe.new.vol)) d (c.requires.says told) bundle journal) (c.close_gate.ensures.during (c.wipe.ensures.told ∙ told)))
+
+pub returns-clause-bytes : goal.returns-clause-bytes
+returns-clause-bytes g c = λ told.
+    empty_midway (current (g.V.Volume.history c.args.vol.now)).bundle.now _ _ _ (c.wipe.ensures.bytes told) (ap (λ (d : Disk). d.bundle) (c.in_ok-wipe.ensures.done told)) (c.close_gate.ensures.during (c.wipe.ensures.told ∙ told))

@@ -4,6 +4,7 @@ use Rattle.outside_io.specs.volume.History.{current}
 use Rattle.bundle_store.specs.GroupPuts.{with_entries}
 use Rattle.bundle_store.specs.LaidOver.{size_in}
 use Rattle.bundle_store.proofs.GroupStanding.{lays_body, lays_tiles}
+use Rattle.bundle_store.proofs.Midway.{midway_measuring, midway_putting}
 use Rattle.bundle_store.proofs.Recovering.{keeps_measuring, keeps_putting, recovered_group}
 use Rattle.bundle_store.proofs.recovery.finish_group.Goals as goal
 
@@ -49,3 +50,21 @@ returns-clause-leaves g c = λ told.
       record { opened = c.requires.opened told; body = these.body; says = these.says; tiles = lays_tiles these.body c.args.group.now c.args.header.now these.lays; within = within },
       ap (λ (d : Disk). d.bundle.now) done ∙ ap over bundle ∙ lays_body b these.body c.args.group.now c.args.header.now these.lays,
     )
+
+pub returns-in_err-len-clause-bytes : goal.returns-in_err-len-clause-bytes
+returns-in_err-len-clause-bytes g c = λ told.
+    midway_measuring _ _ _ (c.requires.quiet told) c.len.ensures.time (c.len.ensures.disk told)
+
+pub returns-in_err-redo-clause-bytes : goal.returns-in_err-redo-clause-bytes
+returns-in_err-redo-clause-bytes g c = λ told.
+    midway_putting c.args.group.now c.args.header.now c.args.size c.args.place _ _ _ _ (c.requires.quiet told) (c.requires.opened told) (c.requires.says told)
+    (omega (arith, c.if-branch-size.false, c.in_ok-len.ensures.answer told)) c.len.ensures.time (c.len.ensures.disk told) (c.redo.ensures.bytes (c.len.ensures.told ∙ told))
+
+pub returns-clause-bytes : goal.returns-clause-bytes
+returns-clause-bytes g c = λ told.
+    midway_putting c.args.group.now c.args.header.now c.args.size c.args.place _ _ _ _ (c.requires.quiet told) (c.requires.opened told) (c.requires.says told)
+    (omega (arith, c.if-branch-size.false, c.in_ok-len.ensures.answer told)) c.len.ensures.time (c.len.ensures.disk told) (c.redo.ensures.bytes (c.len.ensures.told ∙ told))
+
+pub returns-then-branch-size-clause-bytes : goal.returns-then-branch-size-clause-bytes
+returns-then-branch-size-clause-bytes g c = λ told.
+    midway_measuring _ _ _ (c.requires.quiet told) c.len.ensures.time (c.len.ensures.disk told)

@@ -6,6 +6,7 @@ use Rattle.outside_io.specs.declared.volume.VolFile.TheVariants.{Bundle, Journal
 use Rattle.outside_io.proofs.VolumeLemmas.Moments.{during_join, during_map}
 use Rattle.bundle_store.specs.inside.Parts.{EachKeeps}
 use Rattle.bundle_store.specs.Recover.{EachStandsForOneOf, IsRecovered, Leaves, OnBadJournal, RecoverySays}
+use Rattle.bundle_store.proofs.Midway.{narrows_midway, recover_midway}
 use Rattle.bundle_store.proofs.Recovering.{both_settled, one_of}
 use Rattle.bundle_store.proofs.recovery.recover.Goals as goal
 
@@ -61,3 +62,11 @@ returns-clause-refused g c = λ told.
     let last = current (g.V.Volume.history c.finish.new.vol) in
     subst (λ (d : Disk). OnBadJournal c.finish.result (last ≡ d)) done
     (c.finish.ensures.refused (c.sync_both.ensures.told ∙ told))
+
+pub returns-in_err-sync_both-clause-bytes : goal.returns-in_err-sync_both-clause-bytes
+returns-in_err-sync_both-clause-bytes g c = λ told. during_map _ _ _ _ (narrows_midway (current (g.V.Volume.history c.args.vol.now))) (c.sync_both.ensures.during told)
+
+pub returns-clause-bytes : goal.returns-clause-bytes
+returns-clause-bytes g c = λ told.
+    let done = c.in_ok-sync_both.ensures.done told in
+    recover_midway _ _ _ (c.sync_both.ensures.during told) (ap (λ (d : Disk). d.bundle.now) done) (ap (λ (d : Disk). d.journal.now) done) (c.finish.ensures.bytes (c.sync_both.ensures.told ∙ told))

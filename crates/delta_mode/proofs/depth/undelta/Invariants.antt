@@ -6,14 +6,16 @@ use Rattle.delta_mode.specs.inside.Pieces.{IsAt, AreCoded}
 use Rattle.delta_mode.proofs.depth.undelta.Given as goal
 
 abbrev pub invariant-loop-place : goal.invariant-loop-place
-invariant-loop-place l = record {
-  within : l.place ≤ l.fn.raster.rows * l.fn.raster.cols;
+invariant-loop-place g l = record {
+  within : l.place ≤ (g.T.Target.pixels l.fn.raster).rows * (g.T.Target.pixels l.fn.raster).cols;
   wide : length l.marks ≡ 256;
-  same : SameMask l.fn.raster l.raster;
-  at : IsAt (is_valid l.fn.raster) (value_in l.raster l.fn.d) l.place l.walk.left l.walk.last l.walk.count;
-  coded : AreCoded l.fn.raster.kind l.fn.raster.cols (is_valid l.fn.raster) (value_in l.raster l.fn.d) 0 l.place l.symbols;
-  rest : (k e : ℕ) → k < l.fn.raster.rows * l.fn.raster.cols → e < l.fn.raster.depth → (e ≡ l.fn.d → ⊥) → value_in l.raster e k ≡ value_in l.fn.raster e k;
+  same : SameMask (g.T.Target.pixels l.fn.raster) (g.T.Target.pixels l.raster);
+  at : IsAt (is_valid (g.T.Target.pixels l.fn.raster)) (value_in (g.T.Target.pixels l.raster) l.fn.d) l.place l.walk.left l.walk.last l.walk.count;
+  coded : AreCoded (g.T.Target.pixels l.fn.raster).kind (g.T.Target.pixels l.fn.raster).cols (is_valid (g.T.Target.pixels l.fn.raster)) (value_in (g.T.Target.pixels l.raster) l.fn.d) 0 l.place l.symbols;
+  rest : (k e : ℕ) → k < (g.T.Target.pixels l.fn.raster).rows * (g.T.Target.pixels l.fn.raster).cols → e < (g.T.Target.pixels l.fn.raster).depth → (e ≡ l.fn.d → ⊥) → value_in (g.T.Target.pixels l.raster) e k ≡ value_in (g.T.Target.pixels l.fn.raster) e k;
+  sound : g.T.Target.sound l.raster;
+  kept : g.T.Target.kept l.raster ≡ g.T.Target.kept l.fn.raster;
 }
 
 abbrev pub decreases-loop-place : goal.decreases-loop-place
-decreases-loop-place l = l.fn.raster.rows * l.fn.raster.cols - l.place
+decreases-loop-place g l = (g.T.Target.pixels l.fn.raster).rows * (g.T.Target.pixels l.fn.raster).cols - l.place

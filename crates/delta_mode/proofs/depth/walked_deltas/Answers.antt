@@ -7,8 +7,8 @@ use Rattle.delta_mode.proofs.WholeDepth.{next_piece, next_room, both_taken, code
 use Rattle.delta_mode.proofs.depth.walked_deltas.Goals as goal
 
 pub loop-place-init : goal.loop-place-init
-loop-place-init c =
-    let r = c.args.raster.now in
+loop-place-init g c =
+    let r = (g.V.View.pixels c.args.raster.now) in
     record {
       within = omega arith;
       at = at_first (is_valid r) (value_in r c.args.d) _ _ _ c.start-walk.ensures.left c.start-walk.ensures.last c.start-walk.ensures.count;
@@ -17,20 +17,20 @@ loop-place-init c =
     }
 
 pub write_piece-walk-requires-clause-within : goal.write_piece-walk-requires-clause-within
-write_piece-walk-requires-clause-within c =
-    let next = next_piece c.args.raster.now c.loop-place.place c.min-count.result c.loop-place.marks c.rows.ensures.sound c.rows.ensures.value c.cols-cols.ensures.value (omega (arith, c.loop-place-test.true)) (omega (arith, c.min-count.ensures))
+write_piece-walk-requires-clause-within g c =
+    let next = next_piece (g.V.View.pixels c.args.raster.now) c.loop-place.place c.min-count.result c.loop-place.marks c.rows.ensures.sound c.rows.ensures.value c.cols-cols.ensures.value (omega (arith, c.loop-place-test.true)) (omega (arith, c.min-count.ensures))
     (omega (arith, c.min-count.array_long, c.min-count.ensures)) in
     omega (arith, next.long, next.within)
 
 pub write_piece-walk-requires-clause-room : goal.write_piece-walk-requires-clause-room
-write_piece-walk-requires-clause-room c =
-    let next = next_piece c.args.raster.now c.loop-place.place c.min-count.result c.loop-place.marks c.rows.ensures.sound c.rows.ensures.value c.cols-cols.ensures.value (omega (arith, c.loop-place-test.true)) (omega (arith, c.min-count.ensures))
+write_piece-walk-requires-clause-room g c =
+    let next = next_piece (g.V.View.pixels c.args.raster.now) c.loop-place.place c.min-count.result c.loop-place.marks c.rows.ensures.sound c.rows.ensures.value c.cols-cols.ensures.value (omega (arith, c.loop-place-test.true)) (omega (arith, c.min-count.ensures))
     (omega (arith, c.min-count.array_long, c.min-count.ensures)) in
     next_room c.rows.ensures.sound next (c.loop-place.invariant.room ∙ c.requires.count)
 
 pub loop-place-preserved : goal.loop-place-preserved
-loop-place-preserved c =
-    let r = c.args.raster.now in
+loop-place-preserved g c =
+    let r = (g.V.View.pixels c.args.raster.now) in
     let value = value_in r c.args.d in
     let place = c.loop-place.place in
     let walk = c.write_piece-walk.result in
@@ -48,25 +48,25 @@ loop-place-preserved c =
     }
 
 pub returns : goal.returns
-returns c =
-    let r = c.args.raster.now in
+returns g c =
+    let r = (g.V.View.pixels c.args.raster.now) in
     let inv = c.loop-place.invariant in
     coded_whole r (value_in r c.args.d) c.loop-place.place c.rows.ensures.sound c.rows.ensures.value c.cols-cols.ensures.value inv.within (omega (arith, c.loop-place-test.false)) (inv.room ∙ c.requires.count) inv.coded
 
 pub write_piece-walk-requires-clause-up : goal.write_piece-walk-requires-clause-up
-write_piece-walk-requires-clause-up c =
+write_piece-walk-requires-clause-up g c =
     both_taken c.min-count.result c.loop-place.up c.loop-place.marks (omega (arith, c.min-count.ensures)) (omega (arith, c.min-count.array_long, c.min-count.ensures))
 
 pub write_piece-walk-requires-clause-above : goal.write_piece-walk-requires-clause-above
-write_piece-walk-requires-clause-above c =
+write_piece-walk-requires-clause-above g c =
     both_taken c.min-count.result c.loop-place.above c.loop-place.marks (omega (arith, c.min-count.ensures)) (omega (arith, c.min-count.array_long, c.min-count.ensures))
 
 pub write_piece-walk-requires-clause-values : goal.write_piece-walk-requires-clause-values
-write_piece-walk-requires-clause-values c =
+write_piece-walk-requires-clause-values g c =
     both_taken c.min-count.result c.loop-place.values c.loop-place.marks (omega (arith, c.min-count.ensures)) (omega (arith, c.min-count.array_long, c.min-count.ensures))
 
 pub slice_bounds-write_piece-end : goal.slice_bounds-write_piece-end
-slice_bounds-write_piece-end c = sym (length-take-le c.min-count.result c.loop-place.marks (omega (arith, c.min-count.array_long, c.min-count.ensures)))
+slice_bounds-write_piece-end g c = sym (length-take-le c.min-count.result c.loop-place.marks (omega (arith, c.min-count.array_long, c.min-count.ensures)))
 
 pub slice_bounds-write_piece-end-in-loop-place : goal.slice_bounds-write_piece-end-in-loop-place
-slice_bounds-write_piece-end-in-loop-place c = sym (length-take-le c.min-count.result c.loop-place.up (omega (arith, c.min-count.ensures)))
+slice_bounds-write_piece-end-in-loop-place g c = sym (length-take-le c.min-count.result c.loop-place.up (omega (arith, c.min-count.ensures)))

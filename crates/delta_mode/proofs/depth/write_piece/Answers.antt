@@ -10,25 +10,25 @@ use Rattle.delta_mode.proofs.InPieces.{read_piece, piece_room, piece_coded, piec
 use Rattle.delta_mode.proofs.depth.write_piece.Goals as goal
 
 pub write_symbols-requires-clause-last_in_range : goal.write_symbols-requires-clause-last_in_range
-write_symbols-requires-clause-last_in_range c = kept_fits c.args.raster.now c.args.d c.kind.ensures.sound c.kind.ensures.value c.requires.at c.enter-walk.ensures.last
+write_symbols-requires-clause-last_in_range g c = kept_fits (g.V.View.pixels c.args.raster.now) c.args.d c.kind.ensures.sound c.kind.ensures.value c.requires.at c.enter-walk.ensures.last
 
 pub write_symbols-requires-clause-values_in_range : goal.write_symbols-requires-clause-values_in_range
-write_symbols-requires-clause-values_in_range c =
-    let r = c.args.raster.now in
+write_symbols-requires-clause-values_in_range g c =
+    let r = (g.V.View.pixels c.args.raster.now) in
     subst (λ (k : PixelType). (i : ℕ) → InRange k (value_of_place c.values_from.new.out i)) (sym c.kind.ensures.value)
     (all_fit r.kind c.values_from.new.out (length c.args.values.now) (omega (arith, c.values_from.ensures.room))
     (λ i lt. subst (InRange r.kind) (sym (c.values_from.ensures.values i lt)) (value_in_range r c.args.d (c.args.place + i) c.kind.ensures.sound)))
 
 pub write_symbols-requires-clause-room : goal.write_symbols-requires-clause-room
-write_symbols-requires-clause-room c =
-    piece_room (is_valid c.args.raster.now) c.args.place c.marks_from.new.out c.marks_from.ensures.marks c.marks_from.ensures.room c.enter-walk.ensures.count c.requires.at.count_is c.requires.room
+write_symbols-requires-clause-room g c =
+    piece_room (is_valid (g.V.View.pixels c.args.raster.now)) c.args.place c.marks_from.new.out c.marks_from.ensures.marks c.marks_from.ensures.room c.enter-walk.ensures.count c.requires.at.count_is c.requires.room
 
 pub returns : goal.returns
-returns c =
-    let r = c.args.raster.now in
+returns g c =
+    let r = (g.V.View.pixels c.args.raster.now) in
     let w = c.write_symbols.ensures in
-    let piece = read_piece r (value_in r c.args.d) c.args.d c.args.place (length c.args.marks.now) c.marks_from.new.out c.read_above.new.up c.read_above.new.above c.values_from.new.out c.cols.ensures.sound c.cols.ensures.value c.requires.across c.requires.at c.enter-walk.ensures.left c.enter-walk.ensures.last
-    c.marks_from.ensures.marks c.requires.up c.read_above.ensures.up c.read_above.ensures.above (λ j lt. refl) (λ i lt on. c.values_from.ensures.values i (omega (arith, lt, c.requires.values))) in
+    let piece = read_piece r (value_in r c.args.d) c.args.d c.args.place (length c.args.marks.now) c.marks_from.new.out c.view_above.new.up c.view_above.new.above c.values_from.new.out c.cols.ensures.sound c.cols.ensures.value c.requires.across c.requires.at c.enter-walk.ensures.left c.enter-walk.ensures.last
+    c.marks_from.ensures.marks c.requires.up c.view_above.ensures.up c.view_above.ensures.above (λ j lt. refl) (λ i lt on. c.values_from.ensures.values i (omega (arith, lt, c.requires.values))) in
     let start : c.enter-walk.result.count ≡ rank (is_valid r) c.args.place = c.enter-walk.ensures.count ∙ c.requires.at.count_is in
     record {
       at = piece_at piece c.requires.some c.marks_from.ensures.room start w.left w.last w.count;

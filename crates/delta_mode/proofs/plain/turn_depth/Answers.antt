@@ -1,4 +1,4 @@
-use Rattle.std.proofs.Common.{◌≡◌, ◌+◌, ◌*◌, ◌≤◌, length, take, drop, ap, arith, subst}
+use Rattle.std.proofs.Common.{◌∙◌, ◌≡◌, ◌+◌, ◌*◌, ◌≤◌, length, take, drop, ap, arith, subst}
 use Rattle.std.proofs.lemmas.List.{length-take-le, length-append, length-drop}
 use Rattle.delta_mode.specs.inside.Turned.{TurnsPixels}
 use Rattle.delta_mode.proofs.Marks.{same_size}
@@ -6,9 +6,9 @@ use Rattle.delta_mode.proofs.Turning.{turns_more}
 use Rattle.delta_mode.proofs.plain.turn_depth.Goals as goal
 
 pub loop-place-preserved : goal.loop-place-preserved
-loop-place-preserved c =
-    let r = c.args.raster.now in
-    let s = c.loop-place.raster in
+loop-place-preserved g c =
+    let r = (g.T.Target.pixels c.args.raster.now) in
+    let s = (g.T.Target.pixels c.loop-place.raster) in
     let d = c.args.d in
     let place = c.loop-place.place in
     let count = c.min-count.result in
@@ -23,6 +23,8 @@ loop-place-preserved c =
           let whole = length-append c.turn_piece.new.values (drop count c.loop-place.values) in
           let rest = length-drop count c.loop-place.values in
           omega (arith, whole, rest, c.turn_piece.auto.values, long, inv.wide, c.min-count.ensures);
-      turns = turns_more r s c.turn_piece.new.raster d place (place + count) (omega arith) within c.requires.depth inv.turns
-          (subst (λ n. TurnsPixels s c.turn_piece.new.raster d place n) (ap (λ n. place + n) long) c.turn_piece.ensures);
+      turns = turns_more r s (g.T.Target.pixels c.turn_piece.new.raster) d place (place + count) (omega arith) within c.requires.depth inv.turns
+          (subst (λ n. TurnsPixels s (g.T.Target.pixels c.turn_piece.new.raster) d place n) (ap (λ n. place + n) long) c.turn_piece.ensures.turns);
+      sound = c.turn_piece.ensures.sound;
+      kept = c.turn_piece.ensures.kept ∙ c.loop-place.invariant.kept;
     }

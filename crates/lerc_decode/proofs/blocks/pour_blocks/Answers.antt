@@ -9,11 +9,11 @@ use Rattle.lerc_decode.proofs.BlockReading.{all_stand, bytes_behind_blocks}
 use Rattle.lerc_decode.proofs.blocks.pour_blocks.Goals as goal
 
 pub returns-in-Ok-clause-fault : goal.returns-in-Ok-clause-fault
-returns-in-Ok-clause-fault c =
+returns-in-Ok-clause-fault g c =
     let h = c.args.header.now in
-    subst (λ r. IfErr r (IsStopOf (moved c.args.place (blocks_faults h (marks_of c.args.raster.now) (top_in c.args.tops.now) c.args.rest.now)))) (sym c.stopped-in-Ok.ensures)
-    (bytes_behind_blocks h (marks_of c.args.raster.now) c.args.tops.now c.args.rest.now c.args.place c.in-Ok.at c.read_rows.new.raster (omega arith) c.if-at-rest.true c.in-Ok.ensures.ok)
+    subst (λ r. IfErr r (IsStopOf (moved c.args.place (blocks_faults h (marks_of (g.T.Target.pixels c.args.raster.now)) (top_in c.args.tops.now) c.args.rest.now)))) (sym c.stopped-in-Ok.ensures)
+    (bytes_behind_blocks h (marks_of (g.T.Target.pixels c.args.raster.now)) c.args.tops.now c.args.rest.now c.args.place c.in-Ok.at (g.T.Target.pixels c.read_rows.new.raster) (omega arith) c.if-at-rest.true c.in-Ok.ensures.ok)
 
 pub returns-in-Ok-2-clause-ok : goal.returns-in-Ok-2-clause-ok
-returns-in-Ok-2-clause-ok c =
-    all_stand c.args.header.now (marks_of c.args.raster.now) c.args.tops.now c.args.rest.now c.in-Ok.at c.read_rows.new.raster (omega arith) c.if-at-rest.false c.in-Ok.ensures.ok
+returns-in-Ok-2-clause-ok g c =
+    all_stand c.args.header.now (marks_of (g.T.Target.pixels c.args.raster.now)) c.args.tops.now c.args.rest.now c.in-Ok.at (g.T.Target.pixels c.read_rows.new.raster) (omega arith) c.if-at-rest.false c.in-Ok.ensures.ok

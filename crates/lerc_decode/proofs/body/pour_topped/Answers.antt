@@ -7,7 +7,7 @@ use Rattle.lerc_decode.proofs.Bodies.{blocks_fault, both_there, coded_there, err
 use Rattle.lerc_decode.proofs.body.pour_topped.Goals as goal
 
 pub read_tops-requires-clause-lists : goal.read_tops-requires-clause-lists
-read_tops-requires-clause-lists c =
+read_tops-requires-clause-lists g c =
     let h = c.args.header.now in
     let blob = c.args.blob.now in
     let form = Blocks c.args.place in
@@ -17,8 +17,8 @@ read_tops-requires-clause-lists c =
     ∙ ap (λ n. drop n blob) c.place_behind-start.ensures.value in
     subst (HasBoth h) (sym start) (both_there h blob c.args.mask.now form c.args.place there)
 
-pub returns : goal.returns
-returns c =
+pub returns-clause-read : goal.returns-clause-read
+returns-clause-read g c =
     let h = c.args.header.now in
     let blob = c.args.blob.now in
     let mask = c.args.mask.now in
@@ -28,6 +28,6 @@ returns c =
     let some : 0 < h.depth = omega (arith, c.requires.head.shape.depth_above) in
     record {
       marks = c.pour_blocks.ensures.marks;
-      ok = ok_map (image_blocks h blob mask c.args.place c.args.raster.now c.pour_blocks.new.raster c.read_tops.new.tops there some c.pour_blocks.ensures.marks tops) c.pour_blocks.result c.pour_blocks.ensures.ok;
-      fault = err_map (blocks_fault h blob mask (marks_of c.args.raster.now) c.args.place c.read_tops.new.tops there some tops) c.pour_blocks.result c.pour_blocks.ensures.fault;
+      ok = ok_map (image_blocks h blob mask c.args.place (g.T.Target.pixels c.args.raster.now) (g.T.Target.pixels c.pour_blocks.new.raster) c.read_tops.new.tops there some c.pour_blocks.ensures.marks tops) c.pour_blocks.result c.pour_blocks.ensures.ok;
+      fault = err_map (blocks_fault h blob mask (marks_of (g.T.Target.pixels c.args.raster.now)) c.args.place c.read_tops.new.tops there some tops) c.pour_blocks.result c.pour_blocks.ensures.fault;
     }

@@ -5,15 +5,15 @@ use Rattle.lerc_decode.proofs.Bodies.{coded_there, deltas_fault, err_map, few_va
 use Rattle.lerc_decode.proofs.body.read_deltas.Goals as goal
 
 pub value_len-requires : goal.value_len-requires
-value_len-requires c = few_values c.args.blob.now c.args.header.now c.requires.head
+value_len-requires g c = few_values c.args.blob.now c.args.header.now c.requires.head
 
-pub returns : goal.returns
-returns c =
+pub returns-clause-read : goal.returns-clause-read
+returns-clause-read g c =
     let h = c.args.header.now in
     let blob = c.args.blob.now in
     let there = coded_there h blob c.args.mask.now (Delta c.args.place) c.args.place refl c.requires.mask c.requires.form in
     record {
       marks = c.pour_deltas.ensures.marks;
-      ok = ok_map (image_deltas h blob c.args.mask.now c.args.place c.pour_deltas.new.raster there) c.pour_deltas.result c.pour_deltas.ensures.ok;
-      fault = err_map (deltas_fault h blob c.args.mask.now (marks_of c.args.raster.now) c.args.place there) c.pour_deltas.result c.pour_deltas.ensures.fault;
+      ok = ok_map (image_deltas h blob c.args.mask.now c.args.place (g.T.Target.pixels c.pour_deltas.new.raster) there) c.pour_deltas.result c.pour_deltas.ensures.ok;
+      fault = err_map (deltas_fault h blob c.args.mask.now (marks_of (g.T.Target.pixels c.args.raster.now)) c.args.place there) c.pour_deltas.result c.pour_deltas.ensures.fault;
     }

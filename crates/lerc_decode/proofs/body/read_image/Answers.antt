@@ -19,35 +19,35 @@ both_within h blob mask form n is mm m n_is =
     omega (arith, (ranges_there h blob mask form (h.depth * n) is mm m size_is).room)
 
 pub overflow_sub-place : goal.overflow_sub-place
-overflow_sub-place c =
+overflow_sub-place g c =
     both_within c.args.header.now c.args.blob.now c.args.mask.now c.args.form.now c.bytes.result
     c.in-Ranges.is c.requires.mask c.requires.form c.bytes.ensures
 
 pub overflow_add-place : goal.overflow_add-place
-overflow_add-place c =
+overflow_add-place g c =
     let both = both_within c.args.header.now c.args.blob.now c.args.mask.now c.args.form.now
     c.bytes.result c.in-Ranges.is c.requires.mask c.requires.form c.bytes.ensures in
     omega (arith, both, c.requires.size, c.requires.head.size_below)
 
 pub slice_bounds-fill_list-end : goal.slice_bounds-fill_list-end
-slice_bounds-fill_list-end c =
+slice_bounds-fill_list-end g c =
     let both = both_within c.args.header.now c.args.blob.now c.args.mask.now c.args.form.now
     c.bytes.result c.in-Ranges.is c.requires.mask c.requires.form c.bytes.ensures in
     omega (arith, both)
 
 pub pour_sweep-requires-clause-values : goal.pour_sweep-requires-clause-values
-pour_sweep-requires-clause-values c =
+pour_sweep-requires-clause-values g c =
     few_values c.args.blob.now c.args.header.now c.requires.head
 
-pub returns-in-Empty : goal.returns-in-Empty
-returns-in-Empty c = record {
+pub returns-in-Empty-clause-read : goal.returns-in-Empty-clause-read
+returns-in-Empty-clause-read g c = record {
   marks = record { kind = refl; rows = refl; cols = refl; depth = refl; marks = refl };
-  ok = image_empty c.args.header.now c.args.blob.now c.args.mask.now c.args.form.now c.args.raster.now c.in-Empty.is c.requires.form c.requires.valid;
+  ok = image_empty c.args.header.now c.args.blob.now c.args.mask.now c.args.form.now (g.T.Target.pixels c.args.raster.now) c.in-Empty.is c.requires.form c.requires.valid;
   fault = tt;
 }
 
-pub returns-in-Ranges : goal.returns-in-Ranges
-returns-in-Ranges c =
+pub returns-in-Ranges-clause-read : goal.returns-in-Ranges-clause-read
+returns-in-Ranges-clause-read g c =
     let h = c.args.header.now in
     let blob = c.args.blob.now in
     let size = h.depth * c.bytes.result in
@@ -56,12 +56,12 @@ returns-in-Ranges c =
     let bytes : AreBytes blob = λ i. omega (arith, c.type_inv.blob i) in
     record {
       marks = c.fill_list.ensures.marks;
-      ok = ok_map (image_ranges h blob c.args.mask.now size (length blob - 2 * size) c.fill_list.new.raster bytes there size_is refl) c.fill_list.result c.fill_list.ensures.ok;
+      ok = ok_map (image_ranges h blob c.args.mask.now size (length blob - 2 * size) (g.T.Target.pixels c.fill_list.new.raster) bytes there size_is refl) c.fill_list.result c.fill_list.ensures.ok;
       fault = no_memory _ c.fill_list.result c.fill_list.ensures.stop;
     }
 
-pub returns-in-Sweep : goal.returns-in-Sweep
-returns-in-Sweep c =
+pub returns-in-Sweep-clause-read : goal.returns-in-Sweep-clause-read
+returns-in-Sweep-clause-read g c =
     let h = c.args.header.now in
     let blob = c.args.blob.now in
     let mask = c.args.mask.now in
@@ -69,6 +69,6 @@ returns-in-Sweep c =
     let there = sweep_there h blob mask c.args.form.now at c.in-Sweep.is c.requires.mask c.requires.form in
     record {
       marks = c.pour_sweep.ensures.marks;
-      ok = ok_map (image_sweep h blob mask at c.pour_sweep.new.raster there) c.pour_sweep.result c.pour_sweep.ensures.ok;
-      fault = err_map (sweep_fault h blob mask (marks_of c.args.raster.now) at there) c.pour_sweep.result c.pour_sweep.ensures.fault;
+      ok = ok_map (image_sweep h blob mask at (g.T.Target.pixels c.pour_sweep.new.raster) there) c.pour_sweep.result c.pour_sweep.ensures.ok;
+      fault = err_map (sweep_fault h blob mask (marks_of (g.T.Target.pixels c.args.raster.now)) at there) c.pour_sweep.result c.pour_sweep.ensures.fault;
     }

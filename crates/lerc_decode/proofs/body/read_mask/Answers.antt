@@ -2,6 +2,7 @@ use Rattle.std.proofs.Common.{ap, ◌∙◌, ◌*◌, ◌+◌, replicate, true}
 use Rattle.std.specs.Prelude.{pos}
 use Rattle.raster_values.specs.Raster.{Pixels, valid_count}
 use Rattle.raster_values.specs.Flat.{marks_of}
+use Rattle.lerc_header.proofs.HeadLemmas.{pixels_of_head}
 use Rattle.lerc_decode.proofs.Marks.{blank_count, blank_marks, filled_marks}
 use Rattle.lerc_decode.proofs.Bodies.{empty_mask, full_mask, runs_mask, runs_fault, previous_mask, ok_map, err_map}
 use Rattle.lerc_decode.proofs.body.read_mask.Goals as goal
@@ -33,3 +34,6 @@ returns-in-Runs-clause-fault c =
 pub returns-in-Previous-clause-ok : goal.returns-in-Previous-clause-ok
 returns-in-Previous-clause-ok c =
     previous_mask c.args.before.now c.args.header.now c.args.blob.now c.args.form.now _ c.in-Previous.is c.requires.form c.mark_as_before.ensures.marks
+
+pub mark_runs-requires-clause-pixels : goal.mark_runs-requires-clause-pixels
+mark_runs-requires-clause-pixels c = pixels_of_head c.args.blob.now c.args.header.now c.requires.head

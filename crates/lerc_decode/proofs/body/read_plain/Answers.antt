@@ -5,15 +5,15 @@ use Rattle.lerc_decode.proofs.Bodies.{coded_there, plain_fault, err_map, few_val
 use Rattle.lerc_decode.proofs.body.read_plain.Goals as goal
 
 pub value_len-requires : goal.value_len-requires
-value_len-requires c = few_values c.args.blob.now c.args.header.now c.requires.head
+value_len-requires g c = few_values c.args.blob.now c.args.header.now c.requires.head
 
-pub returns : goal.returns
-returns c =
+pub returns-clause-read : goal.returns-clause-read
+returns-clause-read g c =
     let h = c.args.header.now in
     let blob = c.args.blob.now in
     let there = coded_there h blob c.args.mask.now (Plain c.args.place) c.args.place refl c.requires.mask c.requires.form in
     record {
       marks = c.pour_plain.ensures.marks;
-      ok = ok_map (image_plain h blob c.args.mask.now c.args.place c.pour_plain.new.raster there) c.pour_plain.result c.pour_plain.ensures.ok;
-      fault = err_map (plain_fault h blob c.args.mask.now (marks_of c.args.raster.now) c.args.place there) c.pour_plain.result c.pour_plain.ensures.fault;
+      ok = ok_map (image_plain h blob c.args.mask.now c.args.place (g.T.Target.pixels c.pour_plain.new.raster) there) c.pour_plain.result c.pour_plain.ensures.ok;
+      fault = err_map (plain_fault h blob c.args.mask.now (marks_of (g.T.Target.pixels c.args.raster.now)) c.args.place there) c.pour_plain.result c.pour_plain.ensures.fault;
     }

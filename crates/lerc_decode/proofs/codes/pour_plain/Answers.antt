@@ -5,4 +5,4 @@ use Rattle.lerc_decode.specs.inside.Body.{IsStopOf}
 use Rattle.lerc_decode.proofs.codes.pour_plain.Goals as goal
 
 pub returns-in-Err-clause-fault : goal.returns-in-Err-clause-fault
-returns-in-Err-clause-fault c = subst (λ n. IsStopOf (moved c.args.place (codes_faults n c.args.rest.now)) c.in-Err.stop) c.requires.count c.in-Err.ensures.fault
+returns-in-Err-clause-fault g c = subst (λ n. IsStopOf (moved c.args.place (codes_faults n c.args.rest.now)) c.in-Err.stop) c.requires.count c.in-Err.ensures.fault

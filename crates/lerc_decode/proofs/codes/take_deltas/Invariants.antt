@@ -5,4 +5,10 @@ use Rattle.lerc_decode.specs.inside.Body.{KeepsMarks}
 use Rattle.lerc_decode.proofs.codes.take_deltas.Given as goal
 
 abbrev pub invariant-loop-d : goal.invariant-loop-d
-invariant-loop-d l = KeepsMarks l.fn.raster l.raster × ((l.at ≡ l.d * l.header.valid) × ((e : ℕ) → e < l.d → AreDeltas l.raster e (symbols_of l.header l.symbols e)))
+invariant-loop-d g l = record {
+  marks : KeepsMarks (g.T.Target.pixels l.fn.raster) (g.T.Target.pixels l.raster);
+  at : l.at ≡ l.d * l.header.valid;
+  taken : (e : ℕ) → e < l.d → AreDeltas (g.T.Target.pixels l.raster) e (symbols_of l.header l.symbols e);
+  sound : g.T.Target.sound l.raster;
+  kept : g.T.Target.kept l.raster ≡ g.T.Target.kept l.fn.raster;
+}

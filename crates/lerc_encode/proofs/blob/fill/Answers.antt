@@ -10,10 +10,10 @@ use Rattle.lerc_encode.proofs.Laying.{sealed_is, end_behind, put_long, version_w
 use Rattle.lerc_encode.proofs.blob.fill.Goals as goal
 
 pub write_behind-requires-clause-room : goal.write_behind-requires-clause-room
-write_behind-requires-clause-room c =
+write_behind-requires-clause-room g c =
     let n = c.min-head.result in
     let blob = c.args.blob.now in
-    let size = length_choice (planned_runs c.args.plan.now) c.args.raster.now c.args.plan.now.base.version c.args.plan.now.base.step in
+    let size = length_choice (planned_runs c.args.plan.now) (g.V.View.pixels c.args.raster.now) c.args.plan.now.base.version c.args.plan.now.base.step in
     let room = c.requires.room in
     let least = c.min-head.ensures in
     let known = c.head_length.ensures in
@@ -22,20 +22,20 @@ write_behind-requires-clause-room c =
     omega (arith, part, rest, size, room, least, known)
 
 pub header_of-requires-clause-few : goal.header_of-requires-clause-few
-header_of-requires-clause-few c =
+header_of-requires-clause-few g c =
     let low : length (planned_runs c.args.plan.now) ≤ 6291458 = (let is = c.requires.plan.runs in let most = c.requires.plan.few in omega (arith, is, most)) in
-    let most = few (planned_runs c.args.plan.now) low c.args.raster.now c.args.plan.now.base.version c.args.plan.now.base.step c.requires.asked in
+    let most = few (planned_runs c.args.plan.now) low (g.V.View.pixels c.args.raster.now) c.args.plan.now.base.version c.args.plan.now.base.step c.requires.asked in
     let room = c.requires.room in
     omega (arith, most, room)
 
 pub seal-requires-clause-header : goal.seal-requires-clause-header
-seal-requires-clause-header c =
+seal-requires-clause-header g c =
     let low : length (planned_runs c.args.plan.now) ≤ 6291458 = (let is = c.requires.plan.runs in let most = c.requires.plan.few in omega (arith, is, most)) in
-    subst IsHeader (sym c.header_of.ensures) (is_header (planned_runs c.args.plan.now) low c.args.raster.now c.args.plan.now.base.version c.args.plan.now.base.step c.requires.asked 0 (omega arith))
+    subst IsHeader (sym c.header_of.ensures) (is_header (planned_runs c.args.plan.now) low (g.V.View.pixels c.args.raster.now) c.args.plan.now.base.version c.args.plan.now.base.step c.requires.asked 0 (omega arith))
 
 pub seal-requires-clause-room : goal.seal-requires-clause-room
-seal-requires-clause-room c =
-    let r = c.args.raster.now in
+seal-requires-clause-room g c =
+    let r = (g.V.View.pixels c.args.raster.now) in
     let v = c.args.plan.now.base.version in
     let s = c.args.plan.now.base.step in
     let n = c.min-head.result in
@@ -49,8 +49,8 @@ seal-requires-clause-room c =
     omega (arith, long, head, room, size)
 
 pub returns : goal.returns
-returns c =
-    let r = c.args.raster.now in
+returns g c =
+    let r = (g.V.View.pixels c.args.raster.now) in
     let v = c.args.plan.now.base.version in
     let s = c.args.plan.now.base.step in
     let n = c.min-head.result in

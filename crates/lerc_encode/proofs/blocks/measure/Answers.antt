@@ -9,28 +9,28 @@ use Rattle.lerc_encode.proofs.Spots.{bytes_there, first_spot, flags_more, no_fla
 use Rattle.lerc_encode.proofs.blocks.measure.Goals as goal
 
 pub loop-k-init : goal.loop-k-init
-loop-k-init c =
+loop-k-init g c =
     let h = c.args.h.now in
-    let r = c.args.raster.now in
+    let r = (g.V.View.pixels c.args.raster.now) in
     let ok = c.in_ok-tables.tables.ok in
     let len = c.in_ok-tables.ensures.len in
     let long : length c.in_ok-tables.tables.items ≡ c.count-count.result = omega (arith, ok, len) in
     (refl, (omega arith, (first_spot h r c.requires _ refl refl refl, (no_flags h r c.in_ok-tables.tables.items, long))))
 
 pub size_at-found-requires-clause-within : goal.size_at-found-requires-clause-within
-size_at-found-requires-clause-within c =
+size_at-found-requires-clause-within g c =
     let h = c.args.h.now in
-    spot_within h c.args.raster.now c.requires c.loop-k.k (subst (λ n. c.loop-k.k < n) c.count-count.ensures.value c.loop-k-test.true) c.loop-k.spot c.loop-k.invariant.1.1.0
+    spot_within h (g.V.View.pixels c.args.raster.now) c.requires c.loop-k.k (subst (λ n. c.loop-k.k < n) c.count-count.ensures.value c.loop-k-test.true) c.loop-k.spot c.loop-k.invariant.1.1.0
 
 pub next_spot-spot-requires-clause-within : goal.next_spot-spot-requires-clause-within
-next_spot-spot-requires-clause-within c =
+next_spot-spot-requires-clause-within g c =
     let h = c.args.h.now in
-    spot_within h c.args.raster.now c.requires c.loop-k.k (subst (λ n. c.loop-k.k < n) c.count-count.ensures.value c.loop-k-test.true) c.loop-k.spot c.loop-k.invariant.1.1.0
+    spot_within h (g.V.View.pixels c.args.raster.now) c.requires c.loop-k.k (subst (λ n. c.loop-k.k < n) c.count-count.ensures.value c.loop-k-test.true) c.loop-k.spot c.loop-k.invariant.1.1.0
 
 pub loop-k-preserved : goal.loop-k-preserved
-loop-k-preserved c =
+loop-k-preserved g c =
     let h = c.args.h.now in
-    let r = c.args.raster.now in
+    let r = (g.V.View.pixels c.args.raster.now) in
     let f = coded_bytes h r in
     let k = c.loop-k.k in
     let tables = c.loop-k.tables.items in
@@ -59,9 +59,9 @@ loop-k-preserved c =
 
 pub returns-then-size-most : goal.returns-then-size-most
 unfolding blocks_bytes
-returns-then-size-most c =
+returns-then-size-most g c =
     let h = c.args.h.now in
-    let r = c.args.raster.now in
+    let r = (g.V.View.pixels c.args.raster.now) in
     let f = coded_bytes h r in
     let k = c.loop-k.k in
     let value : c.size_at-found.result.len ≡ length (f k) = c.size_at-found.ensures.length ∙ ap length (bytes_there h r k c.loop-k.spot c.loop-k.invariant.1.1.0) in
@@ -72,9 +72,9 @@ returns-then-size-most c =
 
 pub returns : goal.returns
 unfolding blocks_bytes
-returns c =
+returns g c =
     let h = c.args.h.now in
-    let r = c.args.raster.now in
+    let r = (g.V.View.pixels c.args.raster.now) in
     let f = coded_bytes h r in
     let all : c.loop-k.k ≡ coded_blocks h = (let e : c.loop-k.k ≡ c.count-count.result = omega arith in e) ∙ c.count-count.ensures.value in
     record {

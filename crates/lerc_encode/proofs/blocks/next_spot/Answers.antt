@@ -2,14 +2,14 @@ use Rattle.lerc_encode.proofs.Spots.{across_above, next_depth, next_col, next_ro
 use Rattle.lerc_encode.proofs.blocks.next_spot.Goals as goal
 
 pub returns-then-d-h : goal.returns-then-d-h
-returns-then-d-h c = λ k is. next_depth c.args.h.now k c.args.spot is c.if-d-h.true
+returns-then-d-h g c = λ k is. next_depth c.args.h.now k c.args.spot is c.if-d-h.true
 
 pub returns-then-col-h : goal.returns-then-col-h
-returns-then-col-h c =
+returns-then-col-h g c =
     let h = c.args.h.now in
     λ k is. next_col h k c.args.spot is c.requires.blocked.side_above c.requires.within.depth c.if-d-h.false c.if-col-h.true
 
 pub returns : goal.returns
-returns c =
+returns g c =
     let h = c.args.h.now in
-    λ k is. next_row h k c.args.spot is c.requires.blocked.side_above c.requires.within.depth c.if-d-h.false (across_above h c.args.raster.now c.requires.blocked) c.if-col-h.false
+    λ k is. next_row h k c.args.spot is c.requires.blocked.side_above c.requires.within.depth c.if-d-h.false (across_above h (g.V.View.pixels c.args.raster.now) c.requires.blocked) c.if-col-h.false

@@ -12,35 +12,35 @@ use Rattle.lerc_encode.proofs.Spots.{bytes_there, first_spot, spot_within, table
 use Rattle.lerc_encode.proofs.blocks.write_blocks.Goals as goal
 
 pub loop-k-init : goal.loop-k-init
-loop-k-init c = (refl, (refl, first_spot c.args.h.now c.args.raster.now c.requires.blocked _ refl refl refl))
+loop-k-init g c = (refl, (refl, first_spot c.args.h.now (g.V.View.pixels c.args.raster.now) c.requires.blocked _ refl refl refl))
 
 all_room : (h : Header) (r : Pixels) (n : ℕ) → n ≡ length (blocks_bytes h r) → n ≡ length (flat_map (coded_bytes h r) (range_with_len 0 (coded_blocks h)))
 unfolding blocks_bytes
 all_room h r n e = e
 
 pub bounds-tables-k : goal.bounds-tables-k
-bounds-tables-k c =
+bounds-tables-k g c =
     let low = c.loop-k-test.true in
     let value = c.count-k-end.ensures.value in
     let room = c.requires.tables.room in
     omega (arith, low, value, room)
 
 pub write_at-at-requires-clause-within : goal.write_at-at-requires-clause-within
-write_at-at-requires-clause-within c =
+write_at-at-requires-clause-within g c =
     let h = c.args.h.now in
-    spot_within h c.args.raster.now c.requires.blocked c.loop-k.k (subst (λ n. c.loop-k.k < n) c.count-k-end.ensures.value c.loop-k-test.true) c.loop-k.spot c.loop-k.invariant.1.1
+    spot_within h (g.V.View.pixels c.args.raster.now) c.requires.blocked c.loop-k.k (subst (λ n. c.loop-k.k < n) c.count-k-end.ensures.value c.loop-k-test.true) c.loop-k.spot c.loop-k.invariant.1.1
 
 pub write_at-at-requires-clause-table : goal.write_at-at-requires-clause-table
-write_at-at-requires-clause-table c =
+write_at-at-requires-clause-table g c =
     let h = c.args.h.now in
     let k = c.loop-k.k in
     let low : k < coded_blocks h = subst (λ n. k < n) c.count-k-end.ensures.value c.loop-k-test.true in
-    table_here h c.args.raster.now k c.loop-k.spot (get_or c.args.tables.now k false) c.loop-k.invariant.1.1 (c.requires.tables.each k low)
+    table_here h (g.V.View.pixels c.args.raster.now) k c.loop-k.spot (get_or c.args.tables.now k false) c.loop-k.invariant.1.1 (c.requires.tables.each k low)
 
 pub write_at-at-requires-clause-fits : goal.write_at-at-requires-clause-fits
-write_at-at-requires-clause-fits c =
+write_at-at-requires-clause-fits g c =
     let h = c.args.h.now in
-    let r = c.args.raster.now in
+    let r = (g.V.View.pixels c.args.raster.now) in
     let f = coded_bytes h r in
     let k = c.loop-k.k in
     let low : k < coded_blocks h = subst (λ n. k < n) c.count-k-end.ensures.value c.loop-k-test.true in
@@ -53,14 +53,14 @@ write_at-at-requires-clause-fits c =
     omega (arith, part, room, kept, so_far, rest, there)
 
 pub next_spot-spot-requires-clause-within : goal.next_spot-spot-requires-clause-within
-next_spot-spot-requires-clause-within c =
+next_spot-spot-requires-clause-within g c =
     let h = c.args.h.now in
-    spot_within h c.args.raster.now c.requires.blocked c.loop-k.k (subst (λ n. c.loop-k.k < n) c.count-k-end.ensures.value c.loop-k-test.true) c.loop-k.spot c.loop-k.invariant.1.1
+    spot_within h (g.V.View.pixels c.args.raster.now) c.requires.blocked c.loop-k.k (subst (λ n. c.loop-k.k < n) c.count-k-end.ensures.value c.loop-k-test.true) c.loop-k.spot c.loop-k.invariant.1.1
 
 pub loop-k-preserved : goal.loop-k-preserved
-loop-k-preserved c =
+loop-k-preserved g c =
     let h = c.args.h.now in
-    let r = c.args.raster.now in
+    let r = (g.V.View.pixels c.args.raster.now) in
     let f = coded_bytes h r in
     let k = c.loop-k.k in
     let at = c.loop-k.invariant.1.1 in
@@ -80,9 +80,9 @@ loop-k-preserved c =
 
 pub returns : goal.returns
 unfolding blocks_bytes
-returns c =
+returns g c =
     let h = c.args.h.now in
-    let f = coded_bytes h c.args.raster.now in
+    let f = coded_bytes h (g.V.View.pixels c.args.raster.now) in
     let n : c.loop-k.k ≡ coded_blocks h = (let e : c.loop-k.k ≡ c.count-k-end.result = omega arith in e) ∙ c.count-k-end.ensures.value in
     let all : flat_map f (range_with_len 0 c.loop-k.k) ≡ flat_map f (range_with_len 0 (coded_blocks h)) = ap (λ k. flat_map f (range_with_len 0 k)) n in
     let so_far = c.loop-k.invariant.0 in

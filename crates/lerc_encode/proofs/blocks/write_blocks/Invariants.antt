@@ -5,7 +5,7 @@ use Rattle.lerc_encode.specs.inside.Blocked.{IsSpot}
 use Rattle.lerc_encode.proofs.blocks.write_blocks.Given as goal
 
 abbrev pub invariant-loop-k : goal.invariant-loop-k
-invariant-loop-k l =
-    (l.at ≡ length (flat_map (coded_bytes l.h l.raster) (range_with_len 0 l.k)))
-    × ((l.out ≡ flat_map (coded_bytes l.h l.raster) (range_with_len 0 l.k) ++ drop l.at l.initial.out)
+invariant-loop-k g l =
+    (l.at ≡ length (flat_map (coded_bytes l.h (g.V.View.pixels l.raster)) (range_with_len 0 l.k)))
+    × ((l.out ≡ flat_map (coded_bytes l.h (g.V.View.pixels l.raster)) (range_with_len 0 l.k) ++ drop l.at l.initial.out)
     × IsSpot l.h l.k l.spot)

@@ -2,4 +2,4 @@ use Rattle.lerc_encode.proofs.Forming.{constant_is}
 use Rattle.lerc_encode.proofs.choosing.is_constant.Goals as goal
 
 pub returns : goal.returns
-returns c = constant_is c.args.base.now c.args.raster.now c.requires
+returns g c = constant_is c.args.base.now (g.V.View.pixels c.args.raster.now) c.requires

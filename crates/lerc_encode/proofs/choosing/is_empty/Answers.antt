@@ -2,4 +2,4 @@ use Rattle.lerc_encode.proofs.Forming.{empty_is}
 use Rattle.lerc_encode.proofs.choosing.is_empty.Goals as goal
 
 pub returns : goal.returns
-returns c = empty_is c.args.base.now c.args.raster.now c.requires
+returns g c = empty_is c.args.base.now (g.V.View.pixels c.args.raster.now) c.requires

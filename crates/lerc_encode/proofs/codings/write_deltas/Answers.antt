@@ -7,8 +7,8 @@ use Rattle.lerc_encode.proofs.SymbolSteps.{depth_more}
 use Rattle.lerc_encode.proofs.codings.write_deltas.Goals as goal
 
 pub loop-d-preserved : goal.loop-d-preserved
-loop-d-preserved c =
-    let r = c.args.raster.now in
+loop-d-preserved g c =
+    let r = (g.V.View.pixels c.args.raster.now) in
     let count = c.valid_count-count.result in
     let depth = c.depth-d-end.ensures.value in
     let room : length c.args.out.now ≡ count * r.depth = c.requires.room ∙ ap (λ n. n * r.depth) (sym c.valid_count-count.ensures.value) in
@@ -17,8 +17,8 @@ loop-d-preserved c =
 
 pub returns : goal.returns
 unfolding all_deltas
-returns c =
-    let r = c.args.raster.now in
+returns g c =
+    let r = (g.V.View.pixels c.args.raster.now) in
     let count = c.valid_count-count.result in
     let depth = c.depth-d-end.ensures.value in
     let n : c.loop-d.d ≡ r.depth = (let past = c.loop-d-test.false in let within = c.loop-d.auto.d-end in omega (arith, past, within, depth)) in

@@ -5,6 +5,6 @@ use Rattle.lerc_encode.proofs.Forming.{front_long}
 use Rattle.lerc_encode.proofs.forms.front_len.Goals as goal
 
 pub returns-in-V4-clause-value : goal.returns-in-V4-clause-value
-returns-in-V4-clause-value c =
-    front_long c.args.raster.now c.depth.result c.bytes.result c.depth.ensures.value (c.bytes.ensures ∙ ap bytes_of c.kind.ensures.value)
-    ∙ ap (λ v. length (lists_bytes c.args.raster.now v)) (sym c.in-V4.is)
+returns-in-V4-clause-value g c =
+    front_long (g.V.View.pixels c.args.raster.now) c.depth.result c.bytes.result c.depth.ensures.value (c.bytes.ensures ∙ ap bytes_of c.kind.ensures.value)
+    ∙ ap (λ v. length (lists_bytes (g.V.View.pixels c.args.raster.now) v)) (sym c.in-V4.is)

@@ -28,87 +28,87 @@ plains_there r version step chosen is e =
     symbols_there (IsLying r) (images.has_mode r step && images.is_v4 version) (plain_symbols r) chosen.codings.plains is.codings_are.plains (subst (MayBe r version step) (sym is.form ∙ ap named e) (chosen_may r version step))
 
 pub write_sweep-requires : goal.write_sweep-requires
-write_sweep-requires c =
+write_sweep-requires g c =
     let h = c.args.base.now in
-    let r = c.args.raster.now in
+    let r = (g.V.View.pixels c.args.raster.now) in
     c.requires.room ∙ ap (λ (f : ValueForm). length (coded_form_bytes r h.version h.step (named f))) c.in-Sweep.is ∙ sym (ap length (sweep_is r h.version h.step))
 
 pub write_block_form-requires-clause-blocked : goal.write_block_form-requires-clause-blocked
-write_block_form-requires-clause-blocked c = base_blocked c.args.base.now c.args.raster.now c.requires.base
+write_block_form-requires-clause-blocked g c = base_blocked c.args.base.now (g.V.View.pixels c.args.raster.now) c.requires.base
 
 pub write_block_form-requires-clause-measured : goal.write_block_form-requires-clause-measured
-write_block_form-requires-clause-measured c =
+write_block_form-requires-clause-measured g c =
     let h = c.args.base.now in
-    let r = c.args.raster.now in
+    let r = (g.V.View.pixels c.args.raster.now) in
     let chosen = c.args.chosen.now in
     measured_here h (header_of r h.version h.step 8 0 0) r images.blocks_8 (named chosen.form) chosen.small c.requires.chosen.small_are (ap named c.in-SmallBlocks.is) c.requires.base.is
 
 pub write_block_form-requires-clause-room : goal.write_block_form-requires-clause-room
-write_block_form-requires-clause-room c =
+write_block_form-requires-clause-room g c =
     let h = c.args.base.now in
-    let r = c.args.raster.now in
+    let r = (g.V.View.pixels c.args.raster.now) in
     c.requires.room ∙ ap (λ (f : ValueForm). length (coded_form_bytes r h.version h.step (named f))) c.in-SmallBlocks.is ∙ sym (ap length (small_is h r c.requires.base))
 
 pub write_block_form-requires-in-LargeBlocks-clause-blocked : goal.write_block_form-requires-in-LargeBlocks-clause-blocked
-write_block_form-requires-in-LargeBlocks-clause-blocked c = large_blocked c.args.base.now c.with_large.result c.args.raster.now c.requires.base c.with_large.ensures
+write_block_form-requires-in-LargeBlocks-clause-blocked g c = large_blocked c.args.base.now c.with_large.result (g.V.View.pixels c.args.raster.now) c.requires.base c.with_large.ensures
 
 pub write_block_form-requires-in-LargeBlocks-clause-measured : goal.write_block_form-requires-in-LargeBlocks-clause-measured
-write_block_form-requires-in-LargeBlocks-clause-measured c =
+write_block_form-requires-in-LargeBlocks-clause-measured g c =
     let h = c.args.base.now in
-    let r = c.args.raster.now in
+    let r = (g.V.View.pixels c.args.raster.now) in
     let chosen = c.args.chosen.now in
     measured_here c.with_large.result (header_of r h.version h.step 16 0 0) r images.blocks_16 (named chosen.form) chosen.large c.requires.chosen.large_are (ap named c.in-LargeBlocks.is) (c.with_large.ensures ∙ large_header h r c.requires.base)
 
 pub write_block_form-requires-in-LargeBlocks-clause-room : goal.write_block_form-requires-in-LargeBlocks-clause-room
-write_block_form-requires-in-LargeBlocks-clause-room c =
+write_block_form-requires-in-LargeBlocks-clause-room g c =
     let h = c.args.base.now in
-    let r = c.args.raster.now in
+    let r = (g.V.View.pixels c.args.raster.now) in
     c.requires.room ∙ ap (λ (f : ValueForm). length (coded_form_bytes r h.version h.step (named f))) c.in-LargeBlocks.is ∙ sym (ap length (large_is h c.with_large.result r c.requires.base c.with_large.ensures))
 
 pub returns-in-Sweep : goal.returns-in-Sweep
-returns-in-Sweep c =
+returns-in-Sweep g c =
     let h = c.args.base.now in
-    let r = c.args.raster.now in
+    let r = (g.V.View.pixels c.args.raster.now) in
     c.write_sweep.ensures ∙ sweep_is r h.version h.step ∙ ap (λ (f : ValueForm). coded_form_bytes r h.version h.step (named f)) (sym c.in-Sweep.is)
 
 pub returns-in-SmallBlocks : goal.returns-in-SmallBlocks
-returns-in-SmallBlocks c =
+returns-in-SmallBlocks g c =
     let h = c.args.base.now in
-    let r = c.args.raster.now in
+    let r = (g.V.View.pixels c.args.raster.now) in
     c.write_block_form.ensures ∙ small_is h r c.requires.base ∙ ap (λ (f : ValueForm). coded_form_bytes r h.version h.step (named f)) (sym c.in-SmallBlocks.is)
 
 pub returns-in-LargeBlocks : goal.returns-in-LargeBlocks
-returns-in-LargeBlocks c =
+returns-in-LargeBlocks g c =
     let h = c.args.base.now in
-    let r = c.args.raster.now in
+    let r = (g.V.View.pixels c.args.raster.now) in
     c.write_block_form-in-LargeBlocks.ensures ∙ large_is h c.with_large.result r c.requires.base c.with_large.ensures ∙ ap (λ (f : ValueForm). coded_form_bytes r h.version h.step (named f)) (sym c.in-LargeBlocks.is)
 
 pub write_delta_form-requires-clause-there : goal.write_delta_form-requires-clause-there
-write_delta_form-requires-clause-there c = deltas_there c.args.raster.now c.args.base.now.version c.args.base.now.step c.args.chosen.now c.requires.chosen c.in-Delta.is
+write_delta_form-requires-clause-there g c = deltas_there (g.V.View.pixels c.args.raster.now) c.args.base.now.version c.args.base.now.step c.args.chosen.now c.requires.chosen c.in-Delta.is
 
 pub write_delta_form-requires-clause-room : goal.write_delta_form-requires-clause-room
-write_delta_form-requires-clause-room c =
+write_delta_form-requires-clause-room g c =
     let h = c.args.base.now in
-    let r = c.args.raster.now in
+    let r = (g.V.View.pixels c.args.raster.now) in
     c.requires.room ∙ ap (λ (f : ValueForm). length (coded_form_bytes r h.version h.step (named f))) c.in-Delta.is ∙ sym (ap length (delta_is r h.version h.step))
 
 pub returns-in-Delta : goal.returns-in-Delta
-returns-in-Delta c =
+returns-in-Delta g c =
     let h = c.args.base.now in
-    let r = c.args.raster.now in
+    let r = (g.V.View.pixels c.args.raster.now) in
     c.write_delta_form.ensures ∙ delta_is r h.version h.step ∙ ap (λ (f : ValueForm). coded_form_bytes r h.version h.step (named f)) (sym c.in-Delta.is)
 
 pub write_plain_form-requires-clause-there : goal.write_plain_form-requires-clause-there
-write_plain_form-requires-clause-there c = plains_there c.args.raster.now c.args.base.now.version c.args.base.now.step c.args.chosen.now c.requires.chosen c.in-Plain.is
+write_plain_form-requires-clause-there g c = plains_there (g.V.View.pixels c.args.raster.now) c.args.base.now.version c.args.base.now.step c.args.chosen.now c.requires.chosen c.in-Plain.is
 
 pub write_plain_form-requires-clause-room : goal.write_plain_form-requires-clause-room
-write_plain_form-requires-clause-room c =
+write_plain_form-requires-clause-room g c =
     let h = c.args.base.now in
-    let r = c.args.raster.now in
+    let r = (g.V.View.pixels c.args.raster.now) in
     c.requires.room ∙ ap (λ (f : ValueForm). length (coded_form_bytes r h.version h.step (named f))) c.in-Plain.is ∙ sym (ap length (plain_is r h.version h.step))
 
 pub returns-in-Plain : goal.returns-in-Plain
-returns-in-Plain c =
+returns-in-Plain g c =
     let h = c.args.base.now in
-    let r = c.args.raster.now in
+    let r = (g.V.View.pixels c.args.raster.now) in
     c.write_plain_form.ensures ∙ plain_is r h.version h.step ∙ ap (λ (f : ValueForm). coded_form_bytes r h.version h.step (named f)) (sym c.in-Plain.is)

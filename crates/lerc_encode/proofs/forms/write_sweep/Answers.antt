@@ -7,8 +7,8 @@ use Rattle.lerc_encode.proofs.Forming.{length_sweep, behind_one, length_set}
 use Rattle.lerc_encode.proofs.forms.write_sweep.Goals as goal
 
 pub value_bytes-requires : goal.value_bytes-requires
-value_bytes-requires c =
-    let r = c.args.raster.now in
+value_bytes-requires g c =
+    let r = (g.V.View.pixels c.args.raster.now) in
     let out = c.args.out.now in
     let rest = ap length (take_rest (set out 0 1) 1) ∙ length-drop 1 (set out 0 1) in
     let kept : length (set out 0 1) ≡ length out = length_set out 0 1 in
@@ -17,4 +17,4 @@ value_bytes-requires c =
     omega (arith, rest, kept, size, room)
 
 pub returns : goal.returns
-returns c = behind_one 1 c.args.out.now c.value_bytes.new.out _ (let room = c.requires in omega (arith, room)) c.value_bytes.ensures
+returns g c = behind_one 1 c.args.out.now c.value_bytes.new.out _ (let room = c.requires in omega (arith, room)) c.value_bytes.ensures

@@ -8,8 +8,8 @@ use Rattle.lerc_encode.proofs.masks.mask_of.Goals.{then-taken-via-then-taken, th
 use Rattle.lerc_encode.proofs.masks.mask_of.Goals as goal
 
 pub returns-then-taken-clause-runs : goal.returns-then-taken-clause-runs
-returns-then-taken-clause-runs c =
-    let marks = marks_of c.args.raster.now in
+returns-then-taken-clause-runs g c =
+    let marks = marks_of (g.V.View.pixels c.args.raster.now) in
     ap written_runs c.new.ensures.items
     ∙ elim c.then-taken.branch [
       | then-taken-via-then-taken w ↦ ap (λ (b : Bool). runs_unless b marks) (sym w.if-taken.true)
@@ -17,9 +17,9 @@ returns-then-taken-clause-runs c =
     ]
 
 pub returns-clause-runs : goal.returns-clause-runs
-returns-clause-runs c =
-    let marks = marks_of c.args.raster.now in
-    let is = mask_packed c.args.raster.now c.mask_bytes.new.out c.rows.ensures.sound c.mask_bytes.ensures in
+returns-clause-runs g c =
+    let marks = marks_of (g.V.View.pixels c.args.raster.now) in
+    let is = mask_packed (g.V.View.pixels c.args.raster.now) c.mask_bytes.new.out c.rows.ensures.sound c.mask_bytes.ensures in
     ap written_runs (take_at c.mask_bytes.new.out _ c.in_ok-mask.mask.len (omega arith) ∙ is)
     ∙ packed_runs marks (sym c.is_alike.ensures ∙ c.if-is_alike.false)
     ∙ ap (λ (b : Bool). runs_unless b marks) (sym c.if-taken.false)

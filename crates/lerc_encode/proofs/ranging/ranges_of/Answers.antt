@@ -10,8 +10,8 @@ use Rattle.lerc_encode.proofs.Extremes.{depth_least_fits, depth_greatest_fits}
 use Rattle.lerc_encode.proofs.ranging.ranges_of.Goals as goal
 
 pub loop-d-preserved : goal.loop-d-preserved
-loop-d-preserved c =
-    let r = c.args.raster.now in
+loop-d-preserved g c =
+    let r = (g.V.View.pixels c.args.raster.now) in
     let d = c.loop-d.d in
     let low : d < r.depth = subst (λ n. d < n) c.depth-depth.ensures.value c.loop-d-test.true in
     let least : to_z w64 (of_z w64 c.range_of-found.result.least) ≡ least_value (depth_values r d) =

@@ -1,4 +1,4 @@
-use Rattle.std.proofs.Common.{◌≡◌, ◌∙◌, IfSome, List, ℕ, subst, sym, ap, length}
+use Rattle.std.proofs.Common.{◌∙◌, IfSome, List, subst, sym, ap, length}
 use Rattle.level_cache.specs.declared.memory.Kept.{Kept}
 use Rattle.level_cache.specs.inside.Places.{Takes}
 use Rattle.level_cache.proofs.Places.{whole}

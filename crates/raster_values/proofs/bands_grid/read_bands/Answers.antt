@@ -2,11 +2,12 @@ use Rattle.std.proofs.Common.{◌≡◌, ◌+◌, ◌<◌, ◌++◌, [], ◌∷�
 use Rattle.std.proofs.lemmas.List.{append-nil}
 use Rattle.std.proofs.lemmas.Result.{err_from_is_err_and}
 use Rattle.first_fault.specs.Faults.{Numbered}
+use Rattle.first_fault.proofs.Decided.{numbered_push}
 use Rattle.raster_values.specs.Raster.{Pixels}
 use Rattle.raster_values.specs.BandsGrid.{IsBandGrid}
 use Rattle.raster_values.proofs.Pack.{on_err}
 use Rattle.raster_values.proofs.Taken.{took_none, took_join, took_more}
-use Rattle.raster_values.proofs.BandLists.{one_more, may_be}
+use Rattle.raster_values.proofs.BandLists.{may_be}
 use Rattle.raster_values.proofs.BandSizes.{band_long}
 use Rattle.raster_values.proofs.BandsTaken.{next_told}
 use Rattle.raster_values.proofs.bands_grid.read_bands.Goals as goal
@@ -57,7 +58,7 @@ push-requires g c =
     let loop = c.loop-alloc.invariant in
     let one = c.in_ok-band.ensures.ok in
     let fewer : length c.loop-alloc.bands < c.args.count = omega (arith, c.len.ensures.value, c.loop-alloc-test.true) in
-    may_be c.args.head (loop.read ++ one.0) (c.loop-alloc.bands ++ c.in_ok-band.band ∷ []) c.args.count (one_more c.args.head 0 loop.read one.0 c.loop-alloc.bands c.in_ok-band.band loop.stand one.1.0)
+    may_be c.args.head (loop.read ++ one.0) (c.loop-alloc.bands ++ c.in_ok-band.band ∷ []) c.args.count (numbered_push (λ k. IsBandGrid c.args.head) 0 (length c.loop-alloc.bands) loop.read one.0 c.loop-alloc.bands c.in_ok-band.band (omega arith) loop.stand one.1.0)
     (omega (arith, fewer, length-append c.loop-alloc.bands (c.in_ok-band.band ∷ []))) c.requires.most c.requires.small
 
 pub loop-alloc-preserved : goal.loop-alloc-preserved
@@ -73,7 +74,7 @@ loop-alloc-preserved g c =
     record {
       read = loop.read ++ one.0;
       took = took_join _ _ _ loop.read one.0 loop.took one.1.1;
-      stand = subst (λ (xs : List Pixels). Numbered (λ k. IsBandGrid h) 0 (loop.read ++ one.0) xs) (sym bands) (one_more h 0 loop.read one.0 c.loop-alloc.bands band loop.stand one.1.0);
+      stand = subst (λ (xs : List Pixels). Numbered (λ k. IsBandGrid h) 0 (loop.read ++ one.0) xs) (sym bands) (numbered_push (λ k. IsBandGrid h) 0 (length c.loop-alloc.bands) loop.read one.0 c.loop-alloc.bands band (omega arith) loop.stand one.1.0);
       at = omega (arith, loop.at, long, length-append loop.read one.0);
       small = omega (arith, loop.small, long, count, c.band_size-place.ensures.few, length-append loop.read one.0);
       fewer = omega (arith, count, fewer);

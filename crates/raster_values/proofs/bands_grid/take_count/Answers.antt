@@ -32,5 +32,5 @@ returns-then-n-lt4-clause-some g c = (take c.in_ok-n.n c.take_all.new.buf, took_
 pub returns-then-count-lt2-clause-some : goal.returns-then-count-lt2-clause-some
 returns-then-count-lt2-clause-some g c = (take c.in_ok-n.n c.take_all.new.buf, took_front _ _ c.in_ok-n.n c.take_all.new.buf c.in_ok-n.ensures.bytes)
 
-pub returns-then-count-values-gt16777216-clause-some : goal.returns-then-count-values-gt16777216-clause-some
-returns-then-count-values-gt16777216-clause-some g c = (take c.in_ok-n.n c.take_all.new.buf, took_front _ _ c.in_ok-n.n c.take_all.new.buf c.in_ok-n.ensures.bytes)
+pub returns-then-count-values-gt-GREATEST_VALUES-clause-some : goal.returns-then-count-values-gt-GREATEST_VALUES-clause-some
+returns-then-count-values-gt-GREATEST_VALUES-clause-some g c = (take c.in_ok-n.n c.take_all.new.buf, took_front _ _ c.in_ok-n.n c.take_all.new.buf c.in_ok-n.ensures.bytes)

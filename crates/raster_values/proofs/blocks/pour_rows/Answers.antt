@@ -6,32 +6,32 @@ use Rattle.raster_values.proofs.RowSteps.{row_inside, all_marked, row_full, piec
 use Rattle.raster_values.proofs.blocks.pour_rows.Goals as goal
 
 pub overflow_mul-i : goal.overflow_mul-i
-overflow_mul-i c =
-    let h = row_inside c.loop-i.i (c.args.row + c.args.high) c.args.cols c.args.col c.args.wide (length c.args.marks.now) c.args.depth c.args.d (length c.args.values.now.values) (omega arith) c.requires.within c.requires.across c.requires.depth c.requires.size c.requires.few in
+overflow_mul-i g c =
+    let h = row_inside c.loop-i.i (c.args.row + c.args.high) c.args.cols c.args.col c.args.wide (length (g.M.Marked.marks c.args.marks.now)) c.args.depth c.args.d (length (g.V.Valued.cells c.args.values.now).values) (omega arith) c.requires.within c.requires.across c.requires.depth c.requires.size c.requires.few in
     omega arith
 
 pub overflow_add-i : goal.overflow_add-i
-overflow_add-i c =
-    let h = row_inside c.loop-i.i (c.args.row + c.args.high) c.args.cols c.args.col c.args.wide (length c.args.marks.now) c.args.depth c.args.d (length c.args.values.now.values) (omega arith) c.requires.within c.requires.across c.requires.depth c.requires.size c.requires.few in
+overflow_add-i g c =
+    let h = row_inside c.loop-i.i (c.args.row + c.args.high) c.args.cols c.args.col c.args.wide (length (g.M.Marked.marks c.args.marks.now)) c.args.depth c.args.d (length (g.V.Valued.cells c.args.values.now).values) (omega arith) c.requires.within c.requires.across c.requires.depth c.requires.size c.requires.few in
     omega arith
 
 pub pour_run-n-requires-clause-within : goal.pour_run-n-requires-clause-within
-pour_run-n-requires-clause-within c =
-    let h = row_inside c.loop-i.i (c.args.row + c.args.high) c.args.cols c.args.col c.args.wide (length c.args.marks.now) c.args.depth c.args.d (length c.args.values.now.values) (omega arith) c.requires.within c.requires.across c.requires.depth c.requires.size c.requires.few in
+pour_run-n-requires-clause-within g c =
+    let h = row_inside c.loop-i.i (c.args.row + c.args.high) c.args.cols c.args.col c.args.wide (length (g.M.Marked.marks c.args.marks.now)) c.args.depth c.args.d (length (g.V.Valued.cells c.args.values.now).values) (omega arith) c.requires.within c.requires.across c.requires.depth c.requires.size c.requires.few in
     omega arith
 
 pub pour_run-n-requires-clause-room : goal.pour_run-n-requires-clause-room
-pour_run-n-requires-clause-room c =
+pour_run-n-requires-clause-room g c =
     let h = c.loop-i.i - c.args.row in
     let at : c.loop-i.i ≡ c.args.row + h = omega arith in
-    let f : ℕ → List ℕ = λ i. run_places c.args.marks.now (i * c.args.cols + c.args.col) c.args.wide in
+    let f : ℕ → List ℕ = λ i. run_places (g.M.Marked.marks c.args.marks.now) (i * c.args.cols + c.args.col) c.args.wide in
     omega (arith, piece_fits f c.args.row h c.args.high (omega arith), ap (λ i. length (f i)) at, c.loop-i.invariant.found, c.requires.count)
 
 pub pour_run-n-requires-clause-all : goal.pour_run-n-requires-clause-all
-pour_run-n-requires-clause-all c same =
+pour_run-n-requires-clause-all g c same =
     let h = c.loop-i.i - c.args.row in
     let at : c.args.row + h ≡ c.loop-i.i = omega arith in
-    let marks = c.args.marks.now in
+    let marks = (g.M.Marked.marks c.args.marks.now) in
     let cols = c.args.cols in
     let col = c.args.col in
     let wide = c.args.wide in
@@ -41,22 +41,22 @@ pour_run-n-requires-clause-all c same =
     all_marked marks (c.loop-i.i * cols + col) wide row
 
 pub loop-i-preserved : goal.loop-i-preserved
-loop-i-preserved c =
+loop-i-preserved g c =
     let h = c.loop-i.i - c.args.row in
     let at : c.loop-i.i ≡ c.args.row + h = omega arith in
     let next : h + 1 ≡ c.loop-i.i + 1 - c.args.row = omega arith in
     let depth = c.args.depth in
     let d = c.args.d in
-    let marks = c.args.marks.now in
+    let marks = (g.M.Marked.marks c.args.marks.now) in
     let cols = c.args.cols in
     let row = c.args.row in
     let col = c.args.col in
     let wide = c.args.wide in
     let end = c.pour_run-n.result in
-    let new = c.pour_run-n.new.values.values in
-    let old = c.loop-i.values.values in
-    let first = c.args.values.now.values in
-    let kind = c.args.values.now.kind in
+    let new = (g.V.Valued.cells c.pour_run-n.new.values).values in
+    let old = (g.V.Valued.cells c.loop-i.values).values in
+    let first = (g.V.Valued.cells c.args.values.now).values in
+    let kind = (g.V.Valued.cells c.args.values.now).kind in
     let found : end ≡ c.loop-i.n + length (run_places marks ((row + h) * cols + col) wide) = c.pour_run-n.ensures.end ∙ ap (λ i. c.loop-i.n + length (run_places marks (i * cols + col) wide)) at in
     let leaves : LeavesRun depth d marks ((row + h) * cols + col) wide old new = subst (λ i. LeavesRun depth d marks (i * cols + col) wide old new) at c.pour_run-n.ensures.rest in
     let poured : take c.loop-i.n c.args.input.now ++ run_values depth d marks new ((row + h) * cols + col) wide ≡ take end c.args.input.now =
@@ -71,4 +71,6 @@ loop-i-preserved c =
       size = c.pour_run-n.ensures.size ∙ c.loop-i.invariant.size;
       rest = subst (λ m. LeavesRows depth d marks cols row col m wide first new) next
           (leaves_more depth d marks first old new cols row col h wide c.loop-i.invariant.rest leaves);
+      sound = c.pour_run-n.ensures.sound;
+      kept = c.pour_run-n.ensures.kept ∙ c.loop-i.invariant.kept;
     }

@@ -8,27 +8,27 @@ use Rattle.raster_values.proofs.PixelSteps.{places_longer, places_room, pour_pie
 use Rattle.raster_values.proofs.blocks.pour_run.Goals as goal
 
 pub slice_bounds-put_pixels-end : goal.slice_bounds-put_pixels-end
-slice_bounds-put_pixels-end c =
+slice_bounds-put_pixels-end g c =
     let start = c.run_from-run.result.start in
     let stop = c.run_from-run.result.end in
     let runs = c.run_from-run.ensures.runs in
-    let longer = places_longer c.args.marks.now c.args.from c.loop-k.k start stop c.loop-k.invariant.low runs in
-    let room = places_room c.args.marks.now c.args.from c.args.count stop c.run_from-run.ensures.within (omega (arith, runs.first, runs.second, c.loop-k.invariant.low)) in
+    let longer = places_longer (g.M.Marked.marks c.args.marks.now) c.args.from c.loop-k.k start stop c.loop-k.invariant.low runs in
+    let room = places_room (g.M.Marked.marks c.args.marks.now) c.args.from c.args.count stop c.run_from-run.ensures.within (omega (arith, runs.first, runs.second, c.loop-k.invariant.low)) in
     let fits : c.loop-k.n + (stop - start) ≤ length c.args.input.now = omega (arith, longer, room, c.loop-k.invariant.ends, c.requires.room) in
     search (rules, fits)
 
 pub loop-k-preserved : goal.loop-k-preserved
-loop-k-preserved c =
+loop-k-preserved g c =
     let depth = c.args.depth in
     let d = c.args.d in
-    let marks = c.args.marks.now in
+    let marks = (g.M.Marked.marks c.args.marks.now) in
     let input = c.args.input.now in
     let from = c.args.from in
     let k = c.loop-k.k in
     let n = c.loop-k.n in
-    let old = c.loop-k.values.values in
-    let new = c.put_pixels.new.self.values in
-    let kind = c.args.values.now.kind in
+    let old = (g.V.Valued.cells c.loop-k.values).values in
+    let new = (g.V.Valued.cells c.put_pixels.new.cells).values in
+    let kind = (g.V.Valued.cells c.args.values.now).kind in
     let start = c.run_from-run.result.start in
     let stop = c.run_from-run.result.end in
     let runs = c.run_from-run.ensures.runs in
@@ -47,53 +47,55 @@ loop-k-preserved c =
       kind = c.put_pixels.ensures.kind ∙ c.loop-k.invariant.kind;
       in_range = λ before. subst (λ t. All (InRange t) new) c.loop-k.invariant.kind (c.put_pixels.ensures.in_range (subst (λ t. All (InRange t) old) (sym c.loop-k.invariant.kind) (c.loop-k.invariant.in_range before)));
       size = c.put_pixels.ensures.size ∙ c.loop-k.invariant.size;
-      rest = leaves_piece depth d marks piece c.args.values.now.values old new from k start stop c.loop-k.invariant.low runs long c.put_pixels.ensures.put c.loop-k.invariant.rest;
+      rest = leaves_piece depth d marks piece (g.V.Valued.cells c.args.values.now).values old new from k start stop c.loop-k.invariant.low runs long c.put_pixels.ensures.put c.loop-k.invariant.rest;
+      sound = c.put_pixels.ensures.sound;
+      kept = c.put_pixels.ensures.kept ∙ c.loop-k.invariant.kept;
     }
 
 pub overflow_add-next : goal.overflow_add-next
-overflow_add-next c =
+overflow_add-next g c =
     let start = c.run_from-run.result.start in
     let stop = c.run_from-run.result.end in
     let runs = c.run_from-run.ensures.runs in
-    let longer = places_longer c.args.marks.now c.args.from c.loop-k.k start stop c.loop-k.invariant.low runs in
-    let room = places_room c.args.marks.now c.args.from c.args.count stop c.run_from-run.ensures.within (omega (arith, runs.first, runs.second, c.loop-k.invariant.low)) in
+    let longer = places_longer (g.M.Marked.marks c.args.marks.now) c.args.from c.loop-k.k start stop c.loop-k.invariant.low runs in
+    let room = places_room (g.M.Marked.marks c.args.marks.now) c.args.from c.args.count stop c.run_from-run.ensures.within (omega (arith, runs.first, runs.second, c.loop-k.invariant.low)) in
     let fits : c.loop-k.n + (stop - start) ≤ length c.args.input.now = omega (arith, longer, room, c.loop-k.invariant.ends, c.requires.room) in
     search (rules, fits)
 
 pub offset_bounds-input-n : goal.offset_bounds-input-n
-offset_bounds-input-n c =
+offset_bounds-input-n g c =
     let room =
-    places_room c.args.marks.now c.args.from c.args.count c.loop-k.k c.loop-k.invariant.high
+    places_room (g.M.Marked.marks c.args.marks.now) c.args.from c.args.count c.loop-k.k c.loop-k.invariant.high
     c.loop-k.invariant.low in
     let low : c.loop-k.n ≤ length c.args.input.now =
     omega (arith, room, c.loop-k.invariant.ends, c.requires.room) in
     search (rules, low)
 
 pub put_pixels-requires-clause-within : goal.put_pixels-requires-clause-within
-put_pixels-requires-clause-within c =
+put_pixels-requires-clause-within g c =
     let n = c.loop-k.n in
     let start = c.run_from-run.result.start in
     let stop = c.run_from-run.result.end in
     let runs = c.run_from-run.ensures.runs in
-    let old = c.loop-k.values.values in
+    let old = (g.V.Valued.cells c.loop-k.values).values in
     let piece = take (n + (stop - start) - n) (drop n c.args.input.now) in
-    let longer = places_longer c.args.marks.now c.args.from c.loop-k.k start stop c.loop-k.invariant.low runs in
-    let room = places_room c.args.marks.now c.args.from c.args.count stop c.run_from-run.ensures.within (omega (arith, runs.first, runs.second, c.loop-k.invariant.low)) in
+    let longer = places_longer (g.M.Marked.marks c.args.marks.now) c.args.from c.loop-k.k start stop c.loop-k.invariant.low runs in
+    let room = places_room (g.M.Marked.marks c.args.marks.now) c.args.from c.args.count stop c.run_from-run.ensures.within (omega (arith, runs.first, runs.second, c.loop-k.invariant.low)) in
     let fits : n + (stop - start) ≤ length c.args.input.now =
     omega (arith, longer, room, c.loop-k.invariant.ends, c.requires.room) in
     let long : length piece ≡ n + (stop - start) - n =
     length-take-le (n + (stop - start) - n) (drop n c.args.input.now)
     (omega (arith, fits, length-drop n c.args.input.now)) in
     let whole : start + length piece ≡ stop = omega (arith, long, runs.second) in
-    let up : stop * c.args.depth ≤ length c.args.marks.now * c.args.depth =
+    let up : stop * c.args.depth ≤ length (g.M.Marked.marks c.args.marks.now) * c.args.depth =
     mul-le-mul_right c.args.depth runs.within in
     subst (λ m. m * c.args.depth ≤ length old) (sym whole)
     (omega (arith, up, c.requires.size, c.loop-k.invariant.size))
 
 pub put_pixels-requires-clause-in_range : goal.put_pixels-requires-clause-in_range
-put_pixels-requires-clause-in_range c =
+put_pixels-requires-clause-in_range g c =
     let n = c.loop-k.n in
-    let kind = c.args.values.now.kind in
+    let kind = (g.V.Valued.cells c.args.values.now).kind in
     let count = n + (c.run_from-run.result.end - c.run_from-run.result.start) - n in
     subst (λ t. All (InRange t) (take count (drop n c.args.input.now)))
     (sym c.loop-k.invariant.kind)

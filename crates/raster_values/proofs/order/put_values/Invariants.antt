@@ -5,14 +5,16 @@ use Rattle.raster_values.specs.inside.Ordered.{PutsMarked}
 use Rattle.raster_values.proofs.order.put_values.Given as goal
 
 abbrev pub invariant-loop-k : goal.invariant-loop-k
-invariant-loop-k l = record {
+invariant-loop-k g l = record {
+  sound : g.V.Valued.sound l.values;
+  kept : g.V.Valued.kept l.values ≡ g.V.Valued.kept l.initial.values;
   low : l.place ≤ l.k;
   high : l.k ≤ l.end;
-  kind : l.values.kind ≡ l.initial.values.kind;
-  in_range : All (InRange l.initial.values.kind) l.initial.values.values → All (InRange l.initial.values.kind) l.values.values;
-  size : length l.values.values ≡ length l.initial.values.values;
-  put : PutsMarked l.depth l.d l.marks l.place (l.k - l.place) l.input l.initial.values.values l.values.values;
+  kind : (g.V.Valued.cells l.values).kind ≡ (g.V.Valued.cells l.initial.values).kind;
+  in_range : All (InRange (g.V.Valued.cells l.initial.values).kind) (g.V.Valued.cells l.initial.values).values → All (InRange (g.V.Valued.cells l.initial.values).kind) (g.V.Valued.cells l.values).values;
+  size : length (g.V.Valued.cells l.values).values ≡ length (g.V.Valued.cells l.initial.values).values;
+  put : PutsMarked l.depth l.d (g.M.Marked.marks l.marks) l.place (l.k - l.place) l.input (g.V.Valued.cells l.initial.values).values (g.V.Valued.cells l.values).values;
 }
 
 abbrev pub decreases-loop-k : goal.decreases-loop-k
-decreases-loop-k l = l.end - l.k
+decreases-loop-k g l = l.end - l.k

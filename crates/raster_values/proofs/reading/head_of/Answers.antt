@@ -5,7 +5,7 @@ use Rattle.std.proofs.lemmas.Bool.{cases_lt, false≢true}
 use Rattle.std.proofs.lemmas.Result.{err_from_is_err_and}
 use Rattle.raster_values.specs.declared.reading.GridReason.{GridReason}
 use Rattle.raster_values.specs.declared.reading.GridReason.TheVariants.{TooLarge}
-use Rattle.raster_values.specs.Raster.{IsTooLarge}
+use Rattle.raster_values.specs.Raster.{IsShape, IsTooLarge}
 use Rattle.raster_values.specs.ReadGrid.{number_at, shape_faults, depth_faults, cols_faults, rows_faults, magic_faults}
 use Rattle.raster_values.specs.inside.Heads.{IsSizeFault}
 use Rattle.raster_values.proofs.reading.head_of.Goals as goal
@@ -41,13 +41,13 @@ depth_wrong bytes place reason h = search rules
 
 shape_wrong : (bytes : List ℕ) (place rows cols depth : ℕ) (reason : GridReason)
     → rows ≡ number_at bytes 5 → cols ≡ number_at bytes 9 → depth ≡ number_at bytes 13
-    → ((depth ≤ 65536) × (rows * cols * depth ≤ 16777216) → false ≡ true) → place ≡ 13
+    → 0 < rows → 0 < cols → 0 < depth → (IsShape rows cols depth → false ≡ true) → place ≡ 13
     → reason ≡ TooLarge → shape_faults bytes place reason
-shape_wrong bytes place rows cols depth reason high wide deep over at why =
+shape_wrong bytes place rows cols depth reason high wide deep tall broad thick over at why =
     let large : IsTooLarge rows cols depth =
     ⊎_elim (λ (lt : 65536 < depth). inl lt)
     (λ (few : depth ≤ 65536). ⊎_elim (λ (lt : 16777216 < rows * cols * depth). inr lt)
-    (λ (small : rows * cols * depth ≤ 16777216). absurd (false≢true (over (few, small))))
+    (λ (small : rows * cols * depth ≤ 16777216). absurd (false≢true (over (record { rows_above = tall; cols_above = broad; depth_above = thick; depth_below = few; size = small }))))
     (cases_lt 16777216 (rows * cols * depth))) (cases_lt 65536 depth) in
     let told : IsTooLarge (number_at bytes 5) (number_at bytes 9) (number_at bytes 13) =
     subst (λ n. IsTooLarge (number_at bytes 5) (number_at bytes 9) n) deep
@@ -110,10 +110,10 @@ returns-in_err-depth c =
       near bytes 13 f.place f.reason (omega arith) c.requires wrong,
     )
 
-pub returns-then-not-is_allowed : goal.returns-then-not-is_allowed
-returns-then-not-is_allowed c =
+pub returns-then-not-is_shape : goal.returns-then-not-is_shape
+returns-then-not-is_shape c =
     let bytes = c.args.bytes.now in
-    let f = c.fault-then-not-is_allowed.result in
+    let f = c.fault-then-not-is_shape.result in
     let letters : take 4 bytes ≡ c.args.magic = begins c.args.magic bytes c.if-ne.ensures in
     let kind : get_or bytes 4 0 ≤ 5 = named (get_or bytes 4 0) c.in-Some.ensures.none.1 in
     let rows = c.in_ok-rows.ensures.ok in
@@ -124,12 +124,12 @@ returns-then-not-is_allowed c =
     let deep : 0 < number_at bytes 13 = omega (arith, depth.1) in
     let wrong =
     shape_wrong bytes f.place c.in_ok-rows.rows c.in_ok-cols.cols c.in_ok-depth.depth f.reason
-    rows.1.0 cols.1.0 depth.1.0
-    c.if-not-is_allowed.ensures.1 c.fault-then-not-is_allowed.ensures.place
-    c.fault-then-not-is_allowed.ensures.reason in (
+    rows.1.0 cols.1.0 depth.1.0 rows.1.1 cols.1.1 depth.1.1
+    c.if-not-is_shape.ensures.1 c.fault-then-not-is_shape.ensures.place
+    c.fault-then-not-is_shape.ensures.reason in (
       behind c.args.magic bytes f.place f.reason (omega arith) letters kind
           (inl (rows.0, inl (some, inl (cols.0, inl (more, inl (depth.0, inl (deep, wrong))))))),
-      omega (arith, c.fault-then-not-is_allowed.ensures.place),
+      omega (arith, c.fault-then-not-is_shape.ensures.place),
     )
 
 pub returns : goal.returns
@@ -137,7 +137,6 @@ returns c =
     let rows = c.in_ok-rows.ensures.ok in
     let cols = c.in_ok-cols.ensures.ok in
     let depth = c.in_ok-depth.ensures.ok in
-    let small = c.if-not-is_allowed.ensures.0 refl in
     record {
       size = omega (arith, depth.0, c.requires);
       letters = begins c.args.magic c.args.bytes.now c.if-ne.ensures;
@@ -145,13 +144,7 @@ returns c =
       rows = sym rows.1.0;
       cols = sym cols.1.0;
       depth = sym depth.1.0;
-      shape = record {
-        rows_above = rows.1.1;
-        cols_above = cols.1.1;
-        depth_above = depth.1.1;
-        depth_below = small.0;
-        size = small.1;
-      };
+      shape = c.if-not-is_shape.ensures.0 refl;
     }
 
 pub returns-then-bytes-lt5 : goal.returns-then-bytes-lt5

@@ -11,6 +11,7 @@ use Rattle.bundle_store.specs.Images.{EachImage}
 use Rattle.bundle_store.specs.Tiles.{tiles}
 use Rattle.bundle_store.proofs.GroupStanding.{in_all_over, in_group_closing}
 use Rattle.bundle_store.proofs.GroupWrites.{new_slots}
+use Rattle.bundle_store.proofs.Midway.{redo_midway}
 use Rattle.bundle_store.proofs.put.steps.redo.Goals as goal
 
 pub returns-in_err-write_all_over-clause-images : goal.returns-in_err-write_all_over-clause-images
@@ -43,3 +44,11 @@ returns-clause-images g c = λ told.
 pub returns-clause-done : goal.returns-clause-done
 returns-clause-done g c = λ told.
     subst (λ (d : Disk). OnOk c.close_gate.result (current (g.V.Volume.history c.close_gate.new.vol) ≡ change Journal (λ f. settled (0 ∷ drop 1 f.now)) d)) (c.in_ok-write_all_over.ensures.done told) (c.close_gate.ensures.done (c.write_all_over.ensures.told ∙ told))
+
+pub returns-in_err-write_all_over-clause-bytes : goal.returns-in_err-write_all_over-clause-bytes
+returns-in_err-write_all_over-clause-bytes g c = λ told. during_map _ _ _ _ (λ d keeps. keeps.bundle) (c.write_all_over.ensures.during told)
+
+pub returns-clause-bytes : goal.returns-clause-bytes
+returns-clause-bytes g c = λ told.
+    redo_midway c.args.header.now c.args.group.now _ _ _ _ c.requires.header (new_slots c.args.group.now c.requires.new) (c.requires.long told) (during_map _ _ _ _ (λ d keeps. keeps.bundle) (c.write_all_over.ensures.during told))
+    (ap (λ (d : Disk). d.bundle) (c.in_ok-write_all_over.ensures.done told)) (c.close_gate.ensures.during (c.write_all_over.ensures.told ∙ told))

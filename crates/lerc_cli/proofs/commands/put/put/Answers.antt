@@ -1,5 +1,6 @@
 use Rattle.std.proofs.Common.{◌≡◌, List, length, Err, refl, rules, ap, sym, subst, ◌∙◌}
 use Rattle.outside_io.specs.volume.History.{current}
+use Rattle.lerc_header.specs.Written.{step_of}
 use Rattle.bundle_store.specs.declared.tile_rec.TileRec.{TileRec}
 use Rattle.lerc_cli.specs.declared.words.Command.TheVariants.{Put}
 use Rattle.lerc_cli.specs.answers.Table.{UpdatesOf}
@@ -9,8 +10,8 @@ use Rattle.lerc_cli.specs.inside.Updates.{put_end_of}
 use Rattle.program_ends.specs.declared.stop.Stop.TheVariants.{Volume}
 use Rattle.opened_bundle.proofs.BundleOpening.{reads_as}
 use Rattle.lerc_cli.proofs.AnswerLemmas.Outputs.{source_read}
-use Rattle.lerc_cli.proofs.CrashLemmas.PutRuns.{early_output, early_volume, not_source, put_all_output, put_all_volume, puts_not_source, unopened_output}
-use Rattle.lerc_cli.proofs.CrashLemmas.Unopened.{unopened_volume}
+use Rattle.lerc_cli.proofs.CrashLemmas.PutRuns.{early_output, not_source, put_all_output, put_all_volume, puts_not_source, unopened_output}
+use Rattle.lerc_cli.proofs.CrashLemmas.Unopened.{early_volume, unopened_volume}
 use Rattle.lerc_cli.proofs.commands.put.put.Goals as goal
 
 pub returns-in-Err-clause-output : goal.returns-in-Err-clause-output
@@ -19,7 +20,7 @@ returns-in-Err-clause-output g c = λ workers.
 
 pub returns-in-Err-clause-volume : goal.returns-in-Err-clause-volume
 returns-in-Err-clause-volume g c = λ workers.
-    rw c.in-Err.ensures.none (early_volume c.args.version c.args.error workers _ c.in-Err.stop _ g.V.Volume.told g.V.Volume.history g.V.Volume.faults _ c.in-Err.ensures.updates)
+    rw c.in-Err.ensures.none (early_volume (Put c.args.version c.args.error workers) _ (search rules) c.args.version (step_of c.args.error) c.in-Err.stop _ g.V.Volume.told g.V.Volume.history g.V.Volume.faults _ c.in-Err.ensures.updates)
 
 pub returns-in-Err-open_bundle-clause-source : goal.returns-in-Err-open_bundle-clause-source
 returns-in-Err-open_bundle-clause-source g c = λ workers.
@@ -31,7 +32,7 @@ returns-in-Err-open_bundle-clause-output g c = λ workers.
 
 pub returns-in-Err-open_bundle-clause-volume : goal.returns-in-Err-open_bundle-clause-volume
 returns-in-Err-open_bundle-clause-volume g c = λ workers.
-    rw (c.in-Ok.ensures.none, c.store_stop.ensures) (unopened_volume (Put c.args.version c.args.error workers) _ _ c.in-Ok.updates.items c.in-Err-open_bundle.stop (search rules) c.in-Ok.ensures.updates c.in-Err-open_bundle.ensures.refused
+    rw (c.in-Ok.ensures.none, c.store_stop.ensures) (unopened_volume (Put c.args.version c.args.error workers) _ (search rules) _ c.in-Ok.updates.items c.in-Err-open_bundle.stop c.in-Ok.ensures.updates c.in-Err-open_bundle.ensures.refused
     (reads_as _ _ _ (λ is. let same : c.in-Err-open_bundle.stop ≡ Volume = cc in same) (λ is. ap (λ s. Err s) is) c.in-Err-open_bundle.ensures.volume) c.in-Err-open_bundle.ensures.rests)
 
 pub returns-clause-source : goal.returns-clause-source

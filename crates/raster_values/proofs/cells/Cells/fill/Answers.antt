@@ -7,7 +7,7 @@ use Rattle.raster_values.proofs.cells.Cells.fill.Goals as goal
 
 pub returns : goal.returns
 returns c =
-    let vs = c.fill_pixels.new.self.values in
+    let vs = c.fill_pixels.new.cells.values in
     let n = length c.args.self.now.values in
     let count : c.self.inside.count ≡ n = sym c.self.invariant.counted ∙ ap (λ (l : CellList). length l.values) c.self.view_is in
     let same : vs ≡ replicate n c.args.value = ext_get_or (pos 0) vs (replicate n c.args.value) (c.fill_pixels.ensures.size ∙ sym (length-replicate n c.args.value)) (λ k below.

@@ -2,7 +2,8 @@ use Rattle.std.proofs.Common.{◌≡◌, ◌+◌, Bool, List, ap, ◌∙◌, sym
 use Rattle.std.specs.Prelude.{count_by}
 use Rattle.std.proofs.lemmas.List.{get_or-replicate}
 use Rattle.raster_values.specs.inside.MaskView.{seen_mask}
-use Rattle.raster_values.proofs.MaskBits.{count_is, size_is}
+use Rattle.raster_values.specs.Order.{mask_bit}
+use Rattle.raster_values.proofs.MaskBits.{count_is, size_is, bit_is, run_room}
 use Rattle.raster_values.proofs.MaskCounts.{all_set}
 use Rattle.raster_values.proofs.mask.Mask.copy_run.Goals as goal
 
@@ -14,3 +15,14 @@ returns-then-self c =
     λ i less.
     ap (λ xs. get_or xs i false) out ∙ get_or-replicate (length c.args.out.now) i true false less
     ∙ sym (ap (λ (xs : List Bool). get_or xs (c.args.from + i) false) (sym c.self.view_is) ∙ all_set ms (c.args.from + i) full (omega (arith, c.requires, count_is c.self.inside _ c.self.view_is, size_is c.self.inside)))
+
+pub copy_bits-requires-clause-few : goal.copy_bits-requires-clause-few
+copy_bits-requires-clause-few c = (run_room c.self.inside _ c.args.from (length c.args.out.now) c.self.invariant c.self.view_is c.requires).0
+
+pub copy_bits-requires-clause-within : goal.copy_bits-requires-clause-within
+copy_bits-requires-clause-within c = omega (arith, (run_room c.self.inside _ c.args.from (length c.args.out.now) c.self.invariant c.self.view_is c.requires).1, ap length c.deref.ensures.value)
+
+pub returns : goal.returns
+returns c i less =
+    c.copy_bits.ensures i less ∙ ap (λ xs. mask_bit xs (c.args.from + i)) c.deref.ensures.value
+    ∙ bit_is c.self.inside c.self.invariant (c.args.from + i) ∙ ap (λ (xs : List Bool). get_or xs (c.args.from + i) false) c.self.view_is

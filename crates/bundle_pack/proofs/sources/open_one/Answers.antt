@@ -1,0 +1,30 @@
+use Rattle.std.proofs.Common.{◌≡◌, ◌∙◌, Err, inr, refl}
+use Rattle.outside_io.specs.volume.History.{current}
+use Rattle.outside_io.proofs.VolumeLemmas.Moments.{started}
+use Rattle.bundle_pack.proofs.Recovered.{bytes_on, images_on}
+use Rattle.bundle_pack.proofs.sources.open_one.Goals as goal
+
+pub returns-in-Err-clause-kept : goal.returns-in-Err-clause-kept
+returns-in-Err-clause-kept g c =
+    let vol = g.V.Volume in
+    let old = vol.history c.args.vol.now in
+    let left = vol.history c.recover.new.vol in
+    record {
+      told_same = c.recover.ensures.told;
+      images = c.recover.ensures.images;
+      bytes = c.recover.ensures.bytes;
+      changes = λ told. inr (left, (record { answer = Err c.in-Err.fault; says = c.in-Err.ensures.says told; images = c.recover.ensures.images told; bytes = c.recover.ensures.bytes told; done = tt; leaves = tt; refused = c.in-Err.ensures.refused told }, started (λ d. d ≡ current left) left refl));
+    }
+
+pub returns-clause-kept : goal.returns-clause-kept
+returns-clause-kept g c =
+    let vol = g.V.Volume in
+    let old = vol.history c.args.vol.now in
+    let left = vol.history c.recover.new.vol in
+    let new = vol.history c.open.new.vol in
+    record {
+      told_same = c.open.ensures.told ∙ c.recover.ensures.told;
+      images = λ told. images_on old left new (c.recover.ensures.images told) (c.open.ensures.during (c.recover.ensures.told ∙ told));
+      bytes = λ told. bytes_on old left new (c.recover.ensures.bytes told) (c.open.ensures.during (c.recover.ensures.told ∙ told));
+      changes = λ told. inr (left, (record { answer = c.recover.result; says = c.recover.ensures.says told; images = c.recover.ensures.images told; bytes = c.recover.ensures.bytes told; done = c.recover.ensures.done told; leaves = c.recover.ensures.leaves told; refused = c.recover.ensures.refused told }, c.open.ensures.during (c.recover.ensures.told ∙ told)));
+    }

@@ -1,0 +1,115 @@
+//! The mask of a blob, as bits: one for each pixel, row by row and the highest of each byte first,
+//! and the bits behind the last pixel 0.
+
+ghost use Rattle.std.specs.Prelude.{◌≡◌, ◌≤◌, ◌*◌, ◌+◌, ◌-◌, ◌<◌, ◌^◌, ℕ, IfErr, OnOk, Some, drop, false, length, take};
+ghost use Rattle.first_fault.specs.Faults.{moved};
+ghost use Rattle.raster_values.specs.Order.{marks_in, mask_bit};
+ghost use Rattle.lerc_header.specs.Head.{HeadAt, head_length};
+ghost use Rattle.lerc_grammar.specs.Blob.{blob_faults};
+ghost use Rattle.lerc_grammar.specs.Mask.{IsMaskAfter, count_before, mask_size, runs_faults};
+ghost use Rattle.lerc_grammar.specs.Outline.{image_place};
+ghost use Rattle.lerc_decode.specs.inside.Body.{HasSum, IsMarkedBy, IsMaskFormFor, IsStopOf, marks_for};
+
+use crate::before::Before;
+use crate::body::{BodyStop, stopped};
+use lerc_grammar::MaskForm;
+use lerc_header::{BlobReason, Header};
+use mask_runs::read_runs;
+use raster_values::{clear_bits, clear_spare, count_marked, set_bits};
+
+/// Reads the bits that the runs say, which begin at this place of the blob.
+pub(crate) fn bits_of_runs(
+    runs: &[u8],
+    place: usize,
+    header: &Header,
+    bits: &mut [u8],
+) -> Result<(), BodyStop>
+    requires pixels { header.now.rows * header.now.cols ≤ 16777216 }
+    requires room { length bits.old ≡ mask_size (header.now.rows * header.now.cols) }
+    requires few { place + length runs.now < 2 ^ 62 }
+    ensures room { length bits.new ≡ length bits.old }
+    ensures ok { OnOk result (IsMarkedBy (header.now.rows * header.now.cols) header.now.valid
+        runs.now (marks_in (header.now.rows * header.now.cols) bits.new)) }
+    ensures spare { OnOk result ((k : ℕ) → header.now.rows * header.now.cols ≤ k
+        → mask_bit bits.new k ≡ false) }
+    ensures fault { IfErr result (λ stop. IsStopOf (moved place
+        (runs_faults (header.now.rows * header.now.cols) header.now.valid runs.now)) stop) }
+{
+    if let Err(fault) = read_runs(runs, bits) {
+        return stopped(BlobReason::BadRun, place + fault.at);
+    }
+    let pixels = header.rows as usize * header.cols as usize;
+    clear_spare(bits, pixels);
+    let counted = count_marked(bits, pixels) as u32;
+    if counted != header.valid {
+        return stopped(
+            BlobReason::BadMaskCount {
+                header: header.valid,
+                counted,
+            },
+            place,
+        );
+    }
+    Ok(())
+}
+
+/// Copies the bits of the raster before, which has the header's rows and columns.
+fn bits_before(before: &Option<Before>, header: &Header, bits: &mut [u8])
+    requires count { count_before (marks_for before.now header.now) ≡ Some header.now.valid }
+    requires pixels { header.now.rows * header.now.cols ≤ 16777216 }
+    requires room { length bits.old ≡ mask_size (header.now.rows * header.now.cols) }
+    ensures room { length bits.new ≡ length bits.old }
+    ensures marks { marks_for before.now header.now
+        ≡ Some (marks_in (header.now.rows * header.now.cols) bits.new) }
+    ensures spare { (k : ℕ) → header.now.rows * header.now.cols ≤ k
+        → mask_bit bits.new k ≡ false }
+{
+    if let Some(before) = before {
+        before.bits(header, bits);
+    }
+}
+
+/// Reads the bits of the blob's mask.
+pub(crate) fn mask_bits(
+    blob: &[u8],
+    header: &Header,
+    form: &MaskForm,
+    before: &Option<Before>,
+    bits: &mut [u8],
+) -> Result<(), BodyStop>
+    requires head { HeadAt blob.now header.now }
+    requires size { length blob.now ≡ header.now.size }
+    requires sum { HasSum header.now blob.now }
+    requires form { IsMaskFormFor before.now header.now blob.now form.now }
+    requires room { length bits.old ≡ mask_size (header.now.rows * header.now.cols) }
+    ensures room { length bits.new ≡ length bits.old }
+    ensures ok { OnOk result (IsMaskAfter (marks_for before.now header.now)
+        (header.now.rows * header.now.cols) header.now.valid
+        (take (image_place header.now form.now - head_length header.now.version)
+        (drop (head_length header.now.version) blob.now))
+        (marks_in (header.now.rows * header.now.cols) bits.new)) }
+    ensures spare { OnOk result ((k : ℕ) → header.now.rows * header.now.cols ≤ k
+        → mask_bit bits.new k ≡ false) }
+    ensures fault { IfErr result (λ stop.
+        IsStopOf (blob_faults before.now header.now blob.now) stop) }
+{
+    let pixels = header.rows as usize * header.cols as usize;
+    match *form {
+        MaskForm::Empty => {
+            clear_bits(bits, pixels);
+            Ok(())
+        }
+        MaskForm::Full => {
+            set_bits(bits, pixels);
+            Ok(())
+        }
+        MaskForm::Runs { len, .. } => {
+            let place = header.version.head_length() + 4;
+            bits_of_runs(&blob[place..place + len as usize], place, header, bits)
+        }
+        MaskForm::Previous => {
+            bits_before(before, header, bits);
+            Ok(())
+        }
+    }
+}

@@ -1,0 +1,225 @@
+//! Decoding into a caller's arrays.
+
+ghost use Rattle.std.specs.Prelude.{◌≡◌, ◌≤◌, ◌<◌, ◌*◌, ◌-◌, ◌↔◌, ℕ, IfErr, IfOk, IsErrOf, IsTrue, None, OnOk, drop, get_or, length, take};
+ghost use Rattle.raster_values.specs.Flat.{all_values};
+ghost use Rattle.raster_values.specs.Grid.{values_bytes};
+ghost use Rattle.raster_values.specs.Lent.{IsLent, array_of, bytes_in, lent_pixels};
+ghost use Rattle.raster_values.specs.Order.{marks_in};
+ghost use Rattle.raster_values.specs.Raster.{IsShape, Pixels};
+ghost use Rattle.lerc_header.specs.Head.{HeadAt, head_length};
+ghost use Rattle.lerc_header.specs.HeadFaults.{HasKey, HasVersion};
+ghost use Rattle.lerc_header.specs.declared.header.Header.{Header};
+ghost use Rattle.lerc_grammar.specs.Blob.{Blob, blob_faults};
+ghost use Rattle.lerc_grammar.specs.Mask.{IsMaskAfter};
+ghost use Rattle.lerc_grammar.specs.Outline.{IsMaskForm, image_place};
+ghost use Rattle.lerc_decode.specs.Over.{AskOtherRoom, HaveRoom, HoldRaster, IsDecodedOver, IsFaultOf, IsOverStop};
+ghost use Rattle.lerc_decode.specs.inside.Body.{HasSum, IsMarkedFor, IsPouredOver, IsStopOf, KeepsMarks};
+
+use crate::before::Before;
+use crate::body::{BodyStop, image_of, mask_form, test_sum};
+use crate::front::{header_at, version_at};
+use crate::masks::mask_bits;
+use lerc_grammar::MaskForm;
+use lerc_header::{BlobFault, BlobReason, Header, Version};
+use raster_values::Lent;
+use std::alloc::Global;
+
+/// Why no blob was decoded into a caller's arrays.
+#[derive(Clone, Copy, Debug, PartialEq, Eq)]
+pub enum OverFault {
+    /// What is wrong with the blob first, or that the bytes end too early.
+    Blob(BlobFault),
+    OutOfMemory,
+    /// The header asks for arrays of other lengths.
+    Sizes,
+}
+
+/// The bytes end too early.
+fn cut(blob: &[u8]) -> BlobFault
+    ensures { result ≡ record { reason = BlobReason.Truncated; place = length blob.now } }
+{
+    BlobFault {
+        reason: BlobReason::Truncated,
+        place: blob.len() as u64,
+    }
+}
+
+/// The header with which the bytes begin, whose key and version stand.
+fn header_behind(blob: &[u8], version: Version) -> Result<Header, BlobFault>
+    requires ten { 10 ≤ length blob.now }
+    requires key { HasKey (take 10 blob.now) }
+    requires version { HasVersion (take 10 blob.now) version }
+    ensures ok { IfOk result (λ h. HeadAt blob.now h) }
+    ensures fault { IfErr result (λ f. IsFaultOf blob.now f) }
+    ensures none { IfErr result (λ f. (h : Header) → ¬ HeadAt blob.now h) }
+{
+    let size = version.head_length();
+    if blob.len() < size {
+        return Err(cut(blob));
+    }
+    header_at(version, &blob[..size])
+}
+
+/// The header with which the bytes begin.
+fn front_header(blob: &[u8]) -> Result<Header, BlobFault>
+    ensures ok { IfOk result (λ h. HeadAt blob.now h) }
+    ensures fault { IfErr result (λ f. IsFaultOf blob.now f) }
+    ensures none { IfErr result (λ f. (h : Header) → ¬ HeadAt blob.now h) }
+{
+    if blob.len() < 10 {
+        return Err(cut(blob));
+    }
+    match version_at(blob) {
+        Ok(version) => header_behind(blob, version),
+        Err(fault) => Err(fault),
+    }
+}
+
+/// Whether arrays of these lengths are those of a raster of the header's type and shape.
+fn have_room(header: &Header, values: usize, mask: usize) -> bool
+    requires { IsShape header.now.rows header.now.cols header.now.depth }
+    ensures { IsTrue result ↔ HaveRoom header.now values mask }
+{
+    let pixels = header.rows as usize * header.cols as usize;
+    let size = pixels * header.depth as usize * header.kind.bytes();
+    values == size && mask == (pixels + 7) / 8
+}
+
+/// Gives the raster in the caller's arrays the values that the image says.
+fn fill_lent(
+    alloc: Global,
+    blob: &[u8],
+    header: &Header,
+    form: &MaskForm,
+    lent: &mut Lent,
+) -> Result<(), BodyStop>
+    requires head { HeadAt blob.now header.now }
+    requires size { length blob.now ≡ header.now.size }
+    requires sum { HasSum header.now blob.now }
+    requires form { IsMaskForm header.now blob.now form.now }
+    requires sound { IsLent lent.old }
+    requires marked { IsMarkedFor None header.now blob.now form.now (lent_pixels lent.old) }
+    ensures ok { OnOk result (Blob blob.now (lent_pixels lent.new)) }
+    ensures fault { IfErr result (λ stop. IsStopOf (blob_faults None header.now blob.now) stop) }
+    ensures marks { KeepsMarks (lent_pixels lent.old) (lent_pixels lent.new) }
+    ensures bytes { bytes_in lent.new ≡ values_bytes (lent_pixels lent.new).kind
+        (all_values (lent_pixels lent.new)) }
+    ensures array { array_of lent.new ≡ array_of lent.old }
+{
+    image_of(alloc, blob, header, form, lent)
+}
+
+/// Reads the image into the array of values, behind a mask that stands.
+fn pour_over(
+    alloc: Global,
+    blob: &[u8],
+    header: &Header,
+    form: &MaskForm,
+    mask: &[u8],
+    values: &mut [u8],
+) -> Result<(), BodyStop>
+    requires head { HeadAt blob.now header.now }
+    requires size { length blob.now ≡ header.now.size }
+    requires sum { HasSum header.now blob.now }
+    requires form { IsMaskForm header.now blob.now form.now }
+    requires room { HaveRoom header.now (length values.old) (length mask.now) }
+    requires mask { IsMaskAfter None (header.now.rows * header.now.cols) header.now.valid
+        (take (image_place header.now form.now - head_length header.now.version)
+        (drop (head_length header.now.version) blob.now))
+        (marks_in (header.now.rows * header.now.cols) mask.now) }
+    ensures bytes { (k : ℕ) → get_or mask.now k 0 < 256 }
+    ensures ok { OnOk result (IsPouredOver header.now blob.now mask.now values.new) }
+    ensures fault { IfErr result (λ stop. IsStopOf (blob_faults None header.now blob.now) stop) }
+{
+    let mut lent = Lent::over(
+        header.kind,
+        header.rows,
+        header.cols,
+        header.depth,
+        mask,
+        values,
+    );
+    fill_lent(alloc, blob, header, form, &mut lent)
+}
+
+/// Decodes a whole blob, whose header and checksum stand, into arrays of the lengths that it asks
+/// for.
+fn summed_over(
+    alloc: Global,
+    blob: &[u8],
+    header: &Header,
+    values: &mut [u8],
+    mask: &mut [u8],
+) -> Result<(), BodyStop>
+    requires head { HeadAt blob.now header.now }
+    requires size { length blob.now ≡ header.now.size }
+    requires sum { HasSum header.now blob.now }
+    requires room { HaveRoom header.now (length values.old) (length mask.old) }
+    ensures ok { OnOk result ((r : Pixels) × (Blob blob.now r
+        × HoldRaster r values.new mask.new)) }
+    ensures fault { IfErr result (λ stop. IsStopOf (blob_faults None header.now blob.now) stop) }
+{
+    let before: Option<Before> = None;
+    let form = mask_form(blob, header, &before)?;
+    mask_bits(blob, header, &form, &before, mask)?;
+    pour_over(alloc, blob, header, &form, mask, values)
+}
+
+/// The same, where it is not known that the checksum stands.
+fn body_over(
+    alloc: Global,
+    blob: &[u8],
+    header: &Header,
+    values: &mut [u8],
+    mask: &mut [u8],
+) -> Result<(), BodyStop>
+    requires head { HeadAt blob.now header.now }
+    requires size { length blob.now ≡ header.now.size }
+    requires room { HaveRoom header.now (length values.old) (length mask.old) }
+    ensures ok { OnOk result ((r : Pixels) × (Blob blob.now r
+        × HoldRaster r values.new mask.new)) }
+    ensures fault { IfErr result (λ stop. IsStopOf (blob_faults None header.now blob.now) stop) }
+{
+    match test_sum(blob, header) {
+        Ok(()) => summed_over(alloc, blob, header, values, mask),
+        Err(stop) => Err(stop),
+    }
+}
+
+/// Decodes the blob with which the bytes begin into a caller's arrays, and answers how many bytes it
+/// has: the bytes of all values, row by row and the depths innermost, in the bytes of the type,
+/// little-endian and 0 where a pixel is invalid, and a bit for each pixel, row by row and the
+/// highest of each byte first, the bits behind the last pixel 0. How long they have to be the header
+/// says, which is asked first.
+///
+/// No memory is taken for values: a byte for each that is coded by code words, eight for each depth.
+/// Where there is no blob, and but for `Sizes`, the arrays hold anything.
+pub fn decode_over(
+    alloc: Global,
+    blob: &[u8],
+    values: &mut [u8],
+    mask: &mut [u8],
+) -> Result<usize, OverFault>
+    ensures ok { IfOk result (λ size. IsDecodedOver blob.now size values.new mask.new) }
+    ensures stop { IfErr result (λ stop.
+        IsOverStop blob.now (length values.old) (length mask.old) stop) }
+    ensures sizes { IsErrOf result OverFault.Sizes
+        ↔ AskOtherRoom blob.now (length values.old) (length mask.old) }
+{
+    let header = match front_header(blob) {
+        Ok(header) => header,
+        Err(fault) => return Err(OverFault::Blob(fault)),
+    };
+    if !have_room(&header, values.len(), mask.len()) {
+        return Err(OverFault::Sizes);
+    }
+    let size = header.size as usize;
+    if blob.len() < size {
+        return Err(OverFault::Blob(cut(blob)));
+    }
+    match body_over(alloc, &blob[..size], &header, values, mask) {
+        Ok(()) => Ok(size),
+        Err(BodyStop::Fault(fault)) => Err(OverFault::Blob(fault)),
+        Err(BodyStop::OutOfMemory) => Err(OverFault::OutOfMemory),
+    }
+}

@@ -1,0 +1,7 @@
+use Rattle.lerc_encode.proofs.AlikeBlobs.{alike_head}
+use Rattle.lerc_encode.proofs.alike.alike_header.Goals as goal
+
+pub returns : goal.returns
+returns c =
+    alike_head c.args.kind c.args.rows c.args.cols c.args.depth c.args.value c.args.version c.args.step c.requires.shape c.requires.in_range c.valid_of.result c.alike_len.result c.level_of-level.result
+    c.valid_of.ensures c.alike_len.ensures c.level_of-level.ensures.least c.level_of-level.ensures.greatest

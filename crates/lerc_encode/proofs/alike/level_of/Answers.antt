@@ -1,0 +1,15 @@
+use Rattle.std.proofs.Common.{ℤ, ◌∙◌, ap}
+use mir.Syntax.{w64}
+use mir.Val.{to_z, of_z}
+use Rattle.lerc_encode.proofs.AlikeBlobs.{level_bits, level_greatest, level_least}
+use Rattle.lerc_encode.proofs.alike.level_of.Goals as goal
+
+pub returns-clause-least : goal.returns-clause-least
+returns-clause-least c =
+    ap (λ (z : ℤ). to_z w64 (of_z w64 z)) c.unwrap_or.ensures ∙ level_bits c.args.kind c.args.value c.requires.in_range
+    ∙ level_least c.args.kind c.args.rows c.args.cols c.args.depth c.args.value c.requires.shape
+
+pub returns-clause-greatest : goal.returns-clause-greatest
+returns-clause-greatest c =
+    ap (λ (z : ℤ). to_z w64 (of_z w64 z)) c.unwrap_or.ensures ∙ level_bits c.args.kind c.args.value c.requires.in_range
+    ∙ level_greatest c.args.kind c.args.rows c.args.cols c.args.depth c.args.value c.requires.shape

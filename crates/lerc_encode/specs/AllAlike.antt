@@ -1,0 +1,9 @@
+-- A raster whose pixels are all alike.
+use Rattle.std.specs.Prelude.{ℕ, ℤ, Option, Some, None}
+use Rattle.raster_values.specs.declared.kind.PixelType.{PixelType}
+use Rattle.raster_values.specs.Raster.{Pixels, blank, filled}
+
+-- no pixel is valid, or every one, with one value at each depth
+abbrev pub alike : PixelType → ℕ → ℕ → ℕ → Option ℤ → Pixels
+alike kind rows cols depth None = blank kind rows cols depth
+alike kind rows cols depth (Some value) = filled (blank kind rows cols depth) value

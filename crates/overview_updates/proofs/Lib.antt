@@ -1,0 +1,9 @@
+pub mod NextQuarter
+pub mod Still
+pub mod Zips
+pub mod CoarsePlaces
+pub mod Fours
+pub mod SoFar
+pub mod Refusing
+pub mod OneAnswer
+pub mod OneStop

@@ -1,0 +1,15 @@
+use Rattle.std.proofs.Common.{◌≡◌, ◌-◌, IsTrue}
+use Rattle.outside_io.specs.declared.volume.VolFile.TheVariants.{Bundle}
+use Rattle.outside_io.specs.volume.History.{contents}
+use Rattle.overview_updates.specs.inside.SoFar.{AreWaiting}
+use Rattle.overview_updates.proofs.Still.{Stays}
+use Rattle.overview_updates.proofs.places.fill.Given as goal
+
+abbrev pub invariant-loop-waiting : goal.invariant-loop-waiting
+invariant-loop-waiting g l =
+    AreWaiting (g.V.Volume.told l.fn.vol) (contents Bundle (g.V.Volume.history l.fn.vol)) l.asked.quarter l.asked.version l.place l.waiting
+    × ((g.V.Volume.faults l.vol ≡ g.V.Volume.faults l.fn.vol) × ((g.V.Volume.told l.vol ≡ g.V.Volume.told l.fn.vol)
+    × (IsTrue (g.V.Volume.told l.fn.vol) → Stays (g.V.Volume.history l.fn.vol) (g.V.Volume.history l.vol))))
+
+abbrev pub decreases-loop-waiting : goal.decreases-loop-waiting
+decreases-loop-waiting g l = 4096 - l.waiting.place

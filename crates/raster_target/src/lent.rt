@@ -1,0 +1,63 @@
+//! A raster of `raster_values` whose mask and values lie in a caller's arrays.
+
+use crate::target::Target;
+use raster_values::{Lent, PixelType};
+
+impl<'v, 'm> Target for Lent<'v, 'm> {
+    ghost use Rattle.raster_values.specs.Lent.{Frame, IsLent, frame_of, lent_pixels};
+    ghost use Rattle.raster_values.proofs.LentArrays.{lent_raster};
+
+    ghost pixels = { lent_pixels };
+
+    ghost sound = { IsLent };
+
+    ghost Kept = { Frame };
+
+    ghost kept = { frame_of };
+
+    fn kind(&self) -> PixelType {
+        Lent::kind(self)
+    }
+
+    fn rows(&self) -> u32 {
+        Lent::rows(self)
+    }
+
+    fn cols(&self) -> u32 {
+        Lent::cols(self)
+    }
+
+    fn depth(&self) -> u32 {
+        Lent::depth(self)
+    }
+
+    fn block_valid_count(&self, row: u32, col: u32, side: u32) -> usize {
+        Lent::block_valid_count(self, row, col, side)
+    }
+
+    fn marks_from(&self, place: usize, out: &mut [bool]) {
+        Lent::marks_from(self, place, out);
+    }
+
+    fn values_from(&self, place: usize, d: u32, out: &mut [i64]) {
+        Lent::values_from(self, place, d, out);
+    }
+
+    fn pour_block(&mut self, row: u32, col: u32, side: u32, d: u32, values: &[i64]) {
+        Lent::pour_block(self, row, col, side, d, values);
+    }
+
+    fn put_from(&mut self, place: usize, d: u32, values: &[i64]) {
+        Lent::put_from(self, place, d, values);
+    }
+
+    fn fill_valid(&mut self, values: &[i64]) {
+        Lent::fill_valid(self, values);
+    }
+
+    fn pour(&mut self, bytes: &[u8]) {
+        Lent::pour(self, bytes);
+    }
+
+    ghost raster = { lent_raster };
+}

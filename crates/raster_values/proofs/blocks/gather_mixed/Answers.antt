@@ -1,0 +1,17 @@
+use Rattle.std.proofs.Common.{◌+◌, false, get_or, ◌∙◌, ap, arith}
+use mir.Val.{bool_byte}
+use Rattle.raster_values.specs.Distance.{distance_of}
+use Rattle.raster_values.proofs.MixedRuns.{byte_is, mixed_more}
+use Rattle.raster_values.proofs.RunSteps.{length_places}
+use Rattle.raster_values.proofs.blocks.gather_mixed.Goals as goal
+
+pub bounds-out-n : goal.bounds-out-n
+bounds-out-n c =
+    let few = length_places c.args.marks.now c.args.from c.loop-i.i in
+    omega (arith, few, c.loop-i.invariant.end, c.loop-i-test.true, c.requires.room, c.loop-i.auto.out)
+
+pub loop-i-preserved : goal.loop-i-preserved
+loop-i-preserved c =
+    let few = length_places c.args.marks.now c.args.from c.loop-i.i in
+    mixed_more (distance_of c.args.values.now.kind) c.args.depth c.args.d c.args.marks.now c.args.values.now.values c.args.from c.loop-i.i c.args.out.now c.loop-i.out c.args.at c.loop-i.n c.distance_as.result c.from-n.result
+    (omega (arith, few, c.loop-i.invariant.end, c.loop-i-test.true, c.requires.room, c.loop-i.auto.out)) c.distance_as.ensures (c.from-n.ensures ∙ ap bool_byte c.get.ensures ∙ byte_is (get_or c.args.marks.now (c.args.from + c.loop-i.i) false)) c.loop-i.invariant

@@ -1,0 +1,74 @@
+-- A raster that lies in a caller's arrays: a bit for each pixel, row by row and the highest of each
+-- byte first, and the bytes of all values as they lie in a raster, which are 0 where a pixel is
+-- invalid.
+use Rattle.std.specs.Prelude.{ℕ, ◌*◌, List}
+use Rattle.std.specs.Borrow.{GName}
+use Rattle.raster_values.specs.declared.kind.PixelType.{PixelType}
+use Rattle.raster_values.specs.declared.lent.Lent.{Lent}
+use Rattle.raster_values.specs.declared.raster.Raster.TheInside.{Inside}
+use Rattle.raster_values.specs.Order.{marks_in}
+use Rattle.raster_values.specs.Raster.{Pixels}
+use Rattle.raster_values.specs.inside.CellList.{CellList, values_in}
+use Rattle.raster_values.specs.inside.LentBytes.{AreValueBytes}
+use Rattle.raster_values.specs.inside.LentMask.{AreBits}
+use Rattle.raster_values.specs.inside.View.{seen, IsInside}
+
+-- what no call changes: all but the values, and which array these are
+pub record Frame : Type 0 where
+  pub kind : PixelType
+  pub rows : ℕ
+  pub cols : ℕ
+  pub depth : ℕ
+  pub count : ℕ
+  pub valid : ℕ
+  pub mask : List ℕ
+  pub array : GName
+
+abbrev pub frame_of : Lent → Frame
+frame_of t =
+    record {
+      kind = t.kind;
+      rows = t.rows;
+      cols = t.cols;
+      depth = t.depth;
+      count = t.count;
+      valid = t.valid;
+      mask = t.mask.now;
+      array = t.values.ghost_name;
+    }
+
+-- the array of the values, as a caller knows it
+abbrev pub array_of : Lent → GName
+array_of t = t.values.ghost_name
+
+-- the bytes that it has now
+abbrev pub bytes_in : Lent → List ℕ
+bytes_in t = t.values.now
+
+-- the values of all pixels
+abbrev pub lent_cells : Lent → CellList
+lent_cells t = record { kind = t.kind; values = values_in t.kind t.count t.values.now }
+
+abbrev pub AreLentCells : Lent → Type 0
+AreLentCells t = AreValueBytes t.kind t.count t.values.now
+
+-- the arrays as the two vectors of a raster
+abbrev pub inside_of : Lent → Inside
+inside_of t =
+    record {
+      rows = t.rows;
+      cols = t.cols;
+      depth = t.depth;
+      marks = marks_in (t.rows * t.cols) t.mask.now;
+      values = lent_cells t;
+    }
+
+-- the raster
+abbrev pub lent_pixels : Lent → Pixels
+lent_pixels t = seen (inside_of t)
+
+-- what holds of the arrays between calls
+pub record IsLent (t : Lent) : Type 0 where
+  pub inside : IsInside (inside_of t)
+  pub bits : AreBits (t.rows * t.cols) t.valid t.mask.now
+  pub cells : AreLentCells t

@@ -1,0 +1,102 @@
+//! The bits of a mask: for each pixel one, row by row and the highest of each byte first.
+
+ghost use Rattle.std.specs.Prelude.{◌≡◌, ℕ, ◌+◌, ◌*◌, ◌/◌, ◌<◌, ◌≤◌, ◌&&◌, length, get_or, nat_lt, true, false};
+ghost use Rattle.raster_values.specs.Order.{marks_in, mask_bit};
+
+use super::mask::{Run, equal_from, front_bits};
+
+/// Whether bit number k is 1.
+fn bit_at(bytes: &[u8], k: usize) -> bool
+    requires { k / 8 < length bytes.now }
+    ensures { result ≡ mask_bit bytes.now k }
+{
+    (bytes[k / 8] >> (7 - k % 8)) % 2 == 1
+}
+
+/// The first place behind a bit that is `mark`, at most eight further, before which all are.
+fn past(bytes: &[u8], at: usize, limit: usize, mark: bool) -> usize
+    requires order { at < limit }
+    requires few { limit ≤ 16777216 }
+    requires within { limit ≤ 8 * length bytes.now }
+    requires here { mask_bit bytes.now at ≡ mark }
+    ensures from { at < result }
+    ensures within { result ≤ limit }
+    ensures run { (k : ℕ) → at ≤ k → k < result → mask_bit bytes.now k ≡ mark }
+{
+    let byte = bytes[at / 8];
+    limit.min(at + equal_from(byte, at % 8, mark).max(1))
+}
+
+/// Keeps the bits before number `count`, and clears those behind them, which are fewer than eight.
+fn keep_front(bytes: &mut [u8], count: usize)
+    requires few { count ≤ 16777216 }
+    requires size { length bytes.old ≡ (count + 7) / 8 }
+    ensures size { length bytes.new ≡ length bytes.old }
+    ensures bits { (k : ℕ)
+        → mask_bit bytes.new k ≡ (nat_lt k count && mask_bit bytes.old k) }
+{
+    if count % 8 > 0 {
+        bytes[count / 8] = front_bits(bytes[count / 8], count % 8);
+    }
+}
+
+/// Clears the bits from number `count` on, which are fewer than eight: those behind the last pixel
+/// of a mask of so many.
+pub fn clear_spare(bytes: &mut [u8], count: usize)
+    requires few { count ≤ 16777216 }
+    requires size { length bytes.old ≡ (count + 7) / 8 }
+    ensures size { length bytes.new ≡ length bytes.old }
+    ensures bits { (k : ℕ)
+        → mask_bit bytes.new k ≡ (nat_lt k count && mask_bit bytes.old k) }
+    ensures marks { marks_in count bytes.new ≡ marks_in count bytes.old }
+    ensures spare { (k : ℕ) → count ≤ k → mask_bit bytes.new k ≡ false }
+{
+    keep_front(bytes, count);
+}
+
+/// Where the run of bits that are `mark` from `at` on ends, which is looked for before `limit`.
+fn run_end(bytes: &[u8], at: usize, limit: usize, mark: bool) -> usize
+    requires order { at ≤ limit }
+    requires few { limit ≤ 16777216 }
+    requires within { limit ≤ 8 * length bytes.now }
+    ensures from { at ≤ result }
+    ensures within { result ≤ limit }
+    ensures run { (k : ℕ) → at ≤ k → k < result → mask_bit bytes.now k ≡ mark }
+    ensures end { result < limit → mask_bit bytes.now result ≡ mark → ⊥ }
+{
+    let mut end = at;
+    while end < limit && bit_at(bytes, end) == mark {
+        end = past(bytes, end, limit, mark);
+    }
+    end
+}
+
+/// The next run of bits that are 1 from `at` on, before `limit`. It is empty, and at `limit`, where
+/// there is none.
+pub(super) fn run_after(bytes: &[u8], at: usize, limit: usize) -> Run
+    requires order { at ≤ limit }
+    requires few { limit ≤ 16777216 }
+    requires within { limit ≤ 8 * length bytes.now }
+    ensures first { at ≤ result.start }
+    ensures second { result.start ≤ result.end }
+    ensures within { result.end ≤ limit }
+    ensures off { (k : ℕ) → at ≤ k → k < result.start → mask_bit bytes.now k ≡ false }
+    ensures on { (k : ℕ) → result.start ≤ k → k < result.end → mask_bit bytes.now k ≡ true }
+    ensures forth { at < limit → at < result.end }
+{
+    let start = run_end(bytes, at, limit, false);
+    let end = run_end(bytes, start, limit, true);
+    Run { start, end }
+}
+
+/// Copies the bits from `from` on.
+pub(super) fn copy_bits(bytes: &[u8], from: usize, out: &mut [bool])
+    requires few { from + length out.old ≤ 16777216 }
+    requires within { from + length out.old ≤ 8 * length bytes.now }
+    ensures { (i : ℕ) → i < length out.old
+        → get_or out.new i false ≡ mask_bit bytes.now (from + i) }
+{
+    for i in 0..out.len() {
+        out[i] = bit_at(bytes, from + i);
+    }
+}

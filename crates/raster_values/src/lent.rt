@@ -1,0 +1,322 @@
+//! A raster in a caller's arrays.
+
+ghost use Rattle.std.specs.Prelude.{◌≡◌, ◌+◌, ◌-◌, ◌*◌, ◌/◌, ◌<◌, ◌≤◌, ℕ, All, None, drop, false, get_or, is_some, length, pos, true};
+ghost use Rattle.raster_values.specs.PixelType.{InRange, Spells, bytes_of};
+ghost use Rattle.raster_values.specs.Raster.{InShape, IsRaster, IsShape, valid_count};
+ghost use Rattle.raster_values.specs.Block.{PoursBlock, block_count};
+ghost use Rattle.raster_values.specs.Order.{FillsValid, PoursBytes, marks_in, mask_bit};
+ghost use Rattle.raster_values.specs.Flat.{PutsFrom, marks_of, value_in};
+ghost use Rattle.raster_values.specs.Lent.{IsLent, array_of, frame_of, lent_pixels};
+ghost use Rattle.raster_values.specs.inside.CellList.{values_in};
+ghost use Rattle.raster_values.specs.inside.Cleared.{ClearsUnmarked};
+ghost use Rattle.raster_values.specs.inside.LentBytes.{AreValueBytes};
+
+use super::cells::{place, read_pixels, write_values};
+use super::kind::PixelType;
+use super::lent_mask::LentMask;
+use super::raster::edge;
+use super::valued::Valued;
+use super::{blocks, byte_runs, order};
+
+/// A raster in a caller's arrays: its mask, a bit for each pixel, row by row and the highest of each
+/// byte first, stands, and its values are filled in. They lie as those of `Raster::cells` do: row by
+/// row, the depths innermost, in the bytes of the type, little-endian.
+///
+/// `IsLent` holds of it between calls, and `lent_pixels` is the raster.
+#[derive(Drop)]
+pub struct Lent<'v, 'm> {
+    kind: PixelType,
+    rows: u32,
+    cols: u32,
+    depth: u32,
+    // How many values there are, of valid pixels and of invalid ones.
+    count: usize,
+    // How many pixels are valid.
+    valid: usize,
+    mask: &'m [u8],
+    values: &'v mut [u8],
+}
+
+impl<'v, 'm> Valued for Lent<'v, 'm> {
+    ghost use Rattle.raster_values.specs.Lent.{Frame, frame_of, lent_cells, AreLentCells};
+
+    ghost cells = { lent_cells };
+
+    ghost sound = { AreLentCells };
+
+    ghost Kept = { Frame };
+
+    ghost kept = { frame_of };
+
+    fn kind(&self) -> PixelType {
+        self.kind
+    }
+
+    #[inline(always)]
+    fn put_run_as(&mut self, kind: PixelType, at: usize, values: &[i64]) {
+        let from = place(kind, self.count, at);
+        write_values(kind, values, &mut self.values[from..]);
+    }
+
+    fn repeat_run(&mut self, at: usize, to: usize, count: usize) {
+        let from = place(self.kind, self.count, at);
+        let end = place(self.kind, self.count, at + count);
+        let dest = place(self.kind, self.count, to);
+        byte_runs::repeat(self.values, from, end, dest);
+    }
+
+    fn put_bytes(&mut self, at: usize, count: usize, bytes: &[u8]) {
+        let from = place(self.kind, self.count, at);
+        byte_runs::lay(self.values, from, bytes);
+    }
+}
+
+/// Sets the values of the pixels that are not marked to 0, run by run.
+fn clear_unmarked(marks: &LentMask, kind: PixelType, depth: usize, values: &mut [u8])
+    requires few { length marks.now * depth ≤ 16777216 }
+    requires deep { 0 < depth }
+    requires size { length values.old ≡ length marks.now * depth * bytes_of kind }
+    ensures sound { AreValueBytes kind (length marks.now * depth) values.new }
+    ensures cleared { ClearsUnmarked depth (length marks.now) marks.now
+        (values_in kind (length marks.now * depth) values.old)
+        (values_in kind (length marks.now * depth) values.new) }
+{
+    let count = marks.len() * depth;
+    let mut at = 0;
+    while at < marks.len() {
+        let run = marks.next_run(at, marks.len());
+        let from = place(kind, count, at * depth);
+        let end = place(kind, count, run.start * depth);
+        byte_runs::clear(values, from, end - from);
+        at = run.end;
+    }
+}
+
+impl<'v, 'm> Lent<'v, 'm> {
+    /// The raster of a type and a shape whose valid pixels are those whose bits of the mask are 1,
+    /// with the values that the bytes stand for. The values of the others are set to 0, and no other
+    /// byte is touched.
+    pub fn over(
+        kind: PixelType,
+        rows: u32,
+        cols: u32,
+        depth: u32,
+        mask: &'m [u8],
+        values: &'v mut [u8],
+    ) -> Lent<'v, 'm>
+        requires shape { IsShape rows cols depth }
+        requires mask { length mask.now ≡ (rows * cols + 7) / 8 }
+        requires size { length values.old ≡ rows * cols * depth * bytes_of kind }
+        ensures sound { IsLent result }
+        ensures kind { (lent_pixels result).kind ≡ kind }
+        ensures rows { (lent_pixels result).rows ≡ rows }
+        ensures cols { (lent_pixels result).cols ≡ cols }
+        ensures depth { (lent_pixels result).depth ≡ depth }
+        ensures marks { marks_of (lent_pixels result) ≡ marks_in (rows * cols) mask.now }
+        ensures values { (k d : ℕ) → k < rows * cols → d < depth → mask_bit mask.now k ≡ true
+            → Spells kind (drop ((k * depth + d) * bytes_of kind) values.old)
+            (value_in (lent_pixels result) d k) }
+        ensures array { array_of result ≡ values.entry.ghost_name }
+    {
+        let places = rows as usize * cols as usize;
+        let marks = LentMask::over(places, mask);
+        let valid = marks.valid_count();
+        clear_unmarked(&marks, kind, depth as usize, values);
+        Lent {
+            kind,
+            rows,
+            cols,
+            depth,
+            count: places * depth as usize,
+            valid,
+            mask,
+            values,
+        }
+    }
+
+    /// The marks.
+    fn marks(&self) -> LentMask<'m>
+        requires { IsLent self.now }
+        ensures { result ≡ marks_in (self.now.rows * self.now.cols) self.now.mask.now }
+    {
+        LentMask::counted(
+            self.rows as usize * self.cols as usize,
+            self.valid,
+            self.mask,
+        )
+    }
+
+    /// The type of the values.
+    pub fn kind(&self) -> PixelType
+        requires { IsLent self.now }
+        ensures value { result ≡ (lent_pixels self.now).kind }
+        ensures sound { IsRaster (lent_pixels self.now) }
+    {
+        self.kind
+    }
+
+    /// The number of rows, at least 1.
+    pub fn rows(&self) -> u32
+        requires { IsLent self.now }
+        ensures value { result ≡ (lent_pixels self.now).rows }
+        ensures sound { IsRaster (lent_pixels self.now) }
+    {
+        self.rows
+    }
+
+    /// The number of columns, at least 1.
+    pub fn cols(&self) -> u32
+        requires { IsLent self.now }
+        ensures value { result ≡ (lent_pixels self.now).cols }
+        ensures sound { IsRaster (lent_pixels self.now) }
+    {
+        self.cols
+    }
+
+    /// The number of values of a valid pixel, from 1 to 65,536.
+    pub fn depth(&self) -> u32
+        requires { IsLent self.now }
+        ensures value { result ≡ (lent_pixels self.now).depth }
+        ensures sound { IsRaster (lent_pixels self.now) }
+    {
+        self.depth
+    }
+
+    /// How many pixels are valid.
+    pub fn valid_count(&self) -> u32
+        requires { IsLent self.now }
+        ensures value { result ≡ valid_count (lent_pixels self.now) }
+        ensures within { result ≤ (lent_pixels self.now).rows * (lent_pixels self.now).cols }
+    {
+        self.valid as u32
+    }
+
+    /// How many pixels of a block are valid: of the `side` rows and columns from (row, col) on, cut
+    /// off at the raster's lower and right edges.
+    pub fn block_valid_count(&self, row: u32, col: u32, side: u32) -> usize
+        requires sound { IsLent self.now }
+        requires place { InShape (lent_pixels self.now) row col }
+        ensures value { result ≡ block_count (lent_pixels self.now) row col side }
+        ensures within { result ≤ side * side }
+    {
+        let high = edge(side, row, self.rows);
+        let wide = edge(side, col, self.cols);
+        blocks::count_rows(
+            &self.marks(),
+            self.cols as usize,
+            row as usize,
+            col as usize,
+            high as usize,
+            wide as usize,
+        )
+    }
+
+    /// The marks of the pixels from number `place` on: the pixels are numbered row by row, from 0.
+    pub fn marks_from(&self, place: usize, out: &mut [bool])
+        requires sound { IsLent self.now }
+        requires place { place + length out.old
+            ≤ (lent_pixels self.now).rows * (lent_pixels self.now).cols }
+        ensures room { length out.new ≡ length out.old }
+        ensures marks { (i : ℕ) → i < length out.old → get_or out.new i false
+            ≡ is_some (get_or (lent_pixels self.now).pixels (place + i) None) }
+    {
+        self.marks().copy_run(place, out);
+    }
+
+    /// The values at a depth of the pixels from number `place` on, 0 of invalid ones.
+    pub fn values_from(&self, place: usize, d: u32, out: &mut [i64])
+        requires sound { IsLent self.now }
+        requires place { place + length out.old
+            ≤ (lent_pixels self.now).rows * (lent_pixels self.now).cols }
+        requires depth { d < (lent_pixels self.now).depth }
+        ensures room { length out.new ≡ length out.old }
+        ensures values { (i : ℕ) → i < length out.old → get_or out.new i (pos 0)
+            ≡ value_in (lent_pixels self.now) d (place + i) }
+    {
+        read_pixels(
+            self.kind,
+            self.count,
+            &*self.values,
+            place,
+            self.depth as usize,
+            d as usize,
+            out,
+        );
+    }
+
+    /// Gives the valid pixels of a block these values at a depth, row by row. All else stays.
+    pub fn pour_block(&mut self, row: u32, col: u32, side: u32, d: u32, values: &[i64])
+        requires sound { IsLent self.old }
+        requires place { InShape (lent_pixels self.old) row col }
+        requires depth { d < (lent_pixels self.old).depth }
+        requires count { length values.now ≡ block_count (lent_pixels self.old) row col side }
+        requires in_range { All (InRange (lent_pixels self.old).kind) values.now }
+        ensures poured { PoursBlock (lent_pixels self.old) (lent_pixels self.new) row col side d
+            values.now }
+        ensures sound { IsLent self.new }
+        ensures kept { frame_of self.new ≡ frame_of self.old }
+    {
+        let high = edge(side, row, self.rows);
+        let wide = edge(side, col, self.cols);
+        let depth = self.depth;
+        let cols = self.cols;
+        let marks = self.marks();
+        blocks::pour_rows(
+            &marks,
+            depth as usize,
+            d as usize,
+            cols as usize,
+            row as usize,
+            col as usize,
+            high as usize,
+            wide as usize,
+            values,
+            self,
+        );
+    }
+
+    /// Gives the valid ones among the pixels from number `place` on these values at a depth, and
+    /// changes nothing else. The values at the places of invalid pixels are not looked at.
+    pub fn put_from(&mut self, place: usize, d: u32, values: &[i64])
+        requires sound { IsLent self.old }
+        requires place { place + length values.now
+            ≤ (lent_pixels self.old).rows * (lent_pixels self.old).cols }
+        requires depth { d < (lent_pixels self.old).depth }
+        requires in_range { All (InRange (lent_pixels self.old).kind) values.now }
+        ensures put { PutsFrom (lent_pixels self.old) (lent_pixels self.new) place d values.now }
+        ensures sound { IsLent self.new }
+        ensures kept { frame_of self.new ≡ frame_of self.old }
+    {
+        let depth = self.depth;
+        let marks = self.marks();
+        order::put_values(&marks, depth as usize, d as usize, place, values, self);
+    }
+
+    /// Gives each valid pixel this list of values, one for each depth. All else stays.
+    pub fn fill_valid(&mut self, values: &[i64])
+        requires sound { IsLent self.old }
+        requires count { length values.now ≡ (lent_pixels self.old).depth }
+        requires in_range { All (InRange (lent_pixels self.old).kind) values.now }
+        ensures filled { FillsValid (lent_pixels self.old) (lent_pixels self.new) values.now }
+        ensures sound { IsLent self.new }
+        ensures kept { frame_of self.new ≡ frame_of self.old }
+    {
+        let marks = self.marks();
+        order::fill_marked(&marks, values, self);
+    }
+
+    /// Gives the valid pixels the values that the bytes stand for, pixel by pixel and depth
+    /// innermost. All else stays.
+    pub fn pour(&mut self, bytes: &[u8])
+        requires sound { IsLent self.old }
+        requires size { length bytes.now ≡ valid_count (lent_pixels self.old)
+            * (lent_pixels self.old).depth * bytes_of (lent_pixels self.old).kind }
+        ensures poured { PoursBytes (lent_pixels self.old) (lent_pixels self.new) bytes.now }
+        ensures sound { IsLent self.new }
+        ensures kept { frame_of self.new ≡ frame_of self.old }
+    {
+        let depth = self.depth;
+        let marks = self.marks();
+        order::pour_bytes(&marks, depth as usize, bytes, self);
+    }
+}

@@ -1,0 +1,201 @@
+//! The values of all pixels, one behind the other, whoever keeps them.
+
+ghost use Rattle.std.specs.Prelude.{◌≡◌, ◌+◌, ◌-◌, ◌*◌, ◌<◌, ◌≤◌, ◌++◌, All, length, take, drop};
+ghost use Rattle.raster_values.specs.PixelType.{InRange, bytes_of};
+ghost use Rattle.raster_values.specs.inside.CellList.{CellList, values_in};
+ghost use Rattle.raster_values.specs.inside.Ordered.{FillsPixels, PutsPixels};
+
+use super::cells::{Cells, by_kind};
+use super::kind::PixelType;
+
+/// How many values are laid down at once where one list is repeated.
+const SPAN: usize = 8192;
+
+/// Values of one type, kept as the bytes that stand for them.
+pub trait Valued {
+    /// The type and the values.
+    ghost cells: { Self → CellList };
+
+    /// What holds between calls.
+    ghost sound: { Self → Type 0 };
+
+    ghost Kept: { Type 0 };
+
+    /// What no call changes.
+    ghost kept: { Self → Kept };
+
+    /// The type of the values.
+    fn kind(&self) -> PixelType
+        requires { sound self.now }
+        ensures { result ≡ (cells self.now).kind };
+
+    /// Puts a run of values of the type, which is known before, in the place of as many from `at`
+    /// on.
+    fn put_run_as(&mut self, kind: PixelType, at: usize, values: &[i64])
+        requires sound { sound self.old }
+        requires kind { kind ≡ (cells self.old).kind }
+        requires within { at + length values.now ≤ length (cells self.old).values }
+        requires in_range { All (InRange (cells self.old).kind) values.now }
+        ensures put { cells self.new ≡ record (cells self.old) {
+          values = take at (cells self.old).values
+              ++ (values.now ++ drop (at + length values.now) (cells self.old).values);
+        } }
+        ensures sound { sound self.new }
+        ensures kept { kept self.new ≡ kept self.old };
+
+    /// Puts the `count` values from `at` on also in the place of those from `to` on, which stand
+    /// behind them.
+    fn repeat_run(&mut self, at: usize, to: usize, count: usize)
+        requires sound { sound self.old }
+        requires behind { at + count ≤ to }
+        requires within { to + count ≤ length (cells self.old).values }
+        ensures repeated { cells self.new ≡ record (cells self.old) {
+          values = take to (cells self.old).values
+              ++ (take count (drop at (cells self.old).values)
+              ++ drop (to + count) (cells self.old).values);
+        } }
+        ensures sound { sound self.new }
+        ensures kept { kept self.new ≡ kept self.old };
+
+    /// Puts the values that so many values' bytes stand for in the place of as many from `at` on.
+    fn put_bytes(&mut self, at: usize, count: usize, bytes: &[u8])
+        requires sound { sound self.old }
+        requires within { at + count ≤ length (cells self.old).values }
+        requires size { length bytes.now ≡ count * bytes_of (cells self.old).kind }
+        ensures put { cells self.new ≡ record (cells self.old) {
+          values = take at (cells self.old).values
+              ++ (values_in (cells self.old).kind count bytes.now
+              ++ drop (at + count) (cells self.old).values);
+        } }
+        ensures sound { sound self.new }
+        ensures kept { kept self.new ≡ kept self.old };
+}
+
+impl Valued for Cells {
+    ghost cells = { λ c. c };
+
+    ghost sound = { λ c. Unit {0} };
+
+    ghost Kept = { Unit {0} };
+
+    ghost kept = { λ c. tt };
+
+    #[inline(always)]
+    fn kind(&self) -> PixelType {
+        Cells::kind(self)
+    }
+
+    #[inline(always)]
+    fn put_run_as(&mut self, kind: PixelType, at: usize, values: &[i64]) {
+        Cells::put_run_as(self, kind, at, values);
+    }
+
+    #[inline(always)]
+    fn repeat_run(&mut self, at: usize, to: usize, count: usize) {
+        Cells::repeat_run(self, at, to, count);
+    }
+
+    #[inline(always)]
+    fn put_bytes(&mut self, at: usize, count: usize, bytes: &[u8]) {
+        Cells::put_bytes(self, at, count, bytes);
+    }
+}
+
+/// Puts a run of values of the type in the place of as many from `at` on.
+pub fn put_run<V: Valued>(cells: &mut V, at: usize, values: &[i64])
+    requires sound { V.sound cells.old }
+    requires within { at + length values.now ≤ length (V.cells cells.old).values }
+    requires in_range { All (InRange (V.cells cells.old).kind) values.now }
+    ensures put { V.cells cells.new ≡ record (V.cells cells.old) {
+      values = take at (V.cells cells.old).values
+          ++ (values.now ++ drop (at + length values.now) (V.cells cells.old).values);
+    } }
+    ensures sound { V.sound cells.new }
+    ensures kept { V.kept cells.new ≡ V.kept cells.old }
+{
+    by_kind!(cells.kind(), kind => cells.put_run_as(kind, at, values))
+}
+
+/// Puts values of the type at a depth of as many pixels from `first` on, of which each has `depth`
+/// values.
+pub fn put_pixels<V: Valued>(cells: &mut V, first: usize, depth: usize, d: usize, values: &[i64])
+    requires sound { V.sound cells.old }
+    requires few { length (V.cells cells.old).values ≤ 16777216 }
+    requires depth { d < depth }
+    requires within { (first + length values.now) * depth ≤ length (V.cells cells.old).values }
+    requires in_range { All (InRange (V.cells cells.old).kind) values.now }
+    ensures kind { (V.cells cells.new).kind ≡ (V.cells cells.old).kind }
+    ensures in_range { All (InRange (V.cells cells.old).kind) (V.cells cells.old).values
+        → All (InRange (V.cells cells.old).kind) (V.cells cells.new).values }
+    ensures size { length (V.cells cells.new).values ≡ length (V.cells cells.old).values }
+    ensures put { PutsPixels depth d first (length values.now) values.now
+        (V.cells cells.old).values (V.cells cells.new).values }
+    ensures sound { V.sound cells.new }
+    ensures kept { V.kept cells.new ≡ V.kept cells.old }
+{
+    if depth == 1 {
+        return put_run(cells, first, values);
+    }
+    by_kind!(cells.kind(), kind => put_pixels_as(cells, kind, first, depth, d, values))
+}
+
+/// Does what `put_pixels` does, for a type that is known before.
+#[inline(always)]
+fn put_pixels_as<V: Valued>(
+    cells: &mut V,
+    kind: PixelType,
+    first: usize,
+    depth: usize,
+    d: usize,
+    values: &[i64],
+)
+    requires sound { V.sound cells.old }
+    requires kind { kind ≡ (V.cells cells.old).kind }
+    requires few { length (V.cells cells.old).values ≤ 16777216 }
+    requires depth { d < depth }
+    requires within { (first + length values.now) * depth ≤ length (V.cells cells.old).values }
+    requires in_range { All (InRange (V.cells cells.old).kind) values.now }
+    ensures kind { (V.cells cells.new).kind ≡ (V.cells cells.old).kind }
+    ensures in_range { All (InRange (V.cells cells.old).kind) (V.cells cells.old).values
+        → All (InRange (V.cells cells.old).kind) (V.cells cells.new).values }
+    ensures size { length (V.cells cells.new).values ≡ length (V.cells cells.old).values }
+    ensures put { PutsPixels depth d first (length values.now) values.now
+        (V.cells cells.old).values (V.cells cells.new).values }
+    ensures sound { V.sound cells.new }
+    ensures kept { V.kept cells.new ≡ V.kept cells.old }
+{
+    for (i, value) in values.iter().enumerate() {
+        cells.put_run_as(kind, (first + i) * depth + d, &[*value]);
+    }
+}
+
+/// Gives each of `count` pixels from `first` on this list of values.
+pub fn fill_pixels<V: Valued>(cells: &mut V, first: usize, count: usize, pixel: &[i64])
+    requires sound { V.sound cells.old }
+    requires few { length (V.cells cells.old).values ≤ 16777216 }
+    requires depth { 0 < length pixel.now }
+    requires within { (first + count) * length pixel.now ≤ length (V.cells cells.old).values }
+    requires in_range { All (InRange (V.cells cells.old).kind) pixel.now }
+    ensures kind { (V.cells cells.new).kind ≡ (V.cells cells.old).kind }
+    ensures in_range { All (InRange (V.cells cells.old).kind) (V.cells cells.old).values
+        → All (InRange (V.cells cells.old).kind) (V.cells cells.new).values }
+    ensures size { length (V.cells cells.new).values ≡ length (V.cells cells.old).values }
+    ensures filled { FillsPixels first count pixel.now (V.cells cells.old).values
+        (V.cells cells.new).values }
+    ensures sound { V.sound cells.new }
+    ensures kept { V.kept cells.new ≡ V.kept cells.old }
+{
+    if count == 0 {
+        return;
+    }
+    let depth = pixel.len();
+    let span = (SPAN / depth).max(1);
+    let at = first * depth;
+    put_run(cells, at, pixel);
+    let mut done = 1;
+    while done < count {
+        let more = done.min(count - done).min(span);
+        cells.repeat_run(at, at + done * depth, more * depth);
+        done += more;
+    }
+}

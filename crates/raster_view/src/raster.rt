@@ -1,0 +1,59 @@
+//! A raster of `raster_values`, which keeps its values itself.
+
+ghost use Rattle.std.specs.Prelude.{◌≡◌};
+ghost use Rattle.raster_values.specs.Raster.{Pixels};
+
+use crate::view::View;
+use raster_values::{PixelType, Raster};
+
+impl View for Raster {
+    ghost pixels = { λ r. r };
+
+    fn kind(&self) -> PixelType {
+        Raster::kind(self)
+    }
+
+    fn rows(&self) -> u32 {
+        Raster::rows(self)
+    }
+
+    fn cols(&self) -> u32 {
+        Raster::cols(self)
+    }
+
+    fn depth(&self) -> u32 {
+        Raster::depth(self)
+    }
+
+    fn valid_count(&self) -> u32 {
+        Raster::valid_count(self)
+    }
+
+    fn gather_distances(&self, row: u32, col: u32, side: u32, d: u32, out: &mut [u32]) -> usize {
+        Raster::gather_distances(self, row, col, side, d, out)
+    }
+
+    fn range(&self, d: u32) -> Option<(i64, i64)> {
+        Raster::range(self, d)
+    }
+
+    fn marks_from(&self, place: usize, out: &mut [bool]) {
+        Raster::marks_from(self, place, out);
+    }
+
+    fn values_from(&self, place: usize, d: u32, out: &mut [i64]) {
+        Raster::values_from(self, place, d, out);
+    }
+
+    fn value_bytes(&self, out: &mut [u8]) {
+        Raster::value_bytes(self, out);
+    }
+
+    fn mask_bytes(&self, out: &mut [u8]) {
+        Raster::mask_bytes(self, out);
+    }
+
+    fn cells(&self) -> &[u8] {
+        Raster::cells(self)
+    }
+}
