@@ -4,18 +4,10 @@
 // was written to before. Each library decodes the other's blobs too, to the same values and mask; where it does not,
 // or a value is further off than the error, the program ends with 1.
 // compare ROUNDS [WORD]: the sets whose names have the word in them, else all.
-#include "sets.h"
+#include "calls.h"
 #include <Lerc_c_api.h>
-#include <cstdio>
-#include <cstdlib>
-#include <ctime>
 
 namespace {
-
-[[noreturn]] void fail(const std::string &why) {
-    std::fprintf(stderr, "bench: %s\n", why.c_str());
-    std::exit(1);
-}
 
 // The blobs of a set, each in a room of its own in one array.
 struct Blobs {
@@ -26,7 +18,7 @@ struct Blobs {
         size_t end = 0;
         for (const Raster &r : rasters) {
             starts.push_back(end);
-            end += futskheri_greatest_size(r.kind, r.rows, r.cols, r.depth) + 1000;
+            end += room_for(r);
         }
         room.assign(end, 1);
         starts.push_back(end);
@@ -43,16 +35,7 @@ struct Blobs {
     }
 };
 
-// ---- the two libraries
-
-size_t ours_encode(const Raster &r, uint32_t error, uint8_t *out, size_t room) {
-    uint64_t size = 0;
-    uint32_t status = futskheri_encode(r.kind, r.rows, r.cols, r.depth, 4, error, r.values.data(), r.values.size(),
-                                       r.mask.data(), r.is_masked ? r.mask.size() : 0, out, room, &size);
-    if (status != FUTSKHERI_OK)
-        fail("futskheri_encode answers " + std::to_string(status));
-    return size;
-}
+// ---- Esri's library
 
 size_t theirs_encode(const Raster &r, uint32_t error, uint8_t *out, size_t room) {
     unsigned int size = 0;
@@ -60,14 +43,6 @@ size_t theirs_encode(const Raster &r, uint32_t error, uint8_t *out, size_t room)
                               r.is_masked ? r.valid.data() : nullptr, error, out, unsigned(room), &size) != 0)
         fail("lerc_encodeForVersion fails");
     return size;
-}
-
-void ours_decode(const uint8_t *blob, size_t size, Raster &out) {
-    futskheri_fault fault{};
-    uint32_t status = futskheri_decode_over(blob, size, out.values.data(), out.values.size(), out.mask.data(),
-                                            out.mask.size(), &fault);
-    if (status != FUTSKHERI_OK)
-        fail("futskheri_decode_over answers " + std::to_string(status) + ", reason " + std::to_string(fault.reason));
 }
 
 void theirs_decode(const uint8_t *blob, size_t size, Raster &out) {
@@ -127,13 +102,6 @@ void check_blobs(const std::vector<Raster> &given, Blobs &blobs, uint32_t error)
 struct Times {
     double encode = 1e9, decode = 1e9;
 };
-
-// The processor time of this program so far. Both libraries work in the calling thread.
-double seconds() {
-    timespec now;
-    clock_gettime(CLOCK_PROCESS_CPUTIME_ID, &now);
-    return double(now.tv_sec) + double(now.tv_nsec) / 1e9;
-}
 
 template <class Encode, class Decode>
 void one_round(const std::vector<Raster> &rasters, uint32_t error, Encode encode, Decode decode,

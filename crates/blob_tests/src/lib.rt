@@ -19,6 +19,8 @@ mod decoding;
 #[cfg(test)]
 mod encoding;
 #[cfg(test)]
+mod few_values;
+#[cfg(test)]
 mod fixtures;
 #[cfg(test)]
 mod grids;

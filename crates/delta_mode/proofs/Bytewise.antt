@@ -1,28 +1,22 @@
--- Full rasters of one depth, byte by byte.
-use Rattle.std.proofs.Common.{◌≡◌, ◌≢◌, ℕ, zero, suc, ℤ, pos, negsuc, ◌+ℤ◌, ◌-ℤ◌, ◌≤ℤ◌, ◌+◌, ◌-◌, ◌*◌, ◌%◌, ◌<◌, ◌≤◌, Bool, true, false, cond, nat_lt, nat_le, List, [], ◌∷◌, ◌++◌, length, get_or, map, refl, sym, ap, ◌∙◌, arith, ◌⊎◌, inl, inr, add-one}
-use Rattle.std.specs.Prelude.{unsigned_abs, ◌&&◌, is_some}
-use Rattle.std.proofs.lemmas.Bool.{cases_lt, leb-true, le-leb}
+-- Full rasters, byte by byte.
+use Rattle.std.proofs.Common.{◌≡◌, ◌≢◌, ℕ, zero, suc, ℤ, pos, negsuc, ◌+ℤ◌, ◌-ℤ◌, ◌≤ℤ◌, ◌+◌, ◌-◌, ◌*◌, ◌%◌, ◌<◌, ◌≤◌, Bool, true, false, cond, nat_lt, nat_le, List, [], ◌∷◌, ◌++◌, map, refl, sym, ap, ◌∙◌, arith, ◌⊎◌, inl, inr, add-one}
+use Rattle.std.specs.Prelude.{unsigned_abs, ◌&&◌}
+use Rattle.std.proofs.lemmas.Bool.{cases_lt}
 use Rattle.std.proofs.lemmas.Bool.Decides.{nat_tests}
 use Rattle.std.proofs.lemmas.Int.{ints}
-use Rattle.std.proofs.lemmas.List.{get_or-map}
 use Rattle.std.proofs.lemmas.List.Concat.{flat_map-cons}
-use Rattle.std.proofs.lemmas.List.Sums.{count_by-le-length}
-use Rattle.std.proofs.Math.Nat.{mod-add-mod, mod-eq_of_lt, mul-le-mul, mul-le-mul_left, mul-mod_left, add-mod_right}
+use Rattle.std.proofs.Math.Nat.{mod-add-mod, mod-eq_of_lt, mul-mod_left, add-mod_right}
 use Rattle.raster_values.specs.declared.kind.PixelType.{PixelType}
 use Rattle.raster_values.specs.declared.kind.PixelType.TheVariants.{I8, U8}
-use Rattle.raster_values.specs.PixelType.{InRange, bytes_of, value_bytes}
-use Rattle.raster_values.specs.Raster.{Pixels, IsRaster, valid_count}
-use Rattle.raster_values.specs.Flat.{AllStand, all_values, value_in}
+use Rattle.raster_values.specs.PixelType.{InRange, value_bytes}
 use Rattle.raster_values.specs.Grid.{values_bytes}
 use Rattle.delta_mode.specs.Symbols.{IsByteType, bias, symbol_of}
-use Rattle.delta_mode.specs.Deltas.{deltas, is_valid, last_value, predictor}
-use Rattle.delta_mode.specs.inside.Pieces.{rank, AreCoded}
-use Rattle.delta_mode.specs.inside.Bytewise.{byte_of, wrapped, byte_above, byte_before}
-use Rattle.delta_mode.proofs.Marks.{value_in_range, zero_in_range}
+use Rattle.delta_mode.specs.Deltas.{last_value, predictor}
+use Rattle.delta_mode.specs.inside.Pieces.{rank}
+use Rattle.delta_mode.specs.inside.Bytewise.{byte_of, wrapped}
 use Rattle.delta_mode.proofs.Numbers.{by_byte, low_bias, symbol-is, lifted}
-use Rattle.delta_mode.proofs.Predictors.{last-zero, predictor-is, predictor_has}
+use Rattle.delta_mode.proofs.Predictors.{last-zero, predictor-is}
 use Rattle.delta_mode.proofs.Pieces.{rank_on}
-use Rattle.delta_mode.proofs.WholeDepth.{rank_all, coded_all}
 
 -- ---- a byte for each value
 
@@ -62,7 +56,7 @@ by_bytes b v p x y m low hv hp e = by hv.is hp.is
     by (inr f) (inr g) = turns 2 (omega (arith, ints, e, f, g))
 
 -- the symbol of a difference, by bytes
-wrapped_symbol : (kind : PixelType) (v p : ℤ) → IsByteType kind → InRange kind v → InRange kind p → symbol_of kind (v -ℤ p) ≡ wrapped (bias kind) (byte_of v) (byte_of p)
+pub wrapped_symbol : (kind : PixelType) (v p : ℤ) → IsByteType kind → InRange kind v → InRange kind p → symbol_of kind (v -ℤ p) ≡ wrapped (bias kind) (byte_of v) (byte_of p)
 wrapped_symbol kind v p byte hv hp =
     let m = unsigned_abs ((v -ℤ p) +ℤ pos (bias kind + 512)) in
     let near = by_byte (λ k. InRange k v → InRange k p → negsuc 511 ≤ℤ (v -ℤ p)) (λ hv hp. omega (arith, ints, hv.0, hp.1)) (λ hv hp. omega (arith, ints, hv.0, hp.1)) kind byte hv hp in
@@ -74,19 +68,10 @@ wrapped_symbol kind v p byte hv hp =
 one_byte : (kind : PixelType) (v : ℤ) → IsByteType kind → value_bytes kind v ≡ byte_of v ∷ []
 one_byte kind v byte = by_byte (λ k. value_bytes k v ≡ byte_of v ∷ []) refl refl kind byte
 
-bytes_map : (kind : PixelType) (vs : List ℤ) → IsByteType kind → values_bytes kind vs ≡ map byte_of vs
+pub bytes_map : (kind : PixelType) (vs : List ℤ) → IsByteType kind → values_bytes kind vs ≡ map byte_of vs
 bytes_map kind [] byte = refl
 bytes_map kind (v ∷ vs) byte =
     flat_map-cons (value_bytes kind) v vs ∙ ap (λ (bs : List ℕ). bs ++ values_bytes kind vs) (one_byte kind v byte) ∙ ap (λ (bs : List ℕ). byte_of v ∷ bs) (bytes_map kind vs byte)
-
-pub cell_at : (r : Pixels) (bytes : List ℕ) (d : ℕ) → AllStand r → IsByteType r.kind → r.depth ≡ 1 → d < r.depth → bytes ≡ values_bytes r.kind (all_values r)
-    → (k : ℕ) → k < r.rows * r.cols → get_or bytes k 0 ≡ byte_of (value_in r d k)
-cell_at r bytes d all byte one below is k lt =
-    let at : k ≡ k * r.depth + d = (let m : k * r.depth ≡ k * 1 = ap (λ n. k * n) one in omega (arith, m, one, below)) in
-    let size : length (all_values r) ≡ r.rows * r.cols * 1 = all.size ∙ ap (λ n. r.rows * r.cols * n) one in
-    ap (λ (bs : List ℕ). get_or bs k 0) (is ∙ bytes_map r.kind (all_values r) byte)
-    ∙ get_or-map byte_of (all_values r) k (pos 0) 0 (omega (arith, size, lt))
-    ∙ ap byte_of (ap (λ n. get_or (all_values r) n (pos 0)) at ∙ all.each k d lt below)
 
 -- ---- the first column
 
@@ -109,16 +94,6 @@ column_one cols at k e from to is =
 pub not_first : (cols at k : ℕ) → at % cols ≡ 0 → 0 < k % cols → k ≢ at
 not_first cols at k e some is = let same : k % cols ≡ 0 = ap (λ n. n % cols) is ∙ e in omega (arith, some, same)
 
-pub above_none : (cols : ℕ) (bytes : List ℕ) → 0 < cols → byte_above cols bytes 0 ≡ 0
-above_none cols bytes some = by (nat_le cols 0) refl
-  where
-    by : (b : Bool) → nat_le cols 0 ≡ b → cond (nat_le cols 0) (get_or bytes (0 - cols) 0) 0 ≡ 0
-    by true e = absurd (let le = leb-true cols 0 e in omega (arith, le, some))
-    by false e = ap (λ b. cond b (get_or bytes (0 - cols) 0) 0) e
-
-pub above_some : (cols : ℕ) (bytes : List ℕ) (k : ℕ) → cols ≤ k → byte_above cols bytes k ≡ get_or bytes (k - cols) 0
-above_some cols bytes k le = ap (λ b. cond b (get_or bytes (k - cols) 0) 0) (le-leb cols k le)
-
 -- ---- full rasters
 
 rank_most : (mark : ℕ → Bool) (n : ℕ) → rank mark n ≤ n
@@ -128,7 +103,7 @@ rank_most mark (suc n) = let before = rank_most mark n in elim (mark n) as (λ b
   | false ↦ omega (arith, before)
 ]
 
-rank_full : (mark : ℕ → Bool) (n : ℕ) → rank mark n ≡ n → (k : ℕ) → k < n → mark k ≡ true
+pub rank_full : (mark : ℕ → Bool) (n : ℕ) → rank mark n ≡ n → (k : ℕ) → k < n → mark k ≡ true
 rank_full mark zero all k lt = absurd (omega (arith, lt))
 rank_full mark (suc n) all k lt = by (mark n) refl (λ before below. rank_full mark n before k below)
   where
@@ -143,37 +118,14 @@ rank_full mark (suc n) all k lt = by (mark n) refl (λ before below. rank_full m
         let before : rank mark n ≡ suc n = sym (ap (λ b. cond b (rank mark n + 1) (rank mark n)) off) ∙ all in
         absurd (omega (arith, before, rank_most mark n))
 
-rank_at : (mark : ℕ → Bool) (n : ℕ) → ((k : ℕ) → k < n → mark k ≡ true) → (k : ℕ) → k ≤ n → rank mark k ≡ k
+pub rank_at : (mark : ℕ → Bool) (n : ℕ) → ((k : ℕ) → k < n → mark k ≡ true) → (k : ℕ) → k ≤ n → rank mark k ≡ k
 rank_at mark n each zero le = refl
 rank_at mark n each (suc k) le =
     ap (rank mark) (sym (add-one k)) ∙ rank_on mark k (each k (omega (arith, le))) ∙ (let before = rank_at mark n each k (omega (arith, le)) in omega (arith, before))
 
--- a raster that has as many valid pixels as values is full, and has one depth
-pub record IsFull (r : Pixels) : Type 0 where
-  pub one : r.depth ≡ 1
-  pub all : valid_count r ≡ r.rows * r.cols
-
-pub is_full : (r : Pixels) (size : ℕ) → IsRaster r → IsByteType r.kind → size ≡ r.rows * r.cols * r.depth * bytes_of r.kind → size ≡ valid_count r → IsFull r
-is_full r size sound byte is e =
-    let places = r.rows * r.cols in
-    let most : valid_count r ≤ places = (let le = count_by-le-length is_some r.pixels in omega (arith, le, sound.places)) in
-    let plain : size ≡ places * r.depth = is ∙ ap (λ n. places * r.depth * n) byte ∙ (let n : places * r.depth * 1 ≡ places * r.depth = omega arith in n) in
-    let some : 0 < places = positive r.rows r.cols sound.shape.rows_above sound.shape.cols_above in
-    let one : r.depth ≡ 1 = one_of places r.depth size some sound.shape.depth_above plain (omega (arith, e, most)) in
-    record { one = one; all = sym e ∙ plain ∙ ap (λ n. places * n) one ∙ (let n : places * 1 ≡ places = omega arith in n) }
-  where
-    positive : (a b : ℕ) → 0 < a → 0 < b → 0 < a * b
-    positive a b ha hb = let m : 1 * 1 ≤ a * b = mul-le-mul {n₁ = 1} {m₁ = 1} {n₂ = a} {m₂ = b} (omega (arith, ha)) (omega (arith, hb)) in omega (arith, m)
-
-    one_of : (n d size : ℕ) → 0 < n → 0 < d → size ≡ n * d → size ≤ n → d ≡ 1
-    one_of n d size hn hd e le = elim (cases_lt 1 d) [
-      | inl more ↦ absurd (let m : n * 2 ≤ n * d = mul-le-mul_left n (omega (arith, more)) in omega (arith, m, e, le, hn))
-      | inr few ↦ omega (arith, few, hd)
-    ]
-
 -- ---- predictors of full rasters
 
-full_predictor : (cols : ℕ) (valid : ℕ → Bool) (value : ℕ → ℤ) (n k : ℕ) → 0 < cols → ((j : ℕ) → j < n → valid j ≡ true) → k < n
+pub full_predictor : (cols : ℕ) (valid : ℕ → Bool) (value : ℕ → ℤ) (n k : ℕ) → 0 < cols → ((j : ℕ) → j < n → valid j ≡ true) → k < n
     → predictor cols valid value k ≡ cond (nat_lt 0 (k % cols)) (value (k - 1)) (cond (nat_le cols k) (value (k - cols)) (pos 0))
 full_predictor cols valid value n k some each lt =
     predictor-is cols valid value k ∙ by (nat_lt 0 (k % cols)) (nat_le cols k) refl refl
@@ -209,35 +161,3 @@ full_predictor cols valid value n k some each lt =
 
             small : (k cols : ℕ) → k % cols ≡ 0 → k < cols → k ≡ 0
             small k cols e lt = sym (mod-eq_of_lt lt) ∙ e
-
--- the byte before each is that of its predictor
-before_is : (cols : ℕ) (valid : ℕ → Bool) (value : ℕ → ℤ) (bytes : List ℕ) (n k : ℕ) → 0 < cols → ((j : ℕ) → j < n → valid j ≡ true) → ((j : ℕ) → j < n → get_or bytes j 0 ≡ byte_of (value j)) → k < n
-    → byte_before cols bytes k ≡ byte_of (predictor cols valid value k)
-before_is cols valid value bytes n k some each cells lt =
-    by (nat_lt 0 (k % cols)) (nat_le cols k)
-    ∙ ap byte_of (sym (full_predictor cols valid value n k some each lt))
-  where
-    by : (a b : Bool) → cond a (get_or bytes (k - 1) 0) (cond b (get_or bytes (k - cols) 0) 0) ≡ byte_of (cond a (value (k - 1)) (cond b (value (k - cols)) (pos 0)))
-    by true b = cells (k - 1) (omega (arith, lt))
-    by false true = cells (k - cols) (omega (arith, lt))
-    by false false = refl
-
--- symbols byte by byte are those of the depth
-pub full_deltas : (r : Pixels) (d : ℕ) (bytes out : List ℕ) → IsRaster r → AllStand r → IsByteType r.kind → IsFull r → d < r.depth → bytes ≡ values_bytes r.kind (all_values r) → length out ≡ r.rows * r.cols
-    → ((k : ℕ) → k < r.rows * r.cols → get_or out k 0 ≡ wrapped (bias r.kind) (get_or bytes k 0) (byte_before r.cols bytes k)) → out ≡ deltas r d
-full_deltas r d bytes out sound all byte full below is long each =
-    let n = r.rows * r.cols in
-    let valid = is_valid r in
-    let value = value_in r d in
-    let ranks : rank valid n ≡ n = rank_all r sound ∙ full.all in
-    let on = rank_full valid n ranks in
-    let cells = cell_at r bytes d all byte full.one below is in
-    let some = sound.shape.cols_above in
-    let coded : AreCoded r.kind r.cols valid value 0 n out = record {
-      each = λ k from lt mark.
-          let fits : InRange r.kind (predictor r.cols valid value k) = predictor_has (InRange r.kind) r.cols valid value k some (zero_in_range r.kind) (λ j j_lt. value_in_range r d j sound) in
-          wrapped_symbol r.kind (value k) (predictor r.cols valid value k) byte (value_in_range r d k sound) fits
-          ∙ (λ i. wrapped (bias r.kind) (sym (cells k lt) i) (sym (before_is r.cols valid value bytes n k some on cells lt) i))
-          ∙ sym (each k lt) ∙ ap (λ m. get_or out m 0) (sym (rank_at valid n on k (omega (arith, lt))));
-    } in
-    coded_all r.kind r.cols valid value out n (long ∙ sym ranks) coded

@@ -24,7 +24,7 @@ pub record InPiece (cols place n : ℕ) (valid : ℕ → Bool) (value : ℕ → 
   pub aboves : (i : ℕ) → i < n → up i ≡ true → above i ≡ value (place + i - cols)
   pub nows : (i : ℕ) → i < n → mark i ≡ true → now i ≡ value (place + i)
 
-column : (place i cols : ℕ) → 0 < cols → place % cols + i < cols → (place + i) % cols ≡ place % cols + i
+pub column : (place i cols : ℕ) → 0 < cols → place % cols + i < cols → (place + i) % cols ≡ place % cols + i
 column place i cols some lt = grind arith
 
 nat_lt_true : (m : ℕ) → 0 < m → nat_lt 0 m ≡ true

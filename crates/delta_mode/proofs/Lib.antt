@@ -7,6 +7,9 @@ mod Pieces
 mod Kernels
 mod InPieces
 mod WholeDepth
+mod Sources
 mod Bytewise
+mod Strided
+mod EvenPieces
 mod Turning
 pub mod Existence

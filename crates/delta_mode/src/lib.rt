@@ -7,11 +7,16 @@
 
 mod above;
 mod depth;
+mod even;
 mod full;
 mod laws;
 mod plain;
+mod source;
+mod taking;
 mod walk;
 
-pub use depth::{deltas_of, undelta};
+pub use depth::deltas_of;
 pub use laws::{symbols_have_a_raster, symbols_have_one_depth, symbols_have_one_raster};
 pub use plain::{plain_of, unplain};
+pub use source::SymbolSource;
+pub use taking::{undelta, undelta_from};

@@ -25,7 +25,7 @@ pub(super) struct Walk {
 }
 
 /// What is added to a number of the type, so that it is not below 0.
-fn bias(kind: PixelType) -> i64
+pub(super) fn bias(kind: PixelType) -> i64
     ensures { result ≡ pos (bias kind) }
 {
     match kind {
@@ -47,7 +47,7 @@ fn modulo_256(number: i64) -> i64
 }
 
 /// The symbol of a value less its predictor.
-fn symbol(bias: i64, value: i64, predictor: i64) -> u8
+pub(super) fn symbol(bias: i64, value: i64, predictor: i64) -> u8
     requires bias { IsSmall bias }
     requires value { IsSmall value }
     requires predictor { IsSmall predictor }
@@ -58,7 +58,7 @@ fn symbol(bias: i64, value: i64, predictor: i64) -> u8
 
 /// The predictor of a pixel: the value to the left where that is valid, which is then the last one,
 /// else the one above where that is valid, else the last one.
-fn predicted(left: bool, up: bool, above: i64, last: i64) -> i64
+pub(super) fn predicted(left: bool, up: bool, above: i64, last: i64) -> i64
     ensures { result ≡ predicted_by left up above last }
 {
     if !left && up { above } else { last }

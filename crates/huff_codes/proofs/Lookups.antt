@@ -116,14 +116,16 @@ put_two out i a b n room few =
     ∙ take-append-add (take i out) (a ∷ (b ∷ [])) n
 
 -- one step by an entry
-pub step_reads : (codes : List (List Bool)) (bytes out : List ℕ) (n : ℕ) (c : Cursor) (e : Entry) → c.count + 2 ≤ length out → e.count ≤ 2 → e.length ≤ 11 → IsEntry codes (c.window / 2 ^ 53) e
-    → IsReading codes bytes out (n + 11) c
-    → IsReading codes bytes (slice_set (slice_set out c.count e.first) (c.count + 1) e.second) n (record { window = c.window * 2 ^ e.length % 2 ^ 64; bit = c.bit + e.length; count = c.count + e.count })
-step_reads codes bytes out n c e room few low is h =
+pub step_reads : (codes : List (List Bool)) (bytes before out : List ℕ) (n : ℕ) (c : Cursor) (e : Entry) → c.count + 2 ≤ length out → e.count ≤ 2 → e.length ≤ 11 → IsEntry codes (c.window / 2 ^ 53) e
+    → IsReading codes bytes before out (n + 11) c
+    → IsReading codes bytes before (slice_set (slice_set out c.count e.first) (c.count + 1) e.second) n (record { window = c.window * 2 ^ e.length % 2 ^ 64; bit = c.bit + e.length; count = c.count + e.count })
+step_reads codes bytes before out n c e room few low is h =
     let left = drop c.bit (word_bits bytes) in
     let new = slice_set (slice_set out c.count e.first) (c.count + 1) e.second in
-    let reached = reach_all codes bytes (take c.count out) (symbols_of e) c.bit e.length h.reached is.coded (entry_next codes n c.window left e h.seen is) is.takes in record {
-      reached = subst (λ (xs : List ℕ). HaveReached codes bytes xs (c.bit + e.length)) (sym (put_two out c.count e.first e.second e.count room few)) reached;
+    let reached = reach_all codes bytes (before ++ take c.count out) (symbols_of e) c.bit e.length h.reached is.coded (entry_next codes n c.window left e h.seen is) is.takes in
+    let all : before ++ take (c.count + e.count) new ≡ (before ++ take c.count out) ++ symbols_of e =
+    ap (λ (xs : List ℕ). before ++ xs) (put_two out c.count e.first e.second e.count room few) ∙ sym (append_assoc before (take c.count out) (symbols_of e)) in record {
+      reached = subst (λ (xs : List ℕ). HaveReached codes bytes xs (c.bit + e.length)) (sym all) reached;
       seen = subst (IsSeen n (c.window * 2 ^ e.length % 2 ^ 64)) (drop-drop e.length c.bit (word_bits bytes))
           (seen_behind n e.length c.window left (seen_less (n + e.length) (n + 11) c.window left (omega arith) h.seen));
     }

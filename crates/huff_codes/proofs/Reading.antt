@@ -1,6 +1,6 @@
 -- Reading symbols one after the other.
 use Rattle.std.proofs.Common.{◌≡◌, ℕ, ◌+◌, ◌*◌, ◌/◌, ◌<◌, ◌≤◌, Bool, List, [], ◌∷◌, ◌++◌, length, take, drop, refl, sym, ap, ◌∙◌, subst, inl, inr, arith}
-use Rattle.std.proofs.lemmas.List.{length-append, length-take-le, take_at, take-take, take-append-drop, drop_at, drop-drop, append_assoc, append-nil}
+use Rattle.std.proofs.lemmas.List.{length-append, length-drop, length-take-le, take_at, take-take, take-append-drop, drop_at, drop-drop, append_assoc, append-nil}
 use Rattle.std.proofs.lemmas.List.Elements.{All-nil, All-push}
 use Rattle.huff_codes.specs.Bits.{word_bits}
 use Rattle.huff_codes.specs.Codes.{code_at, HasCode}
@@ -56,6 +56,11 @@ reach_more codes bytes symbols bit s size h next =
           ∙ ap (λ (bs : List Bool). bs ++ rest) (sym (joined_codes-push codes symbols s))
           ∙ ap (λ (bs : List Bool). joined_codes codes (symbols ++ s ∷ []) ++ bs) (sym after);
     }
+
+-- the code that stands next lies within the whole words
+pub next_within : (codes : List (List Bool)) (bytes : List ℕ) (bit s size : ℕ) → bit ≤ 32 * (length bytes / 4) → IsNext codes (drop bit (word_bits bytes)) s size → bit + size ≤ 32 * (length bytes / 4)
+next_within codes bytes bit s size within next =
+    omega (arith, within, next.takes, ap length next.front.1, length-append (code_at codes s) next.front.0, length-drop bit (word_bits bytes), length-word_bits bytes)
 
 pub are_words : (codes : List (List Bool)) (bytes symbols : List ℕ) (bit used : ℕ) → HaveReached codes bytes symbols bit → used ≡ (bit + 31) / 32 * 4 + 4 → used ≤ length bytes
     → AreWords codes (length symbols) (take used bytes) symbols

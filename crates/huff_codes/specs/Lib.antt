@@ -9,6 +9,7 @@ pub mod Counts
 pub mod Turns
 pub mod Table
 pub mod Prefixes
+pub mod Readers
 pub mod Written
 pub mod Laws
 pub mod inside

@@ -16,6 +16,7 @@ mod laws;
 mod lengths;
 mod lookup;
 mod prefixes;
+mod reader;
 mod table;
 mod word_pairs;
 mod words;
@@ -32,6 +33,7 @@ pub use laws::{
 };
 pub use lengths::Lengths;
 pub use prefixes::{Look, Prefixes};
+pub use reader::SymbolReader;
 pub use table::{SymbolRange, read_table};
 pub use words::read_symbols;
 pub use writing::{have_lengths, symbols_len, write_symbols};

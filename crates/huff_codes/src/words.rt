@@ -16,6 +16,7 @@ use crate::codes::{Ahead, Codes};
 use crate::faults::{CodeFault, CodeReason};
 use crate::lookup::{Entry, entries_of, no_entries};
 use crate::prefixes::{Prefixes, symbol_ahead};
+use crate::reader::SymbolReader;
 use byteorder::{ByteOrder, LittleEndian};
 
 /// 32 of the 64 bits of two words, from bit `skip` on.
@@ -53,7 +54,7 @@ pub(crate) fn ahead(bytes: &[u8], bit: usize) -> Ahead
 }
 
 /// The place of the first byte that is in no whole word.
-fn end_of_words(bytes: &[u8]) -> usize
+pub(crate) fn end_of_words(bytes: &[u8]) -> usize
     ensures { result ≡ whole_end bytes.now }
 {
     bytes.len() / 4 * 4
@@ -111,15 +112,15 @@ fn step(entries: &[Entry; 2048], from: Cursor, out: &mut [u8]) -> Cursor
     requires short { All IsShort entries.now }
     requires table { length entries.now ≡ 2048 }
     requires room { from.count + 2 ≤ length out.old }
-    requires count { length out.old ≤ 2 ^ 24 }
-    requires few { from.bit ≤ 32 * from.count }
+    requires low { from.bit ≤ 2 ^ 30 }
     ensures room { length out.new ≡ length out.old }
-    ensures few { result.bit ≤ 32 * result.count }
     ensures more { from.count ≤ result.count }
     ensures within { result.count ≤ from.count + 2 }
-    ensures reached { (codes : List (List Bool)) (bytes : List ℕ) (n : ℕ)
-        → AreEntries codes entries.now → IsReading codes bytes out.old (n + 11) from
-        → IsReading codes bytes out.new n result }
+    ensures few { result.bit ≤ from.bit + 32 * (result.count - from.count) }
+    ensures near { result.bit ≤ from.bit + 11 }
+    ensures reached { (codes : List (List Bool)) (bytes before : List ℕ) (n : ℕ)
+        → AreEntries codes entries.now → IsReading codes bytes before out.old (n + 11) from
+        → IsReading codes bytes before out.new n result }
 {
     let entry = entries[(from.window >> 53) as usize];
     out[from.count] = entry.first;
@@ -131,23 +132,25 @@ fn step(entries: &[Entry; 2048], from: Cursor, out: &mut [u8]) -> Cursor
     }
 }
 
-/// Reads up to six symbols by the table, if they have room and two whole words are left.
+/// Reads symbols by the table, if they have room and two whole words are left: up to six, and up to
+/// two where there is no room for six.
 #[inline(always)]
-fn read_few(bytes: &[u8], entries: &[Entry; 2048], from: Place, out: &mut [u8]) -> Place
+pub(crate) fn read_few(bytes: &[u8], entries: &[Entry; 2048], from: Place, out: &mut [u8]) -> Place
     requires short { All IsShort entries.now }
     requires table { length entries.now ≡ 2048 }
     requires room { from.count ≤ length out.old }
-    requires count { length out.old ≤ 2 ^ 24 }
-    requires few { from.bit ≤ 32 * from.count }
+    requires few { from.bit + 32 * (length out.old - from.count) ≤ 2 ^ 29 }
+    requires within { from.bit ≤ 32 * (length bytes.now / 4) }
     ensures room { length out.new ≡ length out.old }
-    ensures few { result.bit ≤ 32 * result.count }
     ensures more { from.count ≤ result.count }
     ensures within { result.count ≤ length out.old }
-    ensures reached { (codes : List (List Bool)) → AreEntries codes entries.now
-        → HaveReached codes bytes.now (take from.count out.old) from.bit
-        → HaveReached codes bytes.now (take result.count out.new) result.bit }
+    ensures few { result.bit ≤ from.bit + 32 * (result.count - from.count) }
+    ensures bits { result.bit ≤ 32 * (length bytes.now / 4) }
+    ensures reached { (codes : List (List Bool)) (before : List ℕ) → AreEntries codes entries.now
+        → HaveReached codes bytes.now (before ++ take from.count out.old) from.bit
+        → HaveReached codes bytes.now (before ++ take result.count out.new) result.bit }
 {
-    if from.bit / 32 * 4 + 8 > bytes.len() || from.count + 6 > out.len() {
+    if from.bit / 32 * 4 + 8 > bytes.len() || from.count + 2 > out.len() {
         return from;
     }
     let start = Cursor {
@@ -156,6 +159,12 @@ fn read_few(bytes: &[u8], entries: &[Entry; 2048], from: Place, out: &mut [u8]) 
         count: from.count,
     };
     let one = step(entries, start, out);
+    if from.count + 6 > out.len() {
+        return Place {
+            bit: one.bit,
+            count: one.count,
+        };
+    }
     let two = step(entries, one, out);
     let three = step(entries, two, out);
     Place {
@@ -165,7 +174,7 @@ fn read_few(bytes: &[u8], entries: &[Entry; 2048], from: Place, out: &mut [u8]) 
 }
 
 /// Reads one symbol.
-fn read_one(
+pub(crate) fn read_one(
     bytes: &[u8],
     codes: &Codes,
     prefixes: &Prefixes,
@@ -175,14 +184,16 @@ fn read_one(
     requires prefixes { ArePrefixes codes.now prefixes.now }
     requires room { from.count < length out.old }
     requires within { from.bit ≤ 32 * (length bytes.now / 4) }
-    requires count { length out.old ≤ 2 ^ 24 }
-    requires few { from.bit ≤ 32 * from.count }
+    requires few { from.bit + 32 * (length out.old - from.count) ≤ 2 ^ 29 }
     ensures room { length out.new ≡ length out.old }
-    ensures answer { HaveReached codes.now bytes.now (take from.count out.old) from.bit →
+    ensures ok { IfOk result (λ place. (place.count ≡ from.count + 1)
+        × ((place.bit ≤ from.bit + 32) × (place.bit ≤ 32 * (length bytes.now / 4)))) }
+    ensures answer { (before : List ℕ)
+        → HaveReached codes.now bytes.now (before ++ take from.count out.old) from.bit →
         MatchResult result
-        (λ place. (place.count ≡ from.count + 1) × ((place.bit ≤ 32 * place.count)
-        × HaveReached codes.now bytes.now (take place.count out.new) place.bit))
-        (λ f. word_faults codes.now (length out.new) bytes.now f.at f.reason) }
+        (λ place. HaveReached codes.now bytes.now (before ++ take place.count out.new) place.bit)
+        (λ f. (n : ℕ) → length before + length out.old ≤ n
+        → word_faults codes.now n bytes.now f.at f.reason) }
 {
     let next = ahead(bytes, from.bit);
     match symbol_ahead(codes, prefixes, next) {
@@ -198,7 +209,7 @@ fn read_one(
 }
 
 /// The table to read so many symbols by: an empty one where making it would take longer.
-fn table_for(codes: &Codes, count: usize) -> [Entry; 2048]
+pub(crate) fn table_for(codes: &Codes, count: usize) -> [Entry; 2048]
     ensures room { length result ≡ 2048 }
     ensures short { All IsShort result }
     ensures are { AreEntries codes.now result }
@@ -218,25 +229,9 @@ fn read_all(bytes: &[u8], codes: &Codes, out: &mut [u8]) -> Result<usize, CodeFa
         × AreWords codes.now (length out.new) (take used bytes.now) out.new)
         (λ f. word_faults codes.now (length out.new) bytes.now f.at f.reason) }
 {
-    let entries = table_for(codes, out.len());
-    let prefixes = Prefixes::of(codes);
-    let mut place = Place { bit: 0, count: 0 };
-    while place.count < out.len() {
-        let next = read_few(bytes, &entries, place, out);
-        place = if next.count > place.count {
-            next
-        } else {
-            read_one(bytes, codes, &prefixes, next, out)?
-        };
-    }
-    let used = (place.bit + 31) / 32 * 4 + 4;
-    if used > bytes.len() {
-        return Err(CodeFault {
-            reason: CodeReason::Cut,
-            at: end_of_words(bytes),
-        });
-    }
-    Ok(used)
+    let mut reader = SymbolReader::new(bytes, codes, out.len());
+    reader.read(out)?;
+    reader.end()
 }
 
 /// Reads as many symbols as `out` has, from the codes in the bits of 32-bit little-endian words,

@@ -8,4 +8,4 @@ pub mod Mapped
 mod MinMax
 mod Sums
 mod Times
-mod Within
+pub mod Within

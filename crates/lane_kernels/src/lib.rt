@@ -16,4 +16,4 @@ mod unsigned;
 pub use capped::plus_capped;
 pub use difference::minus;
 pub use extremes::range;
-pub use unsigned::plus_capped_unsigned;
+pub use unsigned::{gap_between, plus_capped_unsigned, step_within, steps_within};

@@ -1,16 +1,17 @@
 -- Arrays that are given, and the raster that they are.
-use Rattle.std.proofs.Common.{◌≡◌, ℕ, ◌+◌, ◌*◌, ◌/◌, ◌%◌, ◌<◌, true, false, cond, List, [], ◌∷◌, length, get_or, drop, None, refl, sym, ap, ◌∙◌, subst, arith}
-use Rattle.std.specs.Prelude.{pos, is_some, nat_eq}
-use Rattle.std.proofs.lemmas.List.{get_or-replicate}
+use Rattle.std.proofs.Common.{◌≡◌, ℕ, ◌+◌, ◌*◌, ◌/◌, ◌%◌, ◌<◌, Bool, true, false, cond, List, [], ◌∷◌, length, get_or, drop, None, refl, sym, ap, ◌∙◌, subst, arith}
+use Rattle.std.specs.Prelude.{pos, is_some, nat_eq, replicate}
+use Rattle.std.proofs.lemmas.List.{get_or-map, get_or-replicate}
+use Rattle.std.proofs.lemmas.List.FromFn.{get_or-map-range_with_len}
 use Rattle.std.proofs.lemmas.Nat.{div_below}
 use Rattle.std.proofs.lemmas.Bool.Decides.{nat_tests}
 use Rattle.raster_values.specs.declared.kind.PixelType.{PixelType}
 use Rattle.raster_values.specs.PixelType.{bytes_of, Spells}
 use Rattle.raster_values.specs.Raster.{Pixels, IsRaster, blank, filled}
 use Rattle.raster_values.specs.Block.{SameMask}
-use Rattle.raster_values.specs.Order.{MarksBits, mask_bit}
-use Rattle.raster_values.specs.Flat.{PutsAll, value_in}
-use Rattle.lerc_c.specs.Arrays.{IsGiven}
+use Rattle.raster_values.specs.Order.{MarksBits, mask_bit, marks_in}
+use Rattle.raster_values.specs.Flat.{PutsAll, marks_of, value_in}
+use Rattle.lerc_c.specs.Arrays.{IsGiven, mark_at}
 use Rattle.lerc_c.specs.inside.Marked.{IsMarked}
 
 pub none_is_nil : (xs : List ℕ) → length xs ≡ 0 → xs ≡ []
@@ -72,4 +73,40 @@ whole_given kind rows cols depth values new puts sound =
       depth_is = sym puts.same.shape.depth;
       marks = λ k below. same_mark old new k wide puts.same below ∙ all k below;
       each = λ k d below on less. puts.put k d below (all k below) less;
+    }
+
+-- ---- a raster that is read in the arrays
+
+bit_of : (pixels : ℕ) (mask : List ℕ) (k : ℕ) → k < pixels → get_or (marks_in pixels mask) k false ≡ mask_bit mask k
+unfolding marks_in
+bit_of pixels mask k below = get_or-map-range_with_len (mask_bit mask) 0 pixels k k false below (omega arith)
+
+pub seen_given : (kind : PixelType) (rows cols depth : ℕ) (values mask : List ℕ) (r : Pixels) → (length mask ≡ 0 → ⊥) → IsRaster r → r.kind ≡ kind → r.rows ≡ rows → r.cols ≡ cols → r.depth ≡ depth → marks_of r ≡ marks_in (rows * cols) mask
+    → ((k d : ℕ) → k < rows * cols → d < depth → mask_bit mask k ≡ true → Spells kind (drop ((k * depth + d) * bytes_of kind) values) (value_in r d k)) → IsGiven kind rows cols depth values mask r
+seen_given kind rows cols depth values mask r some sound ek er ec ed marks spelled =
+    let not : nat_eq (length mask) 0 ≡ false = grind (arith, nat_tests, some) in
+    let bit : (k : ℕ) → mark_at mask k ≡ mask_bit mask k = λ k. ap (λ b. cond b true (mask_bit mask k)) not in
+    let size : r.rows * r.cols ≡ rows * cols = λ i. er i * ec i in
+    record {
+      raster = sound;
+      kind_is = ek;
+      rows_are = er;
+      cols_are = ec;
+      depth_is = ed;
+      marks = λ k below. sym (get_or-map is_some r.pixels k None false (omega (arith, below, size, sound.places))) ∙ ap (λ (ms : List Bool). get_or ms k false) marks ∙ bit_of (rows * cols) mask k below ∙ sym (bit k);
+      each = λ k d below on less. spelled k d below less (sym (bit k) ∙ on);
+    }
+
+pub seen_whole : (kind : PixelType) (rows cols depth : ℕ) (values : List ℕ) (r : Pixels) → IsRaster r → r.kind ≡ kind → r.rows ≡ rows → r.cols ≡ cols → r.depth ≡ depth → marks_of r ≡ replicate (rows * cols) true
+    → ((k d : ℕ) → k < rows * cols → d < depth → Spells kind (drop ((k * depth + d) * bytes_of kind) values) (value_in r d k)) → IsGiven kind rows cols depth values [] r
+seen_whole kind rows cols depth values r sound ek er ec ed marks spelled =
+    let size : r.rows * r.cols ≡ rows * cols = λ i. er i * ec i in
+    record {
+      raster = sound;
+      kind_is = ek;
+      rows_are = er;
+      cols_are = ec;
+      depth_is = ed;
+      marks = λ k below. sym (get_or-map is_some r.pixels k None false (omega (arith, below, size, sound.places))) ∙ ap (λ (ms : List Bool). get_or ms k false) marks ∙ get_or-replicate (rows * cols) k true false below;
+      each = λ k d below on less. spelled k d below less;
     }

@@ -7,7 +7,8 @@ ghost use Rattle.lerc_c.specs.Arrays.{GivesSizes, IsGiven, values_size, mask_arr
 ghost use Rattle.lerc_c.specs.BandArrays.{AreAllowed, AreGiven, AreEncodedInto, GiveBandSizes, mask_for, part_at};
 ghost use Rattle.lerc_c.specs.inside.Stops.{AreFit, IsBandsArgumentStop, IsBandsEncodeStop};
 
-use crate::encoding::{EncodeStop, given};
+use crate::band_rasters::raster_given;
+use crate::encoding::EncodeStop;
 use lerc_encode::{EncodeFault, encode_bands};
 use lerc_header::{Step, Version, needs_v4};
 use raster_values::{Bands, GREATEST_BANDS, GREATEST_VALUES, PixelType, Raster, is_shape};
@@ -137,7 +138,7 @@ fn given_band(
 {
     let mask = mask_of(masks, mask_size(rows, cols), i);
     let values = part(values, band_size(kind, rows, cols, depth), i);
-    given(alloc, kind, rows, cols, depth, values, mask)
+    raster_given(alloc, kind, rows, cols, depth, values, mask)
 }
 
 /// The bands that the arrays are. None where memory is refused.

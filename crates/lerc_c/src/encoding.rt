@@ -1,20 +1,18 @@
 //! Arrays encoded into a blob.
 
-ghost use Rattle.std.specs.Prelude.{◌≡◌, ℕ, ◌-◌, ◌<◌, ◌≤◌, ◌↔◌, [], drop, get_or, take, IfOk, IfErr, IfSome, OnOk, OnErr, IsTrue, length};
-ghost use Rattle.raster_values.specs.Raster.{IsRaster, IsShape, blank};
-ghost use Rattle.raster_values.specs.Flat.{PutsAll};
+ghost use Rattle.std.specs.Prelude.{◌≡◌, ℕ, ◌-◌, ◌<◌, ◌≤◌, ◌↔◌, drop, get_or, take, IfOk, IfErr, IfSome, OnOk, OnErr, IsTrue, length};
+ghost use Rattle.raster_values.specs.Raster.{IsShape};
 ghost use Rattle.lerc_header.specs.Head.{version_number};
 ghost use Rattle.lerc_header.specs.Written.{step_of};
-ghost use Rattle.lerc_c.specs.Arrays.{GivesSizes, IsGiven, IsEncoded, values_size, mask_array_size};
+ghost use Rattle.lerc_c.specs.Arrays.{GivesSizes, IsGiven, IsEncoded};
 ghost use Rattle.lerc_c.specs.inside.Stops.{IsArgumentStop, IsFit, IsWriteStop, IsWritten, IsEncodeStop};
-ghost use Rattle.lerc_c.specs.inside.Marked.{IsMarked};
 ghost use Rattle.lerc_c.specs.inside.Repeated.{IsOneValue};
 ghost use Rattle.lerc_encode.specs.AllAlike.{alike};
 ghost use Rattle.raster_values.specs.PixelType.{InRange, bytes_of, code_of};
 
-use lerc_encode::{LayFault, encode_alike_over, encode_over};
+use lerc_encode::{LayFault, encode_alike_over, encode_view_over};
 use lerc_header::{Step, Version, kind_of, needs_v4};
-use raster_values::{PixelType, Raster, is_shape};
+use raster_values::{PixelType, Seen, is_shape};
 use std::alloc::Global;
 
 /// Why no blob was written.
@@ -87,105 +85,23 @@ fn test_arguments(
     Ok(())
 }
 
-/// What holds of each raster, for the proofs: `rows` ensures it of the raster that it is asked of.
-fn note_sound(raster: &Raster)
-    ensures { IsRaster raster.now }
-{
-    let _rows = raster.rows();
-}
-
-/// Makes the pixels valid whose bits are 1.
-fn mark_bits(raster: &mut Raster, mask: &[u8])
-    requires blank { raster.old
-        ≡ blank raster.old.kind raster.old.rows raster.old.cols raster.old.depth }
-    requires some { length mask.now ≡ 0 → ⊥ }
-    requires size { length mask.now ≡ mask_array_size raster.old.rows raster.old.cols }
-    ensures { IsMarked raster.old.kind raster.old.rows raster.old.cols raster.old.depth
-        mask.now raster.new }
-{
-    raster.mark_from_bits(mask);
-    note_sound(raster);
-}
-
-/// Gives the valid pixels their values.
-fn put(raster: &mut Raster, values: &[u8])
-    requires { length values.now ≡ values_size
-        raster.old.kind raster.old.rows raster.old.cols raster.old.depth }
-    ensures put { PutsAll raster.old raster.new values.now }
-    ensures sound { IsRaster raster.new }
-{
-    raster.put_cells(values);
-    note_sound(raster);
-}
-
-/// Makes a raster with no valid pixel the raster that the arrays are.
-fn fill(raster: &mut Raster, values: &[u8], mask: &[u8])
-    requires blank { raster.old
-        ≡ blank raster.old.kind raster.old.rows raster.old.cols raster.old.depth }
-    requires some { length mask.now ≡ 0 → ⊥ }
-    requires sizes { GivesSizes raster.old.kind raster.old.rows raster.old.cols raster.old.depth
-        (length values.now) (length mask.now) }
-    ensures { IsGiven raster.old.kind raster.old.rows raster.old.cols raster.old.depth
-        values.now mask.now raster.new }
-{
-    mark_bits(raster, mask);
-    put(raster, values);
-}
-
-/// The raster that the arrays are, where there is a mask. None where memory is refused.
-fn masked(
-    alloc: Global,
+/// The raster that the arrays are, which is read where it lies.
+fn given<'a>(
     kind: PixelType,
     rows: u32,
     cols: u32,
     depth: u32,
-    values: &[u8],
-    mask: &[u8],
-) -> Option<Raster>
-    requires some { length mask.now ≡ 0 → ⊥ }
+    values: &'a [u8],
+    mask: &'a [u8],
+) -> Seen<'a, 'a>
+    requires shape { IsShape rows cols depth }
     requires sizes { GivesSizes kind rows cols depth (length values.now) (length mask.now) }
-    ensures { IfSome result (λ r. IsGiven kind rows cols depth values.now mask.now r) }
-{
-    let mut raster = Raster::new(alloc, kind, rows, cols, depth).ok()?;
-    fill(&mut raster, values, mask);
-    Some(raster)
-}
-
-/// The raster with these values of which every pixel is valid. None where memory is refused.
-fn whole(
-    alloc: Global,
-    kind: PixelType,
-    rows: u32,
-    cols: u32,
-    depth: u32,
-    values: &[u8],
-) -> Option<Raster>
-    requires { length values.now ≡ values_size kind rows cols depth }
-    ensures { IfSome result (λ r. IsGiven kind rows cols depth values.now [] r) }
-{
-    match Raster::from_cells(alloc, kind, rows, cols, depth, values) {
-        Ok(raster) => Some(raster),
-        Err(_) => None,
-    }
-}
-
-/// The raster that the arrays are. None where memory is refused.
-pub(crate) fn given(
-    alloc: Global,
-    kind: PixelType,
-    rows: u32,
-    cols: u32,
-    depth: u32,
-    values: &[u8],
-    mask: &[u8],
-) -> Option<Raster>
-    requires { GivesSizes kind rows cols depth (length values.now) (length mask.now) }
-    ensures { IfSome result (λ r. IsGiven kind rows cols depth values.now mask.now r) }
+    ensures { IsGiven kind rows cols depth values.now mask.now result }
 {
     if mask.is_empty() {
-        return whole(alloc, kind, rows, cols, depth, values);
+        return Seen::whole(kind, rows, cols, depth, values);
     }
-    masked(alloc, kind, rows, cols, depth, values, mask)
+    Seen::over(kind, rows, cols, depth, mask, values)
 }
 
 /// What pixels that are all alike are: of one value at each depth, or invalid.
@@ -260,7 +176,7 @@ fn alike_of(
 /// Lays the blob of a raster over the front of `out`, and answers how many bytes it has.
 fn write_blob(
     alloc: Global,
-    raster: &Raster,
+    raster: &Seen,
     version: Version,
     step: Step,
     out: &mut [u8],
@@ -270,7 +186,7 @@ fn write_blob(
         IsWriteStop raster.now version step (length out.old) stop) }
     ensures kept { OnErr result (out.new ≡ out.old) }
 {
-    match encode_over(alloc, raster, version, step, out) {
+    match encode_view_over(alloc, raster, version, step, out) {
         Ok(size) => Ok(size),
         Err(LayFault::DepthNeedsV4) => Err(EncodeStop::DepthNeedsV4),
         Err(LayFault::NoRoom(size)) => Err(EncodeStop::NoRoom(size)),
@@ -338,8 +254,6 @@ pub(crate) fn encode_into(
             out,
         );
     }
-    let Some(raster) = given(alloc, kind, rows, cols, depth, values, mask) else {
-        return Err(EncodeStop::OutOfMemory);
-    };
+    let raster = given(kind, rows, cols, depth, values, mask);
     write_blob(alloc, &raster, version, Step::of(error), out)
 }

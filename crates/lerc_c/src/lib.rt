@@ -6,6 +6,7 @@
 
 mod band_decoding;
 mod band_encoding;
+mod band_rasters;
 mod decoding;
 mod encoding;
 mod naming;

@@ -436,3 +436,82 @@ fn a_mask_of_no_pixel_and_one_of_the_last_alone(rt: HostRuntime) {
     };
     comes_back(&rt, alloc, given, true, &[0; 8], b"\0");
 }
+
+/// The arrays have one blob, whether these values stand there or those, which are others at invalid
+/// pixels alone.
+fn have_one_blob(rt: &impl Abort, alloc: Global, given: Given<'_>, others: &[u8]) {
+    let mut blob = [5; 200];
+    let (status, size) = encode_given(alloc, given, &mut blob);
+    same(rt, "encoded", u64::from(status), 0);
+    let given = Given {
+        values: others,
+        ..given
+    };
+    let mut again = [5; 200];
+    let (status, size_again) = encode_given(alloc, given, &mut again);
+    same(rt, "encoded with others", u64::from(status), 0);
+    same(rt, "size", size_again, size);
+    same_bytes(rt, "blob", &again, &blob);
+}
+
+/// The same by both versions.
+fn have_one_blob_by_both(
+    rt: &impl Abort,
+    alloc: Global,
+    kind: u32,
+    shape: (u32, u32, u32),
+    mask: &[u8],
+    values: &[u8],
+    others: &[u8],
+) {
+    let given = Given {
+        kind,
+        shape,
+        version: 4,
+        values,
+        mask,
+    };
+    have_one_blob(rt, alloc, given, others);
+    if shape.2 == 1 {
+        let given = Given {
+            version: 3,
+            ..given
+        };
+        have_one_blob(rt, alloc, given, others);
+    }
+}
+
+#[test]
+fn bytes_at_invalid_pixels_are_not_read(rt: HostRuntime) {
+    let alloc = rt.alloc();
+    let bytes = b"\x01\0\x03\x04\0\x06\0\x08";
+    let others = b"\x01\xff\x03\x04\x80\x06\x7f\x08";
+    have_one_blob_by_both(&rt, alloc, 0, (2, 4, 1), b"\xb5", bytes, others);
+    have_one_blob_by_both(&rt, alloc, 1, (2, 4, 1), b"\xb5", bytes, others);
+    let words = b"\x01\x02\0\0\0\0\x07\x08";
+    let others = b"\x01\x02\xff\x7f\0\x80\x07\x08";
+    have_one_blob_by_both(&rt, alloc, 2, (2, 2, 1), b"\x90", words, others);
+    have_one_blob_by_both(
+        &rt,
+        alloc,
+        3,
+        (1, 2, 2),
+        b"\x40",
+        b"\0\0\0\0\x05\0\x07\x08",
+        b"\xff\xff\0\x80\x05\0\x07\x08",
+    );
+    let mut values = [3; 64];
+    values[1] = 0;
+    values[9] = 4;
+    let mut others = values;
+    others[1] = 200;
+    have_one_blob_by_both(
+        &rt,
+        alloc,
+        1,
+        (8, 8, 1),
+        b"\xbf\xff\xff\xff\xff\xff\xff\xff",
+        &values,
+        &others,
+    );
+}

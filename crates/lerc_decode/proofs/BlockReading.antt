@@ -6,7 +6,7 @@ use Rattle.std.proofs.lemmas.List.FromFn.{length-map-range_with_len, map-range_w
 use Rattle.std.proofs.lemmas.Nat.{div-add-mod', mod_below}
 use Rattle.first_fault.specs.Faults.{Faults, wrong, unless, moved, in_order, ends, AllNumbered, InNumbered, Numbered}
 use Rattle.first_fault.proofs.Decided.{numbered_push}
-use Rattle.raster_values.specs.Raster.{Pixels, IsShape}
+use Rattle.raster_values.specs.Raster.{InShape, IsShape, Pixels}
 use Rattle.raster_values.specs.Block.{InBlock, PoursBlock, block_count, block_values}
 use Rattle.raster_values.specs.Flat.{marks_of, valid_numbers, value_in}
 use Rattle.raster_values.proofs.BlockLaws.{has_count, leaves_others, of_mask, partition}
@@ -144,6 +144,13 @@ row_begins h a head down = let low = begins_within a h.rows h.side head.side_abo
 
 pub col_begins : (h : Header) (b : ℕ) → IsBlockHead h → b < blocks_across h → b * h.side < 16777216
 col_begins h b head across = let low = begins_within b h.cols h.side head.side_above across in let few = (few_rows h.rows h.cols h.depth head.shape).1 in omega (arith, low, few)
+
+-- the first place of a block is one of the raster
+pub square_within : (h : Header) (r : Pixels) (a b : ℕ) → IsBlockHead h → IsSquare h a b → HasHeadShape h r → InShape r (a * h.side) (b * h.side)
+square_within h r a b head square shape =
+    let down = begins_within a h.rows h.side head.side_above square.down in
+    let across = begins_within b h.cols h.side head.side_above square.across in
+    (omega (arith, down, shape.rows), omega (arith, across, shape.cols))
 
 -- ---- all blocks
 

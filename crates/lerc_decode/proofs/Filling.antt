@@ -43,6 +43,10 @@ sweep_size h r size need shape valid is low high =
     which (inr (inl less)) = absurd (low less)
     which (inr (inr more)) = absurd (high more)
 
+-- as many pixels are valid as are to be, while the marks stay
+pub marked_count : (r s : Pixels) (valid : ℕ) → KeepsMarks r s → count_of (marks_of r) ≡ valid → valid_count s ≡ valid
+marked_count r s valid keeps e = counted s.pixels ∙ ap count_of (sym keeps.marks) ∙ e
+
 pub swept : (h : Header) (old new : Pixels) (bytes : List ℕ) (need : ℕ) → HasHeadShape h old → PoursBytes old new bytes → need ≡ value_count h * bytes_of h.kind → length bytes ≡ need → IsSwept h bytes new
 swept h old new bytes need shape p is size =
     let stands : AreValues h.kind bytes (values_of new.pixels) = subst (λ (k : PixelType). AreValues k bytes (values_of new.pixels)) (sym shape.kind) p.poured in

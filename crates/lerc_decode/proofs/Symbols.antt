@@ -2,7 +2,8 @@
 use Rattle.std.proofs.Common.{◌≡◌, ℕ, pos, ◌+◌, ◌-◌, ◌*◌, ◌<◌, ◌≤◌, ◌≢◌, Bool, List, [], ◌++◌, length, get_or, take, drop, None, refl, sym, ap, ◌∙◌, subst, arith, inl, inr, ◌⊎◌}
 use Rattle.std.specs.Prelude.{unwrap_or}
 use Rattle.std.proofs.lemmas.Bool.{cases_lt}
-use Rattle.std.proofs.lemmas.List.{append_assoc, get_or_past, length-append, length-drop, length-take-le, take-append-drop, take_all, take_rest}
+use Rattle.std.proofs.lemmas.List.{append_assoc, drop-append-le, drop_at, get_or_past, length-append, length-drop, length-take-le, take-append-drop, take-append-le, take_all, take_rest}
+use Rattle.std.proofs.Math.Nat.{mul-le-mul_right}
 use Rattle.first_fault.specs.Faults.{moved}
 use Rattle.raster_values.specs.Raster.{Pixels, IsRaster}
 use Rattle.raster_values.specs.Flat.{value_in}
@@ -122,3 +123,25 @@ next_depths h old new symbols d at was is low deep at_is t before e below = whic
         let here : take (at + h.valid - at) (drop at symbols) ≡ symbols_of h symbols d =
         ap (λ n. take n (drop at symbols)) (let s : at + h.valid - at ≡ h.valid = omega arith in s) ∙ ap (λ n. take h.valid (drop n symbols)) at_is in
         subst (λ k. AreDeltas new k (symbols_of h symbols k)) (sym same) (subst (AreDeltas new d) here t.taken)
+
+-- ---- depths that come one after the other
+
+-- the symbols of a depth that is there are left when the ones below it have come
+pub depth_room : (d depth valid left all : ℕ) → d < depth → left + d * valid ≡ all → valid * depth ≤ all → valid ≤ left
+depth_room d depth valid left all below now fits =
+    let more : (d + 1) * valid ≤ depth * valid = mul-le-mul_right valid (omega arith) in
+    let next : (d + 1) * valid ≡ d * valid + valid = omega arith in
+    omega (arith, more, next, now, fits)
+
+-- the symbols of a depth that came stay when more come
+pub first_symbols : (h : Header) (symbols more : List ℕ) (d e : ℕ) → length symbols ≡ d * h.valid → e < d → symbols_of h (symbols ++ more) e ≡ symbols_of h symbols e
+first_symbols h symbols more d e long below =
+    let up : (e + 1) * h.valid ≤ d * h.valid = mul-le-mul_right h.valid (omega arith) in
+    let next : (e + 1) * h.valid ≡ e * h.valid + h.valid = omega arith in
+    ap (take h.valid) (drop-append-le (e * h.valid) symbols more (omega (arith, up, next, long)))
+    ∙ take-append-le h.valid (drop (e * h.valid) symbols) more (omega (arith, up, next, long, length-drop (e * h.valid) symbols))
+
+-- those that come are the next depth's
+pub last_symbols : (symbols more : List ℕ) (at n : ℕ) → length symbols ≡ at → length more ≡ n → more ≡ take (at + n - at) (drop at (symbols ++ more))
+last_symbols symbols more at n long count =
+    sym (ap (take (at + n - at)) (drop_at symbols more at long) ∙ take_all (at + n - at) more (omega (arith, count)))

@@ -12,3 +12,4 @@ pub mod Kept
 pub mod Stages
 pub mod Steps
 pub mod Turns
+pub mod Words

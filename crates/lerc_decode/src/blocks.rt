@@ -15,7 +15,7 @@ ghost use Rattle.lerc_decode.specs.inside.Body.{HasHeadShape, IsStopOf, KeepsMar
 use crate::body::{BodyStop, stopped};
 use bit_stuff::ListReason;
 use lerc_header::{BlobFault, BlobReason, Header};
-use micro_block::{BlockCtx, BlockFault, BlockReason, read_block};
+use micro_block::{BlockCtx, BlockFault, BlockReason, read_steps};
 use raster_target::Target;
 
 /// The reason of a list's fault.
@@ -67,7 +67,7 @@ fn read_one<T: Target>(
     a: u32,
     b: u32,
     d: u32,
-    values: &mut [i64],
+    numbers: &mut [u32],
     raster: &mut T,
 ) -> Result<usize, BlobFault>
     requires head { IsBlockHead header.now }
@@ -75,8 +75,8 @@ fn read_one<T: Target>(
     requires square { IsSquare header.now a b }
     requires depth { d < header.now.depth }
     requires shape { HasHeadShape header.now (T.pixels raster.old) }
-    requires few { length values.old ≤ 1024 }
-    requires count { length values.old
+    requires few { length numbers.old ≤ 1024 }
+    requires count { length numbers.old
         ≡ block_count (T.pixels raster.old) (a * header.now.side) (b * header.now.side) header.now.side }
     requires read { HasRead header.now (marks_of (T.pixels raster.old)) tops.now rest.now
         (block_number header.now a b d) at (T.pixels raster.old) }
@@ -98,10 +98,11 @@ fn read_one<T: Target>(
         step: header.step,
         top: tops[d as usize],
     };
-    match read_block(&rest[at..], &ctx, values) {
-        Ok(used) => {
-            raster.pour_block(row, col, header.side, d, values);
-            Ok(at + used)
+    match read_steps(&rest[at..], &ctx, numbers) {
+        Ok(read) => {
+            let (offset, step, top) = (read.offset, read.step, read.top);
+            raster.pour_steps(row, col, header.side, d, offset, step, top, numbers);
+            Ok(at + read.used)
         }
         Err(fault) => refused(fault, at),
     }
@@ -115,15 +116,15 @@ fn read_depths<T: Target>(
     tops: &[i64],
     a: u32,
     b: u32,
-    values: &mut [i64],
+    numbers: &mut [u32],
     raster: &mut T,
 ) -> Result<usize, BlobFault>
     requires head { IsBlockHead header.now }
     requires tops { AreTops header.now tops.now }
     requires square { IsSquare header.now a b }
     requires shape { HasHeadShape header.now (T.pixels raster.old) }
-    requires few { length values.old ≤ 1024 }
-    requires count { length values.old
+    requires few { length numbers.old ≤ 1024 }
+    requires count { length numbers.old
         ≡ block_count (T.pixels raster.old) (a * header.now.side) (b * header.now.side) header.now.side }
     requires read { HasRead header.now (marks_of (T.pixels raster.old)) tops.now rest.now
         (block_number header.now a b 0) from (T.pixels raster.old) }
@@ -139,12 +140,13 @@ fn read_depths<T: Target>(
 {
     let mut at = from;
     for d in 0..header.depth {
-        at = read_one(rest, at, header, tops, a, b, d, values, raster)?;
+        at = read_one(rest, at, header, tops, a, b, d, numbers, raster)?;
     }
     Ok(at)
 }
 
-/// Reads the blocks in row `a` and column `b` of blocks, with room for the values of a block.
+/// Reads the blocks in row `a` and column `b` of blocks, with room for the numbers of steps of a
+/// block.
 fn read_square<T: Target>(
     rest: &[u8],
     from: usize,
@@ -152,7 +154,7 @@ fn read_square<T: Target>(
     tops: &[i64],
     a: u32,
     b: u32,
-    room: &mut [i64],
+    room: &mut [u32],
     raster: &mut T,
 ) -> Result<usize, BlobFault>
     requires head { IsBlockHead header.now }
@@ -193,7 +195,7 @@ fn read_row<T: Target>(
     header: &Header,
     tops: &[i64],
     a: u32,
-    room: &mut [i64],
+    room: &mut [u32],
     raster: &mut T,
 ) -> Result<usize, BlobFault>
     requires head { IsBlockHead header.now }
@@ -225,7 +227,7 @@ fn read_rows<T: Target>(
     rest: &[u8],
     header: &Header,
     tops: &[i64],
-    room: &mut [i64],
+    room: &mut [u32],
     raster: &mut T,
 ) -> Result<usize, BlobFault>
     requires head { IsBlockHead header.now }

@@ -352,7 +352,7 @@ fn read_blocks<T: Target>(
 }
 
 /// How many values the image has.
-fn value_len(header: &Header) -> usize
+pub(crate) fn value_len(header: &Header) -> usize
     requires { header.now.valid * header.now.depth ≤ 16777216 }
     ensures value { result ≡ value_count header.now }
     ensures few { result ≤ 16777216 }
@@ -362,7 +362,6 @@ fn value_len(header: &Header) -> usize
 
 /// Gives the valid pixels the values of a code table and differences, which begin at this place.
 fn read_deltas<T: Target>(
-    alloc: Global,
     blob: &[u8],
     header: &Header,
     mask: &MaskForm,
@@ -380,10 +379,7 @@ fn read_deltas<T: Target>(
     ensures sound { T.sound raster.new }
     ensures kept { T.kept raster.new ≡ T.kept raster.old }
 {
-    let Some(mut symbols) = room_for(alloc, value_len(header)) else {
-        return Err(BodyStop::OutOfMemory);
-    };
-    pour_deltas(&blob[place..], place, header, &mut symbols, raster)
+    pour_deltas(&blob[place..], place, header, raster)
 }
 
 /// Gives the valid pixels the values of a code table and words, which begin at this place.
@@ -445,7 +441,7 @@ fn read_image<T: Target>(
             pour_sweep(&blob[place..], place, header, raster)
         }
         ImageForm::Blocks { at } => read_blocks(alloc, blob, header, mask, at as usize, raster),
-        ImageForm::Delta { at } => read_deltas(alloc, blob, header, mask, at as usize, raster),
+        ImageForm::Delta { at } => read_deltas(blob, header, mask, at as usize, raster),
         ImageForm::Plain { at } => read_plain(alloc, blob, header, mask, at as usize, raster),
     }
 }

@@ -1,6 +1,6 @@
 //! Values that are coded as symbols: a code table, and the words of one symbol for each value.
 
-ghost use Rattle.std.specs.Prelude.{◌≡◌, ◌≤◌, ◌*◌, ◌+◌, ◌<◌, ◌^◌, IfErr, OnOk, length};
+ghost use Rattle.std.specs.Prelude.{◌≡◌, ◌≤◌, ◌*◌, ◌+◌, ◌<◌, ◌^◌, ◌++◌, ℕ, IfErr, List, OnOk, length};
 ghost use Rattle.first_fault.specs.Faults.{moved};
 ghost use Rattle.raster_values.specs.Flat.{marks_of};
 ghost use Rattle.delta_mode.specs.Deltas.{TakesPlain};
@@ -13,10 +13,12 @@ ghost use Rattle.lerc_grammar.specs.Mask.{count_of};
 ghost use Rattle.lerc_grammar.specs.Reasons.{code_reason};
 ghost use Rattle.lerc_decode.specs.inside.Body.{HasHeadShape, IsStopOf, KeepsMarks};
 ghost use Rattle.lerc_decode.specs.inside.Codes.{HasDeltas, HasPlain, words_faults};
+ghost use Rattle.lerc_decode.specs.inside.Words.{AreWordsLeft, frame_of, have_come, left_in};
 
 use crate::blocks::reason_of_list;
-use crate::body::{BodyStop, stopped};
-use delta_mode::{undelta, unplain};
+use crate::body::{BodyStop, stopped, value_len};
+use crate::words::Words;
+use delta_mode::{SymbolSource, undelta_from, unplain};
 use huff_codes::{CodeFault, CodeReason, Codes, read_symbols, read_table};
 use lerc_header::{BlobReason, Header};
 use raster_target::Target;
@@ -75,23 +77,82 @@ fn read_codes(rest: &[u8], place: usize, symbols: &mut [u8]) -> Result<(), BodyS
     }
 }
 
+/// Ends the words, which are the blob's last bytes and begin at this place.
+fn end_words(words: &Words, rest: &[u8], place: usize) -> Result<(), BodyStop>
+    requires sound { AreWordsLeft words.now }
+    requires all { left_in words.now ≡ 0 }
+    requires bytes { (frame_of words.now).bytes ≡ rest.now }
+    requires few { place + length rest.now < 2 ^ 62 }
+    ensures ok { (symbols : List ℕ) → have_come words.now symbols
+        → length symbols ≡ (frame_of words.now).total → OnOk result
+        (AreWords (frame_of words.now).codes (frame_of words.now).total rest.now symbols) }
+    ensures fault { IfErr result (λ stop. IsStopOf (moved place
+        (words_faults (frame_of words.now).codes (frame_of words.now).total rest.now)) stop) }
+{
+    match words.end() {
+        Ok(used) if used < rest.len() => stopped(BlobReason::Leftover, place + used),
+        Ok(_) => Ok(()),
+        Err(fault) => refused(fault, place),
+    }
+}
+
 /// Gives the valid pixels the values that the symbols of the differences say, depth by depth.
-fn take_deltas<T: Target>(symbols: &[u8], header: &Header, raster: &mut T)
+fn take_deltas<S: SymbolSource, T: Target>(
+    source: &mut S,
+    header: &Header,
+    raster: &mut T,
+) -> Result<(), S::Stop>
     requires shape { HasHeadShape header.now (T.pixels raster.old) }
     requires kind { IsByteType header.now.kind }
     requires valid { count_of (marks_of (T.pixels raster.old)) ≡ header.now.valid }
-    requires count { length symbols.now ≡ value_count header.now }
+    requires count { value_count header.now ≤ S.left source.old }
+    requires ready { S.sound source.old }
     requires sound { T.sound raster.old }
     ensures marks { KeepsMarks (T.pixels raster.old) (T.pixels raster.new) }
-    ensures taken { AreAllDeltas header.now (T.pixels raster.new) symbols.now }
+    ensures taken { (before : List ℕ) → S.has_given source.old before
+        → OnOk result ((symbols : List ℕ) × (S.has_given source.new (before ++ symbols)
+        × ((length symbols ≡ value_count header.now)
+        × AreAllDeltas header.now (T.pixels raster.new) symbols))) }
+    ensures left { OnOk result (S.left source.new + value_count header.now ≡ S.left source.old) }
+    ensures stop { IfErr result (λ f. S.stops (S.kept source.old) f) }
+    ensures ready { S.sound source.new }
+    ensures sources { S.kept source.new ≡ S.kept source.old }
     ensures sound { T.sound raster.new }
     ensures kept { T.kept raster.new ≡ T.kept raster.old }
 {
-    let valid = header.valid as usize;
-    let mut at = 0;
     for d in 0..header.depth {
-        undelta(&symbols[at..at + valid], raster, d);
-        at += valid;
+        undelta_from(source, raster, d)?;
+    }
+    Ok(())
+}
+
+/// Gives the valid pixels the values of the words of differences, which begin at this place.
+fn pour_delta_words<T: Target>(
+    rest: &[u8],
+    place: usize,
+    codes: &Codes,
+    header: &Header,
+    raster: &mut T,
+) -> Result<(), BodyStop>
+    requires shape { HasHeadShape header.now (T.pixels raster.old) }
+    requires kind { IsByteType header.now.kind }
+    requires valid { count_of (marks_of (T.pixels raster.old)) ≡ header.now.valid }
+    requires values { value_count header.now ≤ 16777216 }
+    requires few { place + length rest.now < 2 ^ 62 }
+    requires sound { T.sound raster.old }
+    ensures marks { KeepsMarks (T.pixels raster.old) (T.pixels raster.new) }
+    ensures ok { OnOk result ((symbols : List ℕ)
+        × (AreWords codes.now (value_count header.now) rest.now symbols
+        × AreAllDeltas header.now (T.pixels raster.new) symbols)) }
+    ensures fault { IfErr result (λ stop. IsStopOf
+        (moved place (words_faults codes.now (value_count header.now) rest.now)) stop) }
+    ensures sound { T.sound raster.new }
+    ensures kept { T.kept raster.new ≡ T.kept raster.old }
+{
+    let mut words = Words::of(rest, codes, value_len(header));
+    match take_deltas(&mut words, header, raster) {
+        Ok(()) => end_words(&words, rest, place),
+        Err(fault) => refused(fault, place),
     }
 }
 
@@ -101,13 +162,11 @@ pub(crate) fn pour_deltas<T: Target>(
     rest: &[u8],
     place: usize,
     header: &Header,
-    symbols: &mut [u8],
     raster: &mut T,
 ) -> Result<(), BodyStop>
     requires shape { HasHeadShape header.now (T.pixels raster.old) }
     requires kind { IsByteType header.now.kind }
     requires valid { count_of (marks_of (T.pixels raster.old)) ≡ header.now.valid }
-    requires count { length symbols.old ≡ value_count header.now }
     requires values { value_count header.now ≤ 16777216 }
     requires few { place + length rest.now < 2 ^ 62 }
     requires sound { T.sound raster.old }
@@ -118,12 +177,11 @@ pub(crate) fn pour_deltas<T: Target>(
     ensures sound { T.sound raster.new }
     ensures kept { T.kept raster.new ≡ T.kept raster.old }
 {
-    match read_codes(rest, place, symbols) {
-        Ok(()) => {
-            take_deltas(symbols, header, raster);
-            Ok(())
+    match read_table(rest) {
+        Ok((codes, used)) => {
+            pour_delta_words(&rest[used..], place + used, &codes, header, raster)
         }
-        Err(stop) => Err(stop),
+        Err(fault) => refused(fault, place),
     }
 }
 

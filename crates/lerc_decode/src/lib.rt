@@ -20,6 +20,7 @@ mod kept;
 mod masks;
 mod over;
 mod turns;
+mod words;
 
 pub use bands::{BandsDecoder, BandsFed, BandsState, BandsStop, decode_bands};
 pub use bands_source::{BandsFromFault, decode_bands_from, keep_bands_from};

@@ -1,6 +1,8 @@
 // The chosen blocks of a raster: how many bytes they take, which have a table, and their bytes.
 
 ghost use Rattle.std.specs.Prelude.{◌≡◌, ℕ, ◌+◌, ◌*◌, ◌<◌, ◌≤◌, ◌↔◌, ◌++◌, All, drop, length, map, take, IfOk, IsTrue, MatchOption};
+ghost use Rattle.lut_stuff.specs.Names.{AreNames};
+ghost use Rattle.lut_stuff.specs.Ranked.{AreRanked, Rises};
 ghost use Rattle.micro_block.specs.Frame.{IsBlockCtx};
 ghost use Rattle.raster_values.specs.Distance.{IsDistance, value_above};
 ghost use Rattle.raster_values.specs.PixelType.{type_greatest};
@@ -9,7 +11,8 @@ ghost use Rattle.lerc_encode.specs.Images.{blocks_bytes};
 ghost use Rattle.lerc_encode.specs.inside.Blocked.{AreFlags, HasTableAt, IsBlocked, IsMeasured, IsSpot, IsWithin, bytes_at, values_at};
 
 use lerc_header::Header;
-use micro_block::{BlockCtx, BlockSize, block_size, write_distances};
+use lut_stuff::{Names, Ranks};
+use micro_block::{BlockCtx, BlockSize, named_size, write_ranked};
 use raster_view::View;
 use std::alloc::{AllocError, Global};
 
@@ -38,6 +41,9 @@ pub(crate) struct Measured {
     pub(crate) size: usize,
     /// Which of them have a table: it would take long to find that again.
     pub(crate) tables: Vec<bool>,
+    /// The different values, as how far they are above the least of their type, in rising order,
+    /// where these are few and far apart; else none.
+    pub(crate) values: Vec<u32>,
 }
 
 /// How many blocks stand side by side.
@@ -120,17 +126,26 @@ fn gather<V: View>(h: &Header, raster: &V, spot: Spot, distances: &mut [u32]) ->
     raster.gather_distances(spot.row, spot.col, h.side, spot.d, distances)
 }
 
-/// How long the block at a spot is, and whether it has a table. `distances` is room for its values.
-fn size_at<V: View>(h: &Header, raster: &V, spot: Spot, distances: &mut [u32]) -> BlockSize
+/// How long the block at a spot is, and whether it has a table. `distances` is room for its values,
+/// and `names` has those of values before it.
+fn size_at<V: View>(
+    h: &Header,
+    raster: &V,
+    spot: Spot,
+    names: &mut Names,
+    distances: &mut [u32],
+) -> BlockSize
     requires blocked { IsBlocked h.now (V.pixels raster.now) }
     requires within { IsWithin h.now spot }
+    requires names { AreNames names.old }
     requires room { length distances.old ≡ 256 }
+    ensures names { AreNames names.new }
     ensures length { result.len ≡ length (bytes_at h.now (V.pixels raster.now) spot) }
     ensures few { result.len ≤ 1025 }
     ensures table { IsTrue result.has_table ↔ HasTableAt h.now (V.pixels raster.now) spot }
 {
     let n = gather(h, raster, spot, distances);
-    block_size(&distances[..n], &context(h, raster, spot.col))
+    named_size(&distances[..n], &context(h, raster, spot.col), names)
 }
 
 /// Writes the block at a spot over the front of `out`, and answers how many bytes it takes.
@@ -139,21 +154,38 @@ fn write_at<V: View>(
     raster: &V,
     spot: Spot,
     has_table: bool,
+    ranks: &mut Ranks,
     distances: &mut [u32],
     out: &mut [u8],
 ) -> usize
     requires blocked { IsBlocked h.now (V.pixels raster.now) }
     requires within { IsWithin h.now spot }
+    requires ranks { AreRanked ranks.old }
     requires room { length distances.old ≡ 256 }
     requires table { IsTrue has_table ↔ HasTableAt h.now (V.pixels raster.now) spot }
     requires fits { length (bytes_at h.now (V.pixels raster.now) spot) ≤ length out.old }
+    ensures ranks { AreRanked ranks.new }
     ensures count { result ≡ length (bytes_at h.now (V.pixels raster.now) spot) }
     ensures bytes { out.new ≡ bytes_at h.now (V.pixels raster.now) spot
         ++ drop (length (bytes_at h.now (V.pixels raster.now) spot)) out.old }
 {
     let n = gather(h, raster, spot, distances);
     let ctx = context(h, raster, spot.col);
-    write_distances(&distances[..n], &ctx, has_table, out)
+    write_ranked(&distances[..n], &ctx, has_table, ranks, out)
+}
+
+/// The values that have a name, in rising order, and none where there were too many.
+fn sorted_values(alloc: Global, names: &Names) -> Result<Vec<u32>, AllocError>
+    requires { AreNames names.now }
+    ensures rises { IfOk result (λ values. Rises values.items) }
+    ensures few { IfOk result (λ values. length values.items ≤ 256) }
+{
+    if names.is_spent() {
+        return Ok(Vec::new(alloc));
+    }
+    let mut values = vec![in alloc; 0u32; names.count()]?;
+    names.sort_into(&mut values);
+    Ok(values)
 }
 
 /// What is known of all blocks. None where they take more than `most` bytes, for then they are not
@@ -170,11 +202,12 @@ pub(crate) fn measure<V: View>(
 {
     let count = count(h, raster);
     let mut tables = vec![in alloc; false; count]?;
+    let mut names = Names::new();
     let mut distances = [0; MOST];
     let mut spot = FIRST;
     let mut size = 0;
     for k in 0..count {
-        let found = size_at(h, raster, spot, &mut distances);
+        let found = size_at(h, raster, spot, &mut names, &mut distances);
         size += found.len;
         if size > most {
             return Ok(None);
@@ -182,21 +215,44 @@ pub(crate) fn measure<V: View>(
         tables[k] = found.has_table;
         spot = next_spot(h, raster, spot);
     }
-    Ok(Some(Measured { size, tables }))
+    let values = sorted_values(alloc, &names)?;
+    Ok(Some(Measured {
+        size,
+        tables,
+        values,
+    }))
 }
 
-/// Writes all blocks into `out`, which has as many bytes as they take.
-pub(crate) fn write_blocks<V: View>(h: &Header, raster: &V, tables: &[bool], out: &mut [u8])
+/// Writes all blocks into `out`, which has as many bytes as they take. The lists of tables of these
+/// values are found by their ranks.
+pub(crate) fn write_blocks<V: View>(
+    h: &Header,
+    raster: &V,
+    tables: &[bool],
+    values: &[u32],
+    out: &mut [u8],
+)
     requires blocked { IsBlocked h.now (V.pixels raster.now) }
     requires tables { AreFlags h.now (V.pixels raster.now) (coded_blocks h.now) tables.now }
+    requires rises { Rises values.now }
+    requires few { length values.now ≤ 256 }
     requires room { length out.old ≡ length (blocks_bytes h.now (V.pixels raster.now)) }
     ensures { out.new ≡ blocks_bytes h.now (V.pixels raster.now) }
 {
+    let mut ranks = Ranks::new(values);
     let mut distances = [0; MOST];
     let mut spot = FIRST;
     let mut at = 0;
     for k in 0..count(h, raster) {
-        at += write_at(h, raster, spot, tables[k], &mut distances, &mut out[at..]);
+        at += write_at(
+            h,
+            raster,
+            spot,
+            tables[k],
+            &mut ranks,
+            &mut distances,
+            &mut out[at..],
+        );
         spot = next_spot(h, raster, spot);
     }
 }

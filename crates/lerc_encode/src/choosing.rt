@@ -60,12 +60,12 @@ fn least_known(sweep: usize, deltas: Option<usize>, plains: Option<usize>) -> us
     least.min(plains.unwrap_or(sweep))
 }
 
-/// The most bytes that blocks of 16 may take and be the shortest.
-fn most_of_large(most: usize, small: &Option<Measured>) -> usize
-    ensures { MatchOption small.now (result ≡ most)
+/// The most bytes that blocks of 8 may take and be the shortest.
+fn most_of_small(most: usize, large: &Option<Measured>) -> usize
+    ensures { MatchOption large.now (result ≡ most)
         (λ m. (result ≡ most) ⊎ (result ≡ m.size)) }
 {
-    match small {
+    match large {
         Some(found) => most.min(found.size),
         None => most,
     }
@@ -83,8 +83,8 @@ fn choose<V: View>(alloc: Global, base: &Header, raster: &V) -> Result<Chosen, A
     let plains = coded_form_len(&codings.plains);
     let most = least_known(sweep, deltas, plains);
     let large_base = with_large(base);
-    let small = measure(alloc, base, raster, most)?;
-    let large = measure(alloc, &large_base, raster, most_of_large(most, &small))?;
+    let large = measure(alloc, &large_base, raster, most)?;
+    let small = measure(alloc, base, raster, most_of_small(most, &large))?;
     let sizes = [
         Some(sweep),
         block_form_len(base, raster, &small),

@@ -7,6 +7,7 @@ ghost use Rattle.lerc_header.specs.declared.header.Version.TheVariants.{V4};
 ghost use Rattle.raster_values.specs.Raster.{values_of};
 ghost use Rattle.lerc_grammar.specs.Blocks.{coded_blocks};
 ghost use Rattle.delta_mode.specs.Deltas.{plain};
+ghost use Rattle.lut_stuff.specs.Ranked.{Rises};
 ghost use Rattle.lerc_encode.specs.Codings.{coding_bytes};
 ghost use Rattle.lerc_encode.specs.Images.{all_deltas, blocks_bytes, coded_form_bytes, mode_bytes};
 ghost use Rattle.lerc_encode.specs.Ranges.{lists_bytes};
@@ -81,10 +82,12 @@ fn write_sweep<V: View>(raster: &V, out: &mut [u8])
     raster.value_bytes(&mut out[1..]);
 }
 
-/// Writes the form of blocks, of which those that are told have tables.
-fn write_measured<V: View>(h: &Header, raster: &V, tables: &[bool], out: &mut [u8])
+/// Writes the form of blocks, of which those that are told have tables, some of these values.
+fn write_measured<V: View>(h: &Header, raster: &V, tables: &[bool], values: &[u32], out: &mut [u8])
     requires blocked { IsBlocked h.now (V.pixels raster.now) }
     requires tables { AreFlags h.now (V.pixels raster.now) (coded_blocks h.now) tables.now }
+    requires rises { Rises values.now }
+    requires few { length values.now ≤ 256 }
     requires room { length out.old
         ≡ length (0 ∷ (mode_bytes (V.pixels raster.now) h.now.step ++ blocks_bytes h.now (V.pixels raster.now))) }
     ensures { out.new ≡ 0 ∷ (mode_bytes (V.pixels raster.now) h.now.step ++ blocks_bytes h.now (V.pixels raster.now)) }
@@ -92,9 +95,9 @@ fn write_measured<V: View>(h: &Header, raster: &V, tables: &[bool], out: &mut [u
     out[0] = 0;
     if has_mode(raster, h.step) {
         out[1] = 0;
-        write_blocks(h, raster, tables, &mut out[2..]);
+        write_blocks(h, raster, tables, values, &mut out[2..]);
     } else {
-        write_blocks(h, raster, tables, &mut out[1..]);
+        write_blocks(h, raster, tables, values, &mut out[1..]);
     }
 }
 
@@ -107,7 +110,7 @@ fn write_block_form<V: View>(h: &Header, raster: &V, found: &Option<Measured>, o
     ensures { out.new ≡ 0 ∷ (mode_bytes (V.pixels raster.now) h.now.step ++ blocks_bytes h.now (V.pixels raster.now)) }
 {
     if let Some(measured) = found {
-        write_measured(h, raster, &measured.tables, out);
+        write_measured(h, raster, &measured.tables, &measured.values, out);
     }
 }
 

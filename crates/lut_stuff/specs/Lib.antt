@@ -1,6 +1,8 @@
 pub mod Lists
 pub mod Faults
 pub mod Tables
+pub mod Ranked
+pub mod Names
 pub mod inside
 pub use Rattle.bit_stuff.specs.Head
 pub use Rattle.bit_stuff.specs.Simple

@@ -7,6 +7,7 @@ ghost use Rattle.bit_stuff.specs.Simple.{IsSimpleList, greatest_number};
 ghost use Rattle.first_fault.specs.Parts.{IsDecided, IsPart};
 ghost use Rattle.lut_stuff.specs.Faults.{list_faults};
 ghost use Rattle.lut_stuff.specs.Lists.{IsList, IsListOf};
+ghost use Rattle.lut_stuff.specs.Ranked.{RanksRise};
 ghost use Rattle.lut_stuff.specs.Tables.{distinct_above_0, entries_of, table_bytes};
 
 /// A list of so many numbers is read in one way, whatever follows it, and bytes begin with one or
@@ -36,4 +37,9 @@ pub fn table_bytes_are_a_list()
         IsList (table_bytes values) values }
     ensures some { (values : List ℕ) →
         (0 < distinct_above_0 values) ↔ (0 < greatest_number values) }
+{}
+
+/// Equal values have equal ranks, and ranks rise with values.
+pub fn ranks_rise_with_values()
+    ensures { RanksRise }
 {}

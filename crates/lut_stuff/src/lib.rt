@@ -7,14 +7,20 @@
 #![tactic(auto)]
 
 mod hashing;
+mod known;
 mod laws;
 mod marking;
+mod naming;
+mod ranking;
 mod reading;
 mod writing;
 
+pub use known::known_len;
 pub use laws::{
-    entries_are_the_different_values, lists_stand_or_have_one_fault, simple_lists_are_lists,
-    table_bytes_are_a_list,
+    entries_are_the_different_values, lists_stand_or_have_one_fault, ranks_rise_with_values,
+    simple_lists_are_lists, table_bytes_are_a_list,
 };
+pub use naming::{NameSet, Names};
+pub use ranking::Ranks;
 pub use reading::read_list;
 pub use writing::{table_len, write_table, write_table_front};

@@ -83,7 +83,7 @@ contains_above kind ds m (k, low, e) =
     let long = length-map ds (value_above kind) in
     (k, omega (arith, long, low), get_or-map (value_above kind) ds k m (value_above kind m) low ∙ ap (value_above kind) e)
 
-least_above : (kind : PixelType) (ds : List ℕ) (l : ℕ) → All (λ d. l ≤ d) ds → Contains ds l → IsLeast (map (value_above kind) ds) (value_above kind l)
+pub least_above : (kind : PixelType) (ds : List ℕ) (l : ℕ) → All (λ d. l ≤ d) ds → Contains ds l → IsLeast (map (value_above kind) ds) (value_above kind l)
 least_above kind ds l all has =
     (contains_above kind ds l has, All-map (λ v. value_above kind l ≤ℤ v) (value_above kind) ds (All-weaker (λ d. l ≤ d) (λ d. value_above kind l ≤ℤ value_above kind d) (λ d h. rises (type_least kind) l d h) ds all))
   where

@@ -1,10 +1,14 @@
 -- Steps of reading a block.
-use Rattle.std.proofs.Common.{◌≡◌, ℕ, zero, suc, ℤ, pos, negsuc, ◌+◌, ◌*◌, ◌/◌, ◌%◌, ◌<◌, ◌≤◌, ◌+ℤ◌, ◌*ℤ◌, ◌≤ℤ◌, List, [], ◌∷◌, ◌++◌, length, get_or, slice_index, take, drop, map, refl, sym, ap, ◌∙◌, subst, inl, inr, arith}
-use Rattle.std.specs.Prelude.{All, Result, Ok, Err, MatchResult, IfOk, ◌↔◌, Option, Some}
+use Rattle.std.proofs.Common.{◌≡◌, ℕ, zero, suc, ℤ, pos, negsuc, ◌+◌, ◌*◌, ◌/◌, ◌%◌, ◌<◌, ◌≤◌, ◌+ℤ◌, ◌*ℤ◌, ◌≤ℤ◌, List, [], ◌∷◌, ◌++◌, length, get_or, slice_index, take, drop, map, refl, sym, ap, ◌∙◌, subst, ◌⊎◌, inl, inr, arith}
+use Rattle.std.specs.Prelude.{All, Result, Ok, Err, MatchResult, IfOk, IsOkAnd, ◌↔◌, Option, Some, replicate, set}
 use Rattle.std.specs.Int.{int_min}
 use Rattle.std.proofs.Math.Seq.{take-add}
-use Rattle.std.proofs.lemmas.Int.{ints, clamps}
-use Rattle.std.proofs.lemmas.List.{length-drop, length-take-le, take-append-drop}
+use Rattle.std.proofs.lemmas.Int.{ints, clamps, to_z-of_z}
+use mir.Syntax.{w64}
+use mir.Val.{SFits, of_z, to_z}
+use Rattle.std.proofs.Math.IntN.{pos-*ℤ-pos}
+use Rattle.std.proofs.lemmas.Bool.{cases_lt}
+use Rattle.std.proofs.lemmas.List.{get_or-map, get_or-set_other, get_or-set_same, length-drop, length-map, length-take-le, take-append-drop}
 use Rattle.std.proofs.lemmas.List.Elements.{All-from_get_or, All-map, All-replicate}
 use Rattle.std.proofs.lemmas.Simd.{map-map}
 use Rattle.byteorder.specs.Endian.{little_number}
@@ -12,14 +16,17 @@ use Rattle.byteorder.specs.Numbers.{little_from-lt, little_from-take}
 use Rattle.first_fault.specs.Parts.{AreBytes}
 use Rattle.raster_values.specs.declared.kind.PixelType.{PixelType}
 use Rattle.raster_values.specs.declared.kind.PixelType.TheVariants.{I8, U8, I16, U16, I32, U32}
-use Rattle.raster_values.specs.PixelType.{InRange, Spells, bytes_of, value_of}
+use Rattle.raster_values.specs.PixelType.{InRange, Spells, bytes_of, type_greatest, type_least, value_of}
+use Rattle.raster_values.specs.Distance.{distance_of}
 use Rattle.raster_values.specs.Values.{AreValues}
+use Rattle.raster_values.proofs.Distances.{value_back}
 use Rattle.raster_values.proofs.Spelled.{value_fits}
 use Rattle.bit_stuff.proofs.Numbers.{bytes_drop}
 use Rattle.lane_kernels.specs.Kernels.{IsSmall, capped_sums}
 use Rattle.lut_stuff.specs.Faults.{list_faults}
 use Rattle.micro_block.specs.declared.context.BlockFault.{BlockFault}
 use Rattle.micro_block.specs.declared.context.BlockReason.{BlockReason}
+use Rattle.micro_block.specs.declared.context.SteppedBlock.{SteppedBlock}
 use Rattle.micro_block.specs.declared.context.BlockReason.TheVariants as reasons
 use Rattle.micro_block.specs.Block.{IsBlock, IsOffset, offset_type, offset_types}
 use Rattle.micro_block.specs.Block as forms
@@ -27,18 +34,23 @@ use Rattle.micro_block.specs.Faults.{block_faults, code_faults, form_faults, off
 use Rattle.raster_values.specs.Step.{IsTwiceError}
 use Rattle.micro_block.specs.Frame.{Frame}
 use Rattle.micro_block.specs.Near.{stands_for}
-use Rattle.micro_block.specs.inside.Tagged.{HasConstant, HasSteps, HasStuffed, HasTagged, as_raw, as_stuffed, as_constant}
+use Rattle.micro_block.specs.ReadSteps.{stepped_values}
+use Rattle.micro_block.specs.inside.Tagged.{FitSteps, HasConstant, HasSteps, HasStuffed, HasTagged, as_constant, as_raw, as_stuffed}
 use Rattle.micro_block.proofs.Blocks.{block_part, of_tag}
 
 -- what is said of an answer that is a fault
-pub told : (r : Result ℕ BlockFault) (Q : ℕ → Type 0) (F : BlockFault → Type 0) (f : BlockFault) → r ≡ Err f → F f → MatchResult r Q F
-told r Q F f e fault = subst (λ (u : Result ℕ BlockFault). MatchResult u Q F) (sym e) fault
+pub told : (r : Result SteppedBlock BlockFault) (Q : SteppedBlock → Type 0) (F : BlockFault → Type 0) (f : BlockFault) → r ≡ Err f → F f → MatchResult r Q F
+told r Q F f e fault = subst (λ (u : Result SteppedBlock BlockFault). MatchResult u Q F) (sym e) fault
+
+-- the same steps, behind n bytes more
+abbrev pub later : ℕ → SteppedBlock → SteppedBlock
+later n s = record { used = n + s.used; offset = s.offset; step = s.step; top = s.top }
 
 -- what is said of the answer of a part behind the first n bytes
-pub told_behind : (n : ℕ) (part r : Result ℕ BlockFault) (Q' Q : ℕ → Type 0) (F' F : BlockFault → Type 0) → MatchResult part (λ used. r ≡ Ok (n + used)) (λ f. r ≡ Err (record { reason = f.reason; at = n + f.at }))
-    → MatchResult part Q' F' → ((used : ℕ) → Q' used → Q (n + used)) → ((f : BlockFault) → F' f → F (record { reason = f.reason; at = n + f.at })) → MatchResult r Q F
-told_behind n (Ok used) r Q' Q F' F is part good bad = subst (λ (u : Result ℕ BlockFault). MatchResult u Q F) (sym is) (good used part)
-told_behind n (Err f) r Q' Q F' F is part good bad = subst (λ (u : Result ℕ BlockFault). MatchResult u Q F) (sym is) (bad f part)
+pub told_behind : (n : ℕ) (part r : Result SteppedBlock BlockFault) (Q' Q : SteppedBlock → Type 0) (F' F : BlockFault → Type 0) → MatchResult part (λ s. r ≡ Ok (later n s)) (λ f. r ≡ Err (record { reason = f.reason; at = n + f.at }))
+    → MatchResult part Q' F' → ((s : SteppedBlock) → Q' s → Q (later n s)) → ((f : BlockFault) → F' f → F (record { reason = f.reason; at = n + f.at })) → MatchResult r Q F
+told_behind n (Ok s) r Q' Q F' F is part good bad = subst (λ (u : Result SteppedBlock BlockFault). MatchResult u Q F) (sym is) (good s part)
+told_behind n (Err f) r Q' Q F' F is part good bad = subst (λ (u : Result SteppedBlock BlockFault). MatchResult u Q F) (sym is) (bad f part)
 
 -- ---- values
 
@@ -51,6 +63,16 @@ value_small U16 v h = (omega (arith, ints), omega (arith, ints))
 value_small I32 v h = (omega (arith, ints), omega (arith, ints))
 value_small U32 v h = (omega (arith, ints), omega (arith, ints))
 
+-- read again as a number of 64 bits it is the same
+pub reread : (kind : PixelType) (v : ℤ) → InRange kind v → to_z w64 (of_z w64 v) ≡ v
+reread kind v h =
+    let s = value_small kind v h in
+    let fits : SFits w64 v = omega (arith, ints, s) in
+    to_z-of_z w64 v fits
+
+pub reread_in : (kind : PixelType) (v : ℤ) → InRange kind v → InRange kind (to_z w64 (of_z w64 v))
+reread_in kind v h = subst (λ (z : ℤ). InRange kind z) (sym (reread kind v h)) h
+
 pub is_small : (kind : PixelType) (v : ℤ) → InRange kind v → IsSmall v
 is_small kind v h = let s = value_small kind v h in omega (arith, ints, s)
 
@@ -58,23 +80,23 @@ pub steps_values : (qs : List ℕ) (out : List ℤ) (offset far top : ℤ) (step
 steps_values qs out offset far top step e o =
     o ∙ (λ i. capped_sums (map pos qs) offset (e i) top) ∙ map-map (λ q. int_min (offset +ℤ q *ℤ pos step) top) pos qs
 
+-- the same, of numbers as the code reads them again
+pub steps_reread : (qs : List ℕ) (x far t offset top : ℤ) (step : ℕ) → x ≡ offset → far ≡ pos step → t ≡ top → capped_sums (map pos qs) x far t ≡ map (stands_for step top offset) qs
+steps_reread qs x far t offset top step ex ef et = steps_values qs (capped_sums (map pos qs) x far t) offset far top step ef (λ i. capped_sums (map pos qs) (ex i) far (et i))
+
 pub step_small : (step : ℕ) → IsTwiceError step → (1 ≤ step) × (step ≤ 8589934590)
 step_small step is = (omega (arith, is.above), is.below)
 
--- the same, of numbers as the code reads them again
-pub steps_read : (qs : List ℕ) (out : List ℤ) (x far t offset top : ℤ) (step : ℕ) → x ≡ offset → far ≡ pos step → t ≡ top → out ≡ capped_sums (map pos qs) x far t → out ≡ map (stands_for step top offset) qs
-steps_read qs out x far t offset top step ex ef et o = steps_values qs out offset far top step ef (o ∙ (λ i. capped_sums (map pos qs) (ex i) far (et i)))
-
 -- ---- an offset and a list
 
-pub stuffed_told : (f : Frame) (type : PixelType) (bytes rest : List ℕ) (offset : ℤ) (values : List ℤ) (part r : Result ℕ BlockFault) → bytes_of type ≤ length bytes → rest ≡ drop (bytes_of type) bytes → Spells type bytes offset
-    → MatchResult part (λ k. r ≡ Ok (bytes_of type + k)) (λ w. r ≡ Err (record { reason = w.reason; at = bytes_of type + w.at }))
-    → MatchResult part (λ k. HasSteps f offset rest k values) (λ w. (w.at ≤ length rest) × told_of_list (list_faults f.count rest) w.at w.reason)
-    → MatchResult r (λ k. HasStuffed f type bytes k values) (λ w. (w.at ≤ length bytes) × offset_faults f 1 type bytes w.at w.reason)
-stuffed_told f type bytes rest offset values part r room behind spells is read =
-    told_behind (bytes_of type) part r (λ k. HasSteps f offset rest k values) (λ k. HasStuffed f type bytes k values)
+pub stuffed_told : (f : Frame) (type : PixelType) (bytes rest numbers : List ℕ) (offset : ℤ) (part r : Result SteppedBlock BlockFault) → bytes_of type ≤ length bytes → rest ≡ drop (bytes_of type) bytes → Spells type bytes offset
+    → MatchResult part (λ s. r ≡ Ok (later (bytes_of type) s)) (λ w. r ≡ Err (record { reason = w.reason; at = bytes_of type + w.at }))
+    → MatchResult part (λ s. HasSteps f offset rest s.used (stepped_values s numbers) × FitSteps f.kind s) (λ w. (w.at ≤ length rest) × told_of_list (list_faults f.count rest) w.at w.reason)
+    → MatchResult r (λ s. HasStuffed f type bytes s.used (stepped_values s numbers) × FitSteps f.kind s) (λ w. (w.at ≤ length bytes) × offset_faults f 1 type bytes w.at w.reason)
+stuffed_told f type bytes rest numbers offset part r room behind spells is read =
+    told_behind (bytes_of type) part r (λ s. HasSteps f offset rest s.used (stepped_values s numbers) × FitSteps f.kind s) (λ s. HasStuffed f type bytes s.used (stepped_values s numbers) × FitSteps f.kind s)
     (λ w. (w.at ≤ length rest) × told_of_list (list_faults f.count rest) w.at w.reason) (λ w. (w.at ≤ length bytes) × offset_faults f 1 type bytes w.at w.reason) is read
-    (λ k s. record { room = room; offset = offset; spells = spells; taken = k; size = refl; steps = subst (λ (u : List ℕ). HasSteps f offset u k values) behind s })
+    (λ s x. (record { room = room; offset = offset; spells = spells; taken = s.used; size = refl; steps = subst (λ (u : List ℕ). HasSteps f offset u s.used (stepped_values s numbers)) behind x.0 }, x.1))
     (λ w x. (omega (arith, room, x.0, ap length behind, length-drop (bytes_of type) bytes), inl (room, inl (refl, (w.at, (refl, subst (λ (u : List ℕ). told_of_list (list_faults f.count u) w.at w.reason) behind x.1))))))
 
 -- ---- what follows a tag
@@ -138,39 +160,135 @@ pub other_column : (f : Frame) (bytes : List ℕ) (at : ℕ) (r : BlockReason) �
 unfolding block_faults
 other_column f bytes at r there other place why = (omega (arith, place), inl (there, inr (other, (place, why))))
 
-pub tag_told : (f : Frame) (bytes rest : List ℕ) (tag : ℕ) (values : List ℤ) (r : Result ℕ BlockFault) → 0 < length bytes → tag ≡ slice_index bytes 0 → rest ≡ drop 1 bytes → tag / 4 % 16 ≡ f.col / 8 % 16
-    → MatchResult r (λ k. HasTagged f tag rest k values) (λ w. (w.at ≤ 1 + length rest) × form_faults f tag rest w.at w.reason)
-    → MatchResult r (λ k. (k ≤ length bytes) × IsBlock f (take k bytes) values) (λ w. (w.at ≤ length bytes) × block_faults f bytes w.at w.reason)
-tag_told f bytes rest tag values (Ok k) there first behind column read = tag_stands f bytes rest tag k values there first behind column read
-tag_told f bytes rest tag values (Err w) there first behind column read = tag_wrong f bytes rest tag w.at w.reason there first behind column read
+pub tag_told : (f : Frame) (bytes rest : List ℕ) (tag : ℕ) (numbers : List ℕ) (r : Result SteppedBlock BlockFault) → 0 < length bytes → tag ≡ slice_index bytes 0 → rest ≡ drop 1 bytes → tag / 4 % 16 ≡ f.col / 8 % 16
+    → MatchResult r (λ s. HasTagged f tag rest s.used (stepped_values s numbers) × FitSteps f.kind s) (λ w. (w.at ≤ 1 + length rest) × form_faults f tag rest w.at w.reason)
+    → MatchResult r (λ s. ((s.used ≤ length bytes) × IsBlock f (take s.used bytes) (stepped_values s numbers)) × FitSteps f.kind s) (λ w. (w.at ≤ length bytes) × block_faults f bytes w.at w.reason)
+tag_told f bytes rest tag numbers (Ok s) there first behind column read = (tag_stands f bytes rest tag s.used (stepped_values s numbers) there first behind column read.0, read.1)
+tag_told f bytes rest tag numbers (Err w) there first behind column read = tag_wrong f bytes rest tag w.at w.reason there first behind column read
 
--- ---- the clauses of the reader
+-- ---- the clauses of the readers
 
-abbrev Read : Frame → List ℕ → List ℤ → Result ℕ BlockFault → Type 0
-Read f bytes values r = MatchResult r (λ k. (k ≤ length bytes) × IsBlock f (take k bytes) values) (λ w. (w.at ≤ length bytes) × block_faults f bytes w.at w.reason)
+-- by what is answered: how many bytes of it are the block, and the values
+abbrev pub Read : {A : Type 0} → Frame → List ℕ → (A → ℕ) → (A → List ℤ) → Result A BlockFault → Type 0
+Read f bytes used values r = MatchResult r (λ x. (used x ≤ length bytes) × IsBlock f (take (used x) bytes) (values x)) (λ w. (w.at ≤ length bytes) × block_faults f bytes w.at w.reason)
 
-pub read_ok : (f : Frame) (bytes : List ℕ) (values : List ℤ) (r : Result ℕ BlockFault) → Read f bytes values r → IfOk r (λ k. (k ≤ length bytes) × IsBlock f (take k bytes) values)
-read_ok f bytes values (Ok k) read = read
-read_ok f bytes values (Err w) read = tt
+pub read_ok : {A : Type 0} (f : Frame) (bytes : List ℕ) (used : A → ℕ) (values : A → List ℤ) (r : Result A BlockFault) → Read f bytes used values r → IfOk r (λ x. (used x ≤ length bytes) × IsBlock f (take (used x) bytes) (values x))
+read_ok f bytes used values (Ok x) read = read
+read_ok f bytes used values (Err w) read = tt
 
-pub read_complete : (f : Frame) (bytes : List ℕ) (values : List ℤ) (r : Result ℕ BlockFault) → Read f bytes values r
-    → (front rest : List ℕ) (xs : List ℤ) → bytes ≡ front ++ rest → IsBlock f front xs → (r ≡ Ok (length front)) × (values ≡ xs)
-read_complete f bytes values (Ok k) read front rest xs joined block =
-    let same = (block_part f).once (take k bytes) front (drop k bytes) rest values xs read.1 block (take-append-drop k bytes ∙ joined) in
-    (ap (λ (m : ℕ). Ok m) (sym (length-take-le k bytes read.0) ∙ ap length same.0), same.1)
-read_complete f bytes values (Err w) read front rest xs joined block =
-    absurd ((block_part f).either front rest xs w.at w.reason block (subst (λ (u : List ℕ). block_faults f u w.at w.reason) joined read.1))
+pub read_complete : {A : Type 0} (f : Frame) (bytes : List ℕ) (used : A → ℕ) (values : A → List ℤ) (r : Result A BlockFault) → Read f bytes used values r
+    → (front rest : List ℕ) (xs : List ℤ) → bytes ≡ front ++ rest → IsBlock f front xs → IsOkAnd r (λ x. (used x ≡ length front) × (values x ≡ xs))
+read_complete f bytes used values (Ok x) read front rest xs joined block =
+    let same = (block_part f).once (take (used x) bytes) front (drop (used x) bytes) rest (values x) xs read.1 block (take-append-drop (used x) bytes ∙ joined) in
+    (sym (length-take-le (used x) bytes read.0) ∙ ap length same.0, same.1)
+read_complete f bytes used values (Err w) read front rest xs joined block =
+    (block_part f).either front rest xs w.at w.reason block (subst (λ (u : List ℕ). block_faults f u w.at w.reason) joined read.1)
 
-same_err : (r : Result ℕ BlockFault) (g h : BlockFault) → r ≡ Err g → r ≡ Err h → g ≡ h
+-- where the answer is the number of bytes
+pub answer_is : (r : Result ℕ BlockFault) (n : ℕ) (values xs : List ℤ) → IsOkAnd r (λ k. (k ≡ n) × (values ≡ xs)) → (r ≡ Ok n) × (values ≡ xs)
+answer_is (Ok k) n values xs is = (ap (λ (m : ℕ). Ok m) is.0, is.1)
+answer_is (Err w) n values xs is = absurd is
+
+same_err : {A : Type 0} (r : Result A BlockFault) (g h : BlockFault) → r ≡ Err g → r ≡ Err h → g ≡ h
 same_err r g h e d = cc
 
-pub read_fault : (f : Frame) (bytes : List ℕ) (values : List ℤ) (r : Result ℕ BlockFault) → Read f bytes values r → (w : BlockFault) → (r ≡ Err w) ↔ block_faults f bytes w.at w.reason
-read_fault f bytes values (Ok k) read w =
-    ((λ e. absurd (cc)), λ x. absurd ((block_part f).either (take k bytes) (drop k bytes) values w.at w.reason read.1 (subst (λ (u : List ℕ). block_faults f u w.at w.reason) (sym (take-append-drop k bytes)) x)))
-read_fault f bytes values (Err g) read w =
-    let there : Err g ≡ Err w → block_faults f bytes w.at w.reason = λ e. subst (λ (h : BlockFault). block_faults f bytes h.at h.reason) (same_err (Err g) g w refl e) read.1 in
-    let back : block_faults f bytes w.at w.reason → Err g ≡ Err w = λ x. let same = (block_part f).single bytes g.at w.at g.reason w.reason read.1 x in λ i. Err (record { reason = same.1 i; at = same.0 i }) in
+abbrev failed_with : (A : Type 0) → BlockFault → Result A BlockFault
+failed_with A g = Err g
+
+pub read_fault : {A : Type 0} (f : Frame) (bytes : List ℕ) (used : A → ℕ) (values : A → List ℤ) (r : Result A BlockFault) → Read f bytes used values r → (w : BlockFault) → (r ≡ Err w) ↔ block_faults f bytes w.at w.reason
+read_fault f bytes used values (Ok x) read w =
+    ((λ e. absurd (cc)), λ y. absurd ((block_part f).either (take (used x) bytes) (drop (used x) bytes) (values x) w.at w.reason read.1 (subst (λ (u : List ℕ). block_faults f u w.at w.reason) (sym (take-append-drop (used x) bytes)) y)))
+read_fault {A = A} f bytes used values (Err g) read w =
+    let there : failed_with A g ≡ failed_with A w → block_faults f bytes w.at w.reason = λ e. subst (λ (h : BlockFault). block_faults f bytes h.at h.reason) (same_err (failed_with A g) g w refl e) read.1 in
+    let back : block_faults f bytes w.at w.reason → failed_with A g ≡ failed_with A w = λ x. let same = (block_part f).single bytes g.at w.at g.reason w.reason read.1 x in λ i. Err (record { reason = same.1 i; at = same.0 i }) in
     (there, back)
+
+-- steps that are read, without what else is said of them
+pub steps_read : (f : Frame) (bytes numbers : List ℕ) (r : Result SteppedBlock BlockFault)
+    → MatchResult r (λ s. ((s.used ≤ length bytes) × IsBlock f (take s.used bytes) (stepped_values s numbers)) × FitSteps f.kind s) (λ w. (w.at ≤ length bytes) × block_faults f bytes w.at w.reason)
+    → Read f bytes (λ s. s.used) (λ s. stepped_values s numbers) r
+steps_read f bytes numbers (Ok s) read = read.0
+steps_read f bytes numbers (Err w) read = read
+
+-- ---- the forms as steps
+
+-- what holds of each number so far, and of one more
+pub one_more : {X : Type 0} (out : List X) (i : ℕ) (w d : X) (f : ℕ → X) → i < length out → w ≡ f i → ((k : ℕ) → k < i → get_or out k d ≡ f k) → (k : ℕ) → k < i + 1 → get_or (set out i w) k d ≡ f k
+one_more {X} out i w d f within e before k lt = pick (cases_lt k i)
+  where
+    pick : (k < i) ⊎ (i ≤ k) → get_or (set out i w) k d ≡ f k
+    pick (inl below) = get_or-set_other out i k w d (λ same. omega (arith, below, same)) ∙ before k below
+    pick (inr past) = let same : i ≡ k = omega (arith, past, lt) in subst (λ (n : ℕ). get_or (set out i w) n d ≡ f n) same (get_or-set_same out i w d within ∙ e)
+
+least_in : (kind : PixelType) → InRange kind (type_least kind)
+least_in I8 = (omega (arith, ints), omega (arith, ints))
+least_in U8 = (omega (arith, ints), omega (arith, ints))
+least_in I16 = (omega (arith, ints), omega (arith, ints))
+least_in U16 = (omega (arith, ints), omega (arith, ints))
+least_in I32 = (omega (arith, ints), omega (arith, ints))
+least_in U32 = (omega (arith, ints), omega (arith, ints))
+
+greatest_in : (kind : PixelType) → InRange kind (type_greatest kind)
+greatest_in I8 = (omega (arith, ints), omega (arith, ints))
+greatest_in U8 = (omega (arith, ints), omega (arith, ints))
+greatest_in I16 = (omega (arith, ints), omega (arith, ints))
+greatest_in U16 = (omega (arith, ints), omega (arith, ints))
+greatest_in I32 = (omega (arith, ints), omega (arith, ints))
+greatest_in U32 = (omega (arith, ints), omega (arith, ints))
+
+-- steps of 1 up to the type's greatest, from a value of the type
+pub ones_fit : (kind : PixelType) (used : ℕ) (offset top : ℤ) → InRange kind offset → top ≡ type_greatest kind → FitSteps kind (record { used = used; offset = offset; step = pos 1; top = top })
+ones_fit kind used offset top low e = ((low, subst (λ (z : ℤ). InRange kind z) (sym e) (greatest_in kind)), (omega (arith, ints), omega (arith, ints)))
+
+pub raw_fit : (kind : PixelType) (used : ℕ) (offset top : ℤ) → offset ≡ type_least kind → top ≡ type_greatest kind → FitSteps kind (record { used = used; offset = offset; step = pos 1; top = top })
+raw_fit kind used offset top low e = ones_fit kind used offset top (subst (λ (z : ℤ). InRange kind z) (sym low) (least_in kind)) e
+
+-- no step from a value of the type is the value
+none_from : (v top : ℤ) → v ≤ℤ top → int_min (v +ℤ pos 0 *ℤ pos 1) top ≡ v
+none_from v top low = omega (arith, ints, clamps)
+
+none_each : (n : ℕ) (v top : ℤ) → v ≤ℤ top → capped_sums (map pos (replicate n 0)) v (pos 1) top ≡ replicate n v
+none_each zero v top low = refl
+none_each (suc n) v top low = λ i. none_from v top low i ∷ none_each n v top low i
+
+pub all_alike_are : (kind : PixelType) (numbers : List ℕ) (n : ℕ) (x v top : ℤ) → numbers ≡ replicate n 0 → x ≡ v → InRange kind v → top ≡ type_greatest kind → capped_sums (map pos numbers) x (pos 1) top ≡ replicate n v
+all_alike_are kind numbers n x v top all same h e =
+    (λ i. capped_sums (map pos (all i)) (same i) (pos 1) top) ∙ none_each n v top (subst (λ (z : ℤ). v ≤ℤ z) (sym e) h.1)
+
+-- as many steps of 1 from the least as a value is above it lead to the value
+back_up : (kind : PixelType) (v : ℤ) → InRange kind v → int_min (type_least kind +ℤ pos (distance_of kind v) *ℤ pos 1) (type_greatest kind) ≡ v
+back_up kind v h =
+    let one : pos (distance_of kind v) *ℤ pos 1 ≡ pos (distance_of kind v) = pos-*ℤ-pos (distance_of kind v) 1 ∙ ap pos (omega arith) in
+    ap (λ (z : ℤ). int_min (type_least kind +ℤ z) (type_greatest kind)) one
+    ∙ ap (λ (z : ℤ). int_min z (type_greatest kind)) (value_back kind v h)
+    ∙ within v (type_greatest kind) h.1
+  where
+    within : (v top : ℤ) → v ≤ℤ top → int_min v top ≡ v
+    within v top low = omega (arith, ints, clamps)
+
+-- so many steps of 1 from the least
+abbrev raw_sums : PixelType → List ℕ → List ℤ
+raw_sums kind numbers = capped_sums (map pos numbers) (type_least kind) (pos 1) (type_greatest kind)
+
+raw_long : (kind : PixelType) (numbers : List ℕ) → length (raw_sums kind numbers) ≡ length numbers
+raw_long kind numbers = length-map (map pos numbers) (λ q. int_min (type_least kind +ℤ q *ℤ pos 1) (type_greatest kind)) ∙ length-map numbers pos
+
+raw_at : (kind : PixelType) (numbers : List ℕ) (k : ℕ) (v : ℤ) → k < length numbers → InRange kind v → get_or numbers k 0 ≡ distance_of kind v → get_or (raw_sums kind numbers) k (pos 0) ≡ v
+raw_at kind numbers k v lt h e =
+    get_or-map (λ q. int_min (type_least kind +ℤ q *ℤ pos 1) (type_greatest kind)) (map pos numbers) k (pos 0) (pos 0) (omega (arith, lt, length-map numbers pos))
+    ∙ ap (λ (q : ℤ). int_min (type_least kind +ℤ q *ℤ pos 1) (type_greatest kind)) (get_or-map pos numbers k 0 (pos 0) lt ∙ ap pos e)
+    ∙ back_up kind v h
+
+pub raw_are : (kind : PixelType) (bytes numbers : List ℕ) → AreBytes bytes → length bytes ≡ length numbers * bytes_of kind
+    → ((k : ℕ) → k < length numbers → get_or numbers k 0 ≡ distance_of kind (value_of kind (little_number (bytes_of kind) (drop (k * bytes_of kind) bytes))))
+    → AreValues kind bytes (capped_sums (map pos numbers) (type_least kind) (pos 1) (type_greatest kind))
+raw_are kind bytes numbers are size each = record {
+  size = size ∙ ap (λ (n : ℕ). n * bytes_of kind) (sym (raw_long kind numbers));
+  each = λ k lt.
+      let below : k < length numbers = omega (arith, lt, raw_long kind numbers) in
+      raw_at kind numbers k (value_of kind (little_number (bytes_of kind) (drop (k * bytes_of kind) bytes))) below
+      (value_fits kind (little_number (bytes_of kind) (drop (k * bytes_of kind) bytes)) (little_from-lt 0 (bytes_of kind) (drop (k * bytes_of kind) bytes) (bytes_drop (k * bytes_of kind) bytes are))) (each k below);
+}
 
 -- ---- the values are the type's
 
@@ -255,6 +373,6 @@ block_in_range f bytes values are top (forms.constant tag code front offset join
 take_bytes : (n : ℕ) (bytes : List ℕ) → AreBytes bytes → AreBytes (take n bytes)
 take_bytes n bytes are = front_bytes (take n bytes) (drop n bytes) (subst (λ (u : List ℕ). AreBytes u) (sym (take-append-drop n bytes)) are)
 
-pub read_in_range : (f : Frame) (bytes : List ℕ) (values : List ℤ) (r : Result ℕ BlockFault) → AreBytes bytes → InRange f.kind f.top → Read f bytes values r → IfOk r (λ _. All (InRange f.kind) values)
-read_in_range f bytes values (Ok k) are top read = block_in_range f (take k bytes) values (take_bytes k bytes are) top read.1
-read_in_range f bytes values (Err w) are top read = tt
+pub read_in_range : {A : Type 0} (f : Frame) (bytes : List ℕ) (used : A → ℕ) (values : A → List ℤ) (r : Result A BlockFault) → AreBytes bytes → InRange f.kind f.top → Read f bytes used values r → IfOk r (λ x. All (InRange f.kind) (values x))
+read_in_range f bytes used values (Ok x) are top read = block_in_range f (take (used x) bytes) (values x) (take_bytes (used x) bytes are) top read.1
+read_in_range f bytes used values (Err w) are top read = tt

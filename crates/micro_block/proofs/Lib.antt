@@ -16,3 +16,4 @@ mod QuantiseSteps
 mod ShortTables
 mod InPlace
 mod KeptBounds
+mod FarApart

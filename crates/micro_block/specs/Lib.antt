@@ -4,8 +4,12 @@ pub mod Fewest
 pub mod ChosenBlock
 pub mod Block
 pub mod Faults
+pub mod ReadSteps
 pub mod inside
 pub use Rattle.raster_values.specs.PixelType
 pub use Rattle.raster_values.specs.Step
 pub use Rattle.raster_values.specs.Values
 pub use Rattle.lut_stuff.specs.Lists
+pub use Rattle.lut_stuff.specs.Names
+pub use Rattle.lut_stuff.specs.Ranked
+pub use Rattle.lane_kernels.specs.Kernels

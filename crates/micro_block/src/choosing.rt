@@ -36,7 +36,7 @@ pub(crate) enum BlockForm {
 
 impl BlockForm {
     /// Whether it is the form with a table.
-    fn is_table(self) -> bool
+    pub(crate) fn is_table(self) -> bool
         ensures { IsTrue result ↔ (named self ≡ chosen_block.table) }
     {
         match self {
@@ -72,7 +72,7 @@ fn form_at(place: usize) -> BlockForm
 
 /// The form of the fewest bytes among those that may be, the first of such, for so many values of
 /// which so much is known.
-fn fewest(count: usize, kind: PixelType, spread: Spread, tabled: Option<usize>) -> Chosen
+pub(crate) fn fewest(count: usize, kind: PixelType, spread: Spread, tabled: Option<usize>) -> Chosen
     requires few { count ≤ 256 }
     requires least { IsDistance kind spread.least }
     requires tabled { IfSome tabled (λ n. n ≤ 2000) }

@@ -1,4 +1,4 @@
-// What a block depends on, and what is wrong with one.
+// What a block depends on, what is read of it, and what is wrong with one.
 
 use bit_stuff::ListReason;
 use raster_values::PixelType;
@@ -14,6 +14,20 @@ pub struct BlockCtx {
     /// The step, twice the greatest error.
     pub step: u64,
     /// The greatest value that a block of this depth may have.
+    pub top: i64,
+}
+
+/// What is read of a block beside its numbers of steps: each value is so many steps from the offset,
+/// or the top where that is less.
+#[derive(Clone, Copy, Debug, PartialEq, Eq)]
+pub struct SteppedBlock {
+    /// How many bytes the block takes.
+    pub used: usize,
+    /// What the steps are counted from: a value of the type.
+    pub offset: i64,
+    /// How far a step leads: 1 to 2^33.
+    pub step: i64,
+    /// The greatest value that any number of steps leads to: a value of the type.
     pub top: i64,
 }
 

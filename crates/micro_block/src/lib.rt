@@ -9,6 +9,7 @@
 mod choosing;
 mod context;
 mod distances;
+mod few;
 mod first;
 mod laws;
 mod quantising;
@@ -20,12 +21,13 @@ mod stepping;
 mod writing;
 
 pub use choosing::{BlockSize, block_len, block_size};
-pub use context::{BlockCtx, BlockFault, BlockReason};
+pub use context::{BlockCtx, BlockFault, BlockReason, SteppedBlock};
+pub use few::{named_size, write_ranked};
 pub use first::first_least;
 pub use laws::{
     block_values_are_in_range, blocks_stand_or_have_one_fault, first_least_is_first,
     written_blocks_stand,
 };
 pub use quantising::quantise;
-pub use reading::{read_block, read_values};
+pub use reading::{read_block, read_steps, read_values};
 pub use writing::{write_block, write_distances};

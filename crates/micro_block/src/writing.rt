@@ -37,7 +37,7 @@ fn tag(col: u32, form: u8, code: u8) -> u8
 }
 
 /// Writes the tag and the offset of a form over the front of `out`; how many bytes that took.
-fn write_offset(form: u8, col: u32, kind: PixelType, least: i64, out: &mut [u8]) -> usize
+pub(crate) fn write_offset(form: u8, col: u32, kind: PixelType, least: i64, out: &mut [u8]) -> usize
     requires form { form < 4 }
     requires fits { InRange kind least }
     requires room { 1 + bytes_of (narrow_type kind least) ≤ length out.old }
@@ -169,7 +169,13 @@ fn write_table_steps(
 
 /// Writes the list of the numbers of steps in the table form over the front of `out`; how many
 /// bytes it takes.
-fn write_table_list(distances: &[u32], least: u32, rule: Rule, step: u64, out: &mut [u8]) -> usize
+pub(crate) fn write_table_list(
+    distances: &[u32],
+    least: u32,
+    rule: Rule,
+    step: u64,
+    out: &mut [u8],
+) -> usize
     requires listable { AreListable step least rule distances.now }
     requires table { let qs = map (steps_above step least) distances.now in
         table_size qs ≡ Some (length (table_bytes qs)) }

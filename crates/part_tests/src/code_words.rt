@@ -1,10 +1,11 @@
 //! Code tables and code words that are read, over `huff_codes`.
 
-ghost use Rattle.std.specs.Prelude.{◌^◌, ◌≤◌, length};
+ghost use Rattle.std.specs.Prelude.{◌^◌, ◌≡◌, ◌≤◌, length};
+ghost use Rattle.huff_codes.specs.Readers.{IsReader, left_of};
 
 use crate::same::same;
 use bit_stuff::ListReason;
-use huff_codes::{CodeFault, CodeReason, read_symbols, read_table};
+use huff_codes::{CodeFault, CodeReason, SymbolReader, read_symbols, read_table};
 use std::process::Abort;
 
 /// Codes of 255, 0 and 1: `11`, `10` and `0`. The range 255 to 257 wraps.
@@ -204,4 +205,54 @@ fn many_symbols_are_read_with_codes_of_one_to_13_bits(rt: HostRuntime) {
     for word in symbols.chunks_exact(8) {
         same(&rt, "a word", word, &[0, 1, 2, 3, 4, 12, 1, 1]);
     }
+}
+
+/// Reads 97 symbols in pieces of 1, 5, 64 and 27; how many bytes their words take.
+fn read_pieces(reader: &mut SymbolReader, out: &mut [u8]) -> Result<usize, CodeFault>
+    requires reader { IsReader reader.old }
+    requires left { left_of reader.old ≡ 97 }
+    requires room { length out.old ≡ 97 }
+{
+    reader.read(&mut out[..1])?;
+    reader.read(&mut out[1..6])?;
+    reader.read(&mut out[6..70])?;
+    reader.read(&mut out[70..])?;
+    reader.end()
+}
+
+/// Behind the bytes of a table 97 symbols are read in pieces as they are at once, or with the same
+/// fault.
+fn expect_pieces(rt: &impl Abort, at: &'static str, bytes: &[u8]) {
+    let mut whole = [0u8; 97];
+    let mut pieces = [0u8; 97];
+    if let Ok((codes, used)) = read_table(bytes) {
+        assert!(rt; used <= bytes.len());
+        let words = &bytes[used..];
+        let wanted = read_symbols(words, &codes, &mut whole);
+        let mut reader = SymbolReader::new(words, &codes, 97);
+        let told = wanted.is_ok();
+        same(rt, at, read_pieces(&mut reader, &mut pieces), wanted);
+        if told {
+            same(rt, at, pieces, whole);
+        }
+    }
+}
+
+/// The same of so many bytes in front.
+fn expect_front(rt: &impl Abort, at: &'static str, bytes: &[u8], count: usize) {
+    assert!(rt; count <= bytes.len());
+    expect_pieces(rt, at, &bytes[..count]);
+}
+
+#[test]
+fn words_are_read_in_pieces_as_at_once(rt: HostRuntime) {
+    let words = many_words();
+    expect_pieces(&rt, "codes of one to 13 bits", &words);
+    // the 13 words of 97 symbols without the further word, and the ninth word cut
+    expect_front(&rt, "no further word", &words, 167);
+    expect_front(&rt, "cut within", &words, 150);
+    expect_pieces(&rt, "one code", &ALONE);
+    let mut stray = ALONE;
+    stray[30] = 0x40;
+    expect_pieces(&rt, "no code", &stray);
 }

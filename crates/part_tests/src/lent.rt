@@ -14,14 +14,13 @@ const CORNERS: [u8; 2] = *b"\xa0\xff";
 const ROW: [u8; 3] = *b"\x7f\xc8\xff";
 
 #[test]
-fn invalid_pixels_alone_are_cleared(rt: HostRuntime) {
+fn arrays_with_invalid_pixels_are_cleared(rt: HostRuntime) {
     let mut bytes = *b"\x01\x02\x03\x04\x05\x06\x07\x08\x09";
     let _lent = Lent::over(PixelType::U8, 3, 3, 1, &CORNERS, &mut bytes);
-    same(&rt, "one byte", bytes, *b"\x01\0\x03\0\0\0\0\0\x09");
+    same(&rt, "one byte", bytes, [0; 9]);
     let mut deep = *b"abcdefghijklmnopqrstuvwxyzABCDEFGHIJ";
     let _lent = Lent::over(PixelType::I16, 3, 3, 2, &CORNERS, &mut deep);
-    let want = *b"abcd\0\0\0\0ijkl\0\0\0\0\0\0\0\0\0\0\0\0\0\0\0\0\0\0\0\0GHIJ";
-    same(&rt, "two bytes, two depths", deep, want);
+    same(&rt, "two bytes, two depths", deep, [0; 36]);
 }
 
 #[test]
@@ -82,7 +81,7 @@ fn values_of_one_byte(rt: HostRuntime) {
     has_row(&rt, &lent, 0, [1, 0, 254]);
     same(&rt, "unsigned", bytes, *b"\x01\0\xfe\0\0\0\0\0\x80");
     let mut lent = Lent::over(PixelType::I8, 3, 3, 1, &CORNERS, &mut bytes);
-    has_row(&rt, &lent, 0, [1, 0, -2]);
+    has_row(&rt, &lent, 0, [0, 0, 0]);
     pour_one(&rt, &mut lent, b"\x7f\x00\xff");
     has_row(&rt, &lent, 6, [0, 0, -1]);
     same(&rt, "signed", bytes, *b"\x7f\0\0\0\0\0\0\0\xff");
@@ -96,7 +95,9 @@ fn values_of_two_bytes(rt: HostRuntime) {
     has_row(&rt, &lent, 0, [1, 0, 65534]);
     let want = *b"\x01\0\0\0\xfe\xff\0\0\0\0\0\0\0\0\0\0\0\x80";
     same(&rt, "unsigned", bytes, want);
-    let lent = Lent::over(PixelType::I16, 3, 3, 1, &CORNERS, &mut bytes);
+    let mut lent = Lent::over(PixelType::I16, 3, 3, 1, &CORNERS, &mut bytes);
+    pour_two(&rt, &mut lent, b"\x01\x00\xfe\xff\x00\x80");
+    has_row(&rt, &lent, 0, [1, 0, -2]);
     has_row(&rt, &lent, 6, [0, 0, -32768]);
 }
 
@@ -106,7 +107,8 @@ fn values_of_four_bytes(rt: HostRuntime) {
     let mut lent = Lent::over(PixelType::U32, 3, 3, 1, &CORNERS, &mut bytes);
     pour_four(&rt, &mut lent, b"\x01\0\0\0\xfe\xff\xff\xff\0\0\0\x80");
     has_row(&rt, &lent, 0, [1, 0, 4294967294]);
-    let lent = Lent::over(PixelType::I32, 3, 3, 1, &CORNERS, &mut bytes);
+    let mut lent = Lent::over(PixelType::I32, 3, 3, 1, &CORNERS, &mut bytes);
+    pour_four(&rt, &mut lent, b"\x01\0\0\0\xfe\xff\xff\xff\0\0\0\x80");
     has_row(&rt, &lent, 0, [1, 0, -2]);
     has_row(&rt, &lent, 6, [0, 0, -2147483648]);
 }

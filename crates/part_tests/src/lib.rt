@@ -20,11 +20,17 @@ mod lent;
 #[cfg(test)]
 mod list_forms;
 #[cfg(test)]
+mod names;
+#[cfg(test)]
 mod prefixes;
 #[cfg(test)]
 mod runs;
 #[cfg(test)]
 mod same;
+#[cfg(test)]
+mod seen;
+#[cfg(test)]
+mod steps;
 #[cfg(test)]
 mod stuffed_bits;
 #[cfg(test)]

@@ -287,6 +287,51 @@ fn a_depth_has_its_own_predictors_and_changes_alone(rt: HostRuntime) {
     expect_all(&rt, &raster, ONE_CHANGED);
 }
 
+/// Two rows of two pixels with three depths, all valid.
+const THREE_DEPTHS: Placed = &[
+    (0, 0, 0, 10),
+    (0, 1, 0, 12),
+    (1, 0, 0, 9),
+    (1, 1, 0, 200),
+    (0, 0, 1, 100),
+    (0, 1, 1, 100),
+    (1, 0, 1, 101),
+    (1, 1, 1, 99),
+    (0, 0, 2, 255),
+    (0, 1, 2, 0),
+    (1, 0, 2, 1),
+    (1, 1, 2, 2),
+];
+
+#[test]
+fn each_depth_of_a_full_raster_has_its_own_predictors(rt: HostRuntime) {
+    let raster = raster_of(&rt, rt.alloc(), PixelType::U8, (2, 2, 3), THREE_DEPTHS);
+    expect_deltas(&rt, "the first depth", &raster, 0, &[10, 2, 255, 191]);
+    expect_deltas(&rt, "the second depth", &raster, 1, &[100, 0, 1, 254]);
+    expect_deltas(&rt, "the third depth", &raster, 2, &[255, 1, 2, 1]);
+}
+
+/// A column of four pixels with three depths, of which the third pixel is not valid.
+const MASKED_COLUMN: Placed = &[
+    (0, 0, 0, 10),
+    (1, 0, 0, 12),
+    (3, 0, 0, 20),
+    (0, 0, 1, 1),
+    (1, 0, 1, 0),
+    (3, 0, 1, 255),
+    (0, 0, 2, 7),
+    (1, 0, 2, 7),
+    (3, 0, 2, 8),
+];
+
+#[test]
+fn each_depth_of_a_masked_column_has_its_own_predictors(rt: HostRuntime) {
+    let raster = raster_of(&rt, rt.alloc(), PixelType::U8, (4, 1, 3), MASKED_COLUMN);
+    expect_deltas(&rt, "the first depth", &raster, 0, &[10, 2, 8]);
+    expect_deltas(&rt, "the second depth", &raster, 1, &[1, 255, 255]);
+    expect_deltas(&rt, "the third depth", &raster, 2, &[7, 0, 1]);
+}
+
 /// Makes each pixel valid, with this value.
 fn fill(rt: &impl Abort, raster: &mut Raster, value: i64) {
     assert!(rt; has_value(raster.kind(), value));
@@ -317,8 +362,8 @@ const LONG_SYMBOLS: &[(usize, u8)] = &[
 ];
 
 /// The symbol at a place is this one.
-fn expect_symbol(rt: &impl Abort, symbols: &[u8; 600], place: usize, symbol: u8) {
-    assert!(rt; place < 600);
+fn expect_symbol(rt: &impl Abort, symbols: &[u8], place: usize, symbol: u8) {
+    assert!(rt; place < symbols.len());
     same(rt, place, symbols[place], symbol);
 }
 
@@ -340,4 +385,52 @@ fn a_row_of_more_than_256_pixels_goes_on(rt: HostRuntime) {
         (1, 299, 0, 7),
     ];
     expect_all(&rt, &raster, values);
+}
+
+/// Makes the pixels of a row from `from` on and below `to` invalid.
+fn clear(rt: &impl Abort, raster: &mut Raster, row: u32, from: u32, to: u32) {
+    for col in from..to {
+        assert!(rt; row < raster.rows() && col < raster.cols());
+        raster.mark(row, col, false);
+    }
+}
+
+/// Two rows of 130 pixels of 7, but for one in column 71 of the first and one in column 64 of the
+/// second. In the first row one pixel is not valid, in the second the first 64 are not.
+fn cleared_rows(rt: &impl Abort, alloc: Global) -> Raster {
+    let mut raster = blank(rt, alloc, PixelType::U8, (2, 130, 1));
+    fill(rt, &mut raster, 7);
+    put(rt, &mut raster, 0, 71, 0, 5);
+    put(rt, &mut raster, 1, 64, 0, 9);
+    clear(rt, &mut raster, 0, 70, 71);
+    clear(rt, &mut raster, 1, 0, 64);
+    raster
+}
+
+/// The symbols of these rows at some of their places.
+const CLEARED_SYMBOLS: &[(usize, u8)] = &[
+    (0, 7),
+    (1, 0),
+    (63, 0),
+    (64, 0),
+    (69, 0),
+    (70, 254),
+    (71, 2),
+    (72, 0),
+    (128, 0),
+    (129, 2),
+    (130, 254),
+    (131, 0),
+    (194, 0),
+];
+
+/// Pieces of 64 pixels of these rows are all valid, or not at all, or have one that is not.
+#[test]
+fn pieces_of_valid_pixels_or_of_none_have_their_symbols(rt: HostRuntime) {
+    let raster = cleared_rows(&rt, rt.alloc());
+    let mut symbols = [0u8; 195];
+    write_deltas(&rt, &raster, 0, &mut symbols);
+    for (place, symbol) in CLEARED_SYMBOLS {
+        expect_symbol(&rt, &symbols, *place, *symbol);
+    }
 }

@@ -47,6 +47,20 @@ impl<'v, 'm> Target for Lent<'v, 'm> {
         Lent::pour_block(self, row, col, side, d, values);
     }
 
+    fn pour_steps(
+        &mut self,
+        row: u32,
+        col: u32,
+        side: u32,
+        d: u32,
+        offset: i64,
+        step: i64,
+        top: i64,
+        numbers: &[u32],
+    ) {
+        Lent::pour_steps(self, row, col, side, d, offset, step, top, numbers);
+    }
+
     fn put_from(&mut self, place: usize, d: u32, values: &[i64]) {
         Lent::put_from(self, place, d, values);
     }

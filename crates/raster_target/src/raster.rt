@@ -55,6 +55,21 @@ impl Target for Raster {
         note_sound(self);
     }
 
+    fn pour_steps(
+        &mut self,
+        row: u32,
+        col: u32,
+        side: u32,
+        d: u32,
+        offset: i64,
+        step: i64,
+        top: i64,
+        numbers: &[u32],
+    ) {
+        Raster::pour_steps(self, row, col, side, d, offset, step, top, numbers);
+        note_sound(self);
+    }
+
     fn put_from(&mut self, place: usize, d: u32, values: &[i64]) {
         Raster::put_from(self, place, d, values);
         note_sound(self);

@@ -1,6 +1,7 @@
 //! What fills a raster sees of it.
 
-ghost use Rattle.std.specs.Prelude.{◌≡◌, ◌+◌, ◌*◌, ◌<◌, ◌≤◌, ℕ, pos, false, None, is_some, get_or, length, All};
+ghost use Rattle.std.specs.Prelude.{◌≡◌, ◌+◌, ◌*◌, ◌<◌, ◌≤◌, ℕ, pos, false, None, is_some, get_or, length, map, All};
+ghost use Rattle.lane_kernels.specs.Kernels.{IsStepSize, capped_sums};
 ghost use Rattle.raster_values.specs.PixelType.{InRange, bytes_of};
 ghost use Rattle.raster_values.specs.Raster.{Pixels, IsRaster, InShape, valid_count};
 ghost use Rattle.raster_values.specs.Block.{block_count, PoursBlock};
@@ -81,6 +82,31 @@ pub trait Target {
         requires count { length values.now ≡ block_count (pixels self.old) row col side }
         requires in_range { All (InRange (pixels self.old).kind) values.now }
         ensures poured { PoursBlock (pixels self.old) (pixels self.new) row col side d values.now }
+        ensures sound { sound self.new }
+        ensures kept { kept self.new ≡ kept self.old };
+
+    /// Gives the valid pixels of a block the sums of an offset and numbers of steps, none above
+    /// `top`, at a depth, row by row. All else stays.
+    fn pour_steps(
+        &mut self,
+        row: u32,
+        col: u32,
+        side: u32,
+        d: u32,
+        offset: i64,
+        step: i64,
+        top: i64,
+        numbers: &[u32],
+    )
+        requires sound { sound self.old }
+        requires place { InShape (pixels self.old) row col }
+        requires depth { d < (pixels self.old).depth }
+        requires count { length numbers.now ≡ block_count (pixels self.old) row col side }
+        requires offset { InRange (pixels self.old).kind offset }
+        requires top { InRange (pixels self.old).kind top }
+        requires step { IsStepSize step }
+        ensures poured { PoursBlock (pixels self.old) (pixels self.new) row col side d
+            (capped_sums (map pos numbers.now) offset step top) }
         ensures sound { sound self.new }
         ensures kept { kept self.new ≡ kept self.old };
 

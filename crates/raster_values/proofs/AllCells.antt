@@ -94,7 +94,7 @@ all_in_range r h = all_fit r.kind r.depth r.pixels h.each
 
 -- ---- the raster's own
 
-all_of_vectors : (depth : ℕ) (marks : List Bool) (vs : List ℤ) → length vs ≡ length marks * depth
+pub all_of_vectors : (depth : ℕ) (marks : List Bool) (vs : List ℤ) → length vs ≡ length marks * depth
     → ((k d : ℕ) → k < length marks → d < depth → get_or marks k false ≡ false → get_or vs (k * depth + d) (pos 0) ≡ pos 0)
     → flat_map (wide depth) (pixels_of depth marks vs) ≡ vs
 unfolding pixels_of

@@ -1,6 +1,6 @@
 -- The distances of values that stand as their bytes.
 use Rattle.std.proofs.Common.{◌≡◌, ℕ, ◌+◌, ◌-◌, ◌*◌, ◌<◌, ◌≤◌, suc, Bool, true, false, List, length, get_or, drop, map, sym, ap, ◌∙◌, subst, arith, ◌++◌, ◌∷◌, []}
-use Rattle.std.specs.Prelude.{ℤ, pos, All, min, max}
+use Rattle.std.specs.Prelude.{ℤ, pos, min, max}
 use Rattle.std.specs.Int.{int_min, int_max}
 use Rattle.std.specs.List.{range_with_len}
 use Rattle.std.proofs.lemmas.Int.{ints, clamps}
@@ -11,19 +11,19 @@ use Rattle.std.proofs.Math.Nat.{mul-le-mul_left, mul-le-mul_right}
 use borrow.Rule.Slice.PartMut.{put_mid}
 use Rattle.lane_kernels.specs.Kernels.{IsLeast, IsGreatest}
 use Rattle.byteorder.specs.Endian.{little_number}
-use Rattle.raster_values.specs.declared.cells.Cells.TheInside.{Inside}
+use Rattle.raster_values.specs.declared.cell_bytes.CellBytes.TheInside.{Inside}
 use Rattle.raster_values.specs.declared.kind.PixelType.{PixelType}
 use Rattle.raster_values.specs.PixelType.{InRange, bytes_of, value_of}
-use Rattle.raster_values.specs.Grid.{values_bytes}
 use Rattle.raster_values.specs.Distance.{distance_of, value_above}
-use Rattle.raster_values.specs.inside.CellList.{CellList}
-use Rattle.raster_values.specs.inside.CellView.{IsCells, listed, seen_cells}
+use Rattle.raster_values.specs.inside.CellList.{CellList, values_in}
+use Rattle.raster_values.specs.inside.LentBytes.{AreHeld}
 use Rattle.raster_values.specs.inside.Runs.{AreEnds, Gathers, rows_values, run_values, whole_rows}
 use Rattle.raster_values.proofs.Every.{every_range, same_flat_map}
 use Rattle.raster_values.proofs.RunSteps.{gathers_join}
 use Rattle.raster_values.proofs.RowSteps.{pieces_more}
 use Rattle.raster_values.proofs.PixelSteps.{filter_all, gathers_piece}
-use Rattle.raster_values.proofs.CellBytes.{value_there}
+use Rattle.raster_values.proofs.CellBytes.{length-values_in}
+use Rattle.raster_values.proofs.Spelled.{value_in-at}
 use Rattle.raster_values.proofs.Distances.{value_back}
 use Rattle.raster_values.proofs.Ranges.{least_of_one, greatest_of_one, least_pushed, greatest_pushed}
 
@@ -32,28 +32,30 @@ place_below {count} {depth} first some deep within =
     let up : suc first * depth ≤ (first + count) * depth = mul-le-mul_right depth (omega arith) in
     omega (arith, up)
 
+-- the values that the bytes stand for
+abbrev pub held : Inside → CellList
+held a = record { kind = a.kind; values = values_in a.kind a.count a.bytes.now }
+
 -- the bytes of a value lie within those of all
-pub bytes_within : (a : Inside) (l : CellList) (kind : PixelType) (at : ℕ) (bytes : List ℕ) → IsCells a → seen_cells a ≡ l → kind ≡ l.kind → bytes ≡ a.bytes.items → at < length l.values
-    → at * bytes_of kind + bytes_of kind ≤ length bytes
-bytes_within a l kind at bytes h seen is same below =
-    subst (λ (c : CellList). kind ≡ c.kind → at < length c.values → at * bytes_of kind + bytes_of kind ≤ length bytes) seen
+pub bytes_within : (a : Inside) (l : CellList) (kind : PixelType) (at : ℕ) → AreHeld a.kind a.count a.bytes.now → held a ≡ l → kind ≡ l.kind → at < length l.values
+    → at * bytes_of kind + bytes_of kind ≤ length a.bytes.now
+bytes_within a l kind at h seen is below =
+    subst (λ (c : CellList). kind ≡ c.kind → at < length c.values → at * bytes_of kind + bytes_of kind ≤ length a.bytes.now) seen
     (λ e less.
     let up : (at + 1) * bytes_of kind ≤ a.count * bytes_of kind = mul-le-mul_right (bytes_of kind) (omega (arith, less, h.counted)) in
-    omega (arith, up, ap length same, h.size, ap (λ (k : PixelType). a.count * bytes_of k) e)) is below
+    omega (arith, up, h.size, ap (λ (k : PixelType). a.count * bytes_of k) e)) is below
 
 -- the distance of the value that they stand for
-pub distance_there : (a : Inside) (l : CellList) (kind : PixelType) (at : ℕ) (bytes : List ℕ) → IsCells a → seen_cells a ≡ l → kind ≡ l.kind → bytes ≡ a.bytes.items → at < length l.values
-    → distance_of kind (value_of kind (little_number (bytes_of kind) (drop (at * bytes_of kind) bytes))) ≡ distance_of l.kind (get_or l.values at (pos 0))
-distance_there a l kind at bytes h seen is same below =
-    subst (λ (c : CellList). kind ≡ c.kind → at < length c.values → distance_of kind (value_of kind (little_number (bytes_of kind) (drop (at * bytes_of kind) bytes))) ≡ distance_of c.kind (get_or c.values at (pos 0))) seen
+pub distance_there : (a : Inside) (l : CellList) (kind : PixelType) (at : ℕ) → held a ≡ l → kind ≡ l.kind → at < length l.values
+    → distance_of kind (value_of kind (little_number (bytes_of kind) (drop (at * bytes_of kind) a.bytes.now))) ≡ distance_of l.kind (get_or l.values at (pos 0))
+distance_there a l kind at seen is below =
+    subst (λ (c : CellList). kind ≡ c.kind → at < length c.values → distance_of kind (value_of kind (little_number (bytes_of kind) (drop (at * bytes_of kind) a.bytes.now))) ≡ distance_of c.kind (get_or c.values at (pos 0))) seen
     (λ e less.
-    ap (λ xs. distance_of kind (value_of kind (little_number (bytes_of kind) (drop (at * bytes_of kind) xs)))) (same ∙ h.bytes)
-    ∙ ap (λ (k : PixelType). distance_of kind (value_of kind (little_number (bytes_of kind) (drop (at * bytes_of kind) (values_bytes k (listed a)))))) (sym e)
-    ∙ ap (distance_of kind) (value_there kind (listed a) at (subst (λ (k : PixelType). All (InRange k) (listed a)) (sym e) h.in_range) less)
-    ∙ ap (λ (k : PixelType). distance_of k (get_or (listed a) at (pos 0))) e) is below
+    ap (λ (k : PixelType). distance_of k (value_of k (little_number (bytes_of k) (drop (at * bytes_of k) a.bytes.now)))) e
+    ∙ ap (distance_of a.kind) (sym (value_in-at a.kind a.count a.bytes.now at (omega (arith, less, length-values_in a.kind a.count a.bytes.now))))) is below
 
--- values of a raster are those of its type
-pub value_fits : (a : Inside) (l : CellList) (at : ℕ) → IsCells a → seen_cells a ≡ l → at < length l.values → InRange l.kind (get_or l.values at (pos 0))
+-- they are values of the type
+pub value_fits : (a : Inside) (l : CellList) (at : ℕ) → AreHeld a.kind a.count a.bytes.now → held a ≡ l → at < length l.values → InRange l.kind (get_or l.values at (pos 0))
 value_fits a l at h seen below = subst (λ (c : CellList). at < length c.values → InRange c.kind (get_or c.values at (pos 0))) seen (λ less. h.in_range at (pos 0) less) below
 
 -- ---- the ends of values read one by one

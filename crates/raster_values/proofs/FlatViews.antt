@@ -1,5 +1,5 @@
 -- How the vectors stand for the numbered pixels of a raster.
-use Rattle.std.proofs.Common.{◌≡◌, ℕ, ◌+◌, ◌*◌, ◌/◌, ◌<◌, ◌≤◌, Bool, true, false, List, [], ◌∷◌, length, get_or, drop, map, None, refl, sym, ap, ◌∙◌, subst, arith}
+use Rattle.std.proofs.Common.{◌≡◌, ℕ, ◌+◌, ◌*◌, ◌/◌, ◌<◌, ◌≤◌, Bool, true, false, cond, List, [], ◌∷◌, length, get_or, take, drop, map, Some, None, refl, sym, ap, ◌∙◌, subst, arith}
 use Rattle.std.specs.Prelude.{ℤ, pos, All, unwrap_or, is_some}
 use Rattle.std.proofs.lemmas.List.{get_or_past}
 use Rattle.std.proofs.lemmas.Nat.{mul-add-lt}
@@ -26,6 +26,16 @@ with_values a vs = record (seen a) { pixels = pixels_of a.depth a.marks vs }
 pub value_flat : (a : Inside) (vs : List ℤ) (k d : ℕ) → KeepsValues a a.marks vs → k < length a.marks → d < a.depth → value_in (with_values a vs) d k ≡ get_or vs (k * a.depth + d) (pos 0)
 value_flat a vs k d keeps below less =
     ap (λ p. get_or (unwrap_or p []) d (pos 0)) (get_or-pixels_of a.depth a.marks vs k) ∙ value-pixel_of a.depth a.marks vs k d less (keeps.zeros k d below less)
+
+-- the value of a marked pixel, whatever stands at others
+pub value_marked : (a : Inside) (k d : ℕ) → get_or a.marks k false ≡ true → d < a.depth → value_in (seen a) d k ≡ get_or a.values.values (k * a.depth + d) (pos 0)
+value_marked a k d on less =
+    ap (λ p. get_or (unwrap_or p []) d (pos 0)) (get_or-pixels_of a.depth a.marks a.values.values k) ∙ value-pixel_of a.depth a.marks a.values.values k d less (λ off. absurd (false≢true (sym off ∙ on)))
+
+pub value_unmarked : (a : Inside) (k d : ℕ) → get_or a.marks k false ≡ false → value_in (seen a) d k ≡ pos 0
+value_unmarked a k d off =
+    ap (λ p. get_or (unwrap_or p []) d (pos 0)) (get_or-pixels_of a.depth a.marks a.values.values k)
+    ∙ ap (λ b. get_or (unwrap_or (cond b (Some (take a.depth (drop (k * a.depth) a.values.values))) None) []) d (pos 0)) off
 
 pub keeps_itself : (a : Inside) → IsInside a → KeepsValues a a.marks a.values.values
 keeps_itself a h = record { values = h.values; in_range = h.in_range; zeros = h.zeros }
@@ -108,12 +118,12 @@ count_values r h = length-values_of r.depth r.pixels (raster_deep r h)
 
 -- ---- masks
 
-pub mask_is : (a : Inside) (mask : List ℕ) → IsInside a → length mask ≡ (a.rows * a.cols + 7) / 8 → ((k : ℕ) → get_or mask k 0 < 256) → ((k : ℕ) → mask_bit mask k ≡ get_or a.marks k false) → IsMaskOf (seen a) mask
-mask_is a mask h size are bits = record {
+pub mask_is : (a : Inside) (mask : List ℕ) → length a.marks ≡ a.rows * a.cols → length mask ≡ (a.rows * a.cols + 7) / 8 → ((k : ℕ) → get_or mask k 0 < 256) → ((k : ℕ) → mask_bit mask k ≡ get_or a.marks k false) → IsMaskOf (seen a) mask
+mask_is a mask long size are bits = record {
   size = size;
   bytes = are;
   bits = λ k below. bits k ∙ sym (mark_flat a k);
-  spare = λ k past. bits k ∙ get_or_past a.marks k false (omega (arith, h.marks));
+  spare = λ k past. bits k ∙ get_or_past a.marks k false (omega (arith, long));
 }
 
 -- ---- marks

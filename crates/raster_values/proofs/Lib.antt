@@ -46,5 +46,15 @@ mod AllCells
 pub mod Distances
 mod Ranges
 mod CellDistances
+mod ValueBytes
+mod LentMasks
+mod SeenArrays
+mod MarkedValues
 pub mod LentArrays
 mod MixedRuns
+mod GatheredRuns
+mod FullWidth
+mod MarkWords
+mod PouredWords
+mod GivenRuns
+mod GivenSums

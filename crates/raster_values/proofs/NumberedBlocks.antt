@@ -32,8 +32,8 @@ block_numbered r row col side d =
     picks_flat f q (λ i. map (λ j. (i, j)) (range_with_len col wide)) (range_with_len row high)
     ∙ same_flat_map (λ i. map f (filter q (map (λ j. (i, j)) (range_with_len col wide)))) (λ i. map F (filter Q (map (λ j. i * r.cols + j) (range_with_len col wide)))) (range_with_len row high)
     (every_range (λ i. map f (filter q (map (λ j. (i, j)) (range_with_len col wide))) ≡ map F (filter Q (map (λ j. i * r.cols + j) (range_with_len col wide)))) row high (λ i from to.
-    picks_same f q (λ j. (i, j)) (λ j. F (i * r.cols + j)) (λ j. Q (i * r.cols + j)) col col wide (λ k less. sym (marks_at r (i * r.cols + (col + k)))) (λ k less. refl)
-    ∙ sym (picks_same F Q (λ j. i * r.cols + j) (λ j. F (i * r.cols + j)) (λ j. Q (i * r.cols + j)) col col wide (λ k less. refl) (λ k less. refl))))
+    picks_same f q (λ j. (i, j)) (λ j. F (i * r.cols + j)) (λ j. Q (i * r.cols + j)) col col wide (λ k less. sym (marks_at r (i * r.cols + (col + k)))) (λ k less on. refl)
+    ∙ sym (picks_same F Q (λ j. i * r.cols + j) (λ j. F (i * r.cols + j)) (λ j. Q (i * r.cols + j)) col col wide (λ k less. refl) (λ k less on. refl))))
     ∙ sym (picks_flat F Q (λ i. map (λ j. i * r.cols + j) (range_with_len col wide)) (range_with_len row high))
 
 pub marked_by_bits : MarkedByBits

@@ -99,7 +99,7 @@ moved depth d m marks vs n =
     ap (λ ks. map f (filter p ks)) (sym (map-id (range_with_len 0 n)))
     ∙ picks_same f p (λ k. k) (λ k. get_or vs (k * depth + d) (pos 0)) (λ k. get_or (m ∷ marks) k false) 0 1 n
     (λ k below. ap p (let e : 0 + k ≡ k = omega arith in e) ∙ ap (λ j. get_or (m ∷ marks) j false) (let e : suc k ≡ 1 + k = omega arith in e))
-    (λ k below. get_or-drop depth vs ((0 + k) * depth + d) (pos 0) ∙ ap (λ j. get_or vs j (pos 0)) (let e : depth + ((0 + k) * depth + d) ≡ (1 + k) * depth + d = omega arith in e))
+    (λ k below on. get_or-drop depth vs ((0 + k) * depth + d) (pos 0) ∙ ap (λ j. get_or vs j (pos 0)) (let e : depth + ((0 + k) * depth + d) ≡ (1 + k) * depth + d = omega arith in e))
 
 pub depth_runs : (depth d : ℕ) (marks : List Bool) (vs : List ℤ) → d < depth → flat_map (at_depth d) (pixels_of depth marks vs) ≡ run_values depth d marks vs 0 (length marks)
 unfolding pixels_of

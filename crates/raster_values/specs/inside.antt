@@ -13,3 +13,5 @@ pub mod Bits
 pub mod MaskView
 pub mod LentBytes
 pub mod LentMask
+pub mod SeenView
+pub mod Listed

@@ -1,12 +1,15 @@
 //! The bits of a mask: for each pixel one, row by row and the highest of each byte first.
 
-ghost use Rattle.std.specs.Prelude.{◌≡◌, ℕ, ◌+◌, ◌*◌, ◌/◌, ◌<◌, ◌≤◌, ◌&&◌, length, get_or, nat_lt, true, false};
+ghost use Rattle.std.specs.Prelude.{◌≡◌, ℕ, ◌+◌, ◌*◌, ◌/◌, ◌^◌, ◌<◌, ◌≤◌, ◌&&◌, length, get_or, nat_lt, true, false};
 ghost use Rattle.raster_values.specs.Order.{marks_in, mask_bit};
+ghost use Rattle.raster_values.specs.inside.Bits.{word_bit};
 
 use super::mask::{Run, equal_from, front_bits};
+use byteorder::{BigEndian, ByteOrder};
 
 /// Whether bit number k is 1.
-fn bit_at(bytes: &[u8], k: usize) -> bool
+#[inline(always)]
+pub(super) fn bit_at(bytes: &[u8], k: usize) -> bool
     requires { k / 8 < length bytes.now }
     ensures { result ≡ mask_bit bytes.now k }
 {
@@ -98,5 +101,52 @@ pub(super) fn copy_bits(bytes: &[u8], from: usize, out: &mut [bool])
 {
     for i in 0..out.len() {
         out[i] = bit_at(bytes, from + i);
+    }
+}
+
+/// So many bits from `from` on as one number, the first as its highest: each behind those before.
+fn word_each(bytes: &[u8], from: usize, count: usize) -> u32
+    requires few { count ≤ 32 }
+    requires within { from + count ≤ 8 * length bytes.now }
+    requires places { from + count ≤ 16777216 }
+    ensures below { result < 2 ^ count }
+    ensures bits { (q : ℕ) → q < count → word_bit count result q ≡ mask_bit bytes.now (from + q) }
+{
+    let mut word = 0;
+    for i in 0..count {
+        word = 2 * word + u32::from(bit_at(bytes, from + i));
+    }
+    word
+}
+
+/// The same of the eight bytes with which these begin.
+#[inline(always)]
+fn word_of_eight(bytes: &[u8], from: usize, count: usize) -> u32
+    requires some { 0 < count }
+    requires few { count ≤ 32 }
+    requires eight { 8 ≤ length bytes.now }
+    requires first { from < 8 }
+    ensures below { result < 2 ^ count }
+    ensures bits { (q : ℕ) → q < count → word_bit count result q ≡ mask_bit bytes.now (from + q) }
+{
+    let word = BigEndian::read_u64(bytes) >> (64 - from - count);
+    (word & (4294967295u64 >> (32 - count))) as u32
+}
+
+/// So many bits from `from` on, at most 32, as one number, the first as its highest.
+#[inline]
+pub(super) fn word_from(bytes: &[u8], from: usize, count: usize) -> u32
+    requires some { 0 < count }
+    requires few { count ≤ 32 }
+    requires within { from + count ≤ 8 * length bytes.now }
+    requires places { from + count ≤ 16777216 }
+    ensures below { result < 2 ^ count }
+    ensures bits { (q : ℕ) → q < count → word_bit count result q ≡ mask_bit bytes.now (from + q) }
+{
+    let first = from / 8;
+    if first + 8 <= bytes.len() {
+        word_of_eight(&bytes[first..], from % 8, count)
+    } else {
+        word_each(bytes, from, count)
     }
 }

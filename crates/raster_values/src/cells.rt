@@ -14,6 +14,8 @@ ghost use Rattle.lane_kernels.specs.Kernels.{IsLeast, IsGreatest};
 
 use super::ahead::Ahead;
 use super::byte_runs;
+use super::cell_bytes::CellBytes;
+use super::given::Given;
 use super::kind::PixelType;
 use super::valued::{fill_pixels, put_run};
 use outside_io::{Failed, Source};
@@ -183,7 +185,7 @@ fn read_pixels_as(
 
 /// The value whose bytes stand at a place, of `count` values.
 #[inline(always)]
-fn value_at(kind: PixelType, count: usize, bytes: &[u8], at: usize) -> i64
+pub(super) fn value_at(kind: PixelType, count: usize, bytes: &[u8], at: usize) -> i64
     requires few { count ≤ 16777216 }
     requires size { length bytes.now ≡ count * bytes_of kind }
     requires within { at < count }
@@ -196,7 +198,7 @@ fn value_at(kind: PixelType, count: usize, bytes: &[u8], at: usize) -> i64
 
 /// How far the value whose bytes stand at a place is above the type's least.
 #[inline(always)]
-fn distance_at(kind: PixelType, bytes: &[u8], at: usize) -> u32
+pub(super) fn distance_at(kind: PixelType, bytes: &[u8], at: usize) -> u32
     requires few { at < 16777216 }
     requires within { at * bytes_of kind + bytes_of kind ≤ length bytes.now }
     ensures { result ≡ distance_of kind
@@ -208,7 +210,7 @@ fn distance_at(kind: PixelType, bytes: &[u8], at: usize) -> u32
 
 /// The same of the eight values from a place on.
 #[inline(always)]
-fn eight_at(kind: PixelType, bytes: &[u8], at: usize) -> [u32; 8]
+pub(super) fn eight_at(kind: PixelType, bytes: &[u8], at: usize) -> [u32; 8]
     requires few { at + 8 ≤ 16777216 }
     requires within { (at + 8) * bytes_of kind ≤ length bytes.now }
     ensures { result ≡ map (λ k. distance_of kind
@@ -225,7 +227,7 @@ fn eight_at(kind: PixelType, bytes: &[u8], at: usize) -> [u32; 8]
 /// Lays eight numbers over as many. It goes one by one, since the numbers are then kept where they
 /// were made.
 #[inline(always)]
-fn lay_eight(numbers: &[u32; 8], out: &mut [u32])
+pub(super) fn lay_eight(numbers: &[u32; 8], out: &mut [u32])
     requires { length out.old ≡ 8 }
     ensures { out.new ≡ numbers.now }
 {
@@ -305,285 +307,40 @@ impl Cells {
         value_at(self.kind, self.count, &self.bytes, at)
     }
 
-    /// The values at a depth of the pixels from `first` on, of which each has `depth`.
-    pub fn get_pixels(&self, first: usize, depth: usize, d: usize, out: &mut [i64])
-        requires few { length self.now.values ≤ 16777216 }
-        requires depth { d < depth }
-        requires within { (first + length out.old) * depth ≤ length self.now.values }
-        ensures { out.new ≡ map (λ k. get_or self.now.values (k * depth + d) (pos 0))
-            (range_with_len first (length out.old)) }
-    {
-        read_pixels(self.kind, self.count, &self.bytes, first, depth, d, out);
-    }
-
-    /// How far the value at a place is above the type's least, for a type that is known before.
+    /// The value at a place, of the type that is known before.
     #[inline(always)]
-    pub fn distance_as(&self, kind: PixelType, at: usize) -> u32
+    pub fn get_as(&self, kind: PixelType, at: usize) -> i64
         requires kind { kind ≡ self.now.kind }
-        requires few { length self.now.values ≤ 16777216 }
         requires within { at < length self.now.values }
-        ensures { result ≡ distance_of self.now.kind (get_or self.now.values at (pos 0)) }
+        ensures value { result ≡ get_or self.now.values at (pos 0) }
+        ensures in_range { InRange self.now.kind result }
     {
-        distance_at(kind, self.bytes.as_slice(), at)
+        value_at(kind, self.count, &self.bytes, at)
     }
 
-    /// How far the values at a depth of the pixels from `first` on are above the type's least: of
-    /// the pixels each has `depth` values. Without a second depth values stand side by side, which
-    /// the compiler is to know, as it is the type.
+    /// Puts `count` of the values that are given, from number `n` on, in the place of as many from
+    /// `at` on. The type is known before.
     #[inline(always)]
-    pub fn get_distances_as(
-        &self,
+    pub fn put_as<G: Given>(
+        &mut self,
         kind: PixelType,
-        first: usize,
-        depth: usize,
-        d: usize,
-        out: &mut [u32],
+        at: usize,
+        given: &G,
+        n: usize,
+        count: usize,
     )
-        requires kind { kind ≡ self.now.kind }
-        requires few { length self.now.values ≤ 16777216 }
-        requires depth { d < depth }
-        requires within { (first + length out.old) * depth ≤ length self.now.values }
-        ensures { out.new ≡ map (λ k. distance_of self.now.kind
-            (get_or self.now.values (k * depth + d) (pos 0)))
-            (range_with_len first (length out.old)) }
-    {
-        if depth == 1 && out.len() == 8 {
-            self.get_eight_as(kind, first, out);
-        } else if depth == 1 {
-            self.get_steps_as(kind, first, 1, d, out);
-        } else {
-            self.get_steps_as(kind, first, depth, d, out);
-        }
-    }
-
-    /// Does what `get_distances_as` does, for eight pixels of one value: all are read before any is
-    /// written, so that the compiler may take them together.
-    #[inline(always)]
-    fn get_eight_as(&self, kind: PixelType, first: usize, out: &mut [u32])
-        requires kind { kind ≡ self.now.kind }
-        requires few { length self.now.values ≤ 16777216 }
-        requires eight { length out.old ≡ 8 }
-        requires within { first + 8 ≤ length self.now.values }
-        ensures { out.new ≡ map (λ k. distance_of self.now.kind (get_or self.now.values k (pos 0)))
-            (range_with_len first 8) }
-    {
-        let read = eight_at(kind, self.bytes.as_slice(), first);
-        lay_eight(&read, out);
-    }
-
-    /// Does what `get_distances_as` does, one pixel after the other.
-    #[inline(always)]
-    fn get_steps_as(&self, kind: PixelType, first: usize, depth: usize, d: usize, out: &mut [u32])
-        requires kind { kind ≡ self.now.kind }
-        requires few { length self.now.values ≤ 16777216 }
-        requires depth { d < depth }
-        requires within { (first + length out.old) * depth ≤ length self.now.values }
-        ensures { out.new ≡ map (λ k. distance_of self.now.kind
-            (get_or self.now.values (k * depth + d) (pos 0)))
-            (range_with_len first (length out.old)) }
-    {
-        let bytes = self.bytes.as_slice();
-        for i in 0..out.len() {
-            out[i] = distance_at(kind, bytes, (first + i) * depth + d);
-        }
-    }
-
-    /// The same of `high` rows of `wide` pixels from (row, col) on, one row behind the other in
-    /// front of `out`, where each row of all pixels has `cols`. Answers how many these are.
-    #[inline(never)]
-    pub fn get_rows(
-        &self,
-        depth: usize,
-        d: usize,
-        cols: usize,
-        row: usize,
-        col: usize,
-        high: usize,
-        wide: usize,
-        out: &mut [u32],
-    ) -> usize
-        requires few { length self.now.values ≤ 16777216 }
-        requires across { col + wide ≤ cols }
-        requires rows { row + high ≤ 16777216 }
-        requires within { (row + high) * cols * depth ≤ length self.now.values }
-        requires depth { d < depth }
-        requires room { high * wide ≤ length out.old }
-        ensures gathered { Gathers (map (distance_of self.now.kind)
-            (whole_rows depth d self.now.values cols row col high wide)) out.old out.new 0 result }
-        ensures all { result ≡ high * wide }
-    {
-        by_kind!(self.kind, kind => {
-            self.get_rows_as(kind, depth, d, cols, row, col, high, wide, out)
-        })
-    }
-
-    /// Does what `get_rows` does, for a type that is known before, and for rows of eight pixels as
-    /// such.
-    #[inline(always)]
-    fn get_rows_as(
-        &self,
-        kind: PixelType,
-        depth: usize,
-        d: usize,
-        cols: usize,
-        row: usize,
-        col: usize,
-        high: usize,
-        wide: usize,
-        out: &mut [u32],
-    ) -> usize
-        requires kind { kind ≡ self.now.kind }
-        requires few { length self.now.values ≤ 16777216 }
-        requires across { col + wide ≤ cols }
-        requires rows { row + high ≤ 16777216 }
-        requires within { (row + high) * cols * depth ≤ length self.now.values }
-        requires depth { d < depth }
-        requires room { high * wide ≤ length out.old }
-        ensures gathered { Gathers (map (distance_of self.now.kind)
-            (whole_rows depth d self.now.values cols row col high wide)) out.old out.new 0 result }
-        ensures all { result ≡ high * wide }
-    {
-        if wide == 8 {
-            self.get_lines_as(kind, depth, d, cols, row, col, high, 8, out)
-        } else {
-            self.get_lines_as(kind, depth, d, cols, row, col, high, wide, out)
-        }
-    }
-
-    /// Does what `get_rows` does, for a type that is known before.
-    #[inline(always)]
-    fn get_lines_as(
-        &self,
-        kind: PixelType,
-        depth: usize,
-        d: usize,
-        cols: usize,
-        row: usize,
-        col: usize,
-        high: usize,
-        wide: usize,
-        out: &mut [u32],
-    ) -> usize
-        requires kind { kind ≡ self.now.kind }
-        requires few { length self.now.values ≤ 16777216 }
-        requires across { col + wide ≤ cols }
-        requires rows { row + high ≤ 16777216 }
-        requires within { (row + high) * cols * depth ≤ length self.now.values }
-        requires depth { d < depth }
-        requires room { high * wide ≤ length out.old }
-        ensures gathered { Gathers (map (distance_of self.now.kind)
-            (whole_rows depth d self.now.values cols row col high wide)) out.old out.new 0 result }
-        ensures all { result ≡ high * wide }
-    {
-        let mut n = 0;
-        for i in 0..high {
-            let next = n + wide;
-            self.get_distances_as(kind, (row + i) * cols + col, depth, d, &mut out[n..next]);
-            n = next;
-        }
-        n
-    }
-
-    /// The least and the greatest of the values at a depth of `count` pixels from `first` on, of
-    /// which each has `depth`.
-    pub fn extremes(&self, first: usize, count: usize, depth: usize, d: usize) -> (i64, i64)
-        requires few { length self.now.values ≤ 16777216 }
-        requires some { 0 < count }
-        requires depth { d < depth }
-        requires within { (first + count) * depth ≤ length self.now.values }
-        ensures least { IsLeast (map (λ k. get_or self.now.values (k * depth + d) (pos 0))
-            (range_with_len first count)) result.0 }
-        ensures greatest { IsGreatest (map (λ k. get_or self.now.values (k * depth + d) (pos 0))
-            (range_with_len first count)) result.1 }
-    {
-        let bottom = self.kind.least();
-        let (near, far) = self.ends(first, count, depth, d);
-        (bottom + i64::from(near), bottom + i64::from(far))
-    }
-
-    /// How far the least and the greatest of these values are above the type's least.
-    #[inline(never)]
-    fn ends(&self, first: usize, count: usize, depth: usize, d: usize) -> (u32, u32)
-        requires few { length self.now.values ≤ 16777216 }
-        requires some { 0 < count }
-        requires depth { d < depth }
-        requires within { (first + count) * depth ≤ length self.now.values }
-        ensures { AreEnds self.now.kind (map (λ k. get_or self.now.values (k * depth + d) (pos 0))
-            (range_with_len first count)) result.0 result.1 }
-    {
-        by_kind!(self.kind, kind => self.ends_as(kind, first, count, depth, d))
-    }
-
-    /// Does what `ends` does, for a type that is known before. Without a second depth values stand
-    /// side by side, which the compiler is to know.
-    #[inline(always)]
-    fn ends_as(
-        &self,
-        kind: PixelType,
-        first: usize,
-        count: usize,
-        depth: usize,
-        d: usize,
-    ) -> (u32, u32)
-        requires kind { kind ≡ self.now.kind }
-        requires few { length self.now.values ≤ 16777216 }
-        requires some { 0 < count }
-        requires depth { d < depth }
-        requires within { (first + count) * depth ≤ length self.now.values }
-        ensures { AreEnds self.now.kind (map (λ k. get_or self.now.values (k * depth + d) (pos 0))
-            (range_with_len first count)) result.0 result.1 }
-    {
-        if depth == 1 {
-            self.step_ends_as(kind, first, count, 1, d)
-        } else {
-            self.step_ends_as(kind, first, count, depth, d)
-        }
-    }
-
-    /// Does what `ends` does, for a type that is known before.
-    #[inline(always)]
-    fn step_ends_as(
-        &self,
-        kind: PixelType,
-        first: usize,
-        count: usize,
-        depth: usize,
-        d: usize,
-    ) -> (u32, u32)
-        requires kind { kind ≡ self.now.kind }
-        requires few { length self.now.values ≤ 16777216 }
-        requires some { 0 < count }
-        requires depth { d < depth }
-        requires within { (first + count) * depth ≤ length self.now.values }
-        ensures { AreEnds self.now.kind (map (λ k. get_or self.now.values (k * depth + d) (pos 0))
-            (range_with_len first count)) result.0 result.1 }
-    {
-        let bytes = self.bytes.as_slice();
-        let begin = distance_at(kind, bytes, first * depth + d);
-        let mut near = begin;
-        let mut far = begin;
-        for i in 1..count {
-            let here = distance_at(kind, bytes, (first + i) * depth + d);
-            near = near.min(here);
-            far = far.max(here);
-        }
-        (near, far)
-    }
-
-    /// Puts a run of values of the type, which is known before, in the place of as many from `at`
-    /// on.
-    #[inline(always)]
-    pub fn put_run_as(&mut self, kind: PixelType, at: usize, values: &[i64])
         requires kind { kind ≡ self.old.kind }
-        requires within { at + length values.now ≤ length self.old.values }
-        requires in_range { All (InRange self.old.kind) values.now }
+        requires given { G.sound given.now }
+        requires there { n + count ≤ length (G.listed given.now) }
+        requires within { at + count ≤ length self.old.values }
+        requires in_range { All (InRange self.old.kind) (G.listed given.now) }
         ensures { self.new ≡ record self.old {
-          values = take at self.old.values
-              ++ (values.now ++ drop (at + length values.now) self.old.values);
+          values = take at self.old.values ++ (take count (drop n (G.listed given.now))
+              ++ drop (at + count) self.old.values);
         } }
     {
         let from = place(kind, self.count, at);
-        write_values(kind, values, &mut self.bytes[from..]);
+        given.write_as(kind, n, count, &mut self.bytes[from..]);
     }
 
     /// Puts the `count` values from `at` on also in the place of those from `to` on, which stand
@@ -600,6 +357,14 @@ impl Cells {
         let end = place(self.kind, self.count, at + count);
         let dest = place(self.kind, self.count, to);
         repeat_bytes(&mut self.bytes, from, end, dest);
+    }
+
+    /// The same values, to be read.
+    #[inline(always)]
+    pub fn read(&self) -> CellBytes
+        ensures { result ≡ self.now }
+    {
+        CellBytes::over(self.kind, self.count, &self.bytes)
     }
 
     /// The bytes of all values.
@@ -666,9 +431,7 @@ impl Cells {
         requires { at + count ≤ length self.now.values }
         ensures { result.now ≡ values_bytes self.now.kind (take count (drop at self.now.values)) }
     {
-        let from = place(self.kind, self.count, at);
-        let end = place(self.kind, self.count, at + count);
-        &self.bytes[from..end]
+        self.read().bytes_of_run(at, count)
     }
 
     /// Puts a value of the type at a place.

@@ -1,17 +1,19 @@
 //! A raster in a caller's arrays.
 
-ghost use Rattle.std.specs.Prelude.{◌≡◌, ◌+◌, ◌-◌, ◌*◌, ◌/◌, ◌<◌, ◌≤◌, ℕ, All, None, drop, false, get_or, is_some, length, pos, true};
+ghost use Rattle.std.specs.Prelude.{◌≡◌, ◌≢◌, ◌+◌, ◌-◌, ◌*◌, ◌/◌, ◌<◌, ◌≤◌, ℕ, All, None, drop, false, get_or, is_some, length, map, pos, replicate, true};
+ghost use Rattle.std.specs.List.{count_by};
 ghost use Rattle.raster_values.specs.PixelType.{InRange, Spells, bytes_of};
 ghost use Rattle.raster_values.specs.Raster.{InShape, IsRaster, IsShape, valid_count};
+ghost use Rattle.lane_kernels.specs.Kernels.{IsStepSize, capped_sums};
 ghost use Rattle.raster_values.specs.Block.{PoursBlock, block_count};
 ghost use Rattle.raster_values.specs.Order.{FillsValid, PoursBytes, marks_in, mask_bit};
 ghost use Rattle.raster_values.specs.Flat.{PutsFrom, marks_of, value_in};
 ghost use Rattle.raster_values.specs.Lent.{IsLent, array_of, frame_of, lent_pixels};
 ghost use Rattle.raster_values.specs.inside.CellList.{values_in};
-ghost use Rattle.raster_values.specs.inside.Cleared.{ClearsUnmarked};
 ghost use Rattle.raster_values.specs.inside.LentBytes.{AreValueBytes};
 
-use super::cells::{place, read_pixels, write_values};
+use super::cells::{place, read_pixels, value_at};
+use super::given::{Given, Sums, ValueList};
 use super::kind::PixelType;
 use super::lent_mask::LentMask;
 use super::raster::edge;
@@ -53,9 +55,14 @@ impl<'v, 'm> Valued for Lent<'v, 'm> {
     }
 
     #[inline(always)]
-    fn put_run_as(&mut self, kind: PixelType, at: usize, values: &[i64]) {
+    fn get_as(&self, kind: PixelType, at: usize) -> i64 {
+        value_at(kind, self.count, &*self.values, at)
+    }
+
+    #[inline(always)]
+    fn put_as<G: Given>(&mut self, kind: PixelType, at: usize, given: &G, n: usize, count: usize) {
         let from = place(kind, self.count, at);
-        write_values(kind, values, &mut self.values[from..]);
+        given.write_as(kind, n, count, &mut self.values[from..]);
     }
 
     fn repeat_run(&mut self, at: usize, to: usize, count: usize) {
@@ -71,31 +78,26 @@ impl<'v, 'm> Valued for Lent<'v, 'm> {
     }
 }
 
-/// Sets the values of the pixels that are not marked to 0, run by run.
-fn clear_unmarked(marks: &LentMask, kind: PixelType, depth: usize, values: &mut [u8])
+/// Sets all values to 0, but where every pixel is marked. One pass over them costs less than one over
+/// the runs of the mask, and the marked ones are filled in later.
+fn clear_masked(marks: &LentMask, kind: PixelType, depth: usize, values: &mut [u8])
     requires few { length marks.now * depth ≤ 16777216 }
-    requires deep { 0 < depth }
     requires size { length values.old ≡ length marks.now * depth * bytes_of kind }
     ensures sound { AreValueBytes kind (length marks.now * depth) values.new }
-    ensures cleared { ClearsUnmarked depth (length marks.now) marks.now
-        (values_in kind (length marks.now * depth) values.old)
-        (values_in kind (length marks.now * depth) values.new) }
+    ensures whole { count_by (λ m. m) marks.now ≡ length marks.now → values.new ≡ values.old }
+    ensures zeros { count_by (λ m. m) marks.now ≢ length marks.now
+        → values_in kind (length marks.now * depth) values.new
+        ≡ replicate (length marks.now * depth) (pos 0) }
 {
-    let count = marks.len() * depth;
-    let mut at = 0;
-    while at < marks.len() {
-        let run = marks.next_run(at, marks.len());
-        let from = place(kind, count, at * depth);
-        let end = place(kind, count, run.start * depth);
-        byte_runs::clear(values, from, end - from);
-        at = run.end;
+    if marks.valid_count() == marks.len() {
+        return;
     }
+    values.fill(0);
 }
 
 impl<'v, 'm> Lent<'v, 'm> {
-    /// The raster of a type and a shape whose valid pixels are those whose bits of the mask are 1,
-    /// with the values that the bytes stand for. The values of the others are set to 0, and no other
-    /// byte is touched.
+    /// The raster of a type and a shape whose valid pixels are those whose bits of the mask are 1.
+    /// Where all are, they have the values that the bytes stand for; else all values are set to 0.
     pub fn over(
         kind: PixelType,
         rows: u32,
@@ -113,15 +115,18 @@ impl<'v, 'm> Lent<'v, 'm> {
         ensures cols { (lent_pixels result).cols ≡ cols }
         ensures depth { (lent_pixels result).depth ≡ depth }
         ensures marks { marks_of (lent_pixels result) ≡ marks_in (rows * cols) mask.now }
-        ensures values { (k d : ℕ) → k < rows * cols → d < depth → mask_bit mask.now k ≡ true
+        ensures values { (k d : ℕ) → valid_count (lent_pixels result) ≡ rows * cols
+            → k < rows * cols → d < depth
             → Spells kind (drop ((k * depth + d) * bytes_of kind) values.old)
             (value_in (lent_pixels result) d k) }
+        ensures zeros { (k d : ℕ) → valid_count (lent_pixels result) ≢ rows * cols
+            → k < rows * cols → d < depth → value_in (lent_pixels result) d k ≡ pos 0 }
         ensures array { array_of result ≡ values.entry.ghost_name }
     {
         let places = rows as usize * cols as usize;
         let marks = LentMask::over(places, mask);
         let valid = marks.valid_count();
-        clear_unmarked(&marks, kind, depth as usize, values);
+        clear_masked(&marks, kind, depth as usize, values);
         Lent {
             kind,
             rows,
@@ -256,6 +261,51 @@ impl<'v, 'm> Lent<'v, 'm> {
         ensures sound { IsLent self.new }
         ensures kept { frame_of self.new ≡ frame_of self.old }
     {
+        self.pour_given(row, col, side, d, &ValueList { values });
+    }
+
+    /// Gives the valid pixels of a block the sums of an offset and numbers of steps, none above
+    /// `top`, at a depth, row by row. All else stays.
+    pub fn pour_steps(
+        &mut self,
+        row: u32,
+        col: u32,
+        side: u32,
+        d: u32,
+        offset: i64,
+        step: i64,
+        top: i64,
+        numbers: &[u32],
+    )
+        requires sound { IsLent self.old }
+        requires place { InShape (lent_pixels self.old) row col }
+        requires depth { d < (lent_pixels self.old).depth }
+        requires count { length numbers.now ≡ block_count (lent_pixels self.old) row col side }
+        requires offset { InRange (lent_pixels self.old).kind offset }
+        requires top { InRange (lent_pixels self.old).kind top }
+        requires step { IsStepSize step }
+        ensures poured { PoursBlock (lent_pixels self.old) (lent_pixels self.new) row col side d
+            (capped_sums (map pos numbers.now) offset step top) }
+        ensures sound { IsLent self.new }
+        ensures kept { frame_of self.new ≡ frame_of self.old }
+    {
+        let sums = Sums::of(self.kind, numbers, offset, step, top);
+        self.pour_given(row, col, side, d, &sums);
+    }
+
+    /// Gives the valid pixels of a block the values that are given, at a depth, row by row.
+    fn pour_given<G: Given>(&mut self, row: u32, col: u32, side: u32, d: u32, given: &G)
+        requires sound { IsLent self.old }
+        requires given { G.sound given.now }
+        requires place { InShape (lent_pixels self.old) row col }
+        requires depth { d < (lent_pixels self.old).depth }
+        requires count { length (G.listed given.now) ≡ block_count (lent_pixels self.old) row col side }
+        requires in_range { All (InRange (lent_pixels self.old).kind) (G.listed given.now) }
+        ensures poured { PoursBlock (lent_pixels self.old) (lent_pixels self.new) row col side d
+            (G.listed given.now) }
+        ensures sound { IsLent self.new }
+        ensures kept { frame_of self.new ≡ frame_of self.old }
+    {
         let high = edge(side, row, self.rows);
         let wide = edge(side, col, self.cols);
         let depth = self.depth;
@@ -270,7 +320,7 @@ impl<'v, 'm> Lent<'v, 'm> {
             col as usize,
             high as usize,
             wide as usize,
-            values,
+            given,
             self,
         );
     }

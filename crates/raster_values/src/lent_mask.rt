@@ -1,17 +1,19 @@
-//! The mask of a raster in a caller's bytes.
+//! The mask of a raster in bytes that someone else keeps: the raster, or a caller.
 
-ghost use Rattle.std.specs.Prelude.{◌≡◌, ℕ, ◌+◌, ◌/◌, ◌<◌, ◌≤◌, length, get_or, false};
+ghost use Rattle.std.specs.Prelude.{◌≡◌, ◌↔◌, ℕ, ◌+◌, ◌/◌, ◌<◌, ◌≤◌, IsTrue, length, get_or, replicate, true, false};
 ghost use Rattle.std.specs.List.{count_by};
-ghost use Rattle.raster_values.specs.Order.{marks_in};
+ghost use Rattle.raster_values.specs.Order.{marks_in, mask_bit};
 ghost use Rattle.raster_values.specs.inside.LentMask.{AreBits};
-ghost use Rattle.raster_values.specs.inside.Runs.{run_places, AreRuns};
+ghost use Rattle.raster_values.specs.inside.Runs.{run_places, AreMarks, AreRuns};
 
 use super::bits;
 use super::mask::{Run, count_bits};
+use super::mask_bits::set_bits;
 use std::marker::Model;
 
-/// Which pixels are valid: a bit for each, in a caller's bytes, and how many there are. The bits
-/// behind the last pixel are not looked at.
+/// Which pixels are valid: a bit for each, in bytes that someone else keeps, and how many there are.
+/// The bits behind the last pixel are not looked at. Where every pixel is valid no bit is, and there
+/// need be no bytes.
 ///
 /// A contract sees the list of the marks.
 #[derive(Drop)]
@@ -26,12 +28,11 @@ impl<'m> Model for LentMask<'m> {
 
     ghost Value = { List Bool };
 
-    ghost use Rattle.raster_values.specs.Order.{marks_in};
-    ghost use Rattle.raster_values.specs.inside.LentMask.{AreBits};
+    ghost use Rattle.raster_values.specs.inside.LentMask.{AreMarksWith, marks_with};
 
-    ghost view = { λ m. marks_in m.count m.bytes.now };
+    ghost view = { λ m. marks_with m.count m.valid m.bytes.now };
 
-    ghost invariant = { λ m. AreBits m.count m.valid m.bytes.now };
+    ghost invariant = { λ m. AreMarksWith m.count m.valid m.bytes.now };
 }
 
 impl<'m> LentMask<'m> {
@@ -61,6 +62,18 @@ impl<'m> LentMask<'m> {
         }
     }
 
+    /// The mask of so many pixels of which every one is valid.
+    pub fn whole(count: usize) -> LentMask<'m>
+        requires { count ≤ 16777216 }
+        ensures { result ≡ replicate count true }
+    {
+        LentMask {
+            count,
+            valid: count,
+            bytes: &[],
+        }
+    }
+
     /// The number of pixels.
     pub fn len(&self) -> usize
         ensures value { result ≡ length self.now }
@@ -74,6 +87,37 @@ impl<'m> LentMask<'m> {
         ensures { result ≡ count_by (λ m. m) self.now }
     {
         self.valid
+    }
+
+    /// Whether every pixel is valid.
+    pub fn is_whole(&self) -> bool
+        ensures { IsTrue result
+            ↔ ((k : ℕ) → k < length self.now → get_or self.now k false ≡ true) }
+    {
+        self.valid == self.count
+    }
+
+    /// Whether a pixel is valid.
+    #[inline(always)]
+    pub fn get(&self, k: usize) -> bool
+        requires { k < length self.now }
+        ensures { result ≡ get_or self.now k false }
+    {
+        self.valid == self.count || bits::bit_at(self.bytes, k)
+    }
+
+    /// Writes the bits over as many bytes. Those behind the last pixel are 0.
+    pub fn write_bits(&self, out: &mut [u8])
+        requires { length out.old ≡ (length self.now + 7) / 8 }
+        ensures size { length out.new ≡ length out.old }
+        ensures bits { (k : ℕ) → mask_bit out.new k ≡ get_or self.now k false }
+    {
+        if self.valid == self.count {
+            set_bits(out, self.count);
+            return;
+        }
+        out.copy_from_slice(self.bytes);
+        bits::clear_spare(out, self.count);
     }
 
     /// How many of `count` pixels from `from` on are valid.
@@ -98,6 +142,21 @@ impl<'m> LentMask<'m> {
             return;
         }
         bits::copy_bits(self.bytes, from, out);
+    }
+
+    /// The marks of `count` pixels from `from` on, at most 32, as the bits of one number, the first as
+    /// the highest.
+    #[inline]
+    pub fn word(&self, from: usize, count: usize) -> u32
+        requires some { 0 < count }
+        requires few { count ≤ 32 }
+        requires within { from + count ≤ length self.now }
+        ensures { AreMarks self.now from count result }
+    {
+        if self.valid == self.count {
+            return u32::MAX >> (32 - count);
+        }
+        bits::word_from(self.bytes, from, count)
     }
 
     /// The next run of valid pixels from `at` on, before `limit`. It is empty, and at `limit`,

@@ -12,7 +12,9 @@ mod bands_grid;
 mod bits;
 mod blocks;
 mod byte_runs;
+mod cell_bytes;
 mod cells;
+mod given;
 mod grid;
 mod kind;
 mod laws;
@@ -22,9 +24,11 @@ mod limits;
 mod marked;
 mod mask;
 mod mask_bits;
+mod numbered;
 mod order;
 mod raster;
 mod reading;
+mod seen;
 mod valued;
 mod waiting;
 
@@ -46,6 +50,7 @@ pub use limits::{GREATEST_BANDS, GREATEST_DEPTH, GREATEST_VALUES, is_shape};
 pub use mask_bits::{clear_bits, count_marked, set_bits};
 pub use raster::{Raster, ShapeFault};
 pub use reading::{GridFault, GridReason, GridStop, grid_read};
+pub use seen::Seen;
 
 /// How many bytes are taken from a source, or given to a sink, at once.
 const PIECE: usize = 65536;

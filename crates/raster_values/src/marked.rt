@@ -1,7 +1,7 @@
 //! Marks of pixels, however they are kept.
 
 ghost use Rattle.std.specs.Prelude.{◌≡◌, ◌+◌, ◌<◌, ◌≤◌, Bool, List, length};
-ghost use Rattle.raster_values.specs.inside.Runs.{run_places, AreRuns};
+ghost use Rattle.raster_values.specs.inside.Runs.{run_places, AreMarks, AreRuns};
 
 use super::lent_mask::LentMask;
 use super::mask::{Mask, Run};
@@ -20,6 +20,14 @@ pub trait Marked {
     fn count_run(&self, from: usize, count: usize) -> usize
         requires { from + count ≤ length (marks self.now) }
         ensures { result ≡ length (run_places (marks self.now) from count) };
+
+    /// The marks of `count` pixels from `from` on, at most 32, as the bits of one number, the first as
+    /// the highest.
+    fn word(&self, from: usize, count: usize) -> u32
+        requires some { 0 < count }
+        requires few { count ≤ 32 }
+        requires within { from + count ≤ length (marks self.now) }
+        ensures { AreMarks (marks self.now) from count result };
 
     /// The next run of valid pixels from `at` on, before `limit`. It is empty, and at `limit`,
     /// where there is none.
@@ -42,6 +50,11 @@ impl Marked for Mask {
         Mask::count_run(self, from, count)
     }
 
+    #[inline(always)]
+    fn word(&self, from: usize, count: usize) -> u32 {
+        Mask::word(self, from, count)
+    }
+
     fn next_run(&self, at: usize, limit: usize) -> Run {
         Mask::next_run(self, at, limit)
     }
@@ -56,6 +69,11 @@ impl<'m> Marked for LentMask<'m> {
 
     fn count_run(&self, from: usize, count: usize) -> usize {
         LentMask::count_run(self, from, count)
+    }
+
+    #[inline(always)]
+    fn word(&self, from: usize, count: usize) -> u32 {
+        LentMask::word(self, from, count)
     }
 
     fn next_run(&self, at: usize, limit: usize) -> Run {

@@ -4,10 +4,11 @@ ghost use Rattle.std.specs.Prelude.{◌≡◌, ◌≢◌, ◌↔◌, ℕ, ◌+�
 ghost use Rattle.std.specs.List.{count_by, filter, range_with_len};
 ghost use Rattle.raster_values.specs.Order.{mask_bit, marks_in};
 ghost use Rattle.raster_values.specs.inside.Bits.{byte_bit, bit_after};
-ghost use Rattle.raster_values.specs.inside.Runs.{run_places, AreRuns};
+ghost use Rattle.raster_values.specs.inside.Runs.{run_places, AreMarks, AreRuns};
 ghost use Rattle.raster_values.specs.inside.Pack.{mark_bytes};
 
 use super::bits;
+use super::lent_mask::LentMask;
 use byteorder::{ByteOrder, LittleEndian};
 use std::alloc::{AllocError, Global};
 use std::marker::Model;
@@ -180,13 +181,16 @@ fn count_part(bytes: &[u8], from: usize, count: usize) -> usize
     ones_within(bytes[from / 8], from % 8, count)
 }
 
-/// How many of `count` bits from `from` on are 1: those of the bytes that lie in them whole, and
-/// those before and behind these.
+/// How many of `count` bits from `from` on are 1: those of one word where they are few, else those of
+/// the bytes that lie in them whole, and those before and behind these.
 pub(super) fn count_bits(bytes: &[u8], from: usize, count: usize) -> usize
     requires few { from + count ≤ 16777216 }
     requires within { from + count ≤ 8 * length bytes.now }
     ensures { result ≡ length (filter (mask_bit bytes.now) (range_with_len from count)) }
 {
+    if 0 < count && count <= 32 {
+        return bits::word_from(bytes, from, count).count_ones() as usize;
+    }
     let end = from + count;
     let first = from.div_ceil(8);
     let last = end / 8;
@@ -321,12 +325,12 @@ impl Mask {
         self.valid
     }
 
-    /// Whether every pixel is valid.
-    pub fn is_whole(&self) -> bool
-        ensures { IsTrue result
-            ↔ ((k : ℕ) → k < length self.now → get_or self.now k false ≡ true) }
+    /// The same mask, to be read.
+    #[inline(always)]
+    pub fn read(&self) -> LentMask
+        ensures { result ≡ self.now }
     {
-        self.valid == self.count
+        LentMask::counted(self.count, self.valid, &self.bytes)
     }
 
     /// Whether a pixel is valid.
@@ -465,6 +469,18 @@ impl Mask {
             return;
         }
         bits::copy_bits(&self.bytes, from, out);
+    }
+
+    /// The marks of `count` pixels from `from` on, at most 32, as the bits of one number, the first as
+    /// the highest.
+    #[inline]
+    pub fn word(&self, from: usize, count: usize) -> u32
+        requires some { 0 < count }
+        requires few { count ≤ 32 }
+        requires within { from + count ≤ length self.now }
+        ensures { AreMarks self.now from count result }
+    {
+        bits::word_from(&self.bytes, from, count)
     }
 
     /// The next run of valid pixels from `at` on, before `limit`. It is empty, and at `limit`,

@@ -8,7 +8,9 @@ ghost use Rattle.raster_values.specs.inside.View.{pixels_of};
 ghost use Rattle.raster_values.specs.Grid.{values_bytes};
 ghost use Rattle.raster_values.specs.inside.Ordered.{ChangesMarked, FillsMarked, PutsMarked, PutsMarkedBytes};
 
+use super::cell_bytes::CellBytes;
 use super::cells::Cells;
+use super::lent_mask::LentMask;
 use super::marked::Marked;
 use super::mask::Mask;
 use super::valued::{Valued, fill_pixels, put_pixels};
@@ -105,7 +107,7 @@ pub(super) fn put_values<M: Marked, V: Valued>(
 }
 
 /// The bytes of the marked pixels' values, run by run.
-pub(super) fn write_valid(marks: &Mask, depth: usize, values: &Cells, out: &mut [u8])
+pub(super) fn write_valid(marks: &LentMask, depth: usize, values: &CellBytes, out: &mut [u8])
     requires size { length values.now.values ≡ length marks.now * depth }
     requires few { length values.now.values ≤ 16777216 }
     requires room { length out.old ≡ length (values_of

@@ -12,9 +12,11 @@ ghost use Rattle.raster_values.specs.Distance.{distance_of};
 ghost use Rattle.lane_kernels.specs.Kernels.{IsLeast, IsGreatest};
 ghost use Rattle.raster_values.specs.ReadGrid.{AreMarks, TookBytes, TookSome, IsToldFault, CountsGridStop, mark_faults, value_faults};
 ghost use Rattle.raster_values.specs.Values.{AreValues};
+ghost use Rattle.lane_kernels.specs.Kernels.{IsStepSize, capped_sums};
 ghost use Rattle.raster_values.specs.Block.{SameMask, block_count, block_values, PoursBlock};
 
 use super::cells::Cells;
+use super::given::{Given, Sums, ValueList};
 use super::kind::PixelType;
 use super::limits::is_shape;
 use super::mask::Mask;
@@ -324,9 +326,11 @@ impl Raster {
     {
         let high = edge(side, row, self.rows);
         let wide = edge(side, col, self.cols);
+        let marks = self.marks.read();
+        let values = self.values.read();
         blocks::gather_rows(
-            &self.marks,
-            &self.values,
+            &marks,
+            &values,
             self.depth as usize,
             d as usize,
             self.cols as usize,
@@ -348,7 +352,9 @@ impl Raster {
         ensures empty { IsNone result ↔ (depth_values self.now d ≡ []) }
         ensures none { IsNone result ↔ (valid_count self.now ≡ 0) }
     {
-        blocks::range_of(&self.marks, &self.values, self.depth as usize, d as usize)
+        let marks = self.marks.read();
+        let values = self.values.read();
+        blocks::range_of(&marks, &values, self.depth as usize, d as usize)
     }
 
     /// Gives the valid pixels of a block these values at a depth, row by row. All else stays.
@@ -358,6 +364,44 @@ impl Raster {
         requires count { length values.now ≡ block_count self.old row col side }
         requires in_range { All (InRange self.old.kind) values.now }
         ensures { PoursBlock self.old self.new row col side d values.now }
+    {
+        self.pour_given(row, col, side, d, &ValueList { values });
+    }
+
+    /// Gives the valid pixels of a block the sums of an offset and numbers of steps, none above
+    /// `top`, at a depth, row by row. All else stays.
+    pub fn pour_steps(
+        &mut self,
+        row: u32,
+        col: u32,
+        side: u32,
+        d: u32,
+        offset: i64,
+        step: i64,
+        top: i64,
+        numbers: &[u32],
+    )
+        requires place { InShape self.old row col }
+        requires depth { d < self.old.depth }
+        requires count { length numbers.now ≡ block_count self.old row col side }
+        requires offset { InRange self.old.kind offset }
+        requires top { InRange self.old.kind top }
+        requires step { IsStepSize step }
+        ensures { PoursBlock self.old self.new row col side d
+            (capped_sums (map pos numbers.now) offset step top) }
+    {
+        let sums = Sums::of(self.values.kind(), numbers, offset, step, top);
+        self.pour_given(row, col, side, d, &sums);
+    }
+
+    /// Gives the valid pixels of a block the values that are given, at a depth, row by row.
+    fn pour_given<G: Given>(&mut self, row: u32, col: u32, side: u32, d: u32, given: &G)
+        requires given { G.sound given.now }
+        requires place { InShape self.old row col }
+        requires depth { d < self.old.depth }
+        requires count { length (G.listed given.now) ≡ block_count self.old row col side }
+        requires in_range { All (InRange self.old.kind) (G.listed given.now) }
+        ensures { PoursBlock self.old self.new row col side d (G.listed given.now) }
     {
         let high = edge(side, row, self.rows);
         let wide = edge(side, col, self.cols);
@@ -372,7 +416,7 @@ impl Raster {
             col as usize,
             high as usize,
             wide as usize,
-            values,
+            given,
             &mut self.values,
         );
     }
@@ -395,8 +439,8 @@ impl Raster {
         ensures values { (i : ℕ) → i < length out.old → get_or out.new i (pos 0)
             ≡ value_in self.now d (place + i) }
     {
-        self.values
-            .get_pixels(place, self.depth as usize, d as usize, out);
+        let values = self.values.read();
+        values.get_pixels(place, self.depth as usize, d as usize, out);
     }
 
     /// Gives the valid ones among the pixels from number `place` on these values at a depth, and
@@ -444,7 +488,9 @@ impl Raster {
             ≡ valid_count self.now * self.now.depth * bytes_of self.now.kind }
         ensures { out.new ≡ values_bytes self.now.kind (values_of self.now.pixels) }
     {
-        order::write_valid(&self.marks, self.depth as usize, &self.values, out);
+        let marks = self.marks.read();
+        let values = self.values.read();
+        order::write_valid(&marks, self.depth as usize, &values, out);
     }
 
     /// Writes the raster's mask: a bit for each pixel, row by row and the highest of each byte

@@ -1,11 +1,12 @@
 //! The values of all pixels, one behind the other, whoever keeps them.
 
-ghost use Rattle.std.specs.Prelude.{◌≡◌, ◌+◌, ◌-◌, ◌*◌, ◌<◌, ◌≤◌, ◌++◌, All, length, take, drop};
+ghost use Rattle.std.specs.Prelude.{◌≡◌, ◌+◌, ◌-◌, ◌*◌, ◌<◌, ◌≤◌, ◌++◌, All, pos, length, get_or, take, drop, slice_set, nat_eq, if◌then◌else◌};
 ghost use Rattle.raster_values.specs.PixelType.{InRange, bytes_of};
 ghost use Rattle.raster_values.specs.inside.CellList.{CellList, values_in};
 ghost use Rattle.raster_values.specs.inside.Ordered.{FillsPixels, PutsPixels};
 
 use super::cells::{Cells, by_kind};
+use super::given::{Given, ValueList};
 use super::kind::PixelType;
 
 /// How many values are laid down at once where one list is repeated.
@@ -29,16 +30,27 @@ pub trait Valued {
         requires { sound self.now }
         ensures { result ≡ (cells self.now).kind };
 
-    /// Puts a run of values of the type, which is known before, in the place of as many from `at`
-    /// on.
-    fn put_run_as(&mut self, kind: PixelType, at: usize, values: &[i64])
+    /// The value at a place, of the type that is known before.
+    fn get_as(&self, kind: PixelType, at: usize) -> i64
+        requires sound { sound self.now }
+        requires kind { kind ≡ (cells self.now).kind }
+        requires within { at < length (cells self.now).values }
+        ensures value { result ≡ get_or (cells self.now).values at (pos 0) }
+        ensures in_range { InRange (cells self.now).kind result };
+
+    /// Puts `count` of the values that are given, from number `n` on, in the place of as many from
+    /// `at` on. The type is known before.
+    fn put_as<G: Given>(&mut self, kind: PixelType, at: usize, given: &G, n: usize, count: usize)
         requires sound { sound self.old }
         requires kind { kind ≡ (cells self.old).kind }
-        requires within { at + length values.now ≤ length (cells self.old).values }
-        requires in_range { All (InRange (cells self.old).kind) values.now }
+        requires given { G.sound given.now }
+        requires there { n + count ≤ length (G.listed given.now) }
+        requires within { at + count ≤ length (cells self.old).values }
+        requires in_range { All (InRange (cells self.old).kind) (G.listed given.now) }
         ensures put { cells self.new ≡ record (cells self.old) {
           values = take at (cells self.old).values
-              ++ (values.now ++ drop (at + length values.now) (cells self.old).values);
+              ++ (take count (drop n (G.listed given.now))
+              ++ drop (at + count) (cells self.old).values);
         } }
         ensures sound { sound self.new }
         ensures kept { kept self.new ≡ kept self.old };
@@ -86,8 +98,13 @@ impl Valued for Cells {
     }
 
     #[inline(always)]
-    fn put_run_as(&mut self, kind: PixelType, at: usize, values: &[i64]) {
-        Cells::put_run_as(self, kind, at, values);
+    fn get_as(&self, kind: PixelType, at: usize) -> i64 {
+        Cells::get_as(self, kind, at)
+    }
+
+    #[inline(always)]
+    fn put_as<G: Given>(&mut self, kind: PixelType, at: usize, given: &G, n: usize, count: usize) {
+        Cells::put_as(self, kind, at, given, n, count);
     }
 
     #[inline(always)]
@@ -113,7 +130,25 @@ pub fn put_run<V: Valued>(cells: &mut V, at: usize, values: &[i64])
     ensures sound { V.sound cells.new }
     ensures kept { V.kept cells.new ≡ V.kept cells.old }
 {
-    by_kind!(cells.kind(), kind => cells.put_run_as(kind, at, values))
+    by_kind!(cells.kind(), kind => put_run_as(cells, kind, at, values))
+}
+
+/// Does what `put_run` does, for a type that is known before.
+#[inline(always)]
+fn put_run_as<V: Valued>(cells: &mut V, kind: PixelType, at: usize, values: &[i64])
+    requires sound { V.sound cells.old }
+    requires kind { kind ≡ (V.cells cells.old).kind }
+    requires within { at + length values.now ≤ length (V.cells cells.old).values }
+    requires in_range { All (InRange (V.cells cells.old).kind) values.now }
+    ensures put { V.cells cells.new ≡ record (V.cells cells.old) {
+      values = take at (V.cells cells.old).values
+          ++ (values.now ++ drop (at + length values.now) (V.cells cells.old).values);
+    } }
+    ensures sound { V.sound cells.new }
+    ensures kept { V.kept cells.new ≡ V.kept cells.old }
+{
+    let given = ValueList { values };
+    cells.put_as(kind, at, &given, 0, values.len());
 }
 
 /// Puts values of the type at a depth of as many pixels from `first` on, of which each has `depth`
@@ -133,15 +168,12 @@ pub fn put_pixels<V: Valued>(cells: &mut V, first: usize, depth: usize, d: usize
     ensures sound { V.sound cells.new }
     ensures kept { V.kept cells.new ≡ V.kept cells.old }
 {
-    if depth == 1 {
-        return put_run(cells, first, values);
-    }
-    by_kind!(cells.kind(), kind => put_pixels_as(cells, kind, first, depth, d, values))
+    by_kind!(cells.kind(), kind => put_list_as(cells, kind, first, depth, d, values))
 }
 
 /// Does what `put_pixels` does, for a type that is known before.
 #[inline(always)]
-fn put_pixels_as<V: Valued>(
+fn put_list_as<V: Valued>(
     cells: &mut V,
     kind: PixelType,
     first: usize,
@@ -164,8 +196,107 @@ fn put_pixels_as<V: Valued>(
     ensures sound { V.sound cells.new }
     ensures kept { V.kept cells.new ≡ V.kept cells.old }
 {
-    for (i, value) in values.iter().enumerate() {
-        cells.put_run_as(kind, (first + i) * depth + d, &[*value]);
+    let given = ValueList { values };
+    put_pixels_as(cells, kind, first, depth, d, &given, 0, values.len());
+}
+
+/// The value where the mark is 1, and else what stands there.
+#[inline(always)]
+fn one_of(mark: u32, value: i64, stood: i64) -> i64
+    ensures { result ≡ (if nat_eq mark 1 then value else stood) }
+{
+    if mark == 1 { value } else { stood }
+}
+
+/// Puts a value of the type at a place where the mark is 1, and what stands there where it is 0:
+/// something is laid down either way, so that no jump depends on the mark.
+#[inline(always)]
+pub fn put_marked_as<V: Valued>(cells: &mut V, kind: PixelType, at: usize, mark: u32, value: i64)
+    requires sound { V.sound cells.old }
+    requires kind { kind ≡ (V.cells cells.old).kind }
+    requires within { at < length (V.cells cells.old).values }
+    requires in_range { InRange (V.cells cells.old).kind value }
+    ensures kind { (V.cells cells.new).kind ≡ (V.cells cells.old).kind }
+    ensures put { (V.cells cells.new).values ≡ (if nat_eq mark 1
+        then slice_set (V.cells cells.old).values at value else (V.cells cells.old).values) }
+    ensures sound { V.sound cells.new }
+    ensures kept { V.kept cells.new ≡ V.kept cells.old }
+{
+    let stood = cells.get_as(kind, at);
+    let put = one_of(mark, value, stood);
+    put_run_as(cells, kind, at, &[put]);
+}
+
+/// Puts `count` of the values that are given, from number `n` on, at a depth of as many pixels from
+/// `first` on, of which each has `depth` values. The type is known before.
+#[inline(always)]
+pub fn put_pixels_as<V: Valued, G: Given>(
+    cells: &mut V,
+    kind: PixelType,
+    first: usize,
+    depth: usize,
+    d: usize,
+    given: &G,
+    n: usize,
+    count: usize,
+)
+    requires sound { V.sound cells.old }
+    requires kind { kind ≡ (V.cells cells.old).kind }
+    requires given { G.sound given.now }
+    requires there { n + count ≤ length (G.listed given.now) }
+    requires few { length (V.cells cells.old).values ≤ 16777216 }
+    requires depth { d < depth }
+    requires within { (first + count) * depth ≤ length (V.cells cells.old).values }
+    requires in_range { All (InRange (V.cells cells.old).kind) (G.listed given.now) }
+    ensures kind { (V.cells cells.new).kind ≡ (V.cells cells.old).kind }
+    ensures in_range { All (InRange (V.cells cells.old).kind) (V.cells cells.old).values
+        → All (InRange (V.cells cells.old).kind) (V.cells cells.new).values }
+    ensures size { length (V.cells cells.new).values ≡ length (V.cells cells.old).values }
+    ensures put { PutsPixels depth d first count (take count (drop n (G.listed given.now)))
+        (V.cells cells.old).values (V.cells cells.new).values }
+    ensures sound { V.sound cells.new }
+    ensures kept { V.kept cells.new ≡ V.kept cells.old }
+{
+    if depth == 1 {
+        cells.put_as(kind, first, given, n, count);
+    } else {
+        put_steps_as(cells, kind, first, depth, d, given, n, count);
+    }
+}
+
+/// Does what `put_pixels_as` does, one pixel after the other.
+#[inline(always)]
+fn put_steps_as<V: Valued, G: Given>(
+    cells: &mut V,
+    kind: PixelType,
+    first: usize,
+    depth: usize,
+    d: usize,
+    given: &G,
+    n: usize,
+    count: usize,
+)
+    requires sound { V.sound cells.old }
+    requires kind { kind ≡ (V.cells cells.old).kind }
+    requires given { G.sound given.now }
+    requires there { n + count ≤ length (G.listed given.now) }
+    requires few { length (V.cells cells.old).values ≤ 16777216 }
+    requires depth { d < depth }
+    requires within { (first + count) * depth ≤ length (V.cells cells.old).values }
+    requires in_range { All (InRange (V.cells cells.old).kind) (G.listed given.now) }
+    ensures kind { (V.cells cells.new).kind ≡ (V.cells cells.old).kind }
+    ensures in_range { All (InRange (V.cells cells.old).kind) (V.cells cells.old).values
+        → All (InRange (V.cells cells.old).kind) (V.cells cells.new).values }
+    ensures size { length (V.cells cells.new).values ≡ length (V.cells cells.old).values }
+    ensures put { PutsPixels depth d first count (take count (drop n (G.listed given.now)))
+        (V.cells cells.old).values (V.cells cells.new).values }
+    ensures sound { V.sound cells.new }
+    ensures kept { V.kept cells.new ≡ V.kept cells.old }
+{
+    // for the proof: `len` ensures that `n + count` does not wrap
+    let _ = given.len();
+    for i in 0..count {
+        cells.put_as(kind, (first + i) * depth + d, given, n + i, 1);
     }
 }
 

@@ -6,6 +6,7 @@
 #![tactic(auto)]
 
 mod raster;
+mod seen;
 mod view;
 
 pub use view::View;

@@ -3,6 +3,7 @@ use Rattle.std.specs.Prelude.{◌≡◌, ℕ, ◌*◌, ◌<◌, ◌≤◌, ◌�
 use Rattle.raster_values.specs.Raster.{Pixels, IsRaster}
 use Rattle.raster_values.specs.Block.{block_values}
 use Rattle.raster_values.specs.Step.{IsTwiceError}
+use Rattle.lut_stuff.specs.Ranked.{Rises}
 use Rattle.lerc_header.specs.declared.header.Header.{Header}
 use Rattle.micro_block.specs.ChosenBlock as micro
 use Rattle.micro_block.specs.ChosenBlock.{block_bytes, chosen_form}
@@ -53,8 +54,10 @@ pub record AreFlags (h : Header) (r : Pixels) (n : ℕ) (tables : List Bool) : T
   pub room : n ≤ length tables
   pub each : (k : ℕ) → k < n → IsTrue (get_or tables k false) ↔ HasTable h r k
 
--- how many bytes all blocks take, and which have a table
+-- how many bytes all blocks take, and which have a table; at most 256 values, which rise
 pub record IsMeasured (h : Header) (r : Pixels) (m : Measured) : Type 0 where
   pub size : m.size ≡ length (blocks_bytes h r)
   pub few : m.size ≤ 1025 * 16777216
   pub tables : AreFlags h r (coded_blocks h) m.tables.items
+  pub rises : Rises m.values.items
+  pub few_values : length m.values.items ≤ 256

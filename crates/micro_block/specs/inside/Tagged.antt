@@ -2,9 +2,11 @@
 use Rattle.std.specs.Prelude.{◌≡◌, ℕ, ℤ, pos, ◌+◌, ◌/◌, ◌%◌, ◌≤◌, List, [], ◌++◌, length, map}
 use Rattle.std.specs.Prelude.{replicate, take, drop}
 use Rattle.raster_values.specs.declared.kind.PixelType.{PixelType}
-use Rattle.raster_values.specs.PixelType.{Spells, bytes_of}
+use Rattle.raster_values.specs.PixelType.{InRange, Spells, bytes_of}
 use Rattle.raster_values.specs.Values.{AreValues}
+use Rattle.lane_kernels.specs.Kernels.{IsStepSize}
 use Rattle.lut_stuff.specs.Lists.{IsListOf}
+use Rattle.micro_block.specs.declared.context.SteppedBlock.{SteppedBlock}
 use Rattle.micro_block.specs.Block.{IsOffset}
 use Rattle.micro_block.specs.Frame.{Frame}
 use Rattle.micro_block.specs.Near.{stands_for}
@@ -20,6 +22,14 @@ pub data IsTagged (f : Frame) (tag : ℕ) (rest : List ℕ) (values : List ℤ) 
       → IsTagged f tag rest values
   as_constant : tag % 4 ≡ 3 → (offset : ℤ) → IsOffset f.kind (tag / 64) rest offset
       → values ≡ replicate f.count offset → IsTagged f tag rest values
+
+-- the offset and the top are values of the type, and the step is from 1 to 2 ^ 33
+abbrev pub FitSteps : PixelType → SteppedBlock → Type 0
+FitSteps kind s = (InRange kind s.offset × InRange kind s.top) × IsStepSize s.step
+
+-- each value of the second type is one of the first
+abbrev pub LiesIn : PixelType → PixelType → Type 0
+LiesIn kind type = (v : ℤ) → InRange type v → InRange kind v
 
 -- the first bytes are an offset in this type, and each value is it
 pub record HasConstant (type : PixelType) (bytes : List ℕ) (used count : ℕ) (values : List ℤ)

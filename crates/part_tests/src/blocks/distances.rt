@@ -1,10 +1,13 @@
 ghost use Rattle.std.specs.Prelude.{◌≡◌, ◌≤ℤ◌, All, map, true};
 ghost use Rattle.raster_values.specs.Distance.{IsDistance, value_above};
 ghost use Rattle.micro_block.specs.Frame.{IsBlockCtx};
+ghost use Rattle.lut_stuff.specs.Names.{AreNames};
+ghost use Rattle.lut_stuff.specs.Ranked.{AreRanked};
 
-use super::{I8S, I32S, U16S, Under, context, expect_bytes};
+use super::{I8S, I32S, U16S, U32S, Under, context, expect_bytes};
 use crate::same::same;
-use micro_block::{BlockCtx, BlockSize, block_size, write_distances};
+use lut_stuff::{Names, Ranks};
+use micro_block::{BlockCtx, BlockSize, block_size, named_size, write_distances, write_ranked};
 use raster_values::PixelType;
 use std::process::Abort;
 
@@ -111,5 +114,74 @@ const RULES: &[Written] = &[
 fn each_rule_counts_the_steps(rt: HostRuntime) {
     for row in RULES {
         expect_written(&rt, row);
+    }
+}
+
+/// The ranks of the values that are named.
+fn ranks_of(rt: &impl Abort, names: &Names) -> Ranks
+    requires { AreNames names.now }
+    ensures { AreRanked result }
+{
+    let mut room = [0; 256];
+    let count = names.count();
+    assert!(rt; count <= 256);
+    let sorted = &mut room[..count];
+    names.sort_into(sorted);
+    Ranks::new(sorted)
+}
+
+/// The same block is found by names and written by ranks.
+fn expect_named(rt: &impl Abort, (under, distances, table, bytes): &Written) {
+    let ctx = context(rt, *under);
+    let mut out = [0xee; 80];
+    assert!(rt; distances.len() <= 256 && suit(distances, &ctx));
+    let mut names = Names::new();
+    let size = named_size(distances, &ctx, &mut names);
+    let wanted = BlockSize {
+        len: bytes.len(),
+        has_table: *table,
+    };
+    same(rt, "the size", size, wanted);
+    assert!(rt; size.len < 80);
+    let mut ranks = ranks_of(rt, &names);
+    let len = write_ranked(distances, &ctx, size.has_table, &mut ranks, &mut out);
+    same(rt, "the answer", len, size.len);
+    expect_bytes(rt, &out, bytes);
+}
+
+/// Values far apart, with a table and without one.
+const FAR_APART: &[Written] = &[
+    (
+        U32S,
+        &[5, 1000000005, 5, 1000000005, 5, 1000000005, 5, 1000000005],
+        true,
+        &[0x81, 0x05, 0xbe, 0x08, 0x02, 0x00, 0xca, 0x9a, 0x3b, 0xaa],
+    ),
+    (
+        U32S,
+        &[9000005, 5, 4005, 5, 9000005, 4005, 5, 5],
+        true,
+        &[
+            0x81, 0x05, 0xb8, 0x08, 0x03, 0xa0, 0x0f, 0x00, 0x40, 0x54, 0x89, 0x12, 0x06,
+        ],
+    ),
+    (
+        U32S,
+        &[0, 4294967295],
+        false,
+        &[0, 0, 0, 0, 0, 255, 255, 255, 255],
+    ),
+];
+
+#[test]
+fn blocks_of_values_far_apart_go_by_names_and_ranks(rt: HostRuntime) {
+    for row in FAR_APART {
+        expect_named(&rt, row);
+    }
+    for row in FORMS {
+        expect_named(&rt, row);
+    }
+    for row in RULES {
+        expect_named(&rt, row);
     }
 }

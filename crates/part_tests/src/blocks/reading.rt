@@ -1,7 +1,7 @@
 use super::{I8S, I32S, U8S, U16S, U32S, Under, context};
 use crate::same::same;
 use bit_stuff::ListReason;
-use micro_block::{BlockFault, BlockReason, read_block};
+use micro_block::{BlockFault, BlockReason, SteppedBlock, read_block, read_steps};
 use raster_values::PixelType;
 use std::process::Abort;
 
@@ -30,6 +30,29 @@ fn expect_fault(rt: &impl Abort, (under, bytes, reason, at): &Refused) {
     };
     let answer = read_block(bytes, &context(rt, *under), &mut out);
     same(rt, at, answer, Err(fault));
+    let mut numbers = [0; 4];
+    let answer = read_steps(bytes, &context(rt, *under), &mut numbers);
+    same(rt, "the same fault", answer, Err(fault));
+}
+
+/// What a block stands under, bytes that begin with it, how many of them it takes, the offset, the
+/// step and the top that it is read with, and its numbers of steps.
+type Stepped = (Under, &'static [u8], usize, (i64, i64, i64), &'static [u32]);
+
+/// The bytes begin with the block.
+fn expect_steps(rt: &impl Abort, (under, bytes, used, (offset, step, top), numbers): &Stepped) {
+    let mut out = [77; 8];
+    assert!(rt; numbers.len() <= 8);
+    let out = &mut out[..numbers.len()];
+    let answer = read_steps(bytes, &context(rt, *under), out);
+    let steps = SteppedBlock {
+        used: *used,
+        offset: *offset,
+        step: *step,
+        top: *top,
+    };
+    same(rt, "the steps", answer, Ok(steps));
+    same(rt, "the numbers", &*out, *numbers);
 }
 
 const EVENS: Under = (PixelType::I16, 0, 2, 32767);
@@ -92,6 +115,61 @@ const CAPPED: &[Read] = &[
 fn no_value_passes_the_top(rt: HostRuntime) {
     for row in CAPPED {
         expect_block(&rt, row);
+    }
+}
+
+const CAPPED_AT_13: Under = (PixelType::I16, 0, 2, 13);
+
+const EACH_FORM: &[Stepped] = &[
+    // Raw: above the least of the type.
+    (
+        CAPPED_AT_13,
+        &[0x00, 10, 0, 0xff, 0xff],
+        5,
+        (-32768, 1, 32767),
+        &[32778, 32767],
+    ),
+    (I8S, &[0, 0xff], 2, (-128, 1, 127), &[127]),
+    (U8S, &[0, 0xff], 2, (0, 1, 255), &[255]),
+    (U16S, &[0, 0xff, 0xff], 3, (0, 1, 65535), &[65535]),
+    (
+        I32S,
+        &[0, 0, 0, 0, 0x80],
+        5,
+        (-2147483648, 1, 2147483647),
+        &[0],
+    ),
+    (
+        U32S,
+        &[0, 255, 255, 255, 255],
+        5,
+        (0, 1, 4294967295),
+        &[4294967295],
+    ),
+    // A list: by the block's own step and top.
+    (
+        CAPPED_AT_13,
+        &[0x81, 0x0a, 0x82, 0x04, 0x94, 7],
+        5,
+        (10, 2, 13),
+        &[0, 1, 1, 2],
+    ),
+    (
+        EVENS,
+        &[0x81, 0xfe, 0xa2, 0x02, 0x03, 0x39, 0x09],
+        7,
+        (-2, 2, 32767),
+        &[1, 2],
+    ),
+    // All alike: no step, also from above the block's top.
+    (CAPPED_AT_13, &[0x02], 1, (0, 1, 32767), &[0, 0, 0]),
+    (CAPPED_AT_13, &[0x43, 20], 2, (20, 1, 32767), &[0, 0]),
+];
+
+#[test]
+fn each_form_is_read_as_steps(rt: HostRuntime) {
+    for row in EACH_FORM {
+        expect_steps(&rt, row);
     }
 }
 

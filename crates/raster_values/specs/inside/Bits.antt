@@ -6,6 +6,10 @@ use Rattle.raster_values.specs.Order.{mask_bit}
 abbrev pub byte_bit : ℕ → ℕ → Bool
 byte_bit byte q = nat_eq (byte / 2 ^ (7 - q) % 2) 1
 
+-- bit number q of a number of so many bits, counted from the highest
+abbrev pub word_bit : ℕ → ℕ → ℕ → Bool
+word_bit count word q = nat_eq (word / 2 ^ (count - 1 - q) % 2) 1
+
 -- bit number k of a mask of which n bits from `from` on were set as bytes say
 abbrev pub bit_after : List ℕ → List ℕ → ℕ → ℕ → ℕ → Bool
 bit_after old marks from n k = if nat_le from k && nat_lt k (from + n)

@@ -1,5 +1,5 @@
 -- Runs of pixels in the two vectors of a raster.
-use Rattle.std.specs.Prelude.{◌≡◌, ℕ, ℤ, pos, ◌+◌, ◌*◌, ◌<◌, ◌≤◌, Bool, true, false, List, [], ◌++◌, map, length, get_or, take, drop, All, Option, Some, None}
+use Rattle.std.specs.Prelude.{◌≡◌, ℕ, ℤ, pos, ◌+◌, ◌*◌, ◌^◌, ◌<◌, ◌≤◌, Bool, true, false, List, [], ◌++◌, map, length, get_or, take, drop, All, Option, Some, None}
 use mir.Syntax.{w64}
 use mir.Val.{SFits}
 use Rattle.raster_values.specs.declared.kind.PixelType.{PixelType}
@@ -7,6 +7,7 @@ use Rattle.raster_values.specs.PixelType.{InRange}
 use Rattle.std.specs.List.{filter, flat_map, range_with_len}
 use Rattle.lane_kernels.specs.Kernels.{IsLeast, IsGreatest}
 use Rattle.raster_values.specs.Distance.{value_above}
+use Rattle.raster_values.specs.inside.Bits.{word_bit}
 
 -- each value is one of a signed number of 64 bits
 abbrev pub AreWords : List ℤ → Type 0
@@ -65,6 +66,14 @@ pub record LeavesRun (depth d : ℕ) (marks : List Bool) (from count : ℕ)
       → (from ≤ k → k < from + count → get_or marks k false ≡ true → e ≡ d → ⊥)
       → get_or new (k * depth + e) (pos 0) ≡ get_or old (k * depth + e) (pos 0)
 
+-- the values at a depth of the marked pixels among `count` from `from` on are those of the input from
+-- number `at` up to `end`, and no other value was replaced
+pub record PoursRun (depth d : ℕ) (marks : List Bool) (input old new : List ℤ)
+    (from count at end : ℕ) : Type 0 where
+  pub ends : end ≡ at + length (run_places marks from count)
+  pub poured : take at input ++ run_values depth d marks new from count ≡ take end input
+  pub rest : LeavesRun depth d marks from count old new
+
 -- the same of runs of rows
 pub record LeavesRows (depth d : ℕ) (marks : List Bool) (cols row col high wide : ℕ)
     (old new : List ℤ) : Type 0 where
@@ -80,3 +89,9 @@ pub record AreRuns (marks : List Bool) (at start end : ℕ) : Type 0 where
   pub within : end ≤ length marks
   pub off : (k : ℕ) → at ≤ k → k < start → get_or marks k false ≡ false
   pub on : (k : ℕ) → start ≤ k → k < end → get_or marks k false ≡ true
+
+-- the number has so many bits, which are the marks of as many pixels from `from` on, the first the
+-- highest
+pub record AreMarks (marks : List Bool) (from count word : ℕ) : Type 0 where
+  pub below : word < 2 ^ count
+  pub bits : (q : ℕ) → q < count → word_bit count word q ≡ get_or marks (from + q) false

@@ -1,4 +1,4 @@
-use Rattle.std.proofs.Common.{◌≡◌, ℕ, ◌+◌, length, sym, ◌∙◌, arith, subst, refl}
+use Rattle.std.proofs.Common.{◌≡◌, ℕ, ◌+◌, ◌<◌, false, length, sym, ◌∙◌, arith, subst, refl}
 use Rattle.raster_values.specs.declared.kind.PixelType.{PixelType}
 use Rattle.raster_values.specs.PixelType.{InRange}
 use Rattle.raster_values.specs.Flat.{value_in}
@@ -7,6 +7,7 @@ use Rattle.delta_mode.specs.inside.Pieces.{rank, value_of_place}
 use Rattle.delta_mode.proofs.Marks.{value_in_range}
 use Rattle.delta_mode.proofs.Kernels.{all_fit}
 use Rattle.delta_mode.proofs.InPieces.{read_piece, piece_room, piece_coded, piece_at, kept_fits}
+use Rattle.delta_mode.proofs.EvenPieces.{bits_are, none_at, none_coded}
 use Rattle.delta_mode.proofs.depth.write_piece.Goals as goal
 
 pub write_symbols-requires-clause-last_in_range : goal.write_symbols-requires-clause-last_in_range
@@ -36,3 +37,20 @@ returns g c =
       before = λ j lt. w.before j (omega (arith, lt, start));
       coded = piece_coded piece c.kind.ensures.value c.marks_from.ensures.room start w.symbols;
     }
+
+-- where no pixel of the piece is valid
+pub returns-then-not-has_valid-clause-at : goal.returns-then-not-has_valid-clause-at
+returns-then-not-has_valid-clause-at g c =
+    let r = (g.V.View.pixels c.args.raster.now) in
+    let off : (i : ℕ) → i < length c.args.marks.now → is_valid r (c.args.place + i) ≡ false =
+    λ (i : ℕ) (lt : i < length c.args.marks.now). sym (c.marks_from.ensures.marks i lt) ∙ c.has_valid.ensures c.if-not-has_valid.true i (omega (arith, lt, c.marks_from.ensures.room)) in
+    let fits : InRange r.kind c.args.walk.last = kept_fits r c.args.d c.cols.ensures.sound refl c.requires.at refl in
+    none_at (is_valid r) (value_in r c.args.d) c.args.place (length c.args.marks.now) c.requires.some off c.requires.at refl
+    (bits_are r.kind c.requires.kind fits c.enter-walk.ensures.last) c.enter-walk.ensures.count
+
+pub returns-then-not-has_valid-clause-coded : goal.returns-then-not-has_valid-clause-coded
+returns-then-not-has_valid-clause-coded g c =
+    let r = (g.V.View.pixels c.args.raster.now) in
+    let off : (i : ℕ) → i < length c.args.marks.now → is_valid r (c.args.place + i) ≡ false =
+    λ (i : ℕ) (lt : i < length c.args.marks.now). sym (c.marks_from.ensures.marks i lt) ∙ c.has_valid.ensures c.if-not-has_valid.true i (omega (arith, lt, c.marks_from.ensures.room)) in
+    none_coded r.kind r.cols (is_valid r) (value_in r c.args.d) c.args.place (length c.args.marks.now) c.args.out.now off

@@ -18,8 +18,8 @@ part-values-requires c =
     subst (λ m. c.args.i * m + m ≤ length c.args.values.now) (sym c.band_size.ensures)
     (room c.args.count c.args.i (values_size c.args.kind c.args.rows c.args.cols c.args.depth) (length c.args.values.now) c.requires.within c.requires.sizes.values_are)
 
-pub given-requires : goal.given-requires
-given-requires c =
+pub raster_given-requires : goal.raster_given-requires
+raster_given-requires c =
     let values : c.part-values.result.now ≡ part_at (values_size c.args.kind c.args.rows c.args.cols c.args.depth) c.args.i c.args.values.now = c.part-values.ensures ∙ ap (λ m. part_at m c.args.i c.args.values.now) c.band_size.ensures in
     let mask : c.mask_of-mask.result.now ≡ mask_for (mask_array_size c.args.rows c.args.cols) c.args.i c.args.masks.now = c.mask_of-mask.ensures ∙ ap (λ m. mask_for m c.args.i c.args.masks.now) c.mask_size.ensures in
     subst (λ (v : List ℕ). GivesSizes c.args.kind c.args.rows c.args.cols c.args.depth (length v) (length c.mask_of-mask.result.now)) (sym values)

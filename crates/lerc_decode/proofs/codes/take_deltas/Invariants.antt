@@ -1,4 +1,4 @@
-use Rattle.std.proofs.Common.{◌≡◌, ℕ, ◌*◌, ◌<◌}
+use Rattle.std.proofs.Common.{◌≡◌, ℕ, ◌+◌, ◌*◌, ◌<◌, ◌++◌, List, length}
 use Rattle.delta_mode.specs.Deltas.{AreDeltas}
 use Rattle.lerc_grammar.specs.Codes.{symbols_of}
 use Rattle.lerc_decode.specs.inside.Body.{KeepsMarks}
@@ -7,8 +7,12 @@ use Rattle.lerc_decode.proofs.codes.take_deltas.Given as goal
 abbrev pub invariant-loop-d : goal.invariant-loop-d
 invariant-loop-d g l = record {
   marks : KeepsMarks (g.T.Target.pixels l.fn.raster) (g.T.Target.pixels l.raster);
-  at : l.at ≡ l.d * l.header.valid;
-  taken : (e : ℕ) → e < l.d → AreDeltas (g.T.Target.pixels l.raster) e (symbols_of l.header l.symbols e);
+  left : g.S.SymbolSource.left l.source + l.d * l.header.valid ≡ g.S.SymbolSource.left l.fn.source;
+  given : (before : List ℕ) → g.S.SymbolSource.has_given l.fn.source before
+      → (symbols : List ℕ) × (g.S.SymbolSource.has_given l.source (before ++ symbols) × ((length symbols ≡ l.d * l.header.valid)
+      × ((e : ℕ) → e < l.d → AreDeltas (g.T.Target.pixels l.raster) e (symbols_of l.header symbols e))));
+  ready : g.S.SymbolSource.sound l.source;
+  sources : g.S.SymbolSource.kept l.source ≡ g.S.SymbolSource.kept l.fn.source;
   sound : g.T.Target.sound l.raster;
   kept : g.T.Target.kept l.raster ≡ g.T.Target.kept l.fn.raster;
 }

@@ -15,7 +15,7 @@ loop-k-init g c =
     let ok = c.in_ok-tables.tables.ok in
     let len = c.in_ok-tables.ensures.len in
     let long : length c.in_ok-tables.tables.items ≡ c.count-count.result = omega (arith, ok, len) in
-    (refl, (omega arith, (first_spot h r c.requires _ refl refl refl, (no_flags h r c.in_ok-tables.tables.items, long))))
+    (refl, (omega arith, (first_spot h r c.requires _ refl refl refl, (no_flags h r c.in_ok-tables.tables.items, (long, c.new-names.ensures.sound)))))
 
 pub size_at-found-requires-clause-within : goal.size_at-found-requires-clause-within
 size_at-found-requires-clause-within g c =
@@ -42,7 +42,7 @@ loop-k-preserved g c =
     let few = c.size_at-found.ensures.few in
     let so_far = c.loop-k.invariant.0 in
     let small = c.loop-k.invariant.1.0 in
-    let room = c.loop-k.invariant.1.1.1.1 in
+    let room = c.loop-k.invariant.1.1.1.1.0 in
     let low = c.loop-k-test.true in (
       omega (arith, joined, more, value, so_far),
       (
@@ -51,7 +51,7 @@ loop-k-preserved g c =
           c.next_spot-spot.ensures k at,
           (
             flags_more h r k tables b (omega (arith, room, low)) c.loop-k.invariant.1.1.1.0 (table_there h r k c.loop-k.spot b at c.size_at-found.ensures.table),
-            length-set tables k b ∙ room,
+            (length-set tables k b ∙ room, c.size_at-found.ensures.names),
           ),
         ),
       ),
@@ -81,4 +81,6 @@ returns g c =
       size = c.loop-k.invariant.0 ∙ ap (λ n. length (flat_map f (range_with_len 0 n))) all;
       few = let small = c.loop-k.invariant.1.0 in let most = c.count-count.ensures.few in let value = c.count-count.ensures.value in omega (arith, all, small, most, value);
       tables = subst (λ n. AreFlags h r n c.loop-k.tables.items) all c.loop-k.invariant.1.1.1.0;
+      rises = c.in_ok-values.ensures.rises;
+      few_values = c.in_ok-values.ensures.few;
     }

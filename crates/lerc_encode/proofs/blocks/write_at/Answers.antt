@@ -3,7 +3,7 @@ use Rattle.micro_block.specs.declared.context.BlockCtx.{BlockCtx}
 use Rattle.lerc_encode.proofs.Spots.{capped_there}
 use Rattle.lerc_encode.proofs.blocks.write_at.Goals as goal
 
-pub write_distances-requires-clause-capped : goal.write_distances-requires-clause-capped
-write_distances-requires-clause-capped g c =
+pub write_ranked-requires-clause-capped : goal.write_ranked-requires-clause-capped
+write_ranked-requires-clause-capped g c =
     let is = c.context-ctx.ensures.value in
     capped_there c.args.h.now (g.V.View.pixels c.args.raster.now) c.requires.blocked c.args.spot _ c.context-ctx.result (ap (λ (x : BlockCtx). x.kind) is) (ap (λ (x : BlockCtx). x.top) is) c.gather-n.ensures.are

@@ -1,20 +1,26 @@
-use Rattle.std.proofs.Common.{◌∙◌, arith}
-use Rattle.std.proofs.lemmas.Int.{ints, to_z-of_z}
-use mir.Syntax.{w64}
-use mir.Val.{SFits, of_z, to_z}
-use Rattle.micro_block.proofs.BlockSteps.{step_small, steps_read, value_small}
+use Rattle.std.proofs.Common.{length, arith}
+use Rattle.micro_block.specs.Frame.{frame_of}
+use Rattle.micro_block.specs.ReadSteps.{stepped_values}
+use Rattle.micro_block.proofs.BlockSteps.{read_complete, read_fault, read_in_range, read_ok, steps_read}
 use Rattle.micro_block.proofs.reading.read_steps.Goals as goal
 
-pub returns-in-Ok : goal.returns-in-Ok
-returns-in-Ok c =
-    let ctx = c.args.ctx.now in
-    let top = value_small ctx.kind ctx.top c.requires.ctx.top in
-    let top_fits : SFits w64 ctx.top = omega (arith, ints, top) in
-    let step = step_small ctx.step c.requires.ctx.step in
-    let step_fits : SFits w64 c.signed.result = omega (arith, ints, step, c.signed.ensures) in record {
-      room = c.in-Ok.ensures.ok.0;
-      qs = c.read_list.new.out;
-      list = (c.read_list.auto.out ∙ c.requires.room, c.in-Ok.ensures.ok.1);
-      values_are = steps_read c.read_list.new.out c.plus_capped_unsigned.new.out (to_z w64 (of_z w64 c.args.offset)) (to_z w64 (of_z w64 c.signed.result)) (to_z w64 (of_z w64 ctx.top)) c.args.offset ctx.top ctx.step
-          (to_z-of_z w64 c.args.offset c.ranges.offset) (to_z-of_z w64 c.signed.result step_fits ∙ c.signed.ensures) (to_z-of_z w64 ctx.top top_fits) c.plus_capped_unsigned.ensures;
-    }
+pub returns-clause-ok : goal.returns-clause-ok
+returns-clause-ok c =
+    let f = frame_of c.args.ctx.now (length c.args.numbers.now) in
+    read_ok f c.args.bytes.now (λ s. s.used) (λ s. stepped_values s c.read_form.new.numbers) c.read_form.result (steps_read f c.args.bytes.now c.read_form.new.numbers c.read_form.result c.read_form.ensures)
+
+pub returns-clause-complete : goal.returns-clause-complete
+returns-clause-complete c =
+    let f = frame_of c.args.ctx.now (length c.args.numbers.now) in
+    read_complete f c.args.bytes.now (λ s. s.used) (λ s. stepped_values s c.read_form.new.numbers) c.read_form.result (steps_read f c.args.bytes.now c.read_form.new.numbers c.read_form.result c.read_form.ensures)
+
+pub returns-clause-fault : goal.returns-clause-fault
+returns-clause-fault c =
+    let f = frame_of c.args.ctx.now (length c.args.numbers.now) in
+    read_fault f c.args.bytes.now (λ s. s.used) (λ s. stepped_values s c.read_form.new.numbers) c.read_form.result (steps_read f c.args.bytes.now c.read_form.new.numbers c.read_form.result c.read_form.ensures)
+
+pub returns-clause-in_range : goal.returns-clause-in_range
+returns-clause-in_range c =
+    let f = frame_of c.args.ctx.now (length c.args.numbers.now) in
+    read_in_range f c.args.bytes.now (λ s. s.used) (λ s. stepped_values s c.read_form.new.numbers) c.read_form.result (λ i. omega (arith, c.type_inv.bytes i)) c.requires.ctx.top
+    (steps_read f c.args.bytes.now c.read_form.new.numbers c.read_form.result c.read_form.ensures)

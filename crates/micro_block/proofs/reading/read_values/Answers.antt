@@ -1,21 +1,12 @@
-use Rattle.std.proofs.Common.{◌≡◌, ◌*◌, ◌<◌, ◌+◌, ◌≤◌, ℕ, ℤ, pos, List, get_or, length, drop, sym, ap, ◌∙◌, subst, ◌⊎◌, inl, inr, arith}
-use Rattle.std.specs.Prelude.{set}
-use Rattle.std.proofs.lemmas.Bool.{cases_lt}
+use Rattle.std.proofs.Common.{◌*◌, ℕ, ℤ, pos, List, drop, sym, ap, ◌∙◌, arith}
 use Rattle.std.proofs.lemmas.Int.{ints, to_z-of_z}
-use Rattle.std.proofs.lemmas.List.{get_or-set_other, get_or-set_same, take_rest}
+use Rattle.std.proofs.lemmas.List.{take_rest}
 use mir.Syntax.{w64}
 use mir.Val.{SFits}
 use Rattle.byteorder.specs.Endian.{little_number}
 use Rattle.raster_values.specs.PixelType.{bytes_of, value_of}
-use Rattle.micro_block.proofs.BlockSteps.{value_small, values_in_range}
+use Rattle.micro_block.proofs.BlockSteps.{one_more, value_small, values_in_range}
 use Rattle.micro_block.proofs.reading.read_values.Goals as goal
-
-more : (out : List ℤ) (i : ℕ) (w : ℤ) (f : ℕ → ℤ) → i < length out → w ≡ f i → ((k : ℕ) → k < i → get_or out k (pos 0) ≡ f k) → (k : ℕ) → k < i + 1 → get_or (set out i w) k (pos 0) ≡ f k
-more out i w f within e before k lt = pick (cases_lt k i)
-  where
-    pick : (k < i) ⊎ (i ≤ k) → get_or (set out i w) k (pos 0) ≡ f k
-    pick (inl below) = get_or-set_other out i k w (pos 0) (λ same. omega (arith, below, same)) ∙ before k below
-    pick (inr past) = let same : i ≡ k = omega (arith, past, lt) in subst (λ (n : ℕ). get_or (set out i w) n (pos 0) ≡ f n) same (get_or-set_same out i w (pos 0) within ∙ e)
 
 pub loop-i-preserved : goal.loop-i-preserved
 loop-i-preserved c =
@@ -27,7 +18,7 @@ loop-i-preserved c =
     let at : ℕ → ℤ = λ (k : ℕ). value_of kind (little_number (bytes_of kind) (drop (k * bytes_of kind) bytes)) in
     let spelled = c.read_value.ensures.spelled ∙ ap (λ (u : List ℕ). value_of kind (little_number (bytes_of kind) u)) (take_rest bytes (i * c.bytes-size.result))
     ∙ ap (λ (n : ℕ). value_of kind (little_number (bytes_of kind) (drop (i * n) bytes))) c.bytes-size.ensures in
-    more c.loop-i.out i _ at (omega arith) (to_z-of_z w64 c.read_value.result fits ∙ spelled) c.loop-i.invariant
+    one_more c.loop-i.out i _ (pos 0) at (omega arith) (to_z-of_z w64 c.read_value.result fits ∙ spelled) c.loop-i.invariant
 
 pub returns-clause-in_range : goal.returns-clause-in_range
 returns-clause-in_range c =

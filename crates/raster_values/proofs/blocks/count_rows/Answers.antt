@@ -1,5 +1,6 @@
-use Rattle.std.proofs.Common.{◌≡◌, ◌≤◌, ◌+◌, ◌-◌, ◌*◌, length, arith, ap, ◌∙◌, subst}
+use Rattle.std.proofs.Common.{◌≡◌, ◌≤◌, ◌+◌, ◌-◌, ◌*◌, ℕ, List, length, arith, ap, sym, ◌∙◌, subst}
 use Rattle.raster_values.specs.inside.Runs.{run_places, rows_places}
+use Rattle.raster_values.proofs.FullWidth.{places_are}
 use Rattle.raster_values.proofs.RunSteps.{length_places}
 use Rattle.raster_values.proofs.RowSteps.{area_inside, count_more}
 use Rattle.raster_values.proofs.blocks.count_rows.Goals as goal
@@ -29,3 +30,12 @@ loop-i-preserved g c =
           ∙ ap (λ m. length (rows_places (g.M.Marked.marks c.args.marks.now) c.args.cols c.args.row c.args.col m c.args.wide)) next;
       within = subst (λ m. c.loop-i.n + found ≤ m * c.args.wide) next (let w : c.loop-i.n + found ≤ (h + 1) * c.args.wide = omega (arith, c.loop-i.invariant.within, here, length_places (g.M.Marked.marks c.args.marks.now) ((c.args.row + h) * c.args.cols + c.args.col) c.args.wide) in w);
     }
+
+pub returns-then-wide-cols-clause-value : goal.returns-then-wide-cols-clause-value
+returns-then-wide-cols-clause-value g c =
+    c.count_run.ensures ∙ sym (ap (λ (ks : List ℕ). length ks) (places_are (g.M.Marked.marks c.args.marks.now) c.args.cols c.args.row c.args.col c.args.high c.args.wide c.if-wide-cols.true c.requires.across))
+
+pub returns-then-wide-cols-clause-within : goal.returns-then-wide-cols-clause-within
+returns-then-wide-cols-clause-within g c =
+    let same : c.args.high * c.args.wide ≡ c.args.high * c.args.cols = ap (λ n. c.args.high * n) c.if-wide-cols.true in
+    omega (arith, same, c.count_run.ensures, length_places (g.M.Marked.marks c.args.marks.now) (c.args.row * c.args.cols) (c.args.high * c.args.cols))

@@ -1,7 +1,7 @@
-use Rattle.std.proofs.Common.{◌+◌, false, get_or, ◌∙◌, ap, arith}
-use mir.Val.{bool_byte}
+use Rattle.std.proofs.Common.{◌-◌, ◌/◌, ◌%◌, ◌^◌, arith}
 use Rattle.raster_values.specs.Distance.{distance_of}
-use Rattle.raster_values.proofs.MixedRuns.{byte_is, mixed_more}
+use Rattle.raster_values.proofs.MixedRuns.{mixed_more}
+use Rattle.raster_values.proofs.MarkWords.{word_mark}
 use Rattle.raster_values.proofs.RunSteps.{length_places}
 use Rattle.raster_values.proofs.blocks.gather_mixed.Goals as goal
 
@@ -13,5 +13,6 @@ bounds-out-n c =
 pub loop-i-preserved : goal.loop-i-preserved
 loop-i-preserved c =
     let few = length_places c.args.marks.now c.args.from c.loop-i.i in
-    mixed_more (distance_of c.args.values.now.kind) c.args.depth c.args.d c.args.marks.now c.args.values.now.values c.args.from c.loop-i.i c.args.out.now c.loop-i.out c.args.at c.loop-i.n c.distance_as.result c.from-n.result
-    (omega (arith, few, c.loop-i.invariant.end, c.loop-i-test.true, c.requires.room, c.loop-i.auto.out)) c.distance_as.ensures (c.from-n.ensures ∙ ap bool_byte c.get.ensures ∙ byte_is (get_or c.args.marks.now (c.args.from + c.loop-i.i) false)) c.loop-i.invariant
+    mixed_more (distance_of c.args.values.now.kind) c.args.depth c.args.d c.args.marks.now c.args.values.now.values c.args.from c.loop-i.i c.args.out.now c.loop-i.out c.args.at c.loop-i.n c.distance_as.result (c.word-bits.result / 2 ^ (c.args.count - 1 - c.loop-i.i) % 2)
+    (omega (arith, few, c.loop-i.invariant.end, c.loop-i-test.true, c.requires.room, c.loop-i.auto.out)) c.distance_as.ensures
+    (word_mark c.args.marks.now c.args.from c.args.count c.word-bits.result c.loop-i.i c.word-bits.ensures c.loop-i-test.true) c.loop-i.invariant

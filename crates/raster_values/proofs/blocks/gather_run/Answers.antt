@@ -1,34 +1,37 @@
-use Rattle.std.proofs.Common.{ℕ, ◌+◌, ap, arith}
+use Rattle.std.proofs.Common.{◌≡◌, map, refl, subst, arith}
 use Rattle.raster_values.specs.Distance.{distance_of}
-use Rattle.raster_values.proofs.MixedRuns.{all_gathered}
-use Rattle.raster_values.proofs.RunSteps.{length_places}
+use Rattle.raster_values.specs.inside.Runs.{run_values, Gathers}
+use Rattle.raster_values.proofs.GatheredRuns.{gathered_more, gathered_within, none_gathered}
 use Rattle.raster_values.proofs.blocks.gather_run.Goals as goal
 
-pub overflow_add-end : goal.overflow_add-end
-overflow_add-end c =
-    let few = length_places c.args.marks.now c.args.from c.args.count in
-    omega (arith, few, c.count_run.ensures, c.requires.room)
+pub loop-k-init : goal.loop-k-init
+loop-k-init c = record {
+  within = omega arith;
+  gathered = none_gathered (distance_of c.args.values.now.kind) c.args.depth c.args.d c.args.marks.now c.args.values.now.values c.args.from 0 c.args.out.now c.args.at refl;
+}
 
-pub returns-then-end-at-2 : goal.returns-then-end-at-2
-returns-then-end-at-2 c =
-    let few = length_places c.args.marks.now c.args.from c.args.count in
-    all_gathered (distance_of c.args.values.now.kind) c.args.depth c.args.d c.args.marks.now c.args.values.now.values c.args.from c.args.count c.args.out.now c.get_distances_as.new.out c.args.at (c.args.at + c.count_run.result)
-    (ap (λ (n : ℕ). c.args.at + n) c.count_run.ensures) (let full = c.if-end-at-2.true in omega (arith, full)) (omega (arith, few, c.count_run.ensures, c.requires.room)) c.get_distances_as.ensures
+pub gather_word-n-requires-clause-some : goal.gather_word-n-requires-clause-some
+gather_word-n-requires-clause-some c = omega (arith, c.min-more.ensures, c.loop-k-test.true)
 
-pub offset_bounds-out-end : goal.offset_bounds-out-end
-offset_bounds-out-end c =
-    let few = length_places c.args.marks.now c.args.from c.args.count in
-    let other = c.if-end-at-2.false in
-    omega (arith, few, other, c.count_run.ensures, c.requires.room)
+pub gather_word-n-requires-clause-word : goal.gather_word-n-requires-clause-word
+gather_word-n-requires-clause-word c = omega (arith, c.min-more.ensures)
 
-pub bounds-out-end : goal.bounds-out-end
-bounds-out-end c =
-    let few = length_places c.args.marks.now c.args.from c.args.count in
-    let other = c.if-end-at-2.false in
-    omega (arith, few, other, c.count_run.ensures, c.requires.room)
+pub gather_word-n-requires-clause-within : goal.gather_word-n-requires-clause-within
+gather_word-n-requires-clause-within c = omega (arith, c.min-more.ensures, c.loop-k-test.true, c.requires.within)
 
-pub bounds-out-end-2 : goal.bounds-out-end-2
-bounds-out-end-2 c =
-    let few = length_places c.args.marks.now c.args.from c.args.count in
-    let other = c.if-end-at-2.false in
-    omega (arith, few, other, c.count_run.ensures, c.requires.room, c.gather_mixed.auto.out)
+pub gather_word-n-requires-clause-room : goal.gather_word-n-requires-clause-room
+gather_word-n-requires-clause-room c =
+    let most = gathered_within (distance_of c.args.values.now.kind) c.args.depth c.args.d c.args.marks.now c.args.values.now.values c.args.out.now c.loop-k.out c.args.from c.loop-k.k c.args.at c.loop-k.n c.loop-k.invariant.gathered in
+    omega (arith, most, c.min-more.ensures, c.loop-k-test.true, c.requires.room, c.loop-k.auto.out)
+
+pub loop-k-preserved : goal.loop-k-preserved
+loop-k-preserved c = record {
+  within = omega (arith, c.min-more.ensures, c.loop-k-test.true);
+  gathered = gathered_more (distance_of c.args.values.now.kind) c.args.depth c.args.d c.args.marks.now c.args.values.now.values c.args.out.now c.loop-k.out c.gather_word-n.new.out c.args.from c.loop-k.k c.min-more.result c.args.at c.loop-k.n c.gather_word-n.result
+      c.loop-k.invariant.gathered c.gather_word-n.ensures;
+}
+
+pub returns : goal.returns
+returns c =
+    let whole : c.loop-k.k ≡ c.args.count = omega (arith, c.loop-k.invariant.within, c.loop-k-test.false) in
+    subst (λ n. Gathers (map (distance_of c.args.values.now.kind) (run_values c.args.depth c.args.d c.args.marks.now c.args.values.now.values c.args.from n)) c.args.out.now c.loop-k.out c.args.at c.loop-k.n) whole c.loop-k.invariant.gathered

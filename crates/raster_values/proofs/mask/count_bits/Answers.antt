@@ -1,6 +1,7 @@
 use Rattle.std.proofs.Common.{◌-◌, ◌*◌, ◌+◌, ◌/◌, ◌≤◌, take, drop, length, refl, arith}
 use Rattle.std.proofs.lemmas.List.{length-take}
 use Rattle.raster_values.specs.Order.{mask_bit}
+use Rattle.raster_values.proofs.MarkWords.{bits_count}
 use Rattle.raster_values.proofs.MaskCounts.{count_most}
 use Rattle.raster_values.proofs.MaskBytes.{count_three}
 use Rattle.raster_values.proofs.mask.count_bits.Goals as goal
@@ -52,3 +53,6 @@ returns c =
     let order : first ≤ last = omega (arith, c.if-last-first.false) in
     count_three bytes (take (last - first) (drop first bytes)) from count first last c.count_part-2.result c.count_bytes.result c.count_part-3.result low order (omega arith) (omega (arith, c.requires.within)) refl
     c.count_part-2.ensures c.count_bytes.ensures c.count_part-3.ensures
+
+pub returns-then-count-le32 : goal.returns-then-count-le32
+returns-then-count-le32 c = bits_count c.args.bytes.now c.args.from c.args.count c.word_from.result c.word_from.ensures.below c.word_from.ensures.bits

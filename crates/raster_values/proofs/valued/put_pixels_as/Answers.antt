@@ -1,56 +1,38 @@
-use Rattle.std.proofs.Common.{◌≡◌, ◌<◌, ◌+◌, ◌*◌, ap, sym, ◌∙◌, subst, length, get_or, set, arith}
-use Rattle.std.specs.Prelude.{All, pos}
-use mir.Syntax.{w64}
-use mir.Val.{to_z, of_z}
-use Rattle.std.proofs.lemmas.List.{length-set}
-use Rattle.std.proofs.lemmas.List.Elements.{All-set}
+use Rattle.std.proofs.Common.{◌≡◌, ◌≤◌, ◌+◌, ◌*◌, ap, ◌∙◌, sym, subst, take, drop, length, arith}
+use Rattle.std.specs.Prelude.{All}
 use Rattle.raster_values.specs.PixelType.{InRange}
 use Rattle.raster_values.specs.inside.CellList.{CellList}
 use Rattle.raster_values.specs.inside.Ordered.{PutsPixels}
-use Rattle.raster_values.proofs.Views.{same_bits}
-use Rattle.raster_values.proofs.CellBytes.{one_put}
-use Rattle.raster_values.proofs.PixelSteps.{pixel_room, pixels_more}
+use Rattle.raster_values.proofs.CellBytes.{with_run, length-with_run, with_run_in_range}
+use Rattle.raster_values.proofs.GivenRuns.{given_long, given_fits, given_put}
+use Rattle.raster_values.proofs.PixelSteps.{run_puts}
 use Rattle.raster_values.proofs.valued.put_pixels_as.Goals as goal
 
-pub loop-i-preserved : goal.loop-i-preserved
-loop-i-preserved g c =
-    let i = c.loop-i.i in
-    let at = (c.args.first + i) * c.args.depth + c.args.d in
+pub put_as-requires-clause-within : goal.put_as-requires-clause-within
+put_as-requires-clause-within g c =
+    let all : (c.args.first + c.args.count) * c.args.depth ≡ (c.args.first + c.args.count) * 1 = ap (λ n. (c.args.first + c.args.count) * n) c.if-depth-eq1.true in
+    omega (arith, all, c.requires.within)
+
+pub returns-then-depth-eq1 : goal.returns-then-depth-eq1
+returns-then-depth-eq1 g c =
     let kind = (g.V.Valued.cells c.args.cells.now).kind in
-    let input = c.args.values.now in
-    let old = (g.V.Valued.cells c.loop-i.cells).values in
-    let new = (g.V.Valued.cells c.put_run_as.new.self).values in
-    let x = to_z w64 (of_z w64 (get_or input i (pos 0))) in
-    let fits : InRange kind (get_or input i (pos 0)) = c.requires.in_range i (pos 0) c.loop-i-test.true in
-    let same : x ≡ get_or input i (pos 0) = same_bits kind (get_or input i (pos 0)) fits in
-    let inside : at < length old = omega (arith, (pixel_room c.args.first c.loop-i-test.true c.requires.depth c.requires.within).0, c.loop-i.invariant.size) in
-    let is : new ≡ set old at x = ap (λ (l : CellList). l.values) c.put_run_as.ensures.put ∙ one_put old at x inside in
+    let vs = (g.V.Valued.cells c.args.cells.now).values in
+    let listed = g.G.Given.listed c.args.given.now in
+    let run = take c.args.count (drop c.args.n listed) in
+    let size : length run ≡ c.args.count = given_long listed c.args.n c.args.count c.requires.there in
+    let d = c.args.d in
+    let one = c.if-depth-eq1.true in
+    let all : (c.args.first + c.args.count) * c.args.depth ≡ (c.args.first + c.args.count) * 1 = ap (λ n. (c.args.first + c.args.count) * n) one in
+    let within : c.args.first + length run ≤ length vs = omega (arith, all, size, c.requires.within) in
+    let is : (g.V.Valued.cells c.put_as.new.self).values ≡ with_run vs c.args.first run =
+    ap (λ (l : CellList). l.values) c.put_as.ensures.put ∙ sym (given_put vs listed c.args.first c.args.n c.args.count c.requires.there) in
     record {
-      kind = ap (λ (l : CellList). l.kind) c.put_run_as.ensures.put ∙ c.loop-i.invariant.kind;
-      in_range = λ before. subst (All (InRange kind)) (sym is) (All-set (InRange kind) old at x (subst (InRange kind) (sym same) fits) (c.loop-i.invariant.in_range before));
-      size = ap length is ∙ length-set old at x ∙ c.loop-i.invariant.size;
-      put = subst (PutsPixels c.args.depth c.args.d c.args.first (i + 1) input (g.V.Valued.cells c.args.cells.now).values) (sym is)
-          (pixels_more c.args.depth c.args.d c.args.first i input (g.V.Valued.cells c.args.cells.now).values old x c.requires.depth inside same c.loop-i.invariant.put);
-      sound = c.put_run_as.ensures.sound;
-      kept = c.put_run_as.ensures.kept ∙ c.loop-i.invariant.kept;
+      kind = ap (λ (l : CellList). l.kind) c.put_as.ensures.put;
+      in_range = λ before. subst (All (InRange kind)) (sym is) (with_run_in_range kind vs run c.args.first before (given_fits kind listed c.args.n c.args.count c.requires.in_range));
+      size = ap length is ∙ length-with_run vs run c.args.first within;
+      put = subst (λ n. PutsPixels n d c.args.first c.args.count run vs (g.V.Valued.cells c.put_as.new.self).values) (sym one)
+          (subst (PutsPixels 1 d c.args.first c.args.count run vs) (sym is)
+          (subst (λ m. PutsPixels 1 d c.args.first m run vs (with_run vs c.args.first run)) size (run_puts d c.args.first run vs (omega (arith, one, c.requires.depth)) within)));
+      sound = c.put_as.ensures.sound;
+      kept = c.put_as.ensures.kept;
     }
-
-pub overflow_mul-first : goal.overflow_mul-first
-overflow_mul-first g c =
-    let room = pixel_room c.args.first c.loop-i-test.true c.requires.depth c.requires.within in
-    omega (arith, room.0, c.requires.few)
-
-pub overflow_add-first : goal.overflow_add-first
-overflow_add-first g c =
-    let room = pixel_room c.args.first c.loop-i-test.true c.requires.depth c.requires.within in
-    omega (arith, room.1, c.requires.few)
-
-pub overflow_add-first-in-loop-i : goal.overflow_add-first-in-loop-i
-overflow_add-first-in-loop-i g c =
-    let room = pixel_room c.args.first c.loop-i-test.true c.requires.depth c.requires.within in
-    omega (arith, room.0, c.requires.few)
-
-pub put_run_as-requires-clause-within : goal.put_run_as-requires-clause-within
-put_run_as-requires-clause-within g c =
-    let room = pixel_room c.args.first c.loop-i-test.true c.requires.depth c.requires.within in
-    omega (arith, room.0, c.loop-i.invariant.size)

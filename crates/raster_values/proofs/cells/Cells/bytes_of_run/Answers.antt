@@ -1,22 +1,10 @@
-use Rattle.std.proofs.Common.{◌≡◌, ◌+◌, ◌*◌, ◌-◌, ◌≤◌, ap, ◌∙◌, subst, take, drop, length, arith}
-use Rattle.raster_values.specs.PixelType.{bytes_of}
+use Rattle.std.proofs.Common.{◌≡◌, ◌≤◌, ◌+◌, length, subst, sym, take, drop}
 use Rattle.raster_values.specs.Grid.{values_bytes}
 use Rattle.raster_values.specs.inside.CellList.{CellList}
-use Rattle.raster_values.specs.inside.CellView.{listed}
-use Rattle.std.proofs.lemmas.List.{length-drop}
-use Rattle.raster_values.proofs.CellBytes.{bytes_front, bytes_behind}
 use Rattle.raster_values.proofs.cells.Cells.bytes_of_run.Goals as goal
 
+pub bytes_of_run-requires : goal.bytes_of_run-requires
+bytes_of_run-requires c = subst (λ (l : CellList). c.args.at + c.args.count ≤ length l.values) (sym c.read.ensures) c.requires
+
 pub returns : goal.returns
-returns c =
-    let a = c.self.inside in
-    let at = c.args.at in
-    let count = c.args.count in
-    let size : c.place-end.result - c.place-from.result ≡ count * bytes_of a.kind = omega (arith, c.place-end.ensures.value, c.place-from.ensures.value) in
-    subst (λ (l : CellList). at + count ≤ length l.values → take (c.place-end.result - c.place-from.result) (drop c.place-from.result c.deref.result.now) ≡ values_bytes l.kind (take count (drop at l.values))) c.self.view_is
-    (λ within.
-    ap (λ n. take n (drop c.place-from.result c.deref.result.now)) size
-    ∙ ap (λ n. take (count * bytes_of a.kind) (drop n c.deref.result.now)) c.place-from.ensures.value
-    ∙ ap (λ xs. take (count * bytes_of a.kind) (drop (at * bytes_of a.kind) xs)) (c.deref.ensures.value ∙ c.self.invariant.bytes)
-    ∙ ap (take (count * bytes_of a.kind)) (bytes_behind a.kind (listed a) at (omega (arith, within)))
-    ∙ bytes_front a.kind (drop at (listed a)) count (omega (arith, within, length-drop at (listed a)))) c.requires
+returns c = subst (λ (l : CellList). c.bytes_of_run.result.now ≡ values_bytes l.kind (take c.args.count (drop c.args.at l.values))) c.read.ensures c.bytes_of_run.ensures

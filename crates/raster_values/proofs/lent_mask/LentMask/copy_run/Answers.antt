@@ -1,31 +1,31 @@
 use Rattle.std.proofs.Common.{◌≡◌, ◌+◌, Bool, List, ap, ◌∙◌, sym, length, get_or, replicate, true, false, arith}
-use Rattle.std.specs.Prelude.{count_by}
 use Rattle.std.proofs.lemmas.List.{get_or-replicate}
-use Rattle.raster_values.specs.Order.{marks_in}
-use Rattle.raster_values.proofs.MaskBits.{length-marks_in, get_or-marks_in}
-use Rattle.raster_values.proofs.MaskCounts.{all_set}
+use Rattle.raster_values.proofs.LentMasks.{all_with, length-marks_with, some_with}
+use Rattle.raster_values.proofs.MaskBits.{get_or-marks_in}
 use Rattle.raster_values.proofs.lent_mask.LentMask.copy_run.Goals as goal
 
 pub copy_bits-requires-clause-few : goal.copy_bits-requires-clause-few
-copy_bits-requires-clause-few c = omega (arith, c.requires, ap length c.self.view_is, length-marks_in c.self.inside.count c.self.inside.bytes.now, c.self.invariant.few)
+copy_bits-requires-clause-few c =
+    let a = c.self.inside in
+    omega (arith, c.requires, ap length c.self.view_is, length-marks_with a.count a.valid a.bytes.now, c.self.invariant.few)
 
 pub copy_bits-requires-clause-within : goal.copy_bits-requires-clause-within
-copy_bits-requires-clause-within c = omega (arith, c.requires, ap length c.self.view_is, length-marks_in c.self.inside.count c.self.inside.bytes.now, c.self.invariant.size)
+copy_bits-requires-clause-within c =
+    let a = c.self.inside in
+    omega (arith, c.requires, ap length c.self.view_is, length-marks_with a.count a.valid a.bytes.now, (c.self.invariant.bits c.if-self.false).size)
 
 pub returns-then-self : goal.returns-then-self
 returns-then-self c =
-    let n = c.self.inside.count in
-    let ms = marks_in n c.self.inside.bytes.now in
-    let full : count_by (λ m. m) ms ≡ length ms = sym c.self.invariant.counted ∙ c.if-self.true ∙ sym (length-marks_in n c.self.inside.bytes.now) in
+    let a = c.self.inside in
     let out : c.fill.new.self ≡ replicate (length c.args.out.now) true = c.fill.ensures.after (λ y e. e) in
     λ i less.
     ap (λ xs. get_or xs i false) out ∙ get_or-replicate (length c.args.out.now) i true false less
-    ∙ sym (ap (λ (xs : List Bool). get_or xs (c.args.from + i) false) (sym c.self.view_is) ∙ all_set ms (c.args.from + i) full (omega (arith, less, c.requires, ap length c.self.view_is)))
+    ∙ sym (ap (λ (xs : List Bool). get_or xs (c.args.from + i) false) (sym c.self.view_is ∙ all_with a.count a.valid a.bytes.now c.if-self.true)
+    ∙ get_or-replicate a.count (c.args.from + i) true false (omega (arith, less, c.requires, ap length c.self.view_is, length-marks_with a.count a.valid a.bytes.now)))
 
 pub returns : goal.returns
 returns c i less =
-    let n = c.self.inside.count in
-    let bytes = c.self.inside.bytes.now in
+    let a = c.self.inside in
     c.copy_bits.ensures i less
-    ∙ sym (get_or-marks_in n bytes (c.args.from + i) (omega (arith, less, c.requires, ap length c.self.view_is, length-marks_in n bytes)))
-    ∙ ap (λ (xs : List Bool). get_or xs (c.args.from + i) false) c.self.view_is
+    ∙ sym (get_or-marks_in a.count a.bytes.now (c.args.from + i) (omega (arith, less, c.requires, ap length c.self.view_is, length-marks_with a.count a.valid a.bytes.now)))
+    ∙ ap (λ (xs : List Bool). get_or xs (c.args.from + i) false) (sym (some_with a.count a.valid a.bytes.now c.if-self.false) ∙ c.self.view_is)

@@ -1,34 +1,38 @@
-use Rattle.std.proofs.Common.{◌≡◌, ◌<◌, ◌∙◌, ℕ, Bool, List, ap, sym, length, get_or, false, arith}
-use Rattle.std.specs.Prelude.{count_by}
-use Rattle.raster_values.specs.Order.{mask_bit, marks_in}
-use Rattle.raster_values.proofs.MaskBits.{length-marks_in, get_or-marks_in}
-use Rattle.raster_values.proofs.MaskCounts.{all_set}
+use Rattle.std.proofs.Common.{◌≡◌, ◌<◌, ◌∙◌, ℕ, Bool, List, ap, sym, length, get_or, true, false, arith}
+use Rattle.std.proofs.lemmas.List.{get_or-replicate}
+use Rattle.raster_values.specs.Order.{mask_bit}
+use Rattle.raster_values.proofs.LentMasks.{all_with, length-marks_with, some_with}
+use Rattle.raster_values.proofs.MaskBits.{get_or-marks_in}
 use Rattle.raster_values.proofs.lent_mask.LentMask.next_run.Goals as goal
 
 pub run_after-requires-clause-few : goal.run_after-requires-clause-few
-run_after-requires-clause-few c = omega (arith, c.requires.within, ap length c.self.view_is, length-marks_in c.self.inside.count c.self.inside.bytes.now, c.self.invariant.few)
+run_after-requires-clause-few c =
+    let a = c.self.inside in
+    omega (arith, c.requires.within, ap length c.self.view_is, length-marks_with a.count a.valid a.bytes.now, c.self.invariant.few)
 
 pub run_after-requires-clause-within : goal.run_after-requires-clause-within
-run_after-requires-clause-within c = omega (arith, c.requires.within, ap length c.self.view_is, length-marks_in c.self.inside.count c.self.inside.bytes.now, c.self.invariant.size)
+run_after-requires-clause-within c =
+    let a = c.self.inside in
+    omega (arith, c.requires.within, ap length c.self.view_is, length-marks_with a.count a.valid a.bytes.now, (c.self.invariant.bits c.if-self.false).size)
 
 pub returns-then-self-clause-runs : goal.returns-then-self-clause-runs
 returns-then-self-clause-runs c =
-    let n = c.self.inside.count in
-    let ms = marks_in n c.self.inside.bytes.now in
-    let full : count_by (λ m. m) ms ≡ length ms = sym c.self.invariant.counted ∙ c.if-self.true ∙ sym (length-marks_in n c.self.inside.bytes.now) in
+    let a = c.self.inside in
     record {
       first = omega arith;
       second = c.requires.order;
       within = c.requires.within;
       off = λ k low high. absurd (let no : ⊥ = omega arith in no);
-      on = λ k low high. ap (λ (xs : List Bool). get_or xs k false) (sym c.self.view_is) ∙ all_set ms k full (omega (arith, high, c.requires.within, ap length c.self.view_is));
+      on = λ k low high.
+          ap (λ (xs : List Bool). get_or xs k false) (sym c.self.view_is ∙ all_with a.count a.valid a.bytes.now c.if-self.true)
+          ∙ get_or-replicate a.count k true false (omega (arith, high, c.requires.within, ap length c.self.view_is, length-marks_with a.count a.valid a.bytes.now));
     }
 
 marked : (c : goal.After-run_after) (k : ℕ) → k < length c.args.self.now → get_or c.args.self.now k false ≡ mask_bit c.self.inside.bytes.now k
 marked c k less =
-    let n = c.self.inside.count in
-    let bytes = c.self.inside.bytes.now in
-    ap (λ (xs : List Bool). get_or xs k false) (sym c.self.view_is) ∙ get_or-marks_in n bytes k (omega (arith, less, ap length c.self.view_is, length-marks_in n bytes))
+    let a = c.self.inside in
+    ap (λ (xs : List Bool). get_or xs k false) (sym c.self.view_is ∙ some_with a.count a.valid a.bytes.now c.if-self.false)
+    ∙ get_or-marks_in a.count a.bytes.now k (omega (arith, less, ap length c.self.view_is, length-marks_with a.count a.valid a.bytes.now))
 
 pub returns-clause-runs : goal.returns-clause-runs
 returns-clause-runs c = record {

@@ -1,7 +1,8 @@
-use Rattle.std.proofs.Common.{◌<◌, sym, subst}
+use Rattle.std.proofs.Common.{◌<◌, ◌*◌, ◌∙◌, Bool, List, ap, sym, subst, length, arith}
 use Rattle.raster_values.specs.Raster.{Pixels}
 use Rattle.raster_values.specs.Flat.{depth_values}
-use Rattle.raster_values.specs.inside.Runs.{IsRange}
+use Rattle.raster_values.specs.inside.CellList.{CellList}
+use Rattle.raster_values.specs.inside.Runs.{IsRange, run_values}
 use Rattle.raster_values.proofs.Ranges.{depth_is, found_is, empty_is, none_is}
 use Rattle.raster_values.proofs.raster.Raster.range.Goals as goal
 use Rattle.raster_values.proofs.raster.Raster.range.Goals.{After-range_of}
@@ -10,8 +11,11 @@ ranged : (c : After-range_of) → IsRange c.range_of.result (depth_values c.args
 ranged c =
     let a = c.self.inside in
     let n = c.range_of.result in
+    let found : IsRange n (run_values a.depth c.args.d a.marks a.values.values 0 (length a.marks)) =
+    subst (λ (l : CellList). IsRange n (run_values a.depth c.args.d a.marks l.values 0 (length a.marks))) c.read-values.ensures
+    (subst (λ (ms : List Bool). IsRange n (run_values a.depth c.args.d ms c.read-values.result.values 0 (length ms))) c.read-marks.ensures c.range_of.ensures) in
     subst (λ (r : Pixels). c.args.d < r.depth → IsRange n (depth_values r c.args.d)) c.self.view_is
-    (λ below. subst (IsRange n) (sym (depth_is a c.args.d below)) c.range_of.ensures) c.requires
+    (λ below. subst (IsRange n) (sym (depth_is a c.args.d below)) found) c.requires
 
 pub returns-clause-found : goal.returns-clause-found
 returns-clause-found c = found_is c.range_of.result (depth_values c.args.self.now c.args.d) (ranged c)
@@ -21,3 +25,11 @@ returns-clause-empty c = empty_is c.range_of.result (depth_values c.args.self.no
 
 pub returns-clause-none : goal.returns-clause-none
 returns-clause-none c = none_is c.range_of.result c.args.self.now c.args.d (ranged c)
+
+pub range_of-requires-clause-size : goal.range_of-requires-clause-size
+range_of-requires-clause-size c =
+    let a = c.self.inside in
+    ap (λ (l : CellList). length l.values) c.read-values.ensures ∙ c.self.invariant.values ∙ ap (λ n. n * a.depth) (sym c.self.invariant.marks) ∙ ap (λ (ms : List Bool). length ms * a.depth) (sym c.read-marks.ensures)
+
+pub range_of-requires-clause-few : goal.range_of-requires-clause-few
+range_of-requires-clause-few c = omega (arith, ap (λ (l : CellList). length l.values) c.read-values.ensures, c.self.invariant.values, c.self.invariant.shape.size)

@@ -1,5 +1,0 @@
-use Rattle.lerc_c.proofs.Giving.{bits_marked}
-use Rattle.lerc_c.proofs.encoding.mark_bits.Goals as goal
-
-pub returns : goal.returns
-returns c = bits_marked c.args.raster.now c.mark_from_bits.new.self c.args.mask.now c.requires.some c.mark_from_bits.ensures c.note_sound.ensures

@@ -1,0 +1,8 @@
+use Rattle.std.proofs.Common.{◌≡◌, ◌*◌, ◌<◌, ℕ, get_or, drop}
+use Rattle.byteorder.specs.Endian.{little_number}
+use Rattle.raster_values.specs.PixelType.{bytes_of, value_of}
+use Rattle.raster_values.specs.Distance.{distance_of}
+use Rattle.micro_block.proofs.reading.read_distances.Given as goal
+
+abbrev pub invariant-loop-i : goal.invariant-loop-i
+invariant-loop-i l = (k : ℕ) → k < l.i → get_or l.numbers k 0 ≡ distance_of l.kind (value_of l.kind (little_number (bytes_of l.kind) (drop (k * bytes_of l.kind) l.bytes)))

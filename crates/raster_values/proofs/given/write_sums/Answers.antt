@@ -1,0 +1,48 @@
+use Rattle.std.proofs.Common.{◌≡◌, ◌+◌, ◌*◌, ◌<◌, ◌≤◌, ◌-◌, ◌++◌, ap, sym, subst, ◌∙◌, length, take, drop, get_or, arith}
+use Rattle.std.specs.Prelude.{pos, All}
+use Rattle.std.proofs.Math.Nat.{mul-le-mul_right}
+use Rattle.std.proofs.lemmas.Int.{to_z-of_z}
+use borrow.Rule.Slice.PartMut.{put_mid}
+use mir.Syntax.{w64}
+use mir.Val.{to_z, of_z}
+use Rattle.lane_kernels.specs.inside.Within.{sums_within}
+use Rattle.raster_values.specs.PixelType.{InRange, bytes_of, value_bytes}
+use Rattle.raster_values.specs.Grid.{values_bytes}
+use Rattle.raster_values.proofs.Views.{same_bits}
+use Rattle.raster_values.proofs.Pack.{value_put}
+use Rattle.raster_values.proofs.GivenSums.{length-sums, sum_at}
+use Rattle.raster_values.proofs.given.write_sums.Goals as goal
+
+pub write_value-requires-clause-in_range : goal.write_value-requires-clause-in_range
+write_value-requires-clause-in_range c =
+    let kind = c.args.kind in
+    let i = c.loop-i.i in
+    let qs = c.args.numbers.now in
+    let o = to_z w64 (of_z w64 c.args.offset) in
+    let vs = sums_within qs o c.args.step c.args.gap in
+    let below : i < length vs = omega (arith, c.loop-i-test.true, length-sums qs o c.args.step c.args.gap) in
+    let all : All (InRange kind) vs = subst (λ z. All (InRange kind) (sums_within qs z c.args.step c.args.gap)) (sym (to_z-of_z w64 c.args.offset c.ranges.offset)) c.requires.in_range in
+    let is : c.sum_of-sum.result ≡ get_or vs i (pos 0) = c.sum_of-sum.ensures ∙ sym (sum_at qs o c.args.step c.args.gap i c.loop-i-test.true) in
+    let fits : InRange kind c.sum_of-sum.result = subst (InRange kind) (sym is) (all i (pos 0) below) in
+    subst (InRange kind) (sym (same_bits kind c.sum_of-sum.result fits)) fits
+
+pub loop-i-preserved : goal.loop-i-preserved
+loop-i-preserved c =
+    let kind = c.args.kind in
+    let i = c.loop-i.i in
+    let qs = c.args.numbers.now in
+    let o = to_z w64 (of_z w64 c.args.offset) in
+    let vs = sums_within qs o c.args.step c.args.gap in
+    let below : i < length vs = omega (arith, c.loop-i-test.true, length-sums qs o c.args.step c.args.gap) in
+    let all : All (InRange kind) vs = subst (λ z. All (InRange kind) (sums_within qs z c.args.step c.args.gap)) (sym (to_z-of_z w64 c.args.offset c.ranges.offset)) c.requires.in_range in
+    let is : c.sum_of-sum.result ≡ get_or vs i (pos 0) = c.sum_of-sum.ensures ∙ sym (sum_at qs o c.args.step c.args.gap i c.loop-i-test.true) in
+    let fits : InRange kind c.sum_of-sum.result = subst (InRange kind) (sym is) (all i (pos 0) below) in
+    let same = same_bits kind c.sum_of-sum.result fits ∙ is in
+    let long = length-sums qs o c.args.step c.args.gap in
+    let up : (i + 1) * bytes_of kind ≤ length vs * bytes_of kind = mul-le-mul_right (bytes_of kind) (omega (arith, below)) in
+    let room : length vs * bytes_of kind ≤ length c.args.out.now = subst (λ n. n * bytes_of kind ≤ length c.args.out.now) (sym long) c.requires.room in
+    subst (λ size. c.write_value.new.out ≡ value_bytes kind (get_or vs i (pos 0)) ++ drop (bytes_of kind) (take (length c.loop-i.out - i * size) (drop (i * size) c.loop-i.out))
+    → put_mid (i * size) (length c.loop-i.out - i * size) c.loop-i.out c.write_value.new.out ≡ values_bytes kind (take (i + 1) vs) ++ drop ((i + 1) * bytes_of kind) c.args.out.now)
+    (sym c.bytes-size.ensures)
+    (value_put kind vs c.loop-i.out c.args.out.now c.write_value.new.out i below room c.loop-i.auto.out (omega (arith, up, room)) c.loop-i.invariant)
+    (c.write_value.ensures.bytes ∙ ap (λ v. value_bytes kind v ++ drop (bytes_of kind) (take (length c.loop-i.out - i * c.bytes-size.result) (drop (i * c.bytes-size.result) c.loop-i.out))) same)
