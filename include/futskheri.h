@@ -20,7 +20,8 @@
  * forked child of a process with threads.
  *
  * Threads. The functions have no state: they may be called from several threads at once, as long as no call
- * writes what another one uses.
+ * writes what another one uses. A call takes up to some 140,000 bytes of its thread's stack (found by trial, not
+ * proved): give a thread 256 KB.
  */
 #ifndef FUTSKHERI_H
 #define FUTSKHERI_H
@@ -98,8 +99,7 @@ uint32_t futskheri_decode(const uint8_t *blob, size_t blob_size, void *values, s
                           uint8_t *mask, size_t mask_size, struct futskheri_fault *fault);
 
 /* The same without a copy: the values are laid into the caller's arrays at once, which is faster where every pixel is
- * valid. It takes memory for the values that a blob has as code words and not as differences, a byte for each, and eight
- * bytes for each depth.
+ * valid. It takes no memory for values, and at most eight bytes for each depth.
  * OK, REFUSED and NO_MEMORY: as above. BAD_SIZES: the bytes begin with a header that asks for arrays of other lengths;
  * what follows the header was not looked at. Where it is not OK the arrays may hold anything; where it is not REFUSED
  * *fault stays. Take it where the arrays are there for this raster. Where they have to keep what they have if the blob
@@ -113,7 +113,9 @@ uint64_t futskheri_greatest_size(uint32_t kind, uint32_t rows, uint32_t cols, ui
 
 /* Encodes a raster of this type and shape into the front of out, in version 3 or 4, so that no value changes by
  * more than error (0: none changes). What stands in values at the places of invalid pixels is not looked at.
- * mask_size 0: every pixel is valid. The values are read where they lie, and none is copied.
+ * mask_size 0: every pixel is valid. Values and mask are read where they lie, and nothing of them is copied. It takes
+ * memory for what it knows of a raster before it writes: 16 bytes for each depth, a bit for each block of 8 and each of
+ * 16 rows and columns at each depth, and at most 2,048 bytes more.
  * OK: *size is the size of the blob. NO_ROOM: *size is the size that the blob would have. Else *size stays;
  * where it is not OK, out stays. The first of these that holds is answered: BAD_KIND, BAD_VERSION, BAD_SHAPE,
  * TOO_LARGE, BAD_SIZES, DEPTH_NEEDS_V4, NO_ROOM; NO_MEMORY may come

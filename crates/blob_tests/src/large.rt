@@ -29,7 +29,7 @@ fn grid_of(rt: &impl Abort, alloc: Global) -> Vec<u8> {
 }
 
 // The raster has this grid.
-fn has_grid(rt: &impl Abort, alloc: Global, at: &str, raster: &Raster, grid: &[u8]) {
+pub(crate) fn has_grid(rt: &impl Abort, alloc: Global, at: &str, raster: &Raster, grid: &[u8]) {
     let mut sink = sink(rt, alloc, 1 << 20, 1 << 20);
     grid_write(raster, &mut sink).expect(rt, "the grid");
     same(rt, at, sink.held() == grid, true);

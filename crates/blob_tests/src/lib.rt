@@ -13,7 +13,11 @@ mod bands;
 #[cfg(test)]
 mod bands_grids;
 #[cfg(test)]
+mod both_sides;
+#[cfg(test)]
 mod coded_decoding;
+#[cfg(test)]
+mod coded_pieces;
 #[cfg(test)]
 mod decoding;
 #[cfg(test)]
@@ -29,10 +33,14 @@ mod headers;
 #[cfg(test)]
 mod large;
 #[cfg(test)]
+mod long_rows;
+#[cfg(test)]
 mod previous_masks;
 #[cfg(test)]
 mod rasters;
 #[cfg(test)]
 mod same;
+#[cfg(test)]
+mod seen_encoding;
 #[cfg(test)]
 mod symbol_encoding;

@@ -5,7 +5,7 @@ use Rattle.std.proofs.lemmas.Bool.{cases_lt}
 use Rattle.std.proofs.lemmas.Bool.Decides.{nat_tests}
 use Rattle.std.proofs.lemmas.Int.{ints}
 use Rattle.std.proofs.lemmas.List.Concat.{flat_map-cons}
-use Rattle.std.proofs.Math.Nat.{mod-add-mod, mod-eq_of_lt, mul-mod_left, add-mod_right}
+use Rattle.std.proofs.Math.Nat.{mod-add-mod, mod-eq_of_lt, add-mod_right}
 use Rattle.raster_values.specs.declared.kind.PixelType.{PixelType}
 use Rattle.raster_values.specs.declared.kind.PixelType.TheVariants.{I8, U8}
 use Rattle.raster_values.specs.PixelType.{InRange, value_bytes}
@@ -75,9 +75,6 @@ bytes_map kind (v ∷ vs) byte =
 
 -- ---- the first column
 
-pub column_first : (cols : ℕ) → cols % cols ≡ 0
-column_first cols = ap (λ n. n % cols) (let e : cols ≡ 1 * cols = omega arith in e) ∙ mul-mod_left 1 cols
-
 pub column_next : (cols at : ℕ) → at % cols ≡ 0 → (at + cols) % cols ≡ 0
 column_next cols at e = add-mod_right at cols ∙ e
 
@@ -96,7 +93,7 @@ not_first cols at k e some is = let same : k % cols ≡ 0 = ap (λ n. n % cols) 
 
 -- ---- full rasters
 
-rank_most : (mark : ℕ → Bool) (n : ℕ) → rank mark n ≤ n
+pub rank_most : (mark : ℕ → Bool) (n : ℕ) → rank mark n ≤ n
 rank_most mark zero = omega arith
 rank_most mark (suc n) = let before = rank_most mark n in elim (mark n) as (λ b. cond b (rank mark n + 1) (rank mark n) ≤ suc n) [
   | true ↦ omega (arith, before)

@@ -42,7 +42,7 @@ kept_predictor cols k valid value left up above last some is_left is_last is_up 
 
 -- ---- no pixel
 
-rank_skips : (valid : ℕ → Bool) (a n : ℕ) → ((i : ℕ) → i < n → valid (a + i) ≡ false) → rank valid (a + n) ≡ rank valid a
+pub rank_skips : (valid : ℕ → Bool) (a n : ℕ) → ((i : ℕ) → i < n → valid (a + i) ≡ false) → rank valid (a + n) ≡ rank valid a
 rank_skips valid a zero off = ap (rank valid) (let e : a + 0 ≡ a = omega arith in e)
 rank_skips valid a (suc n) off =
     ap (rank valid) (let e : a + suc n ≡ (a + n) + 1 = omega arith in e) ∙ rank_off valid (a + n) (off n (omega arith)) ∙ rank_skips valid a n (λ i lt. off i (omega (arith, lt)))
@@ -71,7 +71,7 @@ none_coded kind cols valid value place n symbols off = record {
 
 -- ---- each pixel
 
-rank_counts : (valid : ℕ → Bool) (a n : ℕ) → ((i : ℕ) → i < n → valid (a + i) ≡ true) → rank valid (a + n) ≡ rank valid a + n
+pub rank_counts : (valid : ℕ → Bool) (a n : ℕ) → ((i : ℕ) → i < n → valid (a + i) ≡ true) → rank valid (a + n) ≡ rank valid a + n
 rank_counts valid a zero on = let e : a + 0 ≡ a = omega arith in ap (rank valid) e ∙ (let f : rank valid a ≡ rank valid a + 0 = omega arith in f)
 rank_counts valid a (suc n) on =
     let e : a + suc n ≡ (a + n) + 1 = omega arith in

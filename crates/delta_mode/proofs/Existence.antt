@@ -249,7 +249,7 @@ symbol_low kind z = byte_of (z +ℤ pos (bias kind))
 map_low : {X : Type 0} (f : X → ℕ) (xs : List X) (x : X) → ((y : X) → f y < 256) → All (λ n. n < 256) (map f xs)
 map_low f xs x low = All-from_get_or (λ n. n < 256) (map f xs) 0 (λ i lt. subst (λ n. n < 256) (sym (get_or-map f xs i x 0 (omega (arith, lt, length-map xs f)))) (low (get_or xs i x)))
 
-rank_filter : (valid : ℕ → Bool) (n : ℕ) → length (filter valid (range_with_len 0 n)) ≡ rank valid n
+pub rank_filter : (valid : ℕ → Bool) (n : ℕ) → length (filter valid (range_with_len 0 n)) ≡ rank valid n
 rank_filter valid zero = refl
 rank_filter valid (suc n) =
     let before = rank_filter valid n in

@@ -145,14 +145,6 @@ read_piece r value d place n marks up above now {w} {m} {count} {kept} {left} {l
     some : 0 < r.cols
     some = sound.shape.cols_above
 
--- the symbols of a piece have room where those up to its end have
-pub piece_room : (valid : ℕ → Bool) (place : ℕ) (marks : List Bool) {n m start count room : ℕ} → ((i : ℕ) → i < n → mark_at marks i ≡ valid (place + i)) → m ≡ n → start ≡ count → count ≡ rank valid place
-    → rank valid (place + n) ≤ room → start + rank (mark_at marks) m ≤ room
-piece_room valid place marks {n} {m} {start} {count} {room} is_mark em e is fits =
-    let ranks = rank_split valid place n in
-    let same = rank_same (mark_at marks) (λ j. valid (place + j)) n is_mark in
-    subst (λ q. start + rank (mark_at marks) q ≤ room) (sym em) (omega (arith, ranks, same, e, is, fits))
-
 -- the value kept is one of the type
 pub kept_fits : (r : Pixels) (d : ℕ) {kind : PixelType} {place count : ℕ} {left : Bool} {last before : ℤ} → IsRaster r → kind ≡ r.kind → IsAt (is_valid r) (value_in r d) place left last count → before ≡ last → InRange kind before
 kept_fits r d {kind} {place} {count} {left} {last} {before} sound ek at e =

@@ -11,5 +11,9 @@ mod Sources
 mod Bytewise
 mod Strided
 mod EvenPieces
-mod Turning
+mod Runs
+mod PlainTaking
+pub mod Ways
+pub mod FullPieces
+pub mod PlainPieces
 pub mod Existence

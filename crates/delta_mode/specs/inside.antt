@@ -1,6 +1,8 @@
 -- Words of the private functions: nothing here has to be believed.
 pub mod Listed
 pub mod Pieces
-pub mod Turned
+pub mod Runs
+pub mod Plain
 pub mod Bytewise
 pub mod Strided
+pub mod Steps

@@ -1,12 +1,15 @@
-//! The symbols of a depth of a raster of bytes of which every pixel is valid: of its bytes as they
-//! lie.
+//! The symbols of pixels one behind the other of a raster of bytes of which every pixel is valid: of
+//! its bytes as they lie.
 
-ghost use Rattle.std.specs.Prelude.{◌≡◌, ℕ, ◌+◌, ◌-◌, ◌*◌, ◌%◌, ◌<◌, ◌≤◌, length, get_or};
-ghost use Rattle.delta_mode.specs.Symbols.{bias};
+ghost use Rattle.std.specs.Prelude.{◌≡◌, ℕ, ◌+◌, ◌-◌, ◌*◌, ◌%◌, ◌^◌, ◌<◌, ◌≤◌, ◌++◌, length, get_or};
+ghost use Rattle.raster_values.specs.Raster.{valid_count};
+ghost use Rattle.delta_mode.specs.Symbols.{IsByteType, bias};
+ghost use Rattle.delta_mode.specs.Ways.{deltas_before};
 ghost use Rattle.delta_mode.specs.inside.Bytewise.{wrapped};
 ghost use Rattle.delta_mode.specs.inside.Strided.{cell, cell_above, cell_before};
 
-use raster_values::PixelType;
+use raster_values::{PixelType, cells_are_values};
+use raster_view::View;
 
 /// What is added to a byte of the type.
 pub(super) fn added(kind: PixelType) -> u8
@@ -27,83 +30,169 @@ fn cell_of(cells: &[u8], depth: usize, d: usize, k: usize) -> u8
     cells[k * depth + d]
 }
 
-/// The symbol of each pixel but the first, by the byte of the pixel before it.
+/// The symbol of each pixel from number `place` on, but the first ones, by the byte of the pixel
+/// before it.
 #[inline(always)]
-fn differences(bias: u8, depth: usize, d: usize, cells: &[u8], out: &mut [u8])
+fn differences(
+    bias: u8,
+    depth: usize,
+    d: usize,
+    cells: &[u8],
+    place: usize,
+    from: usize,
+    out: &mut [u8],
+)
     requires depth { d < depth }
-    requires size { length cells.now ≡ length out.old * depth }
+    requires some { 0 < place + from }
+    requires size { (place + length out.old) * depth ≤ length cells.now }
+    requires few { place + length out.old ≤ 2 ^ 24 }
     ensures room { length out.new ≡ length out.old }
-    ensures symbols { (k : ℕ) → 0 < k → k < length out.old → get_or out.new k 0
-        ≡ wrapped bias (cell depth d cells.now k) (cell depth d cells.now (k - 1)) }
+    ensures symbols { (i : ℕ) → from ≤ i → i < length out.old → get_or out.new i 0
+        ≡ wrapped bias (cell depth d cells.now (place + i))
+        (cell depth d cells.now (place + i - 1)) }
 {
-    for i in 1..out.len() {
-        let before = cell_of(cells, depth, d, i - 1);
-        out[i] = cell_of(cells, depth, d, i)
+    for i in from..out.len() {
+        let before = cell_of(cells, depth, d, place + i - 1);
+        out[i] = cell_of(cells, depth, d, place + i)
             .wrapping_sub(before)
             .wrapping_add(bias);
     }
 }
 
-/// The symbol of the first pixel of each row, by the byte of the pixel above it.
+/// The symbol of a pixel in the first column, by the byte of the pixel above it.
 #[inline(always)]
-fn first_column(bias: u8, cols: usize, depth: usize, d: usize, cells: &[u8], out: &mut [u8])
-    requires cols { 0 < cols }
-    requires some { cols ≤ length out.old }
+fn first_of_row(bias: u8, cols: usize, depth: usize, d: usize, cells: &[u8], k: usize) -> u8
     requires depth { d < depth }
-    requires size { length cells.now ≡ length out.old * depth }
-    ensures room { length out.new ≡ length out.old }
-    ensures symbols { (k : ℕ) → k < length out.old → k % cols ≡ 0 → get_or out.new k 0
-        ≡ wrapped bias (cell depth d cells.now k) (cell_above cols (cell depth d cells.now) k) }
-    ensures others { (k : ℕ) → 0 < k % cols → get_or out.new k 0 ≡ get_or out.old k 0 }
+    requires size { (k + 1) * depth ≤ length cells.now }
+    requires few { k < 2 ^ 24 }
+    ensures { result ≡ wrapped bias (cell depth d cells.now k)
+        (cell_above cols (cell depth d cells.now) k) }
 {
-    out[0] = cell_of(cells, depth, d, 0).wrapping_add(bias);
-    let mut at = cols;
-    while at < out.len() {
-        let above = cell_of(cells, depth, d, at - cols);
-        out[at] = cell_of(cells, depth, d, at)
-            .wrapping_sub(above)
-            .wrapping_add(bias);
-        at += cols;
-    }
+    let above = if k < cols {
+        0
+    } else {
+        cell_of(cells, depth, d, k - cols)
+    };
+    cell_of(cells, depth, d, k)
+        .wrapping_sub(above)
+        .wrapping_add(bias)
 }
 
-/// Does what `byte_deltas` does, where the compiler may know the depth.
+/// The symbol of the first pixel of each row, among the pixels from number `place` on.
 #[inline(always)]
-fn deltas_by(bias: u8, cols: usize, depth: usize, d: usize, cells: &[u8], out: &mut [u8])
-    requires cols { 0 < cols }
-    requires some { cols ≤ length out.old }
-    requires depth { d < depth }
-    requires size { length cells.now ≡ length out.old * depth }
-    ensures room { length out.new ≡ length out.old }
-    ensures symbols { (k : ℕ) → k < length out.old → get_or out.new k 0
-        ≡ wrapped bias (cell depth d cells.now k) (cell_before cols (cell depth d cells.now) k) }
-{
-    differences(bias, depth, d, cells, out);
-    first_column(bias, cols, depth, d, cells, out);
-}
-
-/// The symbol of each pixel's byte at a depth: by that of the pixel before it, in the first column
-/// by that of the pixel above it, and of the first by none.
-pub(super) fn byte_deltas(
+fn first_column(
     bias: u8,
     cols: usize,
     depth: usize,
     d: usize,
     cells: &[u8],
+    place: usize,
     out: &mut [u8],
 )
     requires cols { 0 < cols }
-    requires some { cols ≤ length out.old }
+    requires narrow { cols ≤ 2 ^ 24 }
     requires depth { d < depth }
-    requires size { length cells.now ≡ length out.old * depth }
+    requires size { (place + length out.old) * depth ≤ length cells.now }
+    requires few { place + length out.old ≤ 2 ^ 24 }
     ensures room { length out.new ≡ length out.old }
-    ensures symbols { (k : ℕ) → k < length out.old → get_or out.new k 0
-        ≡ wrapped bias (cell depth d cells.now k) (cell_before cols (cell depth d cells.now) k) }
+    ensures symbols { (i : ℕ) → i < length out.old → (place + i) % cols ≡ 0 → get_or out.new i 0
+        ≡ wrapped bias (cell depth d cells.now (place + i))
+        (cell_above cols (cell depth d cells.now) (place + i)) }
+    ensures others { (i : ℕ) → 0 < (place + i) % cols → get_or out.new i 0 ≡ get_or out.old i 0 }
+{
+    let mut at = (cols - place % cols) % cols;
+    while at < out.len() {
+        out[at] = first_of_row(bias, cols, depth, d, cells, place + at);
+        at += cols;
+    }
+}
+
+/// How many of the pixels from number `place` on have none before them.
+#[inline(always)]
+fn first_behind(place: usize) -> usize
+    ensures some { 0 < place + result }
+    ensures least { (i : ℕ) → 0 < place + i → result ≤ i }
+{
+    if place == 0 { 1 } else { 0 }
+}
+
+/// Does what `byte_piece` does, where the compiler may know the depth.
+#[inline(always)]
+fn piece_by(
+    bias: u8,
+    cols: usize,
+    depth: usize,
+    d: usize,
+    cells: &[u8],
+    place: usize,
+    out: &mut [u8],
+)
+    requires cols { 0 < cols }
+    requires narrow { cols ≤ 2 ^ 24 }
+    requires depth { d < depth }
+    requires size { (place + length out.old) * depth ≤ length cells.now }
+    requires few { place + length out.old ≤ 2 ^ 24 }
+    ensures room { length out.new ≡ length out.old }
+    ensures symbols { (i : ℕ) → i < length out.old → get_or out.new i 0
+        ≡ wrapped bias (cell depth d cells.now (place + i))
+        (cell_before cols (cell depth d cells.now) (place + i)) }
+{
+    differences(bias, depth, d, cells, place, first_behind(place), out);
+    first_column(bias, cols, depth, d, cells, place, out);
+}
+
+/// The symbol of each pixel's byte at a depth, from number `place` on: by that of the pixel before
+/// it, in the first column by that of the pixel above it, and of the first by none.
+fn byte_piece(
+    bias: u8,
+    cols: usize,
+    depth: usize,
+    d: usize,
+    cells: &[u8],
+    place: usize,
+    out: &mut [u8],
+)
+    requires cols { 0 < cols }
+    requires narrow { cols ≤ 2 ^ 24 }
+    requires depth { d < depth }
+    requires size { (place + length out.old) * depth ≤ length cells.now }
+    requires few { place + length out.old ≤ 2 ^ 24 }
+    ensures room { length out.new ≡ length out.old }
+    ensures symbols { (i : ℕ) → i < length out.old → get_or out.new i 0
+        ≡ wrapped bias (cell depth d cells.now (place + i))
+        (cell_before cols (cell depth d cells.now) (place + i)) }
 {
     // bytes that lie one behind the other are looked at many at once
     if depth == 1 {
-        deltas_by(bias, cols, 1, d, cells, out);
+        piece_by(bias, cols, 1, d, cells, place, out);
     } else {
-        deltas_by(bias, cols, depth, d, cells, out);
+        piece_by(bias, cols, depth, d, cells, place, out);
     }
+}
+
+/// Writes the symbols of as many pixels as `out` has room for, from number `place` on.
+pub(super) fn write_full<V: View>(raster: &V, d: u32, place: usize, out: &mut [u8])
+    requires kind { IsByteType (V.pixels raster.now).kind }
+    requires full { valid_count (V.pixels raster.now)
+        ≡ (V.pixels raster.now).rows * (V.pixels raster.now).cols }
+    requires depth { d < (V.pixels raster.now).depth }
+    requires within { place + length out.old
+        ≤ (V.pixels raster.now).rows * (V.pixels raster.now).cols }
+    ensures room { length out.new ≡ length out.old }
+    ensures symbols { deltas_before (V.pixels raster.now) d (place + length out.old)
+        ≡ deltas_before (V.pixels raster.now) d place ++ out.new }
+{
+    cells_are_values();
+    let cells = raster.cells();
+    let depth = raster.depth() as usize;
+    let cols = raster.cols() as usize;
+    byte_piece(
+        added(raster.kind()),
+        cols,
+        depth,
+        d as usize,
+        cells,
+        place,
+        out,
+    );
 }

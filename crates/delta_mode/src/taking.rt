@@ -1,6 +1,6 @@
 //! Delta mode: the values of a depth from its symbols.
 
-ghost use Rattle.std.specs.Prelude.{◌≡◌, ℕ, ◌+◌, ◌*◌, ◌%◌, ◌<◌, ◌≤◌, ◌++◌, List, length};
+ghost use Rattle.std.specs.Prelude.{◌≡◌, ℕ, ◌+◌, ◌*◌, ◌%◌, ◌<◌, ◌≤◌, ◌++◌, true, List, length};
 ghost use Rattle.std.specs.Prelude.{IfErr, IfOk, OnOk};
 ghost use Rattle.raster_values.specs.Raster.{valid_count};
 ghost use Rattle.raster_values.specs.Block.{SameMask};
@@ -9,15 +9,17 @@ ghost use Rattle.delta_mode.specs.Symbols.{IsByteType};
 ghost use Rattle.delta_mode.specs.Deltas.{TakesDeltas, is_valid};
 ghost use Rattle.delta_mode.specs.inside.Pieces.{rank, mark_at, IsAt, AreCoded};
 
+use super::even::{has_invalid, has_valid};
+use super::run::give_run;
 use super::source::{ListSymbols, SymbolSource};
 use super::walk::{Walk, enter, find_values, read_above, start};
 use raster_target::Target;
 
 /// How many pixels of a row are looked at together, at most.
-const PIECE: usize = 256;
+const PIECE: usize = 128;
 
 /// How many of the marks are set.
-fn count_set(marks: &[bool]) -> usize
+pub(super) fn count_set(marks: &[bool]) -> usize
     ensures { result ≡ rank (mark_at marks.now) (length marks.now) }
 {
     let mut count = 0;
@@ -90,6 +92,105 @@ fn give_values<T: Target>(
     counted(piece, before.count + piece.count)
 }
 
+/// Gives the valid pixels of a piece of a row, from number `place` on, the values that the next
+/// symbols say, which `symbols` has room for.
+fn take_marked<S: SymbolSource, T: Target>(
+    source: &mut S,
+    raster: &mut T,
+    d: u32,
+    place: usize,
+    walk: Walk,
+    marks: &[bool],
+    up: &mut [bool],
+    above: &mut [i64],
+    values: &mut [i64],
+    symbols: &mut [u8],
+) -> Result<Walk, S::Stop>
+    requires kind { IsByteType (T.pixels raster.old).kind }
+    requires depth { d < (T.pixels raster.old).depth }
+    requires some { 0 < length marks.now }
+    requires across { place % (T.pixels raster.old).cols + length marks.now ≤ (T.pixels raster.old).cols }
+    requires within { place + length marks.now ≤ (T.pixels raster.old).rows * (T.pixels raster.old).cols }
+    requires marks { (i : ℕ) → i < length marks.now
+        → mark_at marks.now i ≡ is_valid (T.pixels raster.old) (place + i) }
+    requires up { length up.old ≡ length marks.now }
+    requires above { length above.old ≡ length marks.now }
+    requires values { length values.old ≡ length marks.now }
+    requires symbols { length symbols.old ≡ length marks.now }
+    requires at { IsAt (is_valid (T.pixels raster.old)) (value_in (T.pixels raster.old) d) place
+        walk.left walk.last walk.count }
+    requires ready { S.sound source.old }
+    requires left { rank (is_valid (T.pixels raster.old)) (place + length marks.now) ≤ walk.count + S.left source.old }
+    requires sound { T.sound raster.old }
+    ensures at { IfOk result (λ walk. IsAt (is_valid (T.pixels raster.old)) (value_in (T.pixels raster.new) d)
+        (place + length marks.now) walk.left walk.last walk.count) }
+    ensures left { IfOk result (λ w. w.count + S.left source.new ≡ walk.count + S.left source.old) }
+    ensures same { SameMask (T.pixels raster.old) (T.pixels raster.new) }
+    ensures coded { (before front : List ℕ) → S.has_given source.old (before ++ front) → length front ≡ walk.count
+        → OnOk result ((piece : List ℕ) × (S.has_given source.new (before ++ (front ++ piece))
+        × ((length (front ++ piece) ≡ rank (is_valid (T.pixels raster.old)) (place + length marks.now))
+        × AreCoded (T.pixels raster.old).kind (T.pixels raster.old).cols (is_valid (T.pixels raster.old))
+        (value_in (T.pixels raster.new) d) place (place + length marks.now) (front ++ piece)))) }
+    ensures rest { (k e : ℕ) → k < (T.pixels raster.old).rows * (T.pixels raster.old).cols → e < (T.pixels raster.old).depth
+        → (place ≤ k → k < place + length marks.now → e ≡ d → ⊥)
+        → value_in (T.pixels raster.new) e k ≡ value_in (T.pixels raster.old) e k }
+    ensures ready { S.sound source.new }
+    ensures sources { S.kept source.new ≡ S.kept source.old }
+    ensures stop { IfErr result (λ f. S.stops (S.kept source.old) f) }
+    ensures sound { T.sound raster.new }
+    ensures kept { T.kept raster.new ≡ T.kept raster.old }
+{
+    let piece = &mut symbols[..count_set(marks)];
+    source.next(piece)?;
+    Ok(give_values(piece, raster, d, place, walk, marks, up, above, values))
+}
+
+/// Gives the pixels of a piece of a row, from number `place` on, which are all valid, the values
+/// that the next symbols say, which `symbols` has room for.
+fn take_run<S: SymbolSource, T: Target>(
+    source: &mut S,
+    raster: &mut T,
+    d: u32,
+    place: usize,
+    walk: Walk,
+    values: &mut [i64],
+    symbols: &mut [u8],
+) -> Result<Walk, S::Stop>
+    requires kind { IsByteType (T.pixels raster.old).kind }
+    requires depth { d < (T.pixels raster.old).depth }
+    requires some { 0 < length symbols.old }
+    requires across { place % (T.pixels raster.old).cols + length symbols.old ≤ (T.pixels raster.old).cols }
+    requires within { place + length symbols.old ≤ (T.pixels raster.old).rows * (T.pixels raster.old).cols }
+    requires valid { (i : ℕ) → i < length symbols.old → is_valid (T.pixels raster.old) (place + i) ≡ true }
+    requires values { length values.old ≡ length symbols.old }
+    requires at { IsAt (is_valid (T.pixels raster.old)) (value_in (T.pixels raster.old) d) place
+        walk.left walk.last walk.count }
+    requires ready { S.sound source.old }
+    requires left { rank (is_valid (T.pixels raster.old)) (place + length symbols.old) ≤ walk.count + S.left source.old }
+    requires sound { T.sound raster.old }
+    ensures at { IfOk result (λ walk. IsAt (is_valid (T.pixels raster.old)) (value_in (T.pixels raster.new) d)
+        (place + length symbols.old) walk.left walk.last walk.count) }
+    ensures left { IfOk result (λ w. w.count + S.left source.new ≡ walk.count + S.left source.old) }
+    ensures same { SameMask (T.pixels raster.old) (T.pixels raster.new) }
+    ensures coded { (before front : List ℕ) → S.has_given source.old (before ++ front) → length front ≡ walk.count
+        → OnOk result ((piece : List ℕ) × (S.has_given source.new (before ++ (front ++ piece))
+        × ((length (front ++ piece) ≡ rank (is_valid (T.pixels raster.old)) (place + length symbols.old))
+        × AreCoded (T.pixels raster.old).kind (T.pixels raster.old).cols (is_valid (T.pixels raster.old))
+        (value_in (T.pixels raster.new) d) place (place + length symbols.old) (front ++ piece)))) }
+    ensures rest { (k e : ℕ) → k < (T.pixels raster.old).rows * (T.pixels raster.old).cols → e < (T.pixels raster.old).depth
+        → (place ≤ k → k < place + length symbols.old → e ≡ d → ⊥)
+        → value_in (T.pixels raster.new) e k ≡ value_in (T.pixels raster.old) e k }
+    ensures ready { S.sound source.new }
+    ensures sources { S.kept source.new ≡ S.kept source.old }
+    ensures stop { IfErr result (λ f. S.stops (S.kept source.old) f) }
+    ensures sound { T.sound raster.new }
+    ensures kept { T.kept raster.new ≡ T.kept raster.old }
+{
+    let before = enter(walk, place, raster.cols() as usize);
+    source.next(symbols)?;
+    Ok(give_run(symbols, raster, d, place, before, values))
+}
+
 /// Gives the pixels of a piece of a row, from number `place` on, the values that the next symbols
 /// say, which `symbols` has room for.
 fn take_piece<S: SymbolSource, T: Target>(
@@ -137,9 +238,18 @@ fn take_piece<S: SymbolSource, T: Target>(
     ensures kept { T.kept raster.new ≡ T.kept raster.old }
 {
     raster.marks_from(place, marks);
-    let piece = &mut symbols[..count_set(marks)];
-    source.next(piece)?;
-    Ok(give_values(piece, raster, d, place, walk, marks, up, above, values))
+    if !has_valid(marks) {
+        return Ok(Walk {
+            left: false,
+            ..walk
+        });
+    }
+    if !has_invalid(marks) {
+        return take_run(source, raster, d, place, walk, values, symbols);
+    }
+    take_marked(
+        source, raster, d, place, walk, marks, up, above, values, symbols,
+    )
 }
 
 /// Gives the valid pixels of a raster of bytes the values at a depth that the symbols of a source

@@ -30,6 +30,7 @@ pub mod ChosenTables
 pub mod Counted
 mod Tallies
 mod Pushing
+mod Begun
 pub mod Once
 mod Lookups
 mod Prefixed

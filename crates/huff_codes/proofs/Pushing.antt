@@ -12,7 +12,7 @@ use Rattle.huff_codes.specs.declared.word_pairs.CodeNumber.{CodeNumber}
 use Rattle.huff_codes.specs.inside.Filling.{IsPending, IsLoose, IsNumbered, no_number}
 use Rattle.huff_codes.proofs.BitLists.{length-bits}
 use Rattle.huff_codes.proofs.Windows.{bits-append}
-use Rattle.huff_codes.proofs.Filling.{joined_take, joined_within, pending_bits, pending_none, put_word_bits, shifted}
+use Rattle.huff_codes.proofs.Filling.{joined_take, joined_within, pending_bits, put_word_bits, shifted}
 
 -- ---- numbers
 
@@ -173,8 +173,14 @@ one_within codes symbols k c lt h =
     let long = numbered_long (code_at codes (get_or symbols k 0)) c h in
     omega (arith, ap length (joined_take codes symbols k lt), more, long, joined_within codes symbols (k + 1))
 
-pub loose_none : (codes : List (List Bool)) (symbols out : List ℕ) → IsLoose (joined_codes codes (take (2 * 0) symbols)) out 0 0 0
-loose_none codes symbols out = pending_none codes out
-
 pub loose_bits : (bits : List Bool) (out : List ℕ) (held count at : ℕ) → IsLoose bits out held count at → 8 * at + count ≡ length bits
 loose_bits bits out held count at h = pending_bits bits out (held % 2 ^ count) count at h
+
+-- the bits of two codes more
+pub two_long : (codes : List (List Bool)) (symbols : List ℕ) (k : ℕ) (a b : CodeNumber) → k + 1 < length symbols → IsNumbered (code_at codes (get_or symbols k 0)) a → IsNumbered (code_at codes (get_or symbols (k + 1) 0)) b
+    → length (joined_codes codes (take k symbols)) + a.length + b.length ≡ length (joined_codes codes (take (k + 2) symbols))
+two_long codes symbols k a b lt ha hb =
+    let whole = ap length (joined_two codes symbols k a b lt ha hb) in
+    let out = length-append (joined_codes codes (take k symbols)) (bits_of a.length a.number ++ bits_of b.length b.number) in
+    let pair = length-append (bits_of a.length a.number) (bits_of b.length b.number) in
+    omega (arith, whole, out, pair, length-bits a.length a.number, length-bits b.length b.number)

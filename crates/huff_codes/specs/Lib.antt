@@ -11,5 +11,6 @@ pub mod Table
 pub mod Prefixes
 pub mod Readers
 pub mod Written
+pub mod Pieces
 pub mod Laws
 pub mod inside

@@ -7,6 +7,7 @@ pub mod Nodes
 pub mod Forests
 pub mod Cutting
 pub mod Filling
+pub mod Begun
 pub mod Lookup
 pub mod Looking
 pub mod Tallied

@@ -17,6 +17,8 @@ mod lengths;
 mod lookup;
 mod prefixes;
 mod reader;
+mod symbol_counter;
+mod symbol_writer;
 mod table;
 mod word_pairs;
 mod words;
@@ -34,6 +36,8 @@ pub use laws::{
 pub use lengths::Lengths;
 pub use prefixes::{Look, Prefixes};
 pub use reader::SymbolReader;
+pub use symbol_counter::SymbolCounter;
+pub use symbol_writer::SymbolWriter;
 pub use table::{SymbolRange, read_table};
 pub use words::read_symbols;
 pub use writing::{have_lengths, symbols_len, write_symbols};

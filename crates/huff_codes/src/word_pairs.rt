@@ -1,17 +1,16 @@
 //! Code words written in pairs.
 
 ghost use Rattle.std.specs.Prelude.{◌≡◌, ℕ, ◌+◌, ◌-◌, ◌*◌, ◌/◌, ◌%◌, ◌^◌, ◌≤◌, ◌<◌, ◌++◌, List, Bool};
-ghost use Rattle.std.specs.Prelude.{length, take, All, get_or};
+ghost use Rattle.std.specs.Prelude.{length, take, All};
 ghost use Rattle.huff_codes.specs.Bits.{bits_of};
-ghost use Rattle.huff_codes.specs.Codes.{code_at};
 ghost use Rattle.huff_codes.specs.Words.{joined_codes};
-ghost use Rattle.huff_codes.specs.Written.{IsFilled};
-ghost use Rattle.huff_codes.specs.inside.Filling.{IsLoose, IsNumbered, no_number};
+ghost use Rattle.huff_codes.specs.inside.Begun.{AreNumbers, numbered_codes};
+ghost use Rattle.huff_codes.specs.inside.Filling.{IsLoose, IsNumbered};
 ghost use Rattle.huff_codes.specs.inside.Spans.{IsLaid};
 ghost use Rattle.huff_codes.specs.inside.Stored.{code_bits, codes_held};
 
 use crate::codes::Code;
-use crate::writing::{Pending, clear, flush, lowest, put_word};
+use crate::writing::{Pending, put_word};
 
 /// A code as a number: its bits are the lowest ones, as many as its length says.
 #[derive(Clone, Copy)]
@@ -32,12 +31,11 @@ fn number_of(code: Code) -> CodeNumber
 }
 
 /// The codes as numbers.
-fn numbers_of(codes: &[Code; 256]) -> [CodeNumber; 256]
+pub(crate) fn numbers_of(codes: &[Code; 256]) -> [CodeNumber; 256]
     requires size { length codes.now ≡ 256 }
     requires laid { All IsLaid codes.now }
-    ensures room { length result ≡ 256 }
-    ensures numbers { (s : ℕ) → s < 256
-        → IsNumbered (code_at (codes_held codes.now) s) (get_or result s no_number) }
+    ensures numbers { AreNumbers result }
+    ensures codes { numbered_codes result ≡ codes_held codes.now }
 {
     let mut numbers = [CodeNumber {
         number: 0,
@@ -95,6 +93,7 @@ fn push(pending: Pending, code: CodeNumber, out: &mut [u8]) -> Pending
     requires room { pending.at + 4 ≤ length out.old }
     ensures room { length out.new ≡ length out.old }
     ensures few { result.count < 32 }
+    ensures whole { result.at % 4 ≡ pending.at % 4 }
     ensures bits { 8 * result.at + result.count ≡ 8 * pending.at + pending.count + code.length }
     ensures pending { (bits : List Bool)
         → IsLoose bits out.old pending.held pending.count pending.at
@@ -122,6 +121,7 @@ fn push_pair(pending: Pending, one: CodeNumber, two: CodeNumber, out: &mut [u8])
     requires room { 8 * pending.at + pending.count + one.length + 32 ≤ 8 * length out.old }
     ensures room { length out.new ≡ length out.old }
     ensures few { result.count < 32 }
+    ensures whole { result.at % 4 ≡ pending.at % 4 }
     ensures bits { 8 * result.at + result.count
         ≡ 8 * pending.at + pending.count + one.length + two.length }
     ensures pending { (bits : List Bool)
@@ -138,21 +138,23 @@ fn push_pair(pending: Pending, one: CodeNumber, two: CodeNumber, out: &mut [u8])
 
 /// Appends the bits of the last symbol's code, where their number is odd.
 fn push_last(
-    pending: Pending,
-    codes: &[Code; 256],
     numbers: &[CodeNumber; 256],
+    pending: Pending,
     symbols: &[u8],
     out: &mut [u8],
 ) -> Pending
-    requires numbers { (s : ℕ) → s < 256
-        → IsNumbered (code_at (codes_held codes.now) s) (get_or numbers.now s no_number) }
-    requires pending { IsLoose
-        (joined_codes (codes_held codes.now) (take (2 * (length symbols.now / 2)) symbols.now))
-        out.old pending.held pending.count pending.at }
-    requires room { length (joined_codes (codes_held codes.now) symbols.now) + 32
-        ≤ 8 * length out.old }
+    requires numbers { AreNumbers numbers.now }
+    requires few { pending.count < 32 }
+    requires room { pending.at + 4 ≤ length out.old }
     ensures room { length out.new ≡ length out.old }
-    ensures pending { IsLoose (joined_codes (codes_held codes.now) symbols.now)
+    ensures few { result.count < 32 }
+    ensures whole { result.at % 4 ≡ pending.at % 4 }
+    ensures pending { (bits : List Bool)
+        → IsLoose
+        (bits ++ joined_codes (numbered_codes numbers.now)
+        (take (2 * (length symbols.now / 2)) symbols.now))
+        out.old pending.held pending.count pending.at
+        → IsLoose (bits ++ joined_codes (numbered_codes numbers.now) symbols.now)
         out.new result.held result.count result.at }
 {
     if symbols.len() % 2 == 0 {
@@ -165,30 +167,32 @@ fn push_last(
     )
 }
 
-/// Writes the codes of the symbols into words, and zeros behind them, of which there is a word at
-/// least.
-pub(crate) fn fill_pairs(codes: &[Code; 256], symbols: &[u8], out: &mut [u8])
-    requires size { length codes.now ≡ 256 }
-    requires laid { All IsLaid codes.now }
-    requires words { length out.old % 4 ≡ 0 }
-    requires room { length (joined_codes (codes_held codes.now) symbols.now) + 32
+/// Appends the bits of the symbols' codes. Behind the whole words there has to be room for one that
+/// is not.
+pub(crate) fn write_pairs(
+    numbers: &[CodeNumber; 256],
+    pending: Pending,
+    symbols: &[u8],
+    out: &mut [u8],
+) -> Pending
+    requires numbers { AreNumbers numbers.now }
+    requires few { pending.count < 32 }
+    requires room { 8 * pending.at + pending.count
+        + length (joined_codes (numbered_codes numbers.now) symbols.now) + 32
         ≤ 8 * length out.old }
-    ensures { IsFilled (length out.old / 4)
-        (joined_codes (codes_held codes.now) symbols.now) out.new }
+    ensures room { length out.new ≡ length out.old }
+    ensures few { result.count < 32 }
+    ensures whole { result.at % 4 ≡ pending.at % 4 }
+    ensures pending { (bits : List Bool)
+        → IsLoose bits out.old pending.held pending.count pending.at
+        → IsLoose (bits ++ joined_codes (numbered_codes numbers.now) symbols.now)
+        out.new result.held result.count result.at }
 {
-    let numbers = numbers_of(codes);
-    let mut pending = Pending {
-        held: 0,
-        count: 0,
-        at: 0,
-    };
+    let mut current = pending;
     for k in 0..symbols.len() / 2 {
         let one = numbers[usize::from(symbols[2 * k])];
         let two = numbers[usize::from(symbols[2 * k + 1])];
-        pending = push_pair(pending, one, two, out);
+        current = push_pair(current, one, two, out);
     }
-    let pending = push_last(pending, codes, &numbers, symbols, out);
-    let held = lowest(pending.held, pending.count);
-    let end = flush(Pending { held, ..pending }, out);
-    clear(&mut out[end..]);
+    push_last(numbers, current, symbols, out)
 }

@@ -12,8 +12,8 @@ ghost use Rattle.huff_codes.specs.inside.Spans.{IsLaid};
 ghost use Rattle.huff_codes.specs.inside.Stored.{code_bits, codes_held};
 
 use crate::codes::Code;
-use crate::lengths::{Lengths, codes_of};
-use crate::word_pairs::fill_pairs;
+use crate::lengths::Lengths;
+use crate::symbol_writer::SymbolWriter;
 use byteorder::{ByteOrder, LittleEndian};
 
 /// Bits that are not written yet, fewer than a word has, and where the next word is written.
@@ -199,5 +199,7 @@ pub fn write_symbols(symbols: &[u8], lengths: &Lengths, out: &mut [u8])
     ensures words { AreWords (canonical_codes lengths.now) (length symbols.now)
         out.new symbols.now }
 {
-    fill_pairs(&codes_of(lengths), symbols, out);
+    let mut writer = SymbolWriter::new(lengths);
+    writer.write(symbols, out);
+    writer.end(out);
 }

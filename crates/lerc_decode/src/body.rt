@@ -384,7 +384,6 @@ fn read_deltas<T: Target>(
 
 /// Gives the valid pixels the values of a code table and words, which begin at this place.
 fn read_plain<T: Target>(
-    alloc: Global,
     blob: &[u8],
     header: &Header,
     mask: &MaskForm,
@@ -402,10 +401,7 @@ fn read_plain<T: Target>(
     ensures sound { T.sound raster.new }
     ensures kept { T.kept raster.new ≡ T.kept raster.old }
 {
-    let Some(mut symbols) = room_for(alloc, value_len(header)) else {
-        return Err(BodyStop::OutOfMemory);
-    };
-    pour_plain(&blob[place..], place, header, &mut symbols, raster)
+    pour_plain(&blob[place..], place, header, raster)
 }
 
 /// Gives the valid pixels the values that the image says.
@@ -442,7 +438,7 @@ fn read_image<T: Target>(
         }
         ImageForm::Blocks { at } => read_blocks(alloc, blob, header, mask, at as usize, raster),
         ImageForm::Delta { at } => read_deltas(blob, header, mask, at as usize, raster),
-        ImageForm::Plain { at } => read_plain(alloc, blob, header, mask, at as usize, raster),
+        ImageForm::Plain { at } => read_plain(blob, header, mask, at as usize, raster),
     }
 }
 

@@ -3,9 +3,8 @@
 ghost use Rattle.std.specs.Prelude.{◌≡◌, ◌≤◌, ◌*◌, ◌+◌, ◌<◌, ◌^◌, ◌++◌, ℕ, IfErr, List, OnOk, length};
 ghost use Rattle.first_fault.specs.Faults.{moved};
 ghost use Rattle.raster_values.specs.Flat.{marks_of};
-ghost use Rattle.delta_mode.specs.Deltas.{TakesPlain};
+ghost use Rattle.delta_mode.specs.Deltas.{ArePlain};
 ghost use Rattle.delta_mode.specs.Symbols.{IsByteType};
-ghost use Rattle.huff_codes.specs.Table.{IsCoding};
 ghost use Rattle.huff_codes.specs.Words.{AreWords};
 ghost use Rattle.lerc_grammar.specs.Codes.{AreAllDeltas, codes_faults};
 ghost use Rattle.lerc_grammar.specs.Image.{value_count};
@@ -18,8 +17,8 @@ ghost use Rattle.lerc_decode.specs.inside.Words.{AreWordsLeft, frame_of, have_co
 use crate::blocks::reason_of_list;
 use crate::body::{BodyStop, stopped, value_len};
 use crate::words::Words;
-use delta_mode::{SymbolSource, undelta_from, unplain};
-use huff_codes::{CodeFault, CodeReason, Codes, read_symbols, read_table};
+use delta_mode::{SymbolSource, undelta_from, unplain_from};
+use huff_codes::{CodeFault, CodeReason, Codes, read_table};
 use lerc_header::{BlobReason, Header};
 use raster_target::Target;
 
@@ -44,37 +43,6 @@ fn refused(fault: CodeFault, place: usize) -> Result<(), BodyStop>
     })) }
 {
     stopped(reason_of_code(fault.reason), place + fault.at)
-}
-
-/// Reads the words of as many symbols as `symbols` has, which begin at this place and are the
-/// blob's last bytes.
-fn read_words(rest: &[u8], place: usize, codes: &Codes, symbols: &mut [u8]) -> Result<(), BodyStop>
-    requires count { length symbols.old ≤ 16777216 }
-    requires few { place + length rest.now < 2 ^ 62 }
-    ensures ok { OnOk result (AreWords codes.now (length symbols.old) rest.now symbols.new) }
-    ensures fault { IfErr result (λ stop. IsStopOf
-        (moved place (words_faults codes.now (length symbols.old) rest.now)) stop) }
-{
-    match read_symbols(rest, codes, symbols) {
-        Ok(used) if used < rest.len() => stopped(BlobReason::Leftover, place + used),
-        Ok(_) => Ok(()),
-        Err(fault) => refused(fault, place),
-    }
-}
-
-/// Reads a code table, and as many symbols as `symbols` has. They begin at this place, and are the
-/// blob's last bytes.
-fn read_codes(rest: &[u8], place: usize, symbols: &mut [u8]) -> Result<(), BodyStop>
-    requires count { length symbols.old ≤ 16777216 }
-    requires few { place + length rest.now < 2 ^ 62 }
-    ensures ok { OnOk result (IsCoding (length symbols.old) rest.now symbols.new) }
-    ensures fault { IfErr result (λ stop. IsStopOf
-        (moved place (codes_faults (length symbols.old) rest.now)) stop) }
-{
-    match read_table(rest) {
-        Ok((codes, used)) => read_words(&rest[used..], place + used, &codes, symbols),
-        Err(fault) => refused(fault, place),
-    }
 }
 
 /// Ends the words, which are the blob's last bytes and begin at this place.
@@ -186,17 +154,60 @@ pub(crate) fn pour_deltas<T: Target>(
 }
 
 /// Gives the valid pixels the values that the symbols say.
-fn take_plain<T: Target>(symbols: &[u8], raster: &mut T)
-    requires kind { IsByteType (T.pixels raster.old).kind }
-    requires count { length symbols.now
-        ≡ count_of (marks_of (T.pixels raster.old)) * (T.pixels raster.old).depth }
+fn take_plain<S: SymbolSource, T: Target>(
+    source: &mut S,
+    header: &Header,
+    raster: &mut T,
+) -> Result<(), S::Stop>
+    requires shape { HasHeadShape header.now (T.pixels raster.old) }
+    requires kind { IsByteType header.now.kind }
+    requires valid { count_of (marks_of (T.pixels raster.old)) ≡ header.now.valid }
+    requires count { value_count header.now ≤ S.left source.old }
+    requires ready { S.sound source.old }
     requires sound { T.sound raster.old }
     ensures marks { KeepsMarks (T.pixels raster.old) (T.pixels raster.new) }
-    ensures taken { TakesPlain (T.pixels raster.old) (T.pixels raster.new) symbols.now }
+    ensures taken { (before : List ℕ) → S.has_given source.old before
+        → OnOk result ((symbols : List ℕ) × (S.has_given source.new (before ++ symbols)
+        × ((length symbols ≡ value_count header.now)
+        × ArePlain (T.pixels raster.new) symbols))) }
+    ensures left { OnOk result (S.left source.new + value_count header.now ≡ S.left source.old) }
+    ensures stop { IfErr result (λ f. S.stops (S.kept source.old) f) }
+    ensures ready { S.sound source.new }
+    ensures sources { S.kept source.new ≡ S.kept source.old }
     ensures sound { T.sound raster.new }
     ensures kept { T.kept raster.new ≡ T.kept raster.old }
 {
-    unplain(symbols, raster);
+    unplain_from(source, raster)
+}
+
+/// Gives the valid pixels the values of the words, which begin at this place.
+fn pour_plain_words<T: Target>(
+    rest: &[u8],
+    place: usize,
+    codes: &Codes,
+    header: &Header,
+    raster: &mut T,
+) -> Result<(), BodyStop>
+    requires shape { HasHeadShape header.now (T.pixels raster.old) }
+    requires kind { IsByteType header.now.kind }
+    requires valid { count_of (marks_of (T.pixels raster.old)) ≡ header.now.valid }
+    requires values { value_count header.now ≤ 16777216 }
+    requires few { place + length rest.now < 2 ^ 62 }
+    requires sound { T.sound raster.old }
+    ensures marks { KeepsMarks (T.pixels raster.old) (T.pixels raster.new) }
+    ensures ok { OnOk result ((symbols : List ℕ)
+        × (AreWords codes.now (value_count header.now) rest.now symbols
+        × ArePlain (T.pixels raster.new) symbols)) }
+    ensures fault { IfErr result (λ stop. IsStopOf
+        (moved place (words_faults codes.now (value_count header.now) rest.now)) stop) }
+    ensures sound { T.sound raster.new }
+    ensures kept { T.kept raster.new ≡ T.kept raster.old }
+{
+    let mut words = Words::of(rest, codes, value_len(header));
+    match take_plain(&mut words, header, raster) {
+        Ok(()) => end_words(&words, rest, place),
+        Err(fault) => refused(fault, place),
+    }
 }
 
 /// Gives the valid pixels the values of a table and words, which begin at this place.
@@ -204,13 +215,11 @@ pub(crate) fn pour_plain<T: Target>(
     rest: &[u8],
     place: usize,
     header: &Header,
-    symbols: &mut [u8],
     raster: &mut T,
 ) -> Result<(), BodyStop>
     requires shape { HasHeadShape header.now (T.pixels raster.old) }
     requires kind { IsByteType header.now.kind }
     requires valid { count_of (marks_of (T.pixels raster.old)) ≡ header.now.valid }
-    requires count { length symbols.old ≡ value_count header.now }
     requires values { value_count header.now ≤ 16777216 }
     requires few { place + length rest.now < 2 ^ 62 }
     requires sound { T.sound raster.old }
@@ -221,11 +230,10 @@ pub(crate) fn pour_plain<T: Target>(
     ensures sound { T.sound raster.new }
     ensures kept { T.kept raster.new ≡ T.kept raster.old }
 {
-    match read_codes(rest, place, symbols) {
-        Ok(()) => {
-            take_plain(symbols, raster);
-            Ok(())
+    match read_table(rest) {
+        Ok((codes, used)) => {
+            pour_plain_words(&rest[used..], place + used, &codes, header, raster)
         }
-        Err(stop) => Err(stop),
+        Err(fault) => refused(fault, place),
     }
 }

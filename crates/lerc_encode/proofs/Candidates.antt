@@ -12,7 +12,7 @@ use Rattle.micro_block.proofs.Steps.{by_sizes, sized}
 use Rattle.lerc_encode.specs.Codings.{coding_bytes, have_codes}
 use Rattle.lerc_encode.specs.Images as images
 use Rattle.lerc_encode.specs.Images.{CodedForm, blocks_bytes, mode_bytes, coded_form_bytes, coded_forms, chosen_coded_form, all_deltas, may_be_delta, may_be_plain}
-use Rattle.lerc_encode.specs.inside.Coded.{AreCodings, AreSymbols, HasSymbols, IsLying}
+use Rattle.lerc_encode.specs.inside.Coded.{AreCodings, AreSymbols, HasSymbols}
 use Rattle.lerc_encode.specs.inside.Choosing.{IsBase, IsChosen, named, form_at}
 use Rattle.lerc_encode.specs.inside.Blocked.{IsMeasured}
 use Rattle.lerc_encode.specs.Heads.{header_of}
@@ -20,7 +20,6 @@ use Rattle.lerc_encode.specs.declared.blocks.Measured.{Measured}
 use Rattle.lerc_encode.specs.declared.forms.ValueForm.{ValueForm}
 use Rattle.lerc_encode.specs.declared.codings.Coding.{Coding}
 use Rattle.lerc_encode.specs.declared.codings.Codings.{Codings}
-use Rattle.lerc_encode.specs.declared.codings.Symbols.{Symbols}
 use Rattle.lerc_encode.proofs.Forming.{small_is, large_is}
 use Rattle.lerc_encode.proofs.Standing.{MayBe}
 
@@ -59,11 +58,11 @@ chosen_may r version step = by (first_least (size_of r version step) (coded_form
 
 -- ---- the lengths
 
-coded_size : (r : Pixels) (version : Version) (step : ℕ) (Lie : Type 0) (wanted : Bool) (symbols : List ℕ) (s : Symbols) (form : CodedForm) → AreSymbols Lie wanted symbols s → size_of r version step form ≡ 2 + length (coding_bytes symbols)
-    → option_map (λ c. c.size + 2) s.coding ≡ option_map (size_of r version step) (allowed (wanted && have_codes symbols) form)
-coded_size r version step Lie wanted symbols s form are long = by s.coding are
+coded_size : (r : Pixels) (version : Version) (step : ℕ) (wanted : Bool) (symbols : List ℕ) (coding : Option Coding) (form : CodedForm) → AreSymbols wanted symbols coding → size_of r version step form ≡ 2 + length (coding_bytes symbols)
+    → option_map (λ c. c.size + 2) coding ≡ option_map (size_of r version step) (allowed (wanted && have_codes symbols) form)
+coded_size r version step wanted symbols coding form are long = by coding are
   where
-    by : (coding : Option Coding) → MatchOption coding ((wanted && have_codes symbols) ≡ false) (HasSymbols Lie wanted symbols s) → option_map (λ c. c.size + 2) coding ≡ option_map (size_of r version step) (allowed (wanted && have_codes symbols) form)
+    by : (coding : Option Coding) → MatchOption coding ((wanted && have_codes symbols) ≡ false) (HasSymbols wanted symbols) → option_map (λ c. c.size + 2) coding ≡ option_map (size_of r version step) (allowed (wanted && have_codes symbols) form)
     by None h = ap (λ (b : Bool). option_map (size_of r version step) (allowed b form)) (sym h)
     by (Some c) h =
         let is = h.coding_is.size_is in
@@ -71,14 +70,14 @@ coded_size r version step Lie wanted symbols s form are long = by s.coding are
         ap Some same ∙ ap (λ (b : Bool). option_map (size_of r version step) (allowed b form)) (sym h.holds)
 
 pub delta_size : (r : Pixels) (version : Version) (step : ℕ) (c : Codings) → AreCodings r version step c
-    → option_map (λ x. x.size + 2) c.deltas.coding ≡ option_map (size_of r version step) (allowed (may_be_delta r step) images.delta)
+    → option_map (λ x. x.size + 2) c.deltas ≡ option_map (size_of r version step) (allowed (may_be_delta r step) images.delta)
 unfolding coded_form_bytes
-delta_size r version step c are = coded_size r version step ⊥ (images.has_mode r step) (all_deltas r) c.deltas images.delta are.deltas (omega arith)
+delta_size r version step c are = coded_size r version step (images.has_mode r step) (all_deltas r) c.deltas images.delta are.deltas (omega arith)
 
 pub plain_size : (r : Pixels) (version : Version) (step : ℕ) (c : Codings) → AreCodings r version step c
-    → option_map (λ x. x.size + 2) c.plains.coding ≡ option_map (size_of r version step) (allowed (may_be_plain r version step) images.plain)
+    → option_map (λ x. x.size + 2) c.plains ≡ option_map (size_of r version step) (allowed (may_be_plain r version step) images.plain)
 unfolding coded_form_bytes
-plain_size r version step c are = coded_size r version step (IsLying r) (images.has_mode r step && images.is_v4 version) (plain_symbols r) c.plains images.plain are.plains (omega arith)
+plain_size r version step c are = coded_size r version step (images.has_mode r step && images.is_v4 version) (plain_symbols r) c.plains images.plain are.plains (omega arith)
 
 -- ---- the bytes
 
@@ -133,12 +132,11 @@ whole_least us ws k n part is = record {
 abbrev pub measured_len : ℕ → Option Measured → Option ℕ
 measured_len front found = option_map (λ m. 1 + front + m.size) found
 
--- the sizes as they are found, the blocks of 16 and of 8 no further than up to a number
-pub record AreFound (front a b8 b16 most most8 : ℕ) (small large : Option Measured) (d e : Option ℕ) : Type 0 where
-  pub small_is : MatchOption small (most8 < b8) (λ m. m.size ≡ b8)
+-- the sizes as they are found, the blocks no further than up to a number
+pub record AreFound (front a b8 b16 most : ℕ) (small large : Option Measured) (d e : Option ℕ) : Type 0 where
+  pub small_is : MatchOption small (most < b8) (λ m. m.size ≡ b8)
   pub large_is : MatchOption large (most < b16) (λ m. m.size ≡ b16)
   pub most_is : (most ≡ a) ⊎ ((d ≡ Some most) ⊎ (e ≡ Some most))
-  pub most8_is : MatchOption large (most8 ≡ most) (λ m. (most8 ≡ most) ⊎ (most8 ≡ m.size))
 
 abbrev sizes_found : ℕ → ℕ → Option Measured → Option Measured → Option ℕ → Option ℕ → List (Option ℕ)
 sizes_found front a small large d e = Some a ∷ measured_len front small ∷ measured_len front large ∷ d ∷ e ∷ []
@@ -155,9 +153,9 @@ over_most front a most n small large d e (inl same) low = (0, (a, (refl, omega (
 over_most front a most n small large d e (inr (inl same)) low = (3, (most, (same, low)))
 over_most front a most n small large d e (inr (inr same)) low = (4, (most, (same, low)))
 
-found_part : (front a b8 b16 most most8 : ℕ) (small large : Option Measured) (d e : Option ℕ) → AreFound front a b8 b16 most most8 small large d e
+found_part : (front a b8 b16 most : ℕ) (small large : Option Measured) (d e : Option ℕ) → AreFound front a b8 b16 most small large d e
     → IsPart (sizes_found front a small large d e) (all_sizes front a b8 b16 d e)
-found_part front a b8 b16 most most8 small large d e are = record { same = same; left = left }
+found_part front a b8 b16 most small large d e are = record { same = same; left = left }
   where
     us : List (Option ℕ)
     us = sizes_found front a small large d e
@@ -168,7 +166,7 @@ found_part front a b8 b16 most most8 small large d e are = record { same = same;
 
     same : (i n : ℕ) → get_or us i None ≡ Some n → get_or (all_sizes front a b8 b16 d e) i None ≡ Some n
     same zero n at = at
-    same (suc zero) n at = kept b8 n most8 small are.small_is at
+    same (suc zero) n at = kept b8 n most small are.small_is at
     same (suc (suc zero)) n at = kept b16 n most large are.large_is at
     same (suc (suc (suc i))) n at = at
 
@@ -176,13 +174,8 @@ found_part front a b8 b16 most most8 small large d e are = record { same = same;
     large_left n None is at = let e16 : 1 + front + b16 ≡ n = some_same _ _ at in inr (over_most front a most n small large d e are.most_is (omega (arith, is, e16)))
     large_left n (Some m) is at = inl (ap (λ x. Some (1 + front + x)) is ∙ at)
 
-    small_over : (n : ℕ) → most8 < b8 → 1 + front + b8 ≡ n → (found : Option Measured) → large ≡ found → MatchOption found (most8 ≡ most) (λ m. (most8 ≡ most) ⊎ (most8 ≡ m.size)) → IsOver us n
-    small_over n low e8 None at is = over_most front a most n small large d e are.most_is (omega (arith, is, low, e8))
-    small_over n low e8 (Some m) at (inl is) = over_most front a most n small large d e are.most_is (omega (arith, is, low, e8))
-    small_over n low e8 (Some m) at (inr is) = (2, (1 + front + m.size, (ap (measured_len front) at, omega (arith, is, low, e8))))
-
-    small_left : (n : ℕ) (found : Option Measured) → MatchOption found (most8 < b8) (λ m. m.size ≡ b8) → Some (1 + front + b8) ≡ Some n → (measured_len front found ≡ Some n) ⊎ IsOver us n
-    small_left n None is at = inr (small_over n is (some_same _ _ at) large refl are.most8_is)
+    small_left : (n : ℕ) (found : Option Measured) → MatchOption found (most < b8) (λ m. m.size ≡ b8) → Some (1 + front + b8) ≡ Some n → (measured_len front found ≡ Some n) ⊎ IsOver us n
+    small_left n None is at = let e8 : 1 + front + b8 ≡ n = some_same _ _ at in inr (over_most front a most n small large d e are.most_is (omega (arith, is, e8)))
     small_left n (Some m) is at = inl (ap (λ x. Some (1 + front + x)) is ∙ at)
 
     left : (i n : ℕ) → get_or (all_sizes front a b8 b16 d e) i None ≡ Some n → (get_or us i None ≡ Some n) ⊎ IsOver us n
@@ -235,18 +228,18 @@ pub measured_here : (h g : Header) (r : Pixels) (form : CodedForm) (named_form :
 measured_here h g r form named_form None is at e = absurd (is at)
 measured_here h g r form named_form (Some m) is at e = subst (λ (x : Header). IsMeasured x r m) (sym e) is
 
-pub chosen_is : (r : Pixels) (version : Version) (step front a b8 b16 most most8 : ℕ) (small large : Option Measured) (d e : Option ℕ) (us : List (Option ℕ)) (first : Option (ℕ × ℕ)) (p : ℕ × ℕ) (f : ValueForm) (codings : Codings)
-    → AreFound front a b8 b16 most most8 small large d e → us ≡ Some a ∷ measured_len front small ∷ measured_len front large ∷ d ∷ e ∷ []
+pub chosen_is : (r : Pixels) (version : Version) (step front a b8 b16 most : ℕ) (small large : Option Measured) (d e : Option ℕ) (us : List (Option ℕ)) (first : Option (ℕ × ℕ)) (p : ℕ × ℕ) (f : ValueForm) (codings : Codings)
+    → AreFound front a b8 b16 most small large d e → us ≡ Some a ∷ measured_len front small ∷ measured_len front large ∷ d ∷ e ∷ []
     → Some a ∷ Some (1 + front + b8) ∷ Some (1 + front + b16) ∷ d ∷ e ∷ [] ≡ map (option_map (size_of r version step)) (coded_forms r version step) → a ≤ 67108865
     → MatchOption first ((i n : ℕ) → get_or us i None ≡ Some n → ⊥) (λ q. IsFirstLeast (λ m. m) us q.0 q.1) → p ≡ unwrap_or first (0, 0)
     → f ≡ form_at p.0 → AreCodings r version step codings → MatchOption small Unit (IsMeasured (header_of r version step 8 0 0) r) → MatchOption large Unit (IsMeasured (header_of r version step 16 0 0) r)
     → IsChosen r version step (record { form = f; size = p.1; codings = codings; small = small; large = large })
 unfolding chosen_coded_form
-chosen_is r version step front a b8 b16 most most8 small large d e us None p f codings found same is few none at form are small_are large_are = absurd (none 0 a (ap (λ (xs : List (Option ℕ)). get_or xs 0 None) same))
-chosen_is r version step front a b8 b16 most most8 small large d e us (Some q) p f codings found same is few first_is at form_is are small_are large_are =
+chosen_is r version step front a b8 b16 most small large d e us None p f codings found same is few none at form are small_are large_are = absurd (none 0 a (ap (λ (xs : List (Option ℕ)). get_or xs 0 None) same))
+chosen_is r version step front a b8 b16 most small large d e us (Some q) p f codings found same is few first_is at form_is are small_are large_are =
     let size = size_of r version step in
     let here = subst (λ (xs : List (Option ℕ)). IsFirstLeast (λ m. m) xs q.0 q.1) same first_is in
-    let first = whole_least (sizes_found front a small large d e) (all_sizes front a b8 b16 d e) q.0 q.1 (found_part front a b8 b16 most most8 small large d e found) here in
+    let first = whole_least (sizes_found front a small large d e) (all_sizes front a b8 b16 d e) q.0 q.1 (found_part front a b8 b16 most small large d e found) here in
     let known : option_map size (get_or (coded_forms r version step) q.0 None) ≡ Some q.1 = sym (sized size (coded_forms r version step) q.0) ∙ ap (λ (xs : List (Option ℕ)). get_or xs q.0 None) (sym is) ∙ first.there in
     let there = placed r version step q.0 q.1 known in
     let taken : first_least size (coded_forms r version step) ≡ Some (named (form_at q.0)) = by_sizes size (coded_forms r version step) q.0 q.1 (named (form_at q.0)) there (subst (λ (xs : List (Option ℕ)). IsFirstLeast (λ m. m) xs q.0 q.1) is first) in

@@ -18,8 +18,7 @@ use Rattle.raster_values.specs.Raster.{Pixels, IsRaster, valid_count}
 use Rattle.raster_values.specs.Order.{IsMaskOf, mask_bit, marks_in}
 use Rattle.raster_values.specs.Flat.{marks_of}
 use Rattle.lerc_grammar.specs.Mask.{count_of, mask_size}
-use Rattle.lerc_encode.specs.Masks.{bit_of, mask_byte, packed, are_alike, mask_runs_of, mask_part}
-use Rattle.lerc_encode.specs.inside.Layout.{written_runs}
+use Rattle.lerc_encode.specs.Masks.{bit_of, mask_byte, packed, are_alike, mask_runs_of, mask_part, runs_unless}
 
 -- ---- the bytes of a mask
 
@@ -175,23 +174,15 @@ pub mixed_runs : (marks : List Bool) → are_alike marks ≡ false → mask_runs
 unfolding mask_runs_of
 mixed_runs marks e = ap (λ (b : Bool). if b then [] else chosen_runs (packed marks)) e
 
-pub written_few : (mask : List ℕ) → length mask ≤ 2097152 → length (written_runs mask) ≤ 6291458
-written_few [] few = omega arith
-written_few (byte ∷ bytes) few = let small = runs_small (byte ∷ bytes) in omega (arith, small, few)
+-- which runs are written
+pub taken_runs : (taken : Bool) (marks : List Bool) → taken ≡ true → runs_unless taken marks ≡ []
+taken_runs taken marks e = ap (λ (b : Bool). runs_unless b marks) e
 
-pub written_is : (mask : List ℕ) → 0 < length mask → written_runs mask ≡ chosen_runs mask
-written_is [] some = absurd (omega (arith, some))
-written_is (byte ∷ bytes) some = refl
+pub no_runs : (taken : Bool) (marks : List Bool) → taken ≡ false → are_alike marks ≡ true → runs_unless taken marks ≡ []
+no_runs taken marks e alike = ap (λ (b : Bool). runs_unless b marks) e ∙ alike_runs marks alike
 
-pub written_none : (mask : List ℕ) → length mask ≡ 0 → written_runs mask ≡ []
-written_none [] none = refl
-written_none (byte ∷ bytes) none = absurd (omega (arith, none))
-
-pub packed_runs : (marks : List Bool) → are_alike marks ≡ false → written_runs (packed marks) ≡ mask_runs_of marks
-packed_runs [] e = absurd (cc)
-packed_runs (m ∷ marks) e =
-    let long = length_packed (m ∷ marks) in
-    written_is (packed (m ∷ marks)) (omega (arith, long)) ∙ sym (mixed_runs (m ∷ marks) e)
+pub some_runs : (taken : Bool) (marks : List Bool) → taken ≡ false → are_alike marks ≡ false → runs_unless taken marks ≡ chosen_runs (packed marks)
+some_runs taken marks e mixed = ap (λ (b : Bool). runs_unless b marks) e ∙ mixed_runs marks mixed
 
 -- what is written
 pub none_written : (size : ℕ) (out old : List ℕ) → size ≡ 0 → length old ≡ 4 + size → out ≡ little_bytes 4 size ++ drop 4 old → out ≡ mask_part []

@@ -1,10 +1,8 @@
 -- Where blocks stand, from one to the next, and what is kept of each.
-use Rattle.std.proofs.Common.{◌≡◌, ℕ, ◌+◌, ◌-◌, ◌*◌, ◌/◌, ◌%◌, ◌<◌, ◌≤◌, Bool, false, List, ◌++◌, length, get_or, take, sym, ap, ◌∙◌, subst, arith, ◌⊎◌, inl, inr}
-use Rattle.std.specs.Prelude.{ℤ, ◌≤ℤ◌, ◌↔◌, IsTrue, All, map, set}
-use Rattle.std.proofs.lemmas.Bool.{cases_eq}
+use Rattle.std.proofs.Common.{◌≡◌, ℕ, ◌+◌, ◌-◌, ◌*◌, ◌/◌, ◌%◌, ◌<◌, ◌≤◌, Bool, List, ◌++◌, length, take, sym, ap, ◌∙◌, subst, arith}
+use Rattle.std.specs.Prelude.{ℤ, ◌≤ℤ◌, ◌↔◌, IsTrue, All, map}
 use Rattle.std.proofs.lemmas.Nat.{div-add-mod', div-mul-add, mod-mul-add, div_below, le-div, mod_below}
-use Rattle.std.proofs.lemmas.List.{get_or-set_same, get_or-set_other, length-map, take_at}
-use Rattle.std.proofs.Math.ListN.{length-set}
+use Rattle.std.proofs.lemmas.List.{length-map, take_at}
 use Rattle.raster_values.specs.declared.kind.PixelType.{PixelType}
 use Rattle.raster_values.specs.PixelType.{InRange, type_greatest}
 use Rattle.raster_values.specs.Distance.{IsDistance, distance_of, value_above}
@@ -19,7 +17,7 @@ use Rattle.micro_block.specs.ChosenBlock.{block_bytes, chosen_form}
 use Rattle.lerc_grammar.specs.Blocks.{blocks_across, block_col, coded_blocks, coded_values}
 use Rattle.lerc_encode.specs.Images.{coded_bytes}
 use Rattle.lerc_encode.specs.declared.blocks.Spot.{Spot}
-use Rattle.lerc_encode.specs.inside.Blocked.{AreFlags, HasTable, HasTableAt, IsBlocked, IsSpot, IsWithin, bytes_at, values_at}
+use Rattle.lerc_encode.specs.inside.Blocked.{HasTable, HasTableAt, IsBlocked, IsSpot, IsWithin, bytes_at, values_at}
 use Rattle.lerc_encode.proofs.Blocking.{block_fits, row_within, col_within, depth_within}
 
 -- ---- one number more
@@ -128,7 +126,7 @@ spot_within h r is k below spot at = record {
 pub bytes_there : (h : Header) (r : Pixels) (k : ℕ) (spot : Spot) → IsSpot h k spot → bytes_at h r spot ≡ coded_bytes h r k
 bytes_there h r k spot at = (λ t. block_bytes h.kind (at.col t) h.step (block_values r (at.row t) (at.col t) h.side (at.depth t)))
 
-form_there : (h : Header) (r : Pixels) (k : ℕ) (spot : Spot) → IsSpot h k spot
+pub form_there : (h : Header) (r : Pixels) (k : ℕ) (spot : Spot) → IsSpot h k spot
     → chosen_form h.kind spot.col h.step (block_values r spot.row spot.col h.side spot.d) ≡ chosen_form h.kind (block_col h k) h.step (coded_values h r k)
 form_there h r k spot at = (λ t. chosen_form h.kind (at.col t) h.step (block_values r (at.row t) (at.col t) h.side (at.depth t)))
 
@@ -137,24 +135,6 @@ table_there h r k spot b at is = subst (λ (form : micro.WrittenForm). IsTrue b 
 
 pub table_here : (h : Header) (r : Pixels) (k : ℕ) (spot : Spot) (b : Bool) → IsSpot h k spot → IsTrue b ↔ HasTable h r k → IsTrue b ↔ HasTableAt h r spot
 table_here h r k spot b at is = subst (λ (form : micro.WrittenForm). IsTrue b ↔ (form ≡ micro.table)) (sym (form_there h r k spot at)) is
-
--- ---- which have a table
-
-pub no_flags : (h : Header) (r : Pixels) (tables : List Bool) → AreFlags h r 0 tables
-no_flags h r tables = record { room = omega arith; each = λ k low. absurd (omega (arith, low)) }
-
-pub flags_more : (h : Header) (r : Pixels) (k : ℕ) (tables : List Bool) (b : Bool) → k < length tables → AreFlags h r k tables → IsTrue b ↔ HasTable h r k → AreFlags h r (k + 1) (set tables k b)
-flags_more h r k tables b within are is = record {
-  room = let long = length-set tables k b in omega (arith, long, within);
-  each = λ i low. by i low (cases_eq i k);
-}
-  where
-    before : (i : ℕ) → i < k + 1 → ((i ≡ k) → ⊥) → i < k
-    before i low other = omega (arith, low, other)
-
-    by : (i : ℕ) → i < k + 1 → (i ≡ k) ⊎ ((i ≡ k) → ⊥) → IsTrue (get_or (set tables k b) i false) ↔ HasTable h r i
-    by i low (inl same) = subst (λ j. IsTrue (get_or (set tables k b) j false) ↔ HasTable h r j) (sym same) (subst (λ (x : Bool). IsTrue x ↔ HasTable h r k) (sym (get_or-set_same tables k b false within)) is)
-    by i low (inr other) = subst (λ (x : Bool). IsTrue x ↔ HasTable h r i) (sym (get_or-set_other tables k i b false other)) (are.each i (before i low other))
 
 -- ---- what is gathered
 

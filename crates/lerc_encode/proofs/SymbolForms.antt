@@ -40,7 +40,7 @@ piece_at f w a (suc n) (suc d) long lt =
     ∙ ap (λ (u : List ℕ). take w (drop (d * w) u)) (drop_at (f a) rest w (long a))
     ∙ piece_at f w (a + 1) n d long (omega (arith, lt)) ∙ ap f same
 
-bytes_from : (xs : List ℕ) → All (λ x. x < 256) xs → AreBytes xs
+pub bytes_from : (xs : List ℕ) → All (λ x. x < 256) xs → AreBytes xs
 bytes_from xs low i = by (cases_lt i (length xs))
   where
     by : (i < length xs) ⊎ (length xs ≤ i) → get_or xs i 0 < 256
@@ -62,7 +62,7 @@ all_long r is =
     let turned : r.depth * valid_count r ≡ valid_count r * r.depth = omega arith in
     long ∙ ap (λ n. n * valid_count r) depths ∙ turned
 
-all_bytes : (r : Pixels) → IsRaster r → AreBytes (all_deltas r)
+pub all_bytes : (r : Pixels) → IsRaster r → AreBytes (all_deltas r)
 unfolding all_deltas
 all_bytes r is = bytes_joined (deltas r) (range_with_len 0 r.depth) (λ d. bytes_from (deltas r d) (deltas_low r d (deltas r d) is refl).1)
 

@@ -21,40 +21,13 @@ use Rattle.delta_mode.specs.Symbols.{symbol_of}
 use Rattle.delta_mode.specs.Deltas.{deltas, plain}
 use Rattle.huff_codes.proofs.ChosenTables.{laid_over}
 use Rattle.lerc_encode.specs.Codings.{have_codes}
-use Rattle.lerc_encode.specs.inside.Coded.{AreSymbols, AreThere, HasSymbols, IsCodingOf, IsLying}
+use Rattle.lerc_encode.specs.inside.Coded.{AreSymbols, AreThere, IsCodingOf, IsLying}
 use Rattle.lerc_encode.specs.declared.codings.Coding.{Coding}
-use Rattle.lerc_encode.specs.declared.codings.Symbols.{Symbols}
 use Rattle.lerc_encode.proofs.Extremes.{all_of, values_in_range}
 use Rattle.lerc_encode.proofs.Kept.{length_flat}
 use Rattle.lerc_encode.proofs.Packing.{all_on, count_marks, long_marks}
 use Rattle.lerc_encode.proofs.Runs.{one_more}
 use Rattle.lerc_encode.proofs.SymbolForms.{deltas_long}
-
--- ---- the symbols of all depths
-
-pub depth_more : (r : Pixels) → IsRaster r → (d count depth : ℕ) (out old new : List ℕ) → out ≡ flat_map (deltas r) (range_with_len 0 d) ++ drop (d * count) old → count ≡ valid_count r
-    → length old ≡ count * depth → d < depth → new ≡ deltas r d → put_mid (d * count) (d * count + count - d * count) out new ≡ flat_map (deltas r) (range_with_len 0 (d + 1)) ++ drop ((d + 1) * count) old
-depth_more r is d count depth out old new so_far valid room lt e =
-    let front = flat_map (deltas r) (range_with_len 0 d) in
-    let rest = drop (d * count) old in
-    let long : length front ≡ d * count = length_flat (deltas r) (valid_count r) (range_with_len 0 d) (deltas_long r is) ∙ (λ i. length-range_with_len 0 d i * sym valid i) in
-    let new_long : length new ≡ count = ap length e ∙ deltas_long r is d ∙ sym valid in
-    let within : d * count + count ≤ count * depth = fits d count depth lt in
-    let left = length-drop (d * count) old in
-    let taken : length (take count rest) ≡ count = length-take-le count rest (omega (arith, left, room, within)) in
-    let gap : d * count + count - d * count ≡ count = omega arith in
-    let behind : drop count rest ≡ drop ((d + 1) * count) old = drop-drop count (d * count) old ∙ (let n : d * count + count ≡ (d + 1) * count = omega arith in ap (λ m. drop m old) n) in
-    (λ i. put_mid (d * count) (gap i) ((so_far ∙ ap (λ (u : List ℕ). front ++ u) (sym (take-append-drop count rest))) i) new)
-    ∙ laid_over front (take count rest) (drop count rest) new (d * count) count long taken new_long
-    ∙ (λ i. front ++ (e i ++ behind i)) ∙ sym (append_assoc front (deltas r d) (drop ((d + 1) * count) old))
-    ∙ ap (λ (u : List ℕ). u ++ drop ((d + 1) * count) old) (sym (one_more (deltas r) 0 d d (omega arith)))
-  where
-    fits : (d count depth : ℕ) → d < depth → d * count + count ≤ count * depth
-    fits d count depth lt =
-        let m : (d + 1) * count ≤ depth * count = mul-le-mul_right count (omega (arith, lt)) in
-        let a : (d + 1) * count ≡ d * count + count = omega arith in
-        let b : depth * count ≡ count * depth = omega arith in
-        omega (arith, m, a, b)
 
 -- ---- what is written
 
@@ -66,16 +39,17 @@ behind_mode mode (x ∷ y ∷ zs) new all some e =
     end_written (0 ∷ mode ∷ []) zs new 2 (length (0 ∷ mode ∷ zs) - 2) refl (omega arith) ∙ ap (λ (u : List ℕ). 0 ∷ mode ∷ u) e
 
 -- symbols that are wanted and have codes are there with their coding
-pub symbols_there : (Lie : Type 0) (wanted : Bool) (symbols : List ℕ) (s : Symbols) → AreSymbols Lie wanted symbols s → (wanted && have_codes symbols) ≡ true → AreThere Lie symbols s
-symbols_there Lie wanted symbols s are may = by s.coding refl are
-  where
-    by : (coding : Option Coding) → s.coding ≡ coding → MatchOption coding ((wanted && have_codes symbols) ≡ false) (HasSymbols Lie wanted symbols s) → AreThere Lie symbols s
-    by None at h = absurd (let e : true ≡ false = sym may ∙ h in cc)
-    by (Some c) at h = record {
-      few = h.all_few;
-      same = h.all_are;
-      coded = subst (λ (o : Option Coding). MatchOption o ⊥ (IsCodingOf symbols)) (sym at) h.coding_is;
-    }
+pub symbols_there : (wanted : Bool) (symbols : List ℕ) (coding : Option Coding) → AreSymbols wanted symbols coding → (wanted && have_codes symbols) ≡ true → AreThere symbols coding
+symbols_there wanted symbols None h may = absurd (let e : true ≡ false = sym may ∙ h in cc)
+symbols_there wanted symbols (Some c) h may = h.coding_is
+
+-- the coding of symbols that are wanted
+pub wanted_symbols : (wanted : Bool) (symbols : List ℕ) (coding : Option Coding) → wanted ≡ true → MatchOption coding (have_codes symbols ≡ false) (IsCodingOf symbols) → AreSymbols wanted symbols coding
+wanted_symbols wanted symbols None on h = λ t. on t && h t
+wanted_symbols wanted symbols (Some c) on h = record { holds = λ t. on t && h.has t; coding_is = h }
+
+pub unwanted_symbols : (wanted : Bool) (symbols : List ℕ) → wanted ≡ false → AreSymbols wanted symbols None
+unwanted_symbols wanted symbols off = ap (λ b. b && have_codes symbols) off
 
 -- ---- symbols that lie in the raster
 
@@ -119,16 +93,3 @@ lying_few r is lie n e =
     let all : n ≡ r.rows * r.cols * r.depth * 1 = e ∙ ap (λ b. r.rows * r.cols * r.depth * b) one in
     let most = is.shape.size in
     omega (arith, all, most)
-
-pub lying_symbols : (Lie : Type 0) → Lie → (wanted : Bool) → wanted ≡ true → (symbols cells : List ℕ) → cells ≡ symbols → length cells ≤ 2 ^ 24 → (s : Symbols)
-    → MatchOption s.coding (have_codes cells ≡ false) (IsCodingOf cells) → AreSymbols Lie wanted symbols s
-lying_symbols Lie lie wanted on symbols cells e few s is = by s.coding is
-  where
-    by : (coding : Option Coding) → MatchOption coding (have_codes cells ≡ false) (IsCodingOf cells) → MatchOption coding ((wanted && have_codes symbols) ≡ false) (HasSymbols Lie wanted symbols s)
-    by None h = (λ t. on t && (ap have_codes (sym e) ∙ h) t)
-    by (Some c) h = record {
-      holds = (λ t. on t && (ap have_codes (sym e) ∙ h.has) t);
-      all_are = λ no. absurd (no lie);
-      all_few = subst (λ (xs : List ℕ). length xs ≤ 2 ^ 24) e few;
-      coding_is = subst (λ (xs : List ℕ). IsCodingOf xs c) e h;
-    }

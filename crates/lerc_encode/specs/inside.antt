@@ -1,7 +1,9 @@
 -- The words of private functions alone: no public clause cites them.
 pub mod Asked
 pub mod Fronts
+pub mod Flags
 pub mod Blocked
+pub mod Sides
 pub mod Coded
 pub mod Choosing
 pub mod Suits

@@ -16,7 +16,7 @@ ghost use Rattle.lerc_encode.specs.Ranges.{greatest_value};
 ghost use Rattle.lerc_encode.specs.inside.Layout.{IsSealed};
 
 use crate::blob::{LayFault, seal};
-use crate::masks::write_mask;
+use crate::masks::write_no_mask;
 use lerc_header::{Header, Step, Version, needs_v4};
 use raster_values::PixelType;
 
@@ -86,7 +86,7 @@ fn lay_alike(header: &Header, blob: &mut [u8])
     ensures { IsSealed header.now (mask_part []) blob.new }
 {
     let head = header.version.head_length().min(blob.len());
-    write_mask(&[], 0, &mut blob[head..]);
+    write_no_mask(&mut blob[head..]);
     seal(header, blob);
 }
 

@@ -14,7 +14,7 @@ ghost use Rattle.lerc_encode.specs.inside.Layout.{IsPlan, IsPlanOf, IsSealed, pl
 
 use crate::choosing::{Ending, ending_of};
 use crate::images::{image_len, side_of, write_image};
-use crate::masks::{mask_of, runs_size, write_mask};
+use crate::masks::{runs_size, write_mask};
 use crate::ranging::{Ranges, ranges_of, whole_range};
 use lerc_header::{Header, Step, Version, needs_v4, sum_behind, write_header};
 use outside_io::Bytes;
@@ -51,8 +51,8 @@ pub(crate) struct Plan {
     base: Header,
     /// The least and the greatest value of each depth.
     ranges: Ranges,
-    /// The bytes of the mask, where its runs are written, and how many bytes these take.
-    mask: Vec<u8>,
+    /// Whether the mask is taken from the raster before, and how many bytes its runs take.
+    taken: bool,
     runs: usize,
     /// How the image ends.
     ending: Ending,
@@ -94,17 +94,16 @@ pub(crate) fn plan_of<V: View>(
     requires { IsAsked (V.pixels raster.now) version step }
     ensures plan { IfOk result (λ p. IsPlan (V.pixels raster.now) version step p) }
     ensures runs { IfOk result (λ p.
-        planned_runs p ≡ runs_unless taken (marks_of (V.pixels raster.now))) }
+        planned_runs p (V.pixels raster.now) ≡ runs_unless taken (marks_of (V.pixels raster.now))) }
 {
     let ranges = ranges_of(alloc, raster)?;
-    let mask = mask_of(alloc, raster, taken)?;
     let base = base_header(raster, version, step, &ranges);
-    let runs = runs_size(&mask);
+    let runs = runs_size(raster, taken);
     let ending = ending_of(alloc, &base, &ranges, raster)?;
     Ok(Plan {
         base,
         ranges,
-        mask,
+        taken,
         runs,
         ending,
     })
@@ -135,7 +134,7 @@ fn write_behind<V: View>(plan: &Plan, raster: &V, out: &mut [u8])
     ensures { out.new ≡ planned_behind plan.now (V.pixels raster.now) }
 {
     let front = (4 + plan.runs).min(out.len());
-    write_mask(&plan.mask, plan.runs, &mut out[..front]);
+    write_mask(raster, plan.taken, plan.runs, &mut out[..front]);
     write_image(
         &plan.ending,
         &plan.base,
@@ -150,7 +149,7 @@ fn header_of<V: View>(plan: &Plan, raster: &V, size: usize) -> Header
     requires plan { IsPlanOf (V.pixels raster.now) plan.now }
     requires size { size ≡ length (planned_blob plan.now (V.pixels raster.now)) }
     requires few { size < 2 ^ 32 }
-    ensures { result ≡ header_with (planned_runs plan.now) (V.pixels raster.now) plan.now.base.version plan.now.base.step 0 }
+    ensures { result ≡ header_with (planned_runs plan.now (V.pixels raster.now)) (V.pixels raster.now) plan.now.base.version plan.now.base.step 0 }
 {
     Header {
         side: side_of(&plan.ending, &plan.base, raster),

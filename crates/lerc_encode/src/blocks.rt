@@ -1,6 +1,6 @@
 // The chosen blocks of a raster: how many bytes they take, which have a table, and their bytes.
 
-ghost use Rattle.std.specs.Prelude.{◌≡◌, ℕ, ◌+◌, ◌*◌, ◌<◌, ◌≤◌, ◌↔◌, ◌++◌, All, drop, length, map, take, IfOk, IsTrue, MatchOption};
+ghost use Rattle.std.specs.Prelude.{◌≡◌, ℕ, ◌+◌, ◌*◌, ◌<◌, ◌≤◌, ◌↔◌, ◌++◌, All, drop, length, map, take, IfOk, IsTrue};
 ghost use Rattle.lut_stuff.specs.Names.{AreNames};
 ghost use Rattle.lut_stuff.specs.Ranked.{AreRanked, Rises};
 ghost use Rattle.micro_block.specs.Frame.{IsBlockCtx};
@@ -8,27 +8,28 @@ ghost use Rattle.raster_values.specs.Distance.{IsDistance, value_above};
 ghost use Rattle.raster_values.specs.PixelType.{type_greatest};
 ghost use Rattle.lerc_grammar.specs.Blocks.{blocks_across, coded_blocks};
 ghost use Rattle.lerc_encode.specs.Images.{blocks_bytes};
-ghost use Rattle.lerc_encode.specs.inside.Blocked.{AreFlags, HasTableAt, IsBlocked, IsMeasured, IsSpot, IsWithin, bytes_at, values_at};
+ghost use Rattle.lerc_encode.specs.inside.Blocked.{AreFlags, HasTableAt, IsBlocked, IsSpot, IsWithin, bytes_at, values_at};
 
+use crate::flags::is_set;
 use lerc_header::Header;
 use lut_stuff::{Names, Ranks};
-use micro_block::{BlockCtx, BlockSize, named_size, write_ranked};
+use micro_block::{BlockCtx, write_ranked};
 use raster_view::View;
 use std::alloc::{AllocError, Global};
 
 /// The most values that a block may have.
-const MOST: usize = 256;
+pub(crate) const MOST: usize = 256;
 
 /// Where a coded block stands: its first row and column, and its depth.
 #[derive(Clone, Copy)]
-struct Spot {
-    row: u32,
-    col: u32,
-    d: u32,
+pub(crate) struct Spot {
+    pub(crate) row: u32,
+    pub(crate) col: u32,
+    pub(crate) d: u32,
 }
 
 /// Where the first block stands.
-const FIRST: Spot = Spot {
+pub(crate) const FIRST: Spot = Spot {
     row: 0,
     col: 0,
     d: 0,
@@ -39,15 +40,15 @@ const FIRST: Spot = Spot {
 pub(crate) struct Measured {
     /// How many bytes they take together.
     pub(crate) size: usize,
-    /// Which of them have a table: it would take long to find that again.
-    pub(crate) tables: Vec<bool>,
+    /// Which of them have a table, a flag for each: it would take long to find that again.
+    pub(crate) tables: Vec<u64>,
     /// The different values, as how far they are above the least of their type, in rising order,
     /// where these are few and far apart; else none.
     pub(crate) values: Vec<u32>,
 }
 
 /// How many blocks stand side by side.
-fn across<V: View>(h: &Header, raster: &V) -> usize
+pub(crate) fn across<V: View>(h: &Header, raster: &V) -> usize
     requires { IsBlocked h.now (V.pixels raster.now) }
     ensures value { result ≡ blocks_across h.now }
     ensures within { result ≤ h.now.cols }
@@ -58,7 +59,7 @@ fn across<V: View>(h: &Header, raster: &V) -> usize
 }
 
 /// How many blocks are coded.
-fn count<V: View>(h: &Header, raster: &V) -> usize
+pub(crate) fn count<V: View>(h: &Header, raster: &V) -> usize
     requires { IsBlocked h.now (V.pixels raster.now) }
     ensures value { result ≡ coded_blocks h.now }
     ensures few { result ≤ 16777216 }
@@ -69,7 +70,7 @@ fn count<V: View>(h: &Header, raster: &V) -> usize
 
 /// Where the block behind this one stands: at the next depth, else to the right, else at the left
 /// end of the next row of blocks.
-fn next_spot<V: View>(h: &Header, raster: &V, spot: Spot) -> Spot
+pub(crate) fn next_spot<V: View>(h: &Header, raster: &V, spot: Spot) -> Spot
     requires blocked { IsBlocked h.now (V.pixels raster.now) }
     requires within { IsWithin h.now spot }
     ensures { (k : ℕ) → IsSpot h.now k spot → IsSpot h.now (k + 1) result }
@@ -94,7 +95,7 @@ fn next_spot<V: View>(h: &Header, raster: &V, spot: Spot) -> Spot
 }
 
 /// What a block depends on besides its values. Its bytes do not depend on the top.
-fn context<V: View>(h: &Header, raster: &V, col: u32) -> BlockCtx
+pub(crate) fn context<V: View>(h: &Header, raster: &V, col: u32) -> BlockCtx
     requires { IsBlocked h.now (V.pixels raster.now) }
     ensures value { result ≡ record {
       kind = h.now.kind;
@@ -114,38 +115,16 @@ fn context<V: View>(h: &Header, raster: &V, col: u32) -> BlockCtx
 
 /// Puts the values of the block at a spot in front of `distances`, as how far each is above the
 /// least of its type, and answers how many these are.
-fn gather<V: View>(h: &Header, raster: &V, spot: Spot, distances: &mut [u32]) -> usize
+pub(crate) fn gather<V: View>(h: &Header, raster: &V, spot: Spot, distances: &mut [u32]) -> usize
     requires blocked { IsBlocked h.now (V.pixels raster.now) }
     requires within { IsWithin h.now spot }
-    requires room { length distances.old ≡ 256 }
-    ensures few { result ≤ 256 }
+    requires room { h.now.side * h.now.side ≤ length distances.old }
+    ensures few { result ≤ h.now.side * h.now.side }
     ensures fit { All (IsDistance h.now.kind) (take result distances.new) }
     ensures are { map (value_above h.now.kind) (take result distances.new)
         ≡ values_at h.now (V.pixels raster.now) spot }
 {
     raster.gather_distances(spot.row, spot.col, h.side, spot.d, distances)
-}
-
-/// How long the block at a spot is, and whether it has a table. `distances` is room for its values,
-/// and `names` has those of values before it.
-fn size_at<V: View>(
-    h: &Header,
-    raster: &V,
-    spot: Spot,
-    names: &mut Names,
-    distances: &mut [u32],
-) -> BlockSize
-    requires blocked { IsBlocked h.now (V.pixels raster.now) }
-    requires within { IsWithin h.now spot }
-    requires names { AreNames names.old }
-    requires room { length distances.old ≡ 256 }
-    ensures names { AreNames names.new }
-    ensures length { result.len ≡ length (bytes_at h.now (V.pixels raster.now) spot) }
-    ensures few { result.len ≤ 1025 }
-    ensures table { IsTrue result.has_table ↔ HasTableAt h.now (V.pixels raster.now) spot }
-{
-    let n = gather(h, raster, spot, distances);
-    named_size(&distances[..n], &context(h, raster, spot.col), names)
 }
 
 /// Writes the block at a spot over the front of `out`, and answers how many bytes it takes.
@@ -175,7 +154,7 @@ fn write_at<V: View>(
 }
 
 /// The values that have a name, in rising order, and none where there were too many.
-fn sorted_values(alloc: Global, names: &Names) -> Result<Vec<u32>, AllocError>
+pub(crate) fn sorted_values(alloc: Global, names: &Names) -> Result<Vec<u32>, AllocError>
     requires { AreNames names.now }
     ensures rises { IfOk result (λ values. Rises values.items) }
     ensures few { IfOk result (λ values. length values.items ≤ 256) }
@@ -188,47 +167,12 @@ fn sorted_values(alloc: Global, names: &Names) -> Result<Vec<u32>, AllocError>
     Ok(values)
 }
 
-/// What is known of all blocks. None where they take more than `most` bytes, for then they are not
-/// looked at to the end.
-pub(crate) fn measure<V: View>(
-    alloc: Global,
-    h: &Header,
-    raster: &V,
-    most: usize,
-) -> Result<Option<Measured>, AllocError>
-    requires { IsBlocked h.now (V.pixels raster.now) }
-    ensures { IfOk result (λ found. MatchOption found
-        (most < length (blocks_bytes h.now (V.pixels raster.now))) (IsMeasured h.now (V.pixels raster.now))) }
-{
-    let count = count(h, raster);
-    let mut tables = vec![in alloc; false; count]?;
-    let mut names = Names::new();
-    let mut distances = [0; MOST];
-    let mut spot = FIRST;
-    let mut size = 0;
-    for k in 0..count {
-        let found = size_at(h, raster, spot, &mut names, &mut distances);
-        size += found.len;
-        if size > most {
-            return Ok(None);
-        }
-        tables[k] = found.has_table;
-        spot = next_spot(h, raster, spot);
-    }
-    let values = sorted_values(alloc, &names)?;
-    Ok(Some(Measured {
-        size,
-        tables,
-        values,
-    }))
-}
-
 /// Writes all blocks into `out`, which has as many bytes as they take. The lists of tables of these
 /// values are found by their ranks.
 pub(crate) fn write_blocks<V: View>(
     h: &Header,
     raster: &V,
-    tables: &[bool],
+    tables: &[u64],
     values: &[u32],
     out: &mut [u8],
 )
@@ -248,7 +192,7 @@ pub(crate) fn write_blocks<V: View>(
             h,
             raster,
             spot,
-            tables[k],
+            is_set(tables, k),
             &mut ranks,
             &mut distances,
             &mut out[at..],

@@ -1,15 +1,16 @@
 // What is chosen for the image of a raster.
 
-ghost use Rattle.std.specs.Prelude.{◌≡◌, ◌&&◌, ◌⊎◌, IfOk, MatchOption, Some};
+ghost use Rattle.std.specs.Prelude.{◌≡◌, ◌≤◌, ◌&&◌, ◌⊎◌, IfOk, Some};
 ghost use Rattle.lerc_encode.specs.Images.{is_v4};
 ghost use Rattle.lerc_encode.specs.Ranges as ranges;
 ghost use Rattle.lerc_encode.specs.inside.Choosing as inside;
 ghost use Rattle.lerc_encode.specs.inside.Choosing.{AreRanges, IsBase, IsChosen, IsEnding};
 
-use crate::blocks::{Measured, measure};
+use crate::blocks::Measured;
 use crate::codings::{Codings, coded_form_len, codings_of};
 use crate::forms::{ValueForm, block_form_len, sweep_len, with_large};
 use crate::ranging::Ranges;
+use crate::sides::measure_sides;
 use lerc_header::{Header, Version};
 use micro_block::first_least;
 use raster_view::View;
@@ -54,21 +55,11 @@ fn form_at(place: usize) -> ValueForm
 
 /// The least of the sizes that are known before blocks are looked at.
 fn least_known(sweep: usize, deltas: Option<usize>, plains: Option<usize>) -> usize
-    ensures { (result ≡ sweep) ⊎ ((deltas ≡ Some result) ⊎ (plains ≡ Some result)) }
+    ensures one { (result ≡ sweep) ⊎ ((deltas ≡ Some result) ⊎ (plains ≡ Some result)) }
+    ensures few { result ≤ sweep }
 {
     let least = sweep.min(deltas.unwrap_or(sweep));
     least.min(plains.unwrap_or(sweep))
-}
-
-/// The most bytes that blocks of 8 may take and be the shortest.
-fn most_of_small(most: usize, large: &Option<Measured>) -> usize
-    ensures { MatchOption large.now (result ≡ most)
-        (λ m. (result ≡ most) ⊎ (result ≡ m.size)) }
-{
-    match large {
-        Some(found) => most.min(found.size),
-        None => most,
-    }
 }
 
 /// The form with the fewest bytes, of several the first. Blocks are measured no further than up to
@@ -77,18 +68,17 @@ fn choose<V: View>(alloc: Global, base: &Header, raster: &V) -> Result<Chosen, A
     requires { IsBase base.now (V.pixels raster.now) }
     ensures { IfOk result (IsChosen (V.pixels raster.now) base.now.version base.now.step) }
 {
-    let codings = codings_of(alloc, raster, base.version, base.step)?;
+    let codings = codings_of(raster, base.version, base.step);
     let sweep = sweep_len(raster);
     let deltas = coded_form_len(&codings.deltas);
     let plains = coded_form_len(&codings.plains);
     let most = least_known(sweep, deltas, plains);
     let large_base = with_large(base);
-    let large = measure(alloc, &large_base, raster, most)?;
-    let small = measure(alloc, base, raster, most_of_small(most, &large))?;
+    let sides = measure_sides(alloc, base, &large_base, raster, most)?;
     let sizes = [
         Some(sweep),
-        block_form_len(base, raster, &small),
-        block_form_len(&large_base, raster, &large),
+        block_form_len(base, raster, &sides.small),
+        block_form_len(&large_base, raster, &sides.large),
         deltas,
         plains,
     ];
@@ -97,8 +87,8 @@ fn choose<V: View>(alloc: Global, base: &Header, raster: &V) -> Result<Chosen, A
         form: form_at(place),
         size,
         codings,
-        small,
-        large,
+        small: sides.small,
+        large: sides.large,
     })
 }
 

@@ -1,23 +1,17 @@
 // The values of a raster of bytes as symbols, and these as code words.
 
-ghost use Rattle.std.specs.Prelude.{◌≡◌, ℕ, ◌+◌, ◌*◌, ◌^◌, ◌<◌, ◌≤◌, ◌↔◌, ◌&&◌, ◌∷◌, true, false, length, sum, IfOk, IsTrue, MatchOption, None};
+ghost use Rattle.std.specs.Prelude.{◌≡◌, ℕ, ◌+◌, ◌^◌, ◌≤◌, ◌&&◌, ◌∷◌, false, List, length, sum, IsTrue, MatchOption};
 ghost use Rattle.std.specs.Option.{option_map};
-ghost use Rattle.raster_values.specs.Raster.{IsRaster, valid_count};
 ghost use Rattle.delta_mode.specs.Symbols.{IsByteType};
-ghost use Rattle.delta_mode.specs.Deltas.{plain};
-ghost use Rattle.lerc_encode.specs.Codings.{coding_bytes, have_codes};
+ghost use Rattle.lerc_encode.specs.Codings.{coding_bytes, counts_of, have_codes};
 ghost use Rattle.lerc_encode.specs.Images as images;
-ghost use Rattle.lerc_encode.specs.Images.{all_deltas, is_v4};
-ghost use Rattle.lerc_encode.specs.inside.Coded.{AreCodings, AreSymbols, IsCodingOf, IsLying};
+ghost use Rattle.lerc_encode.specs.Images.{is_v4};
+ghost use Rattle.lerc_encode.specs.inside.Coded.{AreCodings, AreSymbols, IsCodingOf, mode_number, symbols_of};
 
-use delta_mode::{deltas_of, plain_of};
-use huff_codes::{
-    Lengths, count_symbols, counted_len, table_size, write_code_table, write_symbols,
-};
+use crate::symbols::{SymbolMode, count_mode, write_words};
+use huff_codes::{Lengths, counted_len, table_size, write_code_table};
 use lerc_header::Version;
-use raster_values::PixelType;
 use raster_view::View;
-use std::alloc::{AllocError, Global};
 
 /// The lengths of the codes of some symbols, and how many bytes their table and words take.
 #[derive(Drop)]
@@ -26,30 +20,22 @@ pub(crate) struct Coding {
     pub(crate) size: usize,
 }
 
-/// The symbols of all values in one order, unless they are the raster's bytes, and how they are
-/// coded, where they may be.
-#[derive(Drop)]
-pub(crate) struct Symbols {
-    pub(crate) all: Vec<u8>,
-    pub(crate) coding: Option<Coding>,
-}
-
-/// The symbols of the differences, and those of the values.
+/// How the symbols of the differences are coded, and those of the values, where they may be.
 #[derive(Drop)]
 pub(crate) struct Codings {
-    pub(crate) deltas: Symbols,
-    pub(crate) plains: Symbols,
+    pub(crate) deltas: Option<Coding>,
+    pub(crate) plains: Option<Coding>,
 }
 
-/// How symbols are coded. None where they have no codes.
-fn coding_of(symbols: &[u8]) -> Option<Coding>
-    requires { length symbols.now ≤ 2 ^ 24 }
-    ensures { MatchOption result (have_codes symbols.now ≡ false) (IsCodingOf symbols.now) }
+/// How symbols are coded that stand so often. None where they have no codes.
+fn coding_of(counts: &[u32; 256]) -> Option<Coding>
+    requires { sum counts.now ≤ 2 ^ 24 }
+    ensures { (symbols : List ℕ) → counts.now ≡ counts_of symbols
+        → MatchOption result (have_codes symbols ≡ false) (IsCodingOf symbols) }
 {
-    let counts = count_symbols(symbols);
-    match Lengths::of(&counts) {
+    match Lengths::of(counts) {
         Some(lengths) => {
-            let size = table_size(&lengths) + counted_len(&counts, &lengths);
+            let size = table_size(&lengths) + counted_len(counts, &lengths);
             Some(Coding { lengths, size })
         }
         None => None,
@@ -57,60 +43,60 @@ fn coding_of(symbols: &[u8]) -> Option<Coding>
 }
 
 /// Writes the code table of symbols and their code words over all of `out`.
-fn write_coding(coding: &Coding, symbols: &[u8], out: &mut [u8])
-    requires few { length symbols.now ≤ 2 ^ 24 }
-    requires coding { IsCodingOf symbols.now coding.now }
-    requires room { length out.old ≡ length (coding_bytes symbols.now) }
-    ensures { out.new ≡ coding_bytes symbols.now }
+fn write_coding<V: View>(mode: SymbolMode, coding: &Coding, raster: &V, out: &mut [u8])
+    requires kind { IsByteType (V.pixels raster.now).kind }
+    requires coding { IsCodingOf (symbols_of mode (V.pixels raster.now)) coding.now }
+    requires room { length out.old
+        ≡ length (coding_bytes (symbols_of mode (V.pixels raster.now))) }
+    ensures { out.new ≡ coding_bytes (symbols_of mode (V.pixels raster.now)) }
 {
+    // for the proof: `kind` ensures that the raster is a lawful one
+    let _kind = raster.kind();
     let table = table_size(&coding.lengths).min(out.len());
     write_code_table(&coding.lengths, &mut out[..table]);
-    write_symbols(symbols, &coding.lengths, &mut out[table..]);
+    write_words(mode, raster, &coding.lengths, &mut out[table..]);
+}
+
+/// The number that names the mode in a blob.
+fn number_of(mode: SymbolMode) -> u8
+    ensures { result ≡ mode_number mode }
+{
+    match mode {
+        SymbolMode::Deltas => 1,
+        SymbolMode::Plain => 2,
+    }
 }
 
 /// Writes the form of coded symbols: a sweep byte, the mode byte, the table and the words.
-pub(crate) fn write_coded_form(mode: u8, coding: &Option<Coding>, symbols: &[u8], out: &mut [u8])
-    requires few { length symbols.now ≤ 2 ^ 24 }
-    requires coding { MatchOption coding.now ⊥ (IsCodingOf symbols.now) }
-    requires room { length out.old ≡ length (0 ∷ mode ∷ coding_bytes symbols.now) }
-    ensures { out.new ≡ 0 ∷ mode ∷ coding_bytes symbols.now }
+pub(crate) fn write_coded_form<V: View>(
+    mode: SymbolMode,
+    coding: &Option<Coding>,
+    raster: &V,
+    out: &mut [u8],
+)
+    requires kind { IsByteType (V.pixels raster.now).kind }
+    requires coding { MatchOption coding.now ⊥
+        (IsCodingOf (symbols_of mode (V.pixels raster.now))) }
+    requires room { length out.old
+        ≡ length (0 ∷ mode_number mode ∷ coding_bytes (symbols_of mode (V.pixels raster.now))) }
+    ensures { out.new
+        ≡ 0 ∷ mode_number mode ∷ coding_bytes (symbols_of mode (V.pixels raster.now)) }
 {
     out[0] = 0;
-    out[1] = mode;
+    out[1] = number_of(mode);
     if let Some(coding) = coding {
-        write_coding(coding, symbols, &mut out[2..]);
+        write_coding(mode, coding, raster, &mut out[2..]);
     }
 }
 
 /// How many bytes the form of coded symbols takes.
-pub(crate) fn coded_form_len(symbols: &Symbols) -> Option<usize>
-    requires { MatchOption symbols.now.coding Unit (λ c. c.size ≤ 67110912) }
-    ensures { result ≡ option_map (λ c. c.size + 2) symbols.now.coding }
+pub(crate) fn coded_form_len(coding: &Option<Coding>) -> Option<usize>
+    requires { MatchOption coding.now Unit (λ c. c.size ≤ 67110912) }
+    ensures { result ≡ option_map (λ c. c.size + 2) coding.now }
 {
-    match &symbols.coding {
+    match coding {
         Some(coding) => Some(coding.size + 2),
         None => None,
-    }
-}
-
-/// How many symbols a raster has.
-fn symbol_count<V: View>(raster: &V) -> usize
-    ensures value { result ≡ valid_count (V.pixels raster.now) * (V.pixels raster.now).depth }
-    ensures few { result ≤ 2 ^ 24 }
-{
-    raster.valid_count() as usize * raster.depth() as usize
-}
-
-/// Writes the symbols of the differences of all depths, one depth behind the other.
-fn write_deltas<V: View>(raster: &V, out: &mut [u8])
-    requires kind { IsByteType (V.pixels raster.now).kind }
-    requires room { length out.old ≡ valid_count (V.pixels raster.now) * (V.pixels raster.now).depth }
-    ensures { out.new ≡ all_deltas (V.pixels raster.now) }
-{
-    let count = raster.valid_count() as usize;
-    for d in 0..raster.depth() {
-        let at = d as usize * count;
-        deltas_of(raster, d, &mut out[at..at + count]);
     }
 }
 
@@ -121,87 +107,27 @@ pub(crate) fn has_mode<V: View>(raster: &V, step: u64) -> bool
     raster.kind().bytes() == 1 && step == 1
 }
 
-/// No symbols.
-fn no_symbols(alloc: Global) -> Symbols
-    ensures { result.coding ≡ None }
-{
-    Symbols {
-        all: Vec::new(alloc),
-        coding: None,
-    }
-}
-
-/// The symbols of the differences, where they are wanted.
-fn delta_symbols<V: View>(alloc: Global, raster: &V, wanted: bool) -> Result<Symbols, AllocError>
+/// How the symbols of a mode are coded, where they are wanted.
+fn mode_coding<V: View>(mode: SymbolMode, raster: &V, wanted: bool) -> Option<Coding>
     requires { IsTrue wanted → IsByteType (V.pixels raster.now).kind }
-    ensures { IfOk result (AreSymbols ⊥ wanted (all_deltas (V.pixels raster.now))) }
+    ensures { AreSymbols wanted (symbols_of mode (V.pixels raster.now)) result }
 {
-    if !wanted {
-        return Ok(no_symbols(alloc));
-    }
-    let mut all = vec![in alloc; 0u8; symbol_count(raster)]?;
-    write_deltas(raster, &mut all);
-    let coding = coding_of(&all);
-    Ok(Symbols { all, coding })
-}
-
-/// Whether the plain symbols are the raster's bytes: all pixels are valid, and of u8.
-fn is_lying<V: View>(raster: &V) -> bool
-    ensures lies { IsTrue result ↔ IsLying (V.pixels raster.now) }
-    ensures sound { IsRaster (V.pixels raster.now) }
-{
-    match raster.kind() {
-        PixelType::U8 => raster.valid_count() == raster.rows() * raster.cols(),
-        _ => false,
-    }
-}
-
-/// The symbols of the values, where they are wanted.
-fn plain_symbols<V: View>(alloc: Global, raster: &V, wanted: bool) -> Result<Symbols, AllocError>
-    requires { IsTrue wanted → IsByteType (V.pixels raster.now).kind }
-    ensures { IfOk result (AreSymbols (IsLying (V.pixels raster.now)) wanted (plain (V.pixels raster.now))) }
-{
-    if !wanted {
-        return Ok(no_symbols(alloc));
-    }
-    if is_lying(raster) {
-        let coding = coding_of(raster.cells());
-        return Ok(Symbols {
-            all: Vec::new(alloc),
-            coding,
-        });
-    }
-    let mut all = vec![in alloc; 0u8; symbol_count(raster)]?;
-    plain_of(raster, &mut all);
-    let coding = coding_of(&all);
-    Ok(Symbols { all, coding })
-}
-
-/// The list of the plain symbols.
-pub(crate) fn plain_list<'a, V: View>(raster: &'a V, plains: &'a Symbols) -> &'a [u8]
-    requires { (IsLying (V.pixels raster.now) → ⊥) → plains.now.all.items ≡ plain (V.pixels raster.now) }
-    ensures { result.now ≡ plain (V.pixels raster.now) }
-{
-    if is_lying(raster) {
-        raster.cells()
+    if wanted {
+        coding_of(&count_mode(mode, raster))
     } else {
-        &plains.all
+        None
     }
 }
 
-/// The symbols of a raster's values, as far as the version and the step allow them.
-pub(crate) fn codings_of<V: View>(
-    alloc: Global,
-    raster: &V,
-    version: Version,
-    step: u64,
-) -> Result<Codings, AllocError>
-    ensures { IfOk result (AreCodings (V.pixels raster.now) version step) }
+/// How the symbols of a raster's values are coded, as far as the version and the step allow it.
+pub(crate) fn codings_of<V: View>(raster: &V, version: Version, step: u64) -> Codings
+    ensures { AreCodings (V.pixels raster.now) version step result }
 {
     let mode = has_mode(raster, step);
-    let deltas = delta_symbols(alloc, raster, mode)?;
-    let plains = plain_symbols(alloc, raster, mode && is_version_4(version))?;
-    Ok(Codings { deltas, plains })
+    Codings {
+        deltas: mode_coding(SymbolMode::Deltas, raster, mode),
+        plains: mode_coding(SymbolMode::Plain, raster, mode && is_version_4(version)),
+    }
 }
 
 /// Whether the version is 4.

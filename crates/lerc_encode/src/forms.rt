@@ -6,19 +6,17 @@ ghost use Rattle.raster_values.specs.Grid.{values_bytes};
 ghost use Rattle.lerc_header.specs.declared.header.Version.TheVariants.{V4};
 ghost use Rattle.raster_values.specs.Raster.{values_of};
 ghost use Rattle.lerc_grammar.specs.Blocks.{coded_blocks};
-ghost use Rattle.delta_mode.specs.Deltas.{plain};
 ghost use Rattle.lut_stuff.specs.Ranked.{Rises};
-ghost use Rattle.lerc_encode.specs.Codings.{coding_bytes};
-ghost use Rattle.lerc_encode.specs.Images.{all_deltas, blocks_bytes, coded_form_bytes, mode_bytes};
+ghost use Rattle.lerc_encode.specs.Images.{blocks_bytes, coded_form_bytes, mode_bytes};
 ghost use Rattle.lerc_encode.specs.Ranges.{lists_bytes};
 ghost use Rattle.lerc_encode.specs.inside.Blocked.{AreFlags, IsBlocked, IsMeasured};
-ghost use Rattle.lerc_encode.specs.inside.Coded.{AreThere, IsLying};
 ghost use Rattle.lerc_encode.specs.inside.Choosing.{AreRanges, IsBase, IsChosen, named};
 
 use crate::blocks::{Measured, write_blocks};
 use crate::choosing::Chosen;
-use crate::codings::{Symbols, has_mode, plain_list, write_coded_form};
+use crate::codings::{has_mode, write_coded_form};
 use crate::ranging::Ranges;
+use crate::symbols::SymbolMode;
 use lerc_header::{Header, Version};
 use raster_values::write_values;
 use raster_view::View;
@@ -83,7 +81,7 @@ fn write_sweep<V: View>(raster: &V, out: &mut [u8])
 }
 
 /// Writes the form of blocks, of which those that are told have tables, some of these values.
-fn write_measured<V: View>(h: &Header, raster: &V, tables: &[bool], values: &[u32], out: &mut [u8])
+fn write_measured<V: View>(h: &Header, raster: &V, tables: &[u64], values: &[u32], out: &mut [u8])
     requires blocked { IsBlocked h.now (V.pixels raster.now) }
     requires tables { AreFlags h.now (V.pixels raster.now) (coded_blocks h.now) tables.now }
     requires rises { Rises values.now }
@@ -114,24 +112,6 @@ fn write_block_form<V: View>(h: &Header, raster: &V, found: &Option<Measured>, o
     }
 }
 
-/// Writes the differences in code words.
-fn write_delta_form<V: View>(deltas: &Symbols, raster: &V, out: &mut [u8])
-    requires there { AreThere ⊥ (all_deltas (V.pixels raster.now)) deltas.now }
-    requires room { length out.old ≡ length (0 ∷ 1 ∷ coding_bytes (all_deltas (V.pixels raster.now))) }
-    ensures { out.new ≡ 0 ∷ 1 ∷ coding_bytes (all_deltas (V.pixels raster.now)) }
-{
-    write_coded_form(1, &deltas.coding, &deltas.all, out);
-}
-
-/// Writes the plain symbols in code words.
-fn write_plain_form<V: View>(plains: &Symbols, raster: &V, out: &mut [u8])
-    requires there { AreThere (IsLying (V.pixels raster.now)) (plain (V.pixels raster.now)) plains.now }
-    requires room { length out.old ≡ length (0 ∷ 2 ∷ coding_bytes (plain (V.pixels raster.now))) }
-    ensures { out.new ≡ 0 ∷ 2 ∷ coding_bytes (plain (V.pixels raster.now)) }
-{
-    write_coded_form(2, &plains.coding, plain_list(raster, plains), out);
-}
-
 /// Writes the chosen form over all of `out`.
 pub(crate) fn write_form<V: View>(chosen: &Chosen, base: &Header, raster: &V, out: &mut [u8])
     requires base { IsBase base.now (V.pixels raster.now) }
@@ -147,8 +127,12 @@ pub(crate) fn write_form<V: View>(chosen: &Chosen, base: &Header, raster: &V, ou
         ValueForm::LargeBlocks => {
             write_block_form(&with_large(base), raster, &chosen.large, out)
         }
-        ValueForm::Delta => write_delta_form(&chosen.codings.deltas, raster, out),
-        ValueForm::Plain => write_plain_form(&chosen.codings.plains, raster, out),
+        ValueForm::Delta => {
+            write_coded_form(SymbolMode::Deltas, &chosen.codings.deltas, raster, out)
+        }
+        ValueForm::Plain => {
+            write_coded_form(SymbolMode::Plain, &chosen.codings.plains, raster, out)
+        }
     }
 }
 

@@ -12,11 +12,14 @@ mod blob;
 mod blocks;
 mod choosing;
 mod codings;
+mod flags;
 mod forms;
 mod images;
 mod laws;
 mod masks;
 mod ranging;
+mod sides;
+mod symbols;
 
 pub use alike::encode_alike_over;
 pub use bands::encode_bands;

@@ -4,5 +4,6 @@ pub mod Stops
 pub mod Decided
 mod Steps
 mod Equal
+mod Endings
 pub mod Chosen
 mod Writing

@@ -68,6 +68,22 @@ put_keeps_length out new end within as_long =
 pub written_none : (mask out : List ℕ) → length out ≡ length (chosen_runs mask) → Written mask out 0 0
 written_none mask out room = record { within = omega arith; room = omega arith; told = refl }
 
+-- the first piece fits in what is left
+pub written_room : (mask out : List ℕ) (at end : ℕ) (choice : Choice) → at < length mask → Written mask out at end → IsFirstChoice (drop at mask) choice → size_in choice ≤ length (take (length out - end) (drop end out))
+written_room mask out at end choice below w first =
+    let left = flat_map piece_bytes (chosen_pieces (drop (at + count_in choice) mask)) in
+    let piece = piece_bytes (piece_of (drop at mask) choice) in
+    omega (
+      arith,
+      w.room,
+      ap (λ xs. length (xs ++ end_mark)) (runs_more_at mask at choice below first),
+      length-append (piece ++ left) end_mark,
+      length-append piece left,
+      length-written (drop at mask) choice first,
+      ap length (take_rest out end),
+      length-drop end out,
+    )
+
 pub written_more : (mask out new rest : List ℕ) (at end : ℕ) (choice : Choice) → at < length mask → Written mask out at end → IsFirstChoice (drop at mask) choice
     → new ≡ piece_bytes (piece_of (drop at mask) choice) ++ rest → length new ≡ length (take (length out - end) (drop end out))
     → Written mask (put_mid end (length out - end) out new) (at + count_in choice) (end + size_in choice)

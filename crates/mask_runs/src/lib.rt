@@ -14,4 +14,4 @@ pub use laws::{
     runs_are_determined,
 };
 pub use read::{RunFault, read_runs};
-pub use write::{runs_len, write_runs};
+pub use write::{runs_len, runs_len_with, write_runs, write_runs_with};

@@ -17,3 +17,4 @@ mod ShortTables
 mod InPlace
 mod KeptBounds
 mod FarApart
+pub mod Permuted

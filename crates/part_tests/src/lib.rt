@@ -34,4 +34,6 @@ mod steps;
 #[cfg(test)]
 mod stuffed_bits;
 #[cfg(test)]
+mod symbol_pieces;
+#[cfg(test)]
 mod symbols;

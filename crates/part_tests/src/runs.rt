@@ -3,7 +3,7 @@
 ghost use Rattle.std.specs.Prelude.{◌≤◌, length};
 
 use crate::same::same;
-use mask_runs::{RunFault, read_runs, runs_len, write_runs};
+use mask_runs::{RunFault, read_runs, runs_len, runs_len_with, write_runs, write_runs_with};
 use std::process::Abort;
 
 /// The length of the longest mask.
@@ -43,6 +43,25 @@ fn expect_chosen(rt: &impl Abort, mask: &[u8], bytes: &[u8]) {
     let size = write_front(rt, mask, &mut room);
     same(rt, "the runs", &room[..size], bytes);
     expect_read(rt, bytes, mask);
+}
+
+/// Writes the chosen runs of a mask with another last byte over the front of `out`; how many bytes
+/// they take.
+fn write_front_with(rt: &impl Abort, mask: &[u8], last: u8, out: &mut [u8]) -> usize
+    ensures { result ≤ length out.new }
+{
+    assert!(rt; mask.len() <= MOST);
+    let size = runs_len_with(mask, last);
+    assert!(rt; size <= out.len());
+    write_runs_with(mask, last, &mut out[..size]);
+    size
+}
+
+/// These are the chosen runs of the mask with `last` for its last byte.
+fn expect_chosen_with(rt: &impl Abort, mask: &[u8], last: u8, bytes: &[u8]) {
+    let mut room = [0u8; 16];
+    let size = write_front_with(rt, mask, last, &mut room);
+    same(rt, "the runs", &room[..size], bytes);
 }
 
 /// Bytes, the length of a mask, and the place of their first fault as runs of such a mask.
@@ -108,6 +127,40 @@ const CHOSEN: &[(&[u8], &[u8])] = &[
 fn the_chosen_runs_are_written_and_read(rt: HostRuntime) {
     for (mask, runs) in CHOSEN {
         expect_chosen(&rt, mask, runs);
+    }
+}
+
+/// Masks, other last bytes, and the chosen runs of the mask with that one.
+const WITH_LAST: &[(&[u8], u8, &[u8])] = &[
+    (&[], 9, &[0x00, 0x80]),
+    (&[0xff], 0x80, &[0x01, 0x00, 0x80, 0x00, 0x80]),
+    // at the end of a literal, of a repeat, behind a repeat that it ended, and with four before it
+    (&[0xef, 0xff], 0x80, &[0x02, 0x00, 0xef, 0x80, 0x00, 0x80]),
+    (&[7, 7, 7, 7, 8], 7, &[0xfb, 0xff, 7, 0x00, 0x80]),
+    (
+        &[7, 7, 7, 7, 7, 7],
+        8,
+        &[0xfb, 0xff, 7, 0x01, 0x00, 8, 0x00, 0x80],
+    ),
+    (
+        &[7, 7, 7, 7, 7],
+        8,
+        &[0x05, 0x00, 7, 7, 7, 7, 8, 0x00, 0x80],
+    ),
+    // a repeat that begins behind a literal
+    (
+        &[1, 7, 7, 7, 7, 0],
+        7,
+        &[0x01, 0x00, 1, 0xfb, 0xff, 7, 0x00, 0x80],
+    ),
+    // the last byte is that which stands there
+    (&[1, 2, 3], 3, &[0x03, 0x00, 1, 2, 3, 0x00, 0x80]),
+];
+
+#[test]
+fn another_last_byte_is_written(rt: HostRuntime) {
+    for (mask, last, runs) in WITH_LAST {
+        expect_chosen_with(&rt, mask, *last, runs);
     }
 }
 

@@ -77,6 +77,48 @@ fn range(rt: &impl Abort, view: &impl View, d: u32) -> Option<(i64, i64)> {
     view.range(d)
 }
 
+/// Whether the bit of a pixel is 1, of 33 pixels at most.
+fn bit(rt: &impl Abort, mask: &[u8], k: usize) -> bool {
+    assert!(rt; k <= 33 && k / 8 < mask.len());
+    (mask[k / 8] >> (7 - k % 8)) % 2 == 1
+}
+
+/// The marks of `count` pixels from a place on are those of the bits of a mask.
+fn shows_run(rt: &impl Abort, view: &impl View, mask: &[u8], from: usize, count: usize) {
+    let rows = view.rows() as usize;
+    let cols = view.cols() as usize;
+    assert!(rt; rows <= 33 && cols <= 33 && from <= 33 && count <= 33);
+    assert!(rt; from + count <= rows * cols);
+    let mut room = [false; 33];
+    let marks = &mut room[..count];
+    view.marks_from(from, marks);
+    for i in 0..marks.len() {
+        same(rt, from + i, marks[i], bit(rt, mask, from + i));
+    }
+}
+
+/// Those of runs of several lengths from each place on, of `places` pixels.
+fn shows_marks(rt: &impl Abort, view: &impl View, mask: &[u8], places: usize) {
+    assert!(rt; places <= 33);
+    for from in 0..places {
+        shows_run(rt, view, mask, from, (places - from) / 2);
+        shows_run(rt, view, mask, from, places - from);
+    }
+}
+
+/// The mask of a view lies in memory, whatever its bits behind the last pixel: where not every pixel is
+/// valid.
+fn lends_mask(rt: &impl Abort, view: &impl View, mask: &[u8], places: usize) {
+    let rows = view.rows();
+    let cols = view.cols();
+    assert!(rt; rows <= 33 && cols <= 33);
+    if view.valid_count() < rows * cols {
+        let lent = view.mask_slice();
+        same(rt, "the length", lent.len(), mask.len());
+        shows_marks(rt, view, lent, places);
+    }
+}
+
 /// Two views show the same in the blocks that begin in a row.
 fn agree_in_row(rt: &impl Abort, one: &impl View, other: &impl View, row: u32, d: u32) {
     for col in 0..one.cols() {
@@ -135,6 +177,9 @@ fn masked(
     raster.put_cells(bytes);
     let seen = Seen::over(kind, rows, cols, depth, mask, bytes);
     agree(rt, &seen, &raster, pixels - 2);
+    shows_marks(rt, &seen, mask, pixels);
+    lends_mask(rt, &seen, mask, pixels);
+    lends_mask(rt, &raster, mask, pixels);
 }
 
 /// The same of arrays with no mask: every pixel is valid.
@@ -156,6 +201,7 @@ fn in_each_shape(rt: &impl Abort, alloc: Global, kind: PixelType) {
     masked(rt, alloc, kind, (1, 33, 1), b"\x7f\xc8\xff\x01\xff");
     masked(rt, alloc, kind, (33, 1, 1), b"\x00\xff\xa5\xff\x7f");
     masked(rt, alloc, kind, (3, 9, 1), b"\xff\x80\x3c\x1f");
+    masked(rt, alloc, kind, (3, 9, 1), b"\xff\x80\x3c\x60");
     masked(rt, alloc, kind, (11, 1, 3), b"\x93\x7f");
     masked(rt, alloc, kind, (1, 11, 3), b"\xff\xff");
     masked(rt, alloc, kind, (1, 11, 3), b"\x00\x1f");

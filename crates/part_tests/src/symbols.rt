@@ -37,10 +37,10 @@ fn put(rt: &impl Abort, raster: &mut Raster, row: u32, col: u32, d: u32, value: 
 }
 
 /// Values of valid pixels, each behind its row, its column and its depth.
-type Placed = &'static [(u32, u32, u32, i64)];
+pub(crate) type Placed = &'static [(u32, u32, u32, i64)];
 
 /// A raster of which these pixels are valid and have these values.
-fn raster_of(
+pub(crate) fn raster_of(
     rt: &impl Abort,
     alloc: Global,
     kind: PixelType,
@@ -288,7 +288,7 @@ fn a_depth_has_its_own_predictors_and_changes_alone(rt: HostRuntime) {
 }
 
 /// Two rows of two pixels with three depths, all valid.
-const THREE_DEPTHS: Placed = &[
+pub(crate) const THREE_DEPTHS: Placed = &[
     (0, 0, 0, 10),
     (0, 1, 0, 12),
     (1, 0, 0, 9),
@@ -312,7 +312,7 @@ fn each_depth_of_a_full_raster_has_its_own_predictors(rt: HostRuntime) {
 }
 
 /// A column of four pixels with three depths, of which the third pixel is not valid.
-const MASKED_COLUMN: Placed = &[
+pub(crate) const MASKED_COLUMN: Placed = &[
     (0, 0, 0, 10),
     (1, 0, 0, 12),
     (3, 0, 0, 20),
@@ -433,4 +433,164 @@ fn pieces_of_valid_pixels_or_of_none_have_their_symbols(rt: HostRuntime) {
     for (place, symbol) in CLEARED_SYMBOLS {
         expect_symbol(&rt, &symbols, *place, *symbol);
     }
+}
+
+/// Two rows of 400 pixels of a value, but for those of `BROKEN_VALUES`. In the first row pixel 200 is
+/// not valid, nor are those from 256 to 383: its pieces of 128 are all valid, or not at all, or have
+/// one that is not.
+fn broken_rows(rt: &impl Abort, alloc: Global, kind: PixelType, value: i64) -> Raster {
+    let mut raster = blank(rt, alloc, kind, (2, 400, 1));
+    fill(rt, &mut raster, value);
+    clear(rt, &mut raster, 0, 200, 201);
+    clear(rt, &mut raster, 0, 256, 384);
+    raster
+}
+
+/// The pixels that have another value than 7.
+const BROKEN_VALUES: Placed = &[(0, 201, 0, 5), (0, 384, 0, 9), (1, 0, 0, 3), (1, 300, 0, 8)];
+
+/// Some that have 7, or are not valid.
+const UNBROKEN_VALUES: Placed = &[
+    (0, 0, 0, 7),
+    (0, 127, 0, 7),
+    (0, 128, 0, 7),
+    (0, 200, 0, 0),
+    (0, 202, 0, 7),
+    (0, 255, 0, 7),
+    (0, 256, 0, 0),
+    (0, 383, 0, 0),
+    (0, 385, 0, 7),
+    (0, 399, 0, 7),
+    (1, 1, 0, 7),
+    (1, 128, 0, 7),
+    (1, 301, 0, 7),
+    (1, 399, 0, 7),
+];
+
+/// The symbols of these rows of u8 at some of their places; those of i8 are 128 more.
+const BROKEN_SYMBOLS: &[(usize, u8)] = &[
+    (0, 7),
+    (1, 0),
+    (127, 0),
+    (128, 0),
+    (199, 0),
+    (200, 254),
+    (201, 2),
+    (254, 0),
+    (255, 2),
+    (256, 254),
+    (257, 0),
+    (270, 0),
+    (271, 252),
+    (272, 4),
+    (399, 0),
+    (571, 1),
+    (572, 255),
+    (670, 0),
+];
+
+/// The symbols of the rows are these, with `added`, and give the values back to rows of zeros.
+fn go_both_ways(rt: &impl Abort, alloc: Global, kind: PixelType, added: u8) {
+    let mut raster = broken_rows(rt, alloc, kind, 7);
+    for (row, col, d, value) in BROKEN_VALUES {
+        put(rt, &mut raster, *row, *col, *d, *value);
+    }
+    let mut symbols = [0u8; 671];
+    write_deltas(rt, &raster, 0, &mut symbols);
+    for (place, symbol) in BROKEN_SYMBOLS {
+        expect_symbol(rt, &symbols, *place, symbol.wrapping_add(added));
+    }
+    let mut other = broken_rows(rt, alloc, kind, 0);
+    take_deltas(rt, &symbols, &mut other, 0);
+    expect_all(rt, &other, BROKEN_VALUES);
+    expect_all(rt, &other, UNBROKEN_VALUES);
+}
+
+#[test]
+fn pieces_of_128_pixels_of_both_types_go_both_ways(rt: HostRuntime) {
+    go_both_ways(&rt, rt.alloc(), PixelType::U8, 0);
+    go_both_ways(&rt, rt.alloc(), PixelType::I8, 128);
+}
+
+/// A row of 300 pixels of three depths, of which two are not valid.
+fn deep_row(rt: &impl Abort, alloc: Global, value: i64) -> Raster {
+    let mut raster = blank(rt, alloc, PixelType::I8, (1, 300, 3));
+    fill(rt, &mut raster, value);
+    clear(rt, &mut raster, 0, 1, 2);
+    clear(rt, &mut raster, 0, 256, 257);
+    raster
+}
+
+/// Some of its values, where all others are 7.
+const DEEP_VALUES: Placed = &[
+    (0, 0, 0, -128),
+    (0, 0, 1, 7),
+    (0, 0, 2, 1),
+    (0, 2, 0, 2),
+    (0, 255, 2, 3),
+    (0, 257, 0, 4),
+    (0, 257, 1, 7),
+    (0, 299, 1, 5),
+    (0, 299, 2, 127),
+];
+
+/// Its plain symbols at some of their places.
+const DEEP_SYMBOLS: &[(usize, u8)] = &[
+    (0, 0),
+    (1, 135),
+    (2, 129),
+    (3, 130),
+    (4, 135),
+    (764, 131),
+    (765, 132),
+    (766, 135),
+    (892, 133),
+    (893, 255),
+];
+
+/// Writes the plain symbols of a raster.
+fn write_plain(rt: &impl Abort, raster: &Raster, out: &mut [u8]) {
+    assert!(rt; raster.kind().bytes() == 1);
+    let values = raster.valid_count() as usize * raster.depth() as usize;
+    assert!(rt; out.len() == values);
+    plain_of(raster, out);
+}
+
+#[test]
+fn plain_symbols_of_more_than_256_pixels_go_both_ways(rt: HostRuntime) {
+    let mut raster = deep_row(&rt, rt.alloc(), 7);
+    for (row, col, d, value) in DEEP_VALUES {
+        put(&rt, &mut raster, *row, *col, *d, *value);
+    }
+    let mut symbols = [0u8; 894];
+    write_plain(&rt, &raster, &mut symbols);
+    for (place, symbol) in DEEP_SYMBOLS {
+        expect_symbol(&rt, &symbols, *place, *symbol);
+    }
+    let mut other = deep_row(&rt, rt.alloc(), 0);
+    take_plain(&rt, &symbols, &mut other);
+    expect_all(&rt, &other, DEEP_VALUES);
+    expect_all(&rt, &other, &[(0, 1, 2, 0), (0, 256, 0, 0), (0, 298, 2, 7)]);
+}
+
+/// Three pixels of 40,000 depths, of which the first is not valid: a piece of symbols has one pixel.
+#[test]
+fn plain_symbols_of_many_depths_are_given_pixel_by_pixel(rt: HostRuntime) {
+    let mut raster = blank(&rt, rt.alloc(), PixelType::U8, (1, 3, 40000));
+    fill(&rt, &mut raster, 0);
+    clear(&rt, &mut raster, 0, 0, 1);
+    let mut symbols = vec![in rt.alloc(); 5u8; 80000].expect(&rt, "memory");
+    assert!(rt; symbols.len() == 80000);
+    symbols[39999] = 9;
+    symbols[40000] = 1;
+    take_plain(&rt, &symbols, &mut raster);
+    let values = &[
+        (0, 0, 39999, 0),
+        (0, 1, 0, 5),
+        (0, 1, 39999, 9),
+        (0, 2, 0, 1),
+        (0, 2, 1, 5),
+        (0, 2, 39999, 5),
+    ];
+    expect_all(&rt, &raster, values);
 }

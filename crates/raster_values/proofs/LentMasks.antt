@@ -28,6 +28,10 @@ count_with count valid bytes h =
     (λ (other : valid ≡ count → ⊥). ap (count_by (λ m. m)) (some_with count valid bytes other) ∙ sym (h.bits other).counted)
     (cases_eq valid count)
 
+-- where not every pixel is marked the bits are looked at
+pub not_all : (count valid : ℕ) (bytes : List ℕ) → AreMarksWith count valid bytes → count_by (λ m. m) (marks_with count valid bytes) < length (marks_with count valid bytes) → valid ≡ count → ⊥
+not_all count valid bytes h few same = omega (arith, few, same, count_with count valid bytes h, length-marks_with count valid bytes)
+
 -- bits that say the marks, and further ones that are 0
 pub bits_of : (n : ℕ) (mask : List ℕ) (marks : List Bool) → marks_in n mask ≡ marks → ((k : ℕ) → n ≤ k → mask_bit mask k ≡ false) → (k : ℕ) → mask_bit mask k ≡ get_or marks k false
 bits_of n mask marks is spare k =

@@ -2,7 +2,7 @@
 
 ghost use Rattle.std.specs.Prelude.{◌≡◌, ℕ, ◌+◌, ◌*◌, ◌/◌, ◌^◌, ◌<◌, ◌≤◌, ◌&&◌, length, get_or, nat_lt, true, false};
 ghost use Rattle.raster_values.specs.Order.{marks_in, mask_bit};
-ghost use Rattle.raster_values.specs.inside.Bits.{word_bit};
+ghost use Rattle.raster_values.specs.inside.Bits.{byte_bit, word_bit};
 
 use super::mask::{Run, equal_from, front_bits};
 use byteorder::{BigEndian, ByteOrder};
@@ -92,15 +92,36 @@ pub(super) fn run_after(bytes: &[u8], at: usize, limit: usize) -> Run
     Run { start, end }
 }
 
-/// Copies the bits from `from` on.
+/// Lays the bits of a byte over eight places from `at` on, the highest first.
+#[inline(always)]
+fn lay_byte(byte: u8, at: usize, out: &mut [bool])
+    requires { at + 8 ≤ length out.old }
+    ensures size { length out.new ≡ length out.old }
+    ensures before { (i : ℕ) → i < at → get_or out.new i false ≡ get_or out.old i false }
+    ensures bits { (q : ℕ) → q < 8 → get_or out.new (at + q) false ≡ byte_bit byte q }
+{
+    for i in 0..8 {
+        out[at + i] = (byte >> (7 - i)) % 2 == 1;
+    }
+}
+
+/// Copies the bits from `from` on, eight at a time where a byte begins.
 pub(super) fn copy_bits(bytes: &[u8], from: usize, out: &mut [bool])
     requires few { from + length out.old ≤ 16777216 }
     requires within { from + length out.old ≤ 8 * length bytes.now }
     ensures { (i : ℕ) → i < length out.old
         → get_or out.new i false ≡ mask_bit bytes.now (from + i) }
 {
-    for i in 0..out.len() {
-        out[i] = bit_at(bytes, from + i);
+    let mut i = 0;
+    while i < out.len() {
+        let k = from + i;
+        if k % 8 == 0 && i + 8 <= out.len() {
+            lay_byte(bytes[k / 8], i, out);
+            i += 8;
+        } else {
+            out[i] = bit_at(bytes, k);
+            i += 1;
+        }
     }
 }
 

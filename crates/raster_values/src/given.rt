@@ -5,7 +5,7 @@ ghost use Rattle.raster_values.specs.PixelType.{InRange, bytes_of};
 ghost use Rattle.raster_values.specs.Grid.{values_bytes};
 ghost use Rattle.raster_values.specs.inside.Listed.{AreSums, IsOfAType, sums_of};
 ghost use Rattle.lane_kernels.specs.Kernels.{IsStepSize, capped_sums};
-ghost use Rattle.lane_kernels.specs.inside.Within.{sums_within};
+ghost use Rattle.lane_kernels.specs.Within.{sums_within};
 
 use super::cells::write_values;
 use super::kind::PixelType;

@@ -106,6 +106,16 @@ impl<'m> LentMask<'m> {
         self.valid == self.count || bits::bit_at(self.bytes, k)
     }
 
+    /// The bytes as they lie, where not every pixel is valid. The bits behind the last pixel are any.
+    pub fn bytes(&self) -> &'m [u8]
+        requires { count_by (λ m. m) self.now < length self.now }
+        ensures size { length result.now ≡ (length self.now + 7) / 8 }
+        ensures bits { (k : ℕ) → k < length self.now
+            → mask_bit result.now k ≡ get_or self.now k false }
+    {
+        self.bytes
+    }
+
     /// Writes the bits over as many bytes. Those behind the last pixel are 0.
     pub fn write_bits(&self, out: &mut [u8])
         requires { length out.old ≡ (length self.now + 7) / 8 }

@@ -502,6 +502,18 @@ impl Raster {
         out.copy_from_slice(self.marks.bytes());
     }
 
+    /// The bytes of the mask where they lie, of a raster of which not every pixel is valid: a bit for
+    /// each pixel, row by row and the highest of each byte first, 1 for a valid one. The bits behind
+    /// the last pixel, which are fewer than eight, are any.
+    pub fn mask_slice(&self) -> &[u8]
+        requires { valid_count self.now < self.now.rows * self.now.cols }
+        ensures size { length result.now ≡ (self.now.rows * self.now.cols + 7) / 8 }
+        ensures bits { (k : ℕ) → k < self.now.rows * self.now.cols
+            → mask_bit result.now k ≡ is_some (get_or self.now.pixels k None) }
+    {
+        self.marks.bytes()
+    }
+
     /// Whether the same pixels are valid as in another raster, by their numbers.
     pub fn has_mask_of(&self, other: &Raster) -> bool
         ensures { IsTrue result ↔ (marks_of self.now ≡ marks_of other.now) }

@@ -235,6 +235,18 @@ impl<'v, 'm> Seen<'v, 'm> {
         self.marks.write_bits(out);
     }
 
+    /// The bytes of the mask where they lie, of a raster of which not every pixel is valid: a bit for
+    /// each pixel, row by row and the highest of each byte first, 1 for a valid one. The bits behind
+    /// the last pixel, which are fewer than eight, are any: a caller may have set them.
+    pub fn mask_slice(&self) -> &[u8]
+        requires { valid_count self.now < self.now.rows * self.now.cols }
+        ensures size { length result.now ≡ (self.now.rows * self.now.cols + 7) / 8 }
+        ensures bits { (k : ℕ) → k < self.now.rows * self.now.cols
+            → mask_bit result.now k ≡ is_some (get_or self.now.pixels k None) }
+    {
+        self.marks.bytes()
+    }
+
     /// The bytes of the values of all pixels, row by row and depth innermost, as they lie in the
     /// caller's array, of a raster of which every pixel is valid.
     pub fn cells(&self) -> &[u8]

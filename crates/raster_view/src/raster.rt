@@ -53,6 +53,10 @@ impl View for Raster {
         Raster::mask_bytes(self, out);
     }
 
+    fn mask_slice(&self) -> &[u8] {
+        Raster::mask_slice(self)
+    }
+
     fn cells(&self) -> &[u8] {
         Raster::cells(self)
     }

@@ -53,6 +53,10 @@ impl<'v, 'm> View for Seen<'v, 'm> {
         Seen::mask_bytes(self, out);
     }
 
+    fn mask_slice(&self) -> &[u8] {
+        Seen::mask_slice(self)
+    }
+
     fn cells(&self) -> &[u8] {
         Seen::cells(self)
     }

@@ -4,7 +4,7 @@ ghost use Rattle.std.specs.Prelude.{◌≡◌, ◌+◌, ◌*◌, ◌/◌, ◌<�
 ghost use Rattle.raster_values.specs.PixelType.{bytes_of};
 ghost use Rattle.raster_values.specs.Raster.{Pixels, IsRaster, InShape, valid_count, values_of};
 ghost use Rattle.raster_values.specs.Block.{block_count, block_values};
-ghost use Rattle.raster_values.specs.Order.{IsMaskOf};
+ghost use Rattle.raster_values.specs.Order.{IsMaskOf, mask_bit};
 ghost use Rattle.raster_values.specs.Flat.{all_values, depth_values, value_in};
 ghost use Rattle.raster_values.specs.Grid.{values_bytes};
 ghost use Rattle.raster_values.specs.Distance.{distance_of};
@@ -92,6 +92,17 @@ pub trait View {
     fn mask_bytes(&self, out: &mut [u8])
         requires { length out.old ≡ ((pixels self.now).rows * (pixels self.now).cols + 7) / 8 }
         ensures { IsMaskOf (pixels self.now) out.new };
+
+    /// The bytes of the mask where they lie, of a raster of which not every pixel is valid: a bit for
+    /// each pixel, row by row and the highest of each byte first, 1 for a valid one. The bits behind
+    /// the last pixel, which are fewer than eight, are any.
+    fn mask_slice(&self) -> &[u8]
+        requires { valid_count (pixels self.now)
+            < (pixels self.now).rows * (pixels self.now).cols }
+        ensures size { length result.now
+            ≡ ((pixels self.now).rows * (pixels self.now).cols + 7) / 8 }
+        ensures bits { (k : ℕ) → k < (pixels self.now).rows * (pixels self.now).cols
+            → mask_bit result.now k ≡ is_some (get_or (pixels self.now).pixels k None) };
 
     /// The bytes of the values of all pixels, row by row and depth innermost, as they lie in memory,
     /// of a raster of which every pixel is valid.

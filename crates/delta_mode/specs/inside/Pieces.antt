@@ -1,6 +1,6 @@
 -- Pieces of a row of pixels: what is kept from pixel to pixel. `mark` says which pixels of a piece
 -- are valid, `now` what values they have, `up` and `above` the same of the pixels above.
-use Rattle.std.specs.Prelude.{ℕ, zero, suc, ◌≡◌, ◌-◌, ◌+◌, ◌<◌, ◌≤◌, Bool, true, false, ℤ, pos}
+use Rattle.std.specs.Prelude.{ℕ, zero, suc, ◌≡◌, ◌⊎◌, ◌-◌, ◌+◌, ◌<◌, ◌≤◌, Bool, true, false, ℤ, pos}
 use Rattle.std.specs.Prelude.{negsuc, ◌≤ℤ◌, ◌+ℤ◌, unsigned_abs, if◌then◌else◌, List, get_or}
 use Rattle.std.specs.Int.{int_rem_euclid}
 use Rattle.raster_values.specs.declared.kind.PixelType.{PixelType}
@@ -57,3 +57,7 @@ pub record AreCoded (kind : PixelType) (cols : ℕ) (valid : ℕ → Bool) (valu
     (symbols : List ℕ) : Type 0 where
   pub each : (k : ℕ) → from ≤ k → k < to → valid k ≡ true
       → delta kind cols valid value k ≡ get_or symbols (rank valid k) 0
+
+-- all pixels are looked at, or there is room for fewer than so many symbols more
+abbrev pub IsFilled : ℕ → ℕ → ℕ → ℕ → ℕ → Type 0
+IsFilled pixels place least filled room = (place ≡ pixels) ⊎ (room < filled + least)

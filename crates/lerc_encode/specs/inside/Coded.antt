@@ -1,5 +1,5 @@
 -- What is known of the symbols of values and their codes before they are written.
-use Rattle.std.specs.Prelude.{◌≡◌, ℕ, ◌*◌, ◌^◌, ◌≤◌, Bool, true, false, ◌&&◌, List, length, MatchOption}
+use Rattle.std.specs.Prelude.{◌≡◌, ℕ, ◌*◌, ◌≤◌, Bool, true, false, ◌&&◌, List, length, Option, MatchOption}
 use Rattle.raster_values.specs.declared.kind.PixelType.TheVariants.{U8}
 use Rattle.raster_values.specs.Raster.{Pixels, valid_count}
 use Rattle.lerc_header.specs.declared.header.Version.{Version}
@@ -8,7 +8,18 @@ use Rattle.lerc_encode.specs.Codings.{code_lengths, coding_bytes, have_codes}
 use Rattle.lerc_encode.specs.Images.{all_deltas, has_mode, is_v4}
 use Rattle.lerc_encode.specs.declared.codings.Coding.{Coding}
 use Rattle.lerc_encode.specs.declared.codings.Codings.{Codings}
-use Rattle.lerc_encode.specs.declared.codings.Symbols.{Symbols}
+use Rattle.lerc_encode.specs.declared.symbols.SymbolMode.{SymbolMode}
+use Rattle.lerc_encode.specs.declared.symbols.SymbolMode.TheVariants.{Deltas, Plain}
+
+-- the symbols of a mode
+abbrev pub symbols_of : SymbolMode → Pixels → List ℕ
+symbols_of Deltas r = all_deltas r
+symbols_of Plain r = plain r
+
+-- the number that names it in a blob
+abbrev pub mode_number : SymbolMode → ℕ
+mode_number Deltas = 1
+mode_number Plain = 2
 
 -- the lengths of the symbols' codes, and the number of the bytes
 pub record IsCodingOf (symbols : List ℕ) (c : Coding) : Type 0 where
@@ -22,27 +33,20 @@ pub record IsLying (r : Pixels) : Type 0 where
   pub kind : r.kind ≡ U8
   pub full : valid_count r ≡ r.rows * r.cols
 
--- these symbols, unless they lie as they are in the raster, and their coding, where they are wanted
--- and have codes
-pub record HasSymbols (Lie : Type 0) (wanted : Bool) (symbols : List ℕ) (s : Symbols) (c : Coding)
-    : Type 0 where
+-- the coding of symbols that are wanted and have codes
+pub record HasSymbols (wanted : Bool) (symbols : List ℕ) (c : Coding) : Type 0 where
   pub holds : (wanted && have_codes symbols) ≡ true
-  pub all_are : (Lie → ⊥) → s.all.items ≡ symbols
-  pub all_few : length symbols ≤ 2 ^ 24
   pub coding_is : IsCodingOf symbols c
 
 -- where they are not, there is no coding
-abbrev pub AreSymbols : Type 0 → Bool → List ℕ → Symbols → Type 0
-AreSymbols Lie wanted symbols s =
-    MatchOption s.coding ((wanted && have_codes symbols) ≡ false)
-    (HasSymbols Lie wanted symbols s)
+abbrev pub AreSymbols : Bool → List ℕ → Option Coding → Type 0
+AreSymbols wanted symbols coding =
+    MatchOption coding ((wanted && have_codes symbols) ≡ false) (HasSymbols wanted symbols)
 
--- symbols with their coding, which is there
-pub record AreThere (Lie : Type 0) (symbols : List ℕ) (s : Symbols) : Type 0 where
-  pub few : length symbols ≤ 2 ^ 24
-  pub same : (Lie → ⊥) → s.all.items ≡ symbols
-  pub coded : MatchOption s.coding ⊥ (IsCodingOf symbols)
+-- symbols whose coding is there
+abbrev pub AreThere : List ℕ → Option Coding → Type 0
+AreThere symbols coding = MatchOption coding ⊥ (IsCodingOf symbols)
 
 pub record AreCodings (r : Pixels) (version : Version) (step : ℕ) (c : Codings) : Type 0 where
-  pub deltas : AreSymbols ⊥ (has_mode r step) (all_deltas r) c.deltas
-  pub plains : AreSymbols (IsLying r) (has_mode r step && is_v4 version) (plain r) c.plains
+  pub deltas : AreSymbols (has_mode r step) (all_deltas r) c.deltas
+  pub plains : AreSymbols (has_mode r step && is_v4 version) (plain r) c.plains

@@ -12,7 +12,7 @@ use Rattle.lerc_encode.specs.inside.Layout.{IsPlan, planned_runs}
 pub record IsPlanAt (bands : List Pixels) (version : Version) (step k : ℕ) (r : Pixels) (p : Plan)
     : Type 0 where
   pub plan : IsPlan r version step p
-  pub runs : planned_runs p ≡ runs_after (last_after None (take k bands)) r
+  pub runs : planned_runs p r ≡ runs_after (last_after None (take k bands)) r
 
 -- so each of the first n plans, whose blobs have so many bytes together
 pub record ArePlans (bands : List Pixels) (version : Version) (step n : ℕ) (plans : List Plan)

@@ -1,6 +1,6 @@
 -- Values that are put into a raster.
 use Rattle.std.specs.Prelude.{◌≡◌, ◌/◌, ◌<◌, ◌≤ℤ◌, ℤ, pos, negsuc, List}
-use Rattle.lane_kernels.specs.inside.Within.{sums_within}
+use Rattle.lane_kernels.specs.Within.{sums_within}
 use Rattle.raster_values.specs.declared.given.Sums.{Sums}
 use Rattle.raster_values.specs.declared.given.ValueList.{ValueList}
 

@@ -1,4 +1,4 @@
-use Rattle.std.proofs.Common.{◌≡◌, ◌≢◌, ◌+◌, ◌-◌, ◌<◌, ◌≤◌, ◌-ℤ◌, length, get_or, set, refl, sym, ap, ◌∙◌, arith, inl, inr}
+use Rattle.std.proofs.Common.{◌≡◌, ◌≢◌, ◌-◌, ◌<◌, ◌≤◌, ◌-ℤ◌, length, get_or, set, refl, sym, ap, ◌∙◌, arith, inl, inr}
 use Rattle.std.proofs.lemmas.Bool.{cases_lt}
 use Rattle.std.proofs.lemmas.List.{get_or-set_same, get_or-set_other}
 use Rattle.std.proofs.Math.ListN.{length-set}
@@ -11,15 +11,13 @@ pub loop-i-init : goal.loop-i-init
 loop-i-init c =
     let kind = c.args.kind in
     let out = c.args.out.now in
-    let count = c.args.count in
     let s = c.symbol.result in
     let v = value_of_place c.args.values.now 0 in
-    let room : count < length out = omega (arith, c.requires.some, c.requires.room) in
+    let room : 0 < length out = omega (arith, c.requires.some, c.requires.room) in
     let here : symbol_of kind (v -ℤ c.args.predictor) ≡ s = symbol_here kind v c.args.predictor c.args.predictor c.bias-bias.result s c.requires.kind (c.requires.values 0) c.requires.predictor refl c.bias-bias.ensures c.symbol.ensures in
     record {
-      room = length-set out count s;
-      before = λ j lt. get_or-set_other out count j s 0 (let ne : j ≢ count = omega (arith, lt) in ne);
-      first = (λ t. symbol_of kind (v -ℤ same kind c.args.predictor c.requires.kind c.requires.predictor t)) ∙ here ∙ sym (get_or-set_same out count s 0 room);
+      room = length-set out 0 s;
+      first = (λ t. symbol_of kind (v -ℤ same kind c.args.predictor c.requires.kind c.requires.predictor t)) ∙ here ∙ sym (get_or-set_same out 0 s 0 room);
       others = λ k above lt. absurd (omega (arith, above, lt));
     }
 
@@ -27,25 +25,23 @@ pub loop-i-preserved : goal.loop-i-preserved
 loop-i-preserved c =
     let kind = c.args.kind in
     let out = c.loop-i.out in
-    let count = c.args.count in
     let i = c.loop-i.i in
     let inv = c.loop-i.invariant in
     let s = c.symbol-in-loop-i.result in
     let v = value_of_place c.args.values.now in
     let some : 1 ≤ i = c.loop-i.auto.i in
-    let room : count + i < length out = omega (arith, c.loop-i-test.true, c.requires.room, inv.room) in
+    let room : i < length out = omega (arith, c.loop-i-test.true, c.requires.room, inv.room) in
     let here : symbol_of kind (v i -ℤ v (i - 1)) ≡ s =
     symbol_here kind (v i) (v (i - 1)) (v (i - 1)) c.bias-bias.result s c.requires.kind (c.requires.values i) (c.requires.values (i - 1)) refl c.bias-bias.ensures c.symbol-in-loop-i.ensures in
     record {
-      room = length-set out (count + i) s ∙ inv.room;
-      before = λ j lt. get_or-set_other out (count + i) j s 0 (let ne : j ≢ count + i = omega (arith, lt) in ne) ∙ inv.before j lt;
-      first = inv.first ∙ sym (get_or-set_other out (count + i) count s 0 (let ne : count ≢ count + i = omega (arith, some) in ne));
+      room = length-set out i s ∙ inv.room;
+      first = inv.first ∙ sym (get_or-set_other out i 0 s 0 (let ne : 0 ≢ i = omega (arith, some) in ne));
       others = λ k above lt. elim (cases_lt k i) [
-        | inl below ↦ inv.others k above below ∙ sym (get_or-set_other out (count + i) (count + k) s 0 (let ne : count + k ≢ count + i = omega (arith, below) in ne))
+        | inl below ↦ inv.others k above below ∙ sym (get_or-set_other out i k s 0 (let ne : k ≢ i = omega (arith, below) in ne))
         | inr from ↦
             let is : k ≡ i = omega (arith, lt, from) in
-            ap (λ n. symbol_of kind (v n -ℤ v (n - 1))) is ∙ here ∙ sym (get_or-set_same out (count + i) s 0 room)
-            ∙ ap (λ n. get_or (set out (count + i) s) (count + n) 0) (sym is)
+            ap (λ n. symbol_of kind (v n -ℤ v (n - 1))) is ∙ here ∙ sym (get_or-set_same out i s 0 room)
+            ∙ ap (λ n. get_or (set out i s) n 0) (sym is)
       ];
     }
 

@@ -1,55 +1,36 @@
-use Rattle.std.proofs.Common.{ℕ, ◌+◌, List, ◌++◌, length, sym, ◌∙◌, arith, subst, refl}
-use Rattle.std.proofs.lemmas.List.{append_assoc, length-append, length-take-le}
+use Rattle.std.proofs.Common.{◌≡◌, ℕ, ◌+◌, ◌<◌, List, [], ◌++◌, length, false, sym, ap, ◌∙◌, arith, subst, refl}
+use Rattle.std.proofs.lemmas.List.{append-nil}
+use Rattle.raster_values.specs.PixelType.{InRange}
 use Rattle.raster_values.specs.Flat.{value_in}
 use Rattle.delta_mode.specs.Deltas.{is_valid}
-use Rattle.delta_mode.specs.inside.Pieces.{mark_at, AreCoded}
-use Rattle.delta_mode.proofs.Sources.{rank_le, piece_count}
+use Rattle.delta_mode.proofs.InPieces.{kept_fits}
+use Rattle.delta_mode.proofs.EvenPieces.{bits_are, none_at, none_coded, rank_skips}
 use Rattle.delta_mode.proofs.taking.take_piece.Goals as goal
 
-pub slice_bounds-piece-end : goal.slice_bounds-piece-end
-slice_bounds-piece-end g c =
-    omega (arith, c.count_set.ensures, rank_le (mark_at c.marks_from.new.out) (length c.marks_from.new.out), c.marks_from.ensures.room, c.requires.symbols)
+pub take_run-requires-clause-valid : goal.take_run-requires-clause-valid
+take_run-requires-clause-valid g c i lt =
+    sym (c.marks_from.ensures.marks i (omega (arith, lt, c.requires.symbols))) ∙ c.has_invalid.ensures c.if-not-has_invalid.true i (omega (arith, lt, c.requires.symbols, c.marks_from.ensures.room))
 
-pub slice_bounds-piece-end-2 : goal.slice_bounds-piece-end-2
-slice_bounds-piece-end-2 g c =
-    sym (length-take-le c.count_set.result c.args.symbols.now (omega (arith, c.count_set.ensures, rank_le (mark_at c.marks_from.new.out) (length c.marks_from.new.out), c.marks_from.ensures.room, c.requires.symbols)))
-
-pub next-requires-clause-left : goal.next-requires-clause-left
-next-requires-clause-left g c =
-    let valid = is_valid (g.T.Target.pixels c.args.raster.now) in
-    let n = c.count_set.result in
-    let long = length-take-le n c.args.symbols.now (omega (arith, c.count_set.ensures, rank_le (mark_at c.marks_from.new.out) (length c.marks_from.new.out), c.marks_from.ensures.room, c.requires.symbols)) in
-    let more = piece_count valid c.args.place c.marks_from.new.out (length c.args.marks.now) c.marks_from.ensures.marks c.marks_from.ensures.room c.count_set.ensures in
-    omega (arith, long, more, c.requires.left, c.requires.at.count_is)
-
-pub give_values-requires-clause-count : goal.give_values-requires-clause-count
-give_values-requires-clause-count g c =
-    c.next.ensures.room
-    ∙ length-take-le c.count_set.result c.args.symbols.now (omega (arith, c.count_set.ensures, rank_le (mark_at c.marks_from.new.out) (length c.marks_from.new.out), c.marks_from.ensures.room, c.requires.symbols))
-    ∙ c.count_set.ensures
-
-pub returns-clause-left : goal.returns-clause-left
-returns-clause-left g c =
-    let valid = is_valid (g.T.Target.pixels c.args.raster.now) in
-    let n = c.count_set.result in
-    let long = length-take-le n c.args.symbols.now (omega (arith, c.count_set.ensures, rank_le (mark_at c.marks_from.new.out) (length c.marks_from.new.out), c.marks_from.ensures.room, c.requires.symbols)) in
-    let more = piece_count valid c.args.place c.marks_from.new.out (length c.marks_from.new.out) (λ i lt. c.marks_from.ensures.marks i (omega (arith, lt, c.marks_from.ensures.room))) refl c.count_set.ensures in
-    omega (arith, long, more, c.requires.at.count_is, c.give_values.ensures.at.count_is, c.in_ok-next.ensures.left)
-
-pub returns-clause-coded : goal.returns-clause-coded
-returns-clause-coded g c before front has e =
+-- where no pixel of the piece is valid
+pub returns-then-not-has_valid-clause-at : goal.returns-then-not-has_valid-clause-at
+returns-then-not-has_valid-clause-at g c =
     let r = g.T.Target.pixels c.args.raster.now in
-    let valid = is_valid r in
-    let n = c.count_set.result in
-    let piece = c.next.new.out in
-    let long = length-take-le n c.args.symbols.now (omega (arith, c.count_set.ensures, rank_le (mark_at c.marks_from.new.out) (length c.marks_from.new.out), c.marks_from.ensures.room, c.requires.symbols)) in
-    let more = piece_count valid c.args.place c.marks_from.new.out (length c.args.marks.now) c.marks_from.ensures.marks c.marks_from.ensures.room c.count_set.ensures in (
-      piece,
+    let off : (i : ℕ) → i < length c.args.marks.now → is_valid r (c.args.place + i) ≡ false =
+    λ (i : ℕ) (lt : i < length c.args.marks.now). sym (c.marks_from.ensures.marks i lt) ∙ c.has_valid.ensures c.if-not-has_valid.true i (omega (arith, lt, c.marks_from.ensures.room)) in
+    let fits : InRange r.kind c.args.walk.last = kept_fits r c.args.d (g.met.T.Target.raster _ c.requires.sound) refl c.requires.at refl in
+    none_at (is_valid r) (value_in r c.args.d) c.args.place (length c.args.marks.now) c.requires.some off c.requires.at refl (bits_are r.kind c.requires.kind fits refl) refl
+
+pub returns-then-not-has_valid-clause-coded : goal.returns-then-not-has_valid-clause-coded
+returns-then-not-has_valid-clause-coded g c before front has e =
+    let r = g.T.Target.pixels c.args.raster.now in
+    let off : (i : ℕ) → i < length c.args.marks.now → is_valid r (c.args.place + i) ≡ false =
+    λ (i : ℕ) (lt : i < length c.args.marks.now). sym (c.marks_from.ensures.marks i lt) ∙ c.has_valid.ensures c.if-not-has_valid.true i (omega (arith, lt, c.marks_from.ensures.room)) in (
+      [],
       (
-        subst (λ (xs : List ℕ). g.S.SymbolSource.has_given c.next.new.self xs) (append_assoc before front piece) (c.in_ok-next.ensures.given (before ++ front) has),
+        subst (λ (xs : List ℕ). g.S.SymbolSource.has_given c.args.source.now (before ++ xs)) (sym (append-nil front)) has,
         (
-          omega (arith, length-append front piece, long, more, e, c.next.ensures.room, c.requires.at.count_is),
-          subst (λ (m : ℕ). AreCoded r.kind r.cols valid (value_in (g.T.Target.pixels c.give_values.new.raster) c.args.d) c.args.place (c.args.place + m) (front ++ piece)) c.marks_from.ensures.room (c.give_values.ensures.coded front e),
+          ap length (append-nil front) ∙ e ∙ c.requires.at.count_is ∙ sym (rank_skips (is_valid r) c.args.place (length c.args.marks.now) off),
+          none_coded r.kind r.cols (is_valid r) (value_in r c.args.d) c.args.place (length c.args.marks.now) (front ++ []) off,
         ),
       ),
     )

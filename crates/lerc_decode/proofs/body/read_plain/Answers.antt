@@ -4,8 +4,8 @@ use Rattle.lerc_grammar.specs.declared.parts.ImageForm.TheVariants.{Plain}
 use Rattle.lerc_decode.proofs.Bodies.{coded_there, plain_fault, err_map, few_values, image_plain, ok_map}
 use Rattle.lerc_decode.proofs.body.read_plain.Goals as goal
 
-pub value_len-requires : goal.value_len-requires
-value_len-requires g c = few_values c.args.blob.now c.args.header.now c.requires.head
+pub pour_plain-requires-clause-values : goal.pour_plain-requires-clause-values
+pour_plain-requires-clause-values g c = few_values c.args.blob.now c.args.header.now c.requires.head
 
 pub returns-clause-read : goal.returns-clause-read
 returns-clause-read g c =

@@ -7,4 +7,4 @@ pub returns-clause-value : goal.returns-clause-value
 returns-clause-value g c =
     let head = c.head_length.ensures in
     let behind = c.behind_len.ensures.value in
-    (λ t. head t + behind t) ∙ sym (length_choice (planned_runs c.args.plan.now) (g.V.View.pixels c.args.raster.now) c.args.plan.now.base.version c.args.plan.now.base.step)
+    (λ t. head t + behind t) ∙ sym (length_choice (planned_runs c.args.plan.now (g.V.View.pixels c.args.raster.now)) (g.V.View.pixels c.args.raster.now) c.args.plan.now.base.version c.args.plan.now.base.step)

@@ -6,6 +6,6 @@ use Rattle.lerc_encode.proofs.blob.header_of.Goals as goal
 
 pub returns : goal.returns
 returns g c =
-    let runs = planned_runs c.args.plan.now in
+    let runs = planned_runs c.args.plan.now (g.V.View.pixels c.args.raster.now) in
     laid_out runs c.args.plan.now.base (g.V.View.pixels c.args.raster.now) c.requires.plan.base c.side_of.result c.args.size c.side_of.ensures
     (c.requires.size ∙ length_choice runs (g.V.View.pixels c.args.raster.now) c.args.plan.now.base.version c.args.plan.now.base.step)

@@ -1,4 +1,4 @@
-use Rattle.std.proofs.Common.{◌≡◌, ◌<◌, ◌+◌, ◌∙◌, ◌++◌, ℕ, ap, refl, sym, false, get_or, length, length-append, length-drop, [], drop, subst, arith}
+use Rattle.std.proofs.Common.{◌≡◌, ◌<◌, ◌+◌, ◌∙◌, ◌++◌, ℕ, ap, refl, sym, length, length-append, length-drop, [], drop, subst, arith}
 use Rattle.std.proofs.lemmas.List.{append-nil, drop_all, take_rest}
 use Rattle.raster_values.specs.Raster.{Pixels}
 use Rattle.lerc_header.specs.declared.header.Header.{Header}
@@ -18,8 +18,8 @@ all_room : (h : Header) (r : Pixels) (n : ℕ) → n ≡ length (blocks_bytes h 
 unfolding blocks_bytes
 all_room h r n e = e
 
-pub bounds-tables-k : goal.bounds-tables-k
-bounds-tables-k g c =
+pub is_set-requires : goal.is_set-requires
+is_set-requires g c =
     let low = c.loop-k-test.true in
     let value = c.count-k-end.ensures.value in
     let room = c.requires.tables.room in
@@ -35,7 +35,9 @@ write_at-at-requires-clause-table g c =
     let h = c.args.h.now in
     let k = c.loop-k.k in
     let low : k < coded_blocks h = subst (λ n. k < n) c.count-k-end.ensures.value c.loop-k-test.true in
-    table_here h (g.V.View.pixels c.args.raster.now) k c.loop-k.spot (get_or c.args.tables.now k false) c.loop-k.invariant.1.1.0 (c.requires.tables.each k low)
+    let here = c.requires.tables.each k low in
+    let is = c.is_set.ensures in
+    table_here h (g.V.View.pixels c.args.raster.now) k c.loop-k.spot c.is_set.result c.loop-k.invariant.1.1.0 (λ t. here.0 (is.0 t), λ has. is.1 (here.1 has))
 
 pub write_at-at-requires-clause-fits : goal.write_at-at-requires-clause-fits
 write_at-at-requires-clause-fits g c =

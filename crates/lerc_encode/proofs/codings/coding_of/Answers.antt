@@ -10,9 +10,7 @@ abbrev NoneFor : List ℕ → Type 0
 NoneFor counts = (used_count counts < 2) ⊎ SomeIndex (lengths_of counts) (λ s. 32 < slice_index (lengths_of counts) s)
 
 pub returns-in-Some : goal.returns-in-Some
-returns-in-Some c =
-    let symbols = c.args.symbols.now in
-    let counts = c.count_symbols-counts.ensures.counts in
+returns-in-Some c = λ symbols counts.
     let has = have_of symbols (λ none. let e : true ≡ false = c.in-Some.ensures.none.1 (subst NoneFor (sym counts) none) in cc) in
     let is = c.in-Some.ensures.some ∙ ap lengths_of counts in
     let table = c.table_size.ensures.few in
@@ -26,4 +24,4 @@ returns-in-Some c =
     }
 
 pub returns-in-None : goal.returns-in-None
-returns-in-None c = none_of c.args.symbols.now (subst NoneFor c.count_symbols-counts.ensures.counts (c.in-None.ensures.none.0 refl))
+returns-in-None c = λ symbols counts. none_of symbols (subst NoneFor counts (c.in-None.ensures.none.0 refl))

@@ -5,6 +5,8 @@ use Rattle.first_fault.specs.Parts.{AreBytes}
 use Rattle.huff_codes.specs.Codes.{canonical_codes}
 use Rattle.huff_codes.specs.Written.{AreWritten, IsTableSize, IsWrittenTable, written_size}
 use Rattle.lerc_encode.specs.Codings.{code_lengths, coding_bytes, have_codes}
+use Rattle.lerc_encode.specs.inside.Coded.{symbols_of}
+use Rattle.lerc_encode.proofs.Given.{symbols_low}
 use Rattle.lerc_encode.proofs.TableBytes.{coding_is, length_coding, symbols_coded}
 use Rattle.lerc_encode.proofs.WordBytes.{front_bytes_are, back_bytes_are}
 use Rattle.lerc_encode.proofs.Laying.{two_written}
@@ -17,22 +19,23 @@ parts_fit symbols lengths table room has is size e =
     length_coding symbols table (written_size (canonical_codes lengths) symbols) has (subst (λ (l : List ℕ). IsTableSize l table) is size) (ap (λ (l : List ℕ). written_size (canonical_codes l) symbols) is) ∙ sym e
 
 pub write_code_table-requires : goal.write_code_table-requires
-write_code_table-requires c =
-    let fit = parts_fit c.args.symbols.now c.args.coding.now.lengths c.table_size.result (length c.args.out.now) c.requires.coding.has c.requires.coding.lengths_are c.table_size.ensures.size c.requires.room in
+write_code_table-requires g c =
+    let fit = parts_fit (symbols_of c.args.mode (g.V.View.pixels c.args.raster.now)) c.args.coding.now.lengths c.table_size.result (length c.args.out.now) c.requires.coding.has c.requires.coding.lengths_are c.table_size.ensures.size c.requires.room in
     let least = c.min-table.ensures in
     let long : length (take c.min-table.result c.args.out.now) ≡ c.table_size.result = length-take-le c.min-table.result c.args.out.now (omega (arith, least)) ∙ omega (arith, least, fit) in
     subst (IsTableSize c.args.coding.now.lengths) (sym long) c.table_size.ensures.size
 
-pub write_symbols-requires-clause-coded : goal.write_symbols-requires-clause-coded
-write_symbols-requires-clause-coded c =
-    subst (λ (l : List ℕ). All (λ s. 0 < slice_index l s) c.args.symbols.now) (sym c.requires.coding.lengths_are)
-    (symbols_coded c.args.symbols.now (λ i. let byte = c.type_inv.symbols i in omega (arith, byte)) c.requires.coding.has)
+pub write_words-requires-clause-coded : goal.write_words-requires-clause-coded
+write_words-requires-clause-coded g c =
+    let symbols = symbols_of c.args.mode (g.V.View.pixels c.args.raster.now) in
+    subst (λ (l : List ℕ). All (λ s. 0 < slice_index l s) symbols) (sym c.requires.coding.lengths_are)
+    (symbols_coded symbols (symbols_low c.args.mode (g.V.View.pixels c.args.raster.now) c.kind-kind.ensures.sound) c.requires.coding.has)
 
-pub write_symbols-requires-clause-room : goal.write_symbols-requires-clause-room
-write_symbols-requires-clause-room c =
+pub write_words-requires-clause-room : goal.write_words-requires-clause-room
+write_words-requires-clause-room g c =
     let out = c.args.out.now in
     let n = c.min-table.result in
-    let fit = parts_fit c.args.symbols.now c.args.coding.now.lengths c.table_size.result (length out) c.requires.coding.has c.requires.coding.lengths_are c.table_size.ensures.size c.requires.room in
+    let fit = parts_fit (symbols_of c.args.mode (g.V.View.pixels c.args.raster.now)) c.args.coding.now.lengths c.table_size.result (length out) c.requires.coding.has c.requires.coding.lengths_are c.table_size.ensures.size c.requires.room in
     let least = c.min-table.ensures in
     let mid = c.write_code_table.new.out ++ drop n out in
     let kept : length c.write_code_table.new.out ≡ length (take n out) = c.write_code_table.auto.out in
@@ -43,12 +46,12 @@ write_symbols-requires-clause-room c =
     ap length (take_rest mid n) ∙ omega (arith, fit, least, kept, first, sizes, later, rest)
 
 pub returns : goal.returns
-returns c =
-    let symbols = c.args.symbols.now in
+returns g c =
+    let symbols = (symbols_of c.args.mode (g.V.View.pixels c.args.raster.now)) in
     let out = c.args.out.now in
     let n = c.min-table.result in
     let table = c.write_code_table.new.out in
-    let words = c.write_symbols.new.out in
+    let words = c.write_words.new.out in
     let least = c.min-table.ensures in
     let kept : length table ≡ length (take n out) = c.write_code_table.auto.out in
     let long : length table ≡ n = kept ∙ length-take-le n out (omega (arith, least)) in
@@ -58,4 +61,4 @@ returns c =
     laid
     ∙ coding_is symbols table words (front_bytes_are table words are) (back_bytes_are table words are)
     (subst (λ (l : List ℕ). IsWrittenTable l table) is c.write_code_table.ensures.written)
-    (subst (λ (l : List ℕ). AreWritten (canonical_codes l) symbols words) is c.write_symbols.ensures.written)
+    (subst (λ (l : List ℕ). AreWritten (canonical_codes l) symbols words) is c.write_words.ensures)

@@ -1,5 +1,9 @@
-use Rattle.std.proofs.Common.{◌≡◌, ℕ, ap, sym, subst, ◌∙◌, length}
-use Rattle.std.specs.Prelude.{◌&&◌}
+use Rattle.std.proofs.Common.{◌≡◌, ℕ, true, ap, sym, subst, ◌∙◌, length}
+use Rattle.std.specs.Prelude.{◌&&◌, nat_eq}
+use Rattle.std.proofs.lemmas.Bool.{and_parts, eqb-true}
+use Rattle.raster_values.specs.PixelType.{bytes_of}
+use Rattle.delta_mode.specs.Symbols.{IsByteType}
+use Rattle.lerc_encode.specs.Codings.{have_codes}
 use Rattle.raster_values.specs.Raster.{Pixels}
 use Rattle.lerc_header.specs.declared.header.Version.{Version}
 use Rattle.delta_mode.specs.Deltas.{plain as plain_symbols}
@@ -12,20 +16,28 @@ use Rattle.lerc_encode.specs.inside.Choosing.{named}
 use Rattle.lerc_encode.specs.declared.forms.ValueForm.{ValueForm}
 use Rattle.lerc_encode.proofs.Forming.{base_blocked, large_blocked, large_header, sweep_is, small_is, large_is}
 use Rattle.lerc_encode.specs.inside.Choosing.{IsChosen}
-use Rattle.lerc_encode.specs.inside.Coded.{AreThere, IsLying}
+use Rattle.lerc_encode.specs.inside.Coded.{AreThere}
 use Rattle.lerc_encode.specs.declared.choosing.Chosen.{Chosen}
 use Rattle.lerc_encode.proofs.Candidates.{chosen_may, delta_is, measured_here, plain_is}
 use Rattle.lerc_encode.proofs.Standing.{MayBe}
 use Rattle.lerc_encode.proofs.SymbolSteps.{symbols_there}
 use Rattle.lerc_encode.proofs.forms.write_form.Goals as goal
 
-deltas_there : (r : Pixels) (version : Version) (step : ℕ) (chosen : Chosen) → IsChosen r version step chosen → chosen.form ≡ Delta → AreThere ⊥ (all_deltas r) chosen.codings.deltas
-deltas_there r version step chosen is e =
-    symbols_there ⊥ (images.has_mode r step) (all_deltas r) chosen.codings.deltas is.codings_are.deltas (subst (MayBe r version step) (sym is.form ∙ ap named e) (chosen_may r version step))
+-- the form that is chosen may be there
+chosen_there : (r : Pixels) (version : Version) (step : ℕ) (chosen : Chosen) (form : ValueForm) → IsChosen r version step chosen → chosen.form ≡ form → MayBe r version step (named form)
+chosen_there r version step chosen form is e = subst (MayBe r version step) (sym is.form ∙ ap named e) (chosen_may r version step)
 
-plains_there : (r : Pixels) (version : Version) (step : ℕ) (chosen : Chosen) → IsChosen r version step chosen → chosen.form ≡ Plain → AreThere (IsLying r) (plain_symbols r) chosen.codings.plains
+deltas_there : (r : Pixels) (version : Version) (step : ℕ) (chosen : Chosen) → IsChosen r version step chosen → chosen.form ≡ Delta → AreThere (all_deltas r) chosen.codings.deltas
+deltas_there r version step chosen is e =
+    symbols_there (images.has_mode r step) (all_deltas r) chosen.codings.deltas is.codings_are.deltas (chosen_there r version step chosen Delta is e)
+
+plains_there : (r : Pixels) (version : Version) (step : ℕ) (chosen : Chosen) → IsChosen r version step chosen → chosen.form ≡ Plain → AreThere (plain_symbols r) chosen.codings.plains
 plains_there r version step chosen is e =
-    symbols_there (IsLying r) (images.has_mode r step && images.is_v4 version) (plain_symbols r) chosen.codings.plains is.codings_are.plains (subst (MayBe r version step) (sym is.form ∙ ap named e) (chosen_may r version step))
+    symbols_there (images.has_mode r step && images.is_v4 version) (plain_symbols r) chosen.codings.plains is.codings_are.plains (chosen_there r version step chosen Plain is e)
+
+-- where symbols stand for values, these take a byte
+byte_of_mode : (r : Pixels) (step : ℕ) → images.has_mode r step ≡ true → IsByteType r.kind
+byte_of_mode r step h = eqb-true (bytes_of r.kind) 1 (and_parts (nat_eq (bytes_of r.kind) 1) (nat_eq step 1) h).0
 
 pub write_sweep-requires : goal.write_sweep-requires
 write_sweep-requires g c =
@@ -83,11 +95,17 @@ returns-in-LargeBlocks g c =
     let r = (g.V.View.pixels c.args.raster.now) in
     c.write_block_form-in-LargeBlocks.ensures ∙ large_is h c.with_large.result r c.requires.base c.with_large.ensures ∙ ap (λ (f : ValueForm). coded_form_bytes r h.version h.step (named f)) (sym c.in-LargeBlocks.is)
 
-pub write_delta_form-requires-clause-there : goal.write_delta_form-requires-clause-there
-write_delta_form-requires-clause-there g c = deltas_there (g.V.View.pixels c.args.raster.now) c.args.base.now.version c.args.base.now.step c.args.chosen.now c.requires.chosen c.in-Delta.is
+pub write_coded_form-requires-clause-kind : goal.write_coded_form-requires-clause-kind
+write_coded_form-requires-clause-kind g c =
+    let r = (g.V.View.pixels c.args.raster.now) in
+    let h = c.args.base.now in
+    byte_of_mode r h.step (and_parts (images.has_mode r h.step) (have_codes (all_deltas r)) (chosen_there r h.version h.step c.args.chosen.now Delta c.requires.chosen c.in-Delta.is)).0
 
-pub write_delta_form-requires-clause-room : goal.write_delta_form-requires-clause-room
-write_delta_form-requires-clause-room g c =
+pub write_coded_form-requires-clause-coding : goal.write_coded_form-requires-clause-coding
+write_coded_form-requires-clause-coding g c = deltas_there (g.V.View.pixels c.args.raster.now) c.args.base.now.version c.args.base.now.step c.args.chosen.now c.requires.chosen c.in-Delta.is
+
+pub write_coded_form-requires-clause-room : goal.write_coded_form-requires-clause-room
+write_coded_form-requires-clause-room g c =
     let h = c.args.base.now in
     let r = (g.V.View.pixels c.args.raster.now) in
     c.requires.room ∙ ap (λ (f : ValueForm). length (coded_form_bytes r h.version h.step (named f))) c.in-Delta.is ∙ sym (ap length (delta_is r h.version h.step))
@@ -96,13 +114,20 @@ pub returns-in-Delta : goal.returns-in-Delta
 returns-in-Delta g c =
     let h = c.args.base.now in
     let r = (g.V.View.pixels c.args.raster.now) in
-    c.write_delta_form.ensures ∙ delta_is r h.version h.step ∙ ap (λ (f : ValueForm). coded_form_bytes r h.version h.step (named f)) (sym c.in-Delta.is)
+    c.write_coded_form.ensures ∙ delta_is r h.version h.step ∙ ap (λ (f : ValueForm). coded_form_bytes r h.version h.step (named f)) (sym c.in-Delta.is)
 
-pub write_plain_form-requires-clause-there : goal.write_plain_form-requires-clause-there
-write_plain_form-requires-clause-there g c = plains_there (g.V.View.pixels c.args.raster.now) c.args.base.now.version c.args.base.now.step c.args.chosen.now c.requires.chosen c.in-Plain.is
+pub write_coded_form-requires-in-Plain-clause-kind : goal.write_coded_form-requires-in-Plain-clause-kind
+write_coded_form-requires-in-Plain-clause-kind g c =
+    let r = (g.V.View.pixels c.args.raster.now) in
+    let h = c.args.base.now in
+    let may = and_parts (images.has_mode r h.step && images.is_v4 h.version) (have_codes (plain_symbols r)) (chosen_there r h.version h.step c.args.chosen.now Plain c.requires.chosen c.in-Plain.is) in
+    byte_of_mode r h.step (and_parts (images.has_mode r h.step) (images.is_v4 h.version) may.0).0
 
-pub write_plain_form-requires-clause-room : goal.write_plain_form-requires-clause-room
-write_plain_form-requires-clause-room g c =
+pub write_coded_form-requires-in-Plain-clause-coding : goal.write_coded_form-requires-in-Plain-clause-coding
+write_coded_form-requires-in-Plain-clause-coding g c = plains_there (g.V.View.pixels c.args.raster.now) c.args.base.now.version c.args.base.now.step c.args.chosen.now c.requires.chosen c.in-Plain.is
+
+pub write_coded_form-requires-in-Plain-clause-room : goal.write_coded_form-requires-in-Plain-clause-room
+write_coded_form-requires-in-Plain-clause-room g c =
     let h = c.args.base.now in
     let r = (g.V.View.pixels c.args.raster.now) in
     c.requires.room ∙ ap (λ (f : ValueForm). length (coded_form_bytes r h.version h.step (named f))) c.in-Plain.is ∙ sym (ap length (plain_is r h.version h.step))
@@ -111,4 +136,4 @@ pub returns-in-Plain : goal.returns-in-Plain
 returns-in-Plain g c =
     let h = c.args.base.now in
     let r = (g.V.View.pixels c.args.raster.now) in
-    c.write_plain_form.ensures ∙ plain_is r h.version h.step ∙ ap (λ (f : ValueForm). coded_form_bytes r h.version h.step (named f)) (sym c.in-Plain.is)
+    c.write_coded_form-in-Plain.ensures ∙ plain_is r h.version h.step ∙ ap (λ (f : ValueForm). coded_form_bytes r h.version h.step (named f)) (sym c.in-Plain.is)

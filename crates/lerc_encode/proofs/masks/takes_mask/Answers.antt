@@ -9,7 +9,7 @@ pub returns-then-cols : goal.returns-then-cols
 returns-then-cols c =
     elim c.if-rows.branch [
       | then-rows w ↦ elim c.if-not-is_alike.branch [
-        | then-not-is_alike v ↦ taken_by c.args.previous.now c.args.raster.now c.has_mask_of.result (sym c.is_alike.ensures ∙ v.if-not-is_alike.true)
+        | then-not-is_alike v ↦ taken_by c.args.previous.now c.args.raster.now c.has_mask_of.result (sym c.is_alike.ensures.value ∙ v.if-not-is_alike.true)
             (sym v.rows.ensures.value ∙ eqb-true v.rows.result v.rows-then-not-is_alike.result (sym v.value-is ∙ w.if-rows.true) ∙ v.rows-then-not-is_alike.ensures.value)
             (sym w.cols.ensures.value ∙ eqb-true w.cols.result w.cols-then-rows.result (sym w.value-is ∙ c.if-cols.true) ∙ w.cols-then-rows.ensures.value)
             c.has_mask_of.ensures.0 c.has_mask_of.ensures.1

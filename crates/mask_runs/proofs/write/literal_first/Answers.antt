@@ -1,19 +1,29 @@
-use Rattle.std.proofs.Common.{◌-◌, ◌+◌, ◌∙◌, sym, ap, subst, arith}
+use Rattle.std.proofs.Common.{◌-◌, ◌+◌, min, ◌∙◌, sym, ap, subst, arith}
+use Rattle.mask_runs.specs.Ending.{ending_with}
+use Rattle.mask_runs.proofs.Endings.{length-ending}
 use Rattle.mask_runs.proofs.Equal.{Searching, searching_same, searching_other, search_found, search_ended}
 use Rattle.mask_runs.proofs.write.literal_first.Goals as goal
-use Rattle.mask_runs.proofs.write.literal_first.Goals.{then-mask-i, else-mask-i}
+use Rattle.mask_runs.proofs.write.literal_first.Goals.{then-byte_at, else-byte_at}
 
 pub returns-then-i-start : goal.returns-then-i-start
-returns-then-i-start c = elim c.if-mask-i.branch [
-  | then-mask-i w ↦ absurd (omega (arith, w.start-is, c.if-i-start.true))
-  | else-mask-i w ↦ w.start-is ∙ search_found c.args.mask.now c.loop-i.start c.loop-i.i c.loop-i.invariant (omega (arith, c.min-i-end.ensures)) (omega (arith, c.min-i-end.ensures)) w.if-mask-i.false (omega (arith, w.start-is, c.if-i-start.true))
-]
+returns-then-i-start c =
+    let mask = ending_with c.args.mask.now c.args.last in
+    let long = length-ending c.args.mask.now c.args.last in
+    elim c.if-byte_at.branch [
+      | then-byte_at w ↦ absurd (omega (arith, w.start-is, c.if-i-start.true))
+      | else-byte_at w ↦ w.start-is ∙ search_found mask c.loop-i.start c.loop-i.i c.loop-i.invariant (omega (arith, c.min-i-end.ensures, long)) (omega (arith, c.min-i-end.ensures)) (sym c.byte_at.ensures ∙ w.if-byte_at.false ∙ c.byte_at-in-loop-i.ensures) (omega (arith, w.start-is, c.if-i-start.true))
+    ]
 
 pub loop-i-preserved : goal.loop-i-preserved
-loop-i-preserved c = elim c.if-mask-i.branch [
-  | then-mask-i w ↦ subst (λ s. Searching c.args.mask.now s (c.loop-i.i + 1)) (sym w.start-is) (searching_other c.args.mask.now c.loop-i.start c.loop-i.i c.loop-i.invariant (omega (arith, c.min-i-end.ensures)) w.if-mask-i.true)
-  | else-mask-i w ↦ subst (λ s. Searching c.args.mask.now s (c.loop-i.i + 1)) (sym w.start-is) (searching_same c.args.mask.now c.loop-i.start c.loop-i.i c.loop-i.invariant w.if-mask-i.false (λ e. c.if-i-start.false (ap (λ s. c.loop-i.i - s) w.start-is ∙ e)))
-]
+loop-i-preserved c =
+    let mask = ending_with c.args.mask.now c.args.last in
+    let long = length-ending c.args.mask.now c.args.last in
+    elim c.if-byte_at.branch [
+      | then-byte_at w ↦ subst (λ s. Searching mask s (c.loop-i.i + 1)) (sym w.start-is) (searching_other mask c.loop-i.start c.loop-i.i c.loop-i.invariant (omega (arith, c.min-i-end.ensures, long)) (λ e. w.if-byte_at.true (c.byte_at.ensures ∙ e ∙ sym c.byte_at-in-loop-i.ensures)))
+      | else-byte_at w ↦ subst (λ s. Searching mask s (c.loop-i.i + 1)) (sym w.start-is) (searching_same mask c.loop-i.start c.loop-i.i c.loop-i.invariant (sym c.byte_at.ensures ∙ w.if-byte_at.false ∙ c.byte_at-in-loop-i.ensures) (λ e. c.if-i-start.false (ap (λ s. c.loop-i.i - s) w.start-is ∙ e)))
+    ]
 
 pub returns : goal.returns
-returns c = c.min.ensures ∙ search_ended c.args.mask.now c.loop-i.start c.loop-i.i c.loop-i.invariant (omega (arith, c.min-i-end.ensures))
+returns c =
+    let long = length-ending c.args.mask.now c.args.last in
+    c.min.ensures ∙ ap (λ n. min n 32767) (sym long) ∙ search_ended (ending_with c.args.mask.now c.args.last) c.loop-i.start c.loop-i.i c.loop-i.invariant (omega (arith, c.min-i-end.ensures, long))

@@ -5,7 +5,7 @@ use Rattle.std.proofs.lemmas.Int.{to_z-of_z}
 use borrow.Rule.Slice.PartMut.{put_mid}
 use mir.Syntax.{w64}
 use mir.Val.{to_z, of_z}
-use Rattle.lane_kernels.specs.inside.Within.{sums_within}
+use Rattle.lane_kernels.specs.Within.{sums_within}
 use Rattle.raster_values.specs.PixelType.{InRange, bytes_of, value_bytes}
 use Rattle.raster_values.specs.Grid.{values_bytes}
 use Rattle.raster_values.proofs.Views.{same_bits}

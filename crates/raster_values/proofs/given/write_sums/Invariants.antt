@@ -1,5 +1,5 @@
 use Rattle.std.proofs.Common.{◌≡◌, ◌++◌, ◌*◌, take, drop}
-use Rattle.lane_kernels.specs.inside.Within.{sums_within}
+use Rattle.lane_kernels.specs.Within.{sums_within}
 use Rattle.raster_values.specs.PixelType.{bytes_of}
 use Rattle.raster_values.specs.Grid.{values_bytes}
 use Rattle.raster_values.proofs.given.write_sums.Given as goal

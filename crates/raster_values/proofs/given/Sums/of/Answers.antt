@@ -1,15 +1,15 @@
-use Rattle.std.proofs.Common.{◌≡◌, ◌+ℤ◌, ◌≤ℤ◌, ℤ, pos, replicate, length, map, sym, ap, subst, ◌∙◌, arith}
+use Rattle.std.proofs.Common.{◌≡◌, ◌+ℤ◌, ◌≤ℤ◌, pos, replicate, length, map, sym, ap, subst, ◌∙◌, arith}
 use Rattle.std.proofs.lemmas.Int.{ints, to_z-of_z}
 use Rattle.std.specs.Prelude.{All}
 use Rattle.std.specs.Int.{int_min}
 use mir.Syntax.{w64}
 use mir.Val.{to_z, of_z}
 use Rattle.lane_kernels.specs.Kernels.{capped_sums}
-use Rattle.lane_kernels.specs.inside.Within.{sums_within}
+use Rattle.lane_kernels.specs.Within.{sums_within}
 use Rattle.lane_kernels.proofs.Within.{within_is_capped, caps_all}
 use Rattle.raster_values.specs.PixelType.{InRange}
 use Rattle.raster_values.proofs.Views.{same_bits}
-use Rattle.raster_values.proofs.GivenSums.{of_a_type, near_each_other, sums_fit, sums_flat}
+use Rattle.raster_values.proofs.GivenSums.{near_each_other, sums_fit, sums_flat}
 use Rattle.raster_values.proofs.given.Sums.of.Goals as goal
 
 pub gap_between-gap-requires-clause-near : goal.gap_between-gap-requires-clause-near

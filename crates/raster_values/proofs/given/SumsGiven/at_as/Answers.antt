@@ -1,6 +1,6 @@
 use Rattle.std.proofs.Common.{◌≡◌, ◌<◌, ◌∙◌, ap, sym, subst, length, get_or, arith}
 use Rattle.std.specs.Prelude.{pos}
-use Rattle.lane_kernels.specs.inside.Within.{sums_within}
+use Rattle.lane_kernels.specs.Within.{sums_within}
 use Rattle.raster_values.specs.PixelType.{InRange}
 use Rattle.raster_values.specs.inside.Listed.{sums_of}
 use Rattle.raster_values.proofs.Views.{same_bits}

@@ -1,0 +1,6 @@
+use Rattle.std.proofs.Common.{refl}
+use Rattle.delta_mode.proofs.PlainPieces.{plain_on}
+use Rattle.delta_mode.proofs.giving_plain.first_plain.Goals as goal
+
+pub returns-clause-way : goal.returns-clause-way
+returns-clause-way c = λ r. plain_on r _ refl refl

@@ -1,0 +1,24 @@
+use Rattle.std.proofs.Common.{◌≡◌, ◌≤◌, ◌+◌, ◌-◌, ◌*◌, ◌++◌, length, take}
+use Rattle.raster_values.specs.Flat.{value_in}
+use Rattle.delta_mode.specs.Deltas.{is_valid}
+use Rattle.delta_mode.specs.Ways.{deltas_before}
+use Rattle.delta_mode.specs.inside.Pieces.{IsAt}
+use Rattle.delta_mode.proofs.marked_piece.write_pieces.Given as goal
+
+abbrev pub invariant-loop-at : goal.invariant-loop-at
+invariant-loop-at g l = record {
+  within : l.at ≤ (g.V.View.pixels l.raster).rows * (g.V.View.pixels l.raster).cols;
+  kept : IsAt (is_valid (g.V.View.pixels l.raster)) (value_in (g.V.View.pixels l.raster) l.d) l.at l.behind.left l.behind.last l.behind.count;
+  counted : l.behind.count ≡ l.walk.count + l.filled;
+  few : l.place + l.filled ≤ l.at;
+  fits : l.filled ≤ length l.out;
+  room : length l.out ≡ length l.fn.out;
+  marks_room : length l.marks ≡ 64;
+  up_room : length l.up ≡ 64;
+  above_room : length l.above ≡ 64;
+  values_room : length l.values ≡ 64;
+  symbols : deltas_before (g.V.View.pixels l.raster) l.d l.at ≡ deltas_before (g.V.View.pixels l.raster) l.d l.place ++ take l.filled l.out;
+}
+
+abbrev pub decreases-loop-at : goal.decreases-loop-at
+decreases-loop-at g l = (g.V.View.pixels l.raster).rows * (g.V.View.pixels l.raster).cols - l.at

@@ -1,0 +1,49 @@
+use Rattle.std.proofs.Common.{◌≡◌, ℕ, pos, ◌+◌, ◌*◌, ◌<◌, length, get_or, true, refl, sym, ap, ◌∙◌, arith, subst}
+use Rattle.std.proofs.lemmas.List.{get_or_default}
+use Rattle.raster_values.specs.declared.kind.PixelType.{PixelType}
+use Rattle.raster_values.specs.PixelType.{InRange}
+use Rattle.delta_mode.specs.Symbols.{symbol_of}
+use Rattle.delta_mode.specs.inside.Pieces.{rank, mark_at, value_of_place}
+use Rattle.delta_mode.proofs.Marks.{mask_itself, mask_through}
+use Rattle.delta_mode.proofs.PlainTaking.{depth_more, rest_more}
+use Rattle.delta_mode.proofs.plain_taking.give_plain.Goals as goal
+
+pub loop-d-init : goal.loop-d-init
+loop-d-init g c = record {
+  same = mask_itself (g.T.Target.pixels c.args.raster.now);
+  room = c.requires.values;
+  placed = λ i e lt below on. absurd (omega (arith, below));
+  rest = λ k e lt below other. refl;
+  sound = c.requires.sound;
+  kept = refl;
+}
+
+pub put_from-requires-clause-in_range : goal.put_from-requires-clause-in_range
+put_from-requires-clause-in_range g c = λ k d lt.
+    subst (InRange (g.T.Target.pixels c.loop-d.raster).kind) (get_or_default c.spread.new.out k (pos 0) d lt)
+    (subst (λ (kind : PixelType). InRange kind (value_of_place c.spread.new.out k)) (c.kind-kind.ensures.value ∙ c.loop-d.invariant.same.shape.kind) (c.spread.ensures.in_range k))
+
+pub loop-d-preserved : goal.loop-d-preserved
+loop-d-preserved g c =
+    let r = g.T.Target.pixels c.args.raster.now in
+    let s = g.T.Target.pixels c.loop-d.raster in
+    let t = g.T.Target.pixels c.put_from.new.self in
+    let inv = c.loop-d.invariant in
+    let marks = c.args.marks.now in
+    let symbols = c.args.symbols.now in
+    let values = c.spread.new.out in
+    let d = c.loop-d.d in
+    let deep : d < r.depth = omega (arith, c.loop-d-test.true, c.depth-depth.ensures.value) in
+    let long : length values ≡ length marks = c.spread.ensures.room ∙ inv.room in
+    let found : (i : ℕ) → i < length marks → mark_at marks i ≡ true → symbol_of r.kind (value_of_place values i) ≡ get_or symbols (rank (mark_at marks) i * r.depth + d) 0 =
+    λ (i : ℕ) (lt : i < length marks) (on : mark_at marks i ≡ true).
+    ap (λ (kind : PixelType). symbol_of kind (value_of_place values i)) (sym c.kind-kind.ensures.value) ∙ c.spread.ensures.symbols i lt on
+    ∙ ap (λ n. get_or symbols (rank (mark_at marks) i * n + d) 0) c.depth-depth.ensures.value in
+    record {
+      same = mask_through r s t inv.same c.put_from.ensures.put.same;
+      room = long;
+      placed = depth_more r s t marks values c.args.place d (λ i e. get_or symbols (rank (mark_at marks) i * r.depth + e) 0) inv.same c.put_from.ensures.put long c.requires.within deep c.requires.marks found inv.placed;
+      rest = rest_more r s t values c.args.place d (length marks) inv.same c.put_from.ensures.put long inv.rest;
+      sound = c.put_from.ensures.sound;
+      kept = c.put_from.ensures.kept ∙ inv.kept;
+    }

@@ -1,0 +1,129 @@
+//! Pieces of a row of which every pixel is valid, and their values from symbols: each but the first has
+//! the one before it as its predictor, so that no mark is looked at.
+
+ghost use Rattle.std.specs.Prelude.{◌≡◌, ℕ, pos, ◌+◌, ◌*◌, ◌%◌, ◌<◌, ◌≤◌, ◌++◌, ◌+ℤ◌, ◌-ℤ◌, ◌≤ℤ◌, true, List, length, get_or};
+ghost use Rattle.raster_values.specs.PixelType.{InRange};
+ghost use Rattle.raster_values.specs.Block.{SameMask};
+ghost use Rattle.raster_values.specs.Flat.{value_in};
+ghost use Rattle.delta_mode.specs.Symbols.{IsByteType, symbol_of};
+ghost use Rattle.delta_mode.specs.Deltas.{has_left, is_valid, last_value, predictor};
+ghost use Rattle.delta_mode.specs.inside.Pieces.{rank, IsAt, AreCoded, value_of_place};
+ghost use Rattle.delta_mode.specs.inside.Runs.{value_before};
+
+use super::full::added;
+use super::walk::{Walk, predicted, read_above};
+use raster_target::Target;
+use raster_values::PixelType;
+
+/// How far a value is above the type's least, by what is added to it.
+fn lifted(added: u8, value: i64) -> u8
+    requires low { pos 0 ≤ℤ (value +ℤ pos added) }
+    requires high { (value +ℤ pos added) ≤ℤ pos 255 }
+    ensures { pos result ≡ value +ℤ pos added }
+{
+    (value + i64::from(added)) as u8
+}
+
+/// The value that is so far above the type's least.
+#[inline(always)]
+pub(super) fn lowered(added: u8, byte: u8) -> i64
+    ensures value { result ≡ pos byte -ℤ pos added }
+    ensures byte { byte < 256 }
+{
+    i64::from(byte) - i64::from(added)
+}
+
+/// How far the value is above the type's least that has this symbol behind the one before.
+#[inline(always)]
+fn next_byte(added: u8, before: u8, symbol: u8) -> u8
+    ensures value { result ≡ (before + (symbol + added) % 256) % 256 }
+    ensures before { before < 256 }
+    ensures symbol { symbol < 256 }
+{
+    before.wrapping_add(symbol.wrapping_add(added))
+}
+
+/// Finds the values of the symbols, each from the one before it, the first from its predictor.
+fn find_run(kind: PixelType, predictor: i64, symbols: &[u8], out: &mut [i64])
+    requires kind { IsByteType kind }
+    requires predictor { InRange kind predictor }
+    requires room { length out.old ≡ length symbols.now }
+    ensures room { length out.new ≡ length out.old }
+    ensures in_range { (i : ℕ) → InRange kind (value_of_place out.new i) }
+    ensures symbols { (i : ℕ) → i < length symbols.now → symbol_of kind
+        (value_of_place out.new i -ℤ value_before predictor (value_of_place out.new) i)
+        ≡ get_or symbols.now i 0 }
+{
+    let added = added(kind);
+    let mut byte = lifted(added, predictor);
+    for i in 0..symbols.len() {
+        byte = next_byte(added, byte, symbols[i]);
+        out[i] = lowered(added, byte);
+    }
+}
+
+/// The predictor of pixel number `place`, by what is kept in front of it.
+fn predictor_at<T: Target>(raster: &T, d: u32, place: usize, walk: Walk) -> i64
+    requires kind { IsByteType (T.pixels raster.now).kind }
+    requires depth { d < (T.pixels raster.now).depth }
+    requires across { place % (T.pixels raster.now).cols + 1 ≤ (T.pixels raster.now).cols }
+    requires last_in_range { InRange (T.pixels raster.now).kind walk.last }
+    requires within { place < (T.pixels raster.now).rows * (T.pixels raster.now).cols }
+    requires last { walk.last ≡ last_value (is_valid (T.pixels raster.now)) (value_in (T.pixels raster.now) d) place }
+    requires left { walk.left ≡ has_left (T.pixels raster.now).cols (is_valid (T.pixels raster.now)) place }
+    requires sound { T.sound raster.now }
+    ensures { result ≡ predictor (T.pixels raster.now).cols (is_valid (T.pixels raster.now))
+        (value_in (T.pixels raster.now) d) place }
+{
+    if walk.left {
+        return walk.last;
+    }
+    let mut up = [false; 1];
+    let mut above = [0; 1];
+    read_above(raster, d, place, &mut up, &mut above);
+    predicted(false, up[0], above[0], walk.last)
+}
+
+/// Gives the pixels of a piece of a row, from number `place` on, which are all valid, the values
+/// that the symbols of the piece say.
+pub(super) fn give_run<T: Target>(
+    symbols: &[u8],
+    raster: &mut T,
+    d: u32,
+    place: usize,
+    walk: Walk,
+    values: &mut [i64],
+) -> Walk
+    requires kind { IsByteType (T.pixels raster.old).kind }
+    requires depth { d < (T.pixels raster.old).depth }
+    requires some { 0 < length symbols.now }
+    requires across { place % (T.pixels raster.old).cols + length symbols.now ≤ (T.pixels raster.old).cols }
+    requires within { place + length symbols.now ≤ (T.pixels raster.old).rows * (T.pixels raster.old).cols }
+    requires valid { (i : ℕ) → i < length symbols.now → is_valid (T.pixels raster.old) (place + i) ≡ true }
+    requires values { length values.old ≡ length symbols.now }
+    requires last { walk.last ≡ last_value (is_valid (T.pixels raster.old)) (value_in (T.pixels raster.old) d) place }
+    requires left { walk.left ≡ has_left (T.pixels raster.old).cols (is_valid (T.pixels raster.old)) place }
+    requires count { walk.count ≡ rank (is_valid (T.pixels raster.old)) place }
+    requires sound { T.sound raster.old }
+    ensures at { IsAt (is_valid (T.pixels raster.old)) (value_in (T.pixels raster.new) d) (place + length symbols.now)
+        result.left result.last result.count }
+    ensures same { SameMask (T.pixels raster.old) (T.pixels raster.new) }
+    ensures coded { (before : List ℕ) → length before ≡ walk.count
+        → AreCoded (T.pixels raster.old).kind (T.pixels raster.old).cols (is_valid (T.pixels raster.old))
+        (value_in (T.pixels raster.new) d) place (place + length symbols.now) (before ++ symbols.now) }
+    ensures rest { (k e : ℕ) → k < (T.pixels raster.old).rows * (T.pixels raster.old).cols → e < (T.pixels raster.old).depth
+        → (place ≤ k → k < place + length symbols.now → e ≡ d → ⊥)
+        → value_in (T.pixels raster.new) e k ≡ value_in (T.pixels raster.old) e k }
+    ensures sound { T.sound raster.new }
+    ensures kept { T.kept raster.new ≡ T.kept raster.old }
+{
+    let kind = raster.kind();
+    let predictor = predictor_at(raster, d, place, walk);
+    find_run(kind, predictor, symbols, values);
+    raster.put_from(place, d, values);
+    Walk {
+        left: true,
+        last: values[values.len() - 1],
+        count: walk.count + values.len(),
+    }
+}

@@ -1,0 +1,102 @@
+-- Blocks of both sides, one more at a time: their total, their flags, and their values in a buffer.
+use Rattle.std.proofs.Common.{◌≡◌, ℕ, zero, suc, ◌+◌, ◌-◌, ◌*◌, ◌<◌, ◌≤◌, ◌⊎◌, inl, inr, Bool, List, ◌++◌, length, map, take, drop, sym, ap, ◌∙◌, subst, arith, length-append}
+use Rattle.std.specs.Prelude.{ℤ, All, ◌↔◌, IsTrue}
+use Rattle.std.proofs.lemmas.Bool.{cases_eq, cases_lt}
+use Rattle.std.proofs.lemmas.List.{length-take-le, map-append, take-append-drop}
+use Rattle.std.proofs.lemmas.List.Elements.{All-append}
+use Rattle.std.proofs.Math.Seq.{take-append-add}
+use borrow.Rule.Slice.PartMut.{put_mid}
+use Rattle.bit_stuff.proofs.Buffers.{end_written}
+use Rattle.raster_values.specs.declared.kind.PixelType.{PixelType}
+use Rattle.raster_values.specs.Distance.{IsDistance, value_above}
+use Rattle.raster_values.specs.Raster.{Pixels}
+use Rattle.lerc_header.specs.declared.header.Header.{Header}
+use Rattle.lerc_encode.specs.declared.blocks.Spot.{Spot}
+use Rattle.lerc_encode.specs.inside.Blocked.{HasTable}
+use Rattle.lerc_encode.specs.inside.Flags.{IsFlagged}
+use Rattle.lerc_encode.specs.inside.Sides.{AreMore, IsFlaggedAt, IsMore}
+
+-- ---- totals
+
+pub nothing_more : (most : ℕ) → IsMore most 0 0 0
+nothing_more most = record { within = λ le. (omega arith, omega arith); over = λ less. absurd (omega (arith, less)) }
+
+pub two_more : (most n m a b c : ℕ) → IsMore most n a b → IsMore most m b c → IsMore most (n + m) a c
+two_more most n m a b c first second = record {
+  within = λ le. inside (second.within le);
+  over = λ less. outside (second.over less) (cases_lt most b);
+}
+  where
+    inside : (b ≤ most) × (c ≡ b + m) → (a ≤ most) × (c ≡ a + (n + m))
+    inside is = let f = first.within is.0 in ((f.0), (let e = f.1 in let g = is.1 in omega (arith, e, g)))
+
+    outside : most < b + m → (most < b) ⊎ (b ≤ most) → most < a + (n + m)
+    outside less (inl over) = let f = first.over over in omega (arith, f)
+    outside less (inr le) = let f = (first.within le).1 in omega (arith, f, less)
+
+-- ---- flags
+
+pub flags_still : (h : Header) (r : Pixels) (tables : List ℕ) → AreMore h r tables tables
+flags_still h r tables = record { room = refl_of (length tables); kept = λ k is. is; sound = λ k is. inl is }
+  where
+    refl_of : (n : ℕ) → n ≡ n
+    refl_of n = omega arith
+
+pub two_flags : (h : Header) (r : Pixels) (a b c : List ℕ) → AreMore h r a b → AreMore h r b c → AreMore h r a c
+two_flags h r a b c first second = record {
+  room = second.room ∙ first.room;
+  kept = λ k is. second.kept k (first.kept k is);
+  sound = λ k is. back k (second.sound k is);
+}
+  where
+    back : (k : ℕ) → IsFlagged b k ⊎ HasTable h r k → IsFlagged a k ⊎ HasTable h r k
+    back k (inl set) = first.sound k set
+    back k (inr has) = inr has
+
+pub one_flag : (h : Header) (r : Pixels) (k : ℕ) (old new : List ℕ) (told : Bool) → length new ≡ length old → (IsFlagged new k ↔ (IsFlagged old k ⊎ IsTrue told))
+    → ((i : ℕ) → (i ≡ k → ⊥) → IsFlagged new i ↔ IsFlagged old i) → (IsTrue told ↔ HasTable h r k) → AreMore h r old new
+one_flag h r k old new told long this others is = record {
+  room = long;
+  kept = λ i set. kept_by i set (cases_eq i k);
+  sound = λ i set. sound_by i set (cases_eq i k);
+}
+  where
+    kept_by : (i : ℕ) → IsFlagged old i → (i ≡ k) ⊎ ((i ≡ k) → ⊥) → IsFlagged new i
+    kept_by i set (inl same) = subst (IsFlagged new) (sym same) (this.1 (inl (subst (IsFlagged old) same set)))
+    kept_by i set (inr other) = (others i other).1 set
+
+    from : IsFlagged old k ⊎ IsTrue told → IsFlagged old k ⊎ HasTable h r k
+    from (inl set) = inl set
+    from (inr t) = inr (is.0 t)
+
+    sound_by : (i : ℕ) → IsFlagged new i → (i ≡ k) ⊎ ((i ≡ k) → ⊥) → IsFlagged old i ⊎ HasTable h r i
+    sound_by i set (inl same) = subst (λ j. IsFlagged old j ⊎ HasTable h r j) (sym same) (from (this.0 (subst (IsFlagged new) same set)))
+    sound_by i set (inr other) = inl ((others i other).0 set)
+
+-- what is set stays so
+pub flag_stays : (h : Header) (r : Pixels) (spot : Spot) (old new : List ℕ) → AreMore h r old new → IsFlaggedAt h r spot old → IsFlaggedAt h r spot new
+flag_stays h r spot old new more is = λ within has. more.kept _ (is within has)
+
+-- ---- values
+
+put_behind : (old new : List ℕ) (at : ℕ) → at ≤ length old → put_mid at (length old - at) old new ≡ take at old ++ new
+put_behind old new at within =
+    let whole = take-append-drop at old in
+    let sizes = length-append (take at old) (drop at old) in
+    let all = ap length whole in
+    let front : length (take at old) ≡ at = length-take-le at old within in
+    ap (λ (xs : List ℕ). put_mid at (length old - at) xs new) (sym whole) ∙ end_written (take at old) (drop at old) new at (length old - at) front (omega (arith, sizes, all, front))
+
+pub taken_behind : (old new : List ℕ) (at n : ℕ) → at ≤ length old → take (at + n) (put_mid at (length old - at) old new) ≡ take at old ++ take n new
+taken_behind old new at n within =
+    let front : length (take at old) ≡ at = length-take-le at old within in
+    ap (take (at + n)) (put_behind old new at within) ∙ ap (λ j. take (j + n) (take at old ++ new)) (sym front) ∙ take-append-add (take at old) new n
+
+pub fit_behind : (kind : PixelType) (old new : List ℕ) (at n : ℕ) → at ≤ length old → All (IsDistance kind) (take at old) → All (IsDistance kind) (take n new)
+    → All (IsDistance kind) (take (at + n) (put_mid at (length old - at) old new))
+fit_behind kind old new at n within before after = subst (All (IsDistance kind)) (sym (taken_behind old new at n within)) (All-append (IsDistance kind) (take at old) (take n new) before after)
+
+pub are_behind : (kind : PixelType) (old new : List ℕ) (at n : ℕ) (values : List ℤ) → at ≤ length old → map (value_above kind) (take n new) ≡ values
+    → map (value_above kind) (take (at + n) (put_mid at (length old - at) old new)) ≡ map (value_above kind) (take at old) ++ values
+are_behind kind old new at n values within is =
+    ap (map (value_above kind)) (taken_behind old new at n within) ∙ map-append (value_above kind) (take at old) (take n new) ∙ ap (λ (vs : List ℤ). map (value_above kind) (take at old) ++ vs) is

@@ -1,0 +1,15 @@
+use Rattle.std.proofs.Common.{◌≤◌, ◌+◌, arith, length}
+use Rattle.raster_values.specs.Block.{block_values}
+use Rattle.lerc_encode.proofs.SideSteps.{are_behind, fit_behind}
+use Rattle.lerc_encode.proofs.sides.tally_behind.Goals as goal
+
+pub returns-clause-fit : goal.returns-clause-fit
+returns-clause-fit g c =
+    let room = c.requires.room in
+    fit_behind c.args.h.now.kind c.args.distances.now c.tally_part-n.new.distances c.args.at c.tally_part-n.result (omega (arith, room)) c.requires.fit c.tally_part-n.ensures.fit
+
+pub returns-clause-are : goal.returns-clause-are
+returns-clause-are g c =
+    let room = c.requires.room in
+    let spot = c.args.spot in
+    are_behind c.args.h.now.kind c.args.distances.now c.tally_part-n.new.distances c.args.at c.tally_part-n.result (block_values (g.V.View.pixels c.args.raster.now) spot.row spot.col 8 spot.d) (omega (arith, room)) c.tally_part-n.ensures.are

@@ -1,0 +1,69 @@
+-- Blocks of both sides as they are looked at: with each block of side 16 those of side 8 in it.
+use Rattle.std.specs.Prelude.{◌≡◌, ℕ, ◌+◌, ◌*◌, ◌/◌, ◌<◌, ◌≤◌, ◌⊎◌, ◌&&◌, nat_lt, if◌then◌else◌, List, ℤ, ◌++◌, length, MatchOption}
+use Rattle.raster_values.specs.Raster.{Pixels}
+use Rattle.raster_values.specs.Block.{block_values}
+use Rattle.lerc_header.specs.declared.header.Header.{Header}
+use Rattle.lerc_grammar.specs.Blocks.{blocks_across}
+use Rattle.lerc_encode.specs.declared.blocks.Spot.{Spot}
+use Rattle.lerc_encode.specs.inside.Blocked.{HasTable, HasTableAt, IsWithin, bytes_at}
+use Rattle.lerc_encode.specs.inside.Flags.{IsFlagged}
+
+-- ---- one block more
+
+-- a total of so many bytes more, unless it is above `most`; then it stays above
+pub record IsMore (most n old new : ℕ) : Type 0 where
+  pub within : new ≤ most → (old ≤ most) × (new ≡ old + n)
+  pub over : most < new → most < old + n
+
+-- no flag is cleared, and none is set of a block without a table
+pub record AreMore (h : Header) (r : Pixels) (old new : List ℕ) : Type 0 where
+  pub room : length new ≡ length old
+  pub kept : (k : ℕ) → IsFlagged old k → IsFlagged new k
+  pub sound : (k : ℕ) → IsFlagged new k → IsFlagged old k ⊎ HasTable h r k
+
+-- ---- the blocks of side 8 in one of side 16
+
+-- the number of the block that stands here
+abbrev pub number_at : Header → Spot → ℕ
+number_at h spot = (spot.row / h.side * blocks_across h + spot.col / h.side) * h.depth + spot.d
+
+-- how many bytes it takes: none where none stands here
+abbrev pub size_at : Header → Pixels → Spot → ℕ
+size_at h r spot =
+    if nat_lt spot.row h.rows && nat_lt spot.col h.cols then length (bytes_at h r spot) else 0
+
+-- its flag is set where it has a table
+abbrev pub IsFlaggedAt : Header → Pixels → Spot → List ℕ → Type 0
+IsFlaggedAt h r spot tables =
+    IsWithin h spot → HasTableAt h r spot → IsFlagged tables (number_at h spot)
+
+-- the spots to the right, below, and at the corner
+abbrev pub right_of : Spot → Spot
+right_of spot = record { row = spot.row; col = spot.col + 8; d = spot.d }
+
+abbrev pub below : Spot → Spot
+below spot = record { row = spot.row + 8; col = spot.col; d = spot.d }
+
+abbrev pub corner : Spot → Spot
+corner spot = record { row = spot.row + 8; col = spot.col + 8; d = spot.d }
+
+-- the bytes of all four
+abbrev pub four_sizes : Header → Pixels → Spot → ℕ
+four_sizes h r spot =
+    size_at h r spot
+    + (size_at h r (right_of spot) + (size_at h r (below spot) + size_at h r (corner spot)))
+
+-- their flags
+pub record AreFlaggedAt (h : Header) (r : Pixels) (spot : Spot) (tables : List ℕ) : Type 0 where
+  pub first : IsFlaggedAt h r spot tables
+  pub right : IsFlaggedAt h r (right_of spot) tables
+  pub under : IsFlaggedAt h r (below spot) tables
+  pub last : IsFlaggedAt h r (corner spot) tables
+
+-- their values, one block behind the other
+abbrev pub four_values : Pixels → Spot → List ℤ
+four_values r spot =
+    ((block_values r spot.row spot.col 8 spot.d
+    ++ block_values r spot.row (spot.col + 8) 8 spot.d)
+    ++ block_values r (spot.row + 8) spot.col 8 spot.d)
+    ++ block_values r (spot.row + 8) (spot.col + 8) 8 spot.d

@@ -1,0 +1,366 @@
+// The blocks of both sides from one walk: with each block of 16 rows and columns those of 8 in it.
+
+ghost use Rattle.std.specs.Prelude.{◌≡◌, ℕ, ◌+◌, ◌*◌, ◌/◌, ◌%◌, ◌<◌, ◌≤◌, ◌↔◌, ◌⊎◌, ◌++◌, All, length, map, take, IfOk, IsTrue, MatchOption};
+ghost use Rattle.lut_stuff.specs.Names.{AreNames};
+ghost use Rattle.lut_stuff.specs.Ranked.{Rises};
+ghost use Rattle.micro_block.specs.ChosenBlock as micro;
+ghost use Rattle.micro_block.specs.ChosenBlock.{block_bytes, chosen_form};
+ghost use Rattle.raster_values.specs.Distance.{IsDistance, value_above};
+ghost use Rattle.raster_values.specs.Block.{block_values};
+ghost use Rattle.raster_values.specs.PixelType.{type_greatest, InRange};
+ghost use Rattle.lerc_grammar.specs.Blocks.{coded_blocks};
+ghost use Rattle.lerc_encode.specs.Images.{blocks_bytes};
+ghost use Rattle.lerc_encode.specs.inside.Flags.{IsFlagged};
+ghost use Rattle.lerc_encode.specs.inside.Blocked.{HasTableAt, IsBlocked, IsMeasured, IsSpot, IsWithin, bytes_at};
+ghost use Rattle.lerc_encode.specs.inside.Sides as inside;
+ghost use Rattle.lerc_encode.specs.inside.Sides.{AreFlaggedAt, AreMore, IsFlaggedAt, IsMore, four_sizes, four_values, number_at};
+
+use crate::blocks::{
+    FIRST, MOST, Measured, Spot, across, context, count, gather, next_spot, sorted_values,
+};
+use crate::flags::{set_where, words_of};
+use lerc_header::Header;
+use lut_stuff::Names;
+use micro_block::{BlockSize, named_size};
+use raster_view::View;
+use std::alloc::{AllocError, Global};
+
+/// What is known of the blocks of a side that were looked at: how many bytes they take, and which
+/// of them have a table.
+#[derive(Drop)]
+pub(crate) struct Tally {
+    size: usize,
+    tables: Vec<u64>,
+}
+
+/// What is known of the blocks of both sides; none of a side whose blocks take too many bytes.
+#[derive(Drop)]
+pub(crate) struct Sides {
+    /// Of those of 8 rows and columns.
+    pub(crate) small: Option<Measured>,
+    /// Of those of 16.
+    pub(crate) large: Option<Measured>,
+}
+
+/// Nothing is known yet of the blocks of a side.
+fn no_tally<V: View>(alloc: Global, h: &Header, raster: &V) -> Result<Tally, AllocError>
+    requires { IsBlocked h.now (V.pixels raster.now) }
+    ensures size { IfOk result (λ t. t.size ≡ 0) }
+    ensures room { IfOk result (λ t. coded_blocks h.now ≤ 64 * length t.tables.items) }
+    ensures none { IfOk result (λ t. (k : ℕ) → IsFlagged t.tables.items k → ⊥) }
+{
+    let tables = vec![in alloc; 0u64; words_of(count(h, raster))]?;
+    Ok(Tally { size: 0, tables })
+}
+
+/// The number of the block of 8 at a spot.
+fn number_of<V: View>(h: &Header, raster: &V, spot: Spot) -> usize
+    requires blocked { IsBlocked h.now (V.pixels raster.now) }
+    requires side { h.now.side ≡ 8 }
+    requires within { IsWithin h.now spot }
+    requires row { spot.row % 8 ≡ 0 }
+    requires col { spot.col % 8 ≡ 0 }
+    ensures value { result ≡ number_at h.now spot }
+    ensures within { result < coded_blocks h.now }
+    ensures spot { IsSpot h.now result spot }
+{
+    let block = (spot.row / 8) as usize * across(h, raster) + (spot.col / 8) as usize;
+    block * h.depth as usize + spot.d as usize
+}
+
+/// Adds what was found of a block, by its number.
+fn add(tally: &mut Tally, k: usize, found: BlockSize)
+    requires few { tally.old.size ≤ 67108865 }
+    requires short { found.len ≤ 1025 }
+    requires within { k < 64 * length tally.old.tables.items }
+    ensures size { tally.new.size ≡ tally.old.size + found.len }
+    ensures room { length tally.new.tables.items ≡ length tally.old.tables.items }
+    ensures this { IsFlagged tally.new.tables.items k
+        ↔ (IsFlagged tally.old.tables.items k ⊎ IsTrue found.has_table) }
+    ensures others { (i : ℕ) → (i ≡ k → ⊥)
+        → IsFlagged tally.new.tables.items i ↔ IsFlagged tally.old.tables.items i }
+{
+    tally.size += found.len;
+    set_where(&mut tally.tables, k, found.has_table);
+}
+
+/// Looks at the block at a spot, whose number is k and whose values, in some order, are gathered,
+/// unless the blocks before it take more than `most` bytes.
+fn tally_block<V: View>(
+    h: &Header,
+    raster: &V,
+    spot: Spot,
+    k: usize,
+    distances: &[u32],
+    most: usize,
+    tally: &mut Tally,
+    names: &mut Names,
+)
+    requires blocked { IsBlocked h.now (V.pixels raster.now) }
+    requires spot { IsSpot h.now k spot }
+    requires most { most ≤ 67108865 }
+    requires names { AreNames names.old }
+    requires few { length distances.now ≤ 256 }
+    requires fit { All (IsDistance h.now.kind) distances.now }
+    requires values { All (InRange h.now.kind) (map (value_above h.now.kind) distances.now) }
+    requires long { length (block_bytes h.now.kind spot.col h.now.step (map (value_above h.now.kind) distances.now))
+        ≡ length (bytes_at h.now (V.pixels raster.now) spot) }
+    requires table { (chosen_form h.now.kind spot.col h.now.step (map (value_above h.now.kind) distances.now) ≡ micro.table)
+        ↔ HasTableAt h.now (V.pixels raster.now) spot }
+    requires within { k < 64 * length tally.old.tables.items }
+    ensures names { AreNames names.new }
+    ensures size { IsMore most (length (bytes_at h.now (V.pixels raster.now) spot)) tally.old.size tally.new.size }
+    ensures tables { AreMore h.now (V.pixels raster.now) tally.old.tables.items tally.new.tables.items }
+    ensures this { tally.new.size ≤ most → HasTableAt h.now (V.pixels raster.now) spot
+        → IsFlagged tally.new.tables.items k }
+{
+    if tally.size > most {
+        return;
+    }
+    let found = named_size(distances, &context(h, raster, spot.col), names);
+    add(tally, k, found);
+}
+
+/// Gathers the values of the block of 8 at a spot and looks at it, where one stands there, and
+/// answers how many values these are.
+fn tally_part<V: View>(
+    h: &Header,
+    raster: &V,
+    spot: Spot,
+    most: usize,
+    tally: &mut Tally,
+    names: &mut Names,
+    distances: &mut [u32],
+) -> usize
+    requires blocked { IsBlocked h.now (V.pixels raster.now) }
+    requires side { h.now.side ≡ 8 }
+    requires row { spot.row % 8 ≡ 0 }
+    requires col { spot.col % 8 ≡ 0 }
+    requires depth { spot.d < h.now.depth }
+    requires most { most ≤ 67108865 }
+    requires names { AreNames names.old }
+    requires room { 64 ≤ length distances.old }
+    requires tables { coded_blocks h.now ≤ 64 * length tally.old.tables.items }
+    ensures names { AreNames names.new }
+    ensures few { result ≤ 64 }
+    ensures fit { All (IsDistance h.now.kind) (take result distances.new) }
+    ensures are { map (value_above h.now.kind) (take result distances.new)
+        ≡ block_values (V.pixels raster.now) spot.row spot.col 8 spot.d }
+    ensures size { IsMore most (inside.size_at h.now (V.pixels raster.now) spot) tally.old.size tally.new.size }
+    ensures tables { AreMore h.now (V.pixels raster.now) tally.old.tables.items tally.new.tables.items }
+    ensures this { tally.new.size ≤ most
+        → IsFlaggedAt h.now (V.pixels raster.now) spot tally.new.tables.items }
+{
+    if spot.row >= h.rows || spot.col >= h.cols {
+        return 0;
+    }
+    let n = gather(h, raster, spot, distances);
+    let k = number_of(h, raster, spot);
+    tally_block(h, raster, spot, k, &distances[..n], most, tally, names);
+    n
+}
+
+/// Does this with the values put behind the first `at`, and answers where they end.
+fn tally_behind<V: View>(
+    h: &Header,
+    raster: &V,
+    spot: Spot,
+    at: usize,
+    most: usize,
+    tally: &mut Tally,
+    names: &mut Names,
+    distances: &mut [u32],
+) -> usize
+    requires blocked { IsBlocked h.now (V.pixels raster.now) }
+    requires side { h.now.side ≡ 8 }
+    requires row { spot.row % 8 ≡ 0 }
+    requires col { spot.col % 8 ≡ 0 }
+    requires depth { spot.d < h.now.depth }
+    requires most { most ≤ 67108865 }
+    requires names { AreNames names.old }
+    requires room { at + 64 ≤ length distances.old }
+    requires fit { All (IsDistance h.now.kind) (take at distances.old) }
+    requires tables { coded_blocks h.now ≤ 64 * length tally.old.tables.items }
+    ensures names { AreNames names.new }
+    ensures few { result ≤ at + 64 }
+    ensures room { length distances.new ≡ length distances.old }
+    ensures fit { All (IsDistance h.now.kind) (take result distances.new) }
+    ensures are { map (value_above h.now.kind) (take result distances.new)
+        ≡ map (value_above h.now.kind) (take at distances.old)
+        ++ block_values (V.pixels raster.now) spot.row spot.col 8 spot.d }
+    ensures size { IsMore most (inside.size_at h.now (V.pixels raster.now) spot) tally.old.size tally.new.size }
+    ensures tables { AreMore h.now (V.pixels raster.now) tally.old.tables.items tally.new.tables.items }
+    ensures this { tally.new.size ≤ most
+        → IsFlaggedAt h.now (V.pixels raster.now) spot tally.new.tables.items }
+{
+    let n = tally_part(h, raster, spot, most, tally, names, &mut distances[at..]);
+    at + n
+}
+
+/// Does this of the up to four blocks of 8 in the block of 16 at a spot, row by row of blocks. Their
+/// values are gathered one behind the other.
+fn tally_parts<V: View>(
+    h: &Header,
+    raster: &V,
+    spot: Spot,
+    most: usize,
+    tally: &mut Tally,
+    names: &mut Names,
+    distances: &mut [u32],
+) -> usize
+    requires blocked { IsBlocked h.now (V.pixels raster.now) }
+    requires side { h.now.side ≡ 8 }
+    requires within { IsWithin h.now spot }
+    requires row { spot.row % 8 ≡ 0 }
+    requires col { spot.col % 8 ≡ 0 }
+    requires most { most ≤ 67108865 }
+    requires names { AreNames names.old }
+    requires room { length distances.old ≡ 256 }
+    requires tables { coded_blocks h.now ≤ 64 * length tally.old.tables.items }
+    ensures names { AreNames names.new }
+    ensures few { result ≤ 256 }
+    ensures room { length distances.new ≡ 256 }
+    ensures fit { All (IsDistance h.now.kind) (take result distances.new) }
+    ensures are { map (value_above h.now.kind) (take result distances.new)
+        ≡ four_values (V.pixels raster.now) spot }
+    ensures size { IsMore most (four_sizes h.now (V.pixels raster.now) spot) tally.old.size tally.new.size }
+    ensures tables { AreMore h.now (V.pixels raster.now) tally.old.tables.items tally.new.tables.items }
+    ensures these { tally.new.size ≤ most
+        → AreFlaggedAt h.now (V.pixels raster.now) spot tally.new.tables.items }
+{
+    let right = Spot {
+        col: spot.col + 8,
+        ..spot
+    };
+    let below = Spot {
+        row: spot.row + 8,
+        ..spot
+    };
+    let corner = Spot {
+        row: spot.row + 8,
+        col: spot.col + 8,
+        d: spot.d,
+    };
+    let first = tally_behind(h, raster, spot, 0, most, tally, names, distances);
+    let second = tally_behind(h, raster, right, first, most, tally, names, distances);
+    let third = tally_behind(h, raster, below, second, most, tally, names, distances);
+    tally_behind(h, raster, corner, third, most, tally, names, distances)
+}
+
+/// Looks at block of 16 number k, at a spot, and before at the blocks of 8 in it.
+fn tally_both<V: View>(
+    small: &Header,
+    large: &Header,
+    raster: &V,
+    spot: Spot,
+    k: usize,
+    most: usize,
+    eights: &mut Tally,
+    sixteens: &mut Tally,
+    names: &mut Names,
+    distances: &mut [u32],
+)
+    requires blocked { IsBlocked small.now (V.pixels raster.now) }
+    requires side { small.now.side ≡ 8 }
+    requires large { large.now ≡ record small.now { side = 16 } }
+    requires spot { IsSpot large.now k spot }
+    requires within { k < coded_blocks large.now }
+    requires most { most ≤ 67108865 }
+    requires names { AreNames names.old }
+    requires room { length distances.old ≡ 256 }
+    requires eights { coded_blocks small.now ≤ 64 * length eights.old.tables.items }
+    requires sixteens { coded_blocks large.now ≤ 64 * length sixteens.old.tables.items }
+    ensures names { AreNames names.new }
+    ensures small_size { IsMore most (four_sizes small.now (V.pixels raster.now) spot) eights.old.size eights.new.size }
+    ensures small_tables { AreMore small.now (V.pixels raster.now) eights.old.tables.items eights.new.tables.items }
+    ensures small_these { eights.new.size ≤ most
+        → AreFlaggedAt small.now (V.pixels raster.now) spot eights.new.tables.items }
+    ensures large_size { IsMore most (length (bytes_at large.now (V.pixels raster.now) spot)) sixteens.old.size sixteens.new.size }
+    ensures large_tables { AreMore large.now (V.pixels raster.now) sixteens.old.tables.items sixteens.new.tables.items }
+    ensures large_this { sixteens.new.size ≤ most → HasTableAt large.now (V.pixels raster.now) spot
+        → IsFlagged sixteens.new.tables.items k }
+{
+    let n = tally_parts(small, raster, spot, most, eights, names, distances);
+    tally_block(
+        large,
+        raster,
+        spot,
+        k,
+        &distances[..n],
+        most,
+        sixteens,
+        names,
+    );
+}
+
+/// What is known of all blocks of a side, unless they take more than `most` bytes.
+fn measured_of(
+    alloc: Global,
+    tally: Tally,
+    most: usize,
+    names: &Names,
+) -> Result<Option<Measured>, AllocError>
+    requires { AreNames names.now }
+    ensures { IfOk result (λ found. MatchOption found (most < tally.size)
+        (λ m. (m.size ≡ tally.size) × ((tally.size ≤ most) × ((m.tables.items ≡ tally.tables.items)
+        × (Rises m.values.items × (length m.values.items ≤ 256)))))) }
+{
+    if tally.size > most {
+        return Ok(None);
+    }
+    let values = sorted_values(alloc, names)?;
+    Ok(Some(Measured {
+        size: tally.size,
+        tables: tally.tables,
+        values,
+    }))
+}
+
+/// What is known of all blocks of both sides; none of a side where its blocks take more than `most`
+/// bytes, for then they are not looked at to the end.
+pub(crate) fn measure_sides<V: View>(
+    alloc: Global,
+    small: &Header,
+    large: &Header,
+    raster: &V,
+    most: usize,
+) -> Result<Sides, AllocError>
+    requires blocked { IsBlocked small.now (V.pixels raster.now) }
+    requires side { small.now.side ≡ 8 }
+    requires large { large.now ≡ record small.now { side = 16 } }
+    requires most { most ≤ 67108865 }
+    ensures small { IfOk result (λ found. MatchOption found.small
+        (most < length (blocks_bytes small.now (V.pixels raster.now))) (IsMeasured small.now (V.pixels raster.now))) }
+    ensures large { IfOk result (λ found. MatchOption found.large
+        (most < length (blocks_bytes large.now (V.pixels raster.now))) (IsMeasured large.now (V.pixels raster.now))) }
+{
+    let mut eights = no_tally(alloc, small, raster)?;
+    let mut sixteens = no_tally(alloc, large, raster)?;
+    let mut names = Names::new();
+    let mut distances = [0; MOST];
+    let mut spot = FIRST;
+    for k in 0..count(large, raster) {
+        tally_both(
+            small,
+            large,
+            raster,
+            spot,
+            k,
+            most,
+            &mut eights,
+            &mut sixteens,
+            &mut names,
+            &mut distances,
+        );
+        if eights.size > most && sixteens.size > most {
+            return Ok(Sides {
+                small: None,
+                large: None,
+            });
+        }
+        spot = next_spot(large, raster, spot);
+    }
+    let small = measured_of(alloc, eights, most, &names)?;
+    let large = measured_of(alloc, sixteens, most, &names)?;
+    Ok(Sides { small, large })
+}

@@ -1,0 +1,172 @@
+//! The symbols of a raster of bytes, counted and written piece by piece: they are nowhere kept.
+
+ghost use Rattle.std.specs.Prelude.{◌≡◌, ◌*◌, ◌^◌, ◌<◌, ◌≤◌, ◌↔◌, All, IsTrue, length, slice_index, sum};
+ghost use Rattle.raster_values.specs.Raster.{IsRaster, valid_count};
+ghost use Rattle.delta_mode.specs.Symbols.{IsByteType};
+ghost use Rattle.delta_mode.specs.Deltas.{plain};
+ghost use Rattle.huff_codes.specs.Codes.{canonical_codes};
+ghost use Rattle.huff_codes.specs.Written.{AreWritten, written_size};
+ghost use Rattle.lerc_encode.specs.Codings.{counts_of};
+ghost use Rattle.lerc_encode.specs.Images.{all_deltas};
+ghost use Rattle.lerc_encode.specs.inside.Coded.{IsLying, symbols_of};
+
+use delta_mode::{first_plain, first_way, next_deltas, next_plain};
+use huff_codes::{Lengths, SymbolCounter, SymbolWriter, count_symbols, write_symbols};
+use raster_values::PixelType;
+use raster_view::View;
+
+/// Which symbols stand for the values.
+#[derive(Clone, Copy)]
+pub(crate) enum SymbolMode {
+    /// Those of the differences, one depth behind the other.
+    Deltas,
+    /// Those of the values, pixel by pixel.
+    Plain,
+}
+
+/// How many symbols of differences are made together, at most.
+const DELTAS: usize = 4096;
+
+/// How many plain symbols are made together, at most: at least as many as a pixel may have.
+const PLAINS: usize = 65536;
+
+/// Counts the symbols of the differences.
+fn count_deltas<V: View>(raster: &V) -> [u32; 256]
+    requires { IsByteType (V.pixels raster.now).kind }
+    ensures counts { result ≡ counts_of (all_deltas (V.pixels raster.now)) }
+    ensures few { sum result ≤ 2 ^ 24 }
+{
+    let depth = raster.depth();
+    let mut counter = SymbolCounter::new();
+    let mut room = [0; DELTAS];
+    let mut way = first_way();
+    while way.d < depth {
+        let next = next_deltas(raster, way, &mut room);
+        counter.add(&room[..next.given - way.given]);
+        way = next;
+    }
+    counter.counts()
+}
+
+/// Writes the words of the differences' symbols over all of `out`.
+fn write_deltas<V: View>(raster: &V, lengths: &Lengths, out: &mut [u8])
+    requires kind { IsByteType (V.pixels raster.now).kind }
+    requires room { length out.old
+        ≡ written_size (canonical_codes lengths.now) (all_deltas (V.pixels raster.now)) }
+    ensures { AreWritten (canonical_codes lengths.now) (all_deltas (V.pixels raster.now)) out.new }
+{
+    let depth = raster.depth();
+    let mut writer = SymbolWriter::new(lengths);
+    let mut room = [0; DELTAS];
+    let mut way = first_way();
+    while way.d < depth {
+        let next = next_deltas(raster, way, &mut room);
+        writer.write(&room[..next.given - way.given], out);
+        way = next;
+    }
+    writer.end(out);
+}
+
+/// Whether the plain symbols are the raster's bytes: all pixels are valid, and of u8.
+fn is_lying<V: View>(raster: &V) -> bool
+    ensures lies { IsTrue result ↔ IsLying (V.pixels raster.now) }
+    ensures sound { IsRaster (V.pixels raster.now) }
+{
+    match raster.kind() {
+        PixelType::U8 => raster.valid_count() == raster.rows() * raster.cols(),
+        _ => false,
+    }
+}
+
+/// Counts the plain symbols piece by piece.
+fn count_pieces<V: View>(raster: &V) -> [u32; 256]
+    requires { IsByteType (V.pixels raster.now).kind }
+    ensures counts { result ≡ counts_of (plain (V.pixels raster.now)) }
+    ensures few { sum result ≤ 2 ^ 24 }
+{
+    let pixels = raster.rows() as usize * raster.cols() as usize;
+    let mut counter = SymbolCounter::new();
+    let mut room = [0; PLAINS];
+    let mut way = first_plain();
+    while way.place < pixels {
+        let next = next_plain(raster, way, &mut room);
+        counter.add(&room[..next.given - way.given]);
+        way = next;
+    }
+    counter.counts()
+}
+
+/// Counts the plain symbols.
+fn count_plain<V: View>(raster: &V) -> [u32; 256]
+    requires { IsByteType (V.pixels raster.now).kind }
+    ensures counts { result ≡ counts_of (plain (V.pixels raster.now)) }
+    ensures few { sum result ≤ 2 ^ 24 }
+{
+    if is_lying(raster) {
+        count_symbols(raster.cells())
+    } else {
+        count_pieces(raster)
+    }
+}
+
+/// Writes the words of the plain symbols piece by piece over all of `out`.
+fn write_pieces<V: View>(raster: &V, lengths: &Lengths, out: &mut [u8])
+    requires kind { IsByteType (V.pixels raster.now).kind }
+    requires room { length out.old
+        ≡ written_size (canonical_codes lengths.now) (plain (V.pixels raster.now)) }
+    ensures { AreWritten (canonical_codes lengths.now) (plain (V.pixels raster.now)) out.new }
+{
+    let pixels = raster.rows() as usize * raster.cols() as usize;
+    let mut writer = SymbolWriter::new(lengths);
+    let mut room = [0; PLAINS];
+    let mut way = first_plain();
+    while way.place < pixels {
+        let next = next_plain(raster, way, &mut room);
+        writer.write(&room[..next.given - way.given], out);
+        way = next;
+    }
+    writer.end(out);
+}
+
+/// Writes the words of the plain symbols over all of `out`.
+fn write_plain<V: View>(raster: &V, lengths: &Lengths, out: &mut [u8])
+    requires kind { IsByteType (V.pixels raster.now).kind }
+    requires coded { All (λ s. 0 < slice_index lengths.now s) (plain (V.pixels raster.now)) }
+    requires room { length out.old
+        ≡ written_size (canonical_codes lengths.now) (plain (V.pixels raster.now)) }
+    ensures { AreWritten (canonical_codes lengths.now) (plain (V.pixels raster.now)) out.new }
+{
+    if is_lying(raster) {
+        write_symbols(raster.cells(), lengths, out);
+    } else {
+        write_pieces(raster, lengths, out);
+    }
+}
+
+/// Counts the symbols of a mode.
+pub(crate) fn count_mode<V: View>(mode: SymbolMode, raster: &V) -> [u32; 256]
+    requires { IsByteType (V.pixels raster.now).kind }
+    ensures counts { result ≡ counts_of (symbols_of mode (V.pixels raster.now)) }
+    ensures few { sum result ≤ 2 ^ 24 }
+{
+    match mode {
+        SymbolMode::Deltas => count_deltas(raster),
+        SymbolMode::Plain => count_plain(raster),
+    }
+}
+
+/// Writes the words of a mode's symbols over all of `out`.
+pub(crate) fn write_words<V: View>(mode: SymbolMode, raster: &V, lengths: &Lengths, out: &mut [u8])
+    requires kind { IsByteType (V.pixels raster.now).kind }
+    requires coded { All (λ s. 0 < slice_index lengths.now s)
+        (symbols_of mode (V.pixels raster.now)) }
+    requires room { length out.old ≡ written_size (canonical_codes lengths.now)
+        (symbols_of mode (V.pixels raster.now)) }
+    ensures { AreWritten (canonical_codes lengths.now)
+        (symbols_of mode (V.pixels raster.now)) out.new }
+{
+    match mode {
+        SymbolMode::Deltas => write_deltas(raster, lengths, out),
+        SymbolMode::Plain => write_plain(raster, lengths, out),
+    }
+}
