@@ -112,7 +112,7 @@ uint32_t futskheri_decode_over(const uint8_t *blob, size_t blob_size, void *valu
 uint64_t futskheri_greatest_size(uint32_t kind, uint32_t rows, uint32_t cols, uint32_t depth);
 
 /* Encodes a raster of this type and shape into the front of out, in version 3 or 4, so that no value changes by
- * more than error (0: none changes). What stands in values at the places of invalid pixels is not looked at.
+ * more than error (0: none changes). At the places of invalid pixels any bytes may stand in values.
  * mask_size 0: every pixel is valid. Values and mask are read where they lie, and nothing of them is copied. It takes
  * memory for what it knows of a raster before it writes: 16 bytes for each depth, a bit for each block of 8 and each of
  * 16 rows and columns at each depth, and at most 2,048 bytes more.

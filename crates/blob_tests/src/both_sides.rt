@@ -24,6 +24,8 @@ enum Pattern {
     Apart,
     /// Five that are far apart in the blocks of 16 at even columns, else small ones.
     Mixed,
+    /// Five that are far apart, but small ones in each third block of 8.
+    Broken,
 }
 
 /// The shape of a raster.
@@ -61,6 +63,8 @@ fn value_of(pattern: Pattern, row: u32, col: u32, d: u32) -> u32 {
         Pattern::Apart => far(row, col, d),
         Pattern::Mixed if col / 16 % 2 == 0 => far(row, col, d),
         Pattern::Mixed => row.wrapping_mul(col) % 11,
+        Pattern::Broken if (row / 8 + col / 8) % 3 == 1 => row.wrapping_mul(col) % 11,
+        Pattern::Broken => far(row, col, d),
     }
 }
 
@@ -145,6 +149,7 @@ fn rasters_of_all_edges_are_kept(rt: HostRuntime) {
             Pattern::Turns,
             Pattern::Apart,
             Pattern::Mixed,
+            Pattern::Broken,
         ] {
             expect_kept(&rt, rt.alloc(), shape, pattern, false);
             expect_kept(&rt, rt.alloc(), shape, pattern, true);

@@ -1,5 +1,5 @@
 -- Rasters with given symbols.
-use Rattle.std.proofs.Common.{◌≡◌, ℕ, zero, suc, ℤ, pos, negsuc, ◌+ℤ◌, ◌-ℤ◌, ◌+◌, ◌*◌, ◌%◌, ◌<◌, Bool, true, false, cond, List, [], ◌∷◌, ◌++◌, length, get_or, map, nat_eq, refl, sym, ap, ◌∙◌, subst, arith, inl, inr, add-one}
+use Rattle.std.proofs.Common.{◌≡◌, ℕ, zero, suc, ℤ, pos, negsuc, ◌+ℤ◌, ◌-ℤ◌, ◌+◌, ◌*◌, ◌%◌, ◌<◌, Bool, true, false, cond, List, [], ◌∷◌, ◌++◌, length, get_or, map, nat_eq, refl, sym, ap, ◌∙◌, subst, arith, inl, inr}
 use Rattle.std.specs.Prelude.{is_some, None, Option, All, unsigned_abs}
 use Rattle.std.specs.List.{filter, range_with_len, count_by}
 use Rattle.std.specs.Int.{int_rem_euclid}
@@ -7,7 +7,7 @@ use Rattle.std.proofs.lemmas.Bool.{cases_Bool, cases_lt}
 use Rattle.std.proofs.lemmas.Bool.Decides.{nat_tests}
 use Rattle.std.proofs.lemmas.Int.{ints, int_rem_euclid_is}
 use Rattle.std.proofs.lemmas.List.{length-map, get_or-map, get_or_past, get_or_append_left, get_or-append-add, length-append, ext_get_or}
-use Rattle.std.proofs.lemmas.List.Elements.{filter-append, All-from_get_or, All-get_or}
+use Rattle.std.proofs.lemmas.List.Elements.{All-from_get_or, All-get_or}
 use Rattle.std.proofs.lemmas.List.Sums.{sum_by-cons}
 use Rattle.raster_values.specs.declared.kind.PixelType.{PixelType}
 use Rattle.raster_values.specs.PixelType.{InRange}
@@ -21,13 +21,14 @@ use Rattle.delta_mode.specs.Symbols.{IsByteType, bias, symbol_of}
 use Rattle.delta_mode.specs.Deltas.{predictor, delta, is_valid, AreDeltas}
 use Rattle.delta_mode.specs.Laws.{AreSymbols, DepthIsThere, RasterIsThere, PlainIsThere, DeltasAreSymbols, PlainAreSymbols}
 use Rattle.delta_mode.specs.inside.Pieces.{rank, value_of_place, AreCoded}
-use Rattle.delta_mode.proofs.Predictors.{predictor_has, predictor_same, range_more, from-is}
+use Rattle.delta_mode.proofs.Predictors.{predictor_has, predictor_same, from-is}
 use Rattle.delta_mode.proofs.Marks.{zero_in_range, value_in_range, place_below, same_mark}
 use Rattle.delta_mode.proofs.Kernels.{small, small_bias, symbol-by, value_symbol}
 use Rattle.delta_mode.proofs.Pieces.{rank_below}
 use Rattle.delta_mode.proofs.WholeDepth.{rank_all, coded_same, coded_all}
 use Rattle.delta_mode.proofs.Numbers.{by_byte, symbol-is}
 use Rattle.delta_mode.proofs.SymbolLaws.{deltas_as, none_value}
+use Rattle.delta_mode.proofs.Gathered.{rank_filter}
 
 -- ---- one value by its symbol
 
@@ -248,19 +249,6 @@ symbol_low kind z = byte_of (z +ℤ pos (bias kind))
 
 map_low : {X : Type 0} (f : X → ℕ) (xs : List X) (x : X) → ((y : X) → f y < 256) → All (λ n. n < 256) (map f xs)
 map_low f xs x low = All-from_get_or (λ n. n < 256) (map f xs) 0 (λ i lt. subst (λ n. n < 256) (sym (get_or-map f xs i x 0 (omega (arith, lt, length-map xs f)))) (low (get_or xs i x)))
-
-pub rank_filter : (valid : ℕ → Bool) (n : ℕ) → length (filter valid (range_with_len 0 n)) ≡ rank valid n
-rank_filter valid zero = refl
-rank_filter valid (suc n) =
-    let before = rank_filter valid n in
-    let e : 0 + n ≡ n = omega arith in
-    ap (λ m. length (filter valid (range_with_len 0 m))) (sym (add-one n))
-    ∙ ap (λ ks. length (filter valid ks)) (range_more 0 n ∙ ap (λ k. range_with_len 0 n ++ k ∷ []) e)
-    ∙ ap length (filter-append valid (range_with_len 0 n) (n ∷ [])) ∙ length-append (filter valid (range_with_len 0 n)) (filter valid (n ∷ []))
-    ∙ elim (valid n) as (λ b. length (filter valid (range_with_len 0 n)) + length (cond b (n ∷ []) []) ≡ cond b (rank valid n + 1) (rank valid n)) [
-      | true ↦ omega (arith, before)
-      | false ↦ omega (arith, before)
-    ]
 
 pub deltas_low : DeltasAreSymbols
 deltas_low r d symbols hr e =

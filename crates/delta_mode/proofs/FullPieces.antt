@@ -1,24 +1,22 @@
 -- Pieces of a depth of a raster of which every pixel is valid.
-use Rattle.std.proofs.Common.{◌≡◌, ℕ, ℤ, ◌+◌, ◌-◌, ◌*◌, ◌/◌, ◌%◌, ◌<◌, ◌≤◌, Bool, true, List, [], ◌∷◌, ◌++◌, length, get_or, take, refl, sym, ap, ◌∙◌, arith, inl, inr}
+use Rattle.std.proofs.Common.{◌≡◌, ℕ, ◌+◌, ◌-◌, ◌*◌, ◌/◌, ◌%◌, ◌<◌, ◌≤◌, List, [], ◌∷◌, ◌++◌, length, get_or, take, refl, sym, ap, ◌∙◌, arith, inl, inr}
 use Rattle.std.proofs.lemmas.Bool.{cases_lt}
 use Rattle.std.proofs.Math.Seq.{take-append-add}
-use Rattle.std.proofs.lemmas.List.{append-nil, append_assoc, get_or-append-add, length-append, length-take-le, take-append-le, take_all}
+use Rattle.std.proofs.lemmas.List.{append-nil, append_assoc, length-append, length-take-le, take-append-le, take_all}
 use Rattle.std.proofs.Math.Nat.{mod-eq_of_lt, mul-le-mul_left, mul-le-mul_right, mul-mod_left}
 use Rattle.raster_values.specs.PixelType.{InRange}
 use Rattle.raster_values.specs.Raster.{Pixels, IsRaster, valid_count}
 use Rattle.raster_values.specs.Flat.{value_in}
-use Rattle.raster_values.specs.declared.kind.PixelType.{PixelType}
 use Rattle.delta_mode.specs.Symbols.{IsByteType, bias}
 use Rattle.delta_mode.specs.Deltas.{delta, deltas, is_valid, predictor}
 use Rattle.delta_mode.specs.Ways.{deltas_before}
 use Rattle.delta_mode.specs.inside.Bytewise.{byte_of, wrapped}
-use Rattle.delta_mode.specs.inside.Pieces.{rank, AreCoded, IsFilled}
+use Rattle.delta_mode.specs.inside.Pieces.{rank, IsFilled}
 use Rattle.delta_mode.specs.inside.Strided.{cell_before}
 use Rattle.delta_mode.proofs.Bytewise.{rank_at, rank_full, rank_most, wrapped_symbol}
 use Rattle.delta_mode.proofs.Marks.{value_in_range, zero_in_range}
 use Rattle.delta_mode.proofs.Predictors.{predictor_has}
 use Rattle.delta_mode.proofs.Strided.{before_is, placed}
-use Rattle.delta_mode.proofs.Pieces.{rank_grows}
 use Rattle.delta_mode.proofs.Ways.{from_front, length-deltas, length-from, piece_first}
 use Rattle.delta_mode.proofs.WholeDepth.{rank_all}
 
@@ -115,16 +113,6 @@ full_piece r d place byte out sound is_byte full within cells each =
 
 -- ---- pieces with marks
 
--- symbols behind those of the pixels in front of a piece
-pub coded_behind : (kind : PixelType) (cols : ℕ) (valid : ℕ → Bool) (value : ℕ → ℤ) (place to : ℕ) (front out : List ℕ) → length front ≡ rank valid place → AreCoded kind cols valid value place to (front ++ out)
-    → ((k : ℕ) → rank valid place ≤ rank valid (place + k)) → (k : ℕ) → place ≤ k → k < to → valid k ≡ true → delta kind cols valid value k ≡ get_or out (rank valid k - rank valid place) 0
-coded_behind kind cols valid value place to front out long coded grows k from lt on =
-    let is : place + (k - place) ≡ k = omega (arith, from) in
-    let le = grows (k - place) in
-    let same = ap (rank valid) is in
-    let at : rank valid k ≡ length front + (rank valid k - rank valid place) = omega (arith, long, le, same) in
-    coded.each k from lt on ∙ ap (λ j. get_or (front ++ out) j 0) at ∙ get_or-append-add front out (rank valid k - rank valid place) 0
-
 -- no raster has more pixels than values
 pub pixels_few : (r : Pixels) → IsRaster r → r.rows * r.cols ≤ 16777216
 pixels_few r sound =
@@ -132,13 +120,6 @@ pixels_few r sound =
     let deep = sound.shape.depth_above in
     let m : r.rows * r.cols * 1 ≤ r.rows * r.cols * r.depth = mul-le-mul_left (r.rows * r.cols) (omega (arith, deep)) in
     omega (arith, m, size)
-
--- the symbols of a piece, behind those of the pixels in front of it
-pub coded_gives : (r : Pixels) (d place n : ℕ) (out : List ℕ) → AreCoded r.kind r.cols (is_valid r) (value_in r d) place (place + n) (deltas_before r d place ++ out) → rank (is_valid r) (place + n) ≤ rank (is_valid r) place + length out
-    → deltas_before r d (place + n) ≡ deltas_before r d place ++ take (rank (is_valid r) (place + n) - rank (is_valid r) place) out
-coded_gives r d place n out coded room =
-    piece_first r.kind r.cols (is_valid r) (value_in r d) out place n n (omega arith) room
-    (coded_behind r.kind r.cols (is_valid r) (value_in r d) place (place + n) (deltas_before r d place) out (length-from r.kind r.cols (is_valid r) (value_in r d) place) coded (λ k. rank_grows (is_valid r) place (place + k) (omega arith)))
 
 -- ---- a whole depth
 

@@ -1,5 +1,5 @@
 -- Numbers of 64 bits that stand for values of bytes, and the steps along a piece.
-use Rattle.std.proofs.Common.{◌≡◌, ◌≢◌, ℕ, ℤ, pos, negsuc, ◌+ℤ◌, ◌-ℤ◌, ◌≤ℤ◌, ◌+◌, ◌*◌, ◌%◌, ◌<◌, ◌≤◌, Bool, true, false, List, length, get_or, set, refl, sym, ap, ◌∙◌, subst, arith, inl, inr, below_more}
+use Rattle.std.proofs.Common.{◌≡◌, ◌≢◌, ℕ, ℤ, pos, negsuc, ◌+ℤ◌, ◌-ℤ◌, ◌≤ℤ◌, ◌+◌, ◌*◌, ◌%◌, ◌<◌, ◌≤◌, Bool, true, false, List, length, set, refl, sym, ap, ◌∙◌, subst, arith, inl, inr, below_more}
 use Rattle.std.specs.Prelude.{unsigned_abs}
 use Rattle.std.specs.Int.{int_rem_euclid}
 use Rattle.std.proofs.lemmas.Bool.{cases_lt}
@@ -63,14 +63,6 @@ pub pred_is : (kind : PixelType) (left : Bool) (before : ℤ) (mark up : ℕ →
     → l ≡ left_of left mark i → z ≡ last_from before mark now i → p ≡ predicted_by l (up i) (to_z w64 (of_z w64 (above i))) z → p ≡ guess left before mark up above now i
 pred_is kind left before mark up above now i l z p byte fits el ez e = e ∙ (λ j. predicted_by (el j) (up i) (same kind (above i) byte fits j) (ez j))
 
--- the symbol that the code writes
-pub symbol_here : (kind : PixelType) (v p q b : ℤ) (s : ℕ) → IsByteType kind → InRange kind v → InRange kind q → p ≡ q → b ≡ pos (bias kind)
-    → s ≡ biased (to_z w64 (of_z w64 b)) (to_z w64 (of_z w64 v) -ℤ to_z w64 (of_z w64 p)) → symbol_of kind (v -ℤ q) ≡ s
-symbol_here kind v p q b s byte hv hq ep eb e =
-    symbol-by kind (v -ℤ q)
-    ∙ (λ i. biased (sym (ap bits eb ∙ stays (pos (bias kind)) (small_bias kind)) i) (sym (same kind v byte hv) i -ℤ sym (ap bits ep ∙ same kind q byte hq) i))
-    ∙ sym e
-
 -- the value that the code finds has the symbol
 pub value_here : (kind : PixelType) (v p q b : ℤ) (s : ℕ) → IsByteType kind → InRange kind q → p ≡ q → b ≡ pos (bias kind)
     → biased (to_z w64 (of_z w64 b)) (v -ℤ to_z w64 (of_z w64 p)) ≡ s → symbol_of kind (v -ℤ q) ≡ s
@@ -85,20 +77,6 @@ value_fits kind v b byte eb low high =
     let is : to_z w64 (of_z w64 b) ≡ pos (bias kind) = ap bits eb ∙ stays (pos (bias kind)) (small_bias kind) in
     by_byte (λ k. pos 0 ≤ℤ (v +ℤ pos (bias k)) → (v +ℤ pos (bias k)) ≤ℤ pos 255 → InRange k v) (λ low high. (omega (arith, ints, low), omega (arith, ints, high))) (λ low high. (omega (arith, ints, low), omega (arith, ints, high)))
     kind byte (subst (λ t. pos 0 ≤ℤ (v +ℤ t)) is low) (subst (λ t. (v +ℤ t) ≤ℤ pos 255) is high)
-
--- one symbol more is written
-pub written_more : (E : ℕ → ℕ) (mark : ℕ → Bool) (out : List ℕ) (start count i s : ℕ) → count ≡ start + rank mark i → count < length out
-    → ((k : ℕ) → k < i → mark k ≡ true → E k ≡ get_or out (start + rank mark k) 0) → E i ≡ s
-    → (k : ℕ) → k < i + 1 → mark k ≡ true → E k ≡ get_or (set out count s) (start + rank mark k) 0
-written_more E mark out start count i s is room before here = below_more (λ k. mark k ≡ true → E k ≡ get_or (set out count s) (start + rank mark k) 0) i
-    (λ k lt on.
-    let less = rank_below mark k i lt on in
-    let other : start + rank mark k ≢ count = omega (arith, less, is) in
-    before k lt on ∙ sym (get_or-set_other out count (start + rank mark k) s 0 other))
-    (λ on. here ∙ sym (ap (λ n. get_or (set out count s) n 0) (sym is) ∙ get_or-set_same out count s 0 room))
-
-pub skipped_more : (E g : ℕ → ℕ) (mark : ℕ → Bool) (i : ℕ) → mark i ≡ false → ((k : ℕ) → k < i → mark k ≡ true → E k ≡ g k) → (k : ℕ) → k < i + 1 → mark k ≡ true → E k ≡ g k
-skipped_more E g mark i off before = below_more (λ k. mark k ≡ true → E k ≡ g k) i before (λ on. absurd (cc))
 
 -- one value more is found
 pub found_more : (kind : PixelType) (left : Bool) (before : ℤ) (mark up : ℕ → Bool) (above : ℕ → ℤ) (out : List ℤ) (i : ℕ) (v : ℤ) (g : ℕ → ℕ) → i < length out

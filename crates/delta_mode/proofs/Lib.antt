@@ -14,6 +14,9 @@ mod EvenPieces
 mod Runs
 mod PlainTaking
 pub mod Ways
+mod Gathered
+mod StartBits
+mod StartPieces
 pub mod FullPieces
 pub mod PlainPieces
 pub mod Existence

@@ -1,5 +1,5 @@
 -- The plain symbols piece by piece.
-use Rattle.std.proofs.Common.{◌≡◌, ◌≢◌, ℕ, zero, suc, ℤ, pos, ◌+◌, ◌-◌, ◌*◌, ◌%◌, ◌<◌, ◌≤◌, Bool, true, false, List, [], ◌∷◌, ◌++◌, length, get_or, take, drop, map, refl, sym, ap, ◌∙◌, subst, arith, inl, inr, Option, Some, None}
+use Rattle.std.proofs.Common.{◌≡◌, ◌≢◌, ℕ, zero, suc, ℤ, pos, ◌+◌, ◌-◌, ◌*◌, ◌%◌, ◌<◌, ◌≤◌, true, false, List, [], ◌∷◌, ◌++◌, length, get_or, take, drop, map, refl, sym, ap, ◌∙◌, subst, arith, inl, inr, Option, Some, None}
 use Rattle.std.specs.Prelude.{is_some, unwrap_or, IfSome}
 use Rattle.std.proofs.lemmas.Bool.{cases_Bool}
 use Rattle.std.proofs.lemmas.Grind.{flat_map-append}
@@ -14,8 +14,8 @@ use Rattle.delta_mode.specs.Symbols.{symbol_of}
 use Rattle.delta_mode.specs.Deltas.{is_valid, plain}
 use Rattle.delta_mode.specs.PlainWays.{IsOnPlain, plain_before}
 use Rattle.delta_mode.specs.declared.giving_plain.PlainWay.{PlainWay}
-use Rattle.delta_mode.specs.inside.Pieces.{rank, mark_at}
-use Rattle.delta_mode.proofs.Pieces.{rank_below, rank_grows, rank_off, rank_on, rank_same, rank_split}
+use Rattle.delta_mode.specs.inside.Pieces.{rank}
+use Rattle.delta_mode.proofs.Pieces.{rank_below, rank_grows, rank_off, rank_on}
 use Rattle.delta_mode.proofs.WholeDepth.{rank_all}
 
 -- ---- one pixel more
@@ -82,10 +82,6 @@ plain_first r sound k le =
     ap (take (rank (is_valid r) k * r.depth)) all ∙ take_at (plain_before r k) rest (rank (is_valid r) k * r.depth) long
 
 -- ---- a piece
-
--- how many of some pixels are valid, by their marks
-pub marks_rank : (valid : ℕ → Bool) (place : ℕ) (marks : List Bool) (n : ℕ) → ((i : ℕ) → i < n → mark_at marks i ≡ valid (place + i)) → (i : ℕ) → i ≤ n → rank valid (place + i) ≡ rank valid place + rank (mark_at marks) i
-marks_rank valid place marks n each i le = rank_split valid place i ∙ ap (λ m. rank valid place + m) (rank_same (λ j. valid (place + j)) (mark_at marks) i (λ j lt. sym (each j (omega (arith, lt, le)))))
 
 -- the symbols of a pixel, one by one
 one_pixel : (r : Pixels) → IsRaster r → (k at : ℕ) (out : List ℕ) → k < length r.pixels → is_valid r k ≡ true → at + r.depth ≤ length out

@@ -19,7 +19,7 @@ use Rattle.delta_mode.specs.inside.Steps.{IsDeeper, IsFurther}
 use Rattle.delta_mode.proofs.Predictors.{range_more, from-is}
 use Rattle.delta_mode.proofs.Pieces.{rank_on, rank_off, rank_below, rank_grows}
 use Rattle.delta_mode.proofs.WholeDepth.{at_first, rank_all}
-use Rattle.delta_mode.proofs.Existence.{rank_filter}
+use Rattle.delta_mode.proofs.Gathered.{rank_filter}
 
 -- ---- one pixel more
 

@@ -6,3 +6,4 @@ pub mod Plain
 pub mod Bytewise
 pub mod Strided
 pub mod Steps
+pub mod Starts

@@ -5,7 +5,6 @@
 //! predictor, one equation per pixel; symbols of all depths have one raster.
 #![tactic(auto)]
 
-mod above;
 mod depth;
 mod even;
 mod full;
@@ -17,6 +16,7 @@ mod plain;
 mod plain_taking;
 mod run;
 mod source;
+mod starts;
 mod taking;
 mod walk;
 

@@ -1,105 +1,112 @@
 //! The symbols of pixels one behind the other of a raster of which some pixels are not valid, in
 //! pieces of a row.
 
-ghost use Rattle.std.specs.Prelude.{◌≡◌, ◌+◌, ◌-◌, ◌*◌, ◌%◌, ◌^◌, ◌<◌, ◌≤◌, ◌++◌, ℕ, true, length, take};
+ghost use Rattle.std.specs.Prelude.{◌≡◌, ℕ, ◌+◌, ◌-◌, ◌*◌, ◌%◌, ◌<◌, ◌≤◌, ◌++◌, ◌&&◌, nat_lt, length, get_or, take};
 ghost use Rattle.raster_values.specs.Flat.{value_in};
 ghost use Rattle.delta_mode.specs.Symbols.{IsByteType};
-ghost use Rattle.delta_mode.specs.Deltas.{has_left, is_valid, last_value};
+ghost use Rattle.delta_mode.specs.Deltas.{is_valid, last_value};
 ghost use Rattle.delta_mode.specs.Ways.{deltas_before};
 ghost use Rattle.delta_mode.specs.inside.Pieces.{rank, IsAt, IsFilled};
+ghost use Rattle.delta_mode.specs.inside.Starts.{mark_of, HasLast};
 
-use super::above::view_above;
-use super::even::{has_invalid, has_valid, write_whole};
-use super::walk::{Walk, enter, write_symbols};
+use super::full::added;
+use super::starts::{differences, starts, write_starts};
+use super::walk::Walk;
 use raster_view::View;
 
-/// How many pixels of a row are looked at together, at most: few, so that most pieces are all valid,
-/// or not at all.
-pub(super) const PIECE: usize = 64;
+/// How many pixels of a row are looked at together, at most: their marks are the bits of a number.
+pub(super) const PIECE: usize = 32;
 
-/// The same, with no valid pixel counted.
-fn uncounted(walk: Walk) -> Walk
-    ensures left { result.left ≡ walk.left }
-    ensures last { result.last ≡ walk.last }
-    ensures count { result.count ≡ 0 }
+/// Puts the last value before a piece, and behind it those of the piece's valid pixels, in front of
+/// `distances`, each by how far it is above the type's least. How many pixels are valid.
+fn gather<V: View>(
+    raster: &V,
+    d: u32,
+    place: usize,
+    count: usize,
+    last: i64,
+    distances: &mut [u32],
+) -> usize
+    requires kind { IsByteType (V.pixels raster.now).kind }
+    requires depth { d < (V.pixels raster.now).depth }
+    requires within { place + count
+        ≤ (V.pixels raster.now).rows * (V.pixels raster.now).cols }
+    requires last { last
+        ≡ last_value (is_valid (V.pixels raster.now)) (value_in (V.pixels raster.now) d) place }
+    requires room { count < length distances.old }
+    ensures room { length distances.new ≡ length distances.old }
+    ensures count { result ≡ rank (mark_of (V.pixels raster.now) place) count }
+    ensures few { result ≤ count }
+    ensures last { HasLast (V.pixels raster.now) d place count distances.new }
+    ensures bytes { (j : ℕ) → j ≤ result → get_or distances.new j 0 < 256 }
 {
-    Walk { count: 0, ..walk }
+    distances[0] = (last - raster.kind().least()) as u32;
+    raster.gather_from(place, count, d, &mut distances[1..])
 }
 
-/// The same, with so many more valid pixels counted.
-fn counted(walk: Walk, before: usize) -> Walk
-    requires { before + walk.count ≤ 2 ^ 24 }
-    ensures left { result.left ≡ walk.left }
-    ensures last { result.last ≡ walk.last }
-    ensures count { result.count ≡ before + walk.count }
+/// Whether the pixel to the left is valid, by whether the one before is: in the first column there is
+/// none.
+fn left_in(col: usize, before: bool) -> bool
+    ensures { result ≡ (nat_lt 0 col && before) }
 {
-    Walk {
-        count: before + walk.count,
-        ..walk
-    }
+    col > 0 && before
 }
 
-/// Writes the symbols of the pixels of a piece of a row, from number `place` on, in front of `out`.
+/// Writes the symbols of the pixels of a piece of a row, from number `place` on, which is in column
+/// `col`, in front of `out`.
 fn write_piece<V: View>(
     raster: &V,
     d: u32,
     place: usize,
+    col: usize,
+    count: usize,
     walk: Walk,
-    marks: &mut [bool],
-    up: &mut [bool],
-    above: &mut [i64],
-    values: &mut [i64],
+    distances: &mut [u32],
     out: &mut [u8],
 ) -> Walk
     requires kind { IsByteType (V.pixels raster.now).kind }
     requires depth { d < (V.pixels raster.now).depth }
-    requires some { 0 < length marks.old }
-    requires across { place % (V.pixels raster.now).cols + length marks.old
-        ≤ (V.pixels raster.now).cols }
-    requires within { place + length marks.old
+    requires some { 0 < count }
+    requires few { count ≤ 32 }
+    requires col { col ≡ place % (V.pixels raster.now).cols }
+    requires across { col + count ≤ (V.pixels raster.now).cols }
+    requires within { place + count
         ≤ (V.pixels raster.now).rows * (V.pixels raster.now).cols }
-    requires up { length up.old ≡ length marks.old }
-    requires above { length above.old ≡ length marks.old }
-    requires values { length values.old ≡ length marks.old }
+    requires distances { count < length distances.old }
     requires at { IsAt (is_valid (V.pixels raster.now)) (value_in (V.pixels raster.now) d) place
         walk.left walk.last walk.count }
-    requires room { length marks.old ≤ length out.old }
+    requires room { count ≤ length out.old }
     ensures at { IsAt (is_valid (V.pixels raster.now)) (value_in (V.pixels raster.now) d)
-        (place + length marks.old) result.left result.last result.count }
+        (place + count) result.left result.last result.count }
     ensures some { walk.count ≤ result.count }
-    ensures few { result.count ≤ walk.count + length marks.old }
-    ensures symbols { deltas_before (V.pixels raster.now) d (place + length marks.old)
+    ensures few { result.count ≤ walk.count + count }
+    ensures symbols { deltas_before (V.pixels raster.now) d (place + count)
         ≡ deltas_before (V.pixels raster.now) d place ++ take (result.count - walk.count) out.new }
+    ensures room { length out.new ≡ length out.old }
+    ensures distances { length distances.new ≡ length distances.old }
 {
-    let entered = enter(walk, place, raster.cols() as usize);
-    raster.marks_from(place, marks);
-    if !has_valid(marks) {
-        return Walk {
-            left: false,
-            ..walk
-        };
+    let kind = raster.kind();
+    let bias = u32::from(added(kind));
+    let valid = gather(raster, d, place, count, walk.last, distances);
+    differences(bias, distances, valid, out);
+    let marks = raster.mark_word(place, count);
+    let starts = starts(marks, count, left_in(col, walk.left));
+    write_starts(raster, d, place, count, marks, starts, distances, out);
+    Walk {
+        left: marks % 2 == 1,
+        last: kind.least() + i64::from(distances[valid]),
+        count: walk.count + valid,
     }
-    if !has_invalid(marks) {
-        return write_whole(raster, d, place, entered, values, out);
-    }
-    let first = uncounted(entered);
-    raster.values_from(place, d, values);
-    view_above(raster, d, place, up, above);
-    let end = write_symbols(raster.kind(), first, marks, up, above, values, out);
-    counted(end, walk.count)
 }
 
-/// Does what `write_marked` does, with these buffers.
+/// Does what `write_marked` does, with this buffer.
 fn write_pieces<V: View>(
     raster: &V,
     d: u32,
     place: usize,
     walk: Walk,
     least: usize,
-    marks: &mut [bool],
-    up: &mut [bool],
-    above: &mut [i64],
-    values: &mut [i64],
+    distances: &mut [u32],
     out: &mut [u8],
 ) -> (Walk, usize)
     requires kind { IsByteType (V.pixels raster.now).kind }
@@ -107,10 +114,7 @@ fn write_pieces<V: View>(
     requires within { place < (V.pixels raster.now).rows * (V.pixels raster.now).cols }
     requires at { IsAt (is_valid (V.pixels raster.now)) (value_in (V.pixels raster.now) d) place
         walk.left walk.last walk.count }
-    requires marks { length marks.old ≡ 64 }
-    requires up { length up.old ≡ 64 }
-    requires above { length above.old ≡ 64 }
-    requires values { length values.old ≡ 64 }
+    requires distances { length distances.old ≡ 33 }
     requires some { 0 < least }
     requires room { least ≤ length out.old }
     ensures more { 0 < result.1 }
@@ -133,16 +137,16 @@ fn write_pieces<V: View>(
     let mut at = place;
     let mut filled = 0;
     while at < pixels && filled + least <= out.len() {
-        let count = PIECE.min(out.len() - filled).min(cols - at % cols);
+        let col = at % cols;
+        let count = PIECE.min(out.len() - filled).min(cols - col);
         behind = write_piece(
             raster,
             d,
             at,
+            col,
+            count,
             behind,
-            &mut marks[..count],
-            &mut up[..count],
-            &mut above[..count],
-            &mut values[..count],
+            distances,
             &mut out[filled..],
         );
         at += count;
@@ -182,20 +186,6 @@ pub(super) fn write_marked<V: View>(
     ensures full { IsFilled ((V.pixels raster.now).rows * (V.pixels raster.now).cols)
         (place + result.1) least (result.0.count - walk.count) (length out.old) }
 {
-    let mut marks = [false; PIECE];
-    let mut up = [false; PIECE];
-    let mut above = [0; PIECE];
-    let mut values = [0; PIECE];
-    write_pieces(
-        raster,
-        d,
-        place,
-        walk,
-        least,
-        &mut marks,
-        &mut up,
-        &mut above,
-        &mut values,
-        out,
-    )
+    let mut distances = [0; PIECE + 1];
+    write_pieces(raster, d, place, walk, least, &mut distances, out)
 }

@@ -18,6 +18,9 @@ use raster_target::Target;
 /// How many pixels of a row are looked at together, at most.
 const PIECE: usize = 128;
 
+/// How many these are, at most, where some are valid and some are not.
+const MIXED: usize = 32;
+
 /// How many of the marks are set.
 pub(super) fn count_set(marks: &[bool]) -> usize
     ensures { result ≡ rank (mark_at marks.now) (length marks.now) }
@@ -252,6 +255,24 @@ fn take_piece<S: SymbolSource, T: Target>(
     )
 }
 
+/// How many of the `most` pixels of a row from number `place` on are looked at together: all of them, if
+/// each is valid or none is, else few, so that most pieces are of one kind.
+fn piece_len<T: Target>(raster: &T, place: usize, most: usize, marks: &mut [bool]) -> usize
+    requires sound { T.sound raster.now }
+    requires some { 0 < most }
+    requires room { most ≤ length marks.old }
+    requires within { place + most ≤ (T.pixels raster.now).rows * (T.pixels raster.now).cols }
+    ensures some { 0 < result }
+    ensures few { result ≤ most }
+{
+    let marks = &mut marks[..most];
+    raster.marks_from(place, marks);
+    if has_valid(marks) && has_invalid(marks) {
+        return most.min(MIXED);
+    }
+    most
+}
+
 /// Gives the valid pixels of a raster of bytes the values at a depth that the symbols of a source
 /// say, which are taken in pieces of a row. All else stays. Where the source stops, the values at
 /// this depth are any.
@@ -278,6 +299,7 @@ pub fn undelta_from<S: SymbolSource, T: Target>(
     ensures kept { T.kept raster.new ≡ T.kept raster.old }
 {
     let cols = raster.cols() as usize;
+    let mut ahead = [false; PIECE];
     let mut marks = [false; PIECE];
     let mut up = [false; PIECE];
     let mut above = [0; PIECE];
@@ -286,7 +308,8 @@ pub fn undelta_from<S: SymbolSource, T: Target>(
     let mut walk = start();
     let mut place = 0;
     while place < raster.rows() as usize * cols {
-        let count = PIECE.min(cols - place % cols);
+        let most = PIECE.min(cols - place % cols);
+        let count = piece_len(raster, place, most, &mut ahead);
         walk = take_piece(
             source,
             raster,

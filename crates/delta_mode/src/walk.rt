@@ -46,16 +46,6 @@ fn modulo_256(number: i64) -> i64
     ((number + 512) as u64 % 256) as i64
 }
 
-/// The symbol of a value less its predictor.
-pub(super) fn symbol(bias: i64, value: i64, predictor: i64) -> u8
-    requires bias { IsSmall bias }
-    requires value { IsSmall value }
-    requires predictor { IsSmall predictor }
-    ensures { result ≡ biased bias (value -ℤ predictor) }
-{
-    modulo_256(value - predictor + bias) as u8
-}
-
 /// The predictor of a pixel: the value to the left where that is valid, which is then the last one,
 /// else the one above where that is valid, else the last one.
 pub(super) fn predicted(left: bool, up: bool, above: i64, last: i64) -> i64
@@ -73,52 +63,6 @@ fn value(bias: i64, symbol: u8, predictor: i64) -> i64
     ensures high { (result +ℤ bias) ≤ℤ pos 255 }
 {
     modulo_256(i64::from(symbol) + predictor) - bias
-}
-
-/// Writes the symbols of the valid pixels of a piece behind the first `walk.count`.
-pub(super) fn write_symbols(
-    kind: PixelType,
-    walk: Walk,
-    marks: &[bool],
-    up: &[bool],
-    above: &[i64],
-    values: &[i64],
-    out: &mut [u8],
-) -> Walk
-    requires kind { IsByteType kind }
-    requires up { length up.now ≡ length marks.now }
-    requires above { length above.now ≡ length marks.now }
-    requires values { length values.now ≡ length marks.now }
-    requires last_in_range { InRange kind walk.last }
-    requires above_in_range { (i : ℕ) → InRange kind (value_of_place above.now i) }
-    requires values_in_range { (i : ℕ) → InRange kind (value_of_place values.now i) }
-    requires room { walk.count + rank (mark_at marks.now) (length marks.now) ≤ length out.old }
-    ensures left { result.left ≡ left_of walk.left (mark_at marks.now) (length marks.now) }
-    ensures last { result.last ≡ last_from walk.last (mark_at marks.now)
-        (value_of_place values.now) (length marks.now) }
-    ensures count { result.count ≡ walk.count + rank (mark_at marks.now) (length marks.now) }
-    ensures room { length out.new ≡ length out.old }
-    ensures before { (j : ℕ) → j < walk.count → get_or out.new j 0 ≡ get_or out.old j 0 }
-    ensures symbols { (i : ℕ) → i < length marks.now → mark_at marks.now i ≡ true
-        → symbol_of kind (value_of_place values.now i -ℤ guess walk.left walk.last
-        (mark_at marks.now) (mark_at up.now) (value_of_place above.now)
-        (value_of_place values.now) i)
-        ≡ get_or out.new (walk.count + rank (mark_at marks.now) i) 0 }
-{
-    let bias = bias(kind);
-    let mut left = walk.left;
-    let mut last = walk.last;
-    let mut count = walk.count;
-    for i in 0..marks.len() {
-        if marks[i] {
-            let here = values[i];
-            out[count] = symbol(bias, here, predicted(left, up[i], above[i], last));
-            last = here;
-            count += 1;
-        }
-        left = marks[i];
-    }
-    Walk { left, last, count }
 }
 
 /// Finds the values of the valid pixels of a piece, whose symbols stand behind the first

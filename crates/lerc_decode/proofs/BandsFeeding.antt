@@ -1,14 +1,12 @@
 -- Feeding a decoder of bands from a source.
-use Rattle.std.proofs.Common.{◌≡◌, ℕ, ◌+◌, ◌-◌, ◌*◌, ◌<◌, ◌≤◌, zero, suc, List, [], ◌∷◌, ◌++◌, length, take, drop, codes, Option, None, Some, Result, Ok, Err, refl, sym, ap, ◌∙◌, subst, arith, ◌⊎◌, inl, inr}
-use Rattle.std.specs.Prelude.{min, IfSome}
-use Rattle.std.proofs.lemmas.List.{append_assoc, append-nil, length-append, length-take-le, take-append-drop, take-take}
+use Rattle.std.proofs.Common.{◌≡◌, ℕ, ◌+◌, ◌-◌, ◌*◌, ◌<◌, ◌≤◌, zero, suc, List, [], ◌∷◌, ◌++◌, length, take, drop, codes, Option, None, Some, Ok, refl, sym, ap, ◌∙◌, subst, arith, ◌⊎◌, inl, inr}
+use Rattle.std.specs.Prelude.{min}
+use Rattle.std.proofs.lemmas.List.{append_assoc, length-append, length-take-le, take-append-drop, take-take}
 use Rattle.std.proofs.Math.Seq.{drop-append-add}
-use Rattle.outside_io.specs.declared.streams.failed.Failed.{Failed}
 use Rattle.outside_io.specs.streams.Source.{Takes, TakesUpTo, IsAtEnd}
 use Rattle.lerc_header.specs.declared.header.Version.{Version}
 use Rattle.lerc_header.specs.declared.header.Version.TheVariants.{V3, V4}
 use Rattle.lerc_header.specs.Head.{head_length}
-use Rattle.lerc_grammar.specs.BandsReading.{IsInside, IsBetween}
 use Rattle.lerc_grammar.proofs.BandsDecided.{begun_few}
 use Rattle.lerc_decode.specs.Decoding.{Stage, Key, Fields, Body, Whole, Wrong as WrongBlob, NoMemory as NoneLeft, Decoding, HasHeader, IsStageOf}
 use Rattle.lerc_decode.specs.declared.decoder.FedState.TheVariants.{More}

@@ -1,7 +1,6 @@
 -- What a source's bytes are once a decoder of bands has ended.
-use Rattle.std.proofs.Common.{◌≡◌, ℕ, ◌<◌, List, [], ◌∷◌, ◌++◌, length, Option, None, Some, Result, Ok, Err, refl, sym, ap, ◌∙◌, subst, arith, ◌⊎◌, inl, inr}
-use Rattle.std.specs.Prelude.{IfOk, IfSome}
-use Rattle.std.specs.List.{concat}
+use Rattle.std.proofs.Common.{◌≡◌, ℕ, ◌<◌, List, [], ◌∷◌, ◌++◌, Option, None, Some, Result, Ok, Err, refl, sym, ap, ◌∙◌, subst, arith, ◌⊎◌, inl, inr}
+use Rattle.std.specs.Prelude.{IfSome}
 use Rattle.std.proofs.lemmas.List.{append-nil}
 use Rattle.outside_io.specs.streams.Source.{IsAtEnd}
 use Rattle.raster_values.specs.Raster.{Pixels}
@@ -12,11 +11,10 @@ use Rattle.lerc_grammar.specs.Bands.{BandsBlob, BandsFaultAt}
 use Rattle.lerc_grammar.proofs.BandsSteps.{bands_faults_stay}
 use Rattle.lerc_decode.specs.declared.bands.BandsStop.{BandsStop}
 use Rattle.lerc_decode.specs.declared.bands.BandsStop.TheVariants.{Fault, OutOfMemory}
-use Rattle.lerc_decode.specs.declared.bands_source.BandsFromFault.{BandsFromFault}
 use Rattle.lerc_decode.specs.Decoding.{Decoding, HasHeader}
 use Rattle.lerc_decode.specs.BandsStates.{IsBandsFinish}
-use Rattle.lerc_decode.specs.BandsSource.{IsNoBands, IsBandsRead, HoldsBlobs, AreBlobsRead, IsDecidedBy, LeavesRest}
-use Rattle.lerc_decode.specs.Reading.{BandsStage, InBlob, Behind, Wrong, NoMemory, BandsDecoding, AreBlobs, AreKept, IsAt, IsAfter, wanted}
+use Rattle.lerc_decode.specs.BandsSource.{IsNoBands, HoldsBlobs, IsDecidedBy, LeavesRest}
+use Rattle.lerc_decode.specs.Reading.{BandsStage, InBlob, Behind, Wrong, NoMemory, BandsDecoding, AreKept, IsAt, IsAfter, wanted}
 use Rattle.lerc_decode.specs.inside.BandsAnswers.{from_stop}
 use Rattle.lerc_decode.specs.inside.BandsFeeding.{Reads, ReadsAt, HasRead}
 use Rattle.lerc_decode.specs.inside.BandsStages.{IsKeptFinish}

@@ -1,16 +1,14 @@
 -- What the calls on the raster leave.
 use Rattle.std.specs.Prelude.{ℤ}
-use Rattle.std.proofs.Common.{◌≡◌, ℕ, ◌+◌, ◌-◌, ◌*◌, ◌<◌, List, length, take, drop, refl, sym, ap, ◌∙◌, subst, arith, inl, inr, ◌⊎◌, All}
+use Rattle.std.proofs.Common.{◌≡◌, ℕ, ◌+◌, ◌-◌, ◌*◌, ◌<◌, List, length, refl, sym, ap, ◌∙◌, subst, arith, inl, inr, ◌⊎◌}
 use Rattle.std.proofs.lemmas.Bool.{cases_order}
-use Rattle.std.proofs.lemmas.List.{length-drop, take_rest}
+use Rattle.std.proofs.lemmas.List.{length-drop}
 use Rattle.first_fault.specs.Faults.{moved}
-use Rattle.first_fault.specs.Parts.{AreBytes}
-use Rattle.byteorder.specs.Endian.{little_number}
 use Rattle.raster_values.specs.declared.kind.PixelType.{PixelType}
-use Rattle.raster_values.specs.PixelType.{bytes_of, value_of, InRange, Spells}
+use Rattle.raster_values.specs.PixelType.{bytes_of}
 use Rattle.raster_values.specs.Values.{AreValues}
 use Rattle.raster_values.specs.Order.{PoursBytes}
-use Rattle.raster_values.proofs.Spelled.{same_count, values_once, values_there}
+use Rattle.raster_values.proofs.Spelled.{same_count}
 use Rattle.lerc_header.specs.declared.header.Header.{Header}
 use Rattle.lerc_header.specs.declared.fault.BlobReason.TheVariants.{Leftover}
 use Rattle.lerc_grammar.specs.Image.{sweep_faults, value_count}

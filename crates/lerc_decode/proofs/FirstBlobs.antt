@@ -1,18 +1,15 @@
 -- The blob that comes first of a tile's bytes.
-use Rattle.std.proofs.Common.{◌≡◌, ℕ, ◌+◌, ◌<◌, ◌≤◌, List, [], ◌∷◌, ◌++◌, length, take, drop, Option, None, Some, zero-add, refl, sym, ap, ◌∙◌, subst, arith, inl, inr}
-use Rattle.std.proofs.lemmas.List.{append-nil, append_assoc, length-append, drop-drop}
+use Rattle.std.proofs.Common.{◌≡◌, ℕ, ◌+◌, ◌<◌, ◌≤◌, List, [], ◌∷◌, ◌++◌, length, take, Option, None, Some, zero-add, refl, ◌∙◌, subst, arith, inl}
 use Rattle.outside_io.specs.streams.Source.{TakesUpTo}
 use Rattle.raster_values.specs.Raster.{Pixels}
-use Rattle.lerc_header.specs.Head.{HeadAt}
 use Rattle.lerc_header.specs.declared.fault.BlobReason.{BlobReason}
 use Rattle.lerc_header.specs.declared.fault.BlobReason.TheVariants.{Truncated}
 use Rattle.lerc_header.proofs.Prefixes.{head_more, head_of_take}
-use Rattle.lerc_grammar.specs.declared.bands.BandReason.{BandReason}
 use Rattle.lerc_grammar.specs.declared.bands.BandReason.TheVariants.{Blob as OfBlob}
 use Rattle.lerc_grammar.specs.Mask.{Previous}
 use Rattle.lerc_grammar.specs.Blob.{BlobAfter}
 use Rattle.lerc_grammar.specs.Verdict.{FirstFaultAfter, IsDoneAfter, IsMoreAfter}
-use Rattle.lerc_grammar.specs.Bands.{BlobsAfter, BandsFaultAt, FirstBandsFault, HasLikeHead, IsLeastFault}
+use Rattle.lerc_grammar.specs.Bands.{BandsFaultAt, FirstBandsFault, HasLikeHead, IsLeastFault}
 use Rattle.lerc_grammar.specs.BandsReading.{IsBehind, IsInside}
 use Rattle.lerc_grammar.proofs.BandsReader.{begin}
 use Rattle.lerc_grammar.proofs.BandsSteps.{cut_there, fault_there, inside_undecided, bands_faults_stay}

@@ -1,9 +1,7 @@
 -- Where a decoder of bands is when a piece of a blob came to something.
-use Rattle.std.proofs.Common.{◌≡◌, ℕ, ◌+◌, ◌*◌, ◌^◌, ◌<◌, ◌≤◌, List, [], ◌∷◌, ◌++◌, length, take, codes, Option, None, Some, refl, sym, ap, ◌∙◌, subst, arith}
-use Rattle.std.proofs.lemmas.List.{append_assoc, append-nil, length-append, length-take-le, take_all}
-use Rattle.raster_values.specs.Raster.{Pixels}
+use Rattle.std.proofs.Common.{◌≡◌, ℕ, ◌+◌, ◌*◌, ◌^◌, ◌<◌, ◌≤◌, List, [], ◌∷◌, ◌++◌, length, take, codes, Option, None, sym, ap, ◌∙◌, subst, arith}
+use Rattle.std.proofs.lemmas.List.{length-append, length-take-le}
 use Rattle.raster_values.specs.Bands.{MayBeBands}
-use Rattle.lerc_grammar.specs.declared.bands.BandReason.{BandReason}
 use Rattle.lerc_grammar.specs.declared.bands.BandsFault.{BandsFault}
 use Rattle.lerc_grammar.specs.Mask.{Previous}
 use Rattle.lerc_grammar.specs.Bands.{FirstBandsFault, IsLeastFault}
@@ -11,10 +9,10 @@ use Rattle.lerc_decode.specs.declared.bands.BandsProgress.{BandsProgress}
 use Rattle.lerc_decode.specs.declared.bands.BandsProgress.TheVariants.{Inside, Behind as AtKey, Refused as AtFault, OutOfMemory as AtNone}
 use Rattle.lerc_decode.specs.declared.turns.Ended.{Ended}
 use Rattle.lerc_decode.specs.declared.turns.Next.{Next}
-use Rattle.lerc_decode.specs.declared.turns.Next.TheVariants.{Goes, Ends, Refused, OutOfMemory}
+use Rattle.lerc_decode.specs.declared.turns.Next.TheVariants.{Ends, Refused}
 use Rattle.lerc_decode.specs.Decoding.{Stage, Key, Fields, Body, Whole, Wrong as WrongBlob, NoMemory as NoneLeft, HasHeader, IsStageOf}
 use Rattle.lerc_decode.specs.States.{IsUsed}
-use Rattle.lerc_decode.specs.Reading.{WholeFront, Behind, Wrong, IsFrontOf, IsAt}
+use Rattle.lerc_decode.specs.Reading.{WholeFront, Behind, IsFrontOf, IsAt}
 use Rattle.lerc_decode.specs.inside.BandsStages.{stage_in, IsRaised}
 use Rattle.lerc_decode.specs.inside.Turns.{with_blob, IsNext}
 use Rattle.lerc_decode.proofs.BlobTurns.{header_before}

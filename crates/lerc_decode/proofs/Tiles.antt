@@ -1,15 +1,12 @@
 -- A decoder of bands at each of its stages.
-use Rattle.std.proofs.Common.{◌≡◌, ℕ, ◌+◌, ◌-◌, ◌*◌, ◌^◌, ◌<◌, ◌≤◌, zero, suc, List, [], ◌∷◌, ◌++◌, length, get_or, take, drop, codes, Option, None, Some, Result, Ok, Err, refl, sym, ap, ◌∙◌, subst, arith, ◌⊎◌, inl, inr}
+use Rattle.std.proofs.Common.{◌≡◌, ℕ, ◌+◌, ◌-◌, ◌*◌, ◌^◌, ◌<◌, ◌≤◌, zero, suc, List, [], ◌∷◌, ◌++◌, length, get_or, take, codes, Option, None, Some, Result, Ok, Err, refl, sym, ap, ◌∙◌, subst, arith, ◌⊎◌, inl, inr}
 use Rattle.std.specs.Prelude.{IfOk}
-use Rattle.std.specs.List.{concat, slice_get}
+use Rattle.std.specs.List.{slice_get}
 use Rattle.std.proofs.lemmas.List.{append_assoc, append-nil, length-append, length-take-le, take_all, take_more}
 use Rattle.std.proofs.lemmas.Option.{get_or_from_slice_get}
 use Rattle.std.proofs.lemmas.List.Folds.{concat-append}
 use Rattle.raster_values.specs.Raster.{Pixels}
-use Rattle.lerc_header.specs.declared.header.Header.{Header}
-use Rattle.lerc_header.specs.Head.{HeadAt}
 use Rattle.lerc_header.specs.declared.fault.BlobReason.TheVariants.{Truncated, Leftover}
-use Rattle.lerc_grammar.specs.declared.bands.BandReason.{BandReason}
 use Rattle.lerc_grammar.specs.declared.bands.BandReason.TheVariants.{Blob as OfBlob}
 use Rattle.lerc_grammar.specs.Mask.{Previous, previous_of}
 use Rattle.lerc_grammar.specs.Blob.{BlobAfter}
@@ -23,8 +20,8 @@ use Rattle.lerc_grammar.proofs.BandsSteps.{cut_there, inside_undecided, inside_n
 use Rattle.lerc_decode.specs.declared.decoder.FedState.TheVariants.{More}
 use Rattle.lerc_decode.specs.Decoding.{Stage, Key, Fields, Body, Whole, Wrong as WrongBlob, NoMemory as NoneLeft, Decoding, HasHeader, IsStageOf}
 use Rattle.lerc_decode.specs.States.{state_at}
-use Rattle.lerc_decode.specs.Reading.{WholeFront, BandsStage, InBlob, Behind, Wrong, NoMemory, AreBlobs, AreKept, IsFrontOf, GoesOnBehind, IsAt}
-use Rattle.lerc_decode.specs.BandsStates.{state_of, IsUndecided, IsBandsTold}
+use Rattle.lerc_decode.specs.Reading.{WholeFront, BandsStage, InBlob, Behind, Wrong, NoMemory, AreBlobs, AreKept, IsFrontOf, IsAt}
+use Rattle.lerc_decode.specs.BandsStates.{state_of, IsBandsTold}
 use Rattle.lerc_decode.specs.declared.bands.BandsProgress.{BandsProgress}
 use Rattle.lerc_decode.specs.declared.bands.BandsProgress.TheVariants.{Inside as AtBlob, Behind as AtKey, Refused as AtFault, OutOfMemory as AtNone}
 use Rattle.lerc_decode.specs.inside.BandsStages.{stage_in, IsBegunBehind}

@@ -24,7 +24,7 @@ use Rattle.raster_values.proofs.Views.{same_bits}
 use Rattle.lerc_encode.specs.Heads.{header_of}
 use Rattle.lerc_encode.specs.Ranges.{greatest_value, leasts, greatests, lists_bytes, has_equal_ranges, is_constant, is_empty}
 use Rattle.lerc_encode.specs.Images as images
-use Rattle.lerc_encode.specs.Images.{CodedForm, blocks_bytes, mode_bytes, coded_form_bytes, coded_forms, chosen_coded_form, ending, is_v4}
+use Rattle.lerc_encode.specs.Images.{blocks_bytes, mode_bytes, coded_form_bytes, chosen_coded_form, ending, is_v4}
 use Rattle.lerc_encode.specs.inside.Blocked.{IsBlocked}
 use Rattle.lerc_encode.specs.inside.Choosing.{IsBase}
 use Rattle.lerc_encode.proofs.Extremes.{all_least_fits, all_greatest_fits, length_values, length_leasts, length_greatests}

@@ -1,11 +1,10 @@
 -- Symbols that are counted and written piece by piece.
-use Rattle.std.proofs.Common.{◌≡◌, ℕ, ◌+◌, ◌*◌, ◌/◌, ◌<◌, ◌≤◌, Bool, List, ◌++◌, length, take, refl, sym, ap, ◌∙◌, subst, arith}
-use Rattle.raster_values.specs.Raster.{Pixels, IsRaster, valid_count}
+use Rattle.std.proofs.Common.{◌≡◌, ℕ, ◌+◌, ◌*◌, ◌/◌, ◌<◌, ◌≤◌, Bool, List, ◌++◌, take, refl, sym, ap, ◌∙◌, arith}
+use Rattle.raster_values.specs.Raster.{Pixels, IsRaster}
 use Rattle.delta_mode.specs.Ways.{deltas_of_all}
 use Rattle.delta_mode.specs.Deltas.{plain}
 use Rattle.delta_mode.proofs.Existence.{plain_low}
 use Rattle.first_fault.specs.Parts.{AreBytes}
-use Rattle.huff_codes.specs.Words.{joined_codes}
 use Rattle.huff_codes.specs.Written.{written_size}
 use Rattle.huff_codes.proofs.Filling.{joined_within}
 use Rattle.lerc_encode.specs.Images.{all_deltas}

@@ -15,15 +15,12 @@ use Rattle.lerc_grammar.specs.Blocks.{block_col, block_depth, block_row, blocks_
 use Rattle.lerc_encode.specs.Images.{blocks_bytes, coded_bytes}
 use Rattle.lerc_encode.specs.declared.blocks.Spot.{Spot}
 use Rattle.lerc_encode.specs.inside.Blocked.{IsBlocked, IsSpot, IsWithin, bytes_at}
+use Rattle.lerc_encode.specs.inside.Sides.{four_sizes, number_at, size_at}
 use Rattle.lerc_encode.proofs.Runs.{two_runs}
 use Rattle.lerc_encode.proofs.Spots.{bytes_there}
 use Rattle.lerc_encode.proofs.Squares.{pair, square, squares_numbered}
 
 -- ---- the number of a spot
-
--- the number of the coded block at a spot
-abbrev pub number_of : Header → Spot → ℕ
-number_of h spot = (spot.row / h.side * blocks_across h + spot.col / h.side) * h.depth + spot.d
 
 row_less : (q r n m : ℕ) → q < m → r < n → q * n + r < m * n
 row_less q r n m low_q low_r =
@@ -52,7 +49,7 @@ below_blocks x n side some low =
     let e = le-div (x / side + 1) (n + side - 1) side some (omega (arith, whole, up, low, some)) in
     omega (arith, e)
 
-pub spot_numbered : (h : Header) (spot : Spot) → 0 < h.side → IsWithin h spot → spot.row % h.side ≡ 0 → spot.col % h.side ≡ 0 → IsSpot h (number_of h spot) spot × (number_of h spot < coded_blocks h)
+pub spot_numbered : (h : Header) (spot : Spot) → 0 < h.side → IsWithin h spot → spot.row % h.side ≡ 0 → spot.col % h.side ≡ 0 → IsSpot h (number_at h spot) spot × (number_at h spot < coded_blocks h)
 spot_numbered h spot some within row col =
     let a = spot.row / h.side in
     let b = spot.col / h.side in
@@ -70,7 +67,7 @@ spot_numbered h spot some within row col =
     )
 
 -- a spot has one number
-pub spot_number : (h : Header) (k : ℕ) (spot : Spot) → 0 < h.side → IsSpot h k spot → k ≡ number_of h spot
+pub spot_number : (h : Header) (k : ℕ) (spot : Spot) → 0 < h.side → IsSpot h k spot → k ≡ number_at h spot
 spot_number h k spot some at =
     let block : k / h.depth / blocks_across h * blocks_across h + k / h.depth % blocks_across h ≡ k / h.depth = div-add-mod' (k / h.depth) (blocks_across h) in
     let all : k / h.depth * h.depth + k % h.depth ≡ k = div-add-mod' k h.depth in
@@ -82,29 +79,18 @@ spot_number h k spot some at =
 
 -- ---- sizes
 
--- how long the block of this side at a spot is; 0 of one outside
-abbrev pub size_there : Header → Pixels → Spot → ℕ
-size_there h r spot = if nat_lt spot.row h.rows && nat_lt spot.col h.cols then length (bytes_at h r spot) else 0
-
--- and how long the four of side 8 are that stand in one of side 16
-abbrev pub quarters_size : Header → Pixels → Spot → ℕ
-quarters_size h r spot =
-    size_there h r spot
-    + (size_there h r (record { row = spot.row; col = spot.col + 8; d = spot.d })
-    + (size_there h r (record { row = spot.row + 8; col = spot.col; d = spot.d }) + size_there h r (record { row = spot.row + 8; col = spot.col + 8; d = spot.d })))
-
 abbrev pub spot_of : Header → ℕ → Spot
 spot_of h k = record { row = block_row h k; col = block_col h k; d = block_depth h k }
 
 -- of the first n blocks of side 16
 abbrev pub quarters_so_far : Header → Pixels → ℕ → ℕ
-quarters_so_far h r n = sum_by (λ k. quarters_size h r (spot_of (record h { side = 16 }) k)) (range_with_len 0 n)
+quarters_so_far h r n = sum_by (λ k. four_sizes h r (spot_of (record h { side = 16 }) k)) (range_with_len 0 n)
 
 run_sum : (f : ℕ → ℕ) (n m : ℕ) → sum_by f (range_with_len 0 (n + m)) ≡ sum_by f (range_with_len 0 n) + sum_by f (range_with_len (0 + n) m)
 run_sum f n m = ap (sum_by f) (two_runs 0 n m) ∙ sum_by-append f (range_with_len 0 n) (range_with_len (0 + n) m)
 
-pub quarters_more : (h : Header) (r : Pixels) (n : ℕ) → quarters_so_far h r (n + 1) ≡ quarters_so_far h r n + quarters_size h r (spot_of (record h { side = 16 }) n)
-quarters_more h r n = one_more (λ k. quarters_size h r (spot_of (record h { side = 16 }) k))
+pub quarters_more : (h : Header) (r : Pixels) (n : ℕ) → quarters_so_far h r (n + 1) ≡ quarters_so_far h r n + four_sizes h r (spot_of (record h { side = 16 }) n)
+quarters_more h r n = one_more (λ k. four_sizes h r (spot_of (record h { side = 16 }) k))
   where
     one_more : (f : ℕ → ℕ) → sum_by f (range_with_len 0 (n + 1)) ≡ sum_by f (range_with_len 0 n) + f n
     one_more f =
@@ -143,7 +129,7 @@ is_below p n e = elim (leb_tells (suc p) n) [
   | inr past ↦ absurd (let f : true ≡ false = sym e ∙ past.0 in cc)
 ]
 
-cell_is : (h : Header) (r : Pixels) → h.side ≡ 8 → (a b d row col : ℕ) → d < h.depth → row ≡ a * 8 → col ≡ b * 8 → cell h r a b d ≡ size_there h r (record { row = row; col = col; d = d })
+cell_is : (h : Header) (r : Pixels) → h.side ≡ 8 → (a b d row col : ℕ) → d < h.depth → row ≡ a * 8 → col ≡ b * 8 → cell h r a b d ≡ size_at h r (record { row = row; col = col; d = d })
 cell_is h r side a b d row col low top left =
     both_true (nat_lt a (blocks_down h)) (nat_lt b (blocks_across h)) (length (coded_bytes h r ((a * blocks_across h + b) * h.depth + d))) (length (bytes_at h r spot)) (λ _ wide. ap length (sym (bytes_there h r ((a * blocks_across h + b) * h.depth + d) spot (at wide))))
     ∙ ap (λ (t : Bool). if t && nat_lt b (blocks_across h) then length (bytes_at h r spot) else 0) rows
@@ -215,14 +201,14 @@ square_cells h r m n d low_m low_n =
         ∙ sized (nat_lt (m * 2 + 1) (blocks_down h)) (nat_lt (n * 2) (blocks_across h)) (nat_lt (n * 2 + 1) (blocks_across h)) (one (m * 2 + 1) (n * 2)) (one (m * 2 + 1) (n * 2 + 1)) there
 
 square_size : (h : Header) (r : Pixels) → h.side ≡ 8 → (m n d : ℕ) → m * 2 < blocks_down h → n * 2 < blocks_across h → d < h.depth
-    → length (square (coded_bytes h r) (blocks_down h) (blocks_across h) h.depth m n d) ≡ quarters_size h r (record { row = m * 16; col = n * 16; d = d })
+    → length (square (coded_bytes h r) (blocks_down h) (blocks_across h) h.depth m n d) ≡ four_sizes h r (record { row = m * 16; col = n * 16; d = d })
 square_size h r side m n d low_m low_n low =
     let c1 = cell_is h r side (m * 2) (n * 2) d (m * 16) (n * 16) low (omega arith) (omega arith) in
     let c2 = cell_is h r side (m * 2) (n * 2 + 1) d (m * 16) (n * 16 + 8) low (omega arith) (omega arith) in
     let c3 = cell_is h r side (m * 2 + 1) (n * 2) d (m * 16 + 8) (n * 16) low (omega arith) (omega arith) in
     let c4 = cell_is h r side (m * 2 + 1) (n * 2 + 1) d (m * 16 + 8) (n * 16 + 8) low (omega arith) (omega arith) in
     square_cells h r m n d low_m low_n ∙ (λ i. (c1 i + c2 i) + (c3 i + c4 i))
-    ∙ four (size_there h r (record { row = m * 16; col = n * 16; d = d })) (size_there h r (record { row = m * 16; col = n * 16 + 8; d = d })) (size_there h r (record { row = m * 16 + 8; col = n * 16; d = d })) (size_there h r (record { row = m * 16 + 8; col = n * 16 + 8; d = d }))
+    ∙ four (size_at h r (record { row = m * 16; col = n * 16; d = d })) (size_at h r (record { row = m * 16; col = n * 16 + 8; d = d })) (size_at h r (record { row = m * 16 + 8; col = n * 16; d = d })) (size_at h r (record { row = m * 16 + 8; col = n * 16 + 8; d = d }))
   where
     four : (a b c e : ℕ) → (a + b) + (c + e) ≡ a + (b + (c + e))
     four a b c e = omega arith
@@ -243,7 +229,7 @@ pub quarters_all : (h : Header) (r : Pixels) → IsBlocked h r → h.side ≡ 8 
 unfolding blocks_bytes
 quarters_all h r is side =
     ap (λ (n : ℕ). quarters_so_far h r n) count
-    ∙ sym (same_sum (λ k. length (squared k)) (λ k. quarters_size h r (spot_of (record h { side = 16 }) k)) 0 (high * wide * h.depth) (λ k low. each k (omega (arith, low))))
+    ∙ sym (same_sum (λ k. length (squared k)) (λ k. four_sizes h r (spot_of (record h { side = 16 }) k)) 0 (high * wide * h.depth) (λ k low. each k (omega (arith, low))))
     ∙ sym (length-flat_map squared (range_with_len 0 (high * wide * h.depth)))
     ∙ length_permutation (flat_map (coded_bytes h r) (range_with_len 0 (coded_blocks h))) (flat_map squared (range_with_len 0 (high * wide * h.depth))) (squares_numbered (coded_bytes h r) (blocks_down h) (blocks_across h) h.depth deep some)
   where
@@ -265,16 +251,16 @@ quarters_all h r is side =
     count : coded_blocks (record h { side = 16 }) ≡ high * wide * h.depth
     count = λ i. halved h.rows h.side side i * halved h.cols h.side side i * h.depth
 
-    each : (k : ℕ) → k < high * wide * h.depth → length (squared k) ≡ quarters_size h r (spot_of (record h { side = 16 }) k)
+    each : (k : ℕ) → k < high * wide * h.depth → length (squared k) ≡ four_sizes h r (spot_of (record h { side = 16 }) k)
     each k low =
         let block : k / h.depth < high * wide = div_below k h.depth (high * wide) deep low in
         let row : k / h.depth / wide < high = div_below (k / h.depth) wide high some block in
         let col : k / h.depth % wide < wide = mod_below (k / h.depth) wide some in
         square_size h r side (k / h.depth / wide) (k / h.depth % wide) (k % h.depth) (omega (arith, row)) (omega (arith, col)) (mod_below k h.depth deep)
-        ∙ ap (λ (w : ℕ). quarters_size h r (record { row = k / h.depth / w * 16; col = k / h.depth % w * 16; d = k % h.depth })) (sym (halved h.cols h.side side))
+        ∙ ap (λ (w : ℕ). four_sizes h r (record { row = k / h.depth / w * 16; col = k / h.depth % w * 16; d = k % h.depth })) (sym (halved h.cols h.side side))
 
 pub quarters_part : (h : Header) (r : Pixels) → IsBlocked h r → h.side ≡ 8 → (n : ℕ) → n ≤ coded_blocks (record h { side = 16 }) → quarters_so_far h r n ≤ length (blocks_bytes h r)
-quarters_part h r is side n low = subst (λ (k : ℕ). quarters_so_far h r n ≤ k) (quarters_all h r is side) (part (λ k. quarters_size h r (spot_of (record h { side = 16 }) k)) n (coded_blocks (record h { side = 16 })) low)
+quarters_part h r is side n low = subst (λ (k : ℕ). quarters_so_far h r n ≤ k) (quarters_all h r is side) (part (λ k. four_sizes h r (spot_of (record h { side = 16 }) k)) n (coded_blocks (record h { side = 16 })) low)
   where
     part : (f : ℕ → ℕ) (n m : ℕ) → n ≤ m → sum_by f (range_with_len 0 n) ≤ sum_by f (range_with_len 0 m)
     part f n m low =
@@ -344,13 +330,10 @@ in_one h r is side k low = (
     within : m < coded_blocks (record h { side = 16 })
     within = row_less (a / 2 * wide + b / 2) (k % h.depth) h.depth ((h.rows + 16 - 1) / 16 * wide) (row_less (a / 2) (b / 2) wide ((h.rows + 16 - 1) / 16) low_a low_b) (mod_below k h.depth deep)
 
--- where it stands, and so its number
+-- where it stands
 pub quarter_spot : (h : Header) (m k : ℕ) (spot : Spot) → IsSpot (record h { side = 16 }) m spot → (q : IsQuarter h m k) → IsSpot h k (record { row = spot.row + q.i * 8; col = spot.col + q.j * 8; d = spot.d })
 quarter_spot h m k spot at q = record {
   row = ap (λ (n : ℕ). n + q.i * 8) at.row ∙ sym q.row;
   col = ap (λ (n : ℕ). n + q.j * 8) at.col ∙ sym q.col;
   depth = at.depth ∙ sym q.depth;
 }
-
-pub quarter_number : (h : Header) (m k : ℕ) (spot : Spot) → 0 < h.side → IsSpot (record h { side = 16 }) m spot → (q : IsQuarter h m k) → k ≡ number_of h (record { row = spot.row + q.i * 8; col = spot.col + q.j * 8; d = spot.d })
-quarter_number h m k spot some at q = spot_number h k (record { row = spot.row + q.i * 8; col = spot.col + q.j * 8; d = spot.d }) some (quarter_spot h m k spot at q)

@@ -123,10 +123,6 @@ in_quarters : (r : Pixels) (row col s d : ℕ) → IsPermutation (block_values r
 unfolding block_values
 in_quarters r row col s d = cells_in_quarters (λ p. valid_at r p.0 p.1) (λ p. value_at r p.0 p.1 d) r.rows r.cols row col s
 
-pub quarters : (r : Pixels) (row col s d : ℕ) → IsPermutation (block_values r row col (s + s) d) (block_values r row col s d ++ (block_values r row (col + s) s d ++ (block_values r (row + s) col s d ++ block_values r (row + s) (col + s) s d)))
-quarters r row col s d =
-    subst (IsPermutation (block_values r row col (s + s) d)) (append_assoc (block_values r row col s d) (block_values r row (col + s) s d) (block_values r (row + s) col s d ++ block_values r (row + s) (col + s) s d)) (in_quarters r row col s d)
-
 -- the values of the blocks of 8, one behind the other, are those of the block of 16
 pub quarters_16 : (r : Pixels) (row col d : ℕ) → IsPermutation (((block_values r row col 8 d ++ block_values r row (col + 8) 8 d) ++ block_values r (row + 8) col 8 d) ++ block_values r (row + 8) (col + 8) 8 d) (block_values r row col 16 d)
 quarters_16 r row col d =

@@ -1,5 +1,5 @@
 -- Blocks of both sides, one more at a time: their total, their flags, and their values in a buffer.
-use Rattle.std.proofs.Common.{◌≡◌, ℕ, zero, suc, ◌+◌, ◌-◌, ◌*◌, ◌<◌, ◌≤◌, ◌⊎◌, inl, inr, Bool, List, ◌++◌, length, map, take, drop, sym, ap, ◌∙◌, subst, arith, length-append}
+use Rattle.std.proofs.Common.{◌≡◌, ℕ, ◌+◌, ◌-◌, ◌*◌, ◌<◌, ◌≤◌, ◌⊎◌, inl, inr, Bool, List, ◌++◌, length, map, take, drop, sym, ap, ◌∙◌, subst, arith, length-append}
 use Rattle.std.specs.Prelude.{ℤ, All, ◌↔◌, IsTrue}
 use Rattle.std.proofs.lemmas.Bool.{cases_eq, cases_lt}
 use Rattle.std.proofs.lemmas.List.{length-take-le, map-append, take-append-drop}
@@ -7,6 +7,10 @@ use Rattle.std.proofs.lemmas.List.Elements.{All-append}
 use Rattle.std.proofs.Math.Seq.{take-append-add}
 use borrow.Rule.Slice.PartMut.{put_mid}
 use Rattle.bit_stuff.proofs.Buffers.{end_written}
+use Rattle.lut_stuff.specs.declared.naming.Names.{Names}
+use Rattle.lut_stuff.specs.Names.{KeepsNames}
+use Rattle.micro_block.specs.Named.{AreNamed}
+use Rattle.micro_block.proofs.Named.{named_joined, still_named}
 use Rattle.raster_values.specs.declared.kind.PixelType.{PixelType}
 use Rattle.raster_values.specs.Distance.{IsDistance, value_above}
 use Rattle.raster_values.specs.Raster.{Pixels}
@@ -100,3 +104,15 @@ pub are_behind : (kind : PixelType) (old new : List ℕ) (at n : ℕ) (values : 
     → map (value_above kind) (take (at + n) (put_mid at (length old - at) old new)) ≡ map (value_above kind) (take at old) ++ values
 are_behind kind old new at n values within is =
     ap (map (value_above kind)) (taken_behind old new at n within) ∙ map-append (value_above kind) (take at old) (take n new) ∙ ap (λ (vs : List ℤ). map (value_above kind) (take at old) ++ vs) is
+
+-- ---- names of values
+
+pub named_behind : (names more : Names) (values found new piece : List ℕ) (at n : ℕ) → at ≤ length values → length found ≡ length values → KeepsNames names more
+    → AreNamed names (take at values) (take at found) → AreNamed more (take n new) (take n piece)
+    → AreNamed more (take (at + n) (put_mid at (length values - at) values new)) (take (at + n) (put_mid at (length found - at) found piece))
+named_behind names more values found new piece at n within long kept before after =
+    let room : at ≤ length found = omega (arith, within, long) in
+    let fronts : length (take at found) ≡ length (take at values) = length-take-le at found room ∙ sym (length-take-le at values within) in
+    subst (λ vs. AreNamed more vs (take (at + n) (put_mid at (length found - at) found piece))) (sym (taken_behind values new at n within))
+    (subst (AreNamed more (take at values ++ take n new)) (sym (taken_behind found piece at n room))
+    (named_joined more (take at values) (take n new) (take at found) (take n piece) fronts (still_named names more (take at values) (take at found) kept before) after))

@@ -17,7 +17,7 @@ use Rattle.delta_mode.specs.Symbols.{IsByteType}
 use Rattle.micro_block.specs.ChosenBlock as micro
 use Rattle.micro_block.specs.Block.{IsBlock}
 use Rattle.micro_block.proofs.Written.{raw_stands, nothing_off}
-use Rattle.lerc_grammar.specs.Image.{Ends, top_of, HasMode, IsBlocksMode, IsCoded, value_count}
+use Rattle.lerc_grammar.specs.Image.{top_of, IsBlocksMode, IsCoded}
 use Rattle.lerc_grammar.specs.Image as grammar
 use Rattle.lerc_grammar.specs.Blocks.{coded_blocks, block_frame, coded_values, all_blocks, AreBlocks}
 use Rattle.lerc_encode.specs.Ranges.{greatest_value, depth_values, leasts, greatests}

@@ -1,14 +1,12 @@
 -- Symbols as they are measured and written.
-use Rattle.std.proofs.Common.{◌≡◌, ℕ, ℤ, pos, negsuc, suc, ◌+◌, ◌-◌, ◌*◌, ◌%◌, ◌^◌, ◌<◌, ◌≤◌, Bool, true, false, List, [], ◌∷◌, ◌++◌, length, get_or, map, take, drop, replicate, refl, sym, ap, ◌∙◌, subst, arith, append_assoc, length-drop, Option, Some, None}
+use Rattle.std.proofs.Common.{◌≡◌, ℕ, ℤ, pos, negsuc, suc, ◌+◌, ◌-◌, ◌*◌, ◌%◌, ◌^◌, ◌<◌, ◌≤◌, Bool, true, false, List, [], ◌∷◌, ◌++◌, length, get_or, map, replicate, refl, sym, ap, ◌∙◌, subst, arith, Option, Some, None}
 use Rattle.std.specs.Int.{int_rem_euclid}
 use Rattle.std.specs.Prelude.{◌+ℤ◌, unsigned_abs, All, set, is_some, unwrap_or, ◌&&◌, MatchOption}
-use Rattle.std.specs.List.{flat_map, range_with_len}
+use Rattle.std.specs.List.{flat_map}
 use Rattle.std.proofs.lemmas.Int.{ints}
-use Rattle.std.proofs.lemmas.List.{take-append-drop, length-take-le, drop-drop, get_or-map, get_or-replicate}
+use Rattle.std.proofs.lemmas.List.{get_or-map, get_or-replicate}
 use Rattle.std.proofs.lemmas.List.Concat.{flat_map-cons}
 use Rattle.std.proofs.lemmas.List.Elements.{All-head, All-tail}
-use Rattle.std.proofs.Math.Nat.{mul-le-mul_right}
-use Rattle.std.proofs.lemmas.List.FromFn.{length-range_with_len}
 use borrow.Rule.Slice.PartMut.{put_mid}
 use Rattle.bit_stuff.proofs.Buffers.{end_written}
 use Rattle.raster_values.specs.declared.kind.PixelType.{PixelType}
@@ -18,16 +16,12 @@ use Rattle.raster_values.specs.Grid.{values_bytes}
 use Rattle.raster_values.specs.Raster.{Pixels, IsRaster, valid_count, values_of}
 use Rattle.raster_values.specs.Flat.{all_values, marks_of}
 use Rattle.delta_mode.specs.Symbols.{symbol_of}
-use Rattle.delta_mode.specs.Deltas.{deltas, plain}
-use Rattle.huff_codes.proofs.ChosenTables.{laid_over}
+use Rattle.delta_mode.specs.Deltas.{plain}
 use Rattle.lerc_encode.specs.Codings.{have_codes}
 use Rattle.lerc_encode.specs.inside.Coded.{AreSymbols, AreThere, IsCodingOf, IsLying}
 use Rattle.lerc_encode.specs.declared.codings.Coding.{Coding}
 use Rattle.lerc_encode.proofs.Extremes.{all_of, values_in_range}
-use Rattle.lerc_encode.proofs.Kept.{length_flat}
 use Rattle.lerc_encode.proofs.Packing.{all_on, count_marks, long_marks}
-use Rattle.lerc_encode.proofs.Runs.{one_more}
-use Rattle.lerc_encode.proofs.SymbolForms.{deltas_long}
 
 -- ---- what is written
 

@@ -1,7 +1,6 @@
 -- A block of side 16 from the values of the blocks of side 8 inside it, one behind the other.
-use Rattle.std.proofs.Common.{◌≡◌, ℕ, ◌+◌, ◌≤◌, ◌↔◌, ℤ, List, ◌++◌, length, sym, ap, subst, ◌∙◌}
+use Rattle.std.proofs.Common.{◌≡◌, ℕ, ◌+◌, ◌≤◌, ◌↔◌, ℤ, List, ◌++◌, length, sym, subst, ◌∙◌}
 use Rattle.std.specs.List.Sorted.{IsPermutation}
-use Rattle.std.proofs.lemmas.List.{append-nil}
 use Rattle.raster_values.specs.Raster.{Pixels}
 use Rattle.raster_values.specs.Block.{block_values}
 use Rattle.micro_block.specs.ChosenBlock as micro
@@ -10,32 +9,20 @@ use Rattle.micro_block.proofs.Permuted.{same_form, same_length}
 use Rattle.lerc_header.specs.declared.header.Header.{Header}
 use Rattle.lerc_encode.specs.declared.blocks.Spot.{Spot}
 use Rattle.lerc_encode.specs.inside.Blocked.{HasTableAt, bytes_at, values_at}
-use Rattle.lerc_encode.proofs.Quarters.{below_all, beside_all, quarters_16}
+use Rattle.lerc_encode.specs.inside.Sides.{four_values}
+use Rattle.lerc_encode.proofs.Quarters.{quarters_16}
 
--- the values of the blocks of side 8 in a block of side 16, row by row of blocks
-abbrev pub quarter_values : Pixels → Spot → List ℤ
-quarter_values r spot =
-    ((block_values r spot.row spot.col 8 spot.d ++ block_values r spot.row (spot.col + 8) 8 spot.d) ++ block_values r (spot.row + 8) spot.col 8 spot.d)
-    ++ block_values r (spot.row + 8) (spot.col + 8) 8 spot.d
-
--- a block that stands outside adds nothing
-pub none_below : (r : Pixels) (values : List ℤ) (row col side d : ℕ) → r.rows ≤ row → values ++ block_values r row col side d ≡ values
-none_below r values row col side d out = ap (λ (l : List ℤ). values ++ l) (below_all r row col side d out) ∙ append-nil values
-
-pub none_beside : (r : Pixels) (values : List ℤ) (row col side d : ℕ) → r.cols ≤ col → values ++ block_values r row col side d ≡ values
-none_beside r values row col side d out = ap (λ (l : List ℤ). values ++ l) (beside_all r row col side d out) ∙ append-nil values
-
-whole : (h : Header) (r : Pixels) (spot : Spot) (values : List ℤ) → h.side ≡ 16 → values ≡ quarter_values r spot → IsPermutation values (values_at h r spot)
+whole : (h : Header) (r : Pixels) (spot : Spot) (values : List ℤ) → h.side ≡ 16 → values ≡ four_values r spot → IsPermutation values (values_at h r spot)
 whole h r spot values side is =
     subst (λ (l : List ℤ). IsPermutation l (values_at h r spot)) (sym is)
-    (subst (λ (s : ℕ). IsPermutation (quarter_values r spot) (block_values r spot.row spot.col s spot.d)) (sym side) (quarters_16 r spot.row spot.col spot.d))
+    (subst (λ (s : ℕ). IsPermutation (four_values r spot) (block_values r spot.row spot.col s spot.d)) (sym side) (quarters_16 r spot.row spot.col spot.d))
 
 -- it is as long, and has a table where it would have one, wherever the values stand
-pub whole_length : (h : Header) (r : Pixels) (spot : Spot) (col : ℕ) (values : List ℤ) → h.side ≡ 16 → values ≡ quarter_values r spot
+pub whole_length : (h : Header) (r : Pixels) (spot : Spot) (col : ℕ) (values : List ℤ) → h.side ≡ 16 → values ≡ four_values r spot
     → length (block_bytes h.kind col h.step values) ≡ length (bytes_at h r spot)
 whole_length h r spot col values side is = same_length h.kind col spot.col h.step values (values_at h r spot) (whole h r spot values side is)
 
-pub whole_table : (h : Header) (r : Pixels) (spot : Spot) (col : ℕ) (values : List ℤ) → h.side ≡ 16 → values ≡ quarter_values r spot
+pub whole_table : (h : Header) (r : Pixels) (spot : Spot) (col : ℕ) (values : List ℤ) → h.side ≡ 16 → values ≡ four_values r spot
     → (chosen_form h.kind col h.step values ≡ micro.table) ↔ HasTableAt h r spot
 whole_table h r spot col values side is =
     let e = same_form h.kind col spot.col h.step values (values_at h r spot) (whole h r spot values side is) in

@@ -1,8 +1,9 @@
 // The blocks of both sides from one walk: with each block of 16 rows and columns those of 8 in it.
 
 ghost use Rattle.std.specs.Prelude.{◌≡◌, ℕ, ◌+◌, ◌*◌, ◌/◌, ◌%◌, ◌<◌, ◌≤◌, ◌↔◌, ◌⊎◌, ◌++◌, All, length, map, take, IfOk, IsTrue, MatchOption};
-ghost use Rattle.lut_stuff.specs.Names.{AreNames};
+ghost use Rattle.lut_stuff.specs.Names.{AreNames, KeepsNames};
 ghost use Rattle.lut_stuff.specs.Ranked.{Rises};
+ghost use Rattle.micro_block.specs.Named.{AreNamed};
 ghost use Rattle.micro_block.specs.ChosenBlock as micro;
 ghost use Rattle.micro_block.specs.ChosenBlock.{block_bytes, chosen_form};
 ghost use Rattle.raster_values.specs.Distance.{IsDistance, value_above};
@@ -21,7 +22,7 @@ use crate::blocks::{
 use crate::flags::{set_where, words_of};
 use lerc_header::Header;
 use lut_stuff::Names;
-use micro_block::{BlockSize, named_size};
+use micro_block::{BlockSize, size_and_names};
 use raster_view::View;
 use std::alloc::{AllocError, Global};
 
@@ -85,7 +86,8 @@ fn add(tally: &mut Tally, k: usize, found: BlockSize)
 }
 
 /// Looks at the block at a spot, whose number is k and whose values, in some order, are gathered,
-/// unless the blocks before it take more than `most` bytes.
+/// unless the blocks before it take more than `most` bytes. Their names are sought only where they are
+/// needed and not known.
 fn tally_block<V: View>(
     h: &Header,
     raster: &V,
@@ -95,6 +97,8 @@ fn tally_block<V: View>(
     most: usize,
     tally: &mut Tally,
     names: &mut Names,
+    found: &mut [u8],
+    known: &mut bool,
 )
     requires blocked { IsBlocked h.now (V.pixels raster.now) }
     requires spot { IsSpot h.now k spot }
@@ -108,7 +112,11 @@ fn tally_block<V: View>(
     requires table { (chosen_form h.now.kind spot.col h.now.step (map (value_above h.now.kind) distances.now) ≡ micro.table)
         ↔ HasTableAt h.now (V.pixels raster.now) spot }
     requires within { k < 64 * length tally.old.tables.items }
+    requires room { length found.old ≡ length distances.now }
+    requires known { IsTrue known.old → AreNamed names.old distances.now found.old }
     ensures names { AreNames names.new }
+    ensures kept { KeepsNames names.old names.new }
+    ensures known { IsTrue known.new → AreNamed names.new distances.now found.new }
     ensures size { IsMore most (length (bytes_at h.now (V.pixels raster.now) spot)) tally.old.size tally.new.size }
     ensures tables { AreMore h.now (V.pixels raster.now) tally.old.tables.items tally.new.tables.items }
     ensures this { tally.new.size ≤ most → HasTableAt h.now (V.pixels raster.now) spot
@@ -117,12 +125,18 @@ fn tally_block<V: View>(
     if tally.size > most {
         return;
     }
-    let found = named_size(distances, &context(h, raster, spot.col), names);
-    add(tally, k, found);
+    let size = size_and_names(
+        distances,
+        &context(h, raster, spot.col),
+        names,
+        found,
+        known,
+    );
+    add(tally, k, size);
 }
 
 /// Gathers the values of the block of 8 at a spot and looks at it, where one stands there, and
-/// answers how many values these are.
+/// answers how many values these are, and whether their names are known then.
 fn tally_part<V: View>(
     h: &Header,
     raster: &V,
@@ -131,6 +145,8 @@ fn tally_part<V: View>(
     tally: &mut Tally,
     names: &mut Names,
     distances: &mut [u32],
+    found: &mut [u8],
+    known: &mut bool,
 ) -> usize
     requires blocked { IsBlocked h.now (V.pixels raster.now) }
     requires side { h.now.side ≡ 8 }
@@ -140,9 +156,12 @@ fn tally_part<V: View>(
     requires most { most ≤ 67108865 }
     requires names { AreNames names.old }
     requires room { 64 ≤ length distances.old }
+    requires beside { length found.old ≡ length distances.old }
     requires tables { coded_blocks h.now ≤ 64 * length tally.old.tables.items }
     ensures names { AreNames names.new }
+    ensures kept { KeepsNames names.old names.new }
     ensures few { result ≤ 64 }
+    ensures known { IsTrue known.new → AreNamed names.new (take result distances.new) (take result found.new) }
     ensures fit { All (IsDistance h.now.kind) (take result distances.new) }
     ensures are { map (value_above h.now.kind) (take result distances.new)
         ≡ block_values (V.pixels raster.now) spot.row spot.col 8 spot.d }
@@ -152,15 +171,29 @@ fn tally_part<V: View>(
         → IsFlaggedAt h.now (V.pixels raster.now) spot tally.new.tables.items }
 {
     if spot.row >= h.rows || spot.col >= h.cols {
+        *known = true;
         return 0;
     }
     let n = gather(h, raster, spot, distances);
     let k = number_of(h, raster, spot);
-    tally_block(h, raster, spot, k, &distances[..n], most, tally, names);
+    *known = false;
+    tally_block(
+        h,
+        raster,
+        spot,
+        k,
+        &distances[..n],
+        most,
+        tally,
+        names,
+        &mut found[..n],
+        known,
+    );
     n
 }
 
-/// Does this with the values put behind the first `at`, and answers where they end.
+/// Does this with the values put behind the first `at`, and answers where they end, and whether the
+/// names of all up to there are known.
 fn tally_behind<V: View>(
     h: &Header,
     raster: &V,
@@ -170,6 +203,8 @@ fn tally_behind<V: View>(
     tally: &mut Tally,
     names: &mut Names,
     distances: &mut [u32],
+    found: &mut [u8],
+    known: &mut bool,
 ) -> usize
     requires blocked { IsBlocked h.now (V.pixels raster.now) }
     requires side { h.now.side ≡ 8 }
@@ -179,11 +214,15 @@ fn tally_behind<V: View>(
     requires most { most ≤ 67108865 }
     requires names { AreNames names.old }
     requires room { at + 64 ≤ length distances.old }
+    requires beside { length found.old ≡ length distances.old }
+    requires known { IsTrue known.old → AreNamed names.old (take at distances.old) (take at found.old) }
     requires fit { All (IsDistance h.now.kind) (take at distances.old) }
     requires tables { coded_blocks h.now ≤ 64 * length tally.old.tables.items }
     ensures names { AreNames names.new }
     ensures few { result ≤ at + 64 }
     ensures room { length distances.new ≡ length distances.old }
+    ensures beside { length found.new ≡ length distances.old }
+    ensures known { IsTrue known.new → AreNamed names.new (take result distances.new) (take result found.new) }
     ensures fit { All (IsDistance h.now.kind) (take result distances.new) }
     ensures are { map (value_above h.now.kind) (take result distances.new)
         ≡ map (value_above h.now.kind) (take at distances.old)
@@ -193,12 +232,25 @@ fn tally_behind<V: View>(
     ensures this { tally.new.size ≤ most
         → IsFlaggedAt h.now (V.pixels raster.now) spot tally.new.tables.items }
 {
-    let n = tally_part(h, raster, spot, most, tally, names, &mut distances[at..]);
+    let mut more = false;
+    let n = tally_part(
+        h,
+        raster,
+        spot,
+        most,
+        tally,
+        names,
+        &mut distances[at..],
+        &mut found[at..],
+        &mut more,
+    );
+    *known = *known && more;
     at + n
 }
 
 /// Does this of the up to four blocks of 8 in the block of 16 at a spot, row by row of blocks. Their
-/// values are gathered one behind the other.
+/// values are gathered one behind the other; answers how many these are, and whether the names of all
+/// are known.
 fn tally_parts<V: View>(
     h: &Header,
     raster: &V,
@@ -207,6 +259,8 @@ fn tally_parts<V: View>(
     tally: &mut Tally,
     names: &mut Names,
     distances: &mut [u32],
+    found: &mut [u8],
+    known: &mut bool,
 ) -> usize
     requires blocked { IsBlocked h.now (V.pixels raster.now) }
     requires side { h.now.side ≡ 8 }
@@ -216,10 +270,13 @@ fn tally_parts<V: View>(
     requires most { most ≤ 67108865 }
     requires names { AreNames names.old }
     requires room { length distances.old ≡ 256 }
+    requires beside { length found.old ≡ 256 }
     requires tables { coded_blocks h.now ≤ 64 * length tally.old.tables.items }
     ensures names { AreNames names.new }
     ensures few { result ≤ 256 }
     ensures room { length distances.new ≡ 256 }
+    ensures beside { length found.new ≡ 256 }
+    ensures known { IsTrue known.new → AreNamed names.new (take result distances.new) (take result found.new) }
     ensures fit { All (IsDistance h.now.kind) (take result distances.new) }
     ensures are { map (value_above h.now.kind) (take result distances.new)
         ≡ four_values (V.pixels raster.now) spot }
@@ -241,10 +298,19 @@ fn tally_parts<V: View>(
         col: spot.col + 8,
         d: spot.d,
     };
-    let first = tally_behind(h, raster, spot, 0, most, tally, names, distances);
-    let second = tally_behind(h, raster, right, first, most, tally, names, distances);
-    let third = tally_behind(h, raster, below, second, most, tally, names, distances);
-    tally_behind(h, raster, corner, third, most, tally, names, distances)
+    *known = true;
+    let first = tally_behind(
+        h, raster, spot, 0, most, tally, names, distances, found, known,
+    );
+    let second = tally_behind(
+        h, raster, right, first, most, tally, names, distances, found, known,
+    );
+    let third = tally_behind(
+        h, raster, below, second, most, tally, names, distances, found, known,
+    );
+    tally_behind(
+        h, raster, corner, third, most, tally, names, distances, found, known,
+    )
 }
 
 /// Looks at block of 16 number k, at a spot, and before at the blocks of 8 in it.
@@ -259,6 +325,7 @@ fn tally_both<V: View>(
     sixteens: &mut Tally,
     names: &mut Names,
     distances: &mut [u32],
+    found: &mut [u8],
 )
     requires blocked { IsBlocked small.now (V.pixels raster.now) }
     requires side { small.now.side ≡ 8 }
@@ -268,6 +335,7 @@ fn tally_both<V: View>(
     requires most { most ≤ 67108865 }
     requires names { AreNames names.old }
     requires room { length distances.old ≡ 256 }
+    requires beside { length found.old ≡ 256 }
     requires eights { coded_blocks small.now ≤ 64 * length eights.old.tables.items }
     requires sixteens { coded_blocks large.now ≤ 64 * length sixteens.old.tables.items }
     ensures names { AreNames names.new }
@@ -280,7 +348,10 @@ fn tally_both<V: View>(
     ensures large_this { sixteens.new.size ≤ most → HasTableAt large.now (V.pixels raster.now) spot
         → IsFlagged sixteens.new.tables.items k }
 {
-    let n = tally_parts(small, raster, spot, most, eights, names, distances);
+    let mut known = false;
+    let n = tally_parts(
+        small, raster, spot, most, eights, names, distances, found, &mut known,
+    );
     tally_block(
         large,
         raster,
@@ -290,6 +361,8 @@ fn tally_both<V: View>(
         most,
         sixteens,
         names,
+        &mut found[..n],
+        &mut known,
     );
 }
 
@@ -338,6 +411,7 @@ pub(crate) fn measure_sides<V: View>(
     let mut sixteens = no_tally(alloc, large, raster)?;
     let mut names = Names::new();
     let mut distances = [0; MOST];
+    let mut found = [0; MOST];
     let mut spot = FIRST;
     for k in 0..count(large, raster) {
         tally_both(
@@ -351,6 +425,7 @@ pub(crate) fn measure_sides<V: View>(
             &mut sixteens,
             &mut names,
             &mut distances,
+            &mut found,
         );
         if eights.size > most && sixteens.size > most {
             return Ok(Sides {

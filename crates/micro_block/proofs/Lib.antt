@@ -18,3 +18,4 @@ mod InPlace
 mod KeptBounds
 mod FarApart
 pub mod Permuted
+pub mod Named

@@ -5,6 +5,7 @@ pub mod ChosenBlock
 pub mod Block
 pub mod Faults
 pub mod ReadSteps
+pub mod Named
 pub mod inside
 pub use Rattle.raster_values.specs.PixelType
 pub use Rattle.raster_values.specs.Step

@@ -3,7 +3,7 @@
 
 ghost use Rattle.std.specs.Prelude.{◌≡◌, ℕ, ◌+◌, ◌*◌, ◌≤◌, ◌≤ℤ◌, ◌↔◌, ◌++◌, All, IfSome, IsTrue, Some, drop, length, map, suc};
 ghost use Rattle.bit_stuff.specs.Simple.{greatest_number};
-ghost use Rattle.lut_stuff.specs.Names.{AreNames};
+ghost use Rattle.lut_stuff.specs.Names.{AreNames, KeepsNames};
 ghost use Rattle.lut_stuff.specs.Ranked.{AreRanked};
 ghost use Rattle.lut_stuff.specs.Tables.{distinct_above_0, table_bytes, table_size};
 ghost use Rattle.raster_values.specs.Distance.{IsDistance, value_above};
@@ -11,6 +11,7 @@ ghost use Rattle.raster_values.specs.PixelType.{bytes_of};
 ghost use Rattle.micro_block.specs.ChosenBlock as chosen_block;
 ghost use Rattle.micro_block.specs.ChosenBlock.{block_bytes, written_form_bytes};
 ghost use Rattle.micro_block.specs.Frame.{IsBlockCtx};
+ghost use Rattle.micro_block.specs.Named.{AreNamed};
 ghost use Rattle.micro_block.specs.inside.Sizes.{IsTabledLength};
 ghost use Rattle.micro_block.specs.inside.Stepping.{AreListable, IsSpread, steps_above, values_above};
 
@@ -36,16 +37,35 @@ fn different_of(names: &[u8]) -> usize
     set.count()
 }
 
-/// How many different values there are, each of which gets a name. None where no name is left for one.
-fn count_named(distances: &[u32], names: &mut Names) -> Option<usize>
-    requires few { length distances.now ≤ 256 }
+/// Finds the names of values, unless they are known, and tells whether there are enough.
+fn find_names(distances: &[u32], names: &mut Names, found: &mut [u8], known: bool) -> bool
     requires names { AreNames names.old }
+    requires room { length found.old ≡ length distances.now }
+    requires known { IsTrue known → AreNamed names.old distances.now found.old }
     ensures names { AreNames names.new }
+    ensures kept { KeepsNames names.old names.new }
+    ensures known { IsTrue result → AreNamed names.new distances.now found.new }
+{
+    known || names.name_all(distances, found)
+}
+
+/// How many different values there are, each of which gets a name. None where no name is left for one.
+fn count_named(
+    distances: &[u32],
+    names: &mut Names,
+    found: &mut [u8],
+    known: &mut bool,
+) -> Option<usize>
+    requires names { AreNames names.old }
+    requires room { length found.old ≡ length distances.now }
+    requires known { IsTrue known.old → AreNamed names.old distances.now found.old }
+    ensures names { AreNames names.new }
+    ensures kept { KeepsNames names.old names.new }
+    ensures known { IsTrue known.new → AreNamed names.new distances.now found.new }
     ensures count { IfSome result (λ n. n ≡ distinct_above_0 (map suc distances.now)) }
 {
-    let mut room = [0; 256];
-    let found = &mut room[..distances.len()];
-    if names.name_all(distances, found) {
+    *known = find_names(distances, names, found, *known);
+    if *known {
         Some(different_of(found))
     } else {
         None
@@ -60,21 +80,62 @@ fn named_len(
     spread: Spread,
     step: u64,
     names: &mut Names,
+    found: &mut [u8],
+    known: &mut bool,
 ) -> Option<usize>
     requires count { length distances.now ≤ 256 }
     requires spread { IsSpread kind step distances.now spread }
     requires in_range { All (IsDistance kind) distances.now }
     requires names { AreNames names.old }
+    requires room { length found.old ≡ length distances.now }
+    requires known { IsTrue known.old → AreNamed names.old distances.now found.old }
     ensures names { AreNames names.new }
+    ensures kept { KeepsNames names.old names.new }
+    ensures known { IsTrue known.new → AreNamed names.new distances.now found.new }
     ensures value { IsTabledLength step (values_above kind distances.now) result }
     ensures short { IfSome result (λ n. n ≤ 2000) }
 {
     if step == 1 && spread.most >= NEAR && spread.most < 1 << 30 {
-        if let Some(different) = count_named(distances, names) {
+        if let Some(different) = count_named(distances, names, found, known) {
             return known_len(distances.len(), digit_count(spread.most), different - 1);
         }
     }
     tabled_len(distances, kind, spread, step)
+}
+
+/// The answer of `named_size`, which leaves the values' names in `found` where it needed them: `known`
+/// tells whether they stand there. Where they stood there before, none is sought again.
+pub fn size_and_names(
+    distances: &[u32],
+    ctx: &BlockCtx,
+    names: &mut Names,
+    found: &mut [u8],
+    known: &mut bool,
+) -> BlockSize
+    requires few { length distances.now ≤ 256 }
+    requires ctx { IsBlockCtx ctx.now }
+    requires in_range { All (IsDistance ctx.now.kind) distances.now }
+    requires capped { All (λ v. v ≤ℤ ctx.now.top) (map (value_above ctx.now.kind) distances.now) }
+    requires names { AreNames names.old }
+    requires room { length found.old ≡ length distances.now }
+    requires known { IsTrue known.old → AreNamed names.old distances.now found.old }
+    ensures names { AreNames names.new }
+    ensures kept { KeepsNames names.old names.new }
+    ensures known { IsTrue known.new → AreNamed names.new distances.now found.new }
+    ensures length { let values = map (value_above ctx.now.kind) distances.now in
+        result.len ≡ length (chosen_block.block_bytes ctx.now.kind ctx.now.col ctx.now.step values) }
+    ensures table { let values = map (value_above ctx.now.kind) distances.now in
+        IsTrue result.has_table
+        ↔ (chosen_block.chosen_form ctx.now.kind ctx.now.col ctx.now.step values ≡ chosen_block.table) }
+    ensures short { result.len ≤ 1 + length distances.now * bytes_of ctx.now.kind }
+{
+    let spread = spread_of(distances, ctx.kind, ctx.step);
+    let tabled = named_len(distances, ctx.kind, spread, ctx.step, names, found, known);
+    let chosen = fewest(distances.len(), ctx.kind, spread, tabled);
+    BlockSize {
+        len: chosen.size,
+        has_table: chosen.form.is_table(),
+    }
 }
 
 /// The answer of `block_size`. Where the step is 1, values far apart of which few are different, here
@@ -93,13 +154,15 @@ pub fn named_size(distances: &[u32], ctx: &BlockCtx, names: &mut Names) -> Block
         ↔ (chosen_block.chosen_form ctx.now.kind ctx.now.col ctx.now.step values ≡ chosen_block.table) }
     ensures short { result.len ≤ 1 + length distances.now * bytes_of ctx.now.kind }
 {
-    let spread = spread_of(distances, ctx.kind, ctx.step);
-    let tabled = named_len(distances, ctx.kind, spread, ctx.step, names);
-    let chosen = fewest(distances.len(), ctx.kind, spread, tabled);
-    BlockSize {
-        len: chosen.size,
-        has_table: chosen.form.is_table(),
-    }
+    let mut found = [0; 256];
+    let mut known = false;
+    size_and_names(
+        distances,
+        ctx,
+        names,
+        &mut found[..distances.len()],
+        &mut known,
+    )
 }
 
 /// Writes the list of the distances above the least in the table form over the front of `out`, by

@@ -22,7 +22,7 @@ mod writing;
 
 pub use choosing::{BlockSize, block_len, block_size};
 pub use context::{BlockCtx, BlockFault, BlockReason, SteppedBlock};
-pub use few::{named_size, write_ranked};
+pub use few::{named_size, size_and_names, write_ranked};
 pub use first::first_least;
 pub use laws::{
     block_values_are_in_range, blocks_stand_or_have_one_fault, first_least_is_first,

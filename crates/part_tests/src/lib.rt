@@ -1,6 +1,6 @@
 //! Tests of the parts of blobs, each over the public calls of its library: lists and stuffed bits,
-//! mask runs, code words, symbols, lanes, blocks, halves, and rasters in a caller's arrays. They
-//! stand apart from the libraries so that each library is proved once.
+//! mask runs, code words, symbols, lanes, blocks, halves, runs of pixels, and rasters in a caller's
+//! arrays. They stand apart from the libraries so that each library is proved once.
 #![tactic(auto)]
 
 #[cfg(test)]
@@ -9,6 +9,8 @@ mod blocks;
 mod code_words;
 #[cfg(test)]
 mod code_writing;
+#[cfg(test)]
+mod gathered;
 #[cfg(test)]
 mod halves;
 #[cfg(test)]
@@ -20,7 +22,11 @@ mod lent;
 #[cfg(test)]
 mod list_forms;
 #[cfg(test)]
+mod masked_rows;
+#[cfg(test)]
 mod names;
+#[cfg(test)]
+mod numbered;
 #[cfg(test)]
 mod prefixes;
 #[cfg(test)]

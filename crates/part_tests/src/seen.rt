@@ -62,6 +62,19 @@ fn values(rt: &impl Abort, view: &impl View, place: usize, d: u32) -> [i64; 3] {
     out
 }
 
+/// The distances of the valid ones among three pixels from a place on, 77 behind them, and at the end
+/// how many they are.
+fn gathered(rt: &impl Abort, view: &impl View, place: usize, d: u32) -> [u32; 4] {
+    let mut out = [77; 4];
+    let rows = view.rows() as usize;
+    let cols = view.cols() as usize;
+    assert!(rt; rows <= 33 && cols <= 33 && place <= 33);
+    assert!(rt; place + 3 <= rows * cols && d < view.depth());
+    let count = view.gather_from(place, 3, d, &mut out);
+    out[3] = count as u32;
+    out
+}
+
 /// The distances of a block of side 8, 77 behind them, and at the end how many they are.
 fn distances(rt: &impl Abort, view: &impl View, row: u32, col: u32, d: u32) -> [u32; 65] {
     let mut out = [77; 65];
@@ -97,12 +110,28 @@ fn shows_run(rt: &impl Abort, view: &impl View, mask: &[u8], from: usize, count:
     }
 }
 
+/// And they are the bits of one number, with none above them.
+fn shows_word(rt: &impl Abort, view: &impl View, mask: &[u8], from: usize, count: usize) {
+    let rows = view.rows() as usize;
+    let cols = view.cols() as usize;
+    assert!(rt; rows <= 33 && cols <= 33 && from <= 33 && 0 < count && count <= 32);
+    assert!(rt; from + count <= rows * cols);
+    let word = view.mark_word(from, count);
+    same(rt, from, u64::from(word) >> count, 0);
+    for i in 0..count {
+        let mark = (word >> (count - 1 - i)) % 2 == 1;
+        same(rt, from + i, mark, bit(rt, mask, from + i));
+    }
+}
+
 /// Those of runs of several lengths from each place on, of `places` pixels.
 fn shows_marks(rt: &impl Abort, view: &impl View, mask: &[u8], places: usize) {
     assert!(rt; places <= 33);
     for from in 0..places {
         shows_run(rt, view, mask, from, (places - from) / 2);
         shows_run(rt, view, mask, from, places - from);
+        shows_word(rt, view, mask, from, (places - from).div_ceil(2));
+        shows_word(rt, view, mask, from, (places - from).min(32));
     }
 }
 
@@ -137,6 +166,8 @@ fn agree_by_number(rt: &impl Abort, one: &impl View, other: &impl View, d: u32, 
             values(rt, one, place, d),
             values(rt, other, place, d),
         );
+        let here = gathered(rt, one, place, d);
+        same(rt, place, here, gathered(rt, other, place, d));
     }
 }
 

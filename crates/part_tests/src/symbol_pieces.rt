@@ -5,7 +5,7 @@ ghost use Rattle.delta_mode.specs.Ways.{IsOn};
 ghost use Rattle.delta_mode.specs.PlainWays.{IsOnPlain};
 
 use crate::same::same;
-use crate::symbols::{MASKED_COLUMN, THREE_DEPTHS, raster_of};
+use crate::symbols::{MASKED, MASKED_COLUMN, THREE_DEPTHS, raster_of};
 use delta_mode::{PlainWay, Way, first_plain, first_way, next_deltas, next_plain};
 use huff_codes::SymbolCounter;
 use raster_values::{PixelType, Raster};
@@ -91,6 +91,18 @@ fn plain_symbols_come_pixel_by_pixel(rt: HostRuntime) {
     let way = expect_plain_next(&rt, &raster, way, room, &[10, 1, 7, 12, 0, 7]);
     let way = expect_plain_next(&rt, &raster, way, room, &[20, 255, 8]);
     same(&rt, "the end", (way.place, way.given), (4, 9));
+}
+
+#[test]
+fn plain_symbols_of_one_depth_come_in_order(rt: HostRuntime) {
+    let raster = raster_of(&rt, rt.alloc(), PixelType::U8, (3, 3, 1), MASKED);
+    let mut places = [0; 4];
+    let room = &mut places[..];
+    let way = first_plain();
+    let way = expect_plain_next(&rt, &raster, way, room, &[10, 30, 20]);
+    let way = expect_plain_next(&rt, &raster, way, room, &[25, 7]);
+    let way = expect_plain_next(&rt, &raster, way, room, &[9]);
+    same(&rt, "the end", (way.place, way.given), (9, 6));
 }
 
 #[test]

@@ -11,7 +11,7 @@ use std::process::Abort;
 
 /// A raster of which no pixel is valid. What `Raster::new` promises besides stays out of the proofs
 /// of the tests.
-fn blank(
+pub(crate) fn blank(
     rt: &impl Abort,
     alloc: Global,
     kind: PixelType,
@@ -28,7 +28,7 @@ fn has_value(kind: PixelType, value: i64) -> bool
 }
 
 /// Makes a pixel valid, and gives it a value at a depth.
-fn put(rt: &impl Abort, raster: &mut Raster, row: u32, col: u32, d: u32, value: i64) {
+pub(crate) fn put(rt: &impl Abort, raster: &mut Raster, row: u32, col: u32, d: u32, value: i64) {
     assert!(rt; row < raster.rows() && col < raster.cols());
     raster.mark(row, col, true);
     assert!(rt; row < raster.rows() && col < raster.cols() && d < raster.depth());
@@ -92,7 +92,7 @@ fn take_plain(rt: &impl Abort, symbols: &[u8], raster: &mut Raster) {
 }
 
 /// Writes the symbols of a depth, which has as many valid pixels as `out` has places.
-fn write_deltas(rt: &impl Abort, raster: &Raster, d: u32, out: &mut [u8]) {
+pub(crate) fn write_deltas(rt: &impl Abort, raster: &Raster, d: u32, out: &mut [u8]) {
     assert!(rt; raster.kind().bytes() == 1 && d < raster.depth());
     assert!(rt; out.len() == raster.valid_count() as usize);
     deltas_of(raster, d, out);
@@ -185,7 +185,7 @@ fn plain_symbols_of_i8_and_u8_give_the_values_back(rt: HostRuntime) {
 
 /// Three rows and columns of which six pixels are valid. Their predictors are none, the pixel
 /// before in order, the one above, the one to the left, the one above and the one to the left.
-const MASKED: Placed = &[
+pub(crate) const MASKED: Placed = &[
     (0, 0, 0, 10),
     (0, 2, 0, 30),
     (1, 0, 0, 20),
@@ -424,7 +424,7 @@ const CLEARED_SYMBOLS: &[(usize, u8)] = &[
     (194, 0),
 ];
 
-/// Pieces of 64 pixels of these rows are all valid, or not at all, or have one that is not.
+/// Pieces of 32 pixels of these rows are all valid, or not at all, or have one that is not.
 #[test]
 fn pieces_of_valid_pixels_or_of_none_have_their_symbols(rt: HostRuntime) {
     let raster = cleared_rows(&rt, rt.alloc());

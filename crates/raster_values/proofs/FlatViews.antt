@@ -1,7 +1,8 @@
 -- How the vectors stand for the numbered pixels of a raster.
-use Rattle.std.proofs.Common.{◌≡◌, ℕ, ◌+◌, ◌*◌, ◌/◌, ◌<◌, ◌≤◌, Bool, true, false, cond, List, [], ◌∷◌, length, get_or, take, drop, map, Some, None, refl, sym, ap, ◌∙◌, subst, arith}
+use Rattle.std.proofs.Common.{◌≡◌, ℕ, ◌+◌, ◌*◌, ◌/◌, ◌<◌, ◌≤◌, Bool, true, false, cond, List, [], ◌∷◌, ◌++◌, length, get_or, take, drop, map, Some, None, refl, sym, ap, ◌∙◌, subst, arith}
 use Rattle.std.specs.Prelude.{ℤ, pos, All, unwrap_or, is_some}
-use Rattle.std.proofs.lemmas.List.{get_or_past}
+use Rattle.std.specs.List.{filter, range_with_len}
+use Rattle.std.proofs.lemmas.List.{get_or_past, length-map, map-id, take-append-drop}
 use Rattle.std.proofs.lemmas.Nat.{mul-add-lt}
 use Rattle.std.proofs.lemmas.Bool.{false≢true}
 use Rattle.raster_values.specs.declared.raster.Raster.TheInside.{Inside}
@@ -11,11 +12,12 @@ use Rattle.raster_values.specs.Grid.{values_bytes}
 use Rattle.raster_values.specs.Values.{AreValues}
 use Rattle.raster_values.specs.Block.{SameMask}
 use Rattle.raster_values.specs.Order.{FillsValid, PoursBytes, IsMaskOf, mask_bit}
-use Rattle.raster_values.specs.Flat.{PutsFrom, value_in}
+use Rattle.raster_values.specs.Flat.{PutsFrom, valid_from, value_in, values_among}
 use Rattle.raster_values.specs.inside.View.{seen, IsInside, pixels_of}
+use Rattle.raster_values.specs.inside.Runs.{run_values, Gathers}
 use Rattle.raster_values.specs.inside.Ordered.{ChangesMarked, FillsMarked, PutsMarked}
 use Rattle.raster_values.proofs.Views.{get_or-pixels_of, valid-pixels_of, value-pixel_of, KeepsValues, sound}
-use Rattle.raster_values.proofs.BlockViews.{value_there}
+use Rattle.raster_values.proofs.BlockViews.{picks_same, value_there}
 use Rattle.raster_values.proofs.Deep.{length-values_of, raster_deep, values_in_range}
 use Rattle.raster_values.proofs.Spelled.{written_values}
 
@@ -48,6 +50,27 @@ same_mask a vs = record {
   shape = record { kind = refl; rows = refl; cols = refl; depth = refl };
   places = λ i j within. valid-pixels_of a.depth a.marks vs (i * a.cols + j) ∙ sym (valid-pixels_of a.depth a.marks a.values.values (i * a.cols + j));
 }
+
+-- ---- runs of numbered pixels
+
+-- the values of the valid ones are those of the marked ones
+pub among_run : (a : Inside) (d place count : ℕ) → d < a.depth → values_among (seen a) d place count ≡ run_values a.depth d a.marks a.values.values place count
+among_run a d place count below =
+    let q : ℕ → Bool = λ i. is_some (get_or (seen a).pixels i None) in
+    ap (λ ks. map (value_in (seen a) d) (filter q ks)) (sym (map-id (range_with_len place count)))
+    ∙ picks_same (value_in (seen a) d) q (λ i. i) (λ k. get_or a.values.values (k * a.depth + d) (pos 0)) (λ k. get_or a.marks k false) place place count
+    (λ k less. mark_flat a (place + k)) (λ k less on. value_marked a (place + k) d on below)
+
+pub gathered_among : {X : Type 0} (g : ℤ → X) (a : Inside) (d place count n : ℕ) (old new : List X) → d < a.depth
+    → Gathers (map g (run_values a.depth d a.marks a.values.values place count)) old new 0 n
+    → (n ≡ length (valid_from (seen a) place count)) × (new ≡ map g (values_among (seen a) d place count) ++ drop n old)
+gathered_among g a d place count n old new below gathers =
+    let r = seen a in
+    let run = run_values a.depth d a.marks a.values.values place count in
+    let same : values_among r d place count ≡ run = among_run a d place count below in (
+      omega (arith, gathers.ends, length-map run g, ap length same, length-map (valid_from r place count) (value_in r d)),
+      sym (take-append-drop n new) ∙ ap (λ t. t ++ drop n new) (gathers.front ∙ ap (map g) (sym same)) ∙ ap (λ t. map g (values_among r d place count) ++ t) gathers.rest,
+    )
 
 -- ---- values that are left
 

@@ -50,6 +50,7 @@ mod ValueBytes
 mod LentMasks
 mod SeenArrays
 mod MarkedValues
+mod MarkedPuts
 pub mod LentArrays
 mod MixedRuns
 mod GatheredRuns

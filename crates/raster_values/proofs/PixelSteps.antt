@@ -2,17 +2,17 @@
 use Rattle.std.proofs.Common.{◌≡◌, ◌≢◌, ℕ, ◌+◌, ◌-◌, ◌*◌, ◌<◌, ◌≤◌, zero, suc, Bool, true, false, cond, List, [], ◌∷◌, ◌++◌, length, get_or, take, drop, set, map, refl, sym, ap, ◌∙◌, subst, arith, ⊎_elim, append_assoc, length-append}
 use Rattle.std.specs.Prelude.{ℤ, pos}
 use Rattle.std.specs.List.{filter, range_with_len}
-use Rattle.std.proofs.lemmas.List.{get_or-set_same, get_or-set_other, get_or-take, get_or-drop, length-take-le, length-drop, map-append, take_at, drop_at, drop-drop, ext_get_or}
+use Rattle.std.proofs.lemmas.List.{get_or-set_same, get_or-set_other, length-take-le, length-drop, map-append, take_at, drop_at, drop-drop, ext_get_or}
 use Rattle.std.proofs.lemmas.List.FromFn.{length-range_with_len, get_or-map-range_with_len, length-map-range_with_len}
 use Rattle.std.proofs.lemmas.List.Elements.{filter-append}
 use Rattle.std.proofs.lemmas.Simd.{map-map}
-use Rattle.std.proofs.lemmas.Bool.{cases_eq, cases_lt, false≢true}
+use Rattle.std.proofs.lemmas.Bool.{cases_eq, cases_lt}
 use Rattle.std.proofs.lemmas.Nat.{same_from_place}
 use Rattle.std.proofs.Math.Seq.{take-add}
 use Rattle.std.proofs.Math.Nat.{mul-le-mul_left, mul-le-mul_right}
 use borrow.Rule.Slice.PartMut.{put_mid}
 use Rattle.raster_values.specs.inside.Runs.{run_places, run_values, Gathers, LeavesRun, AreRuns}
-use Rattle.raster_values.specs.inside.Ordered.{FillsPixels, PutsMarked, PutsPixels}
+use Rattle.raster_values.specs.inside.Ordered.{FillsPixels, PutsPixels}
 use Rattle.raster_values.proofs.CellBytes.{with_run}
 use Rattle.raster_values.proofs.WholeRuns.{with_run_at, with_run_before, with_run_after}
 use Rattle.raster_values.proofs.MaskCounts.{range_join}
@@ -196,29 +196,3 @@ leaves_piece depth d marks piece first old new from k start stop low runs long p
       puts.rest j e less (λ lo hi is. out (omega (arith, runs.first)) (omega (arith, long, runs.first, runs.second)) (runs.on j lo (omega (arith, long, runs.second))) is)
       ∙ h.rest j e less (λ lo hi valid is. out lo (omega (arith, runs.first, runs.second)) valid is);
 }
-
-pub puts_piece : (depth d : ℕ) (marks : List Bool) (input piece first old new : List ℤ) (place k start stop : ℕ) → d < depth → place ≤ k → AreRuns marks k start stop → stop ≤ place + length input
-    → piece ≡ take (stop - start) (drop (start - place) input) → PutsPixels depth d start (length piece) piece old new
-    → PutsMarked depth d marks place (k - place) input first old → PutsMarked depth d marks place (stop - place) input first new
-puts_piece depth d marks input piece first old new place k start stop deep low runs within cut puts h =
-    let m = stop - start in
-    let long : length piece ≡ m = ap length cut ∙ length-take-le m (drop (start - place) input) (omega (arith, length-drop (start - place) input, runs.first, runs.second)) in
-    record {
-      put = λ i less valid.
-          ⊎_elim
-          (λ (lt : place + i < k).
-          puts.rest (place + i) d deep (λ lo hi is. absurd (let no : ⊥ = omega (arith, runs.first) in no)) ∙ h.put i (omega arith) valid)
-          (λ (ge : k ≤ place + i). ⊎_elim
-          (λ (off : place + i < start). absurd (false≢true (sym (runs.off (place + i) ge off) ∙ valid)))
-          (λ (on : start ≤ place + i).
-          let j = place + i - start in
-          let small : j < m = omega (arith, runs.second) in
-          let at : start + j ≡ place + i = omega arith in
-          ap (λ x. get_or new (x * depth + d) (pos 0)) (sym at) ∙ puts.put j (omega (arith, long)) ∙ ap (λ xs. get_or xs j (pos 0)) cut
-          ∙ get_or-take m (drop (start - place) input) j (pos 0) small ∙ get_or-drop (start - place) input j (pos 0) ∙ ap (λ x. get_or input x (pos 0)) (let e : start - place + j ≡ i = omega (arith, runs.first) in e))
-          (cases_lt (place + i) start))
-          (cases_lt (place + i) k);
-      rest = λ j e less out.
-          puts.rest j e less (λ lo hi is. out (omega (arith, runs.first)) (omega (arith, long, runs.first, runs.second)) (runs.on j lo (omega (arith, long, runs.second))) is)
-          ∙ h.rest j e less (λ lo hi valid is. out lo (omega (arith, runs.first, runs.second)) valid is);
-    }

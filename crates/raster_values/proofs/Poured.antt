@@ -198,9 +198,10 @@ written_all {kind} {depth} {size} {at} {from} {marks} {vs} {out} past all h =
     let end : from ≡ size = omega (arith, h.fits, ap (λ n. n * bytes_of kind) none) in
     sym (take_all from out (omega arith)) ∙ h.front ∙ ap (values_bytes kind) (all_before depth at marks vs past)
 
-pub piece_long : (from m : ℕ) (bytes : List ℕ) → from + m ≤ length bytes → length (take (from + m - from) (drop from bytes)) ≡ m
-piece_long from m bytes within =
-    length-take-le (from + m - from) (drop from bytes) (omega (arith, length-drop from bytes)) ∙ (let e : from + m - from ≡ m = omega arith in e)
+-- a piece is as long as it says
+pub piece_long : {X : Type 0} (from m : ℕ) (xs : List X) → from + m ≤ length xs → length (take (from + m - from) (drop from xs)) ≡ m
+piece_long from m xs within =
+    length-take-le (from + m - from) (drop from xs) (omega (arith, length-drop from xs, within)) ∙ (let e : from + m - from ≡ m = omega arith in e)
 
 -- a vector's bytes with some of them replaced
 pub put_whole : {X : Type 0} (a e : ℕ) (xs ys : List X) → a ≤ e → e ≤ length xs → length ys ≡ e - a → put_mid a (e - a) xs ys ≡ take a xs ++ (ys ++ drop e xs)

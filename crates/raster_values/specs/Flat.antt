@@ -17,6 +17,14 @@ marks_of r = map is_some r.pixels
 abbrev pub value_in : Pixels → ℕ → ℕ → ℤ
 value_in r d k = get_or (unwrap_or (get_or r.pixels k None) []) d (pos 0)
 
+-- the numbers of the valid ones among n pixels from number k on
+abbrev pub valid_from : Pixels → ℕ → ℕ → List ℕ
+valid_from r k n = filter (λ i. is_some (get_or r.pixels i None)) (range_with_len k n)
+
+-- their values at a depth
+abbrev pub values_among : Pixels → ℕ → ℕ → ℕ → List ℤ
+values_among r d k n = map (value_in r d) (valid_from r k n)
+
 -- each valid pixel has such values
 abbrev pub EachValid : Pixels → (List ℤ → Type 0) → Type 0
 EachValid r P = (k : ℕ) → k < length r.pixels → IfSome (get_or r.pixels k None) P

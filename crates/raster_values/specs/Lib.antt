@@ -12,6 +12,7 @@ pub mod Block
 pub mod Order
 pub mod Values
 pub mod Flat
+pub mod Words
 pub mod ReadGrid
 pub mod Bands
 pub mod BandsGrid

@@ -348,6 +348,32 @@ pub(super) fn gather_rows(
     gather_lines(marks, values, depth, d, cols, row, col, high, wide, out)
 }
 
+/// Puts the distances of the marked ones among `count` pixels from `place` on in front of `out`, and
+/// answers how many these are.
+pub(super) fn gather_pixels(
+    marks: &LentMask,
+    values: &CellBytes,
+    depth: usize,
+    d: usize,
+    place: usize,
+    count: usize,
+    out: &mut [u32],
+) -> usize
+    requires size { length values.now.values ≡ length marks.now * depth }
+    requires few { length values.now.values ≤ 16777216 }
+    requires within { place + count ≤ length marks.now }
+    requires depth { d < depth }
+    requires room { count ≤ length out.old }
+    ensures gathered { Gathers (map (distance_of values.now.kind)
+        (run_values depth d marks.now values.now.values place count)) out.old out.new 0 result }
+    ensures within { result ≤ count }
+{
+    // for the proof: `len` ensures that there are at most 2^24 pixels
+    let _ = marks.len();
+    let end = place + count;
+    gather_lines(marks, values, depth, d, end, 0, place, 1, count, out)
+}
+
 /// Does what `gather_rows` does, row by row.
 fn gather_lines(
     marks: &LentMask,

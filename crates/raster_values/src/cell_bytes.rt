@@ -3,14 +3,16 @@
 ghost use Rattle.std.specs.Prelude.{◌≡◌, ◌+◌, ◌*◌, ◌<◌, ◌≤◌, pos, length, get_or, take, drop, map};
 ghost use Rattle.std.specs.List.{range_with_len};
 ghost use Rattle.lane_kernels.specs.Kernels.{IsLeast, IsGreatest};
-ghost use Rattle.raster_values.specs.PixelType.{bytes_of};
+ghost use Rattle.raster_values.specs.PixelType.{InRange, bytes_of};
 ghost use Rattle.raster_values.specs.Grid.{values_bytes};
 ghost use Rattle.raster_values.specs.Distance.{distance_of};
 ghost use Rattle.raster_values.specs.inside.CellList.{CellList, values_in};
 ghost use Rattle.raster_values.specs.inside.LentBytes.{AreHeld};
 ghost use Rattle.raster_values.specs.inside.Runs.{AreEnds, Gathers, whole_rows};
 
-use super::cells::{by_kind, distance_at, eight_at, lay_eight, place, read_pixels};
+use super::cells::{
+    by_kind, distance_at, eight_at, lay_eight, place, read_pixels, read_pixels_as, value_at,
+};
 use super::kind::PixelType;
 use std::marker::Model;
 
@@ -68,6 +70,38 @@ impl<'v> CellBytes<'v> {
             (range_with_len first (length out.old)) }
     {
         read_pixels(self.kind, self.count, self.bytes, first, depth, d, out);
+    }
+
+    /// Does what `get_pixels` does, for a type that is known before.
+    #[inline(always)]
+    pub fn get_pixels_as(
+        &self,
+        kind: PixelType,
+        first: usize,
+        depth: usize,
+        d: usize,
+        out: &mut [i64],
+    )
+        requires kind { kind ≡ self.now.kind }
+        requires few { length self.now.values ≤ 16777216 }
+        requires depth { d < depth }
+        requires within { (first + length out.old) * depth ≤ length self.now.values }
+        ensures { out.new ≡ map (λ k. get_or self.now.values (k * depth + d) (pos 0))
+            (range_with_len first (length out.old)) }
+    {
+        read_pixels_as(kind, self.count, self.bytes, first, depth, d, out);
+    }
+
+    /// The value at a place, for a type that is known before.
+    #[inline(always)]
+    pub fn value_as(&self, kind: PixelType, at: usize) -> i64
+        requires kind { kind ≡ self.now.kind }
+        requires few { length self.now.values ≤ 16777216 }
+        requires within { at < length self.now.values }
+        ensures value { result ≡ get_or self.now.values at (pos 0) }
+        ensures in_range { InRange self.now.kind result }
+    {
+        value_at(kind, self.count, self.bytes, at)
     }
 
     /// How far the value at a place is above the type's least, for a type that is known before.

@@ -160,9 +160,35 @@ pub(super) fn read_pixels(
     by_kind!(kind, kind => read_pixels_as(kind, count, bytes, first, depth, d, out))
 }
 
-/// Does what `read_pixels` does, for a type that is known before.
+/// Does what `read_pixels` does, for a type that is known before. Without a second depth values stand
+/// side by side, which the compiler is to know.
 #[inline(always)]
-fn read_pixels_as(
+pub(super) fn read_pixels_as(
+    kind: PixelType,
+    count: usize,
+    bytes: &[u8],
+    first: usize,
+    depth: usize,
+    d: usize,
+    out: &mut [i64],
+)
+    requires few { count ≤ 16777216 }
+    requires size { length bytes.now ≡ count * bytes_of kind }
+    requires depth { d < depth }
+    requires within { (first + length out.old) * depth ≤ count }
+    ensures { out.new ≡ map (λ k. get_or (values_in kind count bytes.now) (k * depth + d) (pos 0))
+        (range_with_len first (length out.old)) }
+{
+    if depth == 1 {
+        read_steps_as(kind, count, bytes, first, 1, d, out);
+    } else {
+        read_steps_as(kind, count, bytes, first, depth, d, out);
+    }
+}
+
+/// Does what `read_pixels` does, one pixel after the other.
+#[inline(always)]
+fn read_steps_as(
     kind: PixelType,
     count: usize,
     bytes: &[u8],

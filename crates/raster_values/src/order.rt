@@ -6,14 +6,16 @@ ghost use Rattle.raster_values.specs.Raster.{values_of};
 ghost use Rattle.raster_values.specs.Order.{mask_bit};
 ghost use Rattle.raster_values.specs.inside.View.{pixels_of};
 ghost use Rattle.raster_values.specs.Grid.{values_bytes};
+ghost use Rattle.raster_values.specs.inside.Runs.{AreMarks};
 ghost use Rattle.raster_values.specs.inside.Ordered.{ChangesMarked, FillsMarked, PutsMarked, PutsMarkedBytes};
 
 use super::cell_bytes::CellBytes;
-use super::cells::Cells;
+use super::cells::{Cells, by_kind};
+use super::kind::PixelType;
 use super::lent_mask::LentMask;
 use super::marked::Marked;
 use super::mask::Mask;
-use super::valued::{Valued, fill_pixels, put_pixels};
+use super::valued::{Valued, fill_pixels, put_list_as, put_marked_as};
 
 /// Gives each marked pixel this list of values, one for each depth.
 pub(super) fn fill_marked<M: Marked, V: Valued>(marks: &M, pixel: &[i64], values: &mut V)
@@ -72,7 +74,130 @@ pub(super) fn pour_bytes<M: Marked, V: Valued>(
     }
 }
 
-/// Gives the marked ones among the pixels from `place` on these values at a depth.
+/// Does what `put_values` does, for at most 32 pixels whose marks are the bits of the word. Each pixel
+/// is written, one that is not marked with what stands there, so that no jump depends on marks.
+#[inline(always)]
+fn put_mixed<M: Marked, V: Valued>(
+    kind: PixelType,
+    marks: &M,
+    word: u32,
+    depth: usize,
+    d: usize,
+    place: usize,
+    input: &[i64],
+    values: &mut V,
+)
+    requires sound { V.sound values.old }
+    requires size { length (V.cells values.old).values ≡ length (M.marks marks.now) * depth }
+    requires few { length (V.cells values.old).values ≤ 16777216 }
+    requires within { place + length input.now ≤ length (M.marks marks.now) }
+    requires depth { d < depth }
+    requires in_range { All (InRange (V.cells values.old).kind) input.now }
+    requires kind { kind ≡ (V.cells values.old).kind }
+    requires short { length input.now ≤ 32 }
+    requires word { AreMarks (M.marks marks.now) place (length input.now) word }
+    ensures kind { (V.cells values.new).kind ≡ (V.cells values.old).kind }
+    ensures in_range { All (InRange (V.cells values.old).kind) (V.cells values.old).values
+        → All (InRange (V.cells values.old).kind) (V.cells values.new).values }
+    ensures size { length (V.cells values.new).values ≡ length (V.cells values.old).values }
+    ensures put { PutsMarked depth d (M.marks marks.now) place (length input.now) input.now (V.cells values.old).values
+        (V.cells values.new).values }
+    ensures sound { V.sound values.new }
+    ensures kept { V.kept values.new ≡ V.kept values.old }
+{
+    let count = input.len();
+    for i in 0..count {
+        let mark = (word >> (count - 1 - i)) % 2;
+        put_marked_as(values, kind, (place + i) * depth + d, mark, input[i]);
+    }
+}
+
+/// Does what `put_values` does, for at most 32 pixels.
+#[inline(always)]
+fn put_word<M: Marked, V: Valued>(
+    kind: PixelType,
+    marks: &M,
+    depth: usize,
+    d: usize,
+    place: usize,
+    input: &[i64],
+    values: &mut V,
+)
+    requires sound { V.sound values.old }
+    requires size { length (V.cells values.old).values ≡ length (M.marks marks.now) * depth }
+    requires few { length (V.cells values.old).values ≤ 16777216 }
+    requires within { place + length input.now ≤ length (M.marks marks.now) }
+    requires depth { d < depth }
+    requires in_range { All (InRange (V.cells values.old).kind) input.now }
+    requires kind { kind ≡ (V.cells values.old).kind }
+    requires some { 0 < length input.now }
+    requires short { length input.now ≤ 32 }
+    ensures kind { (V.cells values.new).kind ≡ (V.cells values.old).kind }
+    ensures in_range { All (InRange (V.cells values.old).kind) (V.cells values.old).values
+        → All (InRange (V.cells values.old).kind) (V.cells values.new).values }
+    ensures size { length (V.cells values.new).values ≡ length (V.cells values.old).values }
+    ensures put { PutsMarked depth d (M.marks marks.now) place (length input.now) input.now (V.cells values.old).values
+        (V.cells values.new).values }
+    ensures sound { V.sound values.new }
+    ensures kept { V.kept values.new ≡ V.kept values.old }
+{
+    let count = input.len();
+    let word = marks.word(place, count);
+    if word == 0 {
+        return;
+    }
+    if word == u32::MAX >> (32 - count) {
+        put_list_as(values, kind, place, depth, d, input);
+        return;
+    }
+    put_mixed(kind, marks, word, depth, d, place, input, values);
+}
+
+/// Does what `put_values` does, for a type that is known before.
+#[inline(always)]
+fn put_values_as<M: Marked, V: Valued>(
+    kind: PixelType,
+    marks: &M,
+    depth: usize,
+    d: usize,
+    place: usize,
+    input: &[i64],
+    values: &mut V,
+)
+    requires sound { V.sound values.old }
+    requires size { length (V.cells values.old).values ≡ length (M.marks marks.now) * depth }
+    requires few { length (V.cells values.old).values ≤ 16777216 }
+    requires within { place + length input.now ≤ length (M.marks marks.now) }
+    requires depth { d < depth }
+    requires in_range { All (InRange (V.cells values.old).kind) input.now }
+    requires kind { kind ≡ (V.cells values.old).kind }
+    ensures kind { (V.cells values.new).kind ≡ (V.cells values.old).kind }
+    ensures in_range { All (InRange (V.cells values.old).kind) (V.cells values.old).values
+        → All (InRange (V.cells values.old).kind) (V.cells values.new).values }
+    ensures size { length (V.cells values.new).values ≡ length (V.cells values.old).values }
+    ensures put { PutsMarked depth d (M.marks marks.now) place (length input.now) input.now (V.cells values.old).values
+        (V.cells values.new).values }
+    ensures sound { V.sound values.new }
+    ensures kept { V.kept values.new ≡ V.kept values.old }
+{
+    let mut k = 0;
+    while k < input.len() {
+        let more = (input.len() - k).min(32);
+        put_word(
+            kind,
+            marks,
+            depth,
+            d,
+            place + k,
+            &input[k..k + more],
+            values,
+        );
+        k += more;
+    }
+}
+
+/// Gives the marked ones among the pixels from `place` on these values at a depth, in words
+/// of at most 32 marks.
 pub(super) fn put_values<M: Marked, V: Valued>(
     marks: &M,
     depth: usize,
@@ -96,14 +221,7 @@ pub(super) fn put_values<M: Marked, V: Valued>(
     ensures sound { V.sound values.new }
     ensures kept { V.kept values.new ≡ V.kept values.old }
 {
-    let end = place + input.len();
-    let mut k = place;
-    while k < end {
-        let run = marks.next_run(k, end);
-        let piece = &input[run.start - place..run.end - place];
-        put_pixels(values, run.start, depth, d, piece);
-        k = run.end;
-    }
+    by_kind!(values.kind(), kind => put_values_as(kind, marks, depth, d, place, input, values))
 }
 
 /// The bytes of the marked pixels' values, run by run.

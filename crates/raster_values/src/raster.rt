@@ -7,7 +7,8 @@ ghost use Rattle.raster_values.specs.Raster.{IsRaster, HasZero, IsTooLarge, blan
 ghost use Rattle.raster_values.specs.Places.{SameShape, ChangesMark, ChangesValue};
 ghost use Rattle.raster_values.specs.Grid.{grid_marks, values_bytes};
 ghost use Rattle.raster_values.specs.Order.{FillsValid, IsMaskOf, MarksBits, PoursBytes, mask_bit};
-ghost use Rattle.raster_values.specs.Flat.{PutsFrom, PutsAll, all_values, depth_values, marks_of, value_in};
+ghost use Rattle.raster_values.specs.Flat.{PutsFrom, PutsAll, all_values, depth_values, marks_of, valid_from, value_in, values_among};
+ghost use Rattle.raster_values.specs.Words as words;
 ghost use Rattle.raster_values.specs.Distance.{distance_of};
 ghost use Rattle.lane_kernels.specs.Kernels.{IsLeast, IsGreatest};
 ghost use Rattle.raster_values.specs.ReadGrid.{AreMarks, TookBytes, TookSome, IsToldFault, CountsGridStop, mark_faults, value_faults};
@@ -441,6 +442,43 @@ impl Raster {
     {
         let values = self.values.read();
         values.get_pixels(place, self.depth as usize, d as usize, out);
+    }
+
+    /// Puts the values at a depth of the valid ones among `count` pixels from number `place` on in
+    /// front of `out`, in order and each by how far it is above the type's least, and answers how many
+    /// these are. The rest of `out` stays.
+    pub fn gather_from(&self, place: usize, count: usize, d: u32, out: &mut [u32]) -> usize
+        requires place { place + count ≤ self.now.rows * self.now.cols }
+        requires depth { d < self.now.depth }
+        requires room { count ≤ length out.old }
+        ensures count { result ≡ length (valid_from self.now place count) }
+        ensures within { result ≤ count }
+        ensures distances { out.new
+            ≡ map (distance_of self.now.kind) (values_among self.now d place count)
+            ++ drop result out.old }
+    {
+        let marks = self.marks.read();
+        let values = self.values.read();
+        blocks::gather_pixels(
+            &marks,
+            &values,
+            self.depth as usize,
+            d as usize,
+            place,
+            count,
+            out,
+        )
+    }
+
+    /// The marks of `count` pixels from number `place` on, at most 32, as the bits of one number, the
+    /// first as the highest.
+    pub fn mark_word(&self, place: usize, count: usize) -> u32
+        requires some { 0 < count }
+        requires few { count ≤ 32 }
+        requires place { place + count ≤ self.now.rows * self.now.cols }
+        ensures marks { words.AreMarks (marks_of self.now) place count result }
+    {
+        self.marks.word(place, count)
     }
 
     /// Gives the valid ones among the pixels from number `place` on these values at a depth, and

@@ -6,7 +6,8 @@ ghost use Rattle.raster_values.specs.PixelType.{Spells, bytes_of};
 ghost use Rattle.raster_values.specs.Raster.{InShape, IsRaster, IsShape, valid_count, values_of};
 ghost use Rattle.raster_values.specs.Block.{block_count, block_values};
 ghost use Rattle.raster_values.specs.Order.{IsMaskOf, marks_in, mask_bit};
-ghost use Rattle.raster_values.specs.Flat.{all_values, depth_values, marks_of, value_in};
+ghost use Rattle.raster_values.specs.Flat.{all_values, depth_values, marks_of, valid_from, value_in, values_among};
+ghost use Rattle.raster_values.specs.Words.{AreMarks};
 ghost use Rattle.raster_values.specs.Grid.{values_bytes};
 ghost use Rattle.raster_values.specs.Distance.{distance_of};
 
@@ -215,6 +216,41 @@ impl<'v, 'm> Seen<'v, 'm> {
             place,
             out,
         );
+    }
+
+    /// Puts the values at a depth of the valid ones among `count` pixels from number `place` on in
+    /// front of `out`, in order and each by how far it is above the type's least, and answers how many
+    /// these are. The rest of `out` stays.
+    pub fn gather_from(&self, place: usize, count: usize, d: u32, out: &mut [u32]) -> usize
+        requires place { place + count ≤ self.now.rows * self.now.cols }
+        requires depth { d < self.now.depth }
+        requires room { count ≤ length out.old }
+        ensures count { result ≡ length (valid_from self.now place count) }
+        ensures within { result ≤ count }
+        ensures distances { out.new
+            ≡ map (distance_of self.now.kind) (values_among self.now d place count)
+            ++ drop result out.old }
+    {
+        blocks::gather_pixels(
+            &self.marks,
+            &self.values,
+            self.depth as usize,
+            d as usize,
+            place,
+            count,
+            out,
+        )
+    }
+
+    /// The marks of `count` pixels from number `place` on, at most 32, as the bits of one number, the
+    /// first as the highest.
+    pub fn mark_word(&self, place: usize, count: usize) -> u32
+        requires some { 0 < count }
+        requires few { count ≤ 32 }
+        requires place { place + count ≤ self.now.rows * self.now.cols }
+        ensures marks { AreMarks (marks_of self.now) place count result }
+    {
+        self.marks.word(place, count)
     }
 
     /// Writes the bytes of the valid pixels' values, pixel by pixel and depth innermost.

@@ -152,28 +152,9 @@ fn put_run_as<V: Valued>(cells: &mut V, kind: PixelType, at: usize, values: &[i6
 }
 
 /// Puts values of the type at a depth of as many pixels from `first` on, of which each has `depth`
-/// values.
-pub fn put_pixels<V: Valued>(cells: &mut V, first: usize, depth: usize, d: usize, values: &[i64])
-    requires sound { V.sound cells.old }
-    requires few { length (V.cells cells.old).values ≤ 16777216 }
-    requires depth { d < depth }
-    requires within { (first + length values.now) * depth ≤ length (V.cells cells.old).values }
-    requires in_range { All (InRange (V.cells cells.old).kind) values.now }
-    ensures kind { (V.cells cells.new).kind ≡ (V.cells cells.old).kind }
-    ensures in_range { All (InRange (V.cells cells.old).kind) (V.cells cells.old).values
-        → All (InRange (V.cells cells.old).kind) (V.cells cells.new).values }
-    ensures size { length (V.cells cells.new).values ≡ length (V.cells cells.old).values }
-    ensures put { PutsPixels depth d first (length values.now) values.now
-        (V.cells cells.old).values (V.cells cells.new).values }
-    ensures sound { V.sound cells.new }
-    ensures kept { V.kept cells.new ≡ V.kept cells.old }
-{
-    by_kind!(cells.kind(), kind => put_list_as(cells, kind, first, depth, d, values))
-}
-
-/// Does what `put_pixels` does, for a type that is known before.
+/// values. The type is known before.
 #[inline(always)]
-fn put_list_as<V: Valued>(
+pub(super) fn put_list_as<V: Valued>(
     cells: &mut V,
     kind: PixelType,
     first: usize,
@@ -202,7 +183,7 @@ fn put_list_as<V: Valued>(
 
 /// The value where the mark is 1, and else what stands there.
 #[inline(always)]
-fn one_of(mark: u32, value: i64, stood: i64) -> i64
+pub(super) fn one_of(mark: u32, value: i64, stood: i64) -> i64
     ensures { result ≡ (if nat_eq mark 1 then value else stood) }
 {
     if mark == 1 { value } else { stood }

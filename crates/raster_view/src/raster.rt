@@ -45,6 +45,14 @@ impl View for Raster {
         Raster::values_from(self, place, d, out);
     }
 
+    fn gather_from(&self, place: usize, count: usize, d: u32, out: &mut [u32]) -> usize {
+        Raster::gather_from(self, place, count, d, out)
+    }
+
+    fn mark_word(&self, place: usize, count: usize) -> u32 {
+        Raster::mark_word(self, place, count)
+    }
+
     fn value_bytes(&self, out: &mut [u8]) {
         Raster::value_bytes(self, out);
     }

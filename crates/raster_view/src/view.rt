@@ -5,7 +5,8 @@ ghost use Rattle.raster_values.specs.PixelType.{bytes_of};
 ghost use Rattle.raster_values.specs.Raster.{Pixels, IsRaster, InShape, valid_count, values_of};
 ghost use Rattle.raster_values.specs.Block.{block_count, block_values};
 ghost use Rattle.raster_values.specs.Order.{IsMaskOf, mask_bit};
-ghost use Rattle.raster_values.specs.Flat.{all_values, depth_values, value_in};
+ghost use Rattle.raster_values.specs.Flat.{all_values, depth_values, marks_of, valid_from, value_in, values_among};
+ghost use Rattle.raster_values.specs.Words.{AreMarks};
 ghost use Rattle.raster_values.specs.Grid.{values_bytes};
 ghost use Rattle.raster_values.specs.Distance.{distance_of};
 ghost use Rattle.lane_kernels.specs.Kernels.{IsLeast, IsGreatest};
@@ -79,6 +80,27 @@ pub trait View {
         ensures room { length out.new ≡ length out.old }
         ensures values { (i : ℕ) → i < length out.old → get_or out.new i (pos 0)
             ≡ value_in (pixels self.now) d (place + i) };
+
+    /// Puts the values at a depth of the valid ones among `count` pixels from number `place` on in
+    /// front of `out`, in order and each by how far it is above the type's least, and answers how many
+    /// these are. The rest of `out` stays.
+    fn gather_from(&self, place: usize, count: usize, d: u32, out: &mut [u32]) -> usize
+        requires place { place + count ≤ (pixels self.now).rows * (pixels self.now).cols }
+        requires depth { d < (pixels self.now).depth }
+        requires room { count ≤ length out.old }
+        ensures count { result ≡ length (valid_from (pixels self.now) place count) }
+        ensures within { result ≤ count }
+        ensures distances { out.new
+            ≡ map (distance_of (pixels self.now).kind) (values_among (pixels self.now) d place count)
+            ++ drop result out.old };
+
+    /// The marks of `count` pixels from number `place` on, at most 32, as the bits of one number, the
+    /// first as the highest.
+    fn mark_word(&self, place: usize, count: usize) -> u32
+        requires some { 0 < count }
+        requires few { count ≤ 32 }
+        requires place { place + count ≤ (pixels self.now).rows * (pixels self.now).cols }
+        ensures marks { AreMarks (marks_of (pixels self.now)) place count result };
 
     /// Writes the bytes of the valid pixels' values, pixel by pixel and depth innermost.
     fn value_bytes(&self, out: &mut [u8])

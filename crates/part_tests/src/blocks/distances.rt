@@ -7,7 +7,9 @@ ghost use Rattle.lut_stuff.specs.Ranked.{AreRanked};
 use super::{I8S, I32S, U16S, U32S, Under, context, expect_bytes};
 use crate::same::same;
 use lut_stuff::{Names, Ranks};
-use micro_block::{BlockCtx, BlockSize, block_size, named_size, write_distances, write_ranked};
+use micro_block::{
+    BlockCtx, BlockSize, block_size, named_size, size_and_names, write_distances, write_ranked,
+};
 use raster_values::PixelType;
 use std::process::Abort;
 
@@ -183,5 +185,37 @@ fn blocks_of_values_far_apart_go_by_names_and_ranks(rt: HostRuntime) {
     }
     for row in RULES {
         expect_named(&rt, row);
+    }
+}
+
+/// Where the values are named, a second look finds their names known, and gives no other.
+fn expect_known(rt: &impl Abort, (under, distances, table, bytes): &Written, named: bool) {
+    let ctx = context(rt, *under);
+    assert!(rt; distances.len() <= 256 && suit(distances, &ctx));
+    let mut names = Names::new();
+    let mut room = [0; 256];
+    let found = &mut room[..distances.len()];
+    let mut known = false;
+    let wanted = BlockSize {
+        len: bytes.len(),
+        has_table: *table,
+    };
+    let size = size_and_names(distances, &ctx, &mut names, found, &mut known);
+    same(rt, "the size", size, wanted);
+    same(rt, "the names are known", known, named);
+    let count = names.count();
+    let again = size_and_names(distances, &ctx, &mut names, found, &mut known);
+    same(rt, "the size again", again, wanted);
+    same(rt, "they are still", known, named);
+    same(rt, "no other name", names.count(), count);
+}
+
+#[test]
+fn names_that_were_found_serve_again(rt: HostRuntime) {
+    for row in FAR_APART {
+        expect_known(&rt, row, row.2);
+    }
+    for row in RULES {
+        expect_known(&rt, row, false);
     }
 }

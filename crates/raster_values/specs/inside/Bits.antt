@@ -1,14 +1,11 @@
 -- The bits of bytes.
 use Rattle.std.specs.Prelude.{ℕ, ◌+◌, ◌-◌, ◌/◌, ◌%◌, ◌^◌, ◌&&◌, Bool, List, get_or, nat_eq, nat_lt, nat_le, if◌then◌else◌}
 use Rattle.raster_values.specs.Order.{mask_bit}
+pub use Rattle.raster_values.specs.Words.{word_bit}
 
 -- bit number q of a byte, counted from the highest
 abbrev pub byte_bit : ℕ → ℕ → Bool
 byte_bit byte q = nat_eq (byte / 2 ^ (7 - q) % 2) 1
-
--- bit number q of a number of so many bits, counted from the highest
-abbrev pub word_bit : ℕ → ℕ → ℕ → Bool
-word_bit count word q = nat_eq (word / 2 ^ (count - 1 - q) % 2) 1
 
 -- bit number k of a mask of which n bits from `from` on were set as bytes say
 abbrev pub bit_after : List ℕ → List ℕ → ℕ → ℕ → ℕ → Bool

@@ -1,5 +1,5 @@
 -- Runs of pixels in the two vectors of a raster.
-use Rattle.std.specs.Prelude.{◌≡◌, ℕ, ℤ, pos, ◌+◌, ◌*◌, ◌^◌, ◌<◌, ◌≤◌, Bool, true, false, List, [], ◌++◌, map, length, get_or, take, drop, All, Option, Some, None}
+use Rattle.std.specs.Prelude.{◌≡◌, ℕ, ℤ, pos, ◌+◌, ◌*◌, ◌<◌, ◌≤◌, Bool, true, false, List, [], ◌++◌, map, length, get_or, take, drop, All, Option, Some, None}
 use mir.Syntax.{w64}
 use mir.Val.{SFits}
 use Rattle.raster_values.specs.declared.kind.PixelType.{PixelType}
@@ -7,7 +7,7 @@ use Rattle.raster_values.specs.PixelType.{InRange}
 use Rattle.std.specs.List.{filter, flat_map, range_with_len}
 use Rattle.lane_kernels.specs.Kernels.{IsLeast, IsGreatest}
 use Rattle.raster_values.specs.Distance.{value_above}
-use Rattle.raster_values.specs.inside.Bits.{word_bit}
+pub use Rattle.raster_values.specs.Words.{AreMarks}
 
 -- each value is one of a signed number of 64 bits
 abbrev pub AreWords : List ℤ → Type 0
@@ -89,9 +89,3 @@ pub record AreRuns (marks : List Bool) (at start end : ℕ) : Type 0 where
   pub within : end ≤ length marks
   pub off : (k : ℕ) → at ≤ k → k < start → get_or marks k false ≡ false
   pub on : (k : ℕ) → start ≤ k → k < end → get_or marks k false ≡ true
-
--- the number has so many bits, which are the marks of as many pixels from `from` on, the first the
--- highest
-pub record AreMarks (marks : List Bool) (from count word : ℕ) : Type 0 where
-  pub below : word < 2 ^ count
-  pub bits : (q : ℕ) → q < count → word_bit count word q ≡ get_or marks (from + q) false

@@ -1,10 +1,8 @@
-use Rattle.std.proofs.Common.{rules, ◌≡◌, ◌+◌, ◌*◌, ◌/◌, ◌%◌, ◌<◌, ◌≤◌, ◌++◌, ℕ, length, take, refl, sym, ap, ◌∙◌, subst, arith, inl, inr}
+use Rattle.std.proofs.Common.{rules, ◌≡◌, ◌+◌, ◌*◌, ◌/◌, ◌%◌, ◌<◌, ◌≤◌, ℕ, length, refl, ap, subst, arith, inl, inr}
 use Rattle.std.proofs.lemmas.Bool.{cases_lt}
-use Rattle.std.proofs.lemmas.List.{length-take-le}
 use Rattle.std.proofs.Math.Nat.{mul-le-mul_right}
 use Rattle.raster_values.specs.Raster.{valid_count}
 use Rattle.delta_mode.specs.Deltas.{is_valid}
-use Rattle.delta_mode.specs.PlainWays.{plain_before}
 use Rattle.delta_mode.specs.inside.Pieces.{rank}
 use Rattle.delta_mode.proofs.FullPieces.{all_few}
 use Rattle.delta_mode.proofs.Pieces.{rank_grows}
@@ -34,127 +32,60 @@ one_at_least out depth some le = elim (cases_lt 0 (out / depth)) [
 pub write_plain-valid-requires-clause-within : goal.write_plain-valid-requires-clause-within
 write_plain-valid-requires-clause-within g c =
     let r = g.V.View.pixels c.args.raster.now in
-    let sound = c.rows.ensures.sound in
     let size : c.rows.result * c.cols.result ≡ r.rows * r.cols = λ i. c.rows.ensures.value i * c.cols.ensures.value i in
-    let n = c.min-count.result in
     let least = c.min-count.ensures in
-    let inner = c.min.ensures in
     let place = c.requires.way.place in
-    let taken : length (take n c.args.marks.now) ≡ n = length-take-le n c.args.marks.now (omega (arith, least, inner, c.requires.marks)) in
-    let deep : 0 < c.depth-depth.result = (let some = sound.shape.depth_above in omega (arith, some, c.depth-depth.ensures.value)) in
-    let room = fits (length c.args.out.now) c.depth-depth.result n deep (omega (arith, least, inner)) in
-    let depth = c.depth-depth.ensures.value in
-    omega (arith, taken, least, size, place)
-
-pub write_plain-valid-requires-clause-values : goal.write_plain-valid-requires-clause-values
-write_plain-valid-requires-clause-values g c =
-    let r = g.V.View.pixels c.args.raster.now in
-    let sound = c.rows.ensures.sound in
-    let size : c.rows.result * c.cols.result ≡ r.rows * r.cols = λ i. c.rows.ensures.value i * c.cols.ensures.value i in
-    let n = c.min-count.result in
-    let least = c.min-count.ensures in
-    let inner = c.min.ensures in
-    let place = c.requires.way.place in
-    let taken : length (take n c.args.marks.now) ≡ n = length-take-le n c.args.marks.now (omega (arith, least, inner, c.requires.marks)) in
-    let deep : 0 < c.depth-depth.result = (let some = sound.shape.depth_above in omega (arith, some, c.depth-depth.ensures.value)) in
-    let room = fits (length c.args.out.now) c.depth-depth.result n deep (omega (arith, least, inner)) in
-    let depth = c.depth-depth.ensures.value in
-    length-take-le n c.args.values.now (omega (arith, least, inner, c.requires.values)) ∙ sym taken
+    omega (arith, least, size, place)
 
 pub write_plain-valid-requires-clause-room : goal.write_plain-valid-requires-clause-room
 write_plain-valid-requires-clause-room g c =
     let r = g.V.View.pixels c.args.raster.now in
-    let sound = c.rows.ensures.sound in
-    let size : c.rows.result * c.cols.result ≡ r.rows * r.cols = λ i. c.rows.ensures.value i * c.cols.ensures.value i in
-    let n = c.min-count.result in
     let least = c.min-count.ensures in
     let inner = c.min.ensures in
-    let place = c.requires.way.place in
-    let taken : length (take n c.args.marks.now) ≡ n = length-take-le n c.args.marks.now (omega (arith, least, inner, c.requires.marks)) in
-    let deep : 0 < c.depth-depth.result = (let some = sound.shape.depth_above in omega (arith, some, c.depth-depth.ensures.value)) in
-    let room = fits (length c.args.out.now) c.depth-depth.result n deep (omega (arith, least, inner)) in
-    let depth = c.depth-depth.ensures.value in
-    subst (λ k. k * r.depth ≤ length c.args.out.now) (sym taken) (subst (λ k. n * k ≤ length c.args.out.now) depth room)
+    let deep : 0 < c.depth-depth.result = (let some = c.rows.ensures.sound.shape.depth_above in omega (arith, some, c.depth-depth.ensures.value)) in
+    let room = fits (length c.args.out.now) c.depth-depth.result c.min-count.result deep (omega (arith, least, inner)) in
+    subst (λ k. c.min-count.result * k ≤ length c.args.out.now) c.depth-depth.ensures.value room
 
 pub returns-clause-way : goal.returns-clause-way
 returns-clause-way g c =
     let r = g.V.View.pixels c.args.raster.now in
-    let sound = c.rows.ensures.sound in
     let size : c.rows.result * c.cols.result ≡ r.rows * r.cols = λ i. c.rows.ensures.value i * c.cols.ensures.value i in
     let n = c.min-count.result in
     let least = c.min-count.ensures in
-    let inner = c.min.ensures in
     let place = c.requires.way.place in
-    let taken : length (take n c.args.marks.now) ≡ n = length-take-le n c.args.marks.now (omega (arith, least, inner, c.requires.marks)) in
-    let deep : 0 < c.depth-depth.result = (let some = sound.shape.depth_above in omega (arith, some, c.depth-depth.ensures.value)) in
-    let room = fits (length c.args.out.now) c.depth-depth.result n deep (omega (arith, least, inner)) in
-    let depth = c.depth-depth.ensures.value in
     let w = c.write_plain-valid in
-    let few = w.ensures.few in
-    let rank_is : rank (is_valid r) (c.args.way.place + n) ≡ rank (is_valid r) c.args.way.place + w.result = ap (λ k. rank (is_valid r) (c.args.way.place + k)) (sym taken) ∙ w.ensures.count in
-    let within : c.args.way.place + n ≤ r.rows * r.cols = omega (arith, least, size, place) in
-    let piece : plain_before r (c.args.way.place + n) ≡ plain_before r c.args.way.place ++ take (w.result * r.depth) w.new.out = ap (λ k. plain_before r (c.args.way.place + k)) (sym taken) ∙ w.ensures.symbols in
-    let up : w.result * c.depth-depth.result ≤ n * c.depth-depth.result = mul-le-mul_right c.depth-depth.result (omega (arith, few, taken)) in
-    let given : c.args.way.given + w.result * c.depth-depth.result ≡ c.args.way.given + w.result * r.depth = ap (λ k. c.args.way.given + w.result * k) depth in
-    plain_next r c.args.way _ n w.result c.requires.way within rank_is refl given
+    let given : c.args.way.given + w.result * c.depth-depth.result ≡ c.args.way.given + w.result * r.depth = ap (λ k. c.args.way.given + w.result * k) c.depth-depth.ensures.value in
+    plain_next r c.args.way _ n w.result c.requires.way (omega (arith, least, size, place)) w.ensures.count refl given
 
 pub returns-clause-few : goal.returns-clause-few
 returns-clause-few g c =
-    let r = g.V.View.pixels c.args.raster.now in
-    let sound = c.rows.ensures.sound in
-    let size : c.rows.result * c.cols.result ≡ r.rows * r.cols = λ i. c.rows.ensures.value i * c.cols.ensures.value i in
-    let n = c.min-count.result in
     let least = c.min-count.ensures in
     let inner = c.min.ensures in
-    let place = c.requires.way.place in
-    let taken : length (take n c.args.marks.now) ≡ n = length-take-le n c.args.marks.now (omega (arith, least, inner, c.requires.marks)) in
-    let deep : 0 < c.depth-depth.result = (let some = sound.shape.depth_above in omega (arith, some, c.depth-depth.ensures.value)) in
-    let room = fits (length c.args.out.now) c.depth-depth.result n deep (omega (arith, least, inner)) in
-    let depth = c.depth-depth.ensures.value in
-    let w = c.write_plain-valid in
-    let few = w.ensures.few in
-    let rank_is : rank (is_valid r) (c.args.way.place + n) ≡ rank (is_valid r) c.args.way.place + w.result = ap (λ k. rank (is_valid r) (c.args.way.place + k)) (sym taken) ∙ w.ensures.count in
-    let within : c.args.way.place + n ≤ r.rows * r.cols = omega (arith, least, size, place) in
-    let piece : plain_before r (c.args.way.place + n) ≡ plain_before r c.args.way.place ++ take (w.result * r.depth) w.new.out = ap (λ k. plain_before r (c.args.way.place + k)) (sym taken) ∙ w.ensures.symbols in
-    let up : w.result * c.depth-depth.result ≤ n * c.depth-depth.result = mul-le-mul_right c.depth-depth.result (omega (arith, few, taken)) in
-    let given : c.args.way.given + w.result * c.depth-depth.result ≡ c.args.way.given + w.result * r.depth = ap (λ k. c.args.way.given + w.result * k) depth in
-    omega (arith, up, room)
+    let few = c.write_plain-valid.ensures.few in
+    let deep : 0 < c.depth-depth.result = (let some = c.rows.ensures.sound.shape.depth_above in omega (arith, some, c.depth-depth.ensures.value)) in
+    let room = fits (length c.args.out.now) c.depth-depth.result c.write_plain-valid.result deep (omega (arith, least, inner, few)) in
+    omega (arith, room)
 
 pub returns-clause-symbols : goal.returns-clause-symbols
 returns-clause-symbols g c =
     let r = g.V.View.pixels c.args.raster.now in
-    let sound = c.rows.ensures.sound in
     let size : c.rows.result * c.cols.result ≡ r.rows * r.cols = λ i. c.rows.ensures.value i * c.cols.ensures.value i in
     let n = c.min-count.result in
     let least = c.min-count.ensures in
-    let inner = c.min.ensures in
     let place = c.requires.way.place in
-    let taken : length (take n c.args.marks.now) ≡ n = length-take-le n c.args.marks.now (omega (arith, least, inner, c.requires.marks)) in
-    let deep : 0 < c.depth-depth.result = (let some = sound.shape.depth_above in omega (arith, some, c.depth-depth.ensures.value)) in
-    let room = fits (length c.args.out.now) c.depth-depth.result n deep (omega (arith, least, inner)) in
-    let depth = c.depth-depth.ensures.value in
     let w = c.write_plain-valid in
-    let few = w.ensures.few in
-    let rank_is : rank (is_valid r) (c.args.way.place + n) ≡ rank (is_valid r) c.args.way.place + w.result = ap (λ k. rank (is_valid r) (c.args.way.place + k)) (sym taken) ∙ w.ensures.count in
-    let within : c.args.way.place + n ≤ r.rows * r.cols = omega (arith, least, size, place) in
-    let piece : plain_before r (c.args.way.place + n) ≡ plain_before r c.args.way.place ++ take (w.result * r.depth) w.new.out = ap (λ k. plain_before r (c.args.way.place + k)) (sym taken) ∙ w.ensures.symbols in
-    let up : w.result * c.depth-depth.result ≤ n * c.depth-depth.result = mul-le-mul_right c.depth-depth.result (omega (arith, few, taken)) in
-    let given : c.args.way.given + w.result * c.depth-depth.result ≡ c.args.way.given + w.result * r.depth = ap (λ k. c.args.way.given + w.result * k) depth in
-    plain_symbols r sound c.args.way (record { place = c.args.way.place + n; given = c.args.way.given + w.result * c.depth-depth.result }) n w.result w.new.out c.requires.way within rank_is piece given
+    let given : c.args.way.given + w.result * c.depth-depth.result ≡ c.args.way.given + w.result * r.depth = ap (λ k. c.args.way.given + w.result * k) c.depth-depth.ensures.value in
+    plain_symbols r c.rows.ensures.sound c.args.way (record { place = c.args.way.place + n; given = c.args.way.given + w.result * c.depth-depth.result }) n w.result w.new.out c.requires.way
+    (omega (arith, least, size, place)) w.ensures.count w.ensures.symbols given
 
 pub returns-clause-later : goal.returns-clause-later
 returns-clause-later g c =
     let r = g.V.View.pixels c.args.raster.now in
-    let sound = c.rows.ensures.sound in
     let size : c.rows.result * c.cols.result ≡ r.rows * r.cols = λ i. c.rows.ensures.value i * c.cols.ensures.value i in
-    let n = c.min-count.result in
     let least = c.min-count.ensures in
     let inner = c.min.ensures in
-    let place = c.requires.way.place in
-    let taken : length (take n c.args.marks.now) ≡ n = length-take-le n c.args.marks.now (omega (arith, least, inner, c.requires.marks)) in
-    let deep : 0 < c.depth-depth.result = (let some = sound.shape.depth_above in omega (arith, some, c.depth-depth.ensures.value)) in
-    let room = fits (length c.args.out.now) c.depth-depth.result n deep (omega (arith, least, inner)) in
     let depth = c.depth-depth.ensures.value in
+    let deep : 0 < c.depth-depth.result = (let some = c.rows.ensures.sound.shape.depth_above in omega (arith, some, depth)) in
     let one = one_at_least (length c.args.out.now) c.depth-depth.result deep (omega (arith, c.requires.room, depth)) in
     omega (arith, one, least, inner, size, c.requires.more)
 
@@ -165,16 +96,12 @@ overflow_add-result-2 g c =
     let size : c.rows.result * c.cols.result ≡ r.rows * r.cols = λ i. c.rows.ensures.value i * c.cols.ensures.value i in
     let n = c.min-count.result in
     let least = c.min-count.ensures in
-    let inner = c.min.ensures in
     let place = c.requires.way.place in
-    let taken : length (take n c.args.marks.now) ≡ n = length-take-le n c.args.marks.now (omega (arith, least, inner, c.requires.marks)) in
-    let depth = c.depth-depth.ensures.value in
     let w = c.write_plain-valid in
-    let rank_is : rank (is_valid r) (c.args.way.place + n) ≡ rank (is_valid r) c.args.way.place + w.result = ap (λ k. rank (is_valid r) (c.args.way.place + k)) (sym taken) ∙ w.ensures.count in
-    let within : c.args.way.place + n ≤ r.rows * r.cols = omega (arith, least, size, place) in
-    let given : c.args.way.given + w.result * c.depth-depth.result ≡ c.args.way.given + w.result * r.depth = ap (λ k. c.args.way.given + w.result * k) depth in
+    let rank_is = w.ensures.count in
+    let given : c.args.way.given + w.result * c.depth-depth.result ≡ c.args.way.given + w.result * r.depth = ap (λ k. c.args.way.given + w.result * k) c.depth-depth.ensures.value in
     let open_ : (rank (is_valid r) c.args.way.place + w.result) * r.depth ≡ rank (is_valid r) c.args.way.place * r.depth + w.result * r.depth = omega arith in
-    let grows = rank_grows (is_valid r) (c.args.way.place + n) (r.rows * r.cols) within in
+    let grows = rank_grows (is_valid r) (c.args.way.place + n) (r.rows * r.cols) (omega (arith, least, size, place)) in
     let all = rank_all r sound in
     let up : (rank (is_valid r) c.args.way.place + w.result) * r.depth ≤ valid_count r * r.depth = mul-le-mul_right r.depth (omega (arith, grows, all, rank_is)) in
     let most = all_few r sound in

@@ -1,97 +1,68 @@
-use Rattle.std.proofs.Common.{◌≡◌, ◌≢◌, ℕ, ◌+◌, ◌-◌, ◌*◌, ◌≤◌, ◌++◌, true, length, get_or, take, refl, sym, ap, ◌∙◌, subst, arith, inl, inr}
-use Rattle.std.proofs.lemmas.Bool.{cases_lt}
+use Rattle.std.proofs.Common.{◌≡◌, ℕ, ◌+◌, ◌-◌, ◌*◌, ◌<◌, ◌≤◌, ◌++◌, List, length, get_or, take, drop, refl, sym, ap, ◌∙◌, subst, arith}
+use Rattle.std.proofs.lemmas.List.{take_at}
 use Rattle.std.proofs.Math.Nat.{mul-le-mul_right}
-use Rattle.raster_values.specs.declared.kind.PixelType.{PixelType}
-use Rattle.raster_values.specs.PixelType.{InRange}
 use Rattle.raster_values.specs.Flat.{value_in}
-use Rattle.delta_mode.specs.Symbols.{IsByteType, symbol_of}
 use Rattle.delta_mode.specs.Deltas.{is_valid}
 use Rattle.delta_mode.specs.PlainWays.{plain_before}
-use Rattle.delta_mode.specs.inside.Pieces.{rank, mark_at, value_of_place}
+use Rattle.delta_mode.specs.inside.Pieces.{rank}
 use Rattle.delta_mode.proofs.Bytewise.{rank_most}
-use Rattle.delta_mode.proofs.Kernels.{all_fit}
+use Rattle.delta_mode.proofs.Gathered.{distance_at, distances, distances_small, many, numbers_long, own_symbol, rank_more}
 use Rattle.delta_mode.proofs.Marks.{value_in_range}
-use Rattle.delta_mode.proofs.PlainPieces.{marks_rank, plain_piece}
+use Rattle.delta_mode.proofs.Pieces.{rank_below, rank_split}
+use Rattle.delta_mode.proofs.PlainPieces.{plain_piece}
 use Rattle.delta_mode.proofs.giving_plain.write_plain.Goals as goal
 
 pub loop-d-init : goal.loop-d-init
-loop-d-init g c = record { room = refl; done = λ e lt. absurd (omega (arith, lt)) }
+loop-d-init g c = record { gathered = refl; room = refl; valid = λ e lt. absurd (omega (arith, lt)); done = λ e lt. absurd (omega (arith, lt)) }
 
-pub scatter-requires-clause-kind : goal.scatter-requires-clause-kind
-scatter-requires-clause-kind g c = subst IsByteType (sym c.kind-kind.ensures.value) c.requires.kind
-
-pub scatter-requires-clause-in_range : goal.scatter-requires-clause-in_range
-scatter-requires-clause-in_range g c =
-    let r = (g.V.View.pixels c.args.raster.now) in
-    subst (λ (k : PixelType). (i : ℕ) → InRange k (value_of_place c.values_from.new.out i)) (sym c.kind-kind.ensures.value)
-    (all_fit r.kind c.values_from.new.out (length c.loop-d.values) (omega (arith, c.values_from.ensures.room))
-    (λ i lt. subst (InRange r.kind) (sym (c.values_from.ensures.values i lt)) (value_in_range r c.loop-d.d (c.args.place + i) c.kind-kind.ensures.sound)))
-
-pub scatter-requires-clause-room : goal.scatter-requires-clause-room
-scatter-requires-clause-room g c =
-    let r = (g.V.View.pixels c.args.raster.now) in
-    let n = length c.marks_from.new.out in
-    let most = rank_most (mark_at c.marks_from.new.out) n in
-    let up : rank (mark_at c.marks_from.new.out) n * r.depth ≤ length c.args.marks.now * r.depth = mul-le-mul_right r.depth (omega (arith, most, c.marks_from.ensures.room)) in
-    subst (λ k. rank (mark_at c.marks_from.new.out) n * k ≤ length c.loop-d.out) (sym c.depth-depth.ensures.value) (omega (arith, up, c.requires.room, c.loop-d.invariant.room))
-
-pub loop-d-preserved : goal.loop-d-preserved
-loop-d-preserved g c =
-    let r = (g.V.View.pixels c.args.raster.now) in
-    let marks = c.marks_from.new.out in
-    let depth = c.depth-depth.result in
-    let d = c.loop-d.d in
-    let inv = c.loop-d.invariant in
-    let test = c.loop-d-test.true in
-    record {
-      room = c.scatter.ensures.room ∙ inv.room;
-      done = λ e lt i i_lt on. elim (cases_lt e d) [
-        | inl before ↦
-            let ne : e ≢ d = omega (arith, before) in
-            c.scatter.ensures.others (rank (mark_at marks) i) e (omega (arith, before, test)) ne ∙ inv.done e before i i_lt on
-        | inr from ↦
-            let is : e ≡ d = omega (arith, from, lt) in
-            ap (λ k. get_or c.scatter.new.out (rank (mark_at marks) i * depth + k) 0) is ∙ c.scatter.ensures.symbols i i_lt on
-            ∙ ap (symbol_of c.kind-kind.result) (c.values_from.ensures.values i (omega (arith, i_lt, c.marks_from.ensures.room, c.requires.values)))
-            ∙ ap (λ k. symbol_of c.kind-kind.result (value_in r k (c.args.place + i))) (sym is)
-      ];
-    }
+pub scatter-requires-clause-bytes : goal.scatter-requires-clause-bytes
+scatter-requires-clause-bytes g c = λ i.
+    let r = g.V.View.pixels c.args.raster.now in
+    let w = c.gather_from-valid in
+    let all = distances r c.loop-d.d c.args.place c.args.count in
+    let long : length all ≡ w.result = many r c.loop-d.d c.args.place c.args.count ∙ sym (numbers_long (is_valid r) c.args.place c.args.count) ∙ sym w.ensures.count in
+    let is : take w.result w.new.out ≡ all = ap (take w.result) w.ensures.distances ∙ take_at all (drop w.result c.loop-d.gathered) w.result long in
+    subst (λ (xs : List ℕ). get_or xs i 0 < 256) (sym is) (distances_small r c.loop-d.d c.args.place c.args.count i c.depth-depth.ensures.sound c.requires.kind)
 
 pub returns-clause-count : goal.returns-clause-count
 returns-clause-count g c =
-    let r = (g.V.View.pixels c.args.raster.now) in
-    let marks = c.marks_from.new.out in
-    let n = length c.args.marks.now in
-    marks_rank (is_valid r) c.args.place marks n c.marks_from.ensures.marks n (omega arith)
-    ∙ ap (λ k. rank (is_valid r) c.args.place + k) (ap (rank (mark_at marks)) (sym c.marks_from.ensures.room) ∙ sym c.count_set.ensures)
+    let r = g.V.View.pixels c.args.raster.now in
+    let some = c.depth-depth.ensures.sound.shape.depth_above in
+    let last = c.loop-d.invariant.valid 0 (omega (arith, some, c.depth-depth.ensures.value, c.loop-d-test.false)) in
+    rank_more r c.args.place c.args.count ∙ ap (λ n. rank (is_valid r) c.args.place + n) (sym last)
 
 pub returns-clause-few : goal.returns-clause-few
 returns-clause-few g c =
-    let most = rank_most (mark_at c.marks_from.new.out) (length c.marks_from.new.out) in
-    omega (arith, most, c.count_set.ensures, c.marks_from.ensures.room)
+    let r = g.V.View.pixels c.args.raster.now in
+    let some = c.depth-depth.ensures.sound.shape.depth_above in
+    let last = c.loop-d.invariant.valid 0 (omega (arith, some, c.depth-depth.ensures.value, c.loop-d-test.false)) in
+    let most = rank_most (λ j. is_valid r (c.args.place + j)) c.args.count in
+    let long = numbers_long (is_valid r) c.args.place c.args.count in
+    omega (arith, last, most, long)
 
 pub returns-clause-symbols : goal.returns-clause-symbols
 returns-clause-symbols g c =
-    let r = (g.V.View.pixels c.args.raster.now) in
-    let sound = c.kind-kind.ensures.sound in
-    let marks = c.marks_from.new.out in
+    let r = g.V.View.pixels c.args.raster.now in
+    let sound = c.depth-depth.ensures.sound in
     let place = c.args.place in
-    let n = length c.args.marks.now in
-    let valid = is_valid r in
+    let n = c.args.count in
     let out = c.loop-d.out in
-    let ranks = marks_rank valid place marks n c.marks_from.ensures.marks in
-    let all = ranks n (omega arith) ∙ ap (λ k. rank valid place + k) (ap (rank (mark_at marks)) (sym c.marks_from.ensures.room) ∙ sym c.count_set.ensures) in
-    let most = rank_most (mark_at marks) (length marks) in
-    let count : rank valid (place + n) - rank valid place ≡ c.count_set.result = omega (arith, all) in
-    let low : rank valid (place + n) - rank valid place ≤ n = omega (arith, count, most, c.count_set.ensures, c.marks_from.ensures.room) in
-    let up : (rank valid (place + n) - rank valid place) * r.depth ≤ n * r.depth = mul-le-mul_right r.depth low in
+    let inv = c.loop-d.invariant in
+    let end = c.loop-d-test.false in
+    let value = c.depth-depth.ensures.value in
+    let some = sound.shape.depth_above in
+    let last = inv.valid 0 (omega (arith, some, value, end)) in
+    let mark = λ (j : ℕ). is_valid r (place + j) in
+    let long = numbers_long (is_valid r) place n in
+    let more = rank_more r place n in
+    let found : rank (is_valid r) (place + n) - rank (is_valid r) place ≡ c.loop-d.valid = omega (arith, more, last) in
+    let up : c.loop-d.valid * r.depth ≤ n * r.depth = mul-le-mul_right r.depth (let most = rank_most mark n in omega (arith, last, most, long)) in
     let places = sound.places in
-    plain_piece r sound place n n out (omega arith) (omega (arith, places, c.requires.within)) (omega (arith, up, c.requires.room, c.loop-d.invariant.room))
+    plain_piece r sound place n n out (omega arith) (omega (arith, c.requires.within, places)) (subst (λ m. m * r.depth ≤ length out) (sym found) (omega (arith, up, c.requires.room, inv.room)))
     (λ i lt on e e_lt.
-    let marked : mark_at marks i ≡ true = c.marks_from.ensures.marks i lt ∙ on in
-    let before = ranks i (omega (arith, lt)) in
-    let at : rank valid (place + i) - rank valid place ≡ rank (mark_at marks) i = omega (arith, before) in
-    ap (λ q. get_or out (q * r.depth + e) 0) at ∙ ap (λ k. get_or out (rank (mark_at marks) i * k + e) 0) (sym c.depth-depth.ensures.value)
-    ∙ c.loop-d.invariant.done e (let past = c.loop-d-test.false in omega (arith, past, e_lt, c.depth-depth.ensures.value)) i (omega (arith, lt, c.marks_from.ensures.room)) marked
-    ∙ ap (λ (k : PixelType). symbol_of k (value_in r e (place + i))) c.kind-kind.ensures.value)
-    ∙ ap (λ k. plain_before r place ++ take (k * r.depth) out) count
+    let below = rank_below mark i n lt on in
+    let at : rank (is_valid r) (place + i) - rank (is_valid r) place ≡ rank mark i = (let split = rank_split (is_valid r) place i in omega (arith, split)) in
+    ap (λ m. get_or out (m * r.depth + e) 0) at ∙ ap (λ m. get_or out (rank mark i * m + e) 0) (sym value)
+    ∙ inv.done e (omega (arith, e_lt, value, end)) (rank mark i) (omega (arith, below, long))
+    ∙ distance_at r e place n i lt on ∙ sym (own_symbol r.kind (value_in r e (place + i)) c.requires.kind (value_in_range r e (place + i) sound)))
+    ∙ ap (λ m. plain_before r place ++ take (m * r.depth) out) found

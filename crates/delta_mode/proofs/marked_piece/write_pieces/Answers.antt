@@ -1,10 +1,7 @@
 use Rattle.std.proofs.Common.{◌≡◌, ◌+◌, ◌-◌, ◌%◌, ◌*◌, ◌<◌, ◌≤◌, ◌++◌, length, take, drop, refl, ap, sym, ◌∙◌, subst, arith}
 use Rattle.std.proofs.lemmas.List.{append-nil, length-append, length-drop, length-take-le}
 use borrow.Rule.Slice.PartMut.{post_of, put_mid}
-use Rattle.raster_values.specs.Flat.{value_in}
-use Rattle.delta_mode.specs.Deltas.{is_valid}
 use Rattle.delta_mode.specs.Ways.{deltas_before}
-use Rattle.delta_mode.specs.inside.Pieces.{IsAt}
 use Rattle.delta_mode.proofs.FullPieces.{symbols_more}
 use Rattle.delta_mode.proofs.WholeDepth.{piece_within}
 use Rattle.delta_mode.proofs.marked_piece.write_pieces.Goals as goal
@@ -20,10 +17,7 @@ loop-at-init g c =
       few = omega arith;
       fits = omega arith;
       room = refl;
-      marks_room = c.requires.marks;
-      up_room = c.requires.up;
-      above_room = c.requires.above;
-      values_room = c.requires.values;
+      distances = c.requires.distances;
       symbols = sym (append-nil (deltas_before r c.args.d c.args.place));
     }
 
@@ -42,27 +36,23 @@ loop-at-preserved g c =
     let few = c.min.ensures in
     let short : n ≤ r.cols - at % r.cols = subst (λ w. n ≤ w - at % w) c.cols-cols.ensures.value (omega (arith, least)) in
     let below : at < r.rows * r.cols = subst (λ n. at < n) (λ i. c.rows.ensures.value i * c.cols-cols.ensures.value i) c.loop-at-test.true in
-    let taken : length (take n c.loop-at.marks) ≡ n = length-take-le n c.loop-at.marks (omega (arith, least, few, inv.marks_room)) in
     let behind = length-drop filled old in
     let rest = length-take-le (length old - filled) (drop filled old) (omega (arith, behind)) in
     let same = c.write_piece-behind.auto.out in
     let sum = length-append (take filled old) piece in
     let front : length (take filled old) ≡ filled = length-take-le filled old inv.fits in
     let more : filled + (walk.count - c.loop-at.behind.count) ≡ walk.count - c.args.walk.count = omega (arith, w.some, inv.counted) in
-    let next : deltas_before r c.args.d (at + n) ≡ deltas_before r c.args.d at ++ take (walk.count - c.loop-at.behind.count) piece = ap (λ m. deltas_before r c.args.d (at + m)) (sym taken) ∙ w.symbols in
+    let next : deltas_before r c.args.d (at + n) ≡ deltas_before r c.args.d at ++ take (walk.count - c.loop-at.behind.count) piece = w.symbols in
     record {
       within = piece_within at n r.rows r.cols below short c.cols-cols.ensures.sound.shape.cols_above;
-      kept = subst (λ m. IsAt (is_valid r) (value_in r c.args.d) (at + m) walk.left walk.last walk.count) taken w.at;
+      kept = w.at;
       counted = omega (arith, w.some, inv.counted);
-      few = omega (arith, w.few, inv.counted, inv.few, taken);
-      fits = omega (arith, w.few, inv.counted, taken, sum, front, same, rest, least, few);
+      few = omega (arith, w.few, inv.counted, inv.few);
+      fits = omega (arith, w.few, inv.counted, sum, front, same, rest, least, few);
       room = omega (arith, sum, front, same, rest, inv.fits, inv.room);
-      marks_room = omega (arith, inv.marks_room);
-      up_room = omega (arith, inv.up_room);
-      above_room = omega (arith, inv.above_room);
-      values_room = omega (arith, inv.values_room);
+      distances = w.distances ∙ inv.distances;
       symbols = symbols_more r c.args.d c.args.place at n filled (walk.count - c.loop-at.behind.count) old piece (post_of filled (length old - filled) old) inv.fits
-          (omega (arith, w.few, taken, same, rest, least, few)) inv.symbols next
+          (omega (arith, w.few, same, rest, least, few)) inv.symbols next
           ∙ ap (λ m. deltas_before r c.args.d c.args.place ++ take m (put_mid filled (length old - filled) old piece)) more;
     }
 
@@ -76,6 +66,7 @@ write_piece-behind-requires-clause-within g c =
     let few = c.min.ensures in
     let short : n ≤ r.cols - at % r.cols = subst (λ w. n ≤ w - at % w) c.cols-cols.ensures.value (omega (arith, least)) in
     let below : at < r.rows * r.cols = subst (λ n. at < n) (λ i. c.rows.ensures.value i * c.cols-cols.ensures.value i) c.loop-at-test.true in
-    let taken = length-take-le n c.loop-at.marks (omega (arith, least, few, inv.marks_room)) in
-    let within = piece_within at n r.rows r.cols below short c.cols-cols.ensures.sound.shape.cols_above in
-    omega (arith, taken, within)
+    piece_within at n r.rows r.cols below short c.cols-cols.ensures.sound.shape.cols_above
+
+pub write_piece-behind-requires-clause-col : goal.write_piece-behind-requires-clause-col
+write_piece-behind-requires-clause-col g c = ap (λ n. c.loop-at.at % n) c.cols-cols.ensures.value

@@ -13,10 +13,7 @@ invariant-loop-at g l = record {
   few : l.place + l.filled ≤ l.at;
   fits : l.filled ≤ length l.out;
   room : length l.out ≡ length l.fn.out;
-  marks_room : length l.marks ≡ 64;
-  up_room : length l.up ≡ 64;
-  above_room : length l.above ≡ 64;
-  values_room : length l.values ≡ 64;
+  distances : length l.distances ≡ 33;
   symbols : deltas_before (g.V.View.pixels l.raster) l.d l.at ≡ deltas_before (g.V.View.pixels l.raster) l.d l.place ++ take l.filled l.out;
 }
 

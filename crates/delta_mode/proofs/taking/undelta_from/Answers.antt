@@ -30,12 +30,20 @@ loop-place-init g c =
       kept = refl;
     }
 
+pub piece_len-count-requires-clause-within : goal.piece_len-count-requires-clause-within
+piece_len-count-requires-clause-within g c =
+    let r = (g.T.Target.pixels c.args.raster.now) in
+    let inv = c.loop-place.invariant in
+    let next = next_piece r c.loop-place.place c.min-most.result c.loop-place.marks c.cols-cols.ensures.sound (c.rows.ensures.value ∙ sym inv.same.shape.rows) c.cols-cols.ensures.value (omega (arith, c.loop-place-test.true)) (omega (arith, c.min-most.ensures))
+    (omega (arith, inv.wide, c.min-most.ensures)) in
+    omega (arith, next.within, same_size r (g.T.Target.pixels c.loop-place.raster) inv.same)
+
 pub take_piece-requires-clause-within : goal.take_piece-requires-clause-within
 take_piece-requires-clause-within g c =
     let r = (g.T.Target.pixels c.args.raster.now) in
     let inv = c.loop-place.invariant in
-    let next = next_piece r c.loop-place.place c.min-count.result c.loop-place.marks c.cols-cols.ensures.sound (c.rows.ensures.value ∙ sym inv.same.shape.rows) c.cols-cols.ensures.value (omega (arith, c.loop-place-test.true)) (omega (arith, c.min-count.ensures))
-    (omega (arith, inv.wide, c.min-count.ensures)) in
+    let next = next_piece r c.loop-place.place c.piece_len-count.result c.loop-place.marks c.cols-cols.ensures.sound (c.rows.ensures.value ∙ sym inv.same.shape.rows) c.cols-cols.ensures.value (omega (arith, c.loop-place-test.true)) (omega (arith, c.min-most.ensures, c.piece_len-count.ensures.few, c.piece_len-count.ensures.some))
+    (omega (arith, inv.wide, c.min-most.ensures, c.piece_len-count.ensures.few, c.piece_len-count.ensures.some)) in
     omega (arith, next.to, next.within, same_size r (g.T.Target.pixels c.loop-place.raster) inv.same)
 
 pub take_piece-requires-clause-at : goal.take_piece-requires-clause-at
@@ -49,10 +57,10 @@ pub take_piece-requires-clause-left : goal.take_piece-requires-clause-left
 take_piece-requires-clause-left g c =
     let r = (g.T.Target.pixels c.args.raster.now) in
     let inv = c.loop-place.invariant in
-    let next = next_piece r c.loop-place.place c.min-count.result c.loop-place.marks c.cols-cols.ensures.sound (c.rows.ensures.value ∙ sym inv.same.shape.rows) c.cols-cols.ensures.value (omega (arith, c.loop-place-test.true)) (omega (arith, c.min-count.ensures))
-    (omega (arith, inv.wide, c.min-count.ensures)) in
-    let room : rank (is_valid r) (c.loop-place.place + length (take c.min-count.result c.loop-place.marks)) ≤ valid_count r = next_room c.cols-cols.ensures.sound next refl in
-    subst (λ (valid : ℕ → Bool). rank valid (c.loop-place.place + length (take c.min-count.result c.loop-place.marks)) ≤ c.loop-place.walk.count + g.S.SymbolSource.left c.loop-place.source)
+    let next = next_piece r c.loop-place.place c.piece_len-count.result c.loop-place.marks c.cols-cols.ensures.sound (c.rows.ensures.value ∙ sym inv.same.shape.rows) c.cols-cols.ensures.value (omega (arith, c.loop-place-test.true)) (omega (arith, c.min-most.ensures, c.piece_len-count.ensures.few, c.piece_len-count.ensures.some))
+    (omega (arith, inv.wide, c.min-most.ensures, c.piece_len-count.ensures.few, c.piece_len-count.ensures.some)) in
+    let room : rank (is_valid r) (c.loop-place.place + length (take c.piece_len-count.result c.loop-place.marks)) ≤ valid_count r = next_room c.cols-cols.ensures.sound next refl in
+    subst (λ (valid : ℕ → Bool). rank valid (c.loop-place.place + length (take c.piece_len-count.result c.loop-place.marks)) ≤ c.loop-place.walk.count + g.S.SymbolSource.left c.loop-place.source)
     (sym (all_marks r (g.T.Target.pixels c.loop-place.raster) c.cols-cols.ensures.sound c.rows.ensures.sound inv.same)) (omega (arith, room, inv.left, c.requires.count))
 
 pub loop-place-preserved : goal.loop-place-preserved
@@ -66,8 +74,8 @@ loop-place-preserved g c =
     let inv = c.loop-place.invariant in
     let walk = c.in_ok-walk.walk in
     let w = c.in_ok-walk.ensures in
-    let next = next_piece r c.loop-place.place c.min-count.result c.loop-place.marks c.cols-cols.ensures.sound (c.rows.ensures.value ∙ sym inv.same.shape.rows) c.cols-cols.ensures.value (omega (arith, c.loop-place-test.true)) (omega (arith, c.min-count.ensures))
-    (omega (arith, inv.wide, c.min-count.ensures)) in
+    let next = next_piece r c.loop-place.place c.piece_len-count.result c.loop-place.marks c.cols-cols.ensures.sound (c.rows.ensures.value ∙ sym inv.same.shape.rows) c.cols-cols.ensures.value (omega (arith, c.loop-place-test.true)) (omega (arith, c.min-most.ensures, c.piece_len-count.ensures.few, c.piece_len-count.ensures.some))
+    (omega (arith, inv.wide, c.min-most.ensures, c.piece_len-count.ensures.few, c.piece_len-count.ensures.some)) in
     let marks : is_valid s ≡ is_valid r = all_marks r s c.cols-cols.ensures.sound c.rows.ensures.sound inv.same in
     let before : (j : ℕ) → j < place → is_valid r j ≡ true → value j ≡ value_in s d j =
     λ (j : ℕ) (lt : j < place) (on : is_valid r j ≡ true). w.rest j d (omega (arith, lt, next.within, same_size r s inv.same)) (subst (λ n. d < n) inv.same.shape.depth c.requires.depth) (λ from below e. omega (arith, lt, from)) in
@@ -75,9 +83,9 @@ loop-place-preserved g c =
     record {
       within = next.within;
       wide =
-          let whole = length-append c.take_piece.new.marks (drop c.min-count.result c.loop-place.marks) in
-          let rest = length-drop c.min-count.result c.loop-place.marks in
-          omega (arith, whole, rest, c.take_piece.auto.marks, next.long, inv.wide, c.min-count.ensures);
+          let whole = length-append c.take_piece.new.marks (drop c.piece_len-count.result c.loop-place.marks) in
+          let rest = length-drop c.piece_len-count.result c.loop-place.marks in
+          omega (arith, whole, rest, c.take_piece.auto.marks, next.long, inv.wide, c.min-most.ensures, c.piece_len-count.ensures.few, c.piece_len-count.ensures.some);
       same = mask_through r s t inv.same w.same;
       at = at;
       left = omega (arith, w.left, inv.left);
@@ -90,7 +98,7 @@ loop-place-preserved g c =
               new.1.0,
               (
                 end,
-                coded_more r.kind r.cols (is_valid r) value place (place + c.min-count.result) (old.0 ++ new.0)
+                coded_more r.kind r.cols (is_valid r) value place (place + c.piece_len-count.result) (old.0 ++ new.0)
                     (coded_front r.kind r.cols (is_valid r) value place old.0 new.0 (sym (old.1.1.0 ∙ inv.at.count_is))
                     (coded_same r.kind r.cols (is_valid r) (value_in s d) value place old.0 c.cols-cols.ensures.sound.shape.cols_above before old.1.1.1))
                     (coded_as r s value c.cols-cols.ensures.sound c.rows.ensures.sound inv.same next.to new.1.1.1),
@@ -138,31 +146,31 @@ returns-clause-left g c =
 
 pub take_piece-requires-clause-up : goal.take_piece-requires-clause-up
 take_piece-requires-clause-up g c =
-    both_taken c.min-count.result c.loop-place.up c.loop-place.marks (omega (arith, c.min-count.ensures)) (omega (arith, c.loop-place.invariant.wide, c.min-count.ensures))
+    both_taken c.piece_len-count.result c.loop-place.up c.loop-place.marks (omega (arith, c.min-most.ensures, c.piece_len-count.ensures.few, c.piece_len-count.ensures.some)) (omega (arith, c.loop-place.invariant.wide, c.min-most.ensures, c.piece_len-count.ensures.few, c.piece_len-count.ensures.some))
 
 pub take_piece-requires-clause-above : goal.take_piece-requires-clause-above
 take_piece-requires-clause-above g c =
-    both_taken c.min-count.result c.loop-place.above c.loop-place.marks (omega (arith, c.min-count.ensures)) (omega (arith, c.loop-place.invariant.wide, c.min-count.ensures))
+    both_taken c.piece_len-count.result c.loop-place.above c.loop-place.marks (omega (arith, c.min-most.ensures, c.piece_len-count.ensures.few, c.piece_len-count.ensures.some)) (omega (arith, c.loop-place.invariant.wide, c.min-most.ensures, c.piece_len-count.ensures.few, c.piece_len-count.ensures.some))
 
 pub take_piece-requires-clause-values : goal.take_piece-requires-clause-values
 take_piece-requires-clause-values g c =
-    both_taken c.min-count.result c.loop-place.values c.loop-place.marks (omega (arith, c.min-count.ensures)) (omega (arith, c.loop-place.invariant.wide, c.min-count.ensures))
+    both_taken c.piece_len-count.result c.loop-place.values c.loop-place.marks (omega (arith, c.min-most.ensures, c.piece_len-count.ensures.few, c.piece_len-count.ensures.some)) (omega (arith, c.loop-place.invariant.wide, c.min-most.ensures, c.piece_len-count.ensures.few, c.piece_len-count.ensures.some))
 
 pub slice_bounds-take_piece-end : goal.slice_bounds-take_piece-end
-slice_bounds-take_piece-end g c = sym (length-take-le c.min-count.result c.loop-place.marks (omega (arith, c.loop-place.invariant.wide, c.min-count.ensures)))
+slice_bounds-take_piece-end g c = sym (length-take-le c.piece_len-count.result c.loop-place.marks (omega (arith, c.loop-place.invariant.wide, c.min-most.ensures, c.piece_len-count.ensures.few, c.piece_len-count.ensures.some)))
 
 pub slice_bounds-take_piece-end-in-loop-place : goal.slice_bounds-take_piece-end-in-loop-place
-slice_bounds-take_piece-end-in-loop-place g c = sym (length-take-le c.min-count.result c.loop-place.up (omega (arith, c.min-count.ensures)))
+slice_bounds-take_piece-end-in-loop-place g c = sym (length-take-le c.piece_len-count.result c.loop-place.up (omega (arith, c.min-most.ensures, c.piece_len-count.ensures.few, c.piece_len-count.ensures.some)))
 
 pub slice_bounds-take_piece-end-in-loop-place-2 : goal.slice_bounds-take_piece-end-in-loop-place-2
-slice_bounds-take_piece-end-in-loop-place-2 g c = sym (length-take-le c.min-count.result c.loop-place.above (omega (arith, c.min-count.ensures)))
+slice_bounds-take_piece-end-in-loop-place-2 g c = sym (length-take-le c.piece_len-count.result c.loop-place.above (omega (arith, c.min-most.ensures, c.piece_len-count.ensures.few, c.piece_len-count.ensures.some)))
 
 pub slice_bounds-take_piece-end-in-loop-place-3 : goal.slice_bounds-take_piece-end-in-loop-place-3
-slice_bounds-take_piece-end-in-loop-place-3 g c = sym (length-take-le c.min-count.result c.loop-place.values (omega (arith, c.min-count.ensures)))
+slice_bounds-take_piece-end-in-loop-place-3 g c = sym (length-take-le c.piece_len-count.result c.loop-place.values (omega (arith, c.min-most.ensures, c.piece_len-count.ensures.few, c.piece_len-count.ensures.some)))
 
 pub take_piece-requires-clause-symbols : goal.take_piece-requires-clause-symbols
 take_piece-requires-clause-symbols g c =
-    both_taken c.min-count.result c.loop-place.symbols c.loop-place.marks (omega (arith, c.min-count.ensures)) (omega (arith, c.loop-place.invariant.wide, c.min-count.ensures))
+    both_taken c.piece_len-count.result c.loop-place.symbols c.loop-place.marks (omega (arith, c.min-most.ensures, c.piece_len-count.ensures.few, c.piece_len-count.ensures.some)) (omega (arith, c.loop-place.invariant.wide, c.min-most.ensures, c.piece_len-count.ensures.few, c.piece_len-count.ensures.some))
 
 pub slice_bounds-take_piece-end-in-loop-place-4 : goal.slice_bounds-take_piece-end-in-loop-place-4
-slice_bounds-take_piece-end-in-loop-place-4 g c = sym (length-take-le c.min-count.result c.loop-place.symbols (omega (arith, c.min-count.ensures)))
+slice_bounds-take_piece-end-in-loop-place-4 g c = sym (length-take-le c.piece_len-count.result c.loop-place.symbols (omega (arith, c.min-most.ensures, c.piece_len-count.ensures.few, c.piece_len-count.ensures.some)))

@@ -1,4 +1,4 @@
-use Rattle.std.proofs.Common.{◌≡◌, ℕ, List, [], ◌∷◌, ◌++◌, ◌⊎◌, get_or, codes, length, sym, arith, ◌∙◌, subst, inl, inr}
+use Rattle.std.proofs.Common.{◌≡◌, ℕ, [], ◌∷◌, ◌++◌, ◌⊎◌, get_or, codes, length, sym, arith, ◌∙◌, subst, inl, inr}
 use Rattle.lerc_header.specs.declared.fault.BlobReason.TheVariants.{Leftover}
 use Rattle.lerc_grammar.specs.declared.bands.BandReason.TheVariants.{Blob}
 use Rattle.lerc_grammar.specs.Bands.{FirstBandsFault, IsLeastFault}

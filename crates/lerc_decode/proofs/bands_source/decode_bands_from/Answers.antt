@@ -1,4 +1,4 @@
-use Rattle.std.proofs.Common.{◌≡◌, ℕ, List, Option, Result, Err, sym, subst}
+use Rattle.std.proofs.Common.{◌≡◌, ℕ, List, Err, sym, subst}
 use Rattle.std.specs.Prelude.{IfSome}
 use Rattle.raster_values.specs.Raster.{Pixels}
 use Rattle.lerc_decode.specs.declared.bands.BandsStop.TheVariants.{OutOfMemory, Fault}

@@ -1,13 +1,12 @@
-use Rattle.std.proofs.Common.{◌≡◌, ℕ, List, Option, Result, Err, sym, subst}
+use Rattle.std.proofs.Common.{◌≡◌, ℕ, List, Err, sym, subst}
 use Rattle.std.specs.Prelude.{IfSome}
-use Rattle.raster_values.specs.Raster.{Pixels}
 use Rattle.lerc_decode.specs.declared.bands.BandsStop.TheVariants.{OutOfMemory, Fault}
 use Rattle.lerc_decode.specs.declared.bands_source.BandsFromFault.{BandsFromFault}
 use Rattle.lerc_grammar.specs.declared.bands.BandReason.{BandReason}
 use Rattle.lerc_decode.specs.Reading.{NoMemory, Wrong}
 use Rattle.lerc_decode.specs.BandsSource.{IsNoBands, LeavesRest}
 use Rattle.lerc_decode.specs.inside.Kept.{IsKeeping}
-use Rattle.lerc_decode.proofs.BandsRead.{came, kept_stop, none_kept, ok_end, ok_held, ok_left, same_stop, stop_left, stop_told}
+use Rattle.lerc_decode.proofs.BandsRead.{came, kept_stop, none_kept, ok_end, ok_held, same_stop, stop_left, stop_told}
 use Rattle.lerc_decode.proofs.bands_source.keep_bands_from.Goals as goal
 
 pub unreachable-requires : goal.unreachable-requires

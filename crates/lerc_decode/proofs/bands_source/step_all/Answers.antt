@@ -1,4 +1,4 @@
-use Rattle.std.proofs.Common.{◌∙◌, refl, arith}
+use Rattle.std.proofs.Common.{◌∙◌, refl}
 use Rattle.lerc_decode.proofs.BandsFeeding.{has_started, takes_more_of, takes_none}
 use Rattle.lerc_decode.proofs.bands_source.step_all.Goals as goal
 

@@ -6,7 +6,7 @@ use Rattle.lerc_decode.specs.inside.Body.{IsStopOf}
 use Rattle.lerc_decode.specs.inside.Codes.{words_faults}
 use Rattle.lerc_decode.specs.inside.Words.{frame_of}
 use Rattle.lerc_decode.proofs.CodePlaces.{words_within}
-use Rattle.lerc_decode.proofs.Symbols.{all_words, words_fault, words_left}
+use Rattle.lerc_decode.proofs.Symbols.{words_fault, words_left}
 use Rattle.lerc_decode.proofs.codes.end_words.Goals as goal
 
 pub refused-requires : goal.refused-requires

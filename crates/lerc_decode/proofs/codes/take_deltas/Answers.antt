@@ -1,7 +1,6 @@
-use Rattle.std.proofs.Common.{◌≡◌, ℕ, ◌+◌, ◌-◌, ◌*◌, ◌<◌, ◌≤◌, List, [], ◌++◌, length, take, drop, refl, sym, ap, ◌∙◌, subst, arith}
+use Rattle.std.proofs.Common.{◌≡◌, ℕ, ◌+◌, ◌-◌, ◌*◌, ◌<◌, ◌≤◌, List, [], ◌++◌, length, refl, sym, ◌∙◌, subst, arith}
 use Rattle.std.proofs.lemmas.List.{append_assoc, append-nil, length-append}
 use Rattle.delta_mode.specs.Deltas.{AreDeltas, TakesDeltas}
-use Rattle.lerc_grammar.specs.Codes.{symbols_of}
 use Rattle.lerc_decode.proofs.Filling.{keeps, marked_count}
 use Rattle.lerc_decode.proofs.Symbols.{depth_room, first_symbols, keeps_then, last_symbols, next_depths}
 use Rattle.lerc_decode.proofs.codes.take_deltas.Goals as goal

@@ -1,4 +1,4 @@
-use Rattle.std.proofs.Common.{◌≡◌, ◌++◌, ℕ, List, length, take, drop, refl, ap, ◌∙◌, arith, length-append, length-drop}
+use Rattle.std.proofs.Common.{◌≡◌, ◌++◌, ℕ, length, take, drop, refl, ap, ◌∙◌, arith, length-append, length-drop}
 use Rattle.std.proofs.lemmas.List.{take_rest, length-take-le}
 use Rattle.lerc_encode.specs.Images.{ending, image_bytes}
 use Rattle.lerc_encode.specs.inside.Layout.{planned_runs}

@@ -1,4 +1,4 @@
-use Rattle.std.proofs.Common.{ℕ, List, ◌∷◌, ap, ◌∙◌, arith}
+use Rattle.std.proofs.Common.{ℕ, ◌∷◌, ap, ◌∙◌, arith}
 use Rattle.lerc_encode.specs.Codings.{coding_bytes}
 use Rattle.lerc_encode.specs.inside.Coded.{symbols_of}
 use Rattle.lerc_encode.proofs.SymbolSteps.{behind_mode}

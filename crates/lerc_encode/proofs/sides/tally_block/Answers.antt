@@ -12,8 +12,8 @@ pub returns-clause-tables : goal.returns-clause-tables
 returns-clause-tables g c =
     let h = c.args.h.now in
     let r = (g.V.View.pixels c.args.raster.now) in
-    let told = c.named_size-found.result.has_table in
-    let has = subst (λ (x : BlockCtx). IsTrue told ↔ (chosen_form x.kind x.col x.step (map (value_above x.kind) c.args.distances.now) ≡ micro.table)) c.context.ensures.value c.named_size-found.ensures.table in
+    let told = c.size_and_names-size.result.has_table in
+    let has = subst (λ (x : BlockCtx). IsTrue told ↔ (chosen_form x.kind x.col x.step (map (value_above x.kind) c.args.distances.now) ≡ micro.table)) c.context.ensures.value c.size_and_names-size.ensures.table in
     let is = c.requires.table in
     one_flag h r c.args.k c.args.tally.now.tables.items c.add.new.tally.tables.items told c.add.ensures.room c.add.ensures.this c.add.ensures.others
     (table_there h r c.args.k c.args.spot told c.requires.spot (λ t. is.0 (has.0 t), λ t. has.1 (is.1 t)))

@@ -1,4 +1,4 @@
-use Rattle.std.proofs.Common.{◌∙◌, ap, sym, arith}
+use Rattle.std.proofs.Common.{◌∙◌, ap, arith}
 use Rattle.huff_codes.specs.Counts.{counts_of}
 use Rattle.lerc_encode.proofs.SymbolSteps.{lying_are, lying_few}
 use Rattle.lerc_encode.proofs.symbols.count_plain.Goals as goal

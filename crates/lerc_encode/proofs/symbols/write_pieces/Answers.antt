@@ -1,9 +1,9 @@
-use Rattle.std.proofs.Common.{◌≡◌, ℕ, ◌*◌, ◌+◌, ◌-◌, ◌≤◌, Bool, List, length, take, refl, sym, ap, ◌∙◌, subst, arith}
+use Rattle.std.proofs.Common.{◌≡◌, ℕ, ◌*◌, ◌+◌, ◌-◌, ◌≤◌, Bool, List, length, take, refl, sym, ◌∙◌, subst, arith}
 use Rattle.delta_mode.specs.Deltas.{plain}
 use Rattle.delta_mode.proofs.PlainPieces.{plain_given}
 use Rattle.huff_codes.specs.Codes.{canonical_codes}
 use Rattle.huff_codes.specs.Pieces.{AreBegun}
-use Rattle.huff_codes.specs.Written.{AreWritten, written_size}
+use Rattle.huff_codes.specs.Written.{AreWritten}
 use Rattle.lerc_encode.proofs.Given.{front_fits, whole_size}
 use Rattle.lerc_encode.proofs.symbols.write_pieces.Goals as goal
 

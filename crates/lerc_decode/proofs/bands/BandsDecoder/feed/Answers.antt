@@ -1,7 +1,7 @@
-use Rattle.std.proofs.Common.{◌≡◌, ℕ, ◌+◌, ◌++◌, List, length, take, drop, sym, ap, ◌∙◌, subst, arith}
+use Rattle.std.proofs.Common.{◌≡◌, ℕ, ◌+◌, ◌++◌, List, take, drop, sym, ap, ◌∙◌, subst, arith}
 use Rattle.std.proofs.lemmas.List.{append_assoc, length-drop, take_rest}
 use Rattle.std.proofs.Math.Seq.{take-add}
-use Rattle.lerc_decode.specs.Reading.{BandsDecoding, BandsStage, IsAfter, wanted}
+use Rattle.lerc_decode.specs.Reading.{BandsDecoding, IsAfter, wanted}
 use Rattle.lerc_decode.specs.BandsStates.{IsBandsTold}
 use Rattle.lerc_decode.proofs.BandsFeeding.{ended_wants}
 use Rattle.lerc_decode.proofs.Tiles.{told_at}

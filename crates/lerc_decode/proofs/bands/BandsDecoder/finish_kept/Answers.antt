@@ -1,9 +1,9 @@
-use Rattle.std.proofs.Common.{ℕ, ◌+◌, List, length, sym, ap, subst, arith}
+use Rattle.std.proofs.Common.{ℕ, ◌+◌, length, sym, ap, subst, arith}
 use Rattle.lerc_header.specs.declared.fault.BlobReason.TheVariants.{Leftover, Truncated}
 use Rattle.lerc_grammar.specs.declared.bands.BandReason.TheVariants.{Blob}
 use Rattle.lerc_grammar.specs.Bands.{BandsFaultAt}
 use Rattle.lerc_grammar.proofs.BandsSteps.{decided_is}
-use Rattle.lerc_decode.specs.Reading.{BandsDecoding, IsAfter}
+use Rattle.lerc_decode.specs.Reading.{IsAfter}
 use Rattle.lerc_decode.proofs.Tiles.{at_progress, cut_off, key_cut}
 use Rattle.lerc_decode.proofs.BandsFeeding.{blob_reached}
 use Rattle.lerc_decode.proofs.bands.BandsDecoder.finish_kept.Goals as goal

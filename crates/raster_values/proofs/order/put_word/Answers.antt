@@ -1,0 +1,21 @@
+use Rattle.std.proofs.Common.{length}
+use Rattle.raster_values.proofs.MarkWords.{word_all, word_none}
+use Rattle.raster_values.proofs.MarkedPuts.{puts_unmarked, puts_marked}
+use Rattle.raster_values.proofs.MarkedValues.{values_there}
+use Rattle.raster_values.proofs.order.put_word.Goals as goal
+
+pub returns-then-word-eq0-clause-put : goal.returns-then-word-eq0-clause-put
+returns-then-word-eq0-clause-put g c =
+    let marks = g.M.Marked.marks c.args.marks.now in
+    puts_unmarked c.args.depth c.args.d marks c.args.place (length c.args.input.now) c.args.input.now (g.V.Valued.cells c.args.values.now).values
+    (word_none marks c.args.place (length c.args.input.now) c.word-word.result c.if-word-eq0.true c.word-word.ensures)
+
+pub put_list_as-requires-clause-within : goal.put_list_as-requires-clause-within
+put_list_as-requires-clause-within g c =
+    values_there (g.M.Marked.marks c.args.marks.now) (g.V.Valued.cells c.args.values.now).values c.args.place (length c.args.input.now) c.args.depth c.requires.size c.requires.within
+
+pub returns-then-word-count-clause-put : goal.returns-then-word-count-clause-put
+returns-then-word-count-clause-put g c =
+    let marks = g.M.Marked.marks c.args.marks.now in
+    puts_marked c.args.depth c.args.d marks c.args.place (length c.args.input.now) c.args.input.now (g.V.Valued.cells c.args.values.now).values (g.V.Valued.cells c.put_list_as.new.cells).values
+    (word_all marks c.args.place (length c.args.input.now) c.word-word.result c.requires.short c.if-word-count.true c.word-word.ensures) c.put_list_as.ensures.put
