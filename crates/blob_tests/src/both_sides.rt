@@ -1,5 +1,6 @@
 //! Rasters whose last row and column of blocks of 16 have one, two or three blocks of 8, with masks
-//! that leave blocks empty, with depths and tables; and which side is chosen, where it is plain.
+//! that leave blocks empty, with depths and tables; rasters so wide that a flag tells of several blocks
+//! whether one has a table; and which side is chosen, where it is plain.
 
 ghost use Rattle.std.specs.Prelude.{◌<◌, ◌≤◌};
 
@@ -26,6 +27,8 @@ enum Pattern {
     Mixed,
     /// Five that are far apart, but small ones in each third block of 8.
     Broken,
+    /// Five that are far apart in the blocks of 8 at even columns, else 0.
+    Pairs,
 }
 
 /// The shape of a raster.
@@ -49,7 +52,7 @@ fn far(row: u32, col: u32, d: u32) -> u32 {
         .wrapping_add(col.wrapping_mul(3))
         .wrapping_add(d)
         % 5;
-    number.wrapping_mul(300_000_007)
+    number.wrapping_mul(200_000_007)
 }
 
 /// The value of a pixel at a depth.
@@ -65,6 +68,8 @@ fn value_of(pattern: Pattern, row: u32, col: u32, d: u32) -> u32 {
         Pattern::Mixed => row.wrapping_mul(col) % 11,
         Pattern::Broken if (row / 8 + col / 8) % 3 == 1 => row.wrapping_mul(col) % 11,
         Pattern::Broken => far(row, col, d),
+        Pattern::Pairs if col / 8 % 2 == 0 => far(row, col, d),
+        Pattern::Pairs => 0,
     }
 }
 
@@ -157,16 +162,29 @@ fn rasters_of_all_edges_are_kept(rt: HostRuntime) {
     }
 }
 
+/// Rows, columns and depths: of more than 1,024 blocks of 8 in a row, and of more than 1,024 of 16.
+const WIDE: &[(u32, u32, u32)] = &[(1, 9_000, 1), (2, 17_000, 1), (9, 8_200, 3)];
+
+#[test]
+fn wide_rasters_are_kept(rt: HostRuntime) {
+    for (rows, cols, depth) in WIDE {
+        let shape = Shape {
+            rows: *rows,
+            cols: *cols,
+            depth: *depth,
+        };
+        for pattern in [Pattern::Pairs, Pattern::Mixed] {
+            expect_kept(&rt, rt.alloc(), shape, pattern, false);
+            expect_kept(&rt, rt.alloc(), shape, pattern, true);
+        }
+    }
+}
+
 /// The side that the blob of a raster says, which stands behind 30 bytes of its header.
-fn expect_side(rt: &impl Abort, alloc: Global, depth: u32, pattern: Pattern, side: u8) {
-    let shape = Shape {
-        rows: 40,
-        cols: 24,
-        depth,
-    };
+fn expect_side(rt: &impl Abort, alloc: Global, shape: Shape, pattern: Pattern, side: u8) {
     let grid = grid_of(rt, alloc, shape, pattern, false);
     let blob = blob_of(rt, alloc, grid.as_slice());
-    same(rt, depth, blob.as_slice().get(30), Some(&side));
+    same(rt, shape.depth, blob.as_slice().get(30), Some(&side));
 }
 
 // A block of 8 with one value takes few bytes, and one of 16 with four values many. Of 0 and 1 in
@@ -174,7 +192,26 @@ fn expect_side(rt: &impl Abort, alloc: Global, depth: u32, pattern: Pattern, sid
 #[test]
 fn the_side_with_fewer_bytes_is_chosen(rt: HostRuntime) {
     for depth in [1, 3] {
-        expect_side(&rt, rt.alloc(), depth, Pattern::Steps, 8);
-        expect_side(&rt, rt.alloc(), depth, Pattern::Turns, 16);
+        let shape = Shape {
+            rows: 40,
+            cols: 24,
+            depth,
+        };
+        expect_side(&rt, rt.alloc(), shape, Pattern::Steps, 8);
+        expect_side(&rt, rt.alloc(), shape, Pattern::Turns, 16);
     }
+}
+
+// Of few values far apart a block has a table, mostly the values themselves, and one of zeros is a
+// byte. Where each second block of 8 is of zeros, a block of 16 has bits for these too; where each
+// second block of 16 is, it has one table and not two.
+#[test]
+fn of_wide_rasters_the_side_with_fewer_bytes_is_chosen(rt: HostRuntime) {
+    let row = Shape {
+        rows: 1,
+        cols: 17_000,
+        depth: 1,
+    };
+    expect_side(&rt, rt.alloc(), row, Pattern::Pairs, 8);
+    expect_side(&rt, rt.alloc(), row, Pattern::Mixed, 16);
 }

@@ -61,14 +61,6 @@ none_at valid value place n {kept} {left} {z} {last} {m} {count} some off at el 
   count_is = ec ∙ at.count_is ∙ sym (rank_skips valid place n off);
 }
 
-pub none_coded : (kind : PixelType) (cols : ℕ) (valid : ℕ → Bool) (value : ℕ → ℤ) (place n : ℕ) (symbols : List ℕ) → ((i : ℕ) → i < n → valid (place + i) ≡ false) → AreCoded kind cols valid value place (place + n) symbols
-none_coded kind cols valid value place n symbols off = record {
-  each = λ k from lt on.
-      let e : place + (k - place) ≡ k = omega (arith, from) in
-      let no_ : valid k ≡ false = ap valid (sym e) ∙ off (k - place) (omega (arith, from, lt)) in
-      absurd (cc);
-}
-
 -- ---- each pixel
 
 pub rank_counts : (valid : ℕ → Bool) (a n : ℕ) → ((i : ℕ) → i < n → valid (a + i) ≡ true) → rank valid (a + n) ≡ rank valid a + n

@@ -16,6 +16,7 @@ mod PlainTaking
 pub mod Ways
 mod Gathered
 mod StartBits
+mod NextRuns
 mod StartPieces
 pub mod FullPieces
 pub mod PlainPieces

@@ -1,7 +1,7 @@
 -- Pieces of a row of pixels.
 use Rattle.std.proofs.Common.{◌≡◌, ℕ, zero, suc, ℤ, ◌+◌, ◌<◌, ◌≤◌, Bool, true, false, cond, refl, ap, ◌∙◌, subst, arith, inl, inr, add-one}
 use Rattle.std.proofs.lemmas.Bool.{cases_lt}
-use Rattle.delta_mode.specs.inside.Pieces.{rank, last_from, left_of, predicted_by, guess}
+use Rattle.delta_mode.specs.inside.Pieces.{rank, predicted_by}
 
 -- ---- one pixel more
 
@@ -10,15 +10,6 @@ rank_on mark i on = ap (rank mark) (add-one i) ∙ ap (λ b. cond b (rank mark i
 
 pub rank_off : (mark : ℕ → Bool) (i : ℕ) → mark i ≡ false → rank mark (i + 1) ≡ rank mark i
 rank_off mark i off = ap (rank mark) (add-one i) ∙ ap (λ b. cond b (rank mark i + 1) (rank mark i)) off
-
-pub last_on : (z : ℤ) (mark : ℕ → Bool) (now : ℕ → ℤ) (i : ℕ) → mark i ≡ true → last_from z mark now (i + 1) ≡ now i
-last_on z mark now i on = ap (last_from z mark now) (add-one i) ∙ ap (λ b. cond b (now i) (last_from z mark now i)) on
-
-pub last_off : (z : ℤ) (mark : ℕ → Bool) (now : ℕ → ℤ) (i : ℕ) → mark i ≡ false → last_from z mark now (i + 1) ≡ last_from z mark now i
-last_off z mark now i off = ap (last_from z mark now) (add-one i) ∙ ap (λ b. cond b (now i) (last_from z mark now i)) off
-
-pub left_next : (left : Bool) (mark : ℕ → Bool) (i : ℕ) → left_of left mark (i + 1) ≡ mark i
-left_next left mark i = ap (left_of left mark) (add-one i)
 
 -- ---- ranks
 
@@ -54,28 +45,7 @@ rank_split valid a (suc i) =
 
 -- ---- the value kept
 
-pub last_from_same : (z : ℤ) (mark : ℕ → Bool) (v w : ℕ → ℤ) (k : ℕ) → ((j : ℕ) → j < k → v j ≡ w j) → last_from z mark v k ≡ last_from z mark w k
-last_from_same z mark v w zero same = refl
-last_from_same z mark v w (suc k) same =
-    let before = last_from_same z mark v w k (λ j lt. same j (omega arith)) in
-    λ i. cond (mark k) (same k (omega arith) i) (before i)
-
-pub last_from_has : (P : ℤ → Type 0) (z : ℤ) (mark : ℕ → Bool) (v : ℕ → ℤ) (k : ℕ) → P z → ((j : ℕ) → j < k → P (v j)) → P (last_from z mark v k)
-last_from_has P z mark v zero first each = first
-last_from_has P z mark v (suc k) first each =
-    let before = last_from_has P z mark v k first (λ j lt. each j (omega arith)) in
-    elim (mark k) as (λ b. P (cond b (v k) (last_from z mark v k))) [
-      | true ↦ each k (omega arith)
-      | false ↦ before
-    ]
-
-pub guess_same : (left : Bool) (z : ℤ) (mark up : ℕ → Bool) (above v w : ℕ → ℤ) (k : ℕ) → ((j : ℕ) → j < k → v j ≡ w j) → guess left z mark up above v k ≡ guess left z mark up above w k
-guess_same left z mark up above v w k same = ap (predicted_by (left_of left mark k) (up k) (above k)) (last_from_same z mark v w k same)
-
 pub predicted_has : (P : ℤ → Type 0) (left up : Bool) (above last : ℤ) → P above → P last → P (predicted_by left up above last)
 predicted_has P true up above last pa pl = pl
 predicted_has P false true above last pa pl = pa
 predicted_has P false false above last pa pl = pl
-
-pub guess_has : (P : ℤ → Type 0) (left : Bool) (z : ℤ) (mark up : ℕ → Bool) (above now : ℕ → ℤ) (k : ℕ) → P z → P (above k) → ((j : ℕ) → j < k → P (now j)) → P (guess left z mark up above now k)
-guess_has P left z mark up above now k first pa each = predicted_has P (left_of left mark k) (up k) (above k) (last_from z mark now k) pa (last_from_has P z mark now k first each)

@@ -1,12 +1,11 @@
 -- Symbols that are taken piece by piece.
-use Rattle.std.proofs.Common.{◌≡◌, ℕ, zero, suc, ℤ, ◌+◌, ◌*◌, ◌<◌, ◌≤◌, Bool, true, false, cond, List, ◌++◌, length, get_or, sym, ap, ◌∙◌, arith}
+use Rattle.std.proofs.Common.{◌≡◌, ℕ, zero, suc, ℤ, ◌+◌, ◌*◌, ◌≤◌, Bool, true, false, cond, List, ◌++◌, length, get_or, sym, ap, ◌∙◌, arith}
 use Rattle.std.proofs.lemmas.List.{get_or_append_left, get_or-append-add}
 use Rattle.std.proofs.Math.Nat.{mul-le-mul_left}
 use Rattle.raster_values.specs.declared.kind.PixelType.{PixelType}
 use Rattle.raster_values.specs.Raster.{Pixels, IsRaster, IsShape, valid_count}
 use Rattle.delta_mode.specs.Deltas.{is_valid}
-use Rattle.delta_mode.specs.inside.Pieces.{rank, mark_at, AreCoded}
-use Rattle.delta_mode.proofs.Pieces.{rank_same, rank_split}
+use Rattle.delta_mode.specs.inside.Pieces.{rank, AreCoded}
 use Rattle.delta_mode.proofs.WholeDepth.{coded_kept, rank_all}
 
 pub rank_le : (mark : ℕ → Bool) (n : ℕ) → rank mark n ≤ n
@@ -40,10 +39,3 @@ pub area_few : (rows cols depth : ℕ) → IsShape rows cols depth → rows * co
 area_few rows cols depth shape =
     let up : rows * cols * 1 ≤ rows * cols * depth = mul-le-mul_left (rows * cols) (omega (arith, shape.depth_above)) in
     omega (arith, up, shape.size)
-
--- as many valid pixels more as marks of a piece are set
-pub piece_count : (valid : ℕ → Bool) (place : ℕ) (marks : List Bool) (n : ℕ) {m count : ℕ} → ((i : ℕ) → i < n → mark_at marks i ≡ valid (place + i)) → m ≡ n → count ≡ rank (mark_at marks) m
-    → rank valid (place + n) ≡ rank valid place + count
-piece_count valid place marks n {m} {count} is_mark em e =
-    let same = rank_same (mark_at marks) (λ j. valid (place + j)) n is_mark in
-    rank_split valid place n ∙ ap (λ q. rank valid place + q) (sym (e ∙ ap (rank (mark_at marks)) em ∙ same))

@@ -124,7 +124,7 @@ ones_rank f (suc n) word small each =
       | inr off ↦ let none = bit_clear (word % 2) (omega arith) (lowest ∙ off) in (let e : count_ones word ≡ rank f n = omega (arith, half, step, none) in e) ∙ sym (ap (λ b. cond b (rank f n + 1) (rank f n)) off)
     ]
 
-marks_are : (r : Pixels) (k : ℕ) → get_or (marks_of r) k false ≡ is_valid r k
+pub marks_are : (r : Pixels) (k : ℕ) → get_or (marks_of r) k false ≡ is_valid r k
 marks_are r k = elim (cases_lt k (length r.pixels)) [
   | inl lt ↦ get_or-map is_some r.pixels k None false lt
   | inr ge ↦ let long = length-map r.pixels is_some in get_or_past (marks_of r) k false (omega (arith, ge, long)) ∙ sym (ap is_some (get_or_past r.pixels k None ge))

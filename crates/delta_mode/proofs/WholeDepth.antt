@@ -3,7 +3,7 @@ use Rattle.std.proofs.Common.{◌≡◌, ℕ, zero, suc, ℤ, pos, ◌-ℤ◌, �
 use Rattle.std.specs.Prelude.{is_some, None, Option}
 use Rattle.std.specs.List.{filter, range_with_len, count_by}
 use Rattle.std.proofs.lemmas.Bool.{cases_Bool, cases_lt}
-use Rattle.std.proofs.lemmas.List.{length-take-le, map-append, take_more, take_all, append-nil}
+use Rattle.std.proofs.lemmas.List.{map-append, take_more, take_all, append-nil}
 use Rattle.std.proofs.lemmas.List.Elements.{filter-append}
 use Rattle.std.proofs.lemmas.List.Sums.{sum_by-cons}
 use Rattle.std.proofs.Math.Nat.{mul-le-mul_right}
@@ -15,7 +15,7 @@ use Rattle.delta_mode.specs.Symbols.{symbol_of}
 use Rattle.delta_mode.specs.Deltas.{delta, deltas_from, is_valid}
 use Rattle.delta_mode.specs.inside.Pieces.{rank, IsAt, AreCoded}
 use Rattle.delta_mode.proofs.Predictors.{predictor_same, range_more, from-is, last-zero}
-use Rattle.delta_mode.proofs.Pieces.{rank_on, rank_off, rank_below, rank_grows, rank_same, rank_split}
+use Rattle.delta_mode.proofs.Pieces.{rank_on, rank_off, rank_below, rank_same, rank_split}
 use Rattle.delta_mode.proofs.Marks.{row_and_col, all_marks}
 
 -- ---- as many symbols as valid pixels
@@ -46,33 +46,11 @@ piece_within place count rows cols lt le some =
 pub piece_across : (place count cols : ℕ) → count ≤ cols - place % cols → 0 < cols → place % cols + count ≤ cols
 piece_across place count cols le some = grind arith
 
-pub piece_some : (place cols : ℕ) → 0 < cols → 0 < cols - place % cols
-piece_some place cols some = grind arith
-
 -- a piece of a row that begins within the raster: it ends there, and as many marks are the first of a list
 pub record IsNext (r : Pixels) (place count : ℕ) (marks : List Bool) : Type 0 where
   pub within : place + count ≤ r.rows * r.cols
   pub long : length (take count marks) ≡ count
   pub to : place + length (take count marks) ≡ place + count
-
-pub next_piece : (r : Pixels) (place count : ℕ) {rows cols : ℕ} (marks : List Bool) → IsRaster r → rows ≡ r.rows → cols ≡ r.cols → place < rows * cols → count ≤ cols - place % cols → count ≤ length marks → IsNext r place count marks
-next_piece r place count {rows} {cols} marks sound er ec lt short wide =
-    let long = length-take-le count marks wide in
-    record {
-      within = piece_within place count r.rows r.cols (subst (λ n. place < n) (λ i. er i * ec i) lt) (subst (λ n. count ≤ n - place % n) ec short) sound.shape.cols_above;
-      long = long;
-      to = ap (λ n. place + n) long;
-    }
-
--- the symbols up to its end are there
-pub next_room : {r : Pixels} {place count room : ℕ} {marks : List Bool} → IsRaster r → IsNext r place count marks → room ≡ valid_count r → rank (is_valid r) (place + length (take count marks)) ≤ room
-next_room {r} {place} {count} {room} {marks} sound next e =
-    let grows = rank_grows (is_valid r) (place + count) (r.rows * r.cols) next.within in
-    subst (λ n. rank (is_valid r) n ≤ room) (sym next.to) (omega (arith, grows, rank_all r sound, e))
-
--- the first of two lists are as many
-pub both_taken : {A B : Type 0} (count : ℕ) (xs : List A) (ys : List B) → count ≤ length xs → count ≤ length ys → length (take count xs) ≡ length (take count ys)
-both_taken count xs ys few_xs few_ys = length-take-le count xs few_xs ∙ sym (length-take-le count ys few_ys)
 
 -- ---- the symbols of all pieces
 

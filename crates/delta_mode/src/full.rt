@@ -31,9 +31,10 @@ fn cell_of(cells: &[u8], depth: usize, d: usize, k: usize) -> u8
 }
 
 /// The symbol of each pixel from number `place` on, but the first ones, by the byte of the pixel
-/// before it.
+/// before it. Each symbol is made of two bytes that are read for it, so that many are made at once of
+/// bytes that lie one behind the other.
 #[inline(always)]
-fn differences(
+fn read_differences(
     bias: u8,
     depth: usize,
     d: usize,
@@ -56,6 +57,65 @@ fn differences(
         out[i] = cell_of(cells, depth, d, place + i)
             .wrapping_sub(before)
             .wrapping_add(bias);
+    }
+}
+
+/// Does what `read_differences` does, but that each byte is read once and carried on to the next
+/// pixel, which takes less where they lie apart.
+#[inline(always)]
+fn carried_differences(
+    bias: u8,
+    depth: usize,
+    d: usize,
+    cells: &[u8],
+    place: usize,
+    from: usize,
+    out: &mut [u8],
+)
+    requires depth { d < depth }
+    requires some { 0 < place + from }
+    requires size { (place + length out.old) * depth ≤ length cells.now }
+    requires few { place + length out.old ≤ 2 ^ 24 }
+    ensures room { length out.new ≡ length out.old }
+    ensures symbols { (i : ℕ) → from ≤ i → i < length out.old → get_or out.new i 0
+        ≡ wrapped bias (cell depth d cells.now (place + i))
+        (cell depth d cells.now (place + i - 1)) }
+{
+    if from >= out.len() {
+        return;
+    }
+    let mut before = cell_of(cells, depth, d, place + from - 1);
+    for i in from..out.len() {
+        let byte = cell_of(cells, depth, d, place + i);
+        out[i] = byte.wrapping_sub(before).wrapping_add(bias);
+        before = byte;
+    }
+}
+
+/// The symbol of each pixel from number `place` on, but the first ones, by the byte of the pixel
+/// before it.
+fn differences(
+    bias: u8,
+    depth: usize,
+    d: usize,
+    cells: &[u8],
+    place: usize,
+    from: usize,
+    out: &mut [u8],
+)
+    requires depth { d < depth }
+    requires some { 0 < place + from }
+    requires size { (place + length out.old) * depth ≤ length cells.now }
+    requires few { place + length out.old ≤ 2 ^ 24 }
+    ensures room { length out.new ≡ length out.old }
+    ensures symbols { (i : ℕ) → from ≤ i → i < length out.old → get_or out.new i 0
+        ≡ wrapped bias (cell depth d cells.now (place + i))
+        (cell depth d cells.now (place + i - 1)) }
+{
+    if depth == 1 {
+        read_differences(bias, 1, d, cells, place, from, out);
+    } else {
+        carried_differences(bias, depth, d, cells, place, from, out);
     }
 }
 
@@ -116,31 +176,6 @@ fn first_behind(place: usize) -> usize
     if place == 0 { 1 } else { 0 }
 }
 
-/// Does what `byte_piece` does, where the compiler may know the depth.
-#[inline(always)]
-fn piece_by(
-    bias: u8,
-    cols: usize,
-    depth: usize,
-    d: usize,
-    cells: &[u8],
-    place: usize,
-    out: &mut [u8],
-)
-    requires cols { 0 < cols }
-    requires narrow { cols ≤ 2 ^ 24 }
-    requires depth { d < depth }
-    requires size { (place + length out.old) * depth ≤ length cells.now }
-    requires few { place + length out.old ≤ 2 ^ 24 }
-    ensures room { length out.new ≡ length out.old }
-    ensures symbols { (i : ℕ) → i < length out.old → get_or out.new i 0
-        ≡ wrapped bias (cell depth d cells.now (place + i))
-        (cell_before cols (cell depth d cells.now) (place + i)) }
-{
-    differences(bias, depth, d, cells, place, first_behind(place), out);
-    first_column(bias, cols, depth, d, cells, place, out);
-}
-
 /// The symbol of each pixel's byte at a depth, from number `place` on: by that of the pixel before
 /// it, in the first column by that of the pixel above it, and of the first by none.
 fn byte_piece(
@@ -162,12 +197,8 @@ fn byte_piece(
         ≡ wrapped bias (cell depth d cells.now (place + i))
         (cell_before cols (cell depth d cells.now) (place + i)) }
 {
-    // bytes that lie one behind the other are looked at many at once
-    if depth == 1 {
-        piece_by(bias, cols, 1, d, cells, place, out);
-    } else {
-        piece_by(bias, cols, depth, d, cells, place, out);
-    }
+    differences(bias, depth, d, cells, place, first_behind(place), out);
+    first_column(bias, cols, depth, d, cells, place, out);
 }
 
 /// Writes the symbols of as many pixels as `out` has room for, from number `place` on.

@@ -6,7 +6,6 @@
 #![tactic(auto)]
 
 mod depth;
-mod even;
 mod full;
 mod giving;
 mod giving_plain;

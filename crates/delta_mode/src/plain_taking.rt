@@ -14,7 +14,6 @@ ghost use Rattle.delta_mode.specs.inside.Plain.{ArePlaced};
 use super::full::added;
 use super::run::lowered;
 use super::source::{ListSymbols, SymbolSource};
-use super::taking::count_set;
 use raster_target::Target;
 use raster_values::PixelType;
 
@@ -23,6 +22,17 @@ const PIECE: usize = 256;
 
 /// How many symbols are read together, at most: a pixel has no more.
 const ROOM: usize = 65536;
+
+/// How many of the marks are set.
+fn count_set(marks: &[bool]) -> usize
+    ensures { result ≡ rank (mark_at marks.now) (length marks.now) }
+{
+    let mut count = 0;
+    for i in 0..marks.len() {
+        count += usize::from(marks[i]);
+    }
+    count
+}
 
 /// Finds the values at a depth of the valid pixels of a piece, of which each has `depth` symbols.
 /// The others get 0.

@@ -56,6 +56,17 @@ count_few h r is =
     let all : h.rows * h.cols * h.depth ≤ 16777216 = subst (λ n. n ≤ 16777216) (λ t. sym is.rows t * sym is.cols t * sym is.depth t) is.sound.shape.size in
     omega (arith, c, all)
 
+-- in a row of blocks, at all depths
+pub row_few : (h : Header) (r : Pixels) → IsBlocked h r → blocks_across h * h.depth ≤ 16777216
+row_few h r is =
+    let rows_some : 1 ≤ h.rows = subst (λ n. 1 ≤ n) (sym is.rows) (omega (arith, is.sound.shape.rows_above)) in
+    let cols_some : 0 < h.cols = subst (λ n. 0 < n) (sym is.cols) is.sound.shape.cols_above in
+    let across = blocks_few h.cols h.side is.side_above cols_some in
+    let all : h.rows * h.cols * h.depth ≤ 16777216 = subst (λ n. n ≤ 16777216) (λ t. sym is.rows t * sym is.cols t * sym is.depth t) is.sound.shape.size in
+    let wide : blocks_across h * h.depth ≤ h.cols * h.depth = mul-le-mul_right h.depth across in
+    let one : 1 * (h.cols * h.depth) ≤ h.rows * (h.cols * h.depth) = mul-le-mul_right (h.cols * h.depth) rows_some in
+    omega (arith, wide, one, all)
+
 -- ---- where
 
 pub row_within : (h : Header) (r : Pixels) → IsBlocked h r → (k : ℕ) → k < coded_blocks h → block_row h k < h.rows

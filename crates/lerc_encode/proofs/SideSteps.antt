@@ -1,5 +1,5 @@
 -- Blocks of both sides, one more at a time: their total, their flags, and their values in a buffer.
-use Rattle.std.proofs.Common.{◌≡◌, ℕ, ◌+◌, ◌-◌, ◌*◌, ◌<◌, ◌≤◌, ◌⊎◌, inl, inr, Bool, List, ◌++◌, length, map, take, drop, sym, ap, ◌∙◌, subst, arith, length-append}
+use Rattle.std.proofs.Common.{◌≡◌, ℕ, ◌+◌, ◌-◌, ◌/◌, ◌<◌, ◌≤◌, refl, ◌⊎◌, inl, inr, Bool, List, ◌++◌, length, map, take, drop, sym, ap, ◌∙◌, subst, arith, length-append}
 use Rattle.std.specs.Prelude.{ℤ, All, ◌↔◌, IsTrue}
 use Rattle.std.proofs.lemmas.Bool.{cases_eq, cases_lt}
 use Rattle.std.proofs.lemmas.List.{length-take-le, map-append, take-append-drop}
@@ -17,7 +17,8 @@ use Rattle.raster_values.specs.Raster.{Pixels}
 use Rattle.lerc_header.specs.declared.header.Header.{Header}
 use Rattle.lerc_encode.specs.declared.blocks.Spot.{Spot}
 use Rattle.lerc_encode.specs.inside.Blocked.{HasTable}
-use Rattle.lerc_encode.specs.inside.Flags.{IsFlagged}
+use Rattle.lerc_encode.specs.declared.flags.Flags.{Flags}
+use Rattle.lerc_encode.specs.inside.Flags.{IsFlagged, IsMarked, room_of}
 use Rattle.lerc_encode.specs.inside.Sides.{AreMore, IsFlaggedAt, IsMore}
 
 -- ---- totals
@@ -40,45 +41,50 @@ two_more most n m a b c first second = record {
 
 -- ---- flags
 
-pub flags_still : (h : Header) (r : Pixels) (tables : List ℕ) → AreMore h r tables tables
-flags_still h r tables = record { room = refl_of (length tables); kept = λ k is. is; sound = λ k is. inl is }
-  where
-    refl_of : (n : ℕ) → n ≡ n
-    refl_of n = omega arith
+pub flags_still : (h : Header) (r : Pixels) (tables : Flags) → AreMore h r tables tables
+flags_still h r tables = record { room = refl; group = refl; kept = λ k is. is; sound = λ one k is. inl is }
 
-pub two_flags : (h : Header) (r : Pixels) (a b c : List ℕ) → AreMore h r a b → AreMore h r b c → AreMore h r a c
+pub two_flags : (h : Header) (r : Pixels) (a b c : Flags) → AreMore h r a b → AreMore h r b c → AreMore h r a c
 two_flags h r a b c first second = record {
   room = second.room ∙ first.room;
+  group = second.group ∙ first.group;
   kept = λ k is. second.kept k (first.kept k is);
-  sound = λ k is. back k (second.sound k is);
+  sound = λ one k is. back (sym second.group ∙ one) k (second.sound one k is);
 }
   where
-    back : (k : ℕ) → IsFlagged b k ⊎ HasTable h r k → IsFlagged a k ⊎ HasTable h r k
-    back k (inl set) = first.sound k set
-    back k (inr has) = inr has
+    back : b.group ≡ 1 → (k : ℕ) → IsMarked b k ⊎ HasTable h r k → IsMarked a k ⊎ HasTable h r k
+    back one k (inl set) = first.sound one k set
+    back one k (inr has) = inr has
 
-pub one_flag : (h : Header) (r : Pixels) (k : ℕ) (old new : List ℕ) (told : Bool) → length new ≡ length old → (IsFlagged new k ↔ (IsFlagged old k ⊎ IsTrue told))
-    → ((i : ℕ) → (i ≡ k → ⊥) → IsFlagged new i ↔ IsFlagged old i) → (IsTrue told ↔ HasTable h r k) → AreMore h r old new
-one_flag h r k old new told long this others is = record {
-  room = long;
-  kept = λ i set. kept_by i set (cases_eq i k);
-  sound = λ i set. sound_by i set (cases_eq i k);
+pub one_flag : (h : Header) (r : Pixels) (k : ℕ) (old new : Flags) (told : Bool) → room_of new ≡ room_of old → new.group ≡ old.group → (IsMarked new k ↔ (IsMarked old k ⊎ IsTrue told))
+    → ((i : ℕ) → (i / old.group ≡ k / old.group → ⊥) → IsMarked new i ↔ IsMarked old i) → (IsTrue told ↔ HasTable h r k) → AreMore h r old new
+one_flag h r k old new told room group this others is = record {
+  room = room;
+  group = group;
+  kept = λ i set. kept_by i set (cases_eq (i / old.group) (k / old.group));
+  sound = λ one i set. sound_by (sym group ∙ one) i set (cases_eq i k);
 }
   where
-    kept_by : (i : ℕ) → IsFlagged old i → (i ≡ k) ⊎ ((i ≡ k) → ⊥) → IsFlagged new i
-    kept_by i set (inl same) = subst (IsFlagged new) (sym same) (this.1 (inl (subst (IsFlagged old) same set)))
+    kept_by : (i : ℕ) → IsMarked old i → (i / old.group ≡ k / old.group) ⊎ ((i / old.group ≡ k / old.group) → ⊥) → IsMarked new i
+    kept_by i set (inl same) =
+        let here : IsMarked new k = this.1 (inl (subst (IsFlagged old.words.items) same set)) in
+        let beside : k / new.group ≡ i / new.group = subst (λ n. k / n ≡ i / n) (sym group) (sym same) in
+        subst (IsFlagged new.words.items) beside here
     kept_by i set (inr other) = (others i other).1 set
 
-    from : IsFlagged old k ⊎ IsTrue told → IsFlagged old k ⊎ HasTable h r k
+    from : IsMarked old k ⊎ IsTrue told → IsMarked old k ⊎ HasTable h r k
     from (inl set) = inl set
     from (inr t) = inr (is.0 t)
 
-    sound_by : (i : ℕ) → IsFlagged new i → (i ≡ k) ⊎ ((i ≡ k) → ⊥) → IsFlagged old i ⊎ HasTable h r i
-    sound_by i set (inl same) = subst (λ j. IsFlagged old j ⊎ HasTable h r j) (sym same) (from (this.0 (subst (IsFlagged new) same set)))
-    sound_by i set (inr other) = inl ((others i other).0 set)
+    apart : (n i : ℕ) → n ≡ 1 → i / n ≡ k / n → i ≡ k
+    apart n i one same = let e : i / 1 ≡ k / 1 = subst (λ m. i / m ≡ k / m) one same in omega (arith, e)
+
+    sound_by : old.group ≡ 1 → (i : ℕ) → IsMarked new i → (i ≡ k) ⊎ ((i ≡ k) → ⊥) → IsMarked old i ⊎ HasTable h r i
+    sound_by one i set (inl same) = subst (λ j. IsMarked old j ⊎ HasTable h r j) (sym same) (from (this.0 (subst (IsMarked new) same set)))
+    sound_by one i set (inr other) = inl ((others i (λ e. other (apart old.group i one e))).0 set)
 
 -- what is set stays so
-pub flag_stays : (h : Header) (r : Pixels) (spot : Spot) (old new : List ℕ) → AreMore h r old new → IsFlaggedAt h r spot old → IsFlaggedAt h r spot new
+pub flag_stays : (h : Header) (r : Pixels) (spot : Spot) (old new : Flags) → AreMore h r old new → IsFlaggedAt h r spot old → IsFlaggedAt h r spot new
 flag_stays h r spot old new more is = λ within has. more.kept _ (is within has)
 
 -- ---- values

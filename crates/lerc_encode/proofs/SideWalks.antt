@@ -1,5 +1,5 @@
 -- The walk over the blocks of side 16, and what is known at its end.
-use Rattle.std.proofs.Common.{◌≡◌, ℕ, zero, suc, ◌+◌, ◌*◌, ◌%◌, ◌<◌, ◌≤◌, ◌⊎◌, inl, inr, List, ◌++◌, length, length-append, map, refl, sym, ap, ◌∙◌, subst, arith, Option, Some, None}
+use Rattle.std.proofs.Common.{◌≡◌, ℕ, zero, suc, ◌+◌, ◌*◌, ◌%◌, ◌<◌, ◌≤◌, ◌⊎◌, inl, inr, List, length, length-append, map, refl, sym, ap, ◌∙◌, subst, arith, Option, Some, None}
 use Rattle.std.specs.Prelude.{ℤ, All, MatchOption}
 use Rattle.std.specs.List.{flat_map, range_with_len}
 use Rattle.std.proofs.lemmas.Bool.{cases_lt}
@@ -15,7 +15,8 @@ use Rattle.lerc_encode.specs.Images.{blocks_bytes, coded_bytes}
 use Rattle.lerc_encode.specs.declared.blocks.Spot.{Spot}
 use Rattle.lerc_encode.specs.declared.blocks.Measured.{Measured}
 use Rattle.lerc_encode.specs.inside.Blocked.{AreFlags, HasTable, HasTableAt, IsBlocked, IsMeasured, IsSpot, IsWithin, bytes_at}
-use Rattle.lerc_encode.specs.inside.Flags.{IsFlagged}
+use Rattle.lerc_encode.specs.declared.flags.Flags.{Flags}
+use Rattle.lerc_encode.specs.inside.Flags.{IsMarked, room_of}
 use Rattle.lerc_encode.specs.inside.Sides.{AreFlaggedAt, AreMore, IsFlaggedAt, IsMore, below, corner, four_sizes, four_values, right_of}
 use Rattle.lerc_encode.proofs.Blocking.{block_fits}
 use Rattle.lerc_encode.proofs.Runs.{one_more, part_fits}
@@ -25,48 +26,49 @@ use Rattle.lerc_encode.proofs.Quartered.{IsQuarter, in_one, quarter_spot, quarte
 
 -- ---- flags
 
--- no flag is set of a block without a table, and those of the blocks seen are set
-pub record AreMarked (Seen : ℕ → Type 0) (h : Header) (r : Pixels) (most size : ℕ) (tables : List ℕ) : Type 0 where
-  pub room : coded_blocks h ≤ 64 * length tables
-  pub sound : (k : ℕ) → IsFlagged tables k → HasTable h r k
-  pub done : size ≤ most → (k : ℕ) → k < coded_blocks h → Seen k → HasTable h r k → IsFlagged tables k
+-- the flags of the blocks seen are set that have a table; where each has its own, none else is
+pub record AreMarked (Seen : ℕ → Type 0) (h : Header) (r : Pixels) (most size : ℕ) (tables : Flags) : Type 0 where
+  pub room : coded_blocks h ≤ room_of tables
+  pub sound : tables.group ≡ 1 → (k : ℕ) → IsMarked tables k → HasTable h r k
+  pub done : size ≤ most → (k : ℕ) → k < coded_blocks h → Seen k → HasTable h r k → IsMarked tables k
 
-pub none_marked : (Seen : ℕ → Type 0) (h : Header) (r : Pixels) (most size : ℕ) (tables : List ℕ) → coded_blocks h ≤ 64 * length tables → ((k : ℕ) → IsFlagged tables k → ⊥) → ((k : ℕ) → Seen k → ⊥) → AreMarked Seen h r most size tables
-none_marked Seen h r most size tables room none unseen = record { room = room; sound = λ k is. absurd (none k is); done = λ le k low seen has. absurd (unseen k seen) }
+pub none_marked : (Seen : ℕ → Type 0) (h : Header) (r : Pixels) (most size : ℕ) (tables : Flags) → coded_blocks h ≤ room_of tables → ((k : ℕ) → IsMarked tables k → ⊥) → ((k : ℕ) → Seen k → ⊥) → AreMarked Seen h r most size tables
+none_marked Seen h r most size tables room none unseen = record { room = room; sound = λ one k is. absurd (none k is); done = λ le k low seen has. absurd (unseen k seen) }
 
-pub more_marked : (Seen More : ℕ → Type 0) (h : Header) (r : Pixels) (most n a b : ℕ) (old new : List ℕ) → AreMarked Seen h r most a old → IsMore most n a b → AreMore h r old new
-    → (b ≤ most → (k : ℕ) → k < coded_blocks h → More k → HasTable h r k → Seen k ⊎ IsFlagged new k) → AreMarked More h r most b new
+pub more_marked : (Seen More : ℕ → Type 0) (h : Header) (r : Pixels) (most n a b : ℕ) (old new : Flags) → AreMarked Seen h r most a old → IsMore most n a b → AreMore h r old new
+    → (b ≤ most → (k : ℕ) → k < coded_blocks h → More k → HasTable h r k → Seen k ⊎ IsMarked new k) → AreMarked More h r most b new
 more_marked Seen More h r most n a b old new are size more here = record {
   room = let room = are.room in let long = more.room in omega (arith, room, long);
-  sound = λ k is. back k (more.sound k is);
+  sound = λ one k is. back (sym more.group ∙ one) k (more.sound one k is);
   done = λ le k low seen has. by k low has (size.within le).0 (here le k low seen has);
 }
   where
-    back : (k : ℕ) → IsFlagged old k ⊎ HasTable h r k → HasTable h r k
-    back k (inl set) = are.sound k set
-    back k (inr has) = has
+    back : old.group ≡ 1 → (k : ℕ) → IsMarked old k ⊎ HasTable h r k → HasTable h r k
+    back one k (inl set) = are.sound one k set
+    back one k (inr has) = has
 
-    by : (k : ℕ) → k < coded_blocks h → HasTable h r k → a ≤ most → Seen k ⊎ IsFlagged new k → IsFlagged new k
+    by : (k : ℕ) → k < coded_blocks h → HasTable h r k → a ≤ most → Seen k ⊎ IsMarked new k → IsMarked new k
     by k low has le (inl seen) = more.kept k (are.done le k low seen has)
     by k low has le (inr set) = set
 
-pub all_marked : (Seen : ℕ → Type 0) (h : Header) (r : Pixels) (most size : ℕ) (tables : List ℕ) → AreMarked Seen h r most size tables → size ≤ most → ((k : ℕ) → k < coded_blocks h → Seen k) → AreFlags h r (coded_blocks h) tables
+pub all_marked : (Seen : ℕ → Type 0) (h : Header) (r : Pixels) (most size : ℕ) (tables : Flags) → AreMarked Seen h r most size tables → size ≤ most → ((k : ℕ) → k < coded_blocks h → Seen k) → AreFlags h r (coded_blocks h) tables
 all_marked Seen h r most size tables are le all = record {
   room = are.room;
-  each = λ k low. (λ is. are.sound k is, λ has. are.done le k low (all k low) has);
+  each = λ k low has. are.done le k low (all k low) has;
+  sound = λ one k low is. are.sound one k is;
 }
 
 -- ---- those of side 16
 
-pub large_here : (h : Header) (r : Pixels) (n : ℕ) (spot : Spot) (tables : List ℕ) → IsSpot h n spot → (HasTableAt h r spot → IsFlagged tables n) → (k : ℕ) → k < n + 1 → HasTable h r k → (k < n) ⊎ IsFlagged tables k
+pub large_here : (h : Header) (r : Pixels) (n : ℕ) (spot : Spot) (tables : Flags) → IsSpot h n spot → (HasTableAt h r spot → IsMarked tables n) → (k : ℕ) → k < n + 1 → HasTable h r k → (k < n) ⊎ IsMarked tables k
 large_here h r n spot tables at flagged k low has = by (cases_lt k n)
   where
     same : n ≤ k → k ≡ n
     same high = omega (arith, high, low)
 
-    by : (k < n) ⊎ (n ≤ k) → (k < n) ⊎ IsFlagged tables k
+    by : (k < n) ⊎ (n ≤ k) → (k < n) ⊎ IsMarked tables k
     by (inl before) = inl before
-    by (inr high) = inr (subst (IsFlagged tables) (sym (same high)) (flagged (form_there h r n spot at ∙ subst (HasTable h r) (same high) has)))
+    by (inr high) = inr (subst (IsMarked tables) (sym (same high)) (flagged (form_there h r n spot at ∙ subst (HasTable h r) (same high) has)))
 
 -- ---- those of side 8
 
@@ -74,16 +76,16 @@ large_here h r n spot tables at flagged k low has = by (cases_lt k n)
 abbrev pub IsInFirst : Header → ℕ → ℕ → Type 0
 IsInFirst h n k = (m : ℕ) × ((m < n) × IsQuarter h m k)
 
-flag_of : (h : Header) (r : Pixels) → IsBlocked h r → (k : ℕ) → k < coded_blocks h → (spot : Spot) (tables : List ℕ) → IsSpot h k spot → IsFlaggedAt h r spot tables → HasTable h r k → IsFlagged tables k
-flag_of h r is k low spot tables at flagged has = subst (IsFlagged tables) (sym (spot_number h k spot is.side_above at)) (flagged (spot_within h r is k low spot at) (form_there h r k spot at ∙ has))
+flag_of : (h : Header) (r : Pixels) → IsBlocked h r → (k : ℕ) → k < coded_blocks h → (spot : Spot) (tables : Flags) → IsSpot h k spot → IsFlaggedAt h r spot tables → HasTable h r k → IsMarked tables k
+flag_of h r is k low spot tables at flagged has = subst (IsMarked tables) (sym (spot_number h k spot is.side_above at)) (flagged (spot_within h r is k low spot at) (form_there h r k spot at ∙ has))
 
 two : (i : ℕ) → i < 2 → (i ≡ 0) ⊎ (i ≡ 1)
 two zero low = inl refl
 two (suc zero) low = inr refl
 two (suc (suc i)) low = absurd (omega (arith, low))
 
-one_of : (h : Header) (r : Pixels) → IsBlocked h r → (k : ℕ) → k < coded_blocks h → (spot : Spot) (tables : List ℕ) (i j : ℕ) → IsSpot h k (record { row = spot.row + i * 8; col = spot.col + j * 8; d = spot.d }) → AreFlaggedAt h r spot tables → HasTable h r k
-    → (i ≡ 0) ⊎ (i ≡ 1) → (j ≡ 0) ⊎ (j ≡ 1) → IsFlagged tables k
+one_of : (h : Header) (r : Pixels) → IsBlocked h r → (k : ℕ) → k < coded_blocks h → (spot : Spot) (tables : Flags) (i j : ℕ) → IsSpot h k (record { row = spot.row + i * 8; col = spot.col + j * 8; d = spot.d }) → AreFlaggedAt h r spot tables → HasTable h r k
+    → (i ≡ 0) ⊎ (i ≡ 1) → (j ≡ 0) ⊎ (j ≡ 1) → IsMarked tables k
 one_of h r is k low spot tables i j at are has (inl a) (inl b) =
     flag_of h r is k low spot tables (record { row = (let e : spot.row ≡ spot.row + i * 8 = omega (arith, a) in e) ∙ at.row; col = (let e : spot.col ≡ spot.col + j * 8 = omega (arith, b) in e) ∙ at.col; depth = at.depth }) are.first has
 one_of h r is k low spot tables i j at are has (inl a) (inr b) =
@@ -93,14 +95,14 @@ one_of h r is k low spot tables i j at are has (inr a) (inl b) =
 one_of h r is k low spot tables i j at are has (inr a) (inr b) =
     flag_of h r is k low (corner spot) tables (record { row = (let e : spot.row + 8 ≡ spot.row + i * 8 = omega (arith, a) in e) ∙ at.row; col = (let e : spot.col + 8 ≡ spot.col + j * 8 = omega (arith, b) in e) ∙ at.col; depth = at.depth }) are.last has
 
-pub small_here : (h : Header) (r : Pixels) → IsBlocked h r → (n : ℕ) (spot : Spot) (tables : List ℕ) → IsSpot (record h { side = 16 }) n spot → AreFlaggedAt h r spot tables → (k : ℕ) → k < coded_blocks h → IsInFirst h (n + 1) k → HasTable h r k
-    → IsInFirst h n k ⊎ IsFlagged tables k
+pub small_here : (h : Header) (r : Pixels) → IsBlocked h r → (n : ℕ) (spot : Spot) (tables : Flags) → IsSpot (record h { side = 16 }) n spot → AreFlaggedAt h r spot tables → (k : ℕ) → k < coded_blocks h → IsInFirst h (n + 1) k → HasTable h r k
+    → IsInFirst h n k ⊎ IsMarked tables k
 small_here h r is n spot tables at are k low (m, (first, quarter)) has = by (cases_lt m n)
   where
     same : n ≤ m → n ≡ m
     same high = omega (arith, high, first)
 
-    by : (m < n) ⊎ (n ≤ m) → IsInFirst h n k ⊎ IsFlagged tables k
+    by : (m < n) ⊎ (n ≤ m) → IsInFirst h n k ⊎ IsMarked tables k
     by (inl before) = inl (m, (before, quarter))
     by (inr high) = inr (one_of h r is k low spot tables quarter.i quarter.j (quarter_spot h m k spot (subst (λ x. IsSpot (record h { side = 16 }) x spot) (same high) at) quarter) are has (two quarter.i quarter.low_i) (two quarter.j quarter.low_j))
 
@@ -113,8 +115,8 @@ small_more h r n spot at = quarters_more h r n ∙ ap (λ (s : Spot). quarters_s
 
 -- ---- at the end
 
-pub finished : (h : Header) (r : Pixels) (most total size : ℕ) (tables : List ℕ) → IsMore most total 0 size → total ≡ length (blocks_bytes h r) → most ≤ 67108865 → (size ≤ most → AreFlags h r (coded_blocks h) tables)
-    → (found : Option Measured) → MatchOption found (most < size) (λ m. (m.size ≡ size) × ((size ≤ most) × ((m.tables.items ≡ tables) × (Rises m.values.items × (length m.values.items ≤ 256)))))
+pub finished : (h : Header) (r : Pixels) (most total size : ℕ) (tables : Flags) → IsMore most total 0 size → total ≡ length (blocks_bytes h r) → most ≤ 67108865 → (size ≤ most → AreFlags h r (coded_blocks h) tables)
+    → (found : Option Measured) → MatchOption found (most < size) (λ m. (m.size ≡ size) × ((size ≤ most) × ((m.tables ≡ tables) × (Rises m.values.items × (length m.values.items ≤ 256)))))
     → MatchOption found (most < length (blocks_bytes h r)) (IsMeasured h r)
 finished h r most total size tables more all few flags None over = let less = more.over over in omega (arith, less, all)
 finished h r most total size tables more all few flags (Some m) is = record {
@@ -191,16 +193,16 @@ large_over h r most n a low more over =
     omega (arith, part, less, whole)
 
 -- all
-pub small_done : (h g : Header) (r : Pixels) (most n size : ℕ) (tables : List ℕ) → IsBlocked h r → h.side ≡ 8 → g ≡ record h { side = 16 } → n ≡ coded_blocks g → most ≤ 67108865 → IsMore most (quarters_so_far h r n) 0 size → AreMarked (IsInFirst h n) h r most size tables
-    → (found : Option Measured) → MatchOption found (most < size) (λ m. (m.size ≡ size) × ((size ≤ most) × ((m.tables.items ≡ tables) × (Rises m.values.items × (length m.values.items ≤ 256)))))
+pub small_done : (h g : Header) (r : Pixels) (most n size : ℕ) (tables : Flags) → IsBlocked h r → h.side ≡ 8 → g ≡ record h { side = 16 } → n ≡ coded_blocks g → most ≤ 67108865 → IsMore most (quarters_so_far h r n) 0 size → AreMarked (IsInFirst h n) h r most size tables
+    → (found : Option Measured) → MatchOption found (most < size) (λ m. (m.size ≡ size) × ((size ≤ most) × ((m.tables ≡ tables) × (Rises m.values.items × (length m.values.items ≤ 256)))))
     → MatchOption found (most < length (blocks_bytes h r)) (IsMeasured h r)
 small_done h g r most n size tables is side e all few more marked found was =
     let every : n ≡ coded_blocks (record h { side = 16 }) = all ∙ ap (λ (x : Header). coded_blocks x) e in
     finished h r most (quarters_so_far h r n) size tables more (ap (quarters_so_far h r) every ∙ quarters_all h r is side) few
     (λ le. all_marked (IsInFirst h n) h r most size tables marked le (λ k low. (let one = in_one h r is side k low in (one.0, (subst (λ j. one.0 < j) (sym every) one.1.0, one.1.1))))) found was
 
-pub large_done : (h : Header) (r : Pixels) (most n size : ℕ) (tables : List ℕ) → n ≡ coded_blocks h → most ≤ 67108865 → IsMore most (length (flat_map (coded_bytes h r) (range_with_len 0 n))) 0 size → AreMarked (λ i. i < n) h r most size tables
-    → (found : Option Measured) → MatchOption found (most < size) (λ m. (m.size ≡ size) × ((size ≤ most) × ((m.tables.items ≡ tables) × (Rises m.values.items × (length m.values.items ≤ 256)))))
+pub large_done : (h : Header) (r : Pixels) (most n size : ℕ) (tables : Flags) → n ≡ coded_blocks h → most ≤ 67108865 → IsMore most (length (flat_map (coded_bytes h r) (range_with_len 0 n))) 0 size → AreMarked (λ i. i < n) h r most size tables
+    → (found : Option Measured) → MatchOption found (most < size) (λ m. (m.size ≡ size) × ((size ≤ most) × ((m.tables ≡ tables) × (Rises m.values.items × (length m.values.items ≤ 256)))))
     → MatchOption found (most < length (blocks_bytes h r)) (IsMeasured h r)
 unfolding blocks_bytes
 large_done h r most n size tables all few more marked found was =

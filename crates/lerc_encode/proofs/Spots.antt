@@ -133,9 +133,6 @@ form_there h r k spot at = (λ t. chosen_form h.kind (at.col t) h.step (block_va
 pub table_there : (h : Header) (r : Pixels) (k : ℕ) (spot : Spot) (b : Bool) → IsSpot h k spot → IsTrue b ↔ HasTableAt h r spot → IsTrue b ↔ HasTable h r k
 table_there h r k spot b at is = subst (λ (form : micro.WrittenForm). IsTrue b ↔ (form ≡ micro.table)) (form_there h r k spot at) is
 
-pub table_here : (h : Header) (r : Pixels) (k : ℕ) (spot : Spot) (b : Bool) → IsSpot h k spot → IsTrue b ↔ HasTable h r k → IsTrue b ↔ HasTableAt h r spot
-table_here h r k spot b at is = subst (λ (form : micro.WrittenForm). IsTrue b ↔ (form ≡ micro.table)) (sym (form_there h r k spot at)) is
-
 -- ---- what is gathered
 
 -- no value is above the greatest of its type

@@ -1,8 +1,10 @@
 // The chosen blocks of a raster: how many bytes they take, which have a table, and their bytes.
 
-ghost use Rattle.std.specs.Prelude.{◌≡◌, ℕ, ◌+◌, ◌*◌, ◌<◌, ◌≤◌, ◌↔◌, ◌++◌, All, drop, length, map, take, IfOk, IsTrue};
+ghost use Rattle.std.specs.Prelude.{◌≡◌, ℕ, ◌+◌, ◌*◌, ◌<◌, ◌≤◌, ◌≤ℤ◌, ◌↔◌, ◌++◌, All, drop, length, map, take, IfOk, IsTrue};
 ghost use Rattle.lut_stuff.specs.Names.{AreNames};
 ghost use Rattle.lut_stuff.specs.Ranked.{AreRanked, Rises};
+ghost use Rattle.micro_block.specs.ChosenBlock as micro;
+ghost use Rattle.micro_block.specs.ChosenBlock.{chosen_form};
 ghost use Rattle.micro_block.specs.Frame.{IsBlockCtx};
 ghost use Rattle.raster_values.specs.Distance.{IsDistance, value_above};
 ghost use Rattle.raster_values.specs.PixelType.{type_greatest};
@@ -10,10 +12,10 @@ ghost use Rattle.lerc_grammar.specs.Blocks.{blocks_across, coded_blocks};
 ghost use Rattle.lerc_encode.specs.Images.{blocks_bytes};
 ghost use Rattle.lerc_encode.specs.inside.Blocked.{AreFlags, HasTableAt, IsBlocked, IsSpot, IsWithin, bytes_at, values_at};
 
-use crate::flags::is_set;
+use crate::flags::{Flags, are_single, is_marked};
 use lerc_header::Header;
 use lut_stuff::{Names, Ranks};
-use micro_block::{BlockCtx, write_ranked};
+use micro_block::{BlockCtx, block_size, write_ranked};
 use raster_view::View;
 use std::alloc::{AllocError, Global};
 
@@ -40,8 +42,8 @@ pub(crate) const FIRST: Spot = Spot {
 pub(crate) struct Measured {
     /// How many bytes they take together.
     pub(crate) size: usize,
-    /// Which of them have a table, a flag for each: it would take long to find that again.
-    pub(crate) tables: Vec<u64>,
+    /// In which groups of them one has a table: it would take long to find that again for each.
+    pub(crate) tables: Flags,
     /// The different values, as how far they are above the least of their type, in rising order,
     /// where these are few and far apart; else none.
     pub(crate) values: Vec<u32>,
@@ -127,12 +129,31 @@ pub(crate) fn gather<V: View>(h: &Header, raster: &V, spot: Spot, distances: &mu
     raster.gather_distances(spot.row, spot.col, h.side, spot.d, distances)
 }
 
-/// Writes the block at a spot over the front of `out`, and answers how many bytes it takes.
+/// Whether a block of values has a table. Where the flag of its group is set that is found again,
+/// unless the group has no other block.
+fn has_table(flag: bool, alone: bool, distances: &[u32], ctx: &BlockCtx) -> bool
+    requires few { length distances.now ≤ 256 }
+    requires ctx { IsBlockCtx ctx.now }
+    requires in_range { All (IsDistance ctx.now.kind) distances.now }
+    requires capped { All (λ v. v ≤ℤ ctx.now.top) (map (value_above ctx.now.kind) distances.now) }
+    requires flag { let values = map (value_above ctx.now.kind) distances.now in
+        (chosen_form ctx.now.kind ctx.now.col ctx.now.step values ≡ micro.table) → IsTrue flag }
+    requires alone { let values = map (value_above ctx.now.kind) distances.now in
+        IsTrue alone → IsTrue flag → chosen_form ctx.now.kind ctx.now.col ctx.now.step values ≡ micro.table }
+    ensures { let values = map (value_above ctx.now.kind) distances.now in
+        IsTrue result ↔ (chosen_form ctx.now.kind ctx.now.col ctx.now.step values ≡ micro.table) }
+{
+    flag && (alone || block_size(distances, ctx).has_table)
+}
+
+/// Writes the block at a spot over the front of `out`, and answers how many bytes it takes. It is told
+/// whether the flag of its group is set, and whether it is alone in that.
 fn write_at<V: View>(
     h: &Header,
     raster: &V,
     spot: Spot,
-    has_table: bool,
+    flag: bool,
+    alone: bool,
     ranks: &mut Ranks,
     distances: &mut [u32],
     out: &mut [u8],
@@ -141,7 +162,8 @@ fn write_at<V: View>(
     requires within { IsWithin h.now spot }
     requires ranks { AreRanked ranks.old }
     requires room { length distances.old ≡ 256 }
-    requires table { IsTrue has_table ↔ HasTableAt h.now (V.pixels raster.now) spot }
+    requires flag { HasTableAt h.now (V.pixels raster.now) spot → IsTrue flag }
+    requires alone { IsTrue alone → IsTrue flag → HasTableAt h.now (V.pixels raster.now) spot }
     requires fits { length (bytes_at h.now (V.pixels raster.now) spot) ≤ length out.old }
     ensures ranks { AreRanked ranks.new }
     ensures count { result ≡ length (bytes_at h.now (V.pixels raster.now) spot) }
@@ -150,6 +172,7 @@ fn write_at<V: View>(
 {
     let n = gather(h, raster, spot, distances);
     let ctx = context(h, raster, spot.col);
+    let has_table = has_table(flag, alone, &distances[..n], &ctx);
     write_ranked(&distances[..n], &ctx, has_table, ranks, out)
 }
 
@@ -172,7 +195,7 @@ pub(crate) fn sorted_values(alloc: Global, names: &Names) -> Result<Vec<u32>, Al
 pub(crate) fn write_blocks<V: View>(
     h: &Header,
     raster: &V,
-    tables: &[u64],
+    tables: &Flags,
     values: &[u32],
     out: &mut [u8],
 )
@@ -183,6 +206,7 @@ pub(crate) fn write_blocks<V: View>(
     requires room { length out.old ≡ length (blocks_bytes h.now (V.pixels raster.now)) }
     ensures { out.new ≡ blocks_bytes h.now (V.pixels raster.now) }
 {
+    let alone = are_single(tables);
     let mut ranks = Ranks::new(values);
     let mut distances = [0; MOST];
     let mut spot = FIRST;
@@ -192,7 +216,8 @@ pub(crate) fn write_blocks<V: View>(
             h,
             raster,
             spot,
-            is_set(tables, k),
+            is_marked(tables, k),
+            alone,
             &mut ranks,
             &mut distances,
             &mut out[at..],

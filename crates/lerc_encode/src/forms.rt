@@ -15,6 +15,7 @@ ghost use Rattle.lerc_encode.specs.inside.Choosing.{AreRanges, IsBase, IsChosen,
 use crate::blocks::{Measured, write_blocks};
 use crate::choosing::Chosen;
 use crate::codings::{has_mode, write_coded_form};
+use crate::flags::Flags;
 use crate::ranging::Ranges;
 use crate::symbols::SymbolMode;
 use lerc_header::{Header, Version};
@@ -80,8 +81,9 @@ fn write_sweep<V: View>(raster: &V, out: &mut [u8])
     raster.value_bytes(&mut out[1..]);
 }
 
-/// Writes the form of blocks, of which those that are told have tables, some of these values.
-fn write_measured<V: View>(h: &Header, raster: &V, tables: &[u64], values: &[u32], out: &mut [u8])
+/// Writes the form of blocks, of which some in the groups that are told have tables, some of these
+/// values.
+fn write_measured<V: View>(h: &Header, raster: &V, tables: &Flags, values: &[u32], out: &mut [u8])
     requires blocked { IsBlocked h.now (V.pixels raster.now) }
     requires tables { AreFlags h.now (V.pixels raster.now) (coded_blocks h.now) tables.now }
     requires rises { Rises values.now }

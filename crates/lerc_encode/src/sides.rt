@@ -1,6 +1,6 @@
 // The blocks of both sides from one walk: with each block of 16 rows and columns those of 8 in it.
 
-ghost use Rattle.std.specs.Prelude.{◌≡◌, ℕ, ◌+◌, ◌*◌, ◌/◌, ◌%◌, ◌<◌, ◌≤◌, ◌↔◌, ◌⊎◌, ◌++◌, All, length, map, take, IfOk, IsTrue, MatchOption};
+ghost use Rattle.std.specs.Prelude.{◌≡◌, ℕ, ◌+◌, ◌*◌, ◌/◌, ◌%◌, ◌^◌, ◌<◌, ◌≤◌, ◌↔◌, ◌⊎◌, ◌++◌, All, length, map, take, IfOk, IsTrue, MatchOption};
 ghost use Rattle.lut_stuff.specs.Names.{AreNames, KeepsNames};
 ghost use Rattle.lut_stuff.specs.Ranked.{Rises};
 ghost use Rattle.micro_block.specs.Named.{AreNamed};
@@ -8,10 +8,10 @@ ghost use Rattle.micro_block.specs.ChosenBlock as micro;
 ghost use Rattle.micro_block.specs.ChosenBlock.{block_bytes, chosen_form};
 ghost use Rattle.raster_values.specs.Distance.{IsDistance, value_above};
 ghost use Rattle.raster_values.specs.Block.{block_values};
-ghost use Rattle.raster_values.specs.PixelType.{type_greatest, InRange};
-ghost use Rattle.lerc_grammar.specs.Blocks.{coded_blocks};
+ghost use Rattle.raster_values.specs.PixelType.{InRange};
+ghost use Rattle.lerc_grammar.specs.Blocks.{blocks_across, blocks_down, coded_blocks};
 ghost use Rattle.lerc_encode.specs.Images.{blocks_bytes};
-ghost use Rattle.lerc_encode.specs.inside.Flags.{IsFlagged};
+ghost use Rattle.lerc_encode.specs.inside.Flags.{IsMarked, room_of};
 ghost use Rattle.lerc_encode.specs.inside.Blocked.{HasTableAt, IsBlocked, IsMeasured, IsSpot, IsWithin, bytes_at};
 ghost use Rattle.lerc_encode.specs.inside.Sides as inside;
 ghost use Rattle.lerc_encode.specs.inside.Sides.{AreFlaggedAt, AreMore, IsFlaggedAt, IsMore, four_sizes, four_values, number_at};
@@ -19,19 +19,19 @@ ghost use Rattle.lerc_encode.specs.inside.Sides.{AreFlaggedAt, AreMore, IsFlagge
 use crate::blocks::{
     FIRST, MOST, Measured, Spot, across, context, count, gather, next_spot, sorted_values,
 };
-use crate::flags::{set_where, words_of};
+use crate::flags::{Flags, mark_where, no_flags};
 use lerc_header::Header;
 use lut_stuff::Names;
 use micro_block::{BlockSize, size_and_names};
 use raster_view::View;
 use std::alloc::{AllocError, Global};
 
-/// What is known of the blocks of a side that were looked at: how many bytes they take, and which
-/// of them have a table.
+/// What is known of the blocks of a side that were looked at: how many bytes they take, and in which
+/// groups of them one has a table.
 #[derive(Drop)]
 pub(crate) struct Tally {
     size: usize,
-    tables: Vec<u64>,
+    tables: Flags,
 }
 
 /// What is known of the blocks of both sides; none of a side whose blocks take too many bytes.
@@ -43,14 +43,29 @@ pub(crate) struct Sides {
     pub(crate) large: Option<Measured>,
 }
 
+/// The most flags of a row of blocks, those of all depths together.
+const MOST_FLAGS: usize = 1024;
+
+/// How many blocks, one behind the other, have one flag: as few as leave a row of blocks no more
+/// flags than that.
+fn group_of<V: View>(h: &Header, raster: &V) -> usize
+    requires { IsBlocked h.now (V.pixels raster.now) }
+    ensures value { result ≡ (blocks_across h.now * h.now.depth + 1023) / 1024 }
+    ensures some { 0 < result }
+    ensures few { result < 2 ^ 31 }
+{
+    (across(h, raster) * h.depth as usize + MOST_FLAGS - 1) / MOST_FLAGS
+}
+
 /// Nothing is known yet of the blocks of a side.
 fn no_tally<V: View>(alloc: Global, h: &Header, raster: &V) -> Result<Tally, AllocError>
     requires { IsBlocked h.now (V.pixels raster.now) }
     ensures size { IfOk result (λ t. t.size ≡ 0) }
-    ensures room { IfOk result (λ t. coded_blocks h.now ≤ 64 * length t.tables.items) }
-    ensures none { IfOk result (λ t. (k : ℕ) → IsFlagged t.tables.items k → ⊥) }
+    ensures few { IfOk result (λ t. length t.tables.words.items ≤ 16 * blocks_down h.now) }
+    ensures room { IfOk result (λ t. coded_blocks h.now ≤ room_of t.tables) }
+    ensures none { IfOk result (λ t. (k : ℕ) → IsMarked t.tables k → ⊥) }
 {
-    let tables = vec![in alloc; 0u64; words_of(count(h, raster))]?;
+    let tables = no_flags(alloc, count(h, raster), group_of(h, raster))?;
     Ok(Tally { size: 0, tables })
 }
 
@@ -73,16 +88,17 @@ fn number_of<V: View>(h: &Header, raster: &V, spot: Spot) -> usize
 fn add(tally: &mut Tally, k: usize, found: BlockSize)
     requires few { tally.old.size ≤ 67108865 }
     requires short { found.len ≤ 1025 }
-    requires within { k < 64 * length tally.old.tables.items }
+    requires within { k < room_of tally.old.tables }
     ensures size { tally.new.size ≡ tally.old.size + found.len }
-    ensures room { length tally.new.tables.items ≡ length tally.old.tables.items }
-    ensures this { IsFlagged tally.new.tables.items k
-        ↔ (IsFlagged tally.old.tables.items k ⊎ IsTrue found.has_table) }
-    ensures others { (i : ℕ) → (i ≡ k → ⊥)
-        → IsFlagged tally.new.tables.items i ↔ IsFlagged tally.old.tables.items i }
+    ensures room { room_of tally.new.tables ≡ room_of tally.old.tables }
+    ensures group { tally.new.tables.group ≡ tally.old.tables.group }
+    ensures this { IsMarked tally.new.tables k
+        ↔ (IsMarked tally.old.tables k ⊎ IsTrue found.has_table) }
+    ensures others { (i : ℕ) → (i / tally.old.tables.group ≡ k / tally.old.tables.group → ⊥)
+        → IsMarked tally.new.tables i ↔ IsMarked tally.old.tables i }
 {
     tally.size += found.len;
-    set_where(&mut tally.tables, k, found.has_table);
+    mark_where(&mut tally.tables, k, found.has_table);
 }
 
 /// Looks at the block at a spot, whose number is k and whose values, in some order, are gathered,
@@ -111,16 +127,16 @@ fn tally_block<V: View>(
         ≡ length (bytes_at h.now (V.pixels raster.now) spot) }
     requires table { (chosen_form h.now.kind spot.col h.now.step (map (value_above h.now.kind) distances.now) ≡ micro.table)
         ↔ HasTableAt h.now (V.pixels raster.now) spot }
-    requires within { k < 64 * length tally.old.tables.items }
+    requires within { k < room_of tally.old.tables }
     requires room { length found.old ≡ length distances.now }
     requires known { IsTrue known.old → AreNamed names.old distances.now found.old }
     ensures names { AreNames names.new }
     ensures kept { KeepsNames names.old names.new }
     ensures known { IsTrue known.new → AreNamed names.new distances.now found.new }
     ensures size { IsMore most (length (bytes_at h.now (V.pixels raster.now) spot)) tally.old.size tally.new.size }
-    ensures tables { AreMore h.now (V.pixels raster.now) tally.old.tables.items tally.new.tables.items }
+    ensures tables { AreMore h.now (V.pixels raster.now) tally.old.tables tally.new.tables }
     ensures this { tally.new.size ≤ most → HasTableAt h.now (V.pixels raster.now) spot
-        → IsFlagged tally.new.tables.items k }
+        → IsMarked tally.new.tables k }
 {
     if tally.size > most {
         return;
@@ -157,7 +173,7 @@ fn tally_part<V: View>(
     requires names { AreNames names.old }
     requires room { 64 ≤ length distances.old }
     requires beside { length found.old ≡ length distances.old }
-    requires tables { coded_blocks h.now ≤ 64 * length tally.old.tables.items }
+    requires tables { coded_blocks h.now ≤ room_of tally.old.tables }
     ensures names { AreNames names.new }
     ensures kept { KeepsNames names.old names.new }
     ensures few { result ≤ 64 }
@@ -166,9 +182,9 @@ fn tally_part<V: View>(
     ensures are { map (value_above h.now.kind) (take result distances.new)
         ≡ block_values (V.pixels raster.now) spot.row spot.col 8 spot.d }
     ensures size { IsMore most (inside.size_at h.now (V.pixels raster.now) spot) tally.old.size tally.new.size }
-    ensures tables { AreMore h.now (V.pixels raster.now) tally.old.tables.items tally.new.tables.items }
+    ensures tables { AreMore h.now (V.pixels raster.now) tally.old.tables tally.new.tables }
     ensures this { tally.new.size ≤ most
-        → IsFlaggedAt h.now (V.pixels raster.now) spot tally.new.tables.items }
+        → IsFlaggedAt h.now (V.pixels raster.now) spot tally.new.tables }
 {
     if spot.row >= h.rows || spot.col >= h.cols {
         *known = true;
@@ -217,7 +233,7 @@ fn tally_behind<V: View>(
     requires beside { length found.old ≡ length distances.old }
     requires known { IsTrue known.old → AreNamed names.old (take at distances.old) (take at found.old) }
     requires fit { All (IsDistance h.now.kind) (take at distances.old) }
-    requires tables { coded_blocks h.now ≤ 64 * length tally.old.tables.items }
+    requires tables { coded_blocks h.now ≤ room_of tally.old.tables }
     ensures names { AreNames names.new }
     ensures few { result ≤ at + 64 }
     ensures room { length distances.new ≡ length distances.old }
@@ -228,9 +244,9 @@ fn tally_behind<V: View>(
         ≡ map (value_above h.now.kind) (take at distances.old)
         ++ block_values (V.pixels raster.now) spot.row spot.col 8 spot.d }
     ensures size { IsMore most (inside.size_at h.now (V.pixels raster.now) spot) tally.old.size tally.new.size }
-    ensures tables { AreMore h.now (V.pixels raster.now) tally.old.tables.items tally.new.tables.items }
+    ensures tables { AreMore h.now (V.pixels raster.now) tally.old.tables tally.new.tables }
     ensures this { tally.new.size ≤ most
-        → IsFlaggedAt h.now (V.pixels raster.now) spot tally.new.tables.items }
+        → IsFlaggedAt h.now (V.pixels raster.now) spot tally.new.tables }
 {
     let mut more = false;
     let n = tally_part(
@@ -271,7 +287,7 @@ fn tally_parts<V: View>(
     requires names { AreNames names.old }
     requires room { length distances.old ≡ 256 }
     requires beside { length found.old ≡ 256 }
-    requires tables { coded_blocks h.now ≤ 64 * length tally.old.tables.items }
+    requires tables { coded_blocks h.now ≤ room_of tally.old.tables }
     ensures names { AreNames names.new }
     ensures few { result ≤ 256 }
     ensures room { length distances.new ≡ 256 }
@@ -281,9 +297,9 @@ fn tally_parts<V: View>(
     ensures are { map (value_above h.now.kind) (take result distances.new)
         ≡ four_values (V.pixels raster.now) spot }
     ensures size { IsMore most (four_sizes h.now (V.pixels raster.now) spot) tally.old.size tally.new.size }
-    ensures tables { AreMore h.now (V.pixels raster.now) tally.old.tables.items tally.new.tables.items }
+    ensures tables { AreMore h.now (V.pixels raster.now) tally.old.tables tally.new.tables }
     ensures these { tally.new.size ≤ most
-        → AreFlaggedAt h.now (V.pixels raster.now) spot tally.new.tables.items }
+        → AreFlaggedAt h.now (V.pixels raster.now) spot tally.new.tables }
 {
     let right = Spot {
         col: spot.col + 8,
@@ -336,17 +352,17 @@ fn tally_both<V: View>(
     requires names { AreNames names.old }
     requires room { length distances.old ≡ 256 }
     requires beside { length found.old ≡ 256 }
-    requires eights { coded_blocks small.now ≤ 64 * length eights.old.tables.items }
-    requires sixteens { coded_blocks large.now ≤ 64 * length sixteens.old.tables.items }
+    requires eights { coded_blocks small.now ≤ room_of eights.old.tables }
+    requires sixteens { coded_blocks large.now ≤ room_of sixteens.old.tables }
     ensures names { AreNames names.new }
     ensures small_size { IsMore most (four_sizes small.now (V.pixels raster.now) spot) eights.old.size eights.new.size }
-    ensures small_tables { AreMore small.now (V.pixels raster.now) eights.old.tables.items eights.new.tables.items }
+    ensures small_tables { AreMore small.now (V.pixels raster.now) eights.old.tables eights.new.tables }
     ensures small_these { eights.new.size ≤ most
-        → AreFlaggedAt small.now (V.pixels raster.now) spot eights.new.tables.items }
+        → AreFlaggedAt small.now (V.pixels raster.now) spot eights.new.tables }
     ensures large_size { IsMore most (length (bytes_at large.now (V.pixels raster.now) spot)) sixteens.old.size sixteens.new.size }
-    ensures large_tables { AreMore large.now (V.pixels raster.now) sixteens.old.tables.items sixteens.new.tables.items }
+    ensures large_tables { AreMore large.now (V.pixels raster.now) sixteens.old.tables sixteens.new.tables }
     ensures large_this { sixteens.new.size ≤ most → HasTableAt large.now (V.pixels raster.now) spot
-        → IsFlagged sixteens.new.tables.items k }
+        → IsMarked sixteens.new.tables k }
 {
     let mut known = false;
     let n = tally_parts(
@@ -375,7 +391,7 @@ fn measured_of(
 ) -> Result<Option<Measured>, AllocError>
     requires { AreNames names.now }
     ensures { IfOk result (λ found. MatchOption found (most < tally.size)
-        (λ m. (m.size ≡ tally.size) × ((tally.size ≤ most) × ((m.tables.items ≡ tally.tables.items)
+        (λ m. (m.size ≡ tally.size) × ((tally.size ≤ most) × ((m.tables ≡ tally.tables)
         × (Rises m.values.items × (length m.values.items ≤ 256)))))) }
 {
     if tally.size > most {

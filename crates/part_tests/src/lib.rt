@@ -26,6 +26,8 @@ mod masked_rows;
 #[cfg(test)]
 mod names;
 #[cfg(test)]
+mod next_runs;
+#[cfg(test)]
 mod numbered;
 #[cfg(test)]
 mod prefixes;

@@ -4,3 +4,4 @@ pub use Rattle.raster_values.specs.Raster
 pub use Rattle.raster_values.specs.Block
 pub use Rattle.raster_values.specs.Order
 pub use Rattle.raster_values.specs.Flat
+pub use Rattle.raster_values.specs.MarkRuns

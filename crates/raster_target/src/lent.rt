@@ -1,7 +1,7 @@
 //! A raster of `raster_values` whose mask and values lie in a caller's arrays.
 
 use crate::target::Target;
-use raster_values::{Lent, PixelType};
+use raster_values::{Lent, PixelType, Run};
 
 impl<'v, 'm> Target for Lent<'v, 'm> {
     ghost use Rattle.raster_values.specs.Lent.{Frame, IsLent, frame_of, lent_pixels};
@@ -37,6 +37,10 @@ impl<'v, 'm> Target for Lent<'v, 'm> {
 
     fn marks_from(&self, place: usize, out: &mut [bool]) {
         Lent::marks_from(self, place, out);
+    }
+
+    fn next_run(&self, place: usize, limit: usize) -> Run {
+        Lent::next_run(self, place, limit)
     }
 
     fn values_from(&self, place: usize, d: u32, out: &mut [i64]) {

@@ -4,7 +4,7 @@ ghost use Rattle.std.specs.Prelude.{◌≡◌};
 ghost use Rattle.raster_values.specs.Raster.{Pixels, IsRaster};
 
 use crate::target::Target;
-use raster_values::{PixelType, Raster};
+use raster_values::{PixelType, Raster, Run};
 
 /// What holds of each raster, for the proofs.
 fn note_sound(raster: &Raster)
@@ -44,6 +44,10 @@ impl Target for Raster {
 
     fn marks_from(&self, place: usize, out: &mut [bool]) {
         Raster::marks_from(self, place, out);
+    }
+
+    fn next_run(&self, place: usize, limit: usize) -> Run {
+        Raster::next_run(self, place, limit)
     }
 
     fn values_from(&self, place: usize, d: u32, out: &mut [i64]) {

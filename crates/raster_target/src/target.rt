@@ -1,14 +1,15 @@
 //! What fills a raster sees of it.
 
-ghost use Rattle.std.specs.Prelude.{◌≡◌, ◌+◌, ◌*◌, ◌<◌, ◌≤◌, ℕ, pos, false, None, is_some, get_or, length, map, All};
+ghost use Rattle.std.specs.Prelude.{◌≡◌, ◌+◌, ◌*◌, ◌<◌, ◌≤◌, ℕ, pos, false, None, false, is_some, get_or, length, map, true, All};
 ghost use Rattle.lane_kernels.specs.Kernels.{IsStepSize, capped_sums};
 ghost use Rattle.raster_values.specs.PixelType.{InRange, bytes_of};
 ghost use Rattle.raster_values.specs.Raster.{Pixels, IsRaster, InShape, valid_count};
 ghost use Rattle.raster_values.specs.Block.{block_count, PoursBlock};
 ghost use Rattle.raster_values.specs.Order.{FillsValid, PoursBytes};
-ghost use Rattle.raster_values.specs.Flat.{PutsFrom, value_in};
+ghost use Rattle.raster_values.specs.Flat.{PutsFrom, marks_of, value_in};
+ghost use Rattle.raster_values.specs.MarkRuns.{AreRuns};
 
-use raster_values::PixelType;
+use raster_values::{PixelType, Run};
 
 /// A raster whose type, shape and mask stand, and whose valid pixels are given their values,
 /// however it is kept.
@@ -64,6 +65,18 @@ pub trait Target {
         ensures room { length out.new ≡ length out.old }
         ensures marks { (i : ℕ) → i < length out.old → get_or out.new i false
             ≡ is_some (get_or (pixels self.now).pixels (place + i) None) };
+
+    /// The next run of valid pixels from number `place` on, before number `limit`, whole. It is empty,
+    /// and at `limit`, where there is none.
+    fn next_run(&self, place: usize, limit: usize) -> Run
+        requires sound { sound self.now }
+        requires order { place ≤ limit }
+        requires within { limit ≤ (pixels self.now).rows * (pixels self.now).cols }
+        ensures runs { AreRuns (marks_of (pixels self.now)) place result.start result.end }
+        ensures within { result.end ≤ limit }
+        ensures begins { result.start < limit → get_or (marks_of (pixels self.now)) result.start false ≡ true }
+        ensures ends { result.end < limit → get_or (marks_of (pixels self.now)) result.end false ≡ false }
+        ensures forth { place < limit → place < result.end };
 
     /// The values at a depth of the pixels from number `place` on, 0 of invalid ones.
     fn values_from(&self, place: usize, d: u32, out: &mut [i64])

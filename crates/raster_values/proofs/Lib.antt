@@ -56,6 +56,7 @@ mod MixedRuns
 mod GatheredRuns
 mod FullWidth
 mod MarkWords
+mod FrontBits
 mod PouredWords
 mod GivenRuns
 mod GivenSums

@@ -45,7 +45,7 @@ big_bit (suc n) i q bytes are within =
     (cases_lt q 8)
 
 -- a run of the bits of a number
-full : (count : ℕ) → count ≤ 32 → 4294967295 / 2 ^ (32 - count) ≡ 2 ^ count - 1
+pub full : (count : ℕ) → count ≤ 32 → 4294967295 / 2 ^ (32 - count) ≡ 2 ^ count - 1
 full count few = ones_shr 32 (32 - count) (omega arith) ∙ ap (λ k. 2 ^ k - 1) (let e : 32 - (32 - count) ≡ count = omega arith in e)
 
 pub cut_below : (number s count : ℕ) → count ≤ 32 → bit_and (number / 2 ^ s) (4294967295 / 2 ^ (32 - count)) < 2 ^ count

@@ -7,10 +7,7 @@ use Rattle.std.proofs.lemmas.List.FromFn.{length-range_with_len, get_or-range_wi
 use Rattle.std.proofs.lemmas.List.Sums.{sum_by-set, sum_by-cons, count_by-le-length}
 use Rattle.std.proofs.lemmas.Bool.{cases_eq, cases_lt}
 use Rattle.std.proofs.lemmas.Bool.Decides.{nat_tests}
-use Rattle.std.proofs.lemmas.Nat.Bits.{bit_at_set_same, bit_at_set_other, bit_at_clear_same, bit_at_clear_other, bit_at_and, bit_at_not, bit_at_mask_inside, bit_at_mask_below, bit_at-lt, bit_at-zero, bit_at_ones, ones_shl, ones_shr}
-use Rattle.std.proofs.lemmas.Nat.{and_le_r, leading_le, leading_length, pow_pos}
-use Rattle.std.proofs.Math.Nat.{div-eq_of_lt, div-eq_of_lt-le, div-le_self, pow-le-pow_right, pow-succ'}
-use lib.Count.{count_leading_zeros}
+use Rattle.std.proofs.lemmas.Nat.Bits.{bit_at_set_same, bit_at_set_other, bit_at_clear_same, bit_at_clear_other, bit_at_and, bit_at_mask_inside, bit_at_mask_below, bit_at-lt, bit_at-zero, bit_at_ones, ones_shl}
 use Rattle.std.specs.Prelude.{bit_and, bit_or, min}
 use Rattle.std.specs.Int.{bit_at}
 use mir.Syntax.{w8}
@@ -67,72 +64,6 @@ bit_in_front byte count q above below within =
     let gone : min (bit_at byte (7 - q)) (bit_at (2 ^ 8 - 2 ^ k) (7 - q)) ≡ 0 = omega (arith, none) in
     ap (λ n. nat_eq n 1) (both ∙ gone) ∙ ap (λ u. u && byte_bit byte q) (sym t))
     (cases_lt q count)
-
--- the bits before the first 1 of those from one of them on
-pub zeros_before : (byte from q : ℕ) → from < 8 → from ≤ q → q < count_leading_zeros 8 (bit_and byte (255 / 2 ^ from)) → byte_bit byte q ≡ false
-zeros_before byte from q at low below =
-    let rest = bit_and byte (255 / 2 ^ from) in
-    let full : 255 / 2 ^ from ≡ 2 ^ (8 - from) - 1 = ones_shr 8 from (omega (arith, at)) in
-    let small : rest < 2 ^ 8 = omega (arith, and_le_r byte (255 / 2 ^ from), div-le_self 255 (2 ^ from)) in
-    let top = leading_length 8 rest small in
-    let within : top.0 ≤ 7 - q = omega (arith, top.1, below) in
-    let longer : 2 ^ top.0 ≤ 2 ^ (7 - q) = pow-le-pow_right (omega arith) within in
-    let under : rest < 2 ^ (7 - q) = omega (arith, top.2, longer) in
-    let none : bit_at rest (7 - q) ≡ 0 = ap (λ n. n % 2) (div-eq_of_lt under) in
-    let inside : 7 - q < 8 - from = omega (arith, low, at, below, leading_le 8 rest) in
-    let one : bit_at (255 / 2 ^ from) (7 - q) ≡ 1 = ap (λ n. bit_at n (7 - q)) full ∙ bit_at_ones (8 - from) (7 - q) inside in
-    let gone : bit_at byte (7 - q) ≡ 0 = omega (arith, none, one, bit_at_and byte (255 / 2 ^ from) (7 - q), bit_at-lt byte (7 - q)) in
-    ap (λ n. nat_eq n 1) gone
-
--- bits cleared at the front are zeros at the front
-pub zeros_past : (byte from : ℕ) → from < 8 → from ≤ count_leading_zeros 8 (bit_and byte (255 / 2 ^ from))
-zeros_past byte from at =
-    let rest = bit_and byte (255 / 2 ^ from) in
-    let small : rest < 2 ^ 8 = omega (arith, and_le_r byte (255 / 2 ^ from), div-le_self 255 (2 ^ from)) in
-    let full : 255 / 2 ^ from ≡ 2 ^ (8 - from) - 1 = ones_shr 8 from (omega (arith, at)) in
-    let top = leading_length 8 rest small in
-    let double : 2 ^ suc (8 - from) ≡ 2 * 2 ^ (8 - from) = pow-succ' 2 (8 - from) in
-    ⊎_elim
-    (λ (less : count_leading_zeros 8 rest < from).
-    let longer : 2 ^ suc (8 - from) ≤ 2 ^ top.0 = pow-le-pow_right (omega arith) (omega (arith, top.1, less, at)) in
-    absurd (let no : ⊥ = omega (arith, longer, double, top.3, and_le_r byte (255 / 2 ^ from), full, pow_pos (8 - from)) in no))
-    (λ (past : from ≤ count_leading_zeros 8 rest). past)
-    (cases_lt (count_leading_zeros 8 rest) from)
-
--- the bit behind them
-pub one_after : (byte from q : ℕ) → from < 8 → q ≡ count_leading_zeros 8 (bit_and byte (255 / 2 ^ from)) → q < 8 → byte_bit byte q ≡ true
-one_after byte from q at is within =
-    let rest = bit_and byte (255 / 2 ^ from) in
-    let small : rest < 2 ^ 8 = omega (arith, and_le_r byte (255 / 2 ^ from), div-le_self 255 (2 ^ from)) in
-    let top = leading_length 8 rest small in
-    let place : top.0 ≡ suc (7 - q) = omega (arith, top.1, is, within) in
-    let under : rest < 2 ^ suc (7 - q) = subst (λ n. rest < 2 ^ n) place top.2 in
-    let over : 2 ^ suc (7 - q) ≤ 2 * rest + 1 = subst (λ n. 2 ^ n ≤ 2 * rest + 1) place top.3 in
-    let double : 2 ^ suc (7 - q) ≡ 2 * 2 ^ (7 - q) = pow-succ' 2 (7 - q) in
-    let least : 1 * 2 ^ (7 - q) ≤ rest = omega (arith, over, double) in
-    let most : rest < 2 * 2 ^ (7 - q) = omega (arith, under, double) in
-    let quotient : rest / 2 ^ (7 - q) ≡ 1 = div-eq_of_lt-le (2 ^ (7 - q)) least most in
-    let one : bit_at rest (7 - q) ≡ 1 = ap (λ n. n % 2) quotient in
-    let set : bit_at byte (7 - q) ≡ 1 = omega (arith, one, bit_at_and byte (255 / 2 ^ from) (7 - q), bit_at-lt byte (7 - q), bit_at-lt (255 / 2 ^ from) (7 - q)) in
-    ap (λ n. nat_eq n 1) set
-
--- where a bit of the other byte is 0, it is 1
-pub other_bit : (byte q : ℕ) → byte < 256 → q < 8 → byte_bit (255 - byte) q ≡ false → byte_bit byte q ≡ true
-other_bit byte q small within zero_ =
-    let there : 7 - q < 8 = omega arith in
-    let turned : bit_at (255 - byte) (7 - q) ≡ 1 - bit_at byte (7 - q) = bit_at_not w8 byte (7 - q) small there in
-    let no : bit_at (255 - byte) (7 - q) ≢ 1 = λ e. absurd (let t : nat_eq (bit_at (255 - byte) (7 - q)) 1 ≡ true = grind (arith, nat_tests) in let bad : true ≡ false = sym t ∙ zero_ in cc) in
-    let set : bit_at byte (7 - q) ≡ 1 = omega (arith, turned, no, bit_at-lt byte (7 - q)) in
-    ap (λ n. nat_eq n 1) set
-
--- where a bit of the other byte is 1, it is 0
-pub other_one : (byte q : ℕ) → byte < 256 → q < 8 → byte_bit (255 - byte) q ≡ true → byte_bit byte q ≡ false
-other_one byte q small within one =
-    let there : 7 - q < 8 = omega arith in
-    let turned : bit_at (255 - byte) (7 - q) ≡ 1 - bit_at byte (7 - q) = bit_at_not w8 byte (7 - q) small there in
-    let yes : bit_at (255 - byte) (7 - q) ≡ 1 = grind (arith, nat_tests, one) in
-    let none : bit_at byte (7 - q) ≡ 0 = omega (arith, turned, yes, bit_at-lt byte (7 - q)) in
-    ap (λ n. nat_eq n 1) none
 
 -- ---- marks
 
@@ -279,11 +210,3 @@ run_counted a new marks read after_read from before after h within bits r s b e 
     let n = length marks in
     count_after ms _ a.bytes.items new marks from a.valid before after within (bit_is a h) (λ k. bits k ∙ run_marks a.bytes.items ms marks from k within (bit_is a h)) refl h.counted
     (b ∙ ap (λ xs. length (filter (mask_bit xs) (range_with_len from n))) r) (e ∙ ap (λ xs. length (filter (mask_bit xs) (range_with_len from n))) s)
-
--- the bits of one byte from one of them on
-pub in_byte : (bytes : List ℕ) (at k run byte : ℕ) (mark : Bool) → at ≤ k → k < at + run → at % 8 + run ≤ 8 → byte ≡ get_or bytes (at / 8) 0
-    → ((q : ℕ) → at % 8 ≤ q → q < at % 8 + run → byte_bit byte q ≡ mark) → mask_bit bytes k ≡ mark
-in_byte bytes at k run byte mark low high one is equal =
-    let here : k / 8 ≡ at / 8 = omega arith in
-    let bit : k % 8 ≡ at % 8 + (k - at) = omega arith in
-    ap (λ i. byte_bit (get_or bytes i 0) (k % 8)) here ∙ ap (λ b. byte_bit b (k % 8)) (sym is) ∙ equal (k % 8) (omega (arith, bit)) (omega (arith, bit, low, high))

@@ -13,6 +13,7 @@ pub mod Order
 pub mod Values
 pub mod Flat
 pub mod Words
+pub mod MarkRuns
 pub mod ReadGrid
 pub mod Bands
 pub mod BandsGrid

@@ -1,10 +1,10 @@
 //! The bits of a mask: for each pixel one, row by row and the highest of each byte first.
 
-ghost use Rattle.std.specs.Prelude.{◌≡◌, ℕ, ◌+◌, ◌*◌, ◌/◌, ◌^◌, ◌<◌, ◌≤◌, ◌&&◌, length, get_or, nat_lt, true, false};
+ghost use Rattle.std.specs.Prelude.{◌≡◌, ◌≢◌, ℕ, ◌+◌, ◌*◌, ◌/◌, ◌^◌, ◌<◌, ◌≤◌, ◌&&◌, length, get_or, nat_lt, true, false};
 ghost use Rattle.raster_values.specs.Order.{marks_in, mask_bit};
 ghost use Rattle.raster_values.specs.inside.Bits.{byte_bit, word_bit};
 
-use super::mask::{Run, equal_from, front_bits};
+use super::mask::{Run, front_bits};
 use byteorder::{BigEndian, ByteOrder};
 
 /// Whether bit number k is 1.
@@ -14,20 +14,6 @@ pub(super) fn bit_at(bytes: &[u8], k: usize) -> bool
     ensures { result ≡ mask_bit bytes.now k }
 {
     (bytes[k / 8] >> (7 - k % 8)) % 2 == 1
-}
-
-/// The first place behind a bit that is `mark`, at most eight further, before which all are.
-fn past(bytes: &[u8], at: usize, limit: usize, mark: bool) -> usize
-    requires order { at < limit }
-    requires few { limit ≤ 16777216 }
-    requires within { limit ≤ 8 * length bytes.now }
-    requires here { mask_bit bytes.now at ≡ mark }
-    ensures from { at < result }
-    ensures within { result ≤ limit }
-    ensures run { (k : ℕ) → at ≤ k → k < result → mask_bit bytes.now k ≡ mark }
-{
-    let byte = bytes[at / 8];
-    limit.min(at + equal_from(byte, at % 8, mark).max(1))
 }
 
 /// Keeps the bits before number `count`, and clears those behind them, which are fewer than eight.
@@ -55,6 +41,53 @@ pub fn clear_spare(bytes: &mut [u8], count: usize)
     ensures spare { (k : ℕ) → count ≤ k → mask_bit bytes.new k ≡ false }
 {
     keep_front(bytes, count);
+}
+
+/// How many of the bits of a number of so many are 0 before the first that is 1, counted from the
+/// highest.
+#[inline(always)]
+fn zeros_in_front(word: u32, count: usize) -> usize
+    requires some { 0 < count }
+    requires few { count ≤ 32 }
+    requires below { word < 2 ^ count }
+    ensures within { result ≤ count }
+    ensures zeros { (q : ℕ) → q < result → word_bit count word q ≡ false }
+    ensures one { result < count → word_bit count word result ≡ true }
+{
+    (word.leading_zeros() as usize).saturating_sub(32 - count)
+}
+
+/// How many of the bits of a number of so many are `mark` before the first that is not, counted from
+/// the highest.
+#[inline(always)]
+fn equal_in_front(word: u32, count: usize, mark: bool) -> usize
+    requires some { 0 < count }
+    requires few { count ≤ 32 }
+    requires below { word < 2 ^ count }
+    ensures within { result ≤ count }
+    ensures equal { (q : ℕ) → q < result → word_bit count word q ≡ mark }
+    ensures end { result < count → word_bit count word result ≢ mark }
+{
+    if mark {
+        zeros_in_front(!word & (u32::MAX >> (32 - count)), count)
+    } else {
+        zeros_in_front(word, count)
+    }
+}
+
+/// The first place behind a bit that is `mark`, at most 32 further, before which all are.
+#[inline(always)]
+fn past(bytes: &[u8], at: usize, limit: usize, mark: bool) -> usize
+    requires order { at < limit }
+    requires few { limit ≤ 16777216 }
+    requires within { limit ≤ 8 * length bytes.now }
+    requires here { mask_bit bytes.now at ≡ mark }
+    ensures from { at < result }
+    ensures within { result ≤ limit }
+    ensures run { (k : ℕ) → at ≤ k → k < result → mask_bit bytes.now k ≡ mark }
+{
+    let count = (limit - at).min(32);
+    at + equal_in_front(word_from(bytes, at, count), count, mark).max(1)
 }
 
 /// Where the run of bits that are `mark` from `at` on ends, which is looked for before `limit`.
@@ -85,6 +118,8 @@ pub(super) fn run_after(bytes: &[u8], at: usize, limit: usize) -> Run
     ensures within { result.end ≤ limit }
     ensures off { (k : ℕ) → at ≤ k → k < result.start → mask_bit bytes.now k ≡ false }
     ensures on { (k : ℕ) → result.start ≤ k → k < result.end → mask_bit bytes.now k ≡ true }
+    ensures begins { result.start < limit → mask_bit bytes.now result.start ≡ true }
+    ensures ends { result.end < limit → mask_bit bytes.now result.end ≡ false }
     ensures forth { at < limit → at < result.end }
 {
     let start = run_end(bytes, at, limit, false);

@@ -8,6 +8,7 @@ ghost use Rattle.lane_kernels.specs.Kernels.{IsStepSize, capped_sums};
 ghost use Rattle.raster_values.specs.Block.{PoursBlock, block_count};
 ghost use Rattle.raster_values.specs.Order.{FillsValid, PoursBytes, marks_in, mask_bit};
 ghost use Rattle.raster_values.specs.Flat.{PutsFrom, marks_of, value_in};
+ghost use Rattle.raster_values.specs.MarkRuns.{AreRuns};
 ghost use Rattle.raster_values.specs.Lent.{IsLent, array_of, frame_of, lent_pixels};
 ghost use Rattle.raster_values.specs.inside.CellList.{values_in};
 ghost use Rattle.raster_values.specs.inside.LentBytes.{AreValueBytes};
@@ -16,6 +17,7 @@ use super::cells::{place, read_pixels, value_at};
 use super::given::{Given, Sums, ValueList};
 use super::kind::PixelType;
 use super::lent_mask::LentMask;
+use super::mask::Run;
 use super::raster::edge;
 use super::valued::Valued;
 use super::{blocks, byte_runs, order};
@@ -226,6 +228,21 @@ impl<'v, 'm> Lent<'v, 'm> {
             ≡ is_some (get_or (lent_pixels self.now).pixels (place + i) None) }
     {
         self.marks().copy_run(place, out);
+    }
+
+    /// The next run of valid pixels from number `place` on, before number `limit`, whole. It is empty,
+    /// and at `limit`, where there is none.
+    pub fn next_run(&self, place: usize, limit: usize) -> Run
+        requires sound { IsLent self.now }
+        requires order { place ≤ limit }
+        requires within { limit ≤ (lent_pixels self.now).rows * (lent_pixels self.now).cols }
+        ensures runs { AreRuns (marks_of (lent_pixels self.now)) place result.start result.end }
+        ensures within { result.end ≤ limit }
+        ensures begins { result.start < limit → get_or (marks_of (lent_pixels self.now)) result.start false ≡ true }
+        ensures ends { result.end < limit → get_or (marks_of (lent_pixels self.now)) result.end false ≡ false }
+        ensures forth { place < limit → place < result.end }
+    {
+        self.marks().next_run(place, limit)
     }
 
     /// The values at a depth of the pixels from number `place` on, 0 of invalid ones.

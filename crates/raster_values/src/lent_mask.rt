@@ -176,6 +176,8 @@ impl<'m> LentMask<'m> {
         requires within { limit ≤ length self.now }
         ensures runs { AreRuns self.now at result.start result.end }
         ensures within { result.end ≤ limit }
+        ensures begins { result.start < limit → get_or self.now result.start false ≡ true }
+        ensures ends { result.end < limit → get_or self.now result.end false ≡ false }
         ensures forth { at < limit → at < result.end }
     {
         if self.valid == self.count {

@@ -47,6 +47,7 @@ pub use laws::{
 };
 pub use lent::Lent;
 pub use limits::{GREATEST_BANDS, GREATEST_DEPTH, GREATEST_VALUES, is_shape};
+pub use mask::Run;
 pub use mask_bits::{clear_bits, count_marked, set_bits};
 pub use raster::{Raster, ShapeFault};
 pub use reading::{GridFault, GridReason, GridStop, grid_read};

@@ -1,6 +1,6 @@
 //! Marks of pixels, however they are kept.
 
-ghost use Rattle.std.specs.Prelude.{◌≡◌, ◌+◌, ◌<◌, ◌≤◌, Bool, List, length};
+ghost use Rattle.std.specs.Prelude.{◌≡◌, ◌+◌, ◌<◌, ◌≤◌, Bool, List, false, get_or, length, true};
 ghost use Rattle.raster_values.specs.inside.Runs.{run_places, AreMarks, AreRuns};
 
 use super::lent_mask::LentMask;
@@ -36,6 +36,8 @@ pub trait Marked {
         requires within { limit ≤ length (marks self.now) }
         ensures runs { AreRuns (marks self.now) at result.start result.end }
         ensures within { result.end ≤ limit }
+        ensures begins { result.start < limit → get_or (marks self.now) result.start false ≡ true }
+        ensures ends { result.end < limit → get_or (marks self.now) result.end false ≡ false }
         ensures forth { at < limit → at < result.end };
 }
 

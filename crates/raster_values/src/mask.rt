@@ -1,6 +1,6 @@
 //! The mask of a raster, as bytes.
 
-ghost use Rattle.std.specs.Prelude.{◌≡◌, ◌≢◌, ◌↔◌, ℕ, ◌+◌, ◌*◌, ◌/◌, ◌%◌, ◌<◌, ◌≤◌, Bool, List, IfOk, IsTrue, length, get_or, replicate, slice_set, take, drop, nat_eq, nat_lt, map, ◌++◌, ◌-◌, true, false, if◌then◌else◌, ◌&&◌};
+ghost use Rattle.std.specs.Prelude.{◌≡◌, ◌↔◌, ℕ, ◌+◌, ◌*◌, ◌/◌, ◌%◌, ◌<◌, ◌≤◌, Bool, List, IfOk, IsTrue, length, get_or, replicate, slice_set, take, drop, nat_eq, nat_lt, map, ◌++◌, ◌-◌, true, false, if◌then◌else◌, ◌&&◌};
 ghost use Rattle.std.specs.List.{count_by, filter, range_with_len};
 ghost use Rattle.raster_values.specs.Order.{mask_bit, marks_in};
 ghost use Rattle.raster_values.specs.inside.Bits.{byte_bit, bit_after};
@@ -39,34 +39,10 @@ impl Model for Mask {
 /// The pixels from number `start` on, up to number `end`.
 #[derive(Clone, Copy)]
 pub struct Run {
+    /// The number of the first pixel.
     pub start: usize,
+    /// The number of the first pixel behind them.
     pub end: usize,
-}
-
-/// How many bits of a byte from `from` on are 0 before one that is not, the bits counted from the
-/// highest.
-fn zeros_from(byte: u8, from: usize) -> usize
-    requires { from < 8 }
-    ensures within { from + result ≤ 8 }
-    ensures zeros { (q : ℕ) → from ≤ q → q < from + result → byte_bit byte q ≡ false }
-    ensures end { from + result < 8 → byte_bit byte (from + result) ≡ true }
-{
-    let rest = byte & (255u8 >> from);
-    (rest.leading_zeros() as usize).saturating_sub(from)
-}
-
-/// How many bits of a byte from `from` on are `mark` before one that is not.
-pub(super) fn equal_from(byte: u8, from: usize, mark: bool) -> usize
-    requires { from < 8 }
-    ensures within { from + result ≤ 8 }
-    ensures equal { (q : ℕ) → from ≤ q → q < from + result → byte_bit byte q ≡ mark }
-    ensures end { from + result < 8 → byte_bit byte (from + result) ≢ mark }
-{
-    if mark {
-        zeros_from(!byte, from)
-    } else {
-        zeros_from(byte, from)
-    }
 }
 
 /// The byte with a bit set or cleared, its bits counted from the highest.
@@ -490,6 +466,8 @@ impl Mask {
         requires within { limit ≤ length self.now }
         ensures runs { AreRuns self.now at result.start result.end }
         ensures within { result.end ≤ limit }
+        ensures begins { result.start < limit → get_or self.now result.start false ≡ true }
+        ensures ends { result.end < limit → get_or self.now result.end false ≡ false }
         ensures forth { at < limit → at < result.end }
     {
         if self.valid == self.count {

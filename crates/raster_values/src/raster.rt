@@ -9,6 +9,7 @@ ghost use Rattle.raster_values.specs.Grid.{grid_marks, values_bytes};
 ghost use Rattle.raster_values.specs.Order.{FillsValid, IsMaskOf, MarksBits, PoursBytes, mask_bit};
 ghost use Rattle.raster_values.specs.Flat.{PutsFrom, PutsAll, all_values, depth_values, marks_of, valid_from, value_in, values_among};
 ghost use Rattle.raster_values.specs.Words as words;
+ghost use Rattle.raster_values.specs.MarkRuns.{AreRuns};
 ghost use Rattle.raster_values.specs.Distance.{distance_of};
 ghost use Rattle.lane_kernels.specs.Kernels.{IsLeast, IsGreatest};
 ghost use Rattle.raster_values.specs.ReadGrid.{AreMarks, TookBytes, TookSome, IsToldFault, CountsGridStop, mark_faults, value_faults};
@@ -20,7 +21,7 @@ use super::cells::Cells;
 use super::given::{Given, Sums, ValueList};
 use super::kind::PixelType;
 use super::limits::is_shape;
-use super::mask::Mask;
+use super::mask::{Mask, Run};
 use super::reading::GridStop;
 use super::{blocks, grid, order, reading};
 use outside_io::{Failed, Sink, Source};
@@ -430,6 +431,20 @@ impl Raster {
             ≡ is_some (get_or self.now.pixels (place + i) None) }
     {
         self.marks.copy_run(place, out);
+    }
+
+    /// The next run of valid pixels from number `place` on, before number `limit`, whole. It is empty,
+    /// and at `limit`, where there is none.
+    pub fn next_run(&self, place: usize, limit: usize) -> Run
+        requires order { place ≤ limit }
+        requires within { limit ≤ self.now.rows * self.now.cols }
+        ensures runs { AreRuns (marks_of self.now) place result.start result.end }
+        ensures within { result.end ≤ limit }
+        ensures begins { result.start < limit → get_or (marks_of self.now) result.start false ≡ true }
+        ensures ends { result.end < limit → get_or (marks_of self.now) result.end false ≡ false }
+        ensures forth { place < limit → place < result.end }
+    {
+        self.marks.next_run(place, limit)
     }
 
     /// The values at a depth of the pixels from number `place` on, 0 of invalid ones.

@@ -11,11 +11,6 @@ abbrev pub rank : (ℕ → Bool) → ℕ → ℕ
 rank mark zero = 0
 rank mark (suc i) = if mark i then rank mark i + 1 else rank mark i
 
--- the value of the last valid pixel among the first n of a piece; `before` where none is
-abbrev pub last_from : ℤ → (ℕ → Bool) → (ℕ → ℤ) → ℕ → ℤ
-last_from before mark now zero = before
-last_from before mark now (suc i) = if mark i then now i else last_from before mark now i
-
 -- whether the pixel before is a valid one of this row
 abbrev pub left_of : Bool → (ℕ → Bool) → ℕ → Bool
 left_of left mark zero = left
@@ -24,11 +19,6 @@ left_of left mark (suc i) = mark i
 -- the predictor, by what is kept
 abbrev pub predicted_by : Bool → Bool → ℤ → ℤ → ℤ
 predicted_by left up above last = if left then last else (if up then above else last)
-
--- the predictor of pixel number i of a piece
-abbrev pub guess : Bool → ℤ → (ℕ → Bool) → (ℕ → Bool) → (ℕ → ℤ) → (ℕ → ℤ) → ℕ → ℤ
-guess left before mark up above now i =
-    predicted_by (left_of left mark i) (up i) (above i) (last_from before mark now i)
 
 -- the symbol of a number, by what is added to it
 abbrev pub biased : ℤ → ℤ → ℕ

@@ -1,5 +1,5 @@
 -- What is asked of a header whose blocks are written, and what is known of these before they are.
-use Rattle.std.specs.Prelude.{◌≡◌, ℕ, ◌*◌, ◌<◌, ◌≤◌, ◌↔◌, List, ℤ, length}
+use Rattle.std.specs.Prelude.{◌≡◌, ℕ, ◌*◌, ◌<◌, ◌≤◌, List, ℤ, length}
 use Rattle.raster_values.specs.Raster.{Pixels, IsRaster}
 use Rattle.raster_values.specs.Block.{block_values}
 use Rattle.raster_values.specs.Step.{IsTwiceError}
@@ -11,7 +11,8 @@ use Rattle.lerc_grammar.specs.Blocks.{block_col, block_depth, block_row, coded_b
 use Rattle.lerc_encode.specs.Images.{blocks_bytes}
 use Rattle.lerc_encode.specs.declared.blocks.Spot.{Spot}
 use Rattle.lerc_encode.specs.declared.blocks.Measured.{Measured}
-use Rattle.lerc_encode.specs.inside.Flags.{IsFlagged}
+use Rattle.lerc_encode.specs.declared.flags.Flags.{Flags}
+use Rattle.lerc_encode.specs.inside.Flags.{IsMarked, room_of}
 
 -- it is the raster's, with a side from 1 to 16 and a step
 pub record IsBlocked (h : Header) (r : Pixels) : Type 0 where
@@ -50,15 +51,16 @@ HasTableAt h r spot = chosen_form h.kind spot.col h.step (values_at h r spot) �
 abbrev pub HasTable : Header → Pixels → ℕ → Type 0
 HasTable h r k = chosen_form h.kind (block_col h k) h.step (coded_values h r k) ≡ micro.table
 
--- of the first n coded blocks, which have a table
-pub record AreFlags (h : Header) (r : Pixels) (n : ℕ) (tables : List ℕ) : Type 0 where
-  pub room : n ≤ 64 * length tables
-  pub each : (k : ℕ) → k < n → IsFlagged tables k ↔ HasTable h r k
+-- of the first n coded blocks, those that have a table, and none else where each has its own flag
+pub record AreFlags (h : Header) (r : Pixels) (n : ℕ) (tables : Flags) : Type 0 where
+  pub room : n ≤ room_of tables
+  pub each : (k : ℕ) → k < n → HasTable h r k → IsMarked tables k
+  pub sound : tables.group ≡ 1 → (k : ℕ) → k < n → IsMarked tables k → HasTable h r k
 
--- how many bytes all blocks take, and which have a table; at most 256 values, which rise
+-- how many bytes all blocks take, and in which groups one has a table; at most 256 values, which rise
 pub record IsMeasured (h : Header) (r : Pixels) (m : Measured) : Type 0 where
   pub size : m.size ≡ length (blocks_bytes h r)
   pub few : m.size ≤ 1025 * 16777216
-  pub tables : AreFlags h r (coded_blocks h) m.tables.items
+  pub tables : AreFlags h r (coded_blocks h) m.tables
   pub rises : Rises m.values.items
   pub few_values : length m.values.items ≤ 256

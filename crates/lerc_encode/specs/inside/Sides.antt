@@ -1,12 +1,13 @@
 -- Blocks of both sides as they are looked at: with each block of side 16 those of side 8 in it.
-use Rattle.std.specs.Prelude.{◌≡◌, ℕ, ◌+◌, ◌*◌, ◌/◌, ◌<◌, ◌≤◌, ◌⊎◌, ◌&&◌, nat_lt, if◌then◌else◌, List, ℤ, ◌++◌, length, MatchOption}
+use Rattle.std.specs.Prelude.{◌≡◌, ℕ, ◌+◌, ◌*◌, ◌/◌, ◌<◌, ◌≤◌, ◌⊎◌, ◌&&◌, nat_lt, if◌then◌else◌, List, ℤ, ◌++◌, length}
 use Rattle.raster_values.specs.Raster.{Pixels}
 use Rattle.raster_values.specs.Block.{block_values}
 use Rattle.lerc_header.specs.declared.header.Header.{Header}
 use Rattle.lerc_grammar.specs.Blocks.{blocks_across}
 use Rattle.lerc_encode.specs.declared.blocks.Spot.{Spot}
 use Rattle.lerc_encode.specs.inside.Blocked.{HasTable, HasTableAt, IsWithin, bytes_at}
-use Rattle.lerc_encode.specs.inside.Flags.{IsFlagged}
+use Rattle.lerc_encode.specs.declared.flags.Flags.{Flags}
+use Rattle.lerc_encode.specs.inside.Flags.{IsMarked, room_of}
 
 -- ---- one block more
 
@@ -15,11 +16,12 @@ pub record IsMore (most n old new : ℕ) : Type 0 where
   pub within : new ≤ most → (old ≤ most) × (new ≡ old + n)
   pub over : most < new → most < old + n
 
--- no flag is cleared, and none is set of a block without a table
-pub record AreMore (h : Header) (r : Pixels) (old new : List ℕ) : Type 0 where
-  pub room : length new ≡ length old
-  pub kept : (k : ℕ) → IsFlagged old k → IsFlagged new k
-  pub sound : (k : ℕ) → IsFlagged new k → IsFlagged old k ⊎ HasTable h r k
+-- no flag is cleared, and where each block has its own none is set of a block without a table
+pub record AreMore (h : Header) (r : Pixels) (old new : Flags) : Type 0 where
+  pub room : room_of new ≡ room_of old
+  pub group : new.group ≡ old.group
+  pub kept : (k : ℕ) → IsMarked old k → IsMarked new k
+  pub sound : new.group ≡ 1 → (k : ℕ) → IsMarked new k → IsMarked old k ⊎ HasTable h r k
 
 -- ---- the blocks of side 8 in one of side 16
 
@@ -32,10 +34,10 @@ abbrev pub size_at : Header → Pixels → Spot → ℕ
 size_at h r spot =
     if nat_lt spot.row h.rows && nat_lt spot.col h.cols then length (bytes_at h r spot) else 0
 
--- its flag is set where it has a table
-abbrev pub IsFlaggedAt : Header → Pixels → Spot → List ℕ → Type 0
+-- the flag of its group is set where it has a table
+abbrev pub IsFlaggedAt : Header → Pixels → Spot → Flags → Type 0
 IsFlaggedAt h r spot tables =
-    IsWithin h spot → HasTableAt h r spot → IsFlagged tables (number_at h spot)
+    IsWithin h spot → HasTableAt h r spot → IsMarked tables (number_at h spot)
 
 -- the spots to the right, below, and at the corner
 abbrev pub right_of : Spot → Spot
@@ -54,7 +56,7 @@ four_sizes h r spot =
     + (size_at h r (right_of spot) + (size_at h r (below spot) + size_at h r (corner spot)))
 
 -- their flags
-pub record AreFlaggedAt (h : Header) (r : Pixels) (spot : Spot) (tables : List ℕ) : Type 0 where
+pub record AreFlaggedAt (h : Header) (r : Pixels) (spot : Spot) (tables : Flags) : Type 0 where
   pub first : IsFlaggedAt h r spot tables
   pub right : IsFlaggedAt h r (right_of spot) tables
   pub under : IsFlaggedAt h r (below spot) tables

@@ -8,6 +8,7 @@ use Rattle.std.specs.List.{filter, flat_map, range_with_len}
 use Rattle.lane_kernels.specs.Kernels.{IsLeast, IsGreatest}
 use Rattle.raster_values.specs.Distance.{value_above}
 pub use Rattle.raster_values.specs.Words.{AreMarks}
+pub use Rattle.raster_values.specs.MarkRuns.{AreRuns}
 
 -- each value is one of a signed number of 64 bits
 abbrev pub AreWords : List ℤ → Type 0
@@ -81,11 +82,3 @@ pub record LeavesRows (depth d : ℕ) (marks : List Bool) (cols row col high wid
       → ((i : ℕ) → row ≤ i → i < row + high → i * cols + col ≤ k → k < i * cols + col + wide
       → get_or marks k false ≡ true → e ≡ d → ⊥)
       → get_or new (k * depth + e) (pos 0) ≡ get_or old (k * depth + e) (pos 0)
-
--- no pixel from `at` on is marked, then every one from `start` on, up to `end`
-pub record AreRuns (marks : List Bool) (at start end : ℕ) : Type 0 where
-  pub first : at ≤ start
-  pub second : start ≤ end
-  pub within : end ≤ length marks
-  pub off : (k : ℕ) → at ≤ k → k < start → get_or marks k false ≡ false
-  pub on : (k : ℕ) → start ≤ k → k < end → get_or marks k false ≡ true

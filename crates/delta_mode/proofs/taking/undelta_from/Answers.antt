@@ -1,14 +1,14 @@
-use Rattle.std.proofs.Common.{◌≡◌, ℕ, ◌+◌, ◌≤◌, ◌<◌, Bool, true, List, [], ◌++◌, length, take, drop, sym, ◌∙◌, arith, subst, refl}
-use Rattle.std.proofs.lemmas.List.{append-nil, length-take-le, length-append, length-drop}
+use Rattle.std.proofs.Common.{◌≡◌, ℕ, ◌+◌, ◌*◌, ◌-◌, ◌%◌, ◌≤◌, ◌<◌, Bool, true, List, [], ◌++◌, length, sym, ◌∙◌, arith, subst, refl}
+use Rattle.std.proofs.lemmas.List.{append-nil}
 use Rattle.std.proofs.Math.Path.{transport}
-use Rattle.raster_values.specs.Raster.{valid_count}
 use Rattle.raster_values.specs.Flat.{value_in}
 use Rattle.delta_mode.specs.Deltas.{is_valid}
 use Rattle.delta_mode.specs.inside.Pieces.{rank, IsAt}
 use Rattle.delta_mode.proofs.Marks.{mask_itself, mask_through, all_marks, same_size}
 use Rattle.delta_mode.proofs.SymbolLaws.{deltas_as}
-use Rattle.delta_mode.proofs.WholeDepth.{next_piece, next_room, both_taken, coded_none, at_first, coded_more, coded_same, coded_as, coded_whole}
-use Rattle.delta_mode.proofs.Sources.{coded_front, count_whole}
+use Rattle.delta_mode.proofs.WholeDepth.{coded_none, at_first, coded_more, coded_same, coded_as, coded_whole}
+use Rattle.delta_mode.proofs.Sources.{area_few, coded_front, count_whole}
+use Rattle.delta_mode.proofs.NextRuns.{row_across, row_room, row_within}
 use Rattle.delta_mode.proofs.taking.undelta_from.Goals as goal
 
 pub loop-place-init : goal.loop-place-init
@@ -17,7 +17,8 @@ loop-place-init g c =
     let none = c.start-walk.ensures.count in
     record {
       within = omega arith;
-      wide = refl;
+      values = refl;
+      symbols = refl;
       same = mask_itself r;
       at = at_first (is_valid r) (value_in r c.args.d) _ _ _ c.start-walk.ensures.left c.start-walk.ensures.last none;
       left = omega (arith, none);
@@ -30,62 +31,82 @@ loop-place-init g c =
       kept = refl;
     }
 
-pub piece_len-count-requires-clause-within : goal.piece_len-count-requires-clause-within
-piece_len-count-requires-clause-within g c =
+pub overflow_add-place : goal.overflow_add-place
+overflow_add-place g c =
     let r = (g.T.Target.pixels c.args.raster.now) in
-    let inv = c.loop-place.invariant in
-    let next = next_piece r c.loop-place.place c.min-most.result c.loop-place.marks c.cols-cols.ensures.sound (c.rows.ensures.value ∙ sym inv.same.shape.rows) c.cols-cols.ensures.value (omega (arith, c.loop-place-test.true)) (omega (arith, c.min-most.ensures))
-    (omega (arith, inv.wide, c.min-most.ensures)) in
-    omega (arith, next.within, same_size r (g.T.Target.pixels c.loop-place.raster) inv.same)
+    let sound = c.cols-cols.ensures.sound in
+    let within = row_within r c.loop-place.place c.min-most.result sound c.rows.ensures.value c.cols-cols.ensures.value (omega (arith, c.loop-place-test.true)) (omega (arith, c.min-most.ensures)) in
+    omega (arith, within, area_few r.rows r.cols r.depth sound.shape)
 
-pub take_piece-requires-clause-within : goal.take_piece-requires-clause-within
-take_piece-requires-clause-within g c =
+pub next_run-run-requires-clause-within : goal.next_run-run-requires-clause-within
+next_run-run-requires-clause-within g c =
     let r = (g.T.Target.pixels c.args.raster.now) in
-    let inv = c.loop-place.invariant in
-    let next = next_piece r c.loop-place.place c.piece_len-count.result c.loop-place.marks c.cols-cols.ensures.sound (c.rows.ensures.value ∙ sym inv.same.shape.rows) c.cols-cols.ensures.value (omega (arith, c.loop-place-test.true)) (omega (arith, c.min-most.ensures, c.piece_len-count.ensures.few, c.piece_len-count.ensures.some))
-    (omega (arith, inv.wide, c.min-most.ensures, c.piece_len-count.ensures.few, c.piece_len-count.ensures.some)) in
-    omega (arith, next.to, next.within, same_size r (g.T.Target.pixels c.loop-place.raster) inv.same)
+    let within = row_within r c.loop-place.place c.min-most.result c.cols-cols.ensures.sound c.rows.ensures.value c.cols-cols.ensures.value (omega (arith, c.loop-place-test.true)) (omega (arith, c.min-most.ensures)) in
+    omega (arith, within, same_size r (g.T.Target.pixels c.loop-place.raster) c.loop-place.invariant.same)
 
-pub take_piece-requires-clause-at : goal.take_piece-requires-clause-at
-take_piece-requires-clause-at g c =
+pub take_next-requires-clause-across : goal.take_next-requires-clause-across
+take_next-requires-clause-across g c =
+    let r = (g.T.Target.pixels c.args.raster.now) in
+    let stop = c.next_run-run.result.end in
+    subst (λ n. c.loop-place.place % n + (stop - c.loop-place.place) ≤ n) c.loop-place.invariant.same.shape.cols
+    (row_across r c.loop-place.place c.min-most.result stop c.cols-cols.ensures.sound c.cols-cols.ensures.value (omega (arith, c.min-most.ensures)) c.next_run-run.ensures.within)
+
+pub take_next-requires-clause-within : goal.take_next-requires-clause-within
+take_next-requires-clause-within g c =
+    let r = (g.T.Target.pixels c.args.raster.now) in
+    let within = row_within r c.loop-place.place c.min-most.result c.cols-cols.ensures.sound c.rows.ensures.value c.cols-cols.ensures.value (omega (arith, c.loop-place-test.true)) (omega (arith, c.min-most.ensures)) in
+    omega (arith, within, c.next_run-run.ensures.within, same_size r (g.T.Target.pixels c.loop-place.raster) c.loop-place.invariant.same)
+
+pub take_next-requires-clause-values : goal.take_next-requires-clause-values
+take_next-requires-clause-values g c = omega (arith, c.loop-place.invariant.values, c.next_run-run.ensures.within, c.next_run-run.ensures.runs.first, c.min-most.ensures)
+
+pub take_next-requires-clause-symbols : goal.take_next-requires-clause-symbols
+take_next-requires-clause-symbols g c = omega (arith, c.loop-place.invariant.symbols, c.next_run-run.ensures.within, c.next_run-run.ensures.runs.first, c.min-most.ensures)
+
+pub take_next-requires-clause-at : goal.take_next-requires-clause-at
+take_next-requires-clause-at g c =
     let s = (g.T.Target.pixels c.loop-place.raster) in
+    let inv = c.loop-place.invariant in
     let walk = c.loop-place.walk in
     subst (λ (valid : ℕ → Bool). IsAt valid (value_in s c.args.d) c.loop-place.place walk.left walk.last walk.count)
-    (sym (all_marks (g.T.Target.pixels c.args.raster.now) s c.cols-cols.ensures.sound c.rows.ensures.sound c.loop-place.invariant.same)) c.loop-place.invariant.at
+    (sym (all_marks (g.T.Target.pixels c.args.raster.now) s c.cols-cols.ensures.sound (g.met.T.Target.raster _ inv.sound) inv.same)) inv.at
 
-pub take_piece-requires-clause-left : goal.take_piece-requires-clause-left
-take_piece-requires-clause-left g c =
+pub take_next-requires-clause-left : goal.take_next-requires-clause-left
+take_next-requires-clause-left g c =
     let r = (g.T.Target.pixels c.args.raster.now) in
     let inv = c.loop-place.invariant in
-    let next = next_piece r c.loop-place.place c.piece_len-count.result c.loop-place.marks c.cols-cols.ensures.sound (c.rows.ensures.value ∙ sym inv.same.shape.rows) c.cols-cols.ensures.value (omega (arith, c.loop-place-test.true)) (omega (arith, c.min-most.ensures, c.piece_len-count.ensures.few, c.piece_len-count.ensures.some))
-    (omega (arith, inv.wide, c.min-most.ensures, c.piece_len-count.ensures.few, c.piece_len-count.ensures.some)) in
-    let room : rank (is_valid r) (c.loop-place.place + length (take c.piece_len-count.result c.loop-place.marks)) ≤ valid_count r = next_room c.cols-cols.ensures.sound next refl in
-    subst (λ (valid : ℕ → Bool). rank valid (c.loop-place.place + length (take c.piece_len-count.result c.loop-place.marks)) ≤ c.loop-place.walk.count + g.S.SymbolSource.left c.loop-place.source)
-    (sym (all_marks r (g.T.Target.pixels c.loop-place.raster) c.cols-cols.ensures.sound c.rows.ensures.sound inv.same)) (omega (arith, room, inv.left, c.requires.count))
+    let sound = c.cols-cols.ensures.sound in
+    let stop = c.next_run-run.result.end in
+    let within = row_within r c.loop-place.place c.min-most.result sound c.rows.ensures.value c.cols-cols.ensures.value (omega (arith, c.loop-place-test.true)) (omega (arith, c.min-most.ensures)) in
+    let room = row_room r stop sound (omega (arith, within, c.next_run-run.ensures.within)) in
+    subst (λ (valid : ℕ → Bool). rank valid stop ≤ c.loop-place.walk.count + g.S.SymbolSource.left c.loop-place.source)
+    (sym (all_marks r (g.T.Target.pixels c.loop-place.raster) sound (g.met.T.Target.raster _ inv.sound) inv.same)) (omega (arith, room, inv.left, c.requires.count))
 
 pub loop-place-preserved : goal.loop-place-preserved
 loop-place-preserved g c =
     let r = (g.T.Target.pixels c.args.raster.now) in
     let s = (g.T.Target.pixels c.loop-place.raster) in
-    let t = (g.T.Target.pixels c.take_piece.new.raster) in
+    let t = (g.T.Target.pixels c.take_next.new.raster) in
     let d = c.args.d in
     let value = value_in t d in
     let place = c.loop-place.place in
+    let stop = c.next_run-run.result.end in
     let inv = c.loop-place.invariant in
     let walk = c.in_ok-walk.walk in
     let w = c.in_ok-walk.ensures in
-    let next = next_piece r c.loop-place.place c.piece_len-count.result c.loop-place.marks c.cols-cols.ensures.sound (c.rows.ensures.value ∙ sym inv.same.shape.rows) c.cols-cols.ensures.value (omega (arith, c.loop-place-test.true)) (omega (arith, c.min-most.ensures, c.piece_len-count.ensures.few, c.piece_len-count.ensures.some))
-    (omega (arith, inv.wide, c.min-most.ensures, c.piece_len-count.ensures.few, c.piece_len-count.ensures.some)) in
-    let marks : is_valid s ≡ is_valid r = all_marks r s c.cols-cols.ensures.sound c.rows.ensures.sound inv.same in
+    let hr = c.cols-cols.ensures.sound in
+    let hs = g.met.T.Target.raster _ inv.sound in
+    let row = row_within r place c.min-most.result hr c.rows.ensures.value c.cols-cols.ensures.value (omega (arith, c.loop-place-test.true)) (omega (arith, c.min-most.ensures)) in
+    let within : stop ≤ r.rows * r.cols = omega (arith, row, c.next_run-run.ensures.within) in
+    let forth : place ≤ stop = omega (arith, c.next_run-run.ensures.runs.first, c.next_run-run.ensures.runs.second) in
+    let marks : is_valid s ≡ is_valid r = all_marks r s hr hs inv.same in
     let before : (j : ℕ) → j < place → is_valid r j ≡ true → value j ≡ value_in s d j =
-    λ (j : ℕ) (lt : j < place) (on : is_valid r j ≡ true). w.rest j d (omega (arith, lt, next.within, same_size r s inv.same)) (subst (λ n. d < n) inv.same.shape.depth c.requires.depth) (λ from below e. omega (arith, lt, from)) in
-    let at = transport (λ i. IsAt (marks i) value (next.to i) walk.left walk.last walk.count) w.at in
+    λ (j : ℕ) (lt : j < place) (on : is_valid r j ≡ true). w.rest j d (omega (arith, lt, within, forth, same_size r s inv.same)) (subst (λ n. d < n) inv.same.shape.depth c.requires.depth) (λ from below e. omega (arith, lt, from)) in
+    let at = transport (λ i. IsAt (marks i) value stop walk.left walk.last walk.count) w.at in
     record {
-      within = next.within;
-      wide =
-          let whole = length-append c.take_piece.new.marks (drop c.piece_len-count.result c.loop-place.marks) in
-          let rest = length-drop c.piece_len-count.result c.loop-place.marks in
-          omega (arith, whole, rest, c.take_piece.auto.marks, next.long, inv.wide, c.min-most.ensures, c.piece_len-count.ensures.few, c.piece_len-count.ensures.some);
+      within = within;
+      values = c.take_next.auto.values ∙ inv.values;
+      symbols = c.take_next.auto.symbols ∙ inv.symbols;
       same = mask_through r s t inv.same w.same;
       at = at;
       left = omega (arith, w.left, inv.left);
@@ -98,10 +119,10 @@ loop-place-preserved g c =
               new.1.0,
               (
                 end,
-                coded_more r.kind r.cols (is_valid r) value place (place + c.piece_len-count.result) (old.0 ++ new.0)
+                coded_more r.kind r.cols (is_valid r) value place stop (old.0 ++ new.0)
                     (coded_front r.kind r.cols (is_valid r) value place old.0 new.0 (sym (old.1.1.0 ∙ inv.at.count_is))
-                    (coded_same r.kind r.cols (is_valid r) (value_in s d) value place old.0 c.cols-cols.ensures.sound.shape.cols_above before old.1.1.1))
-                    (coded_as r s value c.cols-cols.ensures.sound c.rows.ensures.sound inv.same next.to new.1.1.1),
+                    (coded_same r.kind r.cols (is_valid r) (value_in s d) value place old.0 hr.shape.cols_above before old.1.1.1))
+                    (coded_as r s value hr hs inv.same refl new.1.1.1),
               ),
             ),
           );
@@ -119,9 +140,10 @@ returns-clause-taken g c before has =
     let s = (g.T.Target.pixels c.loop-place.raster) in
     let inv = c.loop-place.invariant in
     let place = c.loop-place.place in
-    let rows = c.rows.ensures.value ∙ sym inv.same.shape.rows in
+    let hr = c.cols-cols.ensures.sound in
+    let hs = g.met.T.Target.raster _ inv.sound in
     let given = inv.given before has in
-    let count = count_whole r place (length given.0) c.cols-cols.ensures.sound rows c.cols-cols.ensures.value inv.within (omega (arith, c.loop-place-test.false)) (given.1.1.0 ∙ inv.at.count_is) in (
+    let count = count_whole r place (length given.0) hr c.rows.ensures.value c.cols-cols.ensures.value inv.within (omega (arith, c.loop-place-test.false)) (given.1.1.0 ∙ inv.at.count_is) in (
       given.0,
       (
         given.1.0,
@@ -129,8 +151,8 @@ returns-clause-taken g c before has =
           count,
           record {
             same = inv.same;
-            taken = coded_whole r (value_in s c.args.d) place c.cols-cols.ensures.sound rows c.cols-cols.ensures.value inv.within (omega (arith, c.loop-place-test.false)) count given.1.1.1
-                ∙ deltas_as r s c.args.d c.cols-cols.ensures.sound c.rows.ensures.sound inv.same;
+            taken = coded_whole r (value_in s c.args.d) place hr c.rows.ensures.value c.cols-cols.ensures.value inv.within (omega (arith, c.loop-place-test.false)) count given.1.1.1
+                ∙ deltas_as r s c.args.d hr hs inv.same;
             rest = inv.rest;
           },
         ),
@@ -141,36 +163,5 @@ pub returns-clause-left : goal.returns-clause-left
 returns-clause-left g c =
     let r = (g.T.Target.pixels c.args.raster.now) in
     let inv = c.loop-place.invariant in
-    let count = count_whole r c.loop-place.place c.loop-place.walk.count c.cols-cols.ensures.sound (c.rows.ensures.value ∙ sym inv.same.shape.rows) c.cols-cols.ensures.value inv.within (omega (arith, c.loop-place-test.false)) inv.at.count_is in
+    let count = count_whole r c.loop-place.place c.loop-place.walk.count c.cols-cols.ensures.sound c.rows.ensures.value c.cols-cols.ensures.value inv.within (omega (arith, c.loop-place-test.false)) inv.at.count_is in
     omega (arith, count, inv.left)
-
-pub take_piece-requires-clause-up : goal.take_piece-requires-clause-up
-take_piece-requires-clause-up g c =
-    both_taken c.piece_len-count.result c.loop-place.up c.loop-place.marks (omega (arith, c.min-most.ensures, c.piece_len-count.ensures.few, c.piece_len-count.ensures.some)) (omega (arith, c.loop-place.invariant.wide, c.min-most.ensures, c.piece_len-count.ensures.few, c.piece_len-count.ensures.some))
-
-pub take_piece-requires-clause-above : goal.take_piece-requires-clause-above
-take_piece-requires-clause-above g c =
-    both_taken c.piece_len-count.result c.loop-place.above c.loop-place.marks (omega (arith, c.min-most.ensures, c.piece_len-count.ensures.few, c.piece_len-count.ensures.some)) (omega (arith, c.loop-place.invariant.wide, c.min-most.ensures, c.piece_len-count.ensures.few, c.piece_len-count.ensures.some))
-
-pub take_piece-requires-clause-values : goal.take_piece-requires-clause-values
-take_piece-requires-clause-values g c =
-    both_taken c.piece_len-count.result c.loop-place.values c.loop-place.marks (omega (arith, c.min-most.ensures, c.piece_len-count.ensures.few, c.piece_len-count.ensures.some)) (omega (arith, c.loop-place.invariant.wide, c.min-most.ensures, c.piece_len-count.ensures.few, c.piece_len-count.ensures.some))
-
-pub slice_bounds-take_piece-end : goal.slice_bounds-take_piece-end
-slice_bounds-take_piece-end g c = sym (length-take-le c.piece_len-count.result c.loop-place.marks (omega (arith, c.loop-place.invariant.wide, c.min-most.ensures, c.piece_len-count.ensures.few, c.piece_len-count.ensures.some)))
-
-pub slice_bounds-take_piece-end-in-loop-place : goal.slice_bounds-take_piece-end-in-loop-place
-slice_bounds-take_piece-end-in-loop-place g c = sym (length-take-le c.piece_len-count.result c.loop-place.up (omega (arith, c.min-most.ensures, c.piece_len-count.ensures.few, c.piece_len-count.ensures.some)))
-
-pub slice_bounds-take_piece-end-in-loop-place-2 : goal.slice_bounds-take_piece-end-in-loop-place-2
-slice_bounds-take_piece-end-in-loop-place-2 g c = sym (length-take-le c.piece_len-count.result c.loop-place.above (omega (arith, c.min-most.ensures, c.piece_len-count.ensures.few, c.piece_len-count.ensures.some)))
-
-pub slice_bounds-take_piece-end-in-loop-place-3 : goal.slice_bounds-take_piece-end-in-loop-place-3
-slice_bounds-take_piece-end-in-loop-place-3 g c = sym (length-take-le c.piece_len-count.result c.loop-place.values (omega (arith, c.min-most.ensures, c.piece_len-count.ensures.few, c.piece_len-count.ensures.some)))
-
-pub take_piece-requires-clause-symbols : goal.take_piece-requires-clause-symbols
-take_piece-requires-clause-symbols g c =
-    both_taken c.piece_len-count.result c.loop-place.symbols c.loop-place.marks (omega (arith, c.min-most.ensures, c.piece_len-count.ensures.few, c.piece_len-count.ensures.some)) (omega (arith, c.loop-place.invariant.wide, c.min-most.ensures, c.piece_len-count.ensures.few, c.piece_len-count.ensures.some))
-
-pub slice_bounds-take_piece-end-in-loop-place-4 : goal.slice_bounds-take_piece-end-in-loop-place-4
-slice_bounds-take_piece-end-in-loop-place-4 g c = sym (length-take-le c.piece_len-count.result c.loop-place.symbols (omega (arith, c.min-most.ensures, c.piece_len-count.ensures.few, c.piece_len-count.ensures.some)))

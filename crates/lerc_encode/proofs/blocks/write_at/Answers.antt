@@ -7,3 +7,8 @@ pub write_ranked-requires-clause-capped : goal.write_ranked-requires-clause-capp
 write_ranked-requires-clause-capped g c =
     let is = c.context-ctx.ensures.value in
     capped_there c.args.h.now (g.V.View.pixels c.args.raster.now) c.requires.blocked c.args.spot _ c.context-ctx.result (ap (λ (x : BlockCtx). x.kind) is) (ap (λ (x : BlockCtx). x.top) is) c.gather-n.ensures.are
+
+pub has_table-has_table-requires-clause-capped : goal.has_table-has_table-requires-clause-capped
+has_table-has_table-requires-clause-capped g c =
+    let is = c.context-ctx.ensures.value in
+    capped_there c.args.h.now (g.V.View.pixels c.args.raster.now) c.requires.blocked c.args.spot _ c.context-ctx.result (ap (λ (x : BlockCtx). x.kind) is) (ap (λ (x : BlockCtx). x.top) is) c.gather-n.ensures.are

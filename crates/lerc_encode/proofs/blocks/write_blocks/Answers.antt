@@ -8,7 +8,7 @@ use Rattle.lerc_encode.specs.Images.{blocks_bytes, coded_bytes}
 use Rattle.lerc_encode.specs.inside.Blocked.{bytes_at}
 use Rattle.lerc_encode.proofs.Runs.{one_more, part_fits}
 use Rattle.lerc_encode.proofs.Blocking.{part_written}
-use Rattle.lerc_encode.proofs.Spots.{bytes_there, first_spot, spot_within, table_here}
+use Rattle.lerc_encode.proofs.Spots.{bytes_there, first_spot, form_there, spot_within}
 use Rattle.lerc_encode.proofs.blocks.write_blocks.Goals as goal
 
 pub loop-k-init : goal.loop-k-init
@@ -18,8 +18,8 @@ all_room : (h : Header) (r : Pixels) (n : ℕ) → n ≡ length (blocks_bytes h 
 unfolding blocks_bytes
 all_room h r n e = e
 
-pub is_set-requires : goal.is_set-requires
-is_set-requires g c =
+pub is_marked-requires : goal.is_marked-requires
+is_marked-requires g c =
     let low = c.loop-k-test.true in
     let value = c.count-k-end.ensures.value in
     let room = c.requires.tables.room in
@@ -30,14 +30,21 @@ write_at-at-requires-clause-within g c =
     let h = c.args.h.now in
     spot_within h (g.V.View.pixels c.args.raster.now) c.requires.blocked c.loop-k.k (subst (λ n. c.loop-k.k < n) c.count-k-end.ensures.value c.loop-k-test.true) c.loop-k.spot c.loop-k.invariant.1.1.0
 
-pub write_at-at-requires-clause-table : goal.write_at-at-requires-clause-table
-write_at-at-requires-clause-table g c =
+pub write_at-at-requires-clause-flag : goal.write_at-at-requires-clause-flag
+write_at-at-requires-clause-flag g c =
     let h = c.args.h.now in
     let k = c.loop-k.k in
     let low : k < coded_blocks h = subst (λ n. k < n) c.count-k-end.ensures.value c.loop-k-test.true in
-    let here = c.requires.tables.each k low in
-    let is = c.is_set.ensures in
-    table_here h (g.V.View.pixels c.args.raster.now) k c.loop-k.spot c.is_set.result c.loop-k.invariant.1.1.0 (λ t. here.0 (is.0 t), λ has. is.1 (here.1 has))
+    let there = form_there h (g.V.View.pixels c.args.raster.now) k c.loop-k.spot c.loop-k.invariant.1.1.0 in
+    λ has. c.is_marked.ensures.1 (c.requires.tables.each k low (sym there ∙ has))
+
+pub write_at-at-requires-clause-alone : goal.write_at-at-requires-clause-alone
+write_at-at-requires-clause-alone g c =
+    let h = c.args.h.now in
+    let k = c.loop-k.k in
+    let low : k < coded_blocks h = subst (λ n. k < n) c.count-k-end.ensures.value c.loop-k-test.true in
+    let there = form_there h (g.V.View.pixels c.args.raster.now) k c.loop-k.spot c.loop-k.invariant.1.1.0 in
+    λ one set. there ∙ c.requires.tables.sound (c.are_single-alone.ensures.0 one) k low (c.is_marked.ensures.0 set)
 
 pub write_at-at-requires-clause-fits : goal.write_at-at-requires-clause-fits
 write_at-at-requires-clause-fits g c =

@@ -1,4 +1,4 @@
-use Rattle.std.proofs.Common.{◌≡◌, ℕ, ◌+◌, ◌<◌, ◌≤◌, ◌∙◌, length, sym, refl, subst, arith}
+use Rattle.std.proofs.Common.{◌≡◌, ℕ, ◌+◌, ◌<◌, ◌∙◌, length, sym, refl, subst, arith}
 use Rattle.lerc_header.specs.declared.header.Header.{Header}
 use Rattle.lerc_grammar.specs.Blocks.{coded_blocks}
 use Rattle.lerc_encode.specs.inside.Blocked.{IsSpot, bytes_at}
@@ -28,11 +28,11 @@ loop-k-init g c =
         (
           (
             subst (IsMore c.args.most 0 0) (sym small.size) (nothing_more c.args.most),
-            none_marked (IsInFirst h 0) h r c.args.most c.in_ok-eights.eights.size c.in_ok-eights.eights.tables.items small.room small.none (λ k seen. (let low = seen.1.0 in omega (arith, low))),
+            none_marked (IsInFirst h 0) h r c.args.most c.in_ok-eights.eights.size c.in_ok-eights.eights.tables small.room small.none (λ k seen. (let low = seen.1.0 in omega (arith, low))),
           ),
           (
             subst (IsMore c.args.most 0 0) (sym large.size) (nothing_more c.args.most),
-            none_marked (λ i. i < 0) w r c.args.most c.in_ok-sixteens.sixteens.size c.in_ok-sixteens.sixteens.tables.items large.room large.none (λ k low. omega (arith, low)),
+            none_marked (λ i. i < 0) w r c.args.most c.in_ok-sixteens.sixteens.size c.in_ok-sixteens.sixteens.tables large.room large.none (λ k low. omega (arith, low)),
           ),
         ),
       ),
@@ -79,13 +79,13 @@ loop-k-preserved g c =
         (
           (
             small_total h r most k spot a.size b.size there small.0 done.small_size,
-            more_marked (IsInFirst h k) (IsInFirst h (k + 1)) h r most (four_sizes h r spot) a.size b.size a.tables.items b.tables.items small.1 done.small_size done.small_tables
-                (λ le i low seen has. small_here h r c.requires.blocked k spot b.tables.items there (done.small_these le) i low seen has),
+            more_marked (IsInFirst h k) (IsInFirst h (k + 1)) h r most (four_sizes h r spot) a.size b.size a.tables b.tables small.1 done.small_size done.small_tables
+                (λ le i low seen has. small_here h r c.requires.blocked k spot b.tables there (done.small_these le) i low seen has),
           ),
           (
             large_total w r most k spot x.size y.size at large.0 done.large_size,
-            more_marked (λ i. i < k) (λ i. i < k + 1) w r most (length (bytes_at w r spot)) x.size y.size x.tables.items y.tables.items large.1 done.large_size done.large_tables
-                (λ le i low seen has. large_here w r k spot y.tables.items at (done.large_this le) i seen has),
+            more_marked (λ i. i < k) (λ i. i < k + 1) w r most (length (bytes_at w r spot)) x.size y.size x.tables y.tables large.1 done.large_size done.large_tables
+                (λ le i low seen has. large_here w r k spot y.tables at (done.large_this le) i seen has),
           ),
         ),
       ),
@@ -116,9 +116,9 @@ returns-then-sixteens-most-clause-large g c =
 pub returns-clause-small : goal.returns-clause-small
 returns-clause-small g c =
     let all : c.loop-k.k ≡ coded_blocks c.args.large.now = (let e : c.loop-k.k ≡ c.count-k-end.result = omega arith in e) ∙ c.count-k-end.ensures.value in
-    small_done c.args.small.now c.args.large.now (g.V.View.pixels c.args.raster.now) c.args.most c.loop-k.k c.loop-k.eights.size c.loop-k.eights.tables.items c.requires.blocked c.requires.side c.requires.large all c.requires.most c.loop-k.invariant.1.1.0.0 c.loop-k.invariant.1.1.0.1 c.in_ok-small.small c.in_ok-small.ensures
+    small_done c.args.small.now c.args.large.now (g.V.View.pixels c.args.raster.now) c.args.most c.loop-k.k c.loop-k.eights.size c.loop-k.eights.tables c.requires.blocked c.requires.side c.requires.large all c.requires.most c.loop-k.invariant.1.1.0.0 c.loop-k.invariant.1.1.0.1 c.in_ok-small.small c.in_ok-small.ensures
 
 pub returns-clause-large : goal.returns-clause-large
 returns-clause-large g c =
     let all : c.loop-k.k ≡ coded_blocks c.args.large.now = (let e : c.loop-k.k ≡ c.count-k-end.result = omega arith in e) ∙ c.count-k-end.ensures.value in
-    large_done c.args.large.now (g.V.View.pixels c.args.raster.now) c.args.most c.loop-k.k c.loop-k.sixteens.size c.loop-k.sixteens.tables.items all c.requires.most c.loop-k.invariant.1.1.1.0 c.loop-k.invariant.1.1.1.1 c.in_ok-large.large c.in_ok-large.ensures
+    large_done c.args.large.now (g.V.View.pixels c.args.raster.now) c.args.most c.loop-k.k c.loop-k.sixteens.size c.loop-k.sixteens.tables all c.requires.most c.loop-k.invariant.1.1.1.0 c.loop-k.invariant.1.1.1.1 c.in_ok-large.large c.in_ok-large.ensures

@@ -15,5 +15,5 @@ returns-clause-tables g c =
     let told = c.size_and_names-size.result.has_table in
     let has = subst (λ (x : BlockCtx). IsTrue told ↔ (chosen_form x.kind x.col x.step (map (value_above x.kind) c.args.distances.now) ≡ micro.table)) c.context.ensures.value c.size_and_names-size.ensures.table in
     let is = c.requires.table in
-    one_flag h r c.args.k c.args.tally.now.tables.items c.add.new.tally.tables.items told c.add.ensures.room c.add.ensures.this c.add.ensures.others
+    one_flag h r c.args.k c.args.tally.now.tables c.add.new.tally.tables told c.add.ensures.room c.add.ensures.group c.add.ensures.this c.add.ensures.others
     (table_there h r c.args.k c.args.spot told c.requires.spot (λ t. is.0 (has.0 t), λ t. has.1 (is.1 t)))

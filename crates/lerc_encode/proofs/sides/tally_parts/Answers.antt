@@ -29,11 +29,11 @@ pub returns-clause-tables : goal.returns-clause-tables
 returns-clause-tables g c =
     let h = c.args.h.now in
     let r = (g.V.View.pixels c.args.raster.now) in
-    let t0 = c.args.tally.now.tables.items in
-    let t1 = c.tally_behind-first.new.tally.tables.items in
-    let t2 = c.tally_behind-second.new.tally.tables.items in
-    let t3 = c.tally_behind-third.new.tally.tables.items in
-    let t4 = c.tally_behind.new.tally.tables.items in
+    let t0 = c.args.tally.now.tables in
+    let t1 = c.tally_behind-first.new.tally.tables in
+    let t2 = c.tally_behind-second.new.tally.tables in
+    let t3 = c.tally_behind-third.new.tally.tables in
+    let t4 = c.tally_behind.new.tally.tables in
     two_flags h r t0 t1 t4 c.tally_behind-first.ensures.tables (two_flags h r t1 t2 t4 c.tally_behind-second.ensures.tables (two_flags h r t2 t3 t4 c.tally_behind-third.ensures.tables c.tally_behind.ensures.tables))
 
 pub returns-clause-these : goal.returns-clause-these
@@ -41,10 +41,10 @@ returns-clause-these g c = λ le.
     let h = c.args.h.now in
     let r = (g.V.View.pixels c.args.raster.now) in
     let spot = c.args.spot in
-    let t1 = c.tally_behind-first.new.tally.tables.items in
-    let t2 = c.tally_behind-second.new.tally.tables.items in
-    let t3 = c.tally_behind-third.new.tally.tables.items in
-    let t4 = c.tally_behind.new.tally.tables.items in
+    let t1 = c.tally_behind-first.new.tally.tables in
+    let t2 = c.tally_behind-second.new.tally.tables in
+    let t3 = c.tally_behind-third.new.tally.tables in
+    let t4 = c.tally_behind.new.tally.tables in
     let le3 = (c.tally_behind.ensures.size.within le).0 in
     let le2 = (c.tally_behind-third.ensures.size.within le3).0 in
     let le1 = (c.tally_behind-second.ensures.size.within le2).0 in

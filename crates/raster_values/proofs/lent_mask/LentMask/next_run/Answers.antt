@@ -28,6 +28,12 @@ returns-then-self-clause-runs c =
           ∙ get_or-replicate a.count k true false (omega (arith, high, c.requires.within, ap length c.self.view_is, length-marks_with a.count a.valid a.bytes.now));
     }
 
+pub returns-then-self-clause-begins : goal.returns-then-self-clause-begins
+returns-then-self-clause-begins c less =
+    let a = c.self.inside in
+    ap (λ (xs : List Bool). get_or xs c.args.at false) (sym c.self.view_is ∙ all_with a.count a.valid a.bytes.now c.if-self.true)
+    ∙ get_or-replicate a.count c.args.at true false (omega (arith, less, c.requires.within, ap length c.self.view_is, length-marks_with a.count a.valid a.bytes.now))
+
 marked : (c : goal.After-run_after) (k : ℕ) → k < length c.args.self.now → get_or c.args.self.now k false ≡ mask_bit c.self.inside.bytes.now k
 marked c k less =
     let a = c.self.inside in
@@ -42,3 +48,11 @@ returns-clause-runs c = record {
   off = λ k low high. marked c k (omega (arith, high, c.run_after.ensures.second, c.run_after.ensures.within, c.requires.within)) ∙ c.run_after.ensures.off k low high;
   on = λ k low high. marked c k (omega (arith, high, c.run_after.ensures.within, c.requires.within)) ∙ c.run_after.ensures.on k low high;
 }
+
+pub returns-clause-begins : goal.returns-clause-begins
+returns-clause-begins c less =
+    marked c c.run_after.result.start (omega (arith, less, c.requires.within)) ∙ c.run_after.ensures.begins less
+
+pub returns-clause-ends : goal.returns-clause-ends
+returns-clause-ends c less =
+    marked c c.run_after.result.end (omega (arith, less, c.requires.within)) ∙ c.run_after.ensures.ends less

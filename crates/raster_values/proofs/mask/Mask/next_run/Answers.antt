@@ -18,6 +18,12 @@ returns-then-self-clause-runs c =
       on = λ k low high. ap (λ (xs : List Bool). get_or xs k false) (sym c.self.view_is) ∙ all_set ms k full (omega (arith, c.requires.within, count_is c.self.inside _ c.self.view_is, size_is c.self.inside));
     }
 
+pub returns-then-self-clause-begins : goal.returns-then-self-clause-begins
+returns-then-self-clause-begins c less =
+    let ms = seen_mask c.self.inside in
+    let full : count_by (λ m. m) ms ≡ length ms = sym c.self.invariant.counted ∙ c.if-self.true ∙ sym (size_is c.self.inside) in
+    ap (λ (xs : List Bool). get_or xs c.args.at false) (sym c.self.view_is) ∙ all_set ms c.args.at full (omega (arith, less, c.requires.within, count_is c.self.inside _ c.self.view_is, size_is c.self.inside))
+
 pub run_after-requires-clause-few : goal.run_after-requires-clause-few
 run_after-requires-clause-few c = omega (arith, count_is c.self.inside _ c.self.view_is, c.self.invariant.few, c.requires.within)
 
@@ -35,3 +41,9 @@ returns-clause-runs c = record {
   off = λ k low high. marked c k ∙ c.run_after.ensures.off k low high;
   on = λ k low high. marked c k ∙ c.run_after.ensures.on k low high;
 }
+
+pub returns-clause-begins : goal.returns-clause-begins
+returns-clause-begins c less = marked c c.run_after.result.start ∙ c.run_after.ensures.begins less
+
+pub returns-clause-ends : goal.returns-clause-ends
+returns-clause-ends c less = marked c c.run_after.result.end ∙ c.run_after.ensures.ends less

@@ -1,0 +1,13 @@
+use Rattle.std.proofs.Common.{◌+◌, ◌-◌, length, arith}
+use Rattle.delta_mode.proofs.FullPieces.{cell_there}
+use Rattle.delta_mode.proofs.full.read_differences.Goals as goal
+
+pub cell_of-before-requires : goal.cell_of-before-requires
+cell_of-before-requires c =
+    let test = c.loop-i-test.true in
+    cell_there (c.args.place + length c.args.out.now) c.args.depth c.args.d (c.args.place + c.loop-i.i - 1) (length c.args.cells.now) c.requires.depth (omega (arith, test, c.loop-i.invariant.room)) c.requires.size
+
+pub cell_of-requires : goal.cell_of-requires
+cell_of-requires c =
+    let test = c.loop-i-test.true in
+    cell_there (c.args.place + length c.args.out.now) c.args.depth c.args.d (c.args.place + c.loop-i.i) (length c.args.cells.now) c.requires.depth (omega (arith, test, c.loop-i.invariant.room)) c.requires.size
