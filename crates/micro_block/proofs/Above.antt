@@ -1,10 +1,10 @@
 -- Values by their distances from the least value of their type.
-use Rattle.std.proofs.Common.{◌≡◌, ℕ, ℤ, pos, ◌+◌, ◌-◌, ◌*◌, ◌/◌, ◌^◌, ◌<◌, ◌≤◌, ◌+ℤ◌, ◌-ℤ◌, ◌≤ℤ◌, min, max, List, [], ◌∷◌, ◌++◌, map, length, take, get_or, refl, sym, ap, subst, ◌∙◌, arith, inl, inr}
+use Rattle.std.proofs.Common.{◌≡◌, ℕ, ℤ, pos, ◌+◌, ◌-◌, ◌*◌, ◌/◌, ◌^◌, ◌<◌, ◌≤◌, ◌+ℤ◌, ◌-ℤ◌, ◌≤ℤ◌, min, max, List, [], ◌∷◌, ◌++◌, map, length, take, drop, get_or, refl, sym, ap, subst, ◌∙◌, arith, inl, inr}
 use Rattle.std.specs.Prelude.{All, Contains, unsigned_abs}
 use Rattle.std.proofs.lemmas.Bool.{cases_lt}
 use Rattle.std.proofs.lemmas.Int.{ints}
 use Rattle.std.proofs.lemmas.List.{get_or-map, length-append, length-map, length-take, take_more}
-use Rattle.std.proofs.lemmas.List.Elements.{All-contains, All-from_get_or, All-head, All-map, All-nil, All-push, All-same, All-tail, All-take, All-weaker, Contains-append_left, Contains-push}
+use Rattle.std.proofs.lemmas.List.Elements.{All-contains, All-drop, All-from_get_or, All-get_or, All-head, All-map, All-nil, All-push, All-same, All-tail, All-take, All-weaker, Contains-append_left, Contains-push}
 use Rattle.lane_kernels.specs.Kernels.{IsLeast, IsGreatest}
 use Rattle.bit_stuff.specs.Simple.{greatest_number}
 use Rattle.bit_stuff.proofs.Digits.{greatest_above}
@@ -14,7 +14,7 @@ use Rattle.raster_values.specs.Distance.{IsDistance, distance_of, value_above}
 use Rattle.raster_values.specs.PixelType.{InRange, type_least}
 use Rattle.micro_block.specs.declared.spreading.Spread.{Spread}
 use Rattle.micro_block.specs.declared.stepping.Rule.{Rule}
-use Rattle.micro_block.specs.declared.stepping.Rule.TheVariants.{Divide}
+use Rattle.micro_block.specs.declared.stepping.Rule.TheVariants.{Subtract, Shift, Multiply, Divide}
 use Rattle.micro_block.specs.ChosenBlock.{quantised_values}
 use Rattle.micro_block.specs.Near.{quantised}
 use Rattle.micro_block.specs.inside.Stepping.{AreEndsOf, AreListable, AreStepped, IsRule, IsSpread, steps_above}
@@ -139,17 +139,20 @@ spread_none kind step n some fits e is =
       most = refl;
     }
 
--- what goes into a list
-pub listable : (kind : PixelType) (step : ℕ) (ds : List ℕ) (s : Spread) → length ds ≤ 256 → IsSpread kind step ds s → s.most < 2 ^ 30 → AreListable step s.least s.rule ds
-listable kind step ds s few is low =
-    record { count = few; stepped = is.stepped; few = All-from_get_or (λ d. steps_above step s.least d < 2 ^ 30) ds 0 (λ i lt. below i lt) }
+-- no number of steps is above the greatest's
+pub steps_below : (kind : PixelType) (step n : ℕ) (ds : List ℕ) (s : Spread) → IsSpread kind step ds s → s.most < n → All (λ d. steps_above step s.least d < n) ds
+steps_below kind step n ds s is low = All-from_get_or (λ d. steps_above step s.least d < n) ds 0 (λ i lt. below i lt)
   where
-    below : (i : ℕ) → i < length ds → steps_above step s.least (get_or ds i 0) < 2 ^ 30
+    below : (i : ℕ) → i < length ds → steps_above step s.least (get_or ds i 0) < n
     below i lt =
         let at : get_or (map (steps_above step s.least) ds) i 0 ≡ steps_above step s.least (get_or ds i 0) = get_or-map (steps_above step s.least) ds i 0 0 lt in
         let most = is.most in
         let le = greatest_above (map (steps_above step s.least) ds) i in
         omega (arith, at, most, le, low)
+
+-- what goes into a list
+pub listable : (kind : PixelType) (step : ℕ) (ds : List ℕ) (s : Spread) → length ds ≤ 256 → IsSpread kind step ds s → s.most < 2 ^ 30 → AreListable step s.least s.rule ds
+listable kind step ds s few is low = record { count = few; stepped = is.stepped; few = steps_below kind step (2 ^ 30) ds s is low }
 
 pub all_below : (step l : ℕ) (ds qs : List ℕ) → qs ≡ map (steps_above step l) ds → All (λ d. steps_above step l d < 2 ^ 30) ds → All (λ q. q < 2 ^ 31) qs
 all_below step l ds qs e few =
@@ -157,6 +160,9 @@ all_below step l ds qs e few =
     (All-map (λ q. q < 2 ^ 31) (steps_above step l) ds (All-weaker (λ d. steps_above step l d < 2 ^ 30) (λ d. steps_above step l d < 2 ^ 31) (λ d below. omega (arith, below)) ds few))
 
 -- the front of a list
+stepped_front : (step l n : ℕ) (rule : Rule) (ds : List ℕ) → AreStepped step l rule ds → AreStepped step l rule (take n ds)
+stepped_front step l n rule ds s = record { reach = s.reach; is_rule = s.is_rule; from = All-take (λ d. l ≤ d) n ds s.from; near = All-take (λ d. d - l ≤ s.reach) n ds s.near; some = s.some; step_fits = s.step_fits }
+
 pub listable_front : (step l n : ℕ) (rule : Rule) (ds : List ℕ) → AreListable step l rule ds → AreListable step l rule (take n ds)
 listable_front step l n rule ds s =
     let count = s.count in
@@ -166,9 +172,25 @@ listable_front step l n rule ds s =
       stepped = stepped_front step l n rule ds s.stepped;
       few = All-take (λ d. steps_above step l d < 2 ^ 30) n ds s.few;
     }
-  where
-    stepped_front : (step l n : ℕ) (rule : Rule) (ds : List ℕ) → AreStepped step l rule ds → AreStepped step l rule (take n ds)
-    stepped_front step l n rule ds s = record { reach = s.reach; is_rule = s.is_rule; from = All-take (λ d. l ≤ d) n ds s.from; near = All-take (λ d. d - l ≤ s.reach) n ds s.near; some = s.some; step_fits = s.step_fits }
+
+-- a piece of it
+pub stepped_piece : (step l at n : ℕ) (rule : Rule) (ds : List ℕ) → AreStepped step l rule ds → AreStepped step l rule (take n (drop at ds))
+stepped_piece step l at n rule ds s =
+    stepped_front step l n rule (drop at ds)
+    (record { reach = s.reach; is_rule = s.is_rule; from = All-drop (λ d. l ≤ d) at ds s.from; near = All-drop (λ d. d - l ≤ s.reach) at ds s.near; some = s.some; step_fits = s.step_fits })
+
+-- a rule serves what is nearer, too
+rule_nearer : (step reach near : ℕ) (rule : Rule) → near ≤ reach → IsRule step reach rule → IsRule step near rule
+rule_nearer step reach near Subtract le h = h
+rule_nearer step reach near (Shift half shift) le h = (h.0, (h.1.0, (h.1.1.0, (let far = h.1.1.1 in omega (arith, far, le)))))
+rule_nearer step reach near (Multiply half product) le h = (h.0, ((let far = h.1.0 in omega (arith, far, le)), h.1.1))
+rule_nearer step reach near Divide le h = h
+
+pub rule_at : (step l i : ℕ) (rule : Rule) (ds : List ℕ) → AreStepped step l rule ds → i < length ds → IsRule step (get_or ds i 0 - l) rule
+rule_at step l i rule ds s lt = rule_nearer step s.reach (get_or ds i 0 - l) rule (All-get_or (λ d. d - l ≤ s.reach) ds i 0 lt s.near) s.is_rule
+
+pub least_at : (step l i : ℕ) (rule : Rule) (ds : List ℕ) → AreStepped step l rule ds → i < length ds → l ≤ get_or ds i 0
+least_at step l i rule ds s lt = All-get_or (λ d. l ≤ d) ds i 0 lt s.from
 
 -- values as distances
 pub distance_fits : (kind : PixelType) (v : ℤ) → InRange kind v → IsDistance kind (distance_of kind v)

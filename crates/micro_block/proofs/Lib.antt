@@ -14,6 +14,7 @@ mod Chosen
 mod WriteSteps
 mod QuantiseSteps
 mod ShortTables
+mod RemainderSets
 mod InPlace
 mod KeptBounds
 mod FarApart

@@ -4,13 +4,7 @@ use Rattle.std.specs.Prelude.{set, min}
 use Rattle.std.proofs.lemmas.Bool.{cases_eq, cases_lt}
 use Rattle.std.proofs.lemmas.List.{get_or-set_other, get_or-set_same}
 use Rattle.std.proofs.Math.Nat.{pow-le-pow_right}
-use Rattle.std.proofs.lemmas.Nat.{ones_le_self, pow-add, pow_pos}
-use Rattle.std.proofs.lemmas.Nat.Bits.{bit_at_set_other, bit_at_set_same}
-use Rattle.std.proofs.Math.Nat.{div-div-eq-div-mul, pow-suc}
-use Rattle.std.specs.Int.{bit_at}
-use lib.Bits.{bit_or, or_step, or_zero_r}
-use lib.Count.{ones, ones_step}
-use mir.Syntax.{w64}
+use Rattle.std.proofs.lemmas.Nat.{pow-add, pow_pos}
 use Rattle.bit_stuff.specs.Simple.{binary_digits}
 use Rattle.bit_stuff.specs.Stuffed.{stuffed_size}
 use Rattle.bit_stuff.proofs.Digits.{digits-le, digits-zero, digits_hold_below}
@@ -129,14 +123,25 @@ without x (y ∷ ys) (inr h) = from (without x ys h)
         keep z (inl f) other = inl f
         keep z (inr g) other = inr (w.keeps z g other)
 
+-- different numbers, each of which is what a function gives of some member of a list, are at most as many as the list has
+pub image_fit : (g : ℕ → ℕ) (xs ys : List ℕ) → Different xs → ((z : ℕ) → Has z xs → (y : ℕ) × (Has y ys × (g y ≡ z))) → length xs ≤ length ys
+image_fit g [] ys d h = omega arith
+image_fit g (x ∷ xs) ys d h =
+    let f = h x (inl refl) in
+    let w = without f.0 ys f.1.0 in
+    let size = w.size in
+    let le = image_fit g xs w.rest d.1 (λ z has. kept w z has (h z (inr has))) in
+    omega (arith, size, le)
+  where
+    f : (y : ℕ) × (Has y ys × (g y ≡ x))
+    f = h x (inl refl)
+
+    kept : (w : Without f.0 ys) (z : ℕ) → Has z xs → (y : ℕ) × (Has y ys × (g y ≡ z)) → (y : ℕ) × (Has y w.rest × (g y ≡ z))
+    kept w z has s = (s.0, (w.keeps s.0 s.1.0 (λ e. d.0 (subst (λ (u : ℕ). Has u xs) (sym s.1.1 ∙ ap g e ∙ f.1.1) has)), s.1.1))
+
 -- different members of a list are at most as many as the list has
 pub different_fit : (xs ys : List ℕ) → Different xs → ((z : ℕ) → Has z xs → Has z ys) → length xs ≤ length ys
-different_fit [] ys d h = omega arith
-different_fit (x ∷ xs) ys d h =
-    let w = without x ys (h x (inl refl)) in
-    let size = w.size in
-    let le = different_fit xs w.rest d.1 (λ z has. w.keeps z (h z (inr has)) (λ e. d.0 (subst (λ (u : ℕ). Has u xs) e has))) in
-    omega (arith, size, le)
+different_fit xs ys d h = image_fit (λ y. y) xs ys d (λ z has. (z, (h z has, refl)))
 
 -- so many different numbers have been seen, and their remainders modulo m are marked
 pub record AreSeen (m : ℕ) (seen : List Bool) (count : ℕ) (front : List ℕ) : Type 0 where
@@ -216,7 +221,7 @@ few_entries k most n low is = let small : k ≤ 7 = omega (arith, low) in let hi
 
 -- ---- the front of a list has no more different numbers than the list
 
-rising_different : (b : ℕ) (xs : List ℕ) → Rising b xs → Different xs
+pub rising_different : (b : ℕ) (xs : List ℕ) → Rising b xs → Different xs
 rising_different b [] up = tt
 rising_different b (x ∷ xs) up = (λ h. (let low = rising_above x xs x up.1 h in absurd (omega (arith, low))), rising_different x xs up.1)
 
@@ -254,96 +259,3 @@ seen_next m seen count front x n within e s = by (get_or seen (x % m) false) ref
         let a = seen_again m seen count front x s in
         let size = s.size in
         record { members = s.members; size = omega (arith, size, none); different = s.different; from = a.from; marked = λ z h. kept (z % m) (s.marked z h) }
-
--- ---- remainders as bits
-
--- one bit more in a set of bits
-ones_or : (k n : ℕ) → ones (bit_or n (2 ^ k)) ≡ ones n + (1 - n / 2 ^ k % 2)
-ones_or zero n =
-    let m = bit_or n 1 in
-    let step : m ≡ n / 2 * 2 + 1 = or_step n 1 ∙ (let none = or_zero_r (n / 2) in let z : bit_or (n / 2) (1 / 2) ≡ n / 2 = none in omega (arith, z)) in
-    let half : m / 2 ≡ n / 2 = omega (arith, step) in
-    let same = ap ones half in
-    let one : m % 2 ≡ 1 = omega (arith, step) in
-    omega (arith, ones_step m, ones_step n, same, one)
-ones_or (suc k) n =
-    let p = 2 ^ suc k in
-    let twice : p ≡ 2 ^ k * 2 = pow-suc 2 k in
-    let m = bit_or n p in
-    let low : p / 2 ≡ 2 ^ k = omega (arith, twice) in
-    let none : p % 2 ≡ 0 = omega (arith, twice) in
-    let rest : bit_or (n / 2) (p / 2) ≡ bit_or (n / 2) (2 ^ k) = ap (bit_or (n / 2)) low in
-    let step : m ≡ bit_or (n / 2) (2 ^ k) * 2 + n % 2 = omega (arith, or_step n p, rest, none) in
-    let half : m / 2 ≡ bit_or (n / 2) (2 ^ k) = omega (arith, step) in
-    let same = ap ones half in
-    let parity : m % 2 ≡ n % 2 = omega (arith, step) in
-    let deeper : n / 2 / 2 ^ k ≡ n / p = div-div-eq-div-mul n 2 (2 ^ k) ∙ ap (λ (d : ℕ). n / d) (let e : 2 * 2 ^ k ≡ p = omega (arith, twice) in e) in
-    let deeper_bit : n / 2 / 2 ^ k % 2 ≡ n / p % 2 = ap (λ (d : ℕ). d % 2) deeper in
-    omega (arith, ones_step m, ones_step n, same, parity, ones_or k (n / 2), deeper_bit)
-
--- so many different numbers have been seen, and the bits of their remainders modulo 64 are set
-pub record AreBits (marks : ℕ) (front : List ℕ) : Type 0 where
-  pub members : List ℕ
-  pub size : length members ≡ ones marks
-  pub different : Different members
-  pub from : (z : ℕ) → Has z members → Has z front
-  pub marked : (z : ℕ) → Has z members → bit_at marks (z % 64) ≡ 1
-
-pub no_bits : AreBits 0 []
-no_bits = record { members = []; size = sym none; different = tt; from = λ z h. h; marked = λ z h. absurd h }
-  where
-    none : ones 0 ≡ 0
-    none = omega (arith, ones_le_self 0)
-
--- one number more
-pub bits_more : (marks x : ℕ) (front : List ℕ) → AreBits marks front → AreBits (bit_or marks (1 * 2 ^ (x % 64) % 18446744073709551616)) (front ++ x ∷ [])
-bits_more marks x front s = by (bit_at marks (x % 64)) refl
-  where
-    within : x % 64 < 64
-    within = omega arith
-
-    shift : 1 * 2 ^ (x % 64) % 18446744073709551616 ≡ 2 ^ (x % 64)
-    shift = let most : x % 64 ≤ 63 = omega arith in let high : 2 ^ (x % 64) ≤ 2 ^ 63 = pow-le-pow_right (omega arith) most in omega (arith, high)
-
-    count : ones (bit_or marks (1 * 2 ^ (x % 64) % 18446744073709551616)) ≡ ones marks + (1 - bit_at marks (x % 64))
-    count = ap (λ (p : ℕ). ones (bit_or marks p)) shift ∙ ones_or (x % 64) marks
-
-    kept : (z : ℕ) → bit_at marks z ≡ 1 → bit_at (bit_or marks (1 * 2 ^ (x % 64) % 18446744073709551616)) z ≡ 1
-    kept z h = elim (cases_eq z (x % 64)) [
-      | inl same ↦ subst (λ (u : ℕ). bit_at (bit_or marks (1 * 2 ^ (x % 64) % 18446744073709551616)) u ≡ 1) (sym same) (bit_at_set_same w64 marks (x % 64) within)
-      | inr other ↦ bit_at_set_other w64 marks (x % 64) within z other ∙ h
-    ]
-
-    by : (b : ℕ) → bit_at marks (x % 64) ≡ b → AreBits (bit_or marks (1 * 2 ^ (x % 64) % 18446744073709551616)) (front ++ x ∷ [])
-    by zero new =
-        let size = s.size in
-        record {
-          members = x ∷ s.members;
-          size = omega (arith, count, new, size);
-          different = (λ h. (let old = s.marked x h in absurd (omega (arith, old, new))), s.different);
-          from = from_all;
-          marked = marked_all;
-        }
-      where
-        from_all : (z : ℕ) → Has z (x ∷ s.members) → Has z (front ++ x ∷ [])
-        from_all z (inl e) = subst (λ (u : ℕ). Has u (front ++ x ∷ [])) (sym e) (has_last x front)
-        from_all z (inr h) = has_push z x front (s.from z h)
-
-        marked_all : (z : ℕ) → Has z (x ∷ s.members) → bit_at (bit_or marks (1 * 2 ^ (x % 64) % 18446744073709551616)) (z % 64) ≡ 1
-        marked_all z (inl e) = subst (λ (u : ℕ). bit_at (bit_or marks (1 * 2 ^ (x % 64) % 18446744073709551616)) (u % 64) ≡ 1) (sym e) (bit_at_set_same w64 marks (x % 64) within)
-        marked_all z (inr h) = kept (z % 64) (s.marked z h)
-    by (suc b) again =
-        let size = s.size in
-        record { members = s.members; size = omega (arith, count, again, size); different = s.different; from = λ z h. has_push z x front (s.from z h); marked = λ z h. kept (z % 64) (s.marked z h) }
-
--- as many different numbers there are, but for 0
-pub bits_distinct : (marks : ℕ) (qs : List ℕ) → AreBits marks qs → ones marks ≤ 1 + distinct_above_0 qs
-bits_distinct marks qs s =
-    let le = different_fit s.members (0 ∷ entries_of qs) s.different (λ z h. placed z (s.from z h)) in
-    let n = s.size in
-    let d = distinct_is qs in
-    omega (arith, le, n, d)
-  where
-    placed : (z : ℕ) → Has z qs → Has z (0 ∷ entries_of qs)
-    placed zero h = inl refl
-    placed (suc z) h = inr (entries_have qs (suc z) h (omega arith))

@@ -3,6 +3,7 @@ pub mod Tagged
 pub mod Sizes
 pub mod Forms
 pub mod Products
+pub mod Remainders
 pub mod Shorter
 pub mod Stepping
 pub mod SoFar

@@ -14,6 +14,7 @@ mod first;
 mod laws;
 mod quantising;
 mod reading;
+mod remainders;
 mod shorter;
 mod sizes;
 mod spreading;

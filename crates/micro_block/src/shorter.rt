@@ -1,7 +1,6 @@
 // Where a table can be shorter than a list in the simple form.
 
 ghost use Rattle.std.specs.Prelude.{◌≡◌, ℕ, ◌+◌, ◌^◌, ◌<◌, ◌≤◌, length, true, MatchOption};
-ghost use Rattle.std.specs.Prelude.{count_ones};
 ghost use Rattle.lut_stuff.specs.Tables.{distinct_above_0};
 ghost use Rattle.micro_block.specs.inside.Shorter.{AreLongAbove, BoundsAt, IsLong};
 
@@ -41,6 +40,17 @@ fn most_counted(count: usize, width: u32) -> usize
     0
 }
 
+/// The most entries for 8 numbers, by their width.
+static MOST_OF_8: [u8; 31] = [
+    0, 0, 0, 0, 1, 1, 2, 3, 3, 3, 4, 4, 4, 4, 5, 5, 5, 5, 5, 5, 6, 6, 6, 6, 6, 6, 6, 6, 6, 6, 6,
+];
+
+/// The most entries for 16 numbers, by their width.
+static MOST_OF_16: [u8; 31] = [
+    0, 0, 0, 1, 3, 3, 5, 6, 7, 7, 8, 8, 9, 9, 10, 10, 11, 11, 11, 11, 12, 12, 12, 12, 12, 12, 12,
+    13, 13, 13, 13,
+];
+
 /// The most entries for 64 numbers, by their width.
 static MOST_OF_64: [u8; 31] = [
     0, 0, 1, 3, 7, 9, 15, 16, 22, 26, 30, 31, 31, 33, 35, 37, 39, 40, 41, 42, 44, 44, 45, 46, 47,
@@ -53,7 +63,8 @@ static MOST_OF_256: [u8; 31] = [
     162, 166, 170, 173, 176, 179, 182, 184, 187,
 ];
 
-/// The same: as it is kept for the numbers of values that whole blocks have, and else counted.
+/// The same: as it is kept for the numbers of values that whole blocks have, and those of one row or
+/// one column, and else counted.
 pub(crate) fn most_entries(count: usize, width: u32) -> usize
     requires count { count ≤ 256 }
     requires width { (0 < width) × (width ≤ 30) }
@@ -61,30 +72,12 @@ pub(crate) fn most_entries(count: usize, width: u32) -> usize
     ensures few { result ≤ 256 }
 {
     match count {
+        8 => usize::from(MOST_OF_8[width as usize]),
+        16 => usize::from(MOST_OF_16[width as usize]),
         64 => usize::from(MOST_OF_64[width as usize]),
         256 => usize::from(MOST_OF_256[width as usize]),
         _ => most_counted(count, width),
     }
-}
-
-/// The set of the remainders of the numbers modulo 64, one bit each.
-fn remainders(qs: &[u32]) -> u64
-    ensures { count_ones result ≤ 1 + distinct_above_0 qs.now }
-{
-    let mut bits = 0;
-    for q in qs {
-        bits |= 1u64 << (*q % 64);
-    }
-    bits
-}
-
-/// Whether more different numbers above 0 than the bound are found, told apart by their remainders
-/// modulo 64: so it may answer no where there are more.
-pub(crate) fn has_more_remainders(qs: &[u32], bound: usize) -> bool
-    requires bound { bound ≤ 256 }
-    ensures { result ≡ true → bound < distinct_above_0 qs.now }
-{
-    remainders(qs).count_ones() as usize > bound + 1
 }
 
 /// Whether more different numbers above 0 than the bound are found, told apart by their remainders

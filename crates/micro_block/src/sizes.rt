@@ -1,8 +1,8 @@
 // How long a block is in each form.
 
-ghost use Rattle.std.specs.Prelude.{◌≡◌, ℕ, ◌+◌, ◌≤◌, ◌<◌, ◌^◌, length, map, true, IfSome};
+ghost use Rattle.std.specs.Prelude.{◌≡◌, ℕ, ◌+◌, ◌≤◌, ◌<◌, ◌^◌, ◌⊎◌, length, map, true, All, IfSome, None};
 ghost use Rattle.bit_stuff.specs.Head.{head_size};
-ghost use Rattle.bit_stuff.specs.Simple.{binary_digits};
+ghost use Rattle.bit_stuff.specs.Simple.{binary_digits, width_of};
 ghost use Rattle.bit_stuff.specs.Stuffed.{stuffed_size};
 ghost use Rattle.lut_stuff.specs.Tables.{distinct_above_0, table_size};
 ghost use Rattle.micro_block.specs.ChosenBlock as chosen_block;
@@ -11,11 +11,12 @@ ghost use Rattle.micro_block.specs.inside.Sizes.{closed_sizes, IsTabledLength};
 ghost use Rattle.micro_block.specs.inside.Stepping.{AreListable, IsSpread, steps_above};
 ghost use Rattle.micro_block.specs.inside.Stepping.{values_above};
 
-use crate::shorter::{has_more, has_more_remainders, most_entries};
+use crate::remainders::remainders_within;
+use crate::shorter::{has_more, most_entries};
 use crate::spreading::Spread;
 use crate::stepping::{Rule, steps_each};
 use bit_stuff::{digit_count, head_len, stuffed_len};
-use lut_stuff::table_len;
+use lut_stuff::{known_len, table_len};
 use raster_values::PixelType;
 
 fn holds(kind: PixelType, value: i64) -> bool
@@ -150,52 +151,6 @@ fn table_of(distances: &[u32], least: u32, rule: Rule, step: u64) -> Option<usiz
 }
 
 /// Whether more different numbers of steps above 0 than the bound are found, told apart by their
-/// remainders modulo 64, with room for the numbers.
-fn has_more_remainders_with(
-    distances: &[u32],
-    least: u32,
-    rule: Rule,
-    step: u64,
-    bound: usize,
-    qs: &mut [u32],
-) -> bool
-    requires lengths { length qs.old ≡ length distances.now }
-    requires listable { AreListable step least rule distances.now }
-    requires bound { bound ≤ 256 }
-    ensures { result ≡ true →
-        bound < distinct_above_0 (map (steps_above step least) distances.now) }
-{
-    steps_each(distances, least, rule, step, qs);
-    has_more_remainders(qs, bound)
-}
-
-/// The same of the first `M` alone, with room that it makes.
-fn front_has_more<const M: usize>(
-    distances: &[u32],
-    least: u32,
-    rule: Rule,
-    step: u64,
-    bound: usize,
-) -> bool
-    requires front { M ≤ 256 }
-    requires listable { AreListable step least rule distances.now }
-    requires bound { bound ≤ 256 }
-    ensures { result ≡ true →
-        bound < distinct_above_0 (map (steps_above step least) distances.now) }
-{
-    let count = distances.len().min(M);
-    let mut qs = [0; M];
-    has_more_remainders_with(
-        &distances[..count],
-        least,
-        rule,
-        step,
-        bound,
-        &mut qs[..count],
-    )
-}
-
-/// Whether more different numbers of steps above 0 than the bound are found, told apart by their
 /// remainders modulo `N`, with room for the numbers.
 fn has_more_with<const N: usize>(
     distances: &[u32],
@@ -251,19 +206,35 @@ fn has_more_steps(distances: &[u32], least: u32, rule: Rule, step: u64, bound: u
     ensures { result ≡ true →
         bound < distinct_above_0 (map (steps_above step least) distances.now) }
 {
-    if bound <= 10 && front_has_more::<16>(distances, least, rule, step, bound) {
-        return true;
-    }
-    if bound <= 22 && front_has_more::<32>(distances, least, rule, step, bound) {
-        return true;
-    }
-    if bound <= 42 && front_has_more::<64>(distances, least, rule, step, bound) {
-        return true;
+    if bound <= 42 {
+        return remainders_within(distances, least, rule, step, bound).is_none();
     }
     if bound <= 85 && marked_front_has_more::<128, 256>(distances, least, rule, step, bound) {
         return true;
     }
     distances.len() > 64 && marked_front_has_more::<256, 1024>(distances, least, rule, step, bound)
+}
+
+/// How many bytes the list takes in the table form, where all numbers of steps are below 64 and the
+/// greatest has `width` binary digits. None where more different ones above 0 than the bound are found.
+fn small_table(
+    distances: &[u32],
+    least: u32,
+    rule: Rule,
+    step: u64,
+    width: u32,
+    bound: usize,
+) -> Option<usize>
+    requires listable { AreListable step least rule distances.now }
+    requires small { All (λ d. steps_above step least d < 64) distances.now }
+    requires width { width ≡ width_of (map (steps_above step least) distances.now) }
+    requires bound { bound ≤ 256 }
+    ensures value { let qs = map (steps_above step least) distances.now in
+        (result ≡ table_size qs) ⊎ ((result ≡ None) × (bound < distinct_above_0 qs)) }
+    ensures short { IfSome result (λ n. n ≤ 2000) }
+{
+    let bits = remainders_within(distances, least, rule, step, bound)?;
+    known_len(distances.len(), width, bits.count_ones() as usize - 1)
 }
 
 /// How many bytes the list takes in the table form, where it may stand and is shorter than in the
@@ -283,9 +254,13 @@ pub(crate) fn tabled_len(
     if most == 0 || most >= 1 << 30 {
         return None;
     }
-    let bound = most_entries(distances.len(), digit_count(most));
+    let width = digit_count(most);
+    let bound = most_entries(distances.len(), width);
     if bound == 0 {
         return None;
+    }
+    if most < 64 {
+        return small_table(distances, least, rule, step, width, bound);
     }
     if has_more_steps(distances, least, rule, step, bound) {
         return None;
