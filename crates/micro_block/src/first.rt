@@ -6,6 +6,7 @@ ghost use Rattle.micro_block.specs.inside.SoFar.{former_of};
 
 /// The place of the first of the least sizes, of those that are there, and that size. None where
 /// none is there.
+#[inline(always)]
 pub fn first_least(sizes: &[Option<usize>]) -> Option<(usize, usize)>
     ensures { MatchOption result ((i n : ℕ) → get_or sizes.now i None ≡ Some n → ⊥)
         (λ p. IsFirstLeast (λ m. m) sizes.now p.0 p.1) }
@@ -18,6 +19,7 @@ pub fn first_least(sizes: &[Option<usize>]) -> Option<(usize, usize)>
 }
 
 // The place and size so far, or the next where it is smaller.
+#[inline(always)]
 fn former(best: Option<(usize, usize)>, k: usize, size: Option<usize>) -> Option<(usize, usize)>
     ensures { result ≡ former_of best k size }
 {

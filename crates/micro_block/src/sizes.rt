@@ -89,6 +89,7 @@ fn list_size(count: usize, most: u32) -> usize
 
 /// How many bytes the block of `count` values takes in each form, the least of which is `least` and
 /// the greatest of which has `most` steps: None where the form may not be.
+#[inline(always)]
 pub(crate) fn form_sizes(
     count: usize,
     kind: PixelType,

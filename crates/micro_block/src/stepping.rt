@@ -164,6 +164,7 @@ fn divided(distance: u32, least: u32, step: u64) -> u32
 }
 
 /// The number of steps of one distance, rounded to the nearest, halves upwards.
+#[inline(always)]
 pub(crate) fn steps_at(distance: u32, least: u32, rule: Rule, step: u64) -> u32
     requires from { least ≤ distance }
     requires rule { IsRule step (distance - least) rule }
