@@ -29,16 +29,14 @@ fn is_set(flags: &[u64], k: usize) -> bool
     (flags[k / 64] >> (k % 64)) & 1 == 1
 }
 
-/// Sets flag number k where that is told, and leaves all others.
-fn set_where(flags: &mut [u64], k: usize, told: bool)
+/// Sets flag number k, and leaves all others.
+fn set_flag(flags: &mut [u64], k: usize)
     requires { k < 64 * length flags.old }
     ensures room { length flags.new ≡ length flags.old }
-    ensures this { IsFlagged flags.new k ↔ (IsFlagged flags.old k ⊎ IsTrue told) }
+    ensures this { IsFlagged flags.new k }
     ensures others { (i : ℕ) → (i ≡ k → ⊥) → IsFlagged flags.new i ↔ IsFlagged flags.old i }
 {
-    if told {
-        flags[k / 64] |= 1 << (k % 64);
-    }
+    flags[k / 64] |= 1 << (k % 64);
 }
 
 /// Flags for the first so many numbers in groups, none of them set.
@@ -90,6 +88,8 @@ pub(crate) fn mark_where(flags: &mut Flags, k: usize, told: bool)
     ensures others { (i : ℕ) → (i / flags.old.group ≡ k / flags.old.group → ⊥)
         → IsMarked flags.new i ↔ IsMarked flags.old i }
 {
-    let place = place_of(flags, k);
-    set_where(&mut flags.words, place, told);
+    if told {
+        let place = place_of(flags, k);
+        set_flag(&mut flags.words, place);
+    }
 }

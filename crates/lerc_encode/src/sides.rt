@@ -80,7 +80,8 @@ fn number_of<V: View>(h: &Header, raster: &V, spot: Spot) -> usize
     ensures within { result < coded_blocks h.now }
     ensures spot { IsSpot h.now result spot }
 {
-    let block = (spot.row / 8) as usize * across(h, raster) + (spot.col / 8) as usize;
+    let across = (h.cols as usize + 7) / 8;
+    let block = (spot.row / 8) as usize * across + (spot.col / 8) as usize;
     block * h.depth as usize + spot.d as usize
 }
 

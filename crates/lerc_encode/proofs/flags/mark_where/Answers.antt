@@ -4,12 +4,12 @@ use Rattle.std.proofs.lemmas.List.{with_items_is}
 use Rattle.lerc_encode.specs.inside.Flags.{room_of}
 use Rattle.lerc_encode.proofs.flags.mark_where.Goals as goal
 
-pub returns-clause-room : goal.returns-clause-room
+pub returns-then-told-clause-room : goal.returns-then-told-clause-room
 unfolding room_of
-returns-clause-room c =
+returns-then-told-clause-room c =
     let flags = c.args.flags.now in
-    let new = c.set_where.new.flags in
-    let room = c.set_where.ensures.room in
+    let new = c.set_flag.new.flags in
+    let room = c.set_flag.ensures.room in
     let value = c.deref_mut.ensures.value in
     let len = c.deref_mut.ensures.len in
     let items : (with_items flags.words new).items ≡ new = with_items_is flags.words new (omega (arith, room, len)) in

@@ -1,14 +1,34 @@
-use Rattle.std.proofs.Common.{◌≡◌, ℕ, ◌+◌, ◌*◌, ◌/◌, ◌%◌, ◌<◌, sym, subst}
+use Rattle.std.proofs.Common.{◌≡◌, ℕ, ◌+◌, ◌-◌, ◌*◌, ◌/◌, ◌%◌, ◌<◌, sym, subst, arith}
+use Rattle.lerc_header.specs.declared.header.Header.{Header}
 use Rattle.lerc_grammar.specs.Blocks.{coded_blocks}
+use Rattle.lerc_encode.specs.declared.blocks.Spot.{Spot}
+use Rattle.lerc_encode.specs.inside.Blocked.{IsSpot}
 use Rattle.lerc_encode.specs.inside.Sides.{number_at}
 use Rattle.lerc_encode.proofs.Quartered.{spot_numbered}
 use Rattle.lerc_encode.proofs.sides.number_of.Goals as goal
+
+-- the number with the side written out
+written_out : (h : Header) (spot : Spot) → h.side ≡ 8 → (spot.row / 8 * ((h.cols + 7) / 8) + spot.col / 8) * h.depth + spot.d ≡ number_at h spot
+written_out h spot eight =
+    let side : 8 ≡ h.side = sym eight in
+    let more : h.cols + 7 ≡ h.cols + h.side - 1 = omega (arith, eight) in
+    (λ t. (spot.row / side t * (more t / side t) + spot.col / side t) * h.depth + spot.d)
+
+pub returns-clause-value : goal.returns-clause-value
+returns-clause-value g c = written_out c.args.h.now c.args.spot c.requires.side
 
 pub returns-clause-within : goal.returns-clause-within
 returns-clause-within g c =
     let h = c.args.h.now in
     let spot = c.args.spot in
     let side : 8 ≡ h.side = sym c.requires.side in
-    let low = (spot_numbered h spot c.requires.blocked.side_above c.requires.within (subst (λ (n : ℕ). spot.row % n ≡ 0) side c.requires.row) (subst (λ (n : ℕ). spot.col % n ≡ 0) side c.requires.col)).1 in
-    let is : (spot.row / 8 * c.across.result + spot.col / 8) * h.depth + spot.d ≡ number_at h spot = (λ t. (spot.row / side t * c.across.ensures.value t + spot.col / side t) * h.depth + spot.d) in
-    subst (λ (n : ℕ). n < coded_blocks h) (sym is) low
+    let numbered = spot_numbered h spot c.requires.blocked.side_above c.requires.within (subst (λ (n : ℕ). spot.row % n ≡ 0) side c.requires.row) (subst (λ (n : ℕ). spot.col % n ≡ 0) side c.requires.col) in
+    subst (λ (n : ℕ). n < coded_blocks h) (sym (written_out h spot c.requires.side)) numbered.1
+
+pub returns-clause-spot : goal.returns-clause-spot
+returns-clause-spot g c =
+    let h = c.args.h.now in
+    let spot = c.args.spot in
+    let side : 8 ≡ h.side = sym c.requires.side in
+    let numbered = spot_numbered h spot c.requires.blocked.side_above c.requires.within (subst (λ (n : ℕ). spot.row % n ≡ 0) side c.requires.row) (subst (λ (n : ℕ). spot.col % n ≡ 0) side c.requires.col) in
+    subst (λ (n : ℕ). IsSpot h n spot) (sym (written_out h spot c.requires.side)) numbered.0
