@@ -35,6 +35,8 @@ mod large;
 #[cfg(test)]
 mod long_rows;
 #[cfg(test)]
+mod many_depths;
+#[cfg(test)]
 mod previous_masks;
 #[cfg(test)]
 mod rasters;

@@ -21,9 +21,9 @@ use Rattle.lerc_encode.specs.Heads.{header_of}
 use Rattle.lerc_encode.specs.Images.{CodedForm, is_v4, Ending, empty, constant, ranges, coded, side_at, side_of, image_bytes, coded_form_bytes}
 use Rattle.lerc_encode.specs.inside.Suits.{IsBeside}
 use Rattle.lerc_encode.proofs.Members.{Has}
-use Rattle.lerc_encode.proofs.Extremes.{greatest_above, least_below, value_among, value_of_all, no_values, leasts_fit, greatests_fit, length_leasts, length_greatests}
+use Rattle.lerc_encode.proofs.Extremes.{at_greatests, at_leasts, greatest_above, least_below, value_among, value_of_all, no_values, leasts_fit, greatests_fit, length_leasts, length_greatests}
 use Rattle.lerc_encode.proofs.Forming.{same_lists, lists_same}
-use Rattle.lerc_encode.proofs.Standing.{at_greatests, at_leasts, near_itself, MayBe, form_stands, form_sound, form_near, raster_of}
+use Rattle.lerc_encode.proofs.Standing.{near_itself, MayBe, form_stands, form_sound, form_near, raster_of}
 
 -- ---- no values, or all of one
 

@@ -6,15 +6,12 @@ use Rattle.std.specs.List.{flat_map, range_with_len}
 use Rattle.std.proofs.lemmas.Int.{ints, clamps, fold-int_min_reached, fold-int_max_reached}
 use Rattle.lane_kernels.specs.Kernels.{IsLeast, IsGreatest}
 use Rattle.std.proofs.lemmas.List.{get_or-map}
-use Rattle.std.proofs.lemmas.List.FromFn.{length-map-range_with_len}
+use Rattle.std.proofs.lemmas.List.FromFn.{get_or-map-range_with_len, length-map-range_with_len}
 use Rattle.raster_values.specs.Raster.{Pixels, IsRaster, IsPixel, values_of, valid_count}
 use Rattle.raster_values.specs.PixelType.{InRange}
 use Rattle.raster_values.specs.Flat.{marks_of, value_in}
 use Rattle.raster_values.specs.declared.kind.PixelType.{PixelType}
-use mir.Syntax.{w64}
-use mir.Val.{to_z, of_z}
 use Rattle.micro_block.proofs.Written.{zero_of, least_in_range}
-use Rattle.raster_values.proofs.Views.{same_bits}
 use Rattle.micro_block.specs.ChosenBlock.{least_value}
 use Rattle.lerc_encode.specs.Ranges.{greatest_value, depth_values, at_depth, leasts, greatests}
 use Rattle.lerc_encode.proofs.Members.{Has, at_index, index_of, in_flat_map, in_map, in_range, has_flat_map, has_map, has_range}
@@ -228,58 +225,57 @@ greatest_is vs m is = greatest_one vs m (contained vs m is.0) (λ v h. let i = i
 at_depths : (f : ℕ → ℤ) (n : ℕ) (m : ℤ) → Has m (map f (range_with_len 0 n)) → (d : ℕ) × ((d < n) × (m ≡ f d))
 at_depths f n m h = let a = in_map f m (range_with_len 0 n) h in let b = in_range 0 n a.0 a.1.0 in let high = b.1 in (a.0, (omega (arith, high), a.1.1))
 
-pub whole_least : (r : Pixels) → IsRaster r → (vs : List ℤ) (m : ℤ) → vs ≡ leasts r → IsLeast vs m → m ≡ least_value (values_of r.pixels)
-whole_least r is vs m e least = by (valid_count r) refl
+pub length_leasts : (r : Pixels) → length (leasts r) ≡ r.depth
+length_leasts r = length-map-range_with_len (λ d. least_value (depth_values r d)) 0 r.depth
+
+pub length_greatests : (r : Pixels) → length (greatests r) ≡ r.depth
+length_greatests r = length-map-range_with_len (λ d. greatest_value (depth_values r d)) 0 r.depth
+
+pub at_leasts : (r : Pixels) (d : ℕ) → d < r.depth → get_or (leasts r) d (pos 0) ≡ least_value (depth_values r d)
+at_leasts r d low = get_or-map-range_with_len (λ (e : ℕ). least_value (depth_values r e)) 0 r.depth d d (pos 0) low (omega arith)
+
+pub at_greatests : (r : Pixels) (d : ℕ) → d < r.depth → get_or (greatests r) d (pos 0) ≡ greatest_value (depth_values r d)
+at_greatests r d low = get_or-map-range_with_len (λ (e : ℕ). greatest_value (depth_values r e)) 0 r.depth d d (pos 0) low (omega arith)
+
+pub whole_least : (r : Pixels) → IsRaster r → least_value (leasts r) ≡ least_value (values_of r.pixels)
+whole_least r is = by (valid_count r) refl
   where
-    among : Has m (leasts r)
-    among = subst (λ (us : List ℤ). Has m us) e (contained vs m least.0)
+    at : (d : ℕ) × ((d < r.depth) × (least_value (leasts r) ≡ least_value (depth_values r d)))
+    at =
+        let long = length_leasts r in
+        at_depths (λ d. least_value (depth_values r d)) r.depth (least_value (leasts r)) (least_member (leasts r) (omega (arith, long, is.shape.depth_above)))
 
-    at : (d : ℕ) × ((d < r.depth) × (m ≡ least_value (depth_values r d)))
-    at = at_depths (λ d. least_value (depth_values r d)) r.depth m among
-
-    low : (d : ℕ) → d < r.depth → m ≤ℤ least_value (depth_values r d)
+    low : (d : ℕ) → d < r.depth → least_value (leasts r) ≤ℤ least_value (depth_values r d)
     low d h =
-        let there : Has (least_value (depth_values r d)) vs = subst (λ (us : List ℤ). Has (least_value (depth_values r d)) us) (sym e) (has_map (λ e. least_value (depth_values r e)) d (range_with_len 0 r.depth) (has_range 0 r.depth d (omega arith) (omega (arith, h)))) in
-        let i = index_of (pos 0) (least_value (depth_values r d)) vs there in
-        subst (λ (v : ℤ). m ≤ℤ v) i.1.1 (least.1 i.0 (pos 0) i.1.0)
+        least_below (leasts r) (least_value (depth_values r d)) (has_map (λ e. least_value (depth_values r e)) d (range_with_len 0 r.depth) (has_range 0 r.depth d (omega arith) (omega (arith, h))))
 
-    by : (n : ℕ) → valid_count r ≡ n → m ≡ least_value (values_of r.pixels)
+    by : (n : ℕ) → valid_count r ≡ n → least_value (leasts r) ≡ least_value (values_of r.pixels)
     by zero none = at.1.1 ∙ ap least_value (depth_none r at.0 none ∙ sym (no_values r.pixels none))
     by (suc n) some =
         let long = depth_count r at.0 in
-        least_one (values_of r.pixels) m
-        (depth_of_all r is at.0 at.1.0 m (subst (λ (v : ℤ). Has v (depth_values r at.0)) (sym at.1.1) (least_member (depth_values r at.0) (omega (arith, long, some)))))
+        least_one (values_of r.pixels) (least_value (leasts r))
+        (depth_of_all r is at.0 at.1.0 (least_value (leasts r)) (subst (λ (v : ℤ). Has v (depth_values r at.0)) (sym at.1.1) (least_member (depth_values r at.0) (omega (arith, long, some)))))
         (λ v h. let d = all_of_depth r is v h in let a = low d.0 d.1.0 in let b = least_below (depth_values r d.0) v d.1.1 in omega (arith, ints, a, b))
 
-pub whole_greatest : (r : Pixels) → IsRaster r → (vs : List ℤ) (m : ℤ) → vs ≡ greatests r → IsGreatest vs m → m ≡ greatest_value (values_of r.pixels)
-whole_greatest r is vs m e greatest = by (valid_count r) refl
+pub whole_greatest : (r : Pixels) → IsRaster r → greatest_value (greatests r) ≡ greatest_value (values_of r.pixels)
+whole_greatest r is = by (valid_count r) refl
   where
-    among : Has m (greatests r)
-    among = subst (λ (us : List ℤ). Has m us) e (contained vs m greatest.0)
+    at : (d : ℕ) × ((d < r.depth) × (greatest_value (greatests r) ≡ greatest_value (depth_values r d)))
+    at =
+        let long = length_greatests r in
+        at_depths (λ d. greatest_value (depth_values r d)) r.depth (greatest_value (greatests r)) (greatest_member (greatests r) (omega (arith, long, is.shape.depth_above)))
 
-    at : (d : ℕ) × ((d < r.depth) × (m ≡ greatest_value (depth_values r d)))
-    at = at_depths (λ d. greatest_value (depth_values r d)) r.depth m among
-
-    high : (d : ℕ) → d < r.depth → greatest_value (depth_values r d) ≤ℤ m
+    high : (d : ℕ) → d < r.depth → greatest_value (depth_values r d) ≤ℤ greatest_value (greatests r)
     high d h =
-        let there : Has (greatest_value (depth_values r d)) vs = subst (λ (us : List ℤ). Has (greatest_value (depth_values r d)) us) (sym e) (has_map (λ e. greatest_value (depth_values r e)) d (range_with_len 0 r.depth) (has_range 0 r.depth d (omega arith) (omega (arith, h)))) in
-        let i = index_of (pos 0) (greatest_value (depth_values r d)) vs there in
-        subst (λ (v : ℤ). v ≤ℤ m) i.1.1 (greatest.1 i.0 (pos 0) i.1.0)
+        greatest_above (greatests r) (greatest_value (depth_values r d)) (has_map (λ e. greatest_value (depth_values r e)) d (range_with_len 0 r.depth) (has_range 0 r.depth d (omega arith) (omega (arith, h))))
 
-    by : (n : ℕ) → valid_count r ≡ n → m ≡ greatest_value (values_of r.pixels)
+    by : (n : ℕ) → valid_count r ≡ n → greatest_value (greatests r) ≡ greatest_value (values_of r.pixels)
     by zero none = at.1.1 ∙ ap greatest_value (depth_none r at.0 none ∙ sym (no_values r.pixels none))
     by (suc n) some =
         let long = depth_count r at.0 in
-        greatest_one (values_of r.pixels) m
-        (depth_of_all r is at.0 at.1.0 m (subst (λ (v : ℤ). Has v (depth_values r at.0)) (sym at.1.1) (greatest_member (depth_values r at.0) (omega (arith, long, some)))))
+        greatest_one (values_of r.pixels) (greatest_value (greatests r))
+        (depth_of_all r is at.0 at.1.0 (greatest_value (greatests r)) (subst (λ (v : ℤ). Has v (depth_values r at.0)) (sym at.1.1) (greatest_member (depth_values r at.0) (omega (arith, long, some)))))
         (λ v h. let d = all_of_depth r is v h in let a = high d.0 d.1.0 in let b = greatest_above (depth_values r d.0) v d.1.1 in omega (arith, ints, a, b))
-
--- the least of values of a type is one of the type, and is the same as a number of 64 bits
-pub least_kept : (kind : PixelType) (vs : List ℤ) (m : ℤ) → All (InRange kind) vs → IsLeast vs m → IsLeast vs (to_z w64 (of_z w64 m))
-least_kept kind vs m fits is = subst (λ (u : ℤ). IsLeast vs u) (sym (same_bits kind m (subst (InRange kind) is.0.2 (fits is.0.0 m is.0.1)))) is
-
-pub greatest_kept : (kind : PixelType) (vs : List ℤ) (m : ℤ) → All (InRange kind) vs → IsGreatest vs m → IsGreatest vs (to_z w64 (of_z w64 m))
-greatest_kept kind vs m fits is = subst (λ (u : ℤ). IsGreatest vs u) (sym (same_bits kind m (subst (InRange kind) is.0.2 (fits is.0.0 m is.0.1)))) is
 
 all_depths : (P : ℤ → Type 0) (f : ℕ → ℤ) (n : ℕ) → ((d : ℕ) → d < n → P (f d)) → All P (map f (range_with_len 0 n))
 all_depths P f n h = all_of P (map f (range_with_len 0 n)) (λ v m. let a = at_depths f n v m in subst P (sym a.1.1) (h a.0 a.1.0))
@@ -289,12 +285,6 @@ leasts_fit r is = all_depths (InRange r.kind) (λ d. least_value (depth_values r
 
 pub greatests_fit : (r : Pixels) → IsRaster r → All (InRange r.kind) (greatests r)
 greatests_fit r is = all_depths (InRange r.kind) (λ d. greatest_value (depth_values r d)) r.depth (depth_greatest_fits r is)
-
-pub length_leasts : (r : Pixels) → length (leasts r) ≡ r.depth
-length_leasts r = length-map-range_with_len (λ d. least_value (depth_values r d)) 0 r.depth
-
-pub length_greatests : (r : Pixels) → length (greatests r) ≡ r.depth
-length_greatests r = length-map-range_with_len (λ d. greatest_value (depth_values r d)) 0 r.depth
 
 pub all_least_fits : (r : Pixels) → IsRaster r → InRange r.kind (least_value (values_of r.pixels))
 all_least_fits r is = least_in_range r.kind (values_of r.pixels) (all_of (InRange r.kind) (values_of r.pixels) (values_in_range r is))

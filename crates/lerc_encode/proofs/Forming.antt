@@ -1,7 +1,9 @@
 -- The forms of an image's values, and the choice among them.
-use Rattle.std.proofs.Common.{◌≡◌, ℕ, ◌+◌, ◌-◌, ◌*◌, ◌/◌, ◌<◌, Bool, true, false, List, [], ◌∷◌, ◌++◌, length, refl, sym, ap, ◌∙◌, subst, arith, length-append}
-use Rattle.std.specs.Prelude.{ℤ, nat_eq, ◌&&◌, if◌then◌else◌, ◌≢◌, set}
+use Rattle.std.proofs.Common.{◌≡◌, ℕ, ◌+◌, ◌-◌, ◌*◌, ◌/◌, ◌<◌, ◌≤◌, Bool, true, false, List, [], ◌∷◌, ◌++◌, length, take, drop, get_or, refl, sym, ap, ◌∙◌, subst, arith, length-append}
+use Rattle.std.specs.Prelude.{ℤ, pos, nat_eq, ◌&&◌, if◌then◌else◌, ◌≢◌, set}
 use Rattle.std.proofs.lemmas.Bool.{eqb-true}
+use Rattle.std.proofs.lemmas.List.{append-nil, drop_all, take_all}
+use Rattle.std.proofs.Math.Nat.{mul-le-mul_right}
 use Rattle.std.proofs.lemmas.Bool.Decides.{nat_tests, Decides-int_eq}
 use Rattle.std.specs.Ordering.{int_eq}
 use Rattle.std.specs.Cmp.Lexicographic.{pointwise}
@@ -15,7 +17,7 @@ use Rattle.raster_values.specs.declared.kind.PixelType.{PixelType}
 use Rattle.raster_values.specs.PixelType.{InRange, bytes_of, value_bytes}
 use Rattle.raster_values.specs.Raster.{Pixels, IsRaster, values_of, valid_count}
 use Rattle.raster_values.specs.Grid.{values_bytes}
-use Rattle.raster_values.proofs.Pack.{length-values_bytes}
+use Rattle.raster_values.proofs.Pack.{length-values_bytes, value_put}
 use Rattle.lerc_header.specs.declared.header.Header.{Header}
 use Rattle.lerc_header.specs.declared.header.Version.{Version}
 use Rattle.lerc_header.specs.declared.header.Version.TheVariants.{V4}
@@ -93,12 +95,32 @@ length_front r =
 pub front_long : (r : Pixels) (depth bytes : ℕ) → depth ≡ r.depth → bytes ≡ bytes_of r.kind → 2 * depth * bytes ≡ length (lists_bytes r V4)
 front_long r depth bytes d b = (λ t. 2 * d t * b t) ∙ (let e : 2 * r.depth * bytes_of r.kind ≡ 2 * (r.depth * bytes_of r.kind) = omega arith in e) ∙ sym (length_front r)
 
--- both lists, one behind the other
-pub lists_written : (r : Pixels) (half : ℕ) (first second rest : List ℕ) → length first ≡ half → first ≡ values_bytes r.kind (leasts r) → second ≡ values_bytes r.kind (greatests r)
-    → put_mid half (length (first ++ rest) - half) (first ++ rest) second ≡ lists_bytes r V4
-lists_written r half first second rest long a b =
-    end_written first rest second half (length (first ++ rest) - half) long (let l = length-append first rest in omega (arith, l, long))
-    ∙ (λ t. a t ++ b t) ∙ sym (front_split r.kind (leasts r) (greatests r))
+-- a value of the type is the same as a number of 64 bits
+pub as_kept : (kind : PixelType) (v want : ℤ) → v ≡ want → InRange kind want → to_z w64 (of_z w64 v) ≡ want
+as_kept kind v want is fits = ap (λ (z : ℤ). to_z w64 (of_z w64 z)) is ∙ same_bits kind want fits
+
+pub kept_fits : (kind other : PixelType) (v want : ℤ) → other ≡ kind → v ≡ want → InRange kind want → InRange other (to_z w64 (of_z w64 v))
+kept_fits kind other v want same is fits =
+    subst (λ (t : PixelType). InRange t (to_z w64 (of_z w64 v))) (sym same) (subst (InRange kind) (sym (as_kept kind v want is fits)) fits)
+
+-- the value of one depth more, in its place
+pub list_put : (kind : PixelType) (vs : List ℤ) (out old piece : List ℕ) (d size : ℕ) (v : ℤ) → d < length vs → length old ≡ length vs * bytes_of kind → length out ≡ length old → size ≡ bytes_of kind → v ≡ get_or vs d (pos 0)
+    → out ≡ values_bytes kind (take d vs) ++ drop (d * bytes_of kind) old
+    → piece ≡ value_bytes kind v ++ drop (bytes_of kind) (take (length out - d * size) (drop (d * size) out))
+    → put_mid (d * size) (length out - d * size) out piece ≡ values_bytes kind (take (d + 1) vs) ++ drop ((d + 1) * bytes_of kind) old
+list_put kind vs out old piece d size v low room same is_size is_value is laid =
+    let up : (d + 1) * bytes_of kind ≤ length vs * bytes_of kind = mul-le-mul_right (bytes_of kind) (omega (arith, low)) in
+    subst (λ s. piece ≡ value_bytes kind v ++ drop (bytes_of kind) (take (length out - d * s) (drop (d * s) out)) → put_mid (d * s) (length out - d * s) out piece ≡ values_bytes kind (take (d + 1) vs) ++ drop ((d + 1) * bytes_of kind) old)
+    (sym is_size)
+    (λ l. value_put kind vs out old piece d low (omega (arith, room)) same (omega (arith, up, room)) is (l ∙ ap (λ (x : ℤ). value_bytes kind x ++ drop (bytes_of kind) (take (length out - d * bytes_of kind) (drop (d * bytes_of kind) out))) is_value))
+    laid
+
+-- and all of them
+pub list_whole : (kind other : PixelType) (vs : List ℤ) (out old : List ℕ) (d : ℕ) → kind ≡ other → length old ≡ length vs * bytes_of kind → d ≡ length vs → out ≡ values_bytes kind (take d vs) ++ drop (d * bytes_of kind) old → out ≡ values_bytes other vs
+list_whole kind other vs out old d same room all is =
+    is
+    ∙ (λ t. values_bytes kind (take_all d vs (omega (arith, all)) t) ++ drop_all (d * bytes_of kind) old (let e : d * bytes_of kind ≡ length vs * bytes_of kind = ap (λ n. n * bytes_of kind) all in omega (arith, e, room)) t)
+    ∙ append-nil (values_bytes kind vs) ∙ ap (λ (k : PixelType). values_bytes k vs) same
 
 -- ---- what is written behind a byte or two
 
@@ -153,9 +175,6 @@ same_itself (v ∷ vs) = (λ t. (Decides-int_eq v v).1 refl t && same_itself vs 
 
 pub lists_same : (vs ws : List ℤ) → vs ≡ ws → pointwise int_eq vs ws ≡ true
 lists_same vs ws e = subst (λ us. pointwise int_eq vs us ≡ true) e (same_itself vs)
-
-pub ranges_are : (r : Pixels) (vs ws : List ℤ) (b : Bool) → vs ≡ leasts r → ws ≡ greatests r → b ≡ pointwise int_eq vs ws → b ≡ has_equal_ranges r
-ranges_are r vs ws b e f h = h ∙ (λ t. pointwise int_eq (e t) (f t))
 
 neq_false : (a b : ℕ) → (a ≡ b → ⊥) → nat_eq a b ≡ false
 neq_false a b ne = grind (arith, nat_tests, ne)

@@ -1,6 +1,7 @@
 mod Runs
 mod Members
 mod Extremes
+mod FirstRanges
 mod Blocking
 mod Flagging
 mod Spots

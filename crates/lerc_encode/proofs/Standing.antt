@@ -3,7 +3,7 @@ use Rattle.std.proofs.Common.{◌≡◌, ℕ, ◌+◌, ◌<◌, ◌≤◌, zero,
 use Rattle.std.specs.Prelude.{ℤ, pos, ◌≤ℤ◌, nat_eq, ◌&&◌, if◌then◌else◌}
 use Rattle.std.specs.List.{flat_map, range_with_len}
 use Rattle.std.proofs.lemmas.Bool.{eqb-true}
-use Rattle.std.proofs.lemmas.List.FromFn.{length-map-range_with_len, get_or-map-range_with_len}
+use Rattle.std.proofs.lemmas.List.FromFn.{length-map-range_with_len}
 use Rattle.first_fault.specs.Faults.{Numbered}
 use Rattle.raster_values.specs.Raster.{Pixels, IsRaster, values_of}
 use Rattle.raster_values.specs.Grid.{values_bytes}
@@ -20,12 +20,12 @@ use Rattle.micro_block.proofs.Written.{raw_stands, nothing_off}
 use Rattle.lerc_grammar.specs.Image.{top_of, IsBlocksMode, IsCoded}
 use Rattle.lerc_grammar.specs.Image as grammar
 use Rattle.lerc_grammar.specs.Blocks.{coded_blocks, block_frame, coded_values, all_blocks, AreBlocks}
-use Rattle.lerc_encode.specs.Ranges.{greatest_value, depth_values, leasts, greatests}
+use Rattle.lerc_encode.specs.Ranges.{greatest_value, depth_values, greatests}
 use Rattle.lerc_encode.specs.inside.Fronts.{front_of}
 use Rattle.lerc_encode.specs.Heads.{header_of}
 use Rattle.lerc_encode.specs.Images.{CodedForm, sweep, blocks_8, blocks_16, delta, plain, side_of, has_mode, may_be_delta, may_be_plain, blocks_bytes, coded_bytes, mode_bytes, coded_form_bytes}
 use Rattle.lerc_encode.specs.inside.Suits.{Suits, IsBeside}
-use Rattle.lerc_encode.proofs.Extremes.{all_of, greatest_above, greatest_in_range, value_among, value_of_all, values_in_range, depth_in_range, length_values}
+use Rattle.lerc_encode.proofs.Extremes.{all_of, at_greatests, greatest_above, greatest_in_range, value_among, value_of_all, values_in_range, depth_in_range, length_values}
 use Rattle.lerc_encode.proofs.SymbolForms.{delta_form, plain_form}
 use Rattle.lerc_encode.proofs.Kept.{kept_raster, blocks_stand, kept_sound, kept_raster_near}
 
@@ -68,12 +68,6 @@ mode_stands kind step true h = inl (small_true kind step h, refl)
 mode_stands kind step false h = inr (small_false kind step h, refl)
 
 -- ---- the tops
-
-pub at_greatests : (r : Pixels) (d : ℕ) → d < r.depth → get_or (greatests r) d (pos 0) ≡ greatest_value (depth_values r d)
-at_greatests r d low = get_or-map-range_with_len (λ (e : ℕ). greatest_value (depth_values r e)) 0 r.depth d d (pos 0) low (omega arith)
-
-pub at_leasts : (r : Pixels) (d : ℕ) → d < r.depth → get_or (leasts r) d (pos 0) ≡ micro.least_value (depth_values r d)
-at_leasts r d low = get_or-map-range_with_len (λ (e : ℕ). micro.least_value (depth_values r e)) 0 r.depth d d (pos 0) low (omega arith)
 
 top_above : (r : Pixels) → IsRaster r → (version : Version) (step side size sum : ℕ) → (p d : ℕ) → p < length r.pixels → get_or (marks_of r) p false ≡ true → d < r.depth
     → value_in r d p ≤ℤ top_of (header_of r version step side size sum) (front_of r version) d

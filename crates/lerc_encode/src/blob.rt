@@ -15,7 +15,7 @@ ghost use Rattle.lerc_encode.specs.inside.Layout.{IsPlan, IsPlanOf, IsSealed, pl
 use crate::choosing::{Ending, ending_of};
 use crate::images::{image_len, side_of, write_image};
 use crate::masks::{runs_size, write_mask};
-use crate::ranging::{Ranges, ranges_of, whole_range};
+use crate::ranging::{Ranges, ranges_of};
 use lerc_header::{Header, Step, Version, needs_v4, sum_behind, write_header};
 use outside_io::Bytes;
 use raster_values::Raster;
@@ -49,7 +49,7 @@ impl From<AllocError> for EncodeFault {
 pub(crate) struct Plan {
     /// The header so far.
     base: Header,
-    /// The least and the greatest value of each depth.
+    /// What is known of the ranges of the depths.
     ranges: Ranges,
     /// Whether the mask is taken from the raster before, and how many bytes its runs take.
     taken: bool,
@@ -66,7 +66,6 @@ fn base_header<V: View>(raster: &V, version: Version, step: u64, found: &Ranges)
     ensures version { result.version ≡ version }
     ensures step { result.step ≡ step }
 {
-    let range = whole_range(found, raster);
     Header {
         version,
         checksum: 0,
@@ -78,8 +77,8 @@ fn base_header<V: View>(raster: &V, version: Version, step: u64, found: &Ranges)
         size: 0,
         kind: raster.kind(),
         step,
-        least: range.least,
-        greatest: range.greatest,
+        least: found.whole.least,
+        greatest: found.whole.greatest,
     }
 }
 
@@ -96,7 +95,7 @@ pub(crate) fn plan_of<V: View>(
     ensures runs { IfOk result (λ p.
         planned_runs p (V.pixels raster.now) ≡ runs_unless taken (marks_of (V.pixels raster.now))) }
 {
-    let ranges = ranges_of(alloc, raster)?;
+    let ranges = ranges_of(raster);
     let base = base_header(raster, version, step, &ranges);
     let runs = runs_size(raster, taken);
     let ending = ending_of(alloc, &base, &ranges, raster)?;

@@ -108,17 +108,6 @@ fn is_constant<V: View>(base: &Header, raster: &V) -> bool
     base.least == base.greatest
 }
 
-/// Whether each depth has one value.
-fn has_equal_ranges<V: View>(found: &Ranges, raster: &V) -> bool
-    requires { AreRanges (V.pixels raster.now) found.now }
-    ensures { result ≡ ranges.has_equal_ranges (V.pixels raster.now) }
-{
-    // for the proof: `depth` ensures that the raster is a lawful one
-    let _depth = raster.depth();
-    let (leasts, greatests) = (found.leasts.as_slice(), found.greatests.as_slice());
-    leasts == greatests
-}
-
 /// Whether the image ends behind the lists.
 fn ends_behind_lists<V: View>(version: Version, found: &Ranges, raster: &V) -> bool
     requires { AreRanges (V.pixels raster.now) found.now }
@@ -126,7 +115,7 @@ fn ends_behind_lists<V: View>(version: Version, found: &Ranges, raster: &V) -> b
 {
     match version {
         Version::V3 => false,
-        Version::V4 => has_equal_ranges(found, raster),
+        Version::V4 => found.equal,
     }
 }
 

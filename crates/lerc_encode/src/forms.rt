@@ -3,12 +3,13 @@
 ghost use Rattle.std.specs.Prelude.{◌≡◌, ◌+◌, ◌*◌, ◌≤◌, ◌∷◌, ◌++◌, length, MatchOption};
 ghost use Rattle.std.specs.Option.{option_map};
 ghost use Rattle.raster_values.specs.Grid.{values_bytes};
+ghost use Rattle.raster_values.specs.PixelType.{bytes_of};
 ghost use Rattle.lerc_header.specs.declared.header.Version.TheVariants.{V4};
 ghost use Rattle.raster_values.specs.Raster.{values_of};
 ghost use Rattle.lerc_grammar.specs.Blocks.{coded_blocks};
 ghost use Rattle.lut_stuff.specs.Ranked.{Rises};
 ghost use Rattle.lerc_encode.specs.Images.{blocks_bytes, coded_form_bytes, mode_bytes};
-ghost use Rattle.lerc_encode.specs.Ranges.{lists_bytes};
+ghost use Rattle.lerc_encode.specs.Ranges.{greatests, leasts, lists_bytes};
 ghost use Rattle.lerc_encode.specs.inside.Blocked.{AreFlags, IsBlocked, IsMeasured};
 ghost use Rattle.lerc_encode.specs.inside.Choosing.{AreRanges, IsBase, IsChosen, named};
 
@@ -16,10 +17,9 @@ use crate::blocks::{Measured, write_blocks};
 use crate::choosing::Chosen;
 use crate::codings::{has_mode, write_coded_form};
 use crate::flags::Flags;
-use crate::ranging::Ranges;
+use crate::ranging::{Ranges, range_at};
 use crate::symbols::SymbolMode;
 use lerc_header::{Header, Version};
-use raster_values::write_values;
 use raster_view::View;
 
 /// The forms of an image's values, in the order in which they are tried.
@@ -149,16 +149,37 @@ pub(crate) fn front_len<V: View>(version: Version, raster: &V) -> usize
     }
 }
 
+/// Writes the least value of each depth over all of `low`, and the greatest over all of `high`.
+fn write_ranges<V: View>(ranges: &Ranges, raster: &V, low: &mut [u8], high: &mut [u8])
+    requires ranges { AreRanges (V.pixels raster.now) ranges.now }
+    requires low { length low.old
+        ≡ (V.pixels raster.now).depth * bytes_of (V.pixels raster.now).kind }
+    requires high { length high.old
+        ≡ (V.pixels raster.now).depth * bytes_of (V.pixels raster.now).kind }
+    ensures least { low.new
+        ≡ values_bytes (V.pixels raster.now).kind (leasts (V.pixels raster.now)) }
+    ensures greatest { high.new
+        ≡ values_bytes (V.pixels raster.now).kind (greatests (V.pixels raster.now)) }
+{
+    let kind = raster.kind();
+    let size = kind.bytes();
+    for d in 0..raster.depth() {
+        let found = range_at(ranges, raster, d);
+        let place = d as usize * size;
+        kind.write_value(found.least, &mut low[place..]);
+        kind.write_value(found.greatest, &mut high[place..]);
+    }
+}
+
 /// Writes both lists.
 fn write_lists<V: View>(ranges: &Ranges, raster: &V, out: &mut [u8])
     requires ranges { AreRanges (V.pixels raster.now) ranges.now }
     requires room { length out.old ≡ length (lists_bytes (V.pixels raster.now) V4) }
     ensures { out.new ≡ lists_bytes (V.pixels raster.now) V4 }
 {
-    let kind = raster.kind();
     let half = out.len() / 2;
-    write_values(kind, &ranges.leasts, &mut out[..half]);
-    write_values(kind, &ranges.greatests, &mut out[half..]);
+    let (low, high) = out.split_at_mut(half);
+    write_ranges(ranges, raster, low, high);
 }
 
 /// Writes the lists in front of an image, if the version has them.

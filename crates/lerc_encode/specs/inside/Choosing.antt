@@ -1,12 +1,13 @@
 -- The form that is chosen for the values of an image, and how the image ends.
-use Rattle.std.specs.Prelude.{◌≡◌, ℕ, ◌≤◌, length, nat_eq, if◌then◌else◌, MatchOption, Option}
-use Rattle.raster_values.specs.Raster.{Pixels, IsRaster}
+use Rattle.std.specs.Prelude.{◌≡◌, ℕ, pos, ◌<◌, ◌≤◌, get_or, length, nat_eq, if◌then◌else◌, MatchOption, Option}
+use Rattle.raster_values.specs.Raster.{Pixels, IsRaster, values_of}
 use Rattle.lerc_header.specs.declared.header.Header.{Header}
 use Rattle.lerc_header.specs.declared.header.Version.{Version}
 use Rattle.lerc_header.specs.declared.header.Version.TheVariants.{V3}
 use Rattle.raster_values.specs.Step.{IsTwiceError}
 use Rattle.lerc_encode.specs.Heads.{header_of}
-use Rattle.lerc_encode.specs.Ranges.{leasts, greatests}
+use Rattle.micro_block.specs.ChosenBlock.{least_value}
+use Rattle.lerc_encode.specs.Ranges.{depth_values, greatest_value, has_equal_ranges}
 use Rattle.lerc_encode.specs.inside.Coded.{AreCodings}
 use Rattle.lerc_encode.specs.inside.Blocked.{IsMeasured}
 use Rattle.lerc_encode.specs.Images as images
@@ -55,10 +56,15 @@ pub record IsChosen (r : Pixels) (version : Version) (step : ℕ) (c : Chosen) :
   pub small_are : AreMeasured r version step 8 (named c.form ≡ images.blocks_8 → ⊥) c.small
   pub large_are : AreMeasured r version step 16 (named c.form ≡ images.blocks_16 → ⊥) c.large
 
--- the lists of the least and the greatest values
+-- the least and the greatest of all values, whether each depth has one value, and the least and the
+-- greatest value of each of the first 16 depths
 pub record AreRanges (r : Pixels) (ranges : Ranges) : Type 0 where
-  pub least : ranges.leasts.items ≡ leasts r
-  pub greatest : ranges.greatests.items ≡ greatests r
+  pub sound : IsRaster r
+  pub least : ranges.whole.least ≡ least_value (values_of r.pixels)
+  pub greatest : ranges.whole.greatest ≡ greatest_value (values_of r.pixels)
+  pub equal : ranges.equal ≡ has_equal_ranges r
+  pub kept_least : (d : ℕ) → d < 16 → d < r.depth → get_or ranges.leasts d (pos 0) ≡ least_value (depth_values r d)
+  pub kept_greatest : (d : ℕ) → d < 16 → d < r.depth → get_or ranges.greatests d (pos 0) ≡ greatest_value (depth_values r d)
 
 -- how the image ends
 abbrev pub IsEnding : Pixels → Version → ℕ → Ending → Type 0
