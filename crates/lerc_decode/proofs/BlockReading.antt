@@ -24,8 +24,10 @@ use Rattle.std.proofs.Math.Nat.{mul-le-mul_left, mul-le-mul_right}
 use Rattle.lerc_header.specs.declared.fault.BlobReason.TheVariants.{BadBlockSize, Leftover}
 use Rattle.lerc_grammar.proofs.BlockRasters.{begins_within}
 use Rattle.lerc_grammar.proofs.OneBlocks.{mask_by_marks, number_below, number_col, number_depth, number_row}
-use Rattle.lerc_decode.specs.inside.Blocks.{HasBlocks, HasRead, IsBlockHead, IsSquare, block_number, top_in}
+use Rattle.lerc_decode.specs.declared.tops.Tops.{Tops}
+use Rattle.lerc_decode.specs.inside.Blocks.{HasBlocks, HasRead, IsBlockHead, IsSquare, block_number}
 use Rattle.lerc_decode.specs.inside.Body.{HasHeadShape, KeepsMarks}
+use Rattle.lerc_decode.specs.inside.Tops.{top_in}
 
 -- ---- the frame
 
@@ -42,11 +44,11 @@ count_is h r a b d shape across low =
     sym (has_count r row col h.side d) ∙ ap length (block_numbered r row col h.side d) ∙ length-map (valid_numbers r row col h.side) (value_in r d)
     ∙ (λ i. length (numbers_in (sym shape.rows i) (sym shape.cols i) (marks_of r) (sym (number_row h a b d across low) i) (sym (number_col h a b d across low) i) h.side))
 
-pub frame_is : (h : Header) (r : Pixels) (tops : List ℤ) (top : ℤ) (a b d n : ℕ) → HasHeadShape h r → b < blocks_across h → d < h.depth → top ≡ top_in tops d → n ≡ block_count r (a * h.side) (b * h.side) h.side
-    → record { kind = h.kind; col = b * h.side; step = h.step; top = top; count = n } ≡ block_frame h (marks_of r) (top_in tops) (block_number h a b d)
+pub frame_is : (h : Header) (r : Pixels) (tops : Tops) (top : ℤ) (a b d n : ℕ) → HasHeadShape h r → b < blocks_across h → d < h.depth → top ≡ top_in h tops d → n ≡ block_count r (a * h.side) (b * h.side) h.side
+    → record { kind = h.kind; col = b * h.side; step = h.step; top = top; count = n } ≡ block_frame h (marks_of r) (top_in h tops) (block_number h a b d)
 unfolding block_frame
 frame_is h r tops top a b d n shape across low top_is count =
-    let top_there : top ≡ top_in tops (block_depth h (block_number h a b d)) = top_is ∙ ap (top_in tops) (sym (number_depth h a b d low)) in
+    let top_there : top ≡ top_in h tops (block_depth h (block_number h a b d)) = top_is ∙ ap (top_in h tops) (sym (number_depth h a b d low)) in
     let count_there : n ≡ count_in_block h (marks_of r) (block_number h a b d) = count ∙ count_is h r a b d shape across low in
     λ i. record { kind = h.kind; col = sym (number_col h a b d across low) i; step = h.step; top = top_there i; count = count_there i }
 
@@ -80,15 +82,15 @@ earlier h old new values a b d head shape pours =
     (omega (arith, mod_below j h.depth (omega (arith, head.shape.depth_above)), shape.depth))
     (λ i l there here same. apart h a b d j i l head.side_above (omega (arith, below)) there here same)))
 
-pub one_read : (h : Header) (old new : Pixels) (tops values : List ℤ) (rest : List ℕ) (top : ℤ) (a b d at used n : ℕ) → IsBlockHead h → IsSquare h a b → d < h.depth → HasHeadShape h old
-    → top ≡ top_in tops d → n ≡ block_count old (a * h.side) (b * h.side) h.side → HasRead h (marks_of old) tops rest (block_number h a b d) at old
+pub one_read : (h : Header) (old new : Pixels) (tops : Tops) (values : List ℤ) (rest : List ℕ) (top : ℤ) (a b d at used n : ℕ) → IsBlockHead h → IsSquare h a b → d < h.depth → HasHeadShape h old
+    → top ≡ top_in h tops d → n ≡ block_count old (a * h.side) (b * h.side) h.side → HasRead h (marks_of old) tops rest (block_number h a b d) at old
     → (used ≤ length (take (length rest - at) (drop at rest))) × IsBlock (record { kind = h.kind; col = b * h.side; step = h.step; top = top; count = n }) (take used (take (length rest - at) (drop at rest))) values
     → PoursBlock old new (a * h.side) (b * h.side) h.side d values → HasRead h (marks_of old) tops rest (block_number h a b d + 1) (at + used) new
 one_read h old new tops values rest top a b d at used n head square low shape top_is count read block pours =
     let k = block_number h a b d in
-    let part : ℕ → List ℕ → List ℤ → Type 0 = λ j. IsBlock (block_frame h (marks_of old) (top_in tops) j) in
+    let part : ℕ → List ℕ → List ℤ → Type 0 = λ j. IsBlock (block_frame h (marks_of old) (top_in h tops) j) in
     let back : take (length rest - at) (drop at rest) ≡ drop at rest = take_rest rest at in
-    let stands : IsBlock (block_frame h (marks_of old) (top_in tops) k) (take used (drop at rest)) values =
+    let stands : IsBlock (block_frame h (marks_of old) (top_in h tops) k) (take used (drop at rest)) values =
     subst (λ (f : Frame). IsBlock f (take used (drop at rest)) values) (frame_is h old tops top a b d n shape square.across low top_is count)
     (subst (λ (u : List ℕ). IsBlock (record { kind = h.kind; col = b * h.side; step = h.step; top = top; count = n }) (take used u) values) back block.1) in
     let here : coded_values h new k ≡ values =
@@ -102,15 +104,15 @@ one_read h old new tops values rest top a b d at used n head square low shape to
           (numbered_push part 0 k (take at rest) (take used (drop at rest)) (map (coded_values h old) (range_with_len 0 k)) values (omega (arith, length-map-range_with_len (coded_values h old) 0 k)) read.stand stands));
     }
 
-pub one_fault : (h : Header) (old : Pixels) (tops : List ℤ) (rest : List ℕ) (top : ℤ) (a b d at n : ℕ) (f : BlockFault) → IsSquare h a b → d < h.depth → HasHeadShape h old
-    → top ≡ top_in tops d → n ≡ block_count old (a * h.side) (b * h.side) h.side → HasRead h (marks_of old) tops rest (block_number h a b d) at old
+pub one_fault : (h : Header) (old : Pixels) (tops : Tops) (rest : List ℕ) (top : ℤ) (a b d at n : ℕ) (f : BlockFault) → IsSquare h a b → d < h.depth → HasHeadShape h old
+    → top ≡ top_in h tops d → n ≡ block_count old (a * h.side) (b * h.side) h.side → HasRead h (marks_of old) tops rest (block_number h a b d) at old
     → block_faults (record { kind = h.kind; col = b * h.side; step = h.step; top = top; count = n }) (take (length rest - at) (drop at rest)) f.at f.reason
-    → first_block_faults h (marks_of old) (top_in tops) rest (at + f.at) (block_reason f.reason)
+    → first_block_faults h (marks_of old) (top_in h tops) rest (at + f.at) (block_reason f.reason)
 one_fault h old tops rest top a b d at n f square low shape top_is count read fault =
     let k = block_number h a b d in
     let before = map (coded_values h old) (range_with_len 0 k) in
     let long : k ≡ length before = sym (length-map-range_with_len (coded_values h old) 0 k) in
-    let there : block_faults (block_frame h (marks_of old) (top_in tops) k) (drop at rest) f.at f.reason =
+    let there : block_faults (block_frame h (marks_of old) (top_in h tops) k) (drop at rest) f.at f.reason =
     subst (λ (x : Frame). block_faults x (drop at rest) f.at f.reason) (frame_is h old tops top a b d n shape square.across low top_is count)
     (subst (λ (u : List ℕ). block_faults (record { kind = h.kind; col = b * h.side; step = h.step; top = top; count = n }) u f.at f.reason) (take_rest rest at) fault) in
     let below = number_below h a b d square.down square.across low in
@@ -121,7 +123,7 @@ one_fault h old tops rest top a b d at n f square low shape top_is count read fa
       fewer = omega (arith, below, long);
       joined = sym (take-append-drop at rest);
       stand = read.stand;
-      next = (f.at, (ap (λ m. m + f.at) (sym (length-take-le at rest read.within)), (f.reason, (subst (λ m. block_faults (block_frame h (marks_of old) (top_in tops) m) (drop at rest) f.at f.reason) long there, refl))));
+      next = (f.at, (ap (λ m. m + f.at) (sym (length-take-le at rest read.within)), (f.reason, (subst (λ m. block_faults (block_frame h (marks_of old) (top_in h tops) m) (drop at rest) f.at f.reason) long there, refl))));
     }
 
 -- ---- blocks and marks
@@ -154,21 +156,21 @@ square_within h r a b head square shape =
 
 -- ---- all blocks
 
-pub all_read : (h : Header) (marks : List Bool) (tops : List ℤ) (rest : List ℕ) (at : ℕ) (r : Pixels) → HasRead h marks tops rest (block_number h (blocks_down h) 0 0) at r → AreBlocks h marks (top_in tops) (take at rest) (all_blocks h r)
+pub all_read : (h : Header) (marks : List Bool) (tops : Tops) (rest : List ℕ) (at : ℕ) (r : Pixels) → HasRead h marks tops rest (block_number h (blocks_down h) 0 0) at r → AreBlocks h marks (top_in h tops) (take at rest) (all_blocks h r)
 all_read h marks tops rest at r read =
     let n : block_number h (blocks_down h) 0 0 ≡ coded_blocks h = omega arith in (
       length-map-range_with_len (coded_values h r) 0 (coded_blocks h),
-      subst (λ k. Numbered (λ j. IsBlock (block_frame h marks (top_in tops) j)) 0 (take at rest) (map (coded_values h r) (range_with_len 0 k))) n read.stand,
+      subst (λ k. Numbered (λ j. IsBlock (block_frame h marks (top_in h tops) j)) 0 (take at rest) (map (coded_values h r) (range_with_len 0 k))) n read.stand,
     )
 
-pub all_stand : (h : Header) (marks : List Bool) (tops : List ℤ) (rest : List ℕ) (at : ℕ) (r : Pixels) → h.side ≤ 32 → length rest ≤ at → HasRead h marks tops rest (block_number h (blocks_down h) 0 0) at r → HasBlocks h marks tops rest r
+pub all_stand : (h : Header) (marks : List Bool) (tops : Tops) (rest : List ℕ) (at : ℕ) (r : Pixels) → h.side ≤ 32 → length rest ≤ at → HasRead h marks tops rest (block_number h (blocks_down h) 0 0) at r → HasBlocks h marks tops rest r
 all_stand h marks tops rest at r low whole read = record {
   side = low;
-  stand = subst (λ (u : List ℕ). AreBlocks h marks (top_in tops) u (all_blocks h r)) (take_all at rest (omega (arith, whole, read.within))) (all_read h marks tops rest at r read);
+  stand = subst (λ (u : List ℕ). AreBlocks h marks (top_in h tops) u (all_blocks h r)) (take_all at rest (omega (arith, whole, read.within))) (all_read h marks tops rest at r read);
 }
 
-pub bytes_behind_blocks : (h : Header) (marks : List Bool) (tops : List ℤ) (rest : List ℕ) (place at : ℕ) (r : Pixels) → h.side ≤ 32 → at < length rest → HasRead h marks tops rest (block_number h (blocks_down h) 0 0) at r
-    → moved place (blocks_faults h marks (top_in tops) rest) (place + at) Leftover
+pub bytes_behind_blocks : (h : Header) (marks : List Bool) (tops : Tops) (rest : List ℕ) (place at : ℕ) (r : Pixels) → h.side ≤ 32 → at < length rest → HasRead h marks tops rest (block_number h (blocks_down h) 0 0) at r
+    → moved place (blocks_faults h marks (top_in h tops) rest) (place + at) Leftover
 bytes_behind_blocks h marks tops rest place at r low more read = (
   at,
   (

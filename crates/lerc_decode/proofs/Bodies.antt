@@ -7,7 +7,7 @@ use Rattle.first_fault.specs.Parts.{AreBytes}
 use Rattle.mask_runs.specs.Runs.{Runs}
 use Rattle.mask_runs.specs.Fault.{FirstRunFault, in_run, after_end}
 use Rattle.mask_runs.specs.declared.read.RunFault.{RunFault}
-use Rattle.raster_values.specs.PixelType.{bytes_of, InRange}
+use Rattle.raster_values.specs.PixelType.{bytes_of}
 use Rattle.raster_values.specs.Raster.{Pixels, IsRaster, values_of}
 use Rattle.raster_values.specs.Flat.{marks_of, EachValid}
 use Rattle.raster_values.specs.Order.{marks_in}
@@ -15,7 +15,7 @@ use Rattle.lerc_header.specs.declared.header.Header.{Header}
 use Rattle.lerc_header.specs.declared.fault.BlobReason.{BlobReason}
 use Rattle.lerc_header.specs.declared.fault.BlobReason.TheVariants.{BadChecksum, BadRun, BadMaskCount}
 use Rattle.lerc_header.specs.declared.fault.BlobFault.{BlobFault}
-use Rattle.lerc_header.specs.Head.{HeadAt, RangeAt, head_length, shift}
+use Rattle.lerc_header.specs.Head.{HeadAt, head_length}
 use Rattle.lerc_header.specs.Checksum.{sum_of}
 use Rattle.lerc_grammar.specs.declared.parts.MaskForm.{MaskForm}
 use Rattle.lerc_grammar.specs.declared.parts.MaskForm.TheVariants.{Empty as NoneValid, Full, Runs as RunsAt, Previous as Taken}
@@ -42,7 +42,9 @@ use Rattle.huff_codes.specs.Table.{IsCoding}
 use Rattle.lerc_grammar.specs.Codes.{codes_faults}
 use Rattle.lerc_grammar.proofs.CodedOnce.{least_mode}
 use Rattle.lerc_decode.specs.inside.Codes.{HasDeltas, HasPlain}
-use Rattle.lerc_decode.specs.inside.Blocks.{AreTopsOf, HasBlocks, HasBoth, top_in}
+use Rattle.lerc_decode.specs.declared.tops.Tops.{Tops}
+use Rattle.lerc_decode.specs.inside.Blocks.{HasBlocks}
+use Rattle.lerc_decode.specs.inside.Tops.{AreTopsOf, HasBoth, top_in}
 use Rattle.lerc_decode.proofs.BlockReading.{blocks_same, faults_same}
 use Rattle.lerc_decode.specs.inside.Body.{IsStopOf, HasHeadShape, IsFilledWith, IsMarkedBy, IsMarkedFor, IsMaskFormFor, IsSwept, KeepsMarks, marks_for}
 
@@ -341,24 +343,24 @@ sweep_fault h blob mask marks at t p reason (q, (e, w)) =
 
 -- ---- blocks
 
-pub image_blocks : (h : Header) (blob : List ℕ) (mask : MaskForm) (at : ℕ) (old r : Pixels) (tops : List ℤ) (t : CodedThere h blob mask (Blocks at) at) → 0 < h.depth → KeepsMarks old r
+pub image_blocks : (h : Header) (blob : List ℕ) (mask : MaskForm) (at : ℕ) (old r : Pixels) (tops : Tops) (t : CodedThere h blob mask (Blocks at) at) → 0 < h.depth → KeepsMarks old r
     → AreTopsOf h (image_of h blob mask) tops → HasBlocks h (marks_of old) tops (take (length blob - at) (drop at blob)) r → IsImage h (image_of h blob mask) r
 image_blocks h blob mask at old r tops t some keeps are b =
     let values = behind_place h blob mask (Blocks at) at t in
     image_coded h blob mask (Blocks at) at r t
     (blocks t.tells.0 t.values (ap (λ (u : List ℕ). u ++ t.values) t.tells.1.1) t.tells.1.0 b.side
     (subst (λ (ms : List Bool). AreBlocks h ms (top_of h t.front) t.values (all_blocks h r)) keeps.marks
-    (blocks_same h (marks_of old) (top_in tops) (top_of h t.front) t.values (all_blocks h r) some (are.each t.front (t.tell ++ t.values) t.lists)
-    (subst (λ (u : List ℕ). AreBlocks h (marks_of old) (top_in tops) u (all_blocks h r)) values b.stand))))
+    (blocks_same h (marks_of old) (top_in h tops) (top_of h t.front) t.values (all_blocks h r) some (are.each t.front (t.tell ++ t.values) t.lists)
+    (subst (λ (u : List ℕ). AreBlocks h (marks_of old) (top_in h tops) u (all_blocks h r)) values b.stand))))
 
-pub blocks_fault : (h : Header) (blob : List ℕ) (mask : MaskForm) (marks : List Bool) (at : ℕ) (tops : List ℤ) (t : CodedThere h blob mask (Blocks at) at) → 0 < h.depth
-    → AreTopsOf h (image_of h blob mask) tops → (p : ℕ) (reason : BlobReason) → moved at (blocks_faults h marks (top_in tops) (take (length blob - at) (drop at blob))) p reason
+pub blocks_fault : (h : Header) (blob : List ℕ) (mask : MaskForm) (marks : List Bool) (at : ℕ) (tops : Tops) (t : CodedThere h blob mask (Blocks at) at) → 0 < h.depth
+    → AreTopsOf h (image_of h blob mask) tops → (p : ℕ) (reason : BlobReason) → moved at (blocks_faults h marks (top_in h tops) (take (length blob - at) (drop at blob))) p reason
     → moved (image_place h mask) (image_faults h marks (image_of h blob mask)) p reason
 blocks_fault h blob mask marks at tops t some are p reason (q, (e, w)) =
     let values = behind_place h blob mask (Blocks at) at t in
     let mode = t.tells.0 in
     let there : blocks_faults h marks (top_of h t.front) t.values q reason =
-    faults_same h marks (top_in tops) (top_of h t.front) t.values q reason some (are.each t.front (t.tell ++ t.values) t.lists) (subst (λ (u : List ℕ). blocks_faults h marks (top_in tops) u q reason) values w) in
+    faults_same h marks (top_in h tops) (top_of h t.front) t.values q reason some (are.each t.front (t.tell ++ t.values) t.lists) (subst (λ (u : List ℕ). blocks_faults h marks (top_in h tops) u q reason) values w) in
     coded_fault h blob mask (Blocks at) marks at q p reason t e
     (subst (λ (u : List ℕ). coded_faults (value_faults h marks t.front) h (u ++ t.values) (length u + q) reason) (sym t.tells.1.1)
     (subst (λ (n : ℕ). coded_faults (value_faults h marks t.front) h (0 ∷ (mode ++ t.values)) n reason) (let s : 1 + (length mode + q) ≡ suc (length mode) + q = omega arith in s)
@@ -393,14 +395,6 @@ pub plain_fault : (h : Header) (blob : List ℕ) (mask : MaskForm) (marks : List
     → moved at (codes_faults (value_count h) (take (length blob - at) (drop at blob))) p reason → moved (image_place h mask) (image_faults h marks (image_of h blob mask)) p reason
 plain_fault h blob mask marks at t =
     codes_fault_at h blob mask (Plain at) marks at 2 t t.tells.1.1 t.tells.0 (subst (λ (v : Version). 2 ≤ greatest_mode v) (sym t.tells.1.0) (omega arith)) (λ e. absurd (omega (arith, e)))
-
--- where no image is bare some pixel is valid, so the greatest value is the type's
-range_top : (bytes : List ℕ) (h : Header) (place : ℕ) → RangeAt bytes place h.kind h.valid h.least h.greatest → ¬ (h.valid ≡ 0) → InRange h.kind h.greatest
-range_top bytes h place (inl u) some = u.1.greatest_in_range
-range_top bytes h place (inr u) some = absurd (some u.0)
-
-pub top_fits : (h : Header) (blob : List ℕ) → HeadAt blob h → ¬ IsBare h → InRange h.kind h.greatest
-top_fits h blob head bare = range_top blob h (46 + shift h.version) head.range (λ z. bare (inl z))
 
 front_long : (h : Header) (v : Version) (lists : List ℕ) (front : Option Ends) → v ≡ V4 → IsFront h v lists front → length lists ≡ h.depth * bytes_of h.kind + h.depth * bytes_of h.kind
 front_long h V3 lists front is f = absurd (cc)

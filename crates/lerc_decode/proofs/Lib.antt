@@ -11,7 +11,7 @@ mod FirstBlobs
 pub mod Feeding
 mod Settled
 mod Tiles
-mod Tops
+mod TopLists
 mod BlobTurns
 mod BlockReading
 mod CodePlaces

@@ -11,5 +11,6 @@ pub mod Inside
 pub mod Kept
 pub mod Stages
 pub mod Steps
+pub mod Tops
 pub mod Turns
 pub mod Words

@@ -9,10 +9,12 @@ ghost use Rattle.raster_values.specs.Step.{IsTwiceError};
 ghost use Rattle.raster_values.specs.Raster.{IsShape};
 ghost use Rattle.lerc_grammar.specs.Blocks.{blocks_across, blocks_down, blocks_faults, first_block_faults, count_in_block};
 ghost use Rattle.lerc_grammar.specs.Reasons.{block_reason, list_reason};
-ghost use Rattle.lerc_decode.specs.inside.Blocks.{AreTops, HasBlocks, HasRead, IsBlockHead, IsSquare, block_number, top_in};
+ghost use Rattle.lerc_decode.specs.inside.Blocks.{HasBlocks, HasRead, IsBlockHead, IsSquare, block_number};
 ghost use Rattle.lerc_decode.specs.inside.Body.{HasHeadShape, IsStopOf, KeepsMarks};
+ghost use Rattle.lerc_decode.specs.inside.Tops.{AreTops, top_in};
 
 use crate::body::{BodyStop, stopped};
+use crate::tops::Tops;
 use bit_stuff::ListReason;
 use lerc_header::{BlobFault, BlobReason, Header};
 use micro_block::{BlockCtx, BlockFault, BlockReason, read_steps};
@@ -63,7 +65,7 @@ fn read_one<T: Target>(
     rest: &[u8],
     at: usize,
     header: &Header,
-    tops: &[i64],
+    tops: &Tops,
     a: u32,
     b: u32,
     d: u32,
@@ -85,7 +87,7 @@ fn read_one<T: Target>(
     ensures ok { IfOk result (λ next. HasRead header.now (marks_of (T.pixels raster.old)) tops.now rest.now
         (block_number header.now a b d + 1) next (T.pixels raster.new)) }
     ensures fault { IfErr result (λ f. first_block_faults header.now (marks_of (T.pixels raster.old))
-        (top_in tops.now) rest.now f.place f.reason) }
+        (top_in header.now tops.now) rest.now f.place f.reason) }
     ensures near { IfErr result (λ f. f.place ≤ length rest.now) }
     ensures sound { T.sound raster.new }
     ensures kept { T.kept raster.new ≡ T.kept raster.old }
@@ -96,7 +98,7 @@ fn read_one<T: Target>(
         kind: header.kind,
         col,
         step: header.step,
-        top: tops[d as usize],
+        top: tops.at(header, d),
     };
     match read_steps(&rest[at..], &ctx, numbers) {
         Ok(read) => {
@@ -113,7 +115,7 @@ fn read_depths<T: Target>(
     rest: &[u8],
     from: usize,
     header: &Header,
-    tops: &[i64],
+    tops: &Tops,
     a: u32,
     b: u32,
     numbers: &mut [u32],
@@ -133,7 +135,7 @@ fn read_depths<T: Target>(
     ensures ok { IfOk result (λ next. HasRead header.now (marks_of (T.pixels raster.old)) tops.now rest.now
         (block_number header.now a (b + 1) 0) next (T.pixels raster.new)) }
     ensures fault { IfErr result (λ f. first_block_faults header.now (marks_of (T.pixels raster.old))
-        (top_in tops.now) rest.now f.place f.reason) }
+        (top_in header.now tops.now) rest.now f.place f.reason) }
     ensures near { IfErr result (λ f. f.place ≤ length rest.now) }
     ensures sound { T.sound raster.new }
     ensures kept { T.kept raster.new ≡ T.kept raster.old }
@@ -151,7 +153,7 @@ fn read_square<T: Target>(
     rest: &[u8],
     from: usize,
     header: &Header,
-    tops: &[i64],
+    tops: &Tops,
     a: u32,
     b: u32,
     room: &mut [u32],
@@ -169,7 +171,7 @@ fn read_square<T: Target>(
     ensures ok { IfOk result (λ next. HasRead header.now (marks_of (T.pixels raster.old)) tops.now rest.now
         (block_number header.now a (b + 1) 0) next (T.pixels raster.new)) }
     ensures fault { IfErr result (λ f. first_block_faults header.now (marks_of (T.pixels raster.old))
-        (top_in tops.now) rest.now f.place f.reason) }
+        (top_in header.now tops.now) rest.now f.place f.reason) }
     ensures near { IfErr result (λ f. f.place ≤ length rest.now) }
     ensures sound { T.sound raster.new }
     ensures kept { T.kept raster.new ≡ T.kept raster.old }
@@ -193,7 +195,7 @@ fn read_row<T: Target>(
     rest: &[u8],
     from: usize,
     header: &Header,
-    tops: &[i64],
+    tops: &Tops,
     a: u32,
     room: &mut [u32],
     raster: &mut T,
@@ -210,7 +212,7 @@ fn read_row<T: Target>(
     ensures ok { IfOk result (λ next. HasRead header.now (marks_of (T.pixels raster.old)) tops.now rest.now
         (block_number header.now (a + 1) 0 0) next (T.pixels raster.new)) }
     ensures fault { IfErr result (λ f. first_block_faults header.now (marks_of (T.pixels raster.old))
-        (top_in tops.now) rest.now f.place f.reason) }
+        (top_in header.now tops.now) rest.now f.place f.reason) }
     ensures near { IfErr result (λ f. f.place ≤ length rest.now) }
     ensures sound { T.sound raster.new }
     ensures kept { T.kept raster.new ≡ T.kept raster.old }
@@ -226,7 +228,7 @@ fn read_row<T: Target>(
 fn read_rows<T: Target>(
     rest: &[u8],
     header: &Header,
-    tops: &[i64],
+    tops: &Tops,
     room: &mut [u32],
     raster: &mut T,
 ) -> Result<usize, BlobFault>
@@ -239,7 +241,7 @@ fn read_rows<T: Target>(
     ensures ok { IfOk result (λ next. HasRead header.now (marks_of (T.pixels raster.old)) tops.now rest.now
         (block_number header.now (blocks_down header.now) 0 0) next (T.pixels raster.new)) }
     ensures fault { IfErr result (λ f. first_block_faults header.now (marks_of (T.pixels raster.old))
-        (top_in tops.now) rest.now f.place f.reason) }
+        (top_in header.now tops.now) rest.now f.place f.reason) }
     ensures near { IfErr result (λ f. f.place ≤ length rest.now) }
     ensures sound { T.sound raster.new }
     ensures kept { T.kept raster.new ≡ T.kept raster.old }
@@ -257,7 +259,7 @@ pub(crate) fn pour_blocks<T: Target>(
     rest: &[u8],
     place: usize,
     header: &Header,
-    tops: &[i64],
+    tops: &Tops,
     raster: &mut T,
 ) -> Result<(), BodyStop>
     requires side { 0 < header.now.side }
@@ -271,7 +273,7 @@ pub(crate) fn pour_blocks<T: Target>(
     ensures ok { OnOk result (HasBlocks header.now (marks_of (T.pixels raster.old)) tops.now rest.now
         (T.pixels raster.new)) }
     ensures fault { IfErr result (λ stop. IsStopOf (moved place (blocks_faults header.now
-        (marks_of (T.pixels raster.old)) (top_in tops.now) rest.now)) stop) }
+        (marks_of (T.pixels raster.old)) (top_in header.now tops.now) rest.now)) stop) }
     ensures sound { T.sound raster.new }
     ensures kept { T.kept raster.new ≡ T.kept raster.old }
 {

@@ -1,6 +1,6 @@
 //! The raster of a whole blob.
 
-ghost use Rattle.std.specs.Prelude.{◌≡◌, ◌≢◌, ◌≤◌, ◌*◌, ◌+◌, ◌-◌, ◌<◌, ◌^◌, IfOk, IfErr, OnOk, IfSome, IsTrue, Option, Some, ◌↔◌, length, take, drop, replicate};
+ghost use Rattle.std.specs.Prelude.{◌≡◌, ◌≤◌, ◌*◌, ◌+◌, ◌-◌, ◌<◌, ◌^◌, IfOk, IfErr, OnOk, IfSome, Option, Some, length, take, drop, replicate};
 ghost use Rattle.first_fault.specs.Faults.{moved};
 ghost use Rattle.raster_values.specs.PixelType.{InRange, bytes_of};
 ghost use Rattle.raster_values.specs.Raster.{IsRaster, IsShape, blank};
@@ -13,15 +13,15 @@ ghost use Rattle.lerc_grammar.specs.Image.{sweep_faults, value_count};
 ghost use Rattle.lerc_grammar.specs.Blob.{BlobAfter, blob_faults};
 ghost use Rattle.lerc_grammar.specs.Outline.{IsImageForm, IsMaskForm, image_place};
 ghost use Rattle.lerc_grammar.specs.declared.parts.ImageForm.{ImageForm};
-ghost use Rattle.lerc_decode.specs.inside.Blocks.{AreTopsOf, HasBoth, IsOneTop};
 ghost use Rattle.lerc_decode.specs.inside.Body.{HasHeadShape, HasSum, IsFilledWith, IsMarkedBy, IsMarkedFor, IsMaskFormFor, IsStopOf, IsSwept, KeepsMarks, ReadsImage, marks_for};
 
 use crate::before::Before;
 use crate::blocks::pour_blocks;
 use crate::codes::{pour_deltas, pour_plain};
 use crate::masks::bits_of_runs;
+use crate::tops::Tops;
 use lerc_grammar::{ImageForm, MaskForm, image_part, mask_part, place_behind};
-use lerc_header::{BlobFault, BlobReason, Header, Version, sum_behind};
+use lerc_header::{BlobFault, BlobReason, Header, sum_behind};
 use micro_block::read_values;
 use raster_target::Target;
 use raster_values::Raster;
@@ -278,43 +278,18 @@ fn pour_sweep<T: Target>(
     Ok(())
 }
 
-/// Whether all depths have the header's top.
-fn has_one_top(header: &Header) -> bool
-    ensures { IsTrue result ↔ IsOneTop header.now }
-{
-    header.version == Version::V3 || header.depth == 1
-}
-
-/// Reads the tops of the depths, where they are not all the header's. The bytes begin with the
-/// lists.
-fn read_tops(bytes: &[u8], header: &Header, tops: &mut [i64])
-    requires few { header.now.depth ≤ 65536 }
-    requires top { InRange header.now.kind header.now.greatest }
-    requires lists { HasBoth header.now bytes.now }
-    requires filled { tops.old ≡ replicate header.now.depth header.now.greatest }
-    ensures { AreTopsOf header.now bytes.now tops.new }
-{
-    if has_one_top(header) {
-        return;
-    }
-    let size = header.depth as usize * header.kind.bytes();
-    read_values(header.kind, &bytes[size..2 * size], tops);
-}
-
-/// The same, with the tops read into `tops`.
-fn pour_topped<T: Target>(
+/// Gives the valid pixels the values of blocks, the first of which begins at this place.
+fn read_blocks<T: Target>(
     blob: &[u8],
     header: &Header,
     mask: &MaskForm,
     place: usize,
-    tops: &mut [i64],
     raster: &mut T,
 ) -> Result<(), BodyStop>
     requires head { HeadAt blob.now header.now }
     requires size { length blob.now ≡ header.now.size }
     requires mask { IsMaskForm header.now blob.now mask.now }
     requires form { IsImageForm header.now blob.now mask.now (ImageForm.Blocks place) }
-    requires filled { tops.old ≡ replicate header.now.depth header.now.greatest }
     requires shape { HasHeadShape header.now (T.pixels raster.old) }
     requires sound { T.sound raster.old }
     ensures read { ReadsImage header.now blob.now mask.now (T.pixels raster.old) (T.pixels raster.new) result }
@@ -322,33 +297,8 @@ fn pour_topped<T: Target>(
     ensures kept { T.kept raster.new ≡ T.kept raster.old }
 {
     let start = place_behind(header, mask);
-    read_tops(&blob[start..], header, tops);
-    pour_blocks(&blob[place..], place, header, tops, raster)
-}
-
-/// Gives the valid pixels the values of blocks, the first of which begins at this place.
-fn read_blocks<T: Target>(
-    alloc: Global,
-    blob: &[u8],
-    header: &Header,
-    mask: &MaskForm,
-    place: usize,
-    raster: &mut T,
-) -> Result<(), BodyStop>
-    requires head { HeadAt blob.now header.now }
-    requires size { length blob.now ≡ header.now.size }
-    requires mask { IsMaskForm header.now blob.now mask.now }
-    requires form { IsImageForm header.now blob.now mask.now (ImageForm.Blocks place) }
-    requires shape { HasHeadShape header.now (T.pixels raster.old) }
-    requires sound { T.sound raster.old }
-    ensures read { ReadsImage header.now blob.now mask.now (T.pixels raster.old) (T.pixels raster.new) result }
-    ensures sound { T.sound raster.new }
-    ensures kept { T.kept raster.new ≡ T.kept raster.old }
-{
-    let Some(mut tops) = many(alloc, header.greatest, header.depth as usize) else {
-        return Err(BodyStop::OutOfMemory);
-    };
-    pour_topped(blob, header, mask, place, &mut tops, raster)
+    let tops = Tops::of(&blob[start..], header);
+    pour_blocks(&blob[place..], place, header, &tops, raster)
 }
 
 /// How many values the image has.
@@ -436,7 +386,7 @@ fn read_image<T: Target>(
             let place = at as usize;
             pour_sweep(&blob[place..], place, header, raster)
         }
-        ImageForm::Blocks { at } => read_blocks(alloc, blob, header, mask, at as usize, raster),
+        ImageForm::Blocks { at } => read_blocks(blob, header, mask, at as usize, raster),
         ImageForm::Delta { at } => read_deltas(blob, header, mask, at as usize, raster),
         ImageForm::Plain { at } => read_plain(blob, header, mask, at as usize, raster),
     }

@@ -19,6 +19,7 @@ mod front_blobs;
 mod kept;
 mod masks;
 mod over;
+mod tops;
 mod turns;
 mod words;
 

@@ -192,8 +192,8 @@ fn body_over(
 /// highest of each byte first, the bits behind the last pixel 0. How long they have to be the header
 /// says, which is asked first.
 ///
-/// No memory is taken for values; for an image of one value, of one list or of blocks eight bytes for
-/// each depth. Where there is no blob, and but for `Sizes`, the arrays hold anything.
+/// No memory is taken for values; for an image of one value or of one list eight bytes for each depth.
+/// Where there is no blob, and but for `Sizes`, the arrays hold anything.
 pub fn decode_over(
     alloc: Global,
     blob: &[u8],

@@ -1,5 +1,5 @@
-use Rattle.std.proofs.Common.{◌≡◌, ◌<◌, ◌*◌, ℤ, List, length, get_or, sym, subst, arith}
-use Rattle.std.specs.Prelude.{IfErr, pos}
+use Rattle.std.proofs.Common.{◌≡◌, ◌*◌, ℤ, List, length, sym, subst, arith, ◌∙◌}
+use Rattle.std.specs.Prelude.{IfErr}
 use Rattle.std.proofs.lemmas.Int.{ints, to_z-of_z}
 use mir.Syntax.{w64}
 use mir.Val.{SFits, of_z, to_z}
@@ -9,19 +9,16 @@ use Rattle.raster_values.proofs.Views.{same_bits}
 use Rattle.raster_values.specs.Flat.{marks_of}
 use Rattle.micro_block.specs.ReadSteps.{stepped_values}
 use Rattle.lerc_grammar.specs.Blocks.{first_block_faults}
-use Rattle.lerc_decode.specs.inside.Blocks.{top_in}
+use Rattle.lerc_decode.specs.inside.Tops.{top_in}
 use Rattle.lerc_decode.proofs.Filling.{keeps}
 use Rattle.lerc_decode.proofs.BlockReading.{row_begins, col_begins, one_read, one_fault, square_within}
 use Rattle.lerc_decode.proofs.blocks.read_one.Goals as goal
 
 pub read_steps-requires-clause-ctx : goal.read_steps-requires-clause-ctx
 read_steps-requires-clause-ctx g c =
-    let kind = c.args.header.now.kind in
-    let top = get_or c.args.tops.now c.args.d (pos 0) in
-    let there : c.args.d < length c.args.tops.now = omega (arith, c.requires.tops.long, c.requires.depth) in
-    let fit : InRange kind top = c.requires.tops.fit c.args.d (pos 0) there in
+    let fit = c.at.ensures.in_range in
     record {
-      top = subst (λ (z : ℤ). InRange kind z) (sym (same_bits kind top fit)) fit;
+      top = subst (InRange c.args.header.now.kind) (sym (same_bits c.args.header.now.kind c.at.result fit)) fit;
       step = c.requires.head.step;
     }
 
@@ -47,13 +44,13 @@ returns-in-Ok-clause-ok g c =
     subst (λ (u : List ℤ). PoursBlock (g.T.Target.pixels c.args.raster.now) (g.T.Target.pixels c.pour_steps.new.self) (c.args.a * h.side) (c.args.b * h.side) h.side c.args.d u)
     (λ i. stepped_values (record { used = read.used; offset = low i; step = far i; top = high i }) numbers) c.pour_steps.ensures.poured in
     one_read h (g.T.Target.pixels c.args.raster.now) (g.T.Target.pixels c.pour_steps.new.self) c.args.tops.now (stepped_values read numbers) c.args.rest.now _ c.args.a c.args.b c.args.d c.args.at read.used (length c.args.numbers.now)
-    c.requires.head c.requires.square c.requires.depth c.requires.shape (same_bits kind (get_or c.args.tops.now c.args.d (pos 0)) (c.requires.tops.fit c.args.d (pos 0) (omega (arith, c.requires.tops.long, c.requires.depth)))) c.requires.count c.requires.read c.in-Ok.ensures.ok poured
+    c.requires.head c.requires.square c.requires.depth c.requires.shape (same_bits kind c.at.result c.at.ensures.in_range ∙ c.at.ensures.value) c.requires.count c.requires.read c.in-Ok.ensures.ok poured
 
 pub returns-in-Err-clause-fault : goal.returns-in-Err-clause-fault
 returns-in-Err-clause-fault g c =
-    subst (λ r. IfErr r (λ f. first_block_faults c.args.header.now (marks_of (g.T.Target.pixels c.args.raster.now)) (top_in c.args.tops.now) c.args.rest.now f.place f.reason)) (sym c.refused.ensures)
+    subst (λ r. IfErr r (λ f. first_block_faults c.args.header.now (marks_of (g.T.Target.pixels c.args.raster.now)) (top_in c.args.header.now c.args.tops.now) c.args.rest.now f.place f.reason)) (sym c.refused.ensures)
     (one_fault c.args.header.now (g.T.Target.pixels c.args.raster.now) c.args.tops.now c.args.rest.now _ c.args.a c.args.b c.args.d c.args.at (length c.args.numbers.now) c.in-Err.fault
-    c.requires.square c.requires.depth c.requires.shape (same_bits c.args.header.now.kind (get_or c.args.tops.now c.args.d (pos 0)) (c.requires.tops.fit c.args.d (pos 0) (omega (arith, c.requires.tops.long, c.requires.depth)))) c.requires.count c.requires.read ((c.read_steps.ensures.fault c.in-Err.fault).0 c.in-Err.is))
+    c.requires.square c.requires.depth c.requires.shape (same_bits c.args.header.now.kind c.at.result c.at.ensures.in_range ∙ c.at.ensures.value) c.requires.count c.requires.read ((c.read_steps.ensures.fault c.in-Err.fault).0 c.in-Err.is))
 
 pub overflow_mul-row : goal.overflow_mul-row
 overflow_mul-row g c =
