@@ -116,7 +116,7 @@ uint64_t futskheri_greatest_size(uint32_t kind, uint32_t rows, uint32_t cols, ui
  * more than error (0: none changes). At the places of invalid pixels any bytes may stand in values.
  * mask_size 0: every pixel is valid. Values and mask are read where they lie, and nothing of them is copied. It takes
  * memory for what it knows of a raster before it writes: a bit for each block of 8 and each of 16 rows and columns at
- * each depth, but at most 128 bytes for each row of such blocks, and at most 2,048 bytes more.
+ * each depth, but at most 128 bytes for each row of such blocks.
  * OK: *size is the size of the blob. NO_ROOM: *size is the size that the blob would have. Else *size stays;
  * where it is not OK, out stays. The first of these that holds is answered: BAD_KIND, BAD_VERSION, BAD_SHAPE,
  * TOO_LARGE, BAD_SIZES, DEPTH_NEEDS_V4, NO_ROOM; NO_MEMORY may come

@@ -1,6 +1,6 @@
 -- The forms of an image's values, and the choice among them.
 use Rattle.std.proofs.Common.{◌≡◌, ℕ, ◌+◌, ◌-◌, ◌*◌, ◌/◌, ◌<◌, ◌≤◌, Bool, true, false, List, [], ◌∷◌, ◌++◌, length, take, drop, get_or, refl, sym, ap, ◌∙◌, subst, arith, length-append}
-use Rattle.std.specs.Prelude.{ℤ, pos, nat_eq, ◌&&◌, if◌then◌else◌, ◌≢◌, set}
+use Rattle.std.specs.Prelude.{ℤ, pos, nat_eq, ◌&&◌, if◌then◌else◌, set}
 use Rattle.std.proofs.lemmas.Bool.{eqb-true}
 use Rattle.std.proofs.lemmas.List.{append-nil, drop_all, take_all}
 use Rattle.std.proofs.Math.Nat.{mul-le-mul_right}

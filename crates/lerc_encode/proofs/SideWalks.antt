@@ -1,5 +1,5 @@
 -- The walk over the blocks of side 16, and what is known at its end.
-use Rattle.std.proofs.Common.{◌≡◌, ℕ, zero, suc, ◌+◌, ◌*◌, ◌%◌, ◌<◌, ◌≤◌, ◌⊎◌, inl, inr, List, length, length-append, map, refl, sym, ap, ◌∙◌, subst, arith, Option, Some, None}
+use Rattle.std.proofs.Common.{◌≡◌, ℕ, zero, suc, ◌+◌, ◌*◌, ◌%◌, ◌<◌, ◌≤◌, ◌⊎◌, inl, inr, List, length, length-append, take, map, refl, sym, ap, ◌∙◌, subst, arith, Option, Some, None}
 use Rattle.std.specs.Prelude.{ℤ, All, MatchOption}
 use Rattle.std.specs.List.{flat_map, range_with_len}
 use Rattle.std.proofs.lemmas.Bool.{cases_lt}
@@ -116,7 +116,7 @@ small_more h r n spot at = quarters_more h r n ∙ ap (λ (s : Spot). quarters_s
 -- ---- at the end
 
 pub finished : (h : Header) (r : Pixels) (most total size : ℕ) (tables : Flags) → IsMore most total 0 size → total ≡ length (blocks_bytes h r) → most ≤ 67108865 → (size ≤ most → AreFlags h r (coded_blocks h) tables)
-    → (found : Option Measured) → MatchOption found (most < size) (λ m. (m.size ≡ size) × ((size ≤ most) × ((m.tables ≡ tables) × (Rises m.values.items × (length m.values.items ≤ 256)))))
+    → (found : Option Measured) → MatchOption found (most < size) (λ m. (m.size ≡ size) × ((size ≤ most) × ((m.tables ≡ tables) × (Rises (take m.values.count m.values.values) × (m.values.count ≤ 256)))))
     → MatchOption found (most < length (blocks_bytes h r)) (IsMeasured h r)
 finished h r most total size tables more all few flags None over = let less = more.over over in omega (arith, less, all)
 finished h r most total size tables more all few flags (Some m) is = record {
@@ -194,7 +194,7 @@ large_over h r most n a low more over =
 
 -- all
 pub small_done : (h g : Header) (r : Pixels) (most n size : ℕ) (tables : Flags) → IsBlocked h r → h.side ≡ 8 → g ≡ record h { side = 16 } → n ≡ coded_blocks g → most ≤ 67108865 → IsMore most (quarters_so_far h r n) 0 size → AreMarked (IsInFirst h n) h r most size tables
-    → (found : Option Measured) → MatchOption found (most < size) (λ m. (m.size ≡ size) × ((size ≤ most) × ((m.tables ≡ tables) × (Rises m.values.items × (length m.values.items ≤ 256)))))
+    → (found : Option Measured) → MatchOption found (most < size) (λ m. (m.size ≡ size) × ((size ≤ most) × ((m.tables ≡ tables) × (Rises (take m.values.count m.values.values) × (m.values.count ≤ 256)))))
     → MatchOption found (most < length (blocks_bytes h r)) (IsMeasured h r)
 small_done h g r most n size tables is side e all few more marked found was =
     let every : n ≡ coded_blocks (record h { side = 16 }) = all ∙ ap (λ (x : Header). coded_blocks x) e in
@@ -202,7 +202,7 @@ small_done h g r most n size tables is side e all few more marked found was =
     (λ le. all_marked (IsInFirst h n) h r most size tables marked le (λ k low. (let one = in_one h r is side k low in (one.0, (subst (λ j. one.0 < j) (sym every) one.1.0, one.1.1))))) found was
 
 pub large_done : (h : Header) (r : Pixels) (most n size : ℕ) (tables : Flags) → n ≡ coded_blocks h → most ≤ 67108865 → IsMore most (length (flat_map (coded_bytes h r) (range_with_len 0 n))) 0 size → AreMarked (λ i. i < n) h r most size tables
-    → (found : Option Measured) → MatchOption found (most < size) (λ m. (m.size ≡ size) × ((size ≤ most) × ((m.tables ≡ tables) × (Rises m.values.items × (length m.values.items ≤ 256)))))
+    → (found : Option Measured) → MatchOption found (most < size) (λ m. (m.size ≡ size) × ((size ≤ most) × ((m.tables ≡ tables) × (Rises (take m.values.count m.values.values) × (m.values.count ≤ 256)))))
     → MatchOption found (most < length (blocks_bytes h r)) (IsMeasured h r)
 unfolding blocks_bytes
 large_done h r most n size tables all few more marked found was =

@@ -14,7 +14,6 @@ use Rattle.raster_values.proofs.Revalued.{new_marks}
 use Rattle.lerc_header.specs.declared.header.Version.{Version}
 use Rattle.lerc_header.specs.declared.header.Version.TheVariants.{V3, V4}
 use Rattle.delta_mode.specs.Symbols.{IsByteType}
-use Rattle.micro_block.specs.ChosenBlock as micro
 use Rattle.micro_block.specs.Block.{IsBlock}
 use Rattle.micro_block.proofs.Written.{raw_stands, nothing_off}
 use Rattle.lerc_grammar.specs.Image.{top_of, IsBlocksMode, IsCoded}

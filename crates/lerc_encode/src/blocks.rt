@@ -1,6 +1,6 @@
 // The chosen blocks of a raster: how many bytes they take, which have a table, and their bytes.
 
-ghost use Rattle.std.specs.Prelude.{◌≡◌, ℕ, ◌+◌, ◌*◌, ◌<◌, ◌≤◌, ◌≤ℤ◌, ◌↔◌, ◌++◌, All, drop, length, map, take, IfOk, IsTrue};
+ghost use Rattle.std.specs.Prelude.{◌≡◌, ℕ, ◌+◌, ◌*◌, ◌<◌, ◌≤◌, ◌≤ℤ◌, ◌↔◌, ◌++◌, All, drop, length, map, take, IsTrue};
 ghost use Rattle.lut_stuff.specs.Names.{AreNames};
 ghost use Rattle.lut_stuff.specs.Ranked.{AreRanked, Rises};
 ghost use Rattle.micro_block.specs.ChosenBlock as micro;
@@ -17,7 +17,6 @@ use lerc_header::Header;
 use lut_stuff::{Names, Ranks};
 use micro_block::{BlockCtx, block_size, write_ranked};
 use raster_view::View;
-use std::alloc::{AllocError, Global};
 
 /// The most values that a block may have.
 pub(crate) const MOST: usize = 256;
@@ -37,6 +36,23 @@ pub(crate) const FIRST: Spot = Spot {
     d: 0,
 };
 
+/// At most 256 values in rising order.
+#[derive(Clone, Copy)]
+pub(crate) struct Sorted {
+    values: [u32; MOST],
+    count: usize,
+}
+
+impl Sorted {
+    /// The values.
+    pub(crate) fn as_slice(&self) -> &[u32]
+        requires { self.now.count ≤ 256 }
+        ensures { result.now ≡ take self.now.count self.now.values }
+    {
+        &self.values[..self.count]
+    }
+}
+
 /// What is known of all chosen blocks before they are written.
 #[derive(Drop)]
 pub(crate) struct Measured {
@@ -46,7 +62,7 @@ pub(crate) struct Measured {
     pub(crate) tables: Flags,
     /// The different values, as how far they are above the least of their type, in rising order,
     /// where these are few and far apart; else none.
-    pub(crate) values: Vec<u32>,
+    pub(crate) values: Sorted,
 }
 
 /// How many blocks stand side by side.
@@ -177,17 +193,18 @@ fn write_at<V: View>(
 }
 
 /// The values that have a name, in rising order, and none where there were too many.
-pub(crate) fn sorted_values(alloc: Global, names: &Names) -> Result<Vec<u32>, AllocError>
+pub(crate) fn sorted_values(names: &Names) -> Sorted
     requires { AreNames names.now }
-    ensures rises { IfOk result (λ values. Rises values.items) }
-    ensures few { IfOk result (λ values. length values.items ≤ 256) }
+    ensures rises { Rises (take result.count result.values) }
+    ensures few { result.count ≤ 256 }
 {
+    let mut values = [0; MOST];
     if names.is_spent() {
-        return Ok(Vec::new(alloc));
+        return Sorted { values, count: 0 };
     }
-    let mut values = vec![in alloc; 0u32; names.count()]?;
-    names.sort_into(&mut values);
-    Ok(values)
+    let count = names.count();
+    names.sort_into(&mut values[..count]);
+    Sorted { values, count }
 }
 
 /// Writes all blocks into `out`, which has as many bytes as they take. The lists of tables of these

@@ -110,7 +110,7 @@ fn write_block_form<V: View>(h: &Header, raster: &V, found: &Option<Measured>, o
     ensures { out.new ≡ 0 ∷ (mode_bytes (V.pixels raster.now) h.now.step ++ blocks_bytes h.now (V.pixels raster.now)) }
 {
     if let Some(measured) = found {
-        write_measured(h, raster, &measured.tables, &measured.values, out);
+        write_measured(h, raster, &measured.tables, measured.values.as_slice(), out);
     }
 }
 

@@ -384,26 +384,20 @@ fn tally_both<V: View>(
 }
 
 /// What is known of all blocks of a side, unless they take more than `most` bytes.
-fn measured_of(
-    alloc: Global,
-    tally: Tally,
-    most: usize,
-    names: &Names,
-) -> Result<Option<Measured>, AllocError>
+fn measured_of(tally: Tally, most: usize, names: &Names) -> Option<Measured>
     requires { AreNames names.now }
-    ensures { IfOk result (λ found. MatchOption found (most < tally.size)
+    ensures { MatchOption result (most < tally.size)
         (λ m. (m.size ≡ tally.size) × ((tally.size ≤ most) × ((m.tables ≡ tally.tables)
-        × (Rises m.values.items × (length m.values.items ≤ 256)))))) }
+        × (Rises (take m.values.count m.values.values) × (m.values.count ≤ 256))))) }
 {
     if tally.size > most {
-        return Ok(None);
+        return None;
     }
-    let values = sorted_values(alloc, names)?;
-    Ok(Some(Measured {
+    Some(Measured {
         size: tally.size,
         tables: tally.tables,
-        values,
-    }))
+        values: sorted_values(names),
+    })
 }
 
 /// What is known of all blocks of both sides; none of a side where its blocks take more than `most`
@@ -452,7 +446,7 @@ pub(crate) fn measure_sides<V: View>(
         }
         spot = next_spot(large, raster, spot);
     }
-    let small = measured_of(alloc, eights, most, &names)?;
-    let large = measured_of(alloc, sixteens, most, &names)?;
+    let small = measured_of(eights, most, &names);
+    let large = measured_of(sixteens, most, &names);
     Ok(Sides { small, large })
 }

@@ -1,5 +1,5 @@
 -- What is asked of a header whose blocks are written, and what is known of these before they are.
-use Rattle.std.specs.Prelude.{◌≡◌, ℕ, ◌*◌, ◌<◌, ◌≤◌, List, ℤ, length}
+use Rattle.std.specs.Prelude.{◌≡◌, ℕ, ◌*◌, ◌<◌, ◌≤◌, List, ℤ, length, take}
 use Rattle.raster_values.specs.Raster.{Pixels, IsRaster}
 use Rattle.raster_values.specs.Block.{block_values}
 use Rattle.raster_values.specs.Step.{IsTwiceError}
@@ -62,5 +62,5 @@ pub record IsMeasured (h : Header) (r : Pixels) (m : Measured) : Type 0 where
   pub size : m.size ≡ length (blocks_bytes h r)
   pub few : m.size ≤ 1025 * 16777216
   pub tables : AreFlags h r (coded_blocks h) m.tables
-  pub rises : Rises m.values.items
-  pub few_values : length m.values.items ≤ 256
+  pub rises : Rises (take m.values.count m.values.values)
+  pub few_values : m.values.count ≤ 256

@@ -1,4 +1,4 @@
-use Rattle.std.proofs.Common.{◌≡◌, ◌/◌, ◌-◌, ◌∙◌, length, arith}
+use Rattle.std.proofs.Common.{◌∙◌, arith}
 use Rattle.lerc_encode.proofs.Forming.{front_room, length_front}
 use Rattle.lerc_encode.proofs.forms.write_lists.Goals as goal
 

@@ -116,9 +116,9 @@ returns-then-sixteens-most-clause-large g c =
 pub returns-clause-small : goal.returns-clause-small
 returns-clause-small g c =
     let all : c.loop-k.k ≡ coded_blocks c.args.large.now = (let e : c.loop-k.k ≡ c.count-k-end.result = omega arith in e) ∙ c.count-k-end.ensures.value in
-    small_done c.args.small.now c.args.large.now (g.V.View.pixels c.args.raster.now) c.args.most c.loop-k.k c.loop-k.eights.size c.loop-k.eights.tables c.requires.blocked c.requires.side c.requires.large all c.requires.most c.loop-k.invariant.1.1.0.0 c.loop-k.invariant.1.1.0.1 c.in_ok-small.small c.in_ok-small.ensures
+    small_done c.args.small.now c.args.large.now (g.V.View.pixels c.args.raster.now) c.args.most c.loop-k.k c.loop-k.eights.size c.loop-k.eights.tables c.requires.blocked c.requires.side c.requires.large all c.requires.most c.loop-k.invariant.1.1.0.0 c.loop-k.invariant.1.1.0.1 c.measured_of-small.result c.measured_of-small.ensures
 
 pub returns-clause-large : goal.returns-clause-large
 returns-clause-large g c =
     let all : c.loop-k.k ≡ coded_blocks c.args.large.now = (let e : c.loop-k.k ≡ c.count-k-end.result = omega arith in e) ∙ c.count-k-end.ensures.value in
-    large_done c.args.large.now (g.V.View.pixels c.args.raster.now) c.args.most c.loop-k.k c.loop-k.sixteens.size c.loop-k.sixteens.tables all c.requires.most c.loop-k.invariant.1.1.1.0 c.loop-k.invariant.1.1.1.1 c.in_ok-large.large c.in_ok-large.ensures
+    large_done c.args.large.now (g.V.View.pixels c.args.raster.now) c.args.most c.loop-k.k c.loop-k.sixteens.size c.loop-k.sixteens.tables all c.requires.most c.loop-k.invariant.1.1.1.0 c.loop-k.invariant.1.1.1.1 c.measured_of-large.result c.measured_of-large.ensures
