@@ -22,7 +22,6 @@ use crate::masks::bits_of_runs;
 use crate::tops::Tops;
 use lerc_grammar::{ImageForm, MaskForm, image_part, mask_part, place_behind};
 use lerc_header::{BlobFault, BlobReason, Header, sum_behind};
-use micro_block::read_values;
 use raster_target::Target;
 use raster_values::Raster;
 use std::alloc::Global;
@@ -65,13 +64,6 @@ fn room_for(alloc: Global, size: usize) -> Option<Vec<u8>>
     ensures { IfSome result (λ room. length room.items ≡ size) }
 {
     vec![in alloc; 0u8; size].ok()
-}
-
-/// One value so many times, where there is memory for it.
-pub(crate) fn many(alloc: Global, value: i64, count: usize) -> Option<Vec<i64>>
-    ensures { IfSome result (λ values. values.items ≡ replicate count value) }
-{
-    vec![in alloc; value; count].ok()
 }
 
 /// Makes the pixels valid whose bits of the mask are 1.
@@ -181,62 +173,30 @@ fn read_mask(
 }
 
 /// Gives each valid pixel the one value that the header has.
-fn fill_constant<T: Target>(alloc: Global, header: &Header, raster: &mut T) -> Result<(), BodyStop>
+fn fill_constant<T: Target>(header: &Header, raster: &mut T)
     requires shape { HasHeadShape header.now (T.pixels raster.old) }
     requires in_range { InRange header.now.kind header.now.least }
     requires sound { T.sound raster.old }
     ensures marks { KeepsMarks (T.pixels raster.old) (T.pixels raster.new) }
-    ensures ok { OnOk result (EachValid (T.pixels raster.new)
-        (λ values. values ≡ replicate header.now.depth header.now.least)) }
-    ensures stop { IfErr result (λ stop. stop ≡ BodyStop.OutOfMemory) }
+    ensures filled { EachValid (T.pixels raster.new)
+        (λ values. values ≡ replicate header.now.depth header.now.least) }
     ensures sound { T.sound raster.new }
     ensures kept { T.kept raster.new ≡ T.kept raster.old }
 {
-    let Some(values) = many(alloc, header.least, header.depth as usize) else {
-        return Err(BodyStop::OutOfMemory);
-    };
-    raster.fill_valid(&values);
-    Ok(())
+    raster.fill_value(header.least);
 }
 
-/// Gives each valid pixel the list that these bytes stand for. The values are read into `values`.
-fn fill_read<T: Target>(list: &[u8], header: &Header, values: &mut [i64], raster: &mut T)
+/// Gives each valid pixel the list that these bytes stand for.
+fn fill_list<T: Target>(list: &[u8], header: &Header, raster: &mut T)
     requires shape { HasHeadShape header.now (T.pixels raster.old) }
-    requires few { header.now.depth ≤ 65536 }
     requires size { length list.now ≡ header.now.depth * bytes_of header.now.kind }
-    requires room { length values.old ≡ header.now.depth }
     requires sound { T.sound raster.old }
     ensures marks { KeepsMarks (T.pixels raster.old) (T.pixels raster.new) }
     ensures filled { IsFilledWith header.now.kind list.now (T.pixels raster.new) }
     ensures sound { T.sound raster.new }
     ensures kept { T.kept raster.new ≡ T.kept raster.old }
 {
-    read_values(header.kind, list, values);
-    raster.fill_valid(values);
-}
-
-/// Gives each valid pixel the list that these bytes stand for.
-fn fill_list<T: Target>(
-    alloc: Global,
-    list: &[u8],
-    header: &Header,
-    raster: &mut T,
-) -> Result<(), BodyStop>
-    requires shape { HasHeadShape header.now (T.pixels raster.old) }
-    requires few { header.now.depth ≤ 65536 }
-    requires size { length list.now ≡ header.now.depth * bytes_of header.now.kind }
-    requires sound { T.sound raster.old }
-    ensures marks { KeepsMarks (T.pixels raster.old) (T.pixels raster.new) }
-    ensures ok { OnOk result (IsFilledWith header.now.kind list.now (T.pixels raster.new)) }
-    ensures stop { IfErr result (λ stop. stop ≡ BodyStop.OutOfMemory) }
-    ensures sound { T.sound raster.new }
-    ensures kept { T.kept raster.new ≡ T.kept raster.old }
-{
-    let Some(mut values) = many(alloc, 0, header.depth as usize) else {
-        return Err(BodyStop::OutOfMemory);
-    };
-    fill_read(list, header, &mut values, raster);
-    Ok(())
+    raster.fill_bytes(list);
 }
 
 /// How many bytes a sweep has.
@@ -356,7 +316,6 @@ fn read_plain<T: Target>(
 
 /// Gives the valid pixels the values that the image says.
 fn read_image<T: Target>(
-    alloc: Global,
     blob: &[u8],
     header: &Header,
     mask: &MaskForm,
@@ -376,11 +335,15 @@ fn read_image<T: Target>(
 {
     match *form {
         ImageForm::Empty => Ok(()),
-        ImageForm::Constant => fill_constant(alloc, header, raster),
+        ImageForm::Constant => {
+            fill_constant(header, raster);
+            Ok(())
+        }
         ImageForm::Ranges => {
             let size = header.depth as usize * header.kind.bytes();
             let place = blob.len() - 2 * size;
-            fill_list(alloc, &blob[place..place + size], header, raster)
+            fill_list(&blob[place..place + size], header, raster);
+            Ok(())
         }
         ImageForm::Sweep { at } => {
             let place = at as usize;
@@ -439,7 +402,6 @@ fn marked(
 /// Gives the valid pixels the values that the image says, behind a mask that stands, whatever the
 /// raster before is.
 pub(crate) fn image_of<T: Target>(
-    alloc: Global,
     blob: &[u8],
     header: &Header,
     mask: &MaskForm,
@@ -463,7 +425,7 @@ pub(crate) fn image_of<T: Target>(
     ensures kept { T.kept raster.new ≡ T.kept raster.old }
 {
     match image_part(blob, header, mask) {
-        Ok(form) => read_image(alloc, blob, header, mask, &form, raster),
+        Ok(form) => read_image(blob, header, mask, &form, raster),
         Err(fault) => Err(BodyStop::Fault(fault)),
     }
 }
@@ -471,7 +433,6 @@ pub(crate) fn image_of<T: Target>(
 /// The raster with the values that the image says, behind a mask that stands, whatever the raster
 /// before is.
 fn pictured(
-    alloc: Global,
     blob: &[u8],
     header: &Header,
     mask: &MaskForm,
@@ -490,7 +451,7 @@ fn pictured(
         IsStopOf (blob_faults before header.now blob.now) stop) }
 {
     note_sound(&raster);
-    match image_of(alloc, blob, header, mask, &mut raster) {
+    match image_of(blob, header, mask, &mut raster) {
         Ok(()) => Ok(raster),
         Err(stop) => Err(stop),
     }
@@ -512,7 +473,7 @@ fn raster_of(
 {
     let mask = mask_form(blob, header, before)?;
     let raster = marked(alloc, blob, header, &mask, before)?;
-    pictured(alloc, blob, header, &mask, raster)
+    pictured(blob, header, &mask, raster)
 }
 
 /// Whether the checksum stands.

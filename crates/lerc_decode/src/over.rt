@@ -22,7 +22,6 @@ use crate::masks::mask_bits;
 use lerc_grammar::MaskForm;
 use lerc_header::{BlobFault, BlobReason, Header, Version};
 use raster_values::Lent;
-use std::alloc::Global;
 
 /// Why no blob was decoded into a caller's arrays.
 #[derive(Clone, Copy, Debug, PartialEq, Eq)]
@@ -86,13 +85,7 @@ fn have_room(header: &Header, values: usize, mask: usize) -> bool
 }
 
 /// Gives the raster in the caller's arrays the values that the image says.
-fn fill_lent(
-    alloc: Global,
-    blob: &[u8],
-    header: &Header,
-    form: &MaskForm,
-    lent: &mut Lent,
-) -> Result<(), BodyStop>
+fn fill_lent(blob: &[u8], header: &Header, form: &MaskForm, lent: &mut Lent) -> Result<(), BodyStop>
     requires head { HeadAt blob.now header.now }
     requires size { length blob.now ≡ header.now.size }
     requires sum { HasSum header.now blob.now }
@@ -106,12 +99,11 @@ fn fill_lent(
         (all_values (lent_pixels lent.new)) }
     ensures array { array_of lent.new ≡ array_of lent.old }
 {
-    image_of(alloc, blob, header, form, lent)
+    image_of(blob, header, form, lent)
 }
 
 /// Reads the image into the array of values, behind a mask that stands.
 fn pour_over(
-    alloc: Global,
     blob: &[u8],
     header: &Header,
     form: &MaskForm,
@@ -139,13 +131,12 @@ fn pour_over(
         mask,
         values,
     );
-    fill_lent(alloc, blob, header, form, &mut lent)
+    fill_lent(blob, header, form, &mut lent)
 }
 
 /// Decodes a whole blob, whose header and checksum stand, into arrays of the lengths that it asks
 /// for.
 fn summed_over(
-    alloc: Global,
     blob: &[u8],
     header: &Header,
     values: &mut [u8],
@@ -162,12 +153,11 @@ fn summed_over(
     let before: Option<Before> = None;
     let form = mask_form(blob, header, &before)?;
     mask_bits(blob, header, &form, &before, mask)?;
-    pour_over(alloc, blob, header, &form, mask, values)
+    pour_over(blob, header, &form, mask, values)
 }
 
 /// The same, where it is not known that the checksum stands.
 fn body_over(
-    alloc: Global,
     blob: &[u8],
     header: &Header,
     values: &mut [u8],
@@ -181,7 +171,7 @@ fn body_over(
     ensures fault { IfErr result (λ stop. IsStopOf (blob_faults None header.now blob.now) stop) }
 {
     match test_sum(blob, header) {
-        Ok(()) => summed_over(alloc, blob, header, values, mask),
+        Ok(()) => summed_over(blob, header, values, mask),
         Err(stop) => Err(stop),
     }
 }
@@ -192,14 +182,8 @@ fn body_over(
 /// highest of each byte first, the bits behind the last pixel 0. How long they have to be the header
 /// says, which is asked first.
 ///
-/// No memory is taken for values; for an image of one value or of one list eight bytes for each depth.
-/// Where there is no blob, and but for `Sizes`, the arrays hold anything.
-pub fn decode_over(
-    alloc: Global,
-    blob: &[u8],
-    values: &mut [u8],
-    mask: &mut [u8],
-) -> Result<usize, OverFault>
+/// No memory is taken. Where there is no blob, and but for `Sizes`, the arrays hold anything.
+pub fn decode_over(blob: &[u8], values: &mut [u8], mask: &mut [u8]) -> Result<usize, OverFault>
     ensures ok { IfOk result (λ size. IsDecodedOver blob.now size values.new mask.new) }
     ensures stop { IfErr result (λ stop.
         IsOverStop blob.now (length values.old) (length mask.old) stop) }
@@ -217,7 +201,7 @@ pub fn decode_over(
     if blob.len() < size {
         return Err(OverFault::Blob(cut(blob)));
     }
-    match body_over(alloc, &blob[..size], &header, values, mask) {
+    match body_over(&blob[..size], &header, values, mask) {
         Ok(()) => Ok(size),
         Err(BodyStop::Fault(fault)) => Err(OverFault::Blob(fault)),
         Err(BodyStop::OutOfMemory) => Err(OverFault::OutOfMemory),

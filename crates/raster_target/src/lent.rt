@@ -73,6 +73,14 @@ impl<'v, 'm> Target for Lent<'v, 'm> {
         Lent::fill_valid(self, values);
     }
 
+    fn fill_value(&mut self, value: i64) {
+        Lent::fill_value(self, value);
+    }
+
+    fn fill_bytes(&mut self, bytes: &[u8]) {
+        Lent::fill_bytes(self, bytes);
+    }
+
     fn pour(&mut self, bytes: &[u8]) {
         Lent::pour(self, bytes);
     }

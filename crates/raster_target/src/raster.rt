@@ -84,6 +84,16 @@ impl Target for Raster {
         note_sound(self);
     }
 
+    fn fill_value(&mut self, value: i64) {
+        Raster::fill_value(self, value);
+        note_sound(self);
+    }
+
+    fn fill_bytes(&mut self, bytes: &[u8]) {
+        Raster::fill_bytes(self, bytes);
+        note_sound(self);
+    }
+
     fn pour(&mut self, bytes: &[u8]) {
         Raster::pour(self, bytes);
         note_sound(self);

@@ -1,11 +1,11 @@
 //! What fills a raster sees of it.
 
-ghost use Rattle.std.specs.Prelude.{◌≡◌, ◌+◌, ◌*◌, ◌<◌, ◌≤◌, ℕ, pos, false, None, false, is_some, get_or, length, map, true, All};
+ghost use Rattle.std.specs.Prelude.{◌≡◌, ◌+◌, ◌*◌, ◌<◌, ◌≤◌, ℕ, pos, false, None, false, is_some, get_or, length, map, replicate, true, All};
 ghost use Rattle.lane_kernels.specs.Kernels.{IsStepSize, capped_sums};
 ghost use Rattle.raster_values.specs.PixelType.{InRange, bytes_of};
 ghost use Rattle.raster_values.specs.Raster.{Pixels, IsRaster, InShape, valid_count};
 ghost use Rattle.raster_values.specs.Block.{block_count, PoursBlock};
-ghost use Rattle.raster_values.specs.Order.{FillsValid, PoursBytes};
+ghost use Rattle.raster_values.specs.Order.{FillsBytes, FillsValid, PoursBytes};
 ghost use Rattle.raster_values.specs.Flat.{PutsFrom, marks_of, value_in};
 ghost use Rattle.raster_values.specs.MarkRuns.{AreRuns};
 
@@ -141,6 +141,24 @@ pub trait Target {
         requires count { length values.now ≡ (pixels self.old).depth }
         requires in_range { All (InRange (pixels self.old).kind) values.now }
         ensures filled { FillsValid (pixels self.old) (pixels self.new) values.now }
+        ensures sound { sound self.new }
+        ensures kept { kept self.new ≡ kept self.old };
+
+    /// Gives each valid pixel this one value at each depth. All else stays.
+    fn fill_value(&mut self, value: i64)
+        requires sound { sound self.old }
+        requires in_range { InRange (pixels self.old).kind value }
+        ensures filled { FillsValid (pixels self.old) (pixels self.new)
+            (replicate (pixels self.old).depth value) }
+        ensures sound { sound self.new }
+        ensures kept { kept self.new ≡ kept self.old };
+
+    /// Gives each valid pixel the list of values that the bytes stand for, one for each depth. All
+    /// else stays.
+    fn fill_bytes(&mut self, bytes: &[u8])
+        requires sound { sound self.old }
+        requires size { length bytes.now ≡ (pixels self.old).depth * bytes_of (pixels self.old).kind }
+        ensures filled { FillsBytes (pixels self.old) (pixels self.new) bytes.now }
         ensures sound { sound self.new }
         ensures kept { kept self.new ≡ kept self.old };
 

@@ -1,10 +1,14 @@
 -- Runs of values that are given.
-use Rattle.std.proofs.Common.{◌≡◌, ℕ, ◌+◌, ◌<◌, ◌≤◌, List, [], ◌∷◌, ◌++◌, length, get_or, take, drop, set, Bool, true, false, cond, refl, sym, ap, ◌∙◌, subst, arith}
+use Rattle.std.proofs.Common.{◌≡◌, ℕ, ◌+◌, ◌-◌, ◌*◌, ◌<◌, ◌≤◌, List, [], ◌∷◌, ◌++◌, length, get_or, take, drop, replicate, set, Bool, true, false, cond, refl, sym, ap, ◌∙◌, subst, arith}
 use Rattle.std.specs.Prelude.{ℤ, pos, All}
-use Rattle.std.proofs.lemmas.List.{length-take-le, length-drop, take_all, get_or-take, get_or-drop, set-get_or, length-set}
+use Rattle.std.proofs.lemmas.List.{ext_get_or, length-replicate, get_or-replicate, length-take-le, length-drop, take_all, get_or-take, get_or-drop, set-get_or, length-set}
 use Rattle.std.proofs.lemmas.List.Elements.{All-nil, All-cons, All-take, All-drop, All-set}
 use Rattle.raster_values.specs.declared.kind.PixelType.{PixelType}
-use Rattle.raster_values.specs.PixelType.{InRange}
+use Rattle.std.proofs.Math.Nat.{mul-le-mul_right}
+use borrow.Rule.Slice.PartMut.{put_mid}
+use Rattle.raster_values.specs.PixelType.{InRange, bytes_of, value_bytes}
+use Rattle.raster_values.specs.Grid.{values_bytes}
+use Rattle.raster_values.proofs.Pack.{value_put}
 use Rattle.raster_values.proofs.CellBytes.{with_run, one_put}
 
 pub given_long : (listed : List ℤ) (n count : ℕ) → n + count ≤ length listed → length (take count (drop n listed)) ≡ count
@@ -13,6 +17,16 @@ given_long listed n count there = length-take-le count (drop n listed) (omega (a
 pub given_fits : (kind : PixelType) (listed : List ℤ) (n count : ℕ) → All (InRange kind) listed → All (InRange kind) (take count (drop n listed))
 given_fits kind listed n count fits = All-take (InRange kind) count (drop n listed) (All-drop (InRange kind) n listed fits)
 
+-- some of the copies of a value
+pub some_copies : (all n count : ℕ) (value : ℤ) → n + count ≤ all → take count (drop n (replicate all value)) ≡ replicate count value
+some_copies all n count value there =
+    let vs = take count (drop n (replicate all value)) in
+    let long : length vs ≡ count = given_long (replicate all value) n count (omega (arith, there, length-replicate all value)) in
+    ext_get_or (pos 0) vs (replicate count value) (long ∙ sym (length-replicate count value)) (λ i below.
+    let less : i < count = omega (arith, long) in
+    get_or-take count (drop n (replicate all value)) i (pos 0) less ∙ get_or-drop n (replicate all value) i (pos 0) ∙ get_or-replicate all (n + i) value (pos 0) (omega arith)
+    ∙ sym (get_or-replicate count i value (pos 0) less))
+
 -- all of them
 pub all_given : (listed : List ℤ) → take (length listed) (drop 0 listed) ≡ listed
 all_given listed = take_all (length listed) listed (omega arith)
@@ -20,6 +34,17 @@ all_given listed = take_all (length listed) listed (omega arith)
 -- they are put as a run of values
 pub given_put : (vs listed : List ℤ) (at n count : ℕ) → n + count ≤ length listed → with_run vs at (take count (drop n listed)) ≡ take at vs ++ (take count (drop n listed) ++ drop (at + count) vs)
 given_put vs listed at n count there = ap (λ m. take at vs ++ (take count (drop n listed) ++ drop (at + m) vs)) (given_long listed n count there)
+
+-- one of them is laid behind those before it
+pub given_laid : (kind : PixelType) (vs : List ℤ) (out old piece : List ℕ) (i size : ℕ) → i < length vs → length vs * bytes_of kind ≤ length old → length out ≡ length old → size ≡ bytes_of kind
+    → out ≡ values_bytes kind (take i vs) ++ drop (i * bytes_of kind) old
+    → piece ≡ value_bytes kind (get_or vs i (pos 0)) ++ drop (bytes_of kind) (take (length out - i * size) (drop (i * size) out))
+    → put_mid (i * size) (length out - i * size) out piece ≡ values_bytes kind (take (i + 1) vs) ++ drop ((i + 1) * bytes_of kind) old
+given_laid kind vs out old piece i size below room same is laid_before =
+    let up : (i + 1) * bytes_of kind ≤ length vs * bytes_of kind = mul-le-mul_right (bytes_of kind) (omega (arith, below)) in
+    subst (λ n. piece ≡ value_bytes kind (get_or vs i (pos 0)) ++ drop (bytes_of kind) (take (length out - i * n) (drop (i * n) out))
+    → put_mid (i * n) (length out - i * n) out piece ≡ values_bytes kind (take (i + 1) vs) ++ drop ((i + 1) * bytes_of kind) old)
+    (sym is) (value_put kind vs out old piece i below room same (omega (arith, up, room)) laid_before)
 
 -- one of them
 pub given_one : (listed : List ℤ) (n i count : ℕ) → i < count → n + count ≤ length listed → take 1 (drop (n + i) listed) ≡ get_or (take count (drop n listed)) i (pos 0) ∷ []

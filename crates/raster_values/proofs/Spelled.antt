@@ -14,7 +14,7 @@ use Rattle.raster_values.specs.declared.kind.PixelType.{PixelType}
 use Rattle.raster_values.specs.declared.kind.PixelType.TheVariants.{I8, U8, I16, U16, I32, U32}
 use Rattle.raster_values.specs.PixelType.{bytes_of, value_of, complement_of, value_bytes, InRange}
 use Rattle.raster_values.specs.Grid.{values_bytes}
-use Rattle.raster_values.specs.Values.{WrittenValuesStand, ValuesAreOnce, ValuesAreThere}
+use Rattle.raster_values.specs.Values.{AreValues, WrittenValuesStand, ValuesAreOnce, ValuesAreThere}
 use Rattle.raster_values.specs.inside.CellList.{values_in}
 use Rattle.std.proofs.lemmas.List.{ext_get_or}
 use Rattle.raster_values.proofs.Pack.{length-values_bytes}
@@ -152,13 +152,20 @@ values_once kind bytes values others a b =
     let long : length values ≡ length others = same_count kind (length values) (length others) (sym a.size ∙ b.size) in
     ext_get_or (pos 0) values others long (λ i below. a.each i below ∙ sym (b.each i (omega (arith, long))))
 
+-- the bytes stand for those that are read there
+pub read_stand : (kind : PixelType) (n : ℕ) (bytes : List ℕ) → length bytes ≡ n * bytes_of kind → AreValues kind bytes (values_in kind n bytes)
+read_stand kind n bytes size = record {
+  size = size ∙ ap (λ m. m * bytes_of kind) (sym (length-values_in kind n bytes));
+  each = λ i below. value_in-at kind n bytes i (omega (arith, below, length-values_in kind n bytes));
+}
+
 pub values_there : ValuesAreThere
 values_there kind bytes n are size =
     let values = values_in kind n bytes in
     let long : length values ≡ n = length-values_in kind n bytes in (
       values,
       (
-        record { size = size ∙ ap (λ m. m * bytes_of kind) (sym long); each = λ i below. value_in-at kind n bytes i (omega (arith, long)) },
+        read_stand kind n bytes size,
         (long, (values_fit kind n bytes are, sym (bytes_of_values kind n bytes are size))),
       ),
     )

@@ -18,6 +18,12 @@ pub record FillsValid (old new : Pixels) (values : List ℤ) : Type 0 where
   pub each : (i j d : ℕ) → InShape old i j → IsValidAt old i j → d < old.depth
       → value_at new i j d ≡ get_or values d (pos 0)
 
+-- each valid pixel has the list that the bytes stand for
+pub record FillsBytes (old new : Pixels) (bytes : List ℕ) : Type 0 where
+  pub list : List ℤ
+  pub stands : AreValues old.kind bytes list
+  pub filled : FillsValid old new list
+
 -- bit number k of a mask, the highest of each byte first
 abbrev pub mask_bit : List ℕ → ℕ → Bool
 mask_bit mask k = nat_eq (get_or mask (k / 8) 0 / 2 ^ (7 - k % 8) % 2) 1

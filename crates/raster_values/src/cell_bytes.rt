@@ -1,6 +1,6 @@
 //! Values of one type in bytes that someone else keeps: of a raster, or of a caller.
 
-ghost use Rattle.std.specs.Prelude.{◌≡◌, ◌+◌, ◌*◌, ◌<◌, ◌≤◌, pos, length, get_or, take, drop, map};
+ghost use Rattle.std.specs.Prelude.{◌≡◌, ◌+◌, ◌*◌, ◌<◌, ◌≤◌, ◌++◌, All, pos, length, get_or, take, drop, map};
 ghost use Rattle.std.specs.List.{range_with_len};
 ghost use Rattle.lane_kernels.specs.Kernels.{IsLeast, IsGreatest};
 ghost use Rattle.raster_values.specs.PixelType.{InRange, bytes_of};
@@ -13,6 +13,7 @@ ghost use Rattle.raster_values.specs.inside.Runs.{AreEnds, Gathers, whole_rows};
 use super::cells::{
     by_kind, distance_at, eight_at, lay_eight, place, read_pixels, read_pixels_as, value_at,
 };
+use super::given::Given;
 use super::kind::PixelType;
 use std::marker::Model;
 
@@ -35,6 +36,58 @@ impl<'v> Model for CellBytes<'v> {
     ghost view = { λ c. record { kind = c.kind; values = values_in c.kind c.count c.bytes.now } };
 
     ghost invariant = { λ c. AreHeld c.kind c.count c.bytes.now };
+}
+
+/// Lays the bytes that one type has for values of another over the front of `out`: for `some` of the
+/// `count` values that the bytes stand for, from number `n` on. The bytes behind them stay.
+#[inline(always)]
+fn write_spelled(
+    kind: PixelType,
+    of: PixelType,
+    count: usize,
+    bytes: &[u8],
+    n: usize,
+    some: usize,
+    out: &mut [u8],
+)
+    requires few { count ≤ 16777216 }
+    requires size { length bytes.now ≡ count * bytes_of of }
+    requires in_range { All (InRange kind) (values_in of count bytes.now) }
+    requires within { n + some ≤ count }
+    requires room { some * bytes_of kind ≤ length out.old }
+    ensures { out.new ≡ values_bytes kind (take some (drop n (values_in of count bytes.now)))
+        ++ drop (some * bytes_of kind) out.old }
+{
+    let size = kind.bytes();
+    for i in 0..some {
+        let value = value_at(of, count, bytes, n + i);
+        kind.write_value(value, &mut out[i * size..]);
+    }
+}
+
+impl<'v> Given for CellBytes<'v> {
+    ghost listed = { λ c. c.values };
+
+    ghost sound = { λ c. Unit {0} };
+
+    #[inline(always)]
+    fn len(&self) -> usize {
+        self.count
+    }
+
+    #[inline(always)]
+    fn at_as(&self, kind: PixelType, i: usize) -> i64 {
+        if i < self.count {
+            value_at(self.kind, self.count, self.bytes, i)
+        } else {
+            0
+        }
+    }
+
+    #[inline(always)]
+    fn write_as(&self, kind: PixelType, n: usize, count: usize, out: &mut [u8]) {
+        write_spelled(kind, self.kind, self.count, self.bytes, n, count, out);
+    }
 }
 
 impl<'v> CellBytes<'v> {

@@ -15,9 +15,9 @@ ghost use Rattle.lane_kernels.specs.Kernels.{IsLeast, IsGreatest};
 use super::ahead::Ahead;
 use super::byte_runs;
 use super::cell_bytes::CellBytes;
-use super::given::Given;
+use super::given::{Given, ValueList};
 use super::kind::PixelType;
-use super::valued::{fill_pixels, put_run};
+use super::valued::{fill_pixels, put_all};
 use outside_io::{Failed, Source};
 use std::alloc::{AllocError, Global};
 use std::marker::Model;
@@ -466,7 +466,7 @@ impl Cells {
         requires in_range { InRange self.old.kind value }
         ensures { self.new ≡ record self.old { values = slice_set self.old.values at value } }
     {
-        put_run(self, at, &[value]);
+        put_all(self, at, &ValueList { values: &[value] });
     }
 
     /// Sets a run of values to 0.
@@ -485,6 +485,6 @@ impl Cells {
         ensures { self.new ≡ record self.old { values = replicate (length self.old.values) value } }
     {
         let count = self.count;
-        fill_pixels(self, 0, count, &[value]);
+        fill_pixels(self, 0, count, &ValueList { values: &[value] });
     }
 }

@@ -1,6 +1,6 @@
 //! Values that are put into a raster, one behind the other, however they come.
 
-ghost use Rattle.std.specs.Prelude.{◌≡◌, ◌+◌, ◌*◌, ◌/◌, ◌<◌, ◌≤◌, ◌++◌, ◌+ℤ◌, ℤ, pos, min, List, All, length, get_or, map, take, drop};
+ghost use Rattle.std.specs.Prelude.{◌≡◌, ◌+◌, ◌*◌, ◌/◌, ◌<◌, ◌≤◌, ◌++◌, ◌+ℤ◌, ℤ, pos, min, List, All, length, get_or, map, take, drop, replicate};
 ghost use Rattle.raster_values.specs.PixelType.{InRange, bytes_of};
 ghost use Rattle.raster_values.specs.Grid.{values_bytes};
 ghost use Rattle.raster_values.specs.inside.Listed.{AreSums, IsOfAType, sums_of};
@@ -71,6 +71,53 @@ impl<'a> Given for ValueList<'a> {
     #[inline(always)]
     fn write_as(&self, kind: PixelType, n: usize, count: usize, out: &mut [u8]) {
         write_values(kind, &self.values[n..n + count], out);
+    }
+}
+
+/// Lays the bytes of a value so many times over the front of `out`, one behind the other. The bytes
+/// behind them stay.
+#[inline(always)]
+fn write_copies(kind: PixelType, value: i64, count: usize, out: &mut [u8])
+    requires in_range { InRange kind value }
+    requires room { count * bytes_of kind ≤ length out.old }
+    ensures { out.new ≡ values_bytes kind (replicate count value)
+        ++ drop (count * bytes_of kind) out.old }
+{
+    let size = kind.bytes();
+    for i in 0..count {
+        kind.write_value(value, &mut out[i * size..]);
+    }
+}
+
+/// One value of a type, so many times.
+#[derive(Drop)]
+pub struct OneValue {
+    pub value: i64,
+    pub count: usize,
+}
+
+impl Given for OneValue {
+    ghost use Rattle.raster_values.specs.inside.Listed.{IsOfAType, copies_of};
+
+    ghost listed = { copies_of };
+
+    ghost sound = { λ v. IsOfAType v.value };
+
+    #[inline(always)]
+    fn len(&self) -> usize {
+        self.count
+    }
+
+    #[inline(always)]
+    fn at_as(&self, kind: PixelType, i: usize) -> i64 {
+        if i < self.count { self.value } else { 0 }
+    }
+
+    #[inline(always)]
+    fn write_as(&self, kind: PixelType, n: usize, count: usize, out: &mut [u8]) {
+        if count > 0 {
+            write_copies(kind, self.value, count, out);
+        }
     }
 }
 

@@ -6,15 +6,16 @@ ghost use Rattle.raster_values.specs.PixelType.{InRange, Spells, bytes_of};
 ghost use Rattle.raster_values.specs.Raster.{InShape, IsRaster, IsShape, valid_count};
 ghost use Rattle.lane_kernels.specs.Kernels.{IsStepSize, capped_sums};
 ghost use Rattle.raster_values.specs.Block.{PoursBlock, block_count};
-ghost use Rattle.raster_values.specs.Order.{FillsValid, PoursBytes, marks_in, mask_bit};
+ghost use Rattle.raster_values.specs.Order.{FillsBytes, FillsValid, PoursBytes, marks_in, mask_bit};
 ghost use Rattle.raster_values.specs.Flat.{PutsFrom, marks_of, value_in};
 ghost use Rattle.raster_values.specs.MarkRuns.{AreRuns};
 ghost use Rattle.raster_values.specs.Lent.{IsLent, array_of, frame_of, lent_pixels};
 ghost use Rattle.raster_values.specs.inside.CellList.{values_in};
 ghost use Rattle.raster_values.specs.inside.LentBytes.{AreValueBytes};
 
+use super::cell_bytes::CellBytes;
 use super::cells::{place, read_pixels, value_at};
-use super::given::{Given, Sums, ValueList};
+use super::given::{Given, OneValue, Sums, ValueList};
 use super::kind::PixelType;
 use super::lent_mask::LentMask;
 use super::mask::Run;
@@ -368,8 +369,53 @@ impl<'v, 'm> Lent<'v, 'm> {
         ensures sound { IsLent self.new }
         ensures kept { frame_of self.new ≡ frame_of self.old }
     {
+        self.fill_given(&ValueList { values });
+    }
+
+    /// Gives each valid pixel this one value at each depth. All else stays.
+    pub fn fill_value(&mut self, value: i64)
+        requires sound { IsLent self.old }
+        requires in_range { InRange (lent_pixels self.old).kind value }
+        ensures filled { FillsValid (lent_pixels self.old) (lent_pixels self.new)
+            (replicate (lent_pixels self.old).depth value) }
+        ensures sound { IsLent self.new }
+        ensures kept { frame_of self.new ≡ frame_of self.old }
+    {
+        let depth = self.depth;
+        self.fill_given(&OneValue {
+            value,
+            count: depth as usize,
+        });
+    }
+
+    /// Gives each valid pixel the list of values that the bytes stand for, one for each depth. All
+    /// else stays.
+    pub fn fill_bytes(&mut self, bytes: &[u8])
+        requires sound { IsLent self.old }
+        requires size { length bytes.now
+            ≡ (lent_pixels self.old).depth * bytes_of (lent_pixels self.old).kind }
+        ensures filled { FillsBytes (lent_pixels self.old) (lent_pixels self.new) bytes.now }
+        ensures sound { IsLent self.new }
+        ensures kept { frame_of self.new ≡ frame_of self.old }
+    {
+        let depth = self.depth;
+        let list = CellBytes::over(self.kind, depth as usize, bytes);
+        self.fill_given(&list);
+    }
+
+    /// Gives each valid pixel the list of values that is given, one for each depth.
+    fn fill_given<G: Given>(&mut self, given: &G)
+        requires sound { IsLent self.old }
+        requires given { G.sound given.now }
+        requires count { length (G.listed given.now) ≡ (lent_pixels self.old).depth }
+        requires in_range { All (InRange (lent_pixels self.old).kind) (G.listed given.now) }
+        ensures filled { FillsValid (lent_pixels self.old) (lent_pixels self.new)
+            (G.listed given.now) }
+        ensures sound { IsLent self.new }
+        ensures kept { frame_of self.new ≡ frame_of self.old }
+    {
         let marks = self.marks();
-        order::fill_marked(&marks, values, self);
+        order::fill_marked(&marks, given, self);
     }
 
     /// Gives the valid pixels the values that the bytes stand for, pixel by pixel and depth

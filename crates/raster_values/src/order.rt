@@ -11,25 +11,28 @@ ghost use Rattle.raster_values.specs.inside.Ordered.{ChangesMarked, FillsMarked,
 
 use super::cell_bytes::CellBytes;
 use super::cells::{Cells, by_kind};
+use super::given::Given;
 use super::kind::PixelType;
 use super::lent_mask::LentMask;
 use super::marked::Marked;
 use super::mask::Mask;
 use super::valued::{Valued, fill_pixels, put_list_as, put_marked_as};
 
-/// Gives each marked pixel this list of values, one for each depth.
-pub(super) fn fill_marked<M: Marked, V: Valued>(marks: &M, pixel: &[i64], values: &mut V)
+/// Gives each marked pixel the list of values that is given, one for each depth.
+pub(super) fn fill_marked<M: Marked, V: Valued, G: Given>(marks: &M, pixel: &G, values: &mut V)
     requires sound { V.sound values.old }
-    requires size { length (V.cells values.old).values ≡ length (M.marks marks.now) * length pixel.now }
+    requires given { G.sound pixel.now }
+    requires size { length (V.cells values.old).values
+        ≡ length (M.marks marks.now) * length (G.listed pixel.now) }
     requires few { length (V.cells values.old).values ≤ 16777216 }
-    requires depth { 0 < length pixel.now }
-    requires in_range { All (InRange (V.cells values.old).kind) pixel.now }
+    requires depth { 0 < length (G.listed pixel.now) }
+    requires in_range { All (InRange (V.cells values.old).kind) (G.listed pixel.now) }
     ensures kind { (V.cells values.new).kind ≡ (V.cells values.old).kind }
     ensures in_range { All (InRange (V.cells values.old).kind) (V.cells values.old).values
         → All (InRange (V.cells values.old).kind) (V.cells values.new).values }
     ensures size { length (V.cells values.new).values ≡ length (V.cells values.old).values }
-    ensures filled { FillsMarked (length (M.marks marks.now)) (M.marks marks.now) pixel.now (V.cells values.old).values
-        (V.cells values.new).values }
+    ensures filled { FillsMarked (length (M.marks marks.now)) (M.marks marks.now) (G.listed pixel.now)
+        (V.cells values.old).values (V.cells values.new).values }
     ensures sound { V.sound values.new }
     ensures kept { V.kept values.new ≡ V.kept values.old }
 {

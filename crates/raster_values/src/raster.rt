@@ -6,7 +6,7 @@ ghost use Rattle.raster_values.specs.PixelType.{InRange, bytes_of};
 ghost use Rattle.raster_values.specs.Raster.{IsRaster, HasZero, IsTooLarge, blank, filled, values_of, valid_count, valid_at, value_at, marked, written, InShape, IsShape, IsValidAt};
 ghost use Rattle.raster_values.specs.Places.{SameShape, ChangesMark, ChangesValue};
 ghost use Rattle.raster_values.specs.Grid.{grid_marks, values_bytes};
-ghost use Rattle.raster_values.specs.Order.{FillsValid, IsMaskOf, MarksBits, PoursBytes, mask_bit};
+ghost use Rattle.raster_values.specs.Order.{FillsBytes, FillsValid, IsMaskOf, MarksBits, PoursBytes, mask_bit};
 ghost use Rattle.raster_values.specs.Flat.{PutsFrom, PutsAll, all_values, depth_values, marks_of, valid_from, value_in, values_among};
 ghost use Rattle.raster_values.specs.Words as words;
 ghost use Rattle.raster_values.specs.MarkRuns.{AreRuns};
@@ -17,8 +17,9 @@ ghost use Rattle.raster_values.specs.Values.{AreValues};
 ghost use Rattle.lane_kernels.specs.Kernels.{IsStepSize, capped_sums};
 ghost use Rattle.raster_values.specs.Block.{SameMask, block_count, block_values, PoursBlock};
 
+use super::cell_bytes::CellBytes;
 use super::cells::Cells;
-use super::given::{Given, Sums, ValueList};
+use super::given::{Given, OneValue, Sums, ValueList};
 use super::kind::PixelType;
 use super::limits::is_shape;
 use super::mask::{Mask, Run};
@@ -521,7 +522,40 @@ impl Raster {
         requires in_range { All (InRange self.old.kind) values.now }
         ensures { FillsValid self.old self.new values.now }
     {
-        order::fill_marked(&self.marks, values, &mut self.values);
+        self.fill_given(&ValueList { values });
+    }
+
+    /// Gives each valid pixel this one value at each depth. All else stays.
+    pub fn fill_value(&mut self, value: i64)
+        requires { InRange self.old.kind value }
+        ensures { FillsValid self.old self.new (replicate self.old.depth value) }
+    {
+        let depth = self.depth;
+        self.fill_given(&OneValue {
+            value,
+            count: depth as usize,
+        });
+    }
+
+    /// Gives each valid pixel the list of values that the bytes stand for, one for each depth. All
+    /// else stays.
+    pub fn fill_bytes(&mut self, bytes: &[u8])
+        requires { length bytes.now ≡ self.old.depth * bytes_of self.old.kind }
+        ensures { FillsBytes self.old self.new bytes.now }
+    {
+        let depth = self.depth;
+        let list = CellBytes::over(self.values.kind(), depth as usize, bytes);
+        self.fill_given(&list);
+    }
+
+    /// Gives each valid pixel the list of values that is given, one for each depth.
+    fn fill_given<G: Given>(&mut self, given: &G)
+        requires given { G.sound given.now }
+        requires count { length (G.listed given.now) ≡ self.old.depth }
+        requires in_range { All (InRange self.old.kind) (G.listed given.now) }
+        ensures { FillsValid self.old self.new (G.listed given.now) }
+    {
+        order::fill_marked(&self.marks, given, &mut self.values);
     }
 
     /// Gives the valid pixels the values that the bytes stand for, pixel by pixel and depth

@@ -118,37 +118,38 @@ impl Valued for Cells {
     }
 }
 
-/// Puts a run of values of the type in the place of as many from `at` on.
-pub fn put_run<V: Valued>(cells: &mut V, at: usize, values: &[i64])
+/// Puts the values that are given in the place of as many from `at` on.
+pub fn put_all<V: Valued, G: Given>(cells: &mut V, at: usize, given: &G)
     requires sound { V.sound cells.old }
-    requires within { at + length values.now ≤ length (V.cells cells.old).values }
-    requires in_range { All (InRange (V.cells cells.old).kind) values.now }
+    requires given { G.sound given.now }
+    requires within { at + length (G.listed given.now) ≤ length (V.cells cells.old).values }
+    requires in_range { All (InRange (V.cells cells.old).kind) (G.listed given.now) }
     ensures put { V.cells cells.new ≡ record (V.cells cells.old) {
-      values = take at (V.cells cells.old).values
-          ++ (values.now ++ drop (at + length values.now) (V.cells cells.old).values);
+      values = take at (V.cells cells.old).values ++ (G.listed given.now
+          ++ drop (at + length (G.listed given.now)) (V.cells cells.old).values);
     } }
     ensures sound { V.sound cells.new }
     ensures kept { V.kept cells.new ≡ V.kept cells.old }
 {
-    by_kind!(cells.kind(), kind => put_run_as(cells, kind, at, values))
+    by_kind!(cells.kind(), kind => put_all_as(cells, kind, at, given))
 }
 
-/// Does what `put_run` does, for a type that is known before.
+/// Does what `put_all` does, for a type that is known before.
 #[inline(always)]
-fn put_run_as<V: Valued>(cells: &mut V, kind: PixelType, at: usize, values: &[i64])
+fn put_all_as<V: Valued, G: Given>(cells: &mut V, kind: PixelType, at: usize, given: &G)
     requires sound { V.sound cells.old }
     requires kind { kind ≡ (V.cells cells.old).kind }
-    requires within { at + length values.now ≤ length (V.cells cells.old).values }
-    requires in_range { All (InRange (V.cells cells.old).kind) values.now }
+    requires given { G.sound given.now }
+    requires within { at + length (G.listed given.now) ≤ length (V.cells cells.old).values }
+    requires in_range { All (InRange (V.cells cells.old).kind) (G.listed given.now) }
     ensures put { V.cells cells.new ≡ record (V.cells cells.old) {
-      values = take at (V.cells cells.old).values
-          ++ (values.now ++ drop (at + length values.now) (V.cells cells.old).values);
+      values = take at (V.cells cells.old).values ++ (G.listed given.now
+          ++ drop (at + length (G.listed given.now)) (V.cells cells.old).values);
     } }
     ensures sound { V.sound cells.new }
     ensures kept { V.kept cells.new ≡ V.kept cells.old }
 {
-    let given = ValueList { values };
-    cells.put_as(kind, at, &given, 0, values.len());
+    cells.put_as(kind, at, given, 0, given.len());
 }
 
 /// Puts values of the type at a depth of as many pixels from `first` on, of which each has `depth`
@@ -205,7 +206,7 @@ pub fn put_marked_as<V: Valued>(cells: &mut V, kind: PixelType, at: usize, mark:
 {
     let stood = cells.get_as(kind, at);
     let put = one_of(mark, value, stood);
-    put_run_as(cells, kind, at, &[put]);
+    put_all_as(cells, kind, at, &ValueList { values: &[put] });
 }
 
 /// Puts `count` of the values that are given, from number `n` on, at a depth of as many pixels from
@@ -281,18 +282,20 @@ fn put_steps_as<V: Valued, G: Given>(
     }
 }
 
-/// Gives each of `count` pixels from `first` on this list of values.
-pub fn fill_pixels<V: Valued>(cells: &mut V, first: usize, count: usize, pixel: &[i64])
+/// Gives each of `count` pixels from `first` on the list of values that is given.
+pub fn fill_pixels<V: Valued, G: Given>(cells: &mut V, first: usize, count: usize, pixel: &G)
     requires sound { V.sound cells.old }
+    requires given { G.sound pixel.now }
     requires few { length (V.cells cells.old).values ≤ 16777216 }
-    requires depth { 0 < length pixel.now }
-    requires within { (first + count) * length pixel.now ≤ length (V.cells cells.old).values }
-    requires in_range { All (InRange (V.cells cells.old).kind) pixel.now }
+    requires depth { 0 < length (G.listed pixel.now) }
+    requires within { (first + count) * length (G.listed pixel.now)
+        ≤ length (V.cells cells.old).values }
+    requires in_range { All (InRange (V.cells cells.old).kind) (G.listed pixel.now) }
     ensures kind { (V.cells cells.new).kind ≡ (V.cells cells.old).kind }
     ensures in_range { All (InRange (V.cells cells.old).kind) (V.cells cells.old).values
         → All (InRange (V.cells cells.old).kind) (V.cells cells.new).values }
     ensures size { length (V.cells cells.new).values ≡ length (V.cells cells.old).values }
-    ensures filled { FillsPixels first count pixel.now (V.cells cells.old).values
+    ensures filled { FillsPixels first count (G.listed pixel.now) (V.cells cells.old).values
         (V.cells cells.new).values }
     ensures sound { V.sound cells.new }
     ensures kept { V.kept cells.new ≡ V.kept cells.old }
@@ -303,7 +306,7 @@ pub fn fill_pixels<V: Valued>(cells: &mut V, first: usize, count: usize, pixel: 
     let depth = pixel.len();
     let span = (SPAN / depth).max(1);
     let at = first * depth;
-    put_run(cells, at, pixel);
+    put_all(cells, at, pixel);
     let mut done = 1;
     while done < count {
         let more = done.min(count - done).min(span);

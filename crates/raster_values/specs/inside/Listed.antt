@@ -1,12 +1,17 @@
 -- Values that are put into a raster.
-use Rattle.std.specs.Prelude.{◌≡◌, ◌/◌, ◌<◌, ◌≤ℤ◌, ℤ, pos, negsuc, List}
+use Rattle.std.specs.Prelude.{◌≡◌, ◌/◌, ◌<◌, ◌≤ℤ◌, ℤ, pos, negsuc, List, replicate}
 use Rattle.lane_kernels.specs.Within.{sums_within}
+use Rattle.raster_values.specs.declared.given.OneValue.{OneValue}
 use Rattle.raster_values.specs.declared.given.Sums.{Sums}
 use Rattle.raster_values.specs.declared.given.ValueList.{ValueList}
 
 -- those that lie one behind the other
 abbrev pub list_of : ValueList → List ℤ
 list_of v = v.values.now
+
+-- one value so many times
+abbrev pub copies_of : OneValue → List ℤ
+copies_of v = replicate v.count v.value
 
 -- the value is one of a type
 abbrev pub IsOfAType : ℤ → Type 0

@@ -1,15 +1,12 @@
-use Rattle.std.proofs.Common.{◌≡◌, ◌+◌, ◌*◌, ◌<◌, ◌≤◌, ◌-◌, ◌++◌, ap, sym, subst, ◌∙◌, length, take, drop, get_or, arith}
+use Rattle.std.proofs.Common.{◌≡◌, ◌*◌, ◌<◌, ◌≤◌, ◌-◌, ◌++◌, ap, sym, subst, ◌∙◌, length, take, drop, get_or, arith}
 use Rattle.std.specs.Prelude.{pos, All}
-use Rattle.std.proofs.Math.Nat.{mul-le-mul_right}
 use Rattle.std.proofs.lemmas.Int.{to_z-of_z}
-use borrow.Rule.Slice.PartMut.{put_mid}
 use mir.Syntax.{w64}
 use mir.Val.{to_z, of_z}
 use Rattle.lane_kernels.specs.Within.{sums_within}
 use Rattle.raster_values.specs.PixelType.{InRange, bytes_of, value_bytes}
-use Rattle.raster_values.specs.Grid.{values_bytes}
 use Rattle.raster_values.proofs.Views.{same_bits}
-use Rattle.raster_values.proofs.Pack.{value_put}
+use Rattle.raster_values.proofs.GivenRuns.{given_laid}
 use Rattle.raster_values.proofs.GivenSums.{length-sums, sum_at}
 use Rattle.raster_values.proofs.given.write_sums.Goals as goal
 
@@ -38,11 +35,6 @@ loop-i-preserved c =
     let is : c.sum_of-sum.result ≡ get_or vs i (pos 0) = c.sum_of-sum.ensures ∙ sym (sum_at qs o c.args.step c.args.gap i c.loop-i-test.true) in
     let fits : InRange kind c.sum_of-sum.result = subst (InRange kind) (sym is) (all i (pos 0) below) in
     let same = same_bits kind c.sum_of-sum.result fits ∙ is in
-    let long = length-sums qs o c.args.step c.args.gap in
-    let up : (i + 1) * bytes_of kind ≤ length vs * bytes_of kind = mul-le-mul_right (bytes_of kind) (omega (arith, below)) in
-    let room : length vs * bytes_of kind ≤ length c.args.out.now = subst (λ n. n * bytes_of kind ≤ length c.args.out.now) (sym long) c.requires.room in
-    subst (λ size. c.write_value.new.out ≡ value_bytes kind (get_or vs i (pos 0)) ++ drop (bytes_of kind) (take (length c.loop-i.out - i * size) (drop (i * size) c.loop-i.out))
-    → put_mid (i * size) (length c.loop-i.out - i * size) c.loop-i.out c.write_value.new.out ≡ values_bytes kind (take (i + 1) vs) ++ drop ((i + 1) * bytes_of kind) c.args.out.now)
-    (sym c.bytes-size.ensures)
-    (value_put kind vs c.loop-i.out c.args.out.now c.write_value.new.out i below room c.loop-i.auto.out (omega (arith, up, room)) c.loop-i.invariant)
+    let room : length vs * bytes_of kind ≤ length c.args.out.now = subst (λ n. n * bytes_of kind ≤ length c.args.out.now) (sym (length-sums qs o c.args.step c.args.gap)) c.requires.room in
+    given_laid kind vs c.loop-i.out c.args.out.now c.write_value.new.out i c.bytes-size.result below room c.loop-i.auto.out c.bytes-size.ensures c.loop-i.invariant
     (c.write_value.ensures.bytes ∙ ap (λ v. value_bytes kind v ++ drop (bytes_of kind) (take (length c.loop-i.out - i * c.bytes-size.result) (drop (i * c.bytes-size.result) c.loop-i.out))) same)

@@ -12,7 +12,7 @@ invariant-loop-at g l = record {
   kind : (g.V.Valued.cells l.values).kind ≡ (g.V.Valued.cells l.initial.values).kind;
   in_range : All (InRange (g.V.Valued.cells l.initial.values).kind) (g.V.Valued.cells l.initial.values).values → All (InRange (g.V.Valued.cells l.initial.values).kind) (g.V.Valued.cells l.values).values;
   size : length (g.V.Valued.cells l.values).values ≡ length (g.V.Valued.cells l.initial.values).values;
-  filled : FillsMarked l.at (g.M.Marked.marks l.marks) l.pixel (g.V.Valued.cells l.initial.values).values (g.V.Valued.cells l.values).values;
+  filled : FillsMarked l.at (g.M.Marked.marks l.marks) (g.G.Given.listed l.pixel) (g.V.Valued.cells l.initial.values).values (g.V.Valued.cells l.values).values;
 }
 
 abbrev pub decreases-loop-at : goal.decreases-loop-at

@@ -10,62 +10,62 @@ use Rattle.raster_values.proofs.valued.fill_pixels.Goals as goal
 
 pub overflow_mul-at : goal.overflow_mul-at
 overflow_mul-at g c =
-    let h = pixel_fits c.args.first (length c.args.pixel.now) (c.args.first + c.args.count) (omega arith) in
-    omega (arith, c.requires.within)
+    let h = pixel_fits c.args.first (length (g.G.Given.listed c.args.pixel.now)) (c.args.first + c.args.count) (omega arith) in
+    omega (arith, c.requires.within, ap (λ n. c.args.first * n) c.len-depth.ensures)
 
-pub put_run-requires-clause-within : goal.put_run-requires-clause-within
-put_run-requires-clause-within g c =
-    let h = pixel_fits c.args.first (length c.args.pixel.now) (c.args.first + c.args.count) (omega arith) in
-    omega (arith, c.requires.within)
+pub put_all-requires-clause-within : goal.put_all-requires-clause-within
+put_all-requires-clause-within g c =
+    let h = pixel_fits c.args.first (length (g.G.Given.listed c.args.pixel.now)) (c.args.first + c.args.count) (omega arith) in
+    omega (arith, c.requires.within, ap (λ n. c.args.first * n) c.len-depth.ensures)
 
 pub loop-done-init : goal.loop-done-init
 loop-done-init g c =
-    let pixel = c.args.pixel.now in
+    let pixel = g.G.Given.listed c.args.pixel.now in
     let at = c.args.first * length pixel in
     let kind = (g.V.Valued.cells c.args.cells.now).kind in
     let old = (g.V.Valued.cells c.args.cells.now).values in
-    let new = (g.V.Valued.cells c.put_run.new.cells).values in
+    let new = (g.V.Valued.cells c.put_all.new.cells).values in
     let within : at + length pixel ≤ length old = omega (arith, pixel_fits c.args.first (length pixel) (c.args.first + c.args.count) (omega arith), c.requires.within) in
-    let is : new ≡ with_run old at pixel = ap (λ (l : CellList). l.values) c.put_run.ensures.put in
+    let is : new ≡ with_run old at pixel = subst (λ n. new ≡ with_run old (c.args.first * n) pixel) c.len-depth.ensures (ap (λ (l : CellList). l.values) c.put_all.ensures.put) in
     record {
       some = omega arith;
       within = omega arith;
-      kind = ap (λ (l : CellList). l.kind) c.put_run.ensures.put;
+      kind = ap (λ (l : CellList). l.kind) c.put_all.ensures.put;
       in_range = λ before. subst (All (InRange kind)) (sym is) (with_run_in_range kind old pixel at before c.requires.in_range);
       size = ap length is ∙ length-with_run old pixel at within;
       filled = subst (FillsPixels c.args.first 1 pixel old) (sym is) (fills_one c.args.first at pixel old refl within);
-      sound = c.put_run.ensures.sound;
-      kept = c.put_run.ensures.kept;
+      sound = c.put_all.ensures.sound;
+      kept = c.put_all.ensures.kept;
     }
 
 pub overflow_mul-done : goal.overflow_mul-done
 overflow_mul-done g c =
-    let room = behind c.args.first (length c.args.pixel.now) c.max-span.result c.min.ensures c.min-more.ensures c.loop-done.invariant.within c.requires.within in
+    let room = behind c.args.first c.len-depth.result c.max-span.result c.min.ensures c.min-more.ensures c.loop-done.invariant.within (subst (λ n. (c.args.first + c.args.count) * n ≤ length (g.V.Valued.cells c.args.cells.now).values) (sym c.len-depth.ensures) c.requires.within) in
     omega (arith, room.order, room.within, c.requires.few)
 
 pub overflow_add-at : goal.overflow_add-at
 overflow_add-at g c =
-    let room = behind c.args.first (length c.args.pixel.now) c.max-span.result c.min.ensures c.min-more.ensures c.loop-done.invariant.within c.requires.within in
+    let room = behind c.args.first c.len-depth.result c.max-span.result c.min.ensures c.min-more.ensures c.loop-done.invariant.within (subst (λ n. (c.args.first + c.args.count) * n ≤ length (g.V.Valued.cells c.args.cells.now).values) (sym c.len-depth.ensures) c.requires.within) in
     omega (arith, room.order, room.within, c.requires.few)
 
 pub overflow_mul-more : goal.overflow_mul-more
 overflow_mul-more g c =
-    let room = behind c.args.first (length c.args.pixel.now) c.max-span.result c.min.ensures c.min-more.ensures c.loop-done.invariant.within c.requires.within in
+    let room = behind c.args.first c.len-depth.result c.max-span.result c.min.ensures c.min-more.ensures c.loop-done.invariant.within (subst (λ n. (c.args.first + c.args.count) * n ≤ length (g.V.Valued.cells c.args.cells.now).values) (sym c.len-depth.ensures) c.requires.within) in
     omega (arith, room.order, room.within, c.requires.few)
 
 pub repeat_run-requires-clause-behind : goal.repeat_run-requires-clause-behind
 repeat_run-requires-clause-behind g c =
-    let room = behind c.args.first (length c.args.pixel.now) c.max-span.result c.min.ensures c.min-more.ensures c.loop-done.invariant.within c.requires.within in
+    let room = behind c.args.first c.len-depth.result c.max-span.result c.min.ensures c.min-more.ensures c.loop-done.invariant.within (subst (λ n. (c.args.first + c.args.count) * n ≤ length (g.V.Valued.cells c.args.cells.now).values) (sym c.len-depth.ensures) c.requires.within) in
     omega (arith, room.order, room.within, c.requires.few)
 
 pub repeat_run-requires-clause-within : goal.repeat_run-requires-clause-within
 repeat_run-requires-clause-within g c =
-    let room = behind c.args.first (length c.args.pixel.now) c.max-span.result c.min.ensures c.min-more.ensures c.loop-done.invariant.within c.requires.within in
+    let room = behind c.args.first c.len-depth.result c.max-span.result c.min.ensures c.min-more.ensures c.loop-done.invariant.within (subst (λ n. (c.args.first + c.args.count) * n ≤ length (g.V.Valued.cells c.args.cells.now).values) (sym c.len-depth.ensures) c.requires.within) in
     omega (arith, room.within, c.loop-done.invariant.size)
 
 pub loop-done-preserved : goal.loop-done-preserved
 loop-done-preserved g c =
-    let pixel = c.args.pixel.now in
+    let pixel = g.G.Given.listed c.args.pixel.now in
     let n = c.loop-done.done in
     let more = c.min-more.result in
     let at = c.args.first * length pixel in
@@ -78,7 +78,7 @@ loop-done-preserved g c =
     let room = behind c.args.first (length pixel) c.max-span.result c.min.ensures c.min-more.ensures c.loop-done.invariant.within c.requires.within in
     let before : at + count ≤ to = room.order in
     let within : to + count ≤ length vs = omega (arith, room.within, c.loop-done.invariant.size) in
-    let is : new ≡ repeated vs at to count = ap (λ (l : CellList). l.values) c.repeat_run.ensures.repeated in
+    let is : new ≡ repeated vs at to count = subst (λ d. new ≡ repeated vs (c.args.first * d) (c.args.first * d + n * d) (more * d)) c.len-depth.ensures (ap (λ (l : CellList). l.values) c.repeat_run.ensures.repeated) in
     record {
       some = omega (arith, c.loop-done.invariant.some);
       within = room.less;

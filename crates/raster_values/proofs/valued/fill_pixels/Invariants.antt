@@ -13,7 +13,7 @@ invariant-loop-done g l = record {
   size : length (g.V.Valued.cells l.cells).values ≡ length (g.V.Valued.cells l.fn.cells).values;
   sound : g.V.Valued.sound l.cells;
   kept : g.V.Valued.kept l.cells ≡ g.V.Valued.kept l.fn.cells;
-  filled : FillsPixels l.first l.done l.pixel (g.V.Valued.cells l.fn.cells).values (g.V.Valued.cells l.cells).values;
+  filled : FillsPixels l.first l.done (g.G.Given.listed l.pixel) (g.V.Valued.cells l.fn.cells).values (g.V.Valued.cells l.cells).values;
 }
 
 abbrev pub decreases-loop-done : goal.decreases-loop-done

@@ -6,8 +6,8 @@ use Rattle.raster_values.proofs.Views.{same_bits}
 use Rattle.raster_values.proofs.GivenRuns.{one_fits, fits_either, put_either}
 use Rattle.raster_values.proofs.valued.put_marked_as.Goals as goal
 
-pub put_run_as-requires-clause-in_range : goal.put_run_as-requires-clause-in_range
-put_run_as-requires-clause-in_range g c =
+pub put_all_as-requires-clause-in_range : goal.put_all_as-requires-clause-in_range
+put_all_as-requires-clause-in_range g c =
     let kind = (g.V.Valued.cells c.args.cells.now).kind in
     let old = (g.V.Valued.cells c.args.cells.now).values in
     let put = c.one_of-put.result in
@@ -28,4 +28,4 @@ returns-clause-put g c =
     let second = same_bits kind c.get_as-stood.result stood ∙ c.get_as-stood.ensures.value in
     let is : put ≡ cond (nat_eq c.args.mark 1) c.args.value (get_or old c.args.at (pos 0)) = c.one_of-put.ensures ∙ (λ i. cond (nat_eq c.args.mark 1) (first i) (second i)) in
     let fits = fits_either kind old c.args.at (nat_eq c.args.mark 1) c.args.value put c.requires.in_range (subst (InRange kind) c.get_as-stood.ensures.value stood) is in
-    ap (λ (l : CellList). l.values) c.put_run_as.ensures.put ∙ put_either old c.args.at (nat_eq c.args.mark 1) c.args.value put _ c.requires.within (same_bits kind put fits) is
+    ap (λ (l : CellList). l.values) c.put_all_as.ensures.put ∙ put_either old c.args.at (nat_eq c.args.mark 1) c.args.value put _ c.requires.within (same_bits kind put fits) is
