@@ -26,7 +26,7 @@ pub(crate) fn fills_arrays(rt: &impl Abort, alloc: Global, blob: &[u8], raster: 
     let wanted = mask_of(rt, alloc, raster);
     let mut values = other_bytes(rt, alloc, raster.cells().len());
     let mut mask = other_bytes(rt, alloc, wanted.len());
-    let size = decode_over(alloc, blob, &mut values, &mut mask);
+    let size = decode_over(blob, &mut values, &mut mask);
     same(rt, "size", size, Ok(blob.len()));
     same(rt, "values", &*values, raster.cells());
     same(rt, "mask", &*mask, &*wanted);
@@ -56,7 +56,7 @@ fn told_with(
     let (values, mask) = lengths(bytes);
     let mut values = other_bytes(rt, alloc, values.wrapping_add_signed(more_values));
     let mut mask = other_bytes(rt, alloc, mask.wrapping_add_signed(more_mask));
-    decode_over(alloc, bytes, &mut values, &mut mask)
+    decode_over(bytes, &mut values, &mut mask)
 }
 
 /// The bytes have this fault.

@@ -275,6 +275,28 @@ fn a_list_for_each_valid_pixel(rt: HostRuntime) {
     has_value(&rt, &raster, (0, 15, 1), 0);
 }
 
+/// Gives each valid pixel of that row one value at both depths, or the list of these bytes.
+fn fill_plain(rt: &impl Abort, raster: &mut Raster, value: Option<u16>, list: &[u8; 4]) {
+    assert!(rt; raster.depth() == 2 && raster.kind() == PixelType::U16);
+    match value {
+        Some(value) => raster.fill_value(i64::from(value)),
+        None => raster.fill_bytes(list),
+    }
+}
+
+#[test]
+fn the_list_of_bytes_and_one_value_for_each_valid_pixel(rt: HostRuntime) {
+    let mut raster = masked(&rt, rt.alloc());
+    fill_plain(&rt, &mut raster, None, &[1, 0, 0, 255]);
+    has_value(&rt, &raster, (0, 9, 0), 1);
+    has_value(&rt, &raster, (0, 18, 1), 65280);
+    has_value(&rt, &raster, (0, 15, 1), 0);
+    fill_plain(&rt, &mut raster, Some(65280), &[0; 4]);
+    has_value(&rt, &raster, (0, 9, 0), 65280);
+    has_value(&rt, &raster, (0, 9, 1), 65280);
+    has_value(&rt, &raster, (0, 15, 0), 0);
+}
+
 /// A raster of which no pixel is valid has no range.
 fn blank_has_no_range(rt: &impl Abort, alloc: Global) {
     let blank = Raster::new(alloc, PixelType::I8, 2, 2, 1).expect(rt, "a raster");

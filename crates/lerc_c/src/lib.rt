@@ -132,7 +132,6 @@ pub extern "C" fn futskheri_decode(
 /// what follows the header. Where it is not 0 the arrays may hold anything.
 #[unsafe(no_mangle)]
 pub extern "C" fn futskheri_decode_over(
-    alloc: Global,
     blob: &[u8],
     values: &mut [u8],
     mask: &mut [u8],
@@ -145,7 +144,7 @@ pub extern "C" fn futskheri_decode_over(
     ensures sizes { (result ≡ 3) ↔ AskOtherRoom blob.now (length values.old) (length mask.old) }
     ensures no_fault { result ≢ 1 → fault.new ≡ fault.old }
 {
-    match decode_over(alloc, blob, values, mask) {
+    match decode_over(blob, values, mask) {
         Ok(_) => OK,
         Err(OverFault::Blob(found)) => {
             *fault = fault_of(found);

@@ -57,24 +57,24 @@ fn expect_raster(rt: &impl Abort, alloc: Global, blob: &[u8]) {
 }
 
 /// The same where the values are laid into the arrays at once.
-fn decode_over(alloc: Global, blob: &[u8], values: &mut [u8], mask: &mut [u8]) -> (u32, u64, u32) {
+fn decode_over(blob: &[u8], values: &mut [u8], mask: &mut [u8]) -> (u32, u64, u32) {
     let mut fault = NO_FAULT;
-    let status = futskheri_decode_over(alloc, blob, values, mask, &mut fault);
+    let status = futskheri_decode_over(blob, values, mask, &mut fault);
     (status, fault.place, fault.reason)
 }
 
 /// The blob has that raster, laid over what stood in the arrays; arrays of other lengths are told, and
 /// the fault of a blob that is cut.
-fn expect_raster_over(rt: &impl Abort, alloc: Global, blob: &[u8; 200]) {
+fn expect_raster_over(rt: &impl Abort, blob: &[u8; 200]) {
     let mut back = [7; 4];
     let mut mask = [7];
-    let (status, ..) = decode_over(alloc, blob, &mut back, &mut mask);
+    let (status, ..) = decode_over(blob, &mut back, &mut mask);
     same(rt, "decoded over", u64::from(status), 0);
     same_bytes(rt, "values", &back, &[1, 2, 0, 200]);
     same_bytes(rt, "mask", &mask, &[0xd0]);
-    let (status, ..) = decode_over(alloc, blob, &mut [7; 5], &mut mask);
+    let (status, ..) = decode_over(blob, &mut [7; 5], &mut mask);
     same(rt, "a value too many", u64::from(status), 3);
-    let (status, place, reason) = decode_over(alloc, &blob[..80], &mut back, &mut mask);
+    let (status, place, reason) = decode_over(&blob[..80], &mut back, &mut mask);
     same(rt, "cut", u64::from(status), 1);
     same(rt, "place of the cut", place, 80);
     same(rt, "reason of the cut", u64::from(reason), 1);
@@ -98,7 +98,7 @@ fn a_raster_out_and_in(rt: HostRuntime) {
     same(&rt, "not above the greatest size", u64::from(is_small), 1);
     expect_no_room(&rt, rt.alloc(), size);
     expect_raster(&rt, rt.alloc(), &blob);
-    expect_raster_over(&rt, rt.alloc(), &blob);
+    expect_raster_over(&rt, &blob);
 }
 
 /// The status of a look at a header, and the place that is told.

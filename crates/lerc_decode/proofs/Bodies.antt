@@ -412,11 +412,6 @@ few_values blob h head =
     let a : h.valid * h.depth ≤ h.rows * h.cols * h.depth = mul-le-mul_right h.depth head.valid_below in
     omega (arith, a, head.shape.size)
 
--- a stop that is want of memory
-pub no_memory : {T : Type 0} (f : Faults BlobReason) (result : Result T BodyStop) → IfErr result (λ stop. stop ≡ OutOfMemory) → IfErr result (IsStopOf f)
-no_memory f (Ok x) w = tt
-no_memory f (Err stop) w = subst (IsStopOf f) (sym w) tt
-
 -- the checksum does not stand
 pub bad_sum : (before : Option Previous) (h : Header) (blob : List ℕ) (computed : ℕ) → computed ≡ sum_of (drop 14 blob) → ¬ (h.checksum ≡ computed) → blob_faults before h blob 10 (BadChecksum h.checksum computed)
 bad_sum before h blob computed is other = inr ((λ e. other (e ∙ sym is)), (refl, ap (BadChecksum h.checksum) is))

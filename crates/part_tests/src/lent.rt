@@ -165,6 +165,32 @@ fn a_list_for_each_valid_pixel(rt: HostRuntime) {
     has_all(&rt, &lent, 1, &second);
 }
 
+/// Gives each valid pixel of that row one value at both depths, or the list of these bytes.
+fn fill_plain(rt: &impl Abort, lent: &mut Lent, value: Option<u16>, list: &[u8; 4])
+    requires sound { IsLent lent.old }
+    ensures sound { IsLent lent.new }
+{
+    assert!(rt; lent.depth() == 2 && lent.kind() == PixelType::U16);
+    match value {
+        Some(value) => lent.fill_value(i64::from(value)),
+        None => lent.fill_bytes(list),
+    }
+}
+
+#[test]
+fn the_list_of_bytes_and_one_value_for_each_valid_pixel(rt: HostRuntime) {
+    let mut bytes = [200; 76];
+    let mut lent = Lent::over(PixelType::U16, 1, 19, 2, &ROW, &mut bytes);
+    let first = [0, 1, 1, 1, 1, 1, 1, 1, 1, 1, 0, 0, 1, 0, 0, 0, 1, 1, 1];
+    let second = first.map(|value: i64| if value == 1 { 65280 } else { 0 });
+    fill_plain(&rt, &mut lent, None, &[1, 0, 0, 255]);
+    has_all(&rt, &lent, 0, &first);
+    has_all(&rt, &lent, 1, &second);
+    fill_plain(&rt, &mut lent, Some(65280), &[0; 4]);
+    has_all(&rt, &lent, 0, &second);
+    has_all(&rt, &lent, 1, &second);
+}
+
 /// The marks of that row from a place on are these.
 fn has_marks(rt: &impl Abort, lent: &Lent, place: usize, want: [bool; 4])
     requires { IsLent lent.now }

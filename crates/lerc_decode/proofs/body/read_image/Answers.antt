@@ -7,7 +7,7 @@ use Rattle.lerc_grammar.specs.declared.parts.MaskForm.{MaskForm}
 use Rattle.lerc_grammar.specs.declared.parts.ImageForm.{ImageForm}
 use Rattle.lerc_grammar.specs.declared.parts.ImageForm.TheVariants.{Ranges}
 use Rattle.lerc_grammar.specs.Outline.{IsMaskForm, IsImageForm}
-use Rattle.lerc_decode.proofs.Bodies.{image_empty, ranges_there, image_ranges, sweep_there, image_sweep, sweep_fault, few_values, no_memory, ok_map, err_map}
+use Rattle.lerc_decode.proofs.Bodies.{image_empty, ranges_there, image_ranges, sweep_there, image_sweep, sweep_fault, few_values, ok_map, err_map}
 use Rattle.lerc_decode.proofs.body.read_image.Goals as goal
 
 -- both lists stand in the blob
@@ -56,8 +56,8 @@ returns-in-Ranges-clause-read g c =
     let bytes : AreBytes blob = λ i. omega (arith, c.type_inv.blob i) in
     record {
       marks = c.fill_list.ensures.marks;
-      ok = ok_map (image_ranges h blob c.args.mask.now size (length blob - 2 * size) (g.T.Target.pixels c.fill_list.new.raster) bytes there size_is refl) c.fill_list.result c.fill_list.ensures.ok;
-      fault = no_memory _ c.fill_list.result c.fill_list.ensures.stop;
+      ok = image_ranges h blob c.args.mask.now size (length blob - 2 * size) (g.T.Target.pixels c.fill_list.new.raster) bytes there size_is refl c.fill_list.ensures.filled;
+      fault = tt;
     }
 
 pub returns-in-Sweep-clause-read : goal.returns-in-Sweep-clause-read
