@@ -127,9 +127,9 @@ pub extern "C" fn futskheri_decode(
 /// Decodes the blob with which the bytes begin, into arrays of all values and of the mask, where the
 /// values lie at once: none is copied.
 ///
-/// 0: the arrays have the raster. 1: `fault` has the blob's first fault. 2: memory was refused,
-/// behind a whole header. 3: an array is not as long as the header asks for, which is tested before
-/// what follows the header. Where it is not 0 the arrays may hold anything.
+/// 0: the arrays have the raster. 1: `fault` has the blob's first fault. 3: an array is not as long
+/// as the header asks for, which is tested before what follows the header. It takes no memory, so it
+/// is never 2. Where it is not 0 the arrays may hold anything.
 #[unsafe(no_mangle)]
 pub extern "C" fn futskheri_decode_over(
     blob: &[u8],
@@ -140,7 +140,7 @@ pub extern "C" fn futskheri_decode_over(
     ensures status { result ≤ 3 }
     ensures ok { result ≡ 0 → AreDecoded blob.now values.new mask.new }
     ensures refused { result ≡ 1 → TellsRefusal blob.now fault.new }
-    ensures memory { result ≡ 2 → HasHeader blob.now }
+    ensures memory { result ≢ 2 }
     ensures sizes { (result ≡ 3) ↔ AskOtherRoom blob.now (length values.old) (length mask.old) }
     ensures no_fault { result ≢ 1 → fault.new ≡ fault.old }
 {
@@ -150,7 +150,6 @@ pub extern "C" fn futskheri_decode_over(
             *fault = fault_of(found);
             REFUSED
         }
-        Err(OverFault::OutOfMemory) => NO_MEMORY,
         Err(OverFault::Sizes) => BAD_SIZES,
     }
 }

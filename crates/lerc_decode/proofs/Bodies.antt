@@ -46,7 +46,7 @@ use Rattle.lerc_decode.specs.declared.tops.Tops.{Tops}
 use Rattle.lerc_decode.specs.inside.Blocks.{HasBlocks}
 use Rattle.lerc_decode.specs.inside.Tops.{AreTopsOf, HasBoth, top_in}
 use Rattle.lerc_decode.proofs.BlockReading.{blocks_same, faults_same}
-use Rattle.lerc_decode.specs.inside.Body.{IsStopOf, HasHeadShape, IsFilledWith, IsMarkedBy, IsMarkedFor, IsMaskFormFor, IsSwept, KeepsMarks, marks_for}
+use Rattle.lerc_decode.specs.inside.Body.{IsFaultIn, IsStopOf, HasHeadShape, IsFilledWith, IsMarkedBy, IsMarkedFor, IsMaskFormFor, IsSwept, KeepsMarks, marks_for}
 
 -- ---- stops
 
@@ -54,11 +54,15 @@ pub stop_map : (f g : Faults BlobReason) → ((p : ℕ) (r : BlobReason) → f p
 stop_map f g go (Fault x) w = go x.place x.reason w
 stop_map f g go OutOfMemory w = tt
 
-pub err_map : {T : Type 0} {f g : Faults BlobReason} → ((p : ℕ) (r : BlobReason) → f p r → g p r) → (result : Result T BodyStop) → IfErr result (IsStopOf f) → IfErr result (IsStopOf g)
-err_map go (Ok x) w = tt
-err_map {f = f} {g = g} go (Err stop) w = stop_map f g go stop w
+pub stops_map : {T : Type 0} {f g : Faults BlobReason} → ((p : ℕ) (r : BlobReason) → f p r → g p r) → (result : Result T BodyStop) → IfErr result (IsStopOf f) → IfErr result (IsStopOf g)
+stops_map go (Ok x) w = tt
+stops_map {f = f} {g = g} go (Err stop) w = stop_map f g go stop w
 
-pub ok_map : {T P Q : Type 0} → (P → Q) → (result : Result T BodyStop) → OnOk result P → OnOk result Q
+pub err_map : {T : Type 0} {f g : Faults BlobReason} → ((p : ℕ) (r : BlobReason) → f p r → g p r) → (result : Result T BlobFault) → IfErr result (IsFaultIn f) → IfErr result (IsFaultIn g)
+err_map go (Ok x) w = tt
+err_map go (Err fault) w = go fault.place fault.reason w
+
+pub ok_map : {T E P Q : Type 0} → (P → Q) → (result : Result T E) → OnOk result P → OnOk result Q
 ok_map go (Ok x) p = go p
 ok_map go (Err stop) p = tt
 
@@ -433,27 +437,23 @@ pub form_err : (before : Option Previous) (h : Header) (blob : List ℕ) (mask :
     → image_part_faults h blob mask f.place f.reason → blob_faults before h blob f.place f.reason
 form_err before h blob mask r f sum form m w = image_part_stop before h blob mask (marks_of r) f.place f.reason sum form m.mask w
 
-pub image_err : (before : Option Previous) (h : Header) (blob : List ℕ) (mask : MaskForm) (old : Pixels) (stop : BodyStop) → h.checksum ≡ sum_of (drop 14 blob) → IsMaskForm h blob mask → IsMarkedFor before h blob mask old
-    → IsStopOf (moved (image_place h mask) (image_faults h (marks_of old) (image_of h blob mask))) stop → IsStopOf (blob_faults before h blob) stop
-image_err before h blob mask old stop sum form m w = stop_map _ (blob_faults before h blob) (λ p r x. image_stop before h blob mask (marks_of old) p r sum form m.mask x) stop w
-
--- the same, whatever the raster before is
-pub image_errs : {T : Type 0} (h : Header) (blob : List ℕ) (mask : MaskForm) (old : Pixels) (result : Result T BodyStop) → h.checksum ≡ sum_of (drop 14 blob) → IsMaskForm h blob mask
-    → IfErr result (IsStopOf (moved (image_place h mask) (image_faults h (marks_of old) (image_of h blob mask)))) → IfErr result (λ stop. (before : Option Previous) → IsMarkedFor before h blob mask old → IsStopOf (blob_faults before h blob) stop)
+-- the image has a fault, whatever the raster before is
+pub image_errs : {T : Type 0} (h : Header) (blob : List ℕ) (mask : MaskForm) (old : Pixels) (result : Result T BlobFault) → h.checksum ≡ sum_of (drop 14 blob) → IsMaskForm h blob mask
+    → IfErr result (IsFaultIn (moved (image_place h mask) (image_faults h (marks_of old) (image_of h blob mask)))) → IfErr result (λ f. (before : Option Previous) → IsMarkedFor before h blob mask old → IsFaultIn (blob_faults before h blob) f)
 image_errs h blob mask old (Ok x) sum form w = tt
-image_errs h blob mask old (Err stop) sum form w = λ before m. image_err before h blob mask old stop sum form m w
+image_errs h blob mask old (Err f) sum form w = λ before m. image_stop before h blob mask (marks_of old) f.place f.reason sum form m.mask w
 
 pub picture_made : (before : Option Previous) (h : Header) (blob : List ℕ) (mask : MaskForm) (old r : Pixels) → HeadAt blob h → length blob ≡ h.size → h.checksum ≡ sum_of (drop 14 blob) → IsMaskForm h blob mask → IsMarkedFor before h blob mask old
     → IsRaster r → KeepsMarks old r → IsImage h (image_of h blob mask) r → BlobAfter before blob r
 picture_made before h blob mask old r head size sum form m sound keeps image = blob_made before h blob mask old r head size sum form sound m.shape keeps m.mask image
 
 -- what holds whatever the raster before is, of the one that there is
-pub picked_ok : (before : Option Previous) (h : Header) (blob : List ℕ) (mask : MaskForm) (old : Pixels) (result : Result Pixels BodyStop) → IsMarkedFor before h blob mask old
+pub picked_ok : {E : Type 0} (before : Option Previous) (h : Header) (blob : List ℕ) (mask : MaskForm) (old : Pixels) (result : Result Pixels E) → IsMarkedFor before h blob mask old
     → IfOk result (λ r. (b : Option Previous) → IsMarkedFor b h blob mask old → BlobAfter b blob r) → IfOk result (λ r. BlobAfter before blob r)
 picked_ok before h blob mask old (Ok r) m w = w before m
 picked_ok before h blob mask old (Err stop) m w = tt
 
-pub picked_err : {T : Type 0} (before : Option Previous) (h : Header) (blob : List ℕ) (mask : MaskForm) (old : Pixels) (result : Result T BodyStop) → IsMarkedFor before h blob mask old
-    → IfErr result (λ stop. (b : Option Previous) → IsMarkedFor b h blob mask old → IsStopOf (blob_faults b h blob) stop) → IfErr result (λ stop. IsStopOf (blob_faults before h blob) stop)
+pub picked_err : {T : Type 0} (before : Option Previous) (h : Header) (blob : List ℕ) (mask : MaskForm) (old : Pixels) (result : Result T BlobFault) → IsMarkedFor before h blob mask old
+    → IfErr result (λ f. (b : Option Previous) → IsMarkedFor b h blob mask old → IsFaultIn (blob_faults b h blob) f) → IfErr result (IsFaultIn (blob_faults before h blob))
 picked_err before h blob mask old (Ok r) m w = tt
 picked_err before h blob mask old (Err stop) m w = w before m

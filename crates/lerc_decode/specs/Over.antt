@@ -11,9 +11,8 @@ use Rattle.lerc_header.specs.declared.fault.BlobReason.TheVariants.{Truncated}
 use Rattle.lerc_header.specs.Head.{HeadAt}
 use Rattle.lerc_grammar.specs.Mask.{mask_size}
 use Rattle.lerc_grammar.specs.Verdict.{FirstFault, IsDone, IsMore}
-use Rattle.lerc_decode.specs.Decoding.{HasHeader}
 use Rattle.lerc_decode.specs.declared.over.OverFault.{OverFault}
-use Rattle.lerc_decode.specs.declared.over.OverFault.TheVariants.{Blob, OutOfMemory, Sizes}
+use Rattle.lerc_decode.specs.declared.over.OverFault.TheVariants.{Blob, Sizes}
 
 -- the arrays have the bytes of all values of the raster, 0 where a pixel is invalid, and its mask
 pub record HoldRaster (r : Pixels) (values mask : List ℕ) : Type 0 where
@@ -41,8 +40,7 @@ abbrev pub IsFaultOf : List ℕ → BlobFault → Type 0
 IsFaultOf bytes f = FirstFault bytes f.place f.reason
     ⊎ (IsMore bytes × (f ≡ record { reason = Truncated; place = length bytes }))
 
--- why there is nothing in the arrays; memory is wanted only behind a whole header
+-- why there is nothing in the arrays
 abbrev pub IsOverStop : List ℕ → ℕ → ℕ → OverFault → Type 0
 IsOverStop bytes values mask (Blob f) = IsFaultOf bytes f
-IsOverStop bytes values mask OutOfMemory = HasHeader bytes
 IsOverStop bytes values mask Sizes = AskOtherRoom bytes values mask

@@ -10,10 +10,10 @@ ghost use Rattle.raster_values.specs.Raster.{IsShape};
 ghost use Rattle.lerc_grammar.specs.Blocks.{blocks_across, blocks_down, blocks_faults, first_block_faults, count_in_block};
 ghost use Rattle.lerc_grammar.specs.Reasons.{block_reason, list_reason};
 ghost use Rattle.lerc_decode.specs.inside.Blocks.{HasBlocks, HasRead, IsBlockHead, IsSquare, block_number};
-ghost use Rattle.lerc_decode.specs.inside.Body.{HasHeadShape, IsStopOf, KeepsMarks};
+ghost use Rattle.lerc_decode.specs.inside.Body.{HasHeadShape, IsFaultIn, KeepsMarks};
 ghost use Rattle.lerc_decode.specs.inside.Tops.{AreTops, top_in};
 
-use crate::body::{BodyStop, stopped};
+use crate::body::stopped;
 use crate::tops::Tops;
 use bit_stuff::ListReason;
 use lerc_header::{BlobFault, BlobReason, Header};
@@ -261,7 +261,7 @@ pub(crate) fn pour_blocks<T: Target>(
     header: &Header,
     tops: &Tops,
     raster: &mut T,
-) -> Result<(), BodyStop>
+) -> Result<(), BlobFault>
     requires side { 0 < header.now.side }
     requires head { IsShape header.now.rows header.now.cols header.now.depth }
     requires step { IsTwiceError header.now.step }
@@ -272,8 +272,8 @@ pub(crate) fn pour_blocks<T: Target>(
     ensures marks { KeepsMarks (T.pixels raster.old) (T.pixels raster.new) }
     ensures ok { OnOk result (HasBlocks header.now (marks_of (T.pixels raster.old)) tops.now rest.now
         (T.pixels raster.new)) }
-    ensures fault { IfErr result (λ stop. IsStopOf (moved place (blocks_faults header.now
-        (marks_of (T.pixels raster.old)) (top_in header.now tops.now) rest.now)) stop) }
+    ensures fault { IfErr result (λ fault. IsFaultIn (moved place (blocks_faults header.now
+        (marks_of (T.pixels raster.old)) (top_in header.now tops.now) rest.now)) fault) }
     ensures sound { T.sound raster.new }
     ensures kept { T.kept raster.new ≡ T.kept raster.old }
 {

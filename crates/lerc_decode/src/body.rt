@@ -13,7 +13,7 @@ ghost use Rattle.lerc_grammar.specs.Image.{sweep_faults, value_count};
 ghost use Rattle.lerc_grammar.specs.Blob.{BlobAfter, blob_faults};
 ghost use Rattle.lerc_grammar.specs.Outline.{IsImageForm, IsMaskForm, image_place};
 ghost use Rattle.lerc_grammar.specs.declared.parts.ImageForm.{ImageForm};
-ghost use Rattle.lerc_decode.specs.inside.Body.{HasHeadShape, HasSum, IsFilledWith, IsMarkedBy, IsMarkedFor, IsMaskFormFor, IsStopOf, IsSwept, KeepsMarks, ReadsImage, marks_for};
+ghost use Rattle.lerc_decode.specs.inside.Body.{HasHeadShape, HasSum, IsFaultIn, IsFilledWith, IsMarkedBy, IsMarkedFor, IsMaskFormFor, IsStopOf, IsSwept, KeepsMarks, ReadsImage, marks_for};
 
 use crate::before::Before;
 use crate::blocks::pour_blocks;
@@ -34,13 +34,13 @@ pub(crate) enum BodyStop {
 }
 
 /// A fault, as an answer.
-pub(crate) fn stopped<T: Drop>(reason: BlobReason, place: usize) -> Result<T, BodyStop>
-    ensures { result ≡ Err (BodyStop.Fault (record { reason = reason; place = place })) }
+pub(crate) fn stopped<T: Drop>(reason: BlobReason, place: usize) -> Result<T, BlobFault>
+    ensures { result ≡ Err (record { reason = reason; place = place }) }
 {
-    Err(BodyStop::Fault(BlobFault {
+    Err(BlobFault {
         reason,
         place: place as u64,
-    }))
+    })
 }
 
 /// What holds of each raster, for the proofs.
@@ -101,9 +101,13 @@ fn mark_runs(
     let Some(mut mask) = room_for(alloc, (pixels + 7) / 8) else {
         return Err(BodyStop::OutOfMemory);
     };
-    bits_of_runs(runs, place, header, &mut mask)?;
-    mark_by(&mask, header, raster);
-    Ok(())
+    match bits_of_runs(runs, place, header, &mut mask) {
+        Ok(()) => {
+            mark_by(&mask, header, raster);
+            Ok(())
+        }
+        Err(fault) => Err(BodyStop::Fault(fault)),
+    }
 }
 
 /// How many pixels are valid in the raster before, where there is one of the header's rows and
@@ -214,7 +218,7 @@ fn pour_sweep<T: Target>(
     place: usize,
     header: &Header,
     raster: &mut T,
-) -> Result<(), BodyStop>
+) -> Result<(), BlobFault>
     requires shape { HasHeadShape header.now (T.pixels raster.old) }
     requires valid { count_of (marks_of (T.pixels raster.old)) ≡ header.now.valid }
     requires values { header.now.valid * header.now.depth ≤ 16777216 }
@@ -222,8 +226,8 @@ fn pour_sweep<T: Target>(
     requires sound { T.sound raster.old }
     ensures marks { KeepsMarks (T.pixels raster.old) (T.pixels raster.new) }
     ensures ok { OnOk result (IsSwept header.now sweep.now (T.pixels raster.new)) }
-    ensures fault { IfErr result (λ stop. IsStopOf
-        (moved place (sweep_faults header.now sweep.now)) stop) }
+    ensures fault { IfErr result (λ fault. IsFaultIn
+        (moved place (sweep_faults header.now sweep.now)) fault) }
     ensures sound { T.sound raster.new }
     ensures kept { T.kept raster.new ≡ T.kept raster.old }
 {
@@ -245,7 +249,7 @@ fn read_blocks<T: Target>(
     mask: &MaskForm,
     place: usize,
     raster: &mut T,
-) -> Result<(), BodyStop>
+) -> Result<(), BlobFault>
     requires head { HeadAt blob.now header.now }
     requires size { length blob.now ≡ header.now.size }
     requires mask { IsMaskForm header.now blob.now mask.now }
@@ -277,7 +281,7 @@ fn read_deltas<T: Target>(
     mask: &MaskForm,
     place: usize,
     raster: &mut T,
-) -> Result<(), BodyStop>
+) -> Result<(), BlobFault>
     requires head { HeadAt blob.now header.now }
     requires size { length blob.now ≡ header.now.size }
     requires mask { IsMaskForm header.now blob.now mask.now }
@@ -299,7 +303,7 @@ fn read_plain<T: Target>(
     mask: &MaskForm,
     place: usize,
     raster: &mut T,
-) -> Result<(), BodyStop>
+) -> Result<(), BlobFault>
     requires head { HeadAt blob.now header.now }
     requires size { length blob.now ≡ header.now.size }
     requires mask { IsMaskForm header.now blob.now mask.now }
@@ -321,7 +325,7 @@ fn read_image<T: Target>(
     mask: &MaskForm,
     form: &ImageForm,
     raster: &mut T,
-) -> Result<(), BodyStop>
+) -> Result<(), BlobFault>
     requires head { HeadAt blob.now header.now }
     requires size { length blob.now ≡ header.now.size }
     requires mask { IsMaskForm header.now blob.now mask.now }
@@ -360,17 +364,17 @@ pub(crate) fn mask_form(
     blob: &[u8],
     header: &Header,
     before: &Option<Before>,
-) -> Result<MaskForm, BodyStop>
+) -> Result<MaskForm, BlobFault>
     requires head { HeadAt blob.now header.now }
     requires size { length blob.now ≡ header.now.size }
     requires sum { HasSum header.now blob.now }
     ensures ok { IfOk result (λ form. IsMaskFormFor before.now header.now blob.now form) }
-    ensures fault { IfErr result (λ stop.
-        IsStopOf (blob_faults before.now header.now blob.now) stop) }
+    ensures fault { IfErr result (λ fault.
+        IsFaultIn (blob_faults before.now header.now blob.now) fault) }
 {
     match mask_part(blob, header, counted_before(before, header)) {
         Ok(form) => Ok(form),
-        Err(fault) => Err(BodyStop::Fault(fault)),
+        Err(fault) => Err(fault),
     }
 }
 
@@ -406,7 +410,7 @@ pub(crate) fn image_of<T: Target>(
     header: &Header,
     mask: &MaskForm,
     raster: &mut T,
-) -> Result<(), BodyStop>
+) -> Result<(), BlobFault>
     requires head { HeadAt blob.now header.now }
     requires size { length blob.now ≡ header.now.size }
     requires sum { HasSum header.now blob.now }
@@ -417,16 +421,16 @@ pub(crate) fn image_of<T: Target>(
     ensures ok { OnOk result ((before : Option Previous) →
         IsMarkedFor before header.now blob.now mask.now (T.pixels raster.old) →
         BlobAfter before blob.now (T.pixels raster.new)) }
-    ensures fault { IfErr result (λ stop. (before : Option Previous) →
+    ensures fault { IfErr result (λ fault. (before : Option Previous) →
         IsMarkedFor before header.now blob.now mask.now (T.pixels raster.old) →
-        IsStopOf (blob_faults before header.now blob.now) stop) }
+        IsFaultIn (blob_faults before header.now blob.now) fault) }
     ensures marks { KeepsMarks (T.pixels raster.old) (T.pixels raster.new) }
     ensures sound { T.sound raster.new }
     ensures kept { T.kept raster.new ≡ T.kept raster.old }
 {
     match image_part(blob, header, mask) {
         Ok(form) => read_image(blob, header, mask, &form, raster),
-        Err(fault) => Err(BodyStop::Fault(fault)),
+        Err(fault) => Err(fault),
     }
 }
 
@@ -437,7 +441,7 @@ fn pictured(
     header: &Header,
     mask: &MaskForm,
     mut raster: Raster,
-) -> Result<Raster, BodyStop>
+) -> Result<Raster, BlobFault>
     requires head { HeadAt blob.now header.now }
     requires size { length blob.now ≡ header.now.size }
     requires sum { HasSum header.now blob.now }
@@ -446,15 +450,13 @@ fn pictured(
     requires valid { count_of (marks_of raster) ≡ header.now.valid }
     ensures ok { IfOk result (λ r. (before : Option Previous) →
         IsMarkedFor before header.now blob.now mask.now raster → BlobAfter before blob.now r) }
-    ensures fault { IfErr result (λ stop. (before : Option Previous) →
+    ensures fault { IfErr result (λ fault. (before : Option Previous) →
         IsMarkedFor before header.now blob.now mask.now raster →
-        IsStopOf (blob_faults before header.now blob.now) stop) }
+        IsFaultIn (blob_faults before header.now blob.now) fault) }
 {
     note_sound(&raster);
-    match image_of(blob, header, mask, &mut raster) {
-        Ok(()) => Ok(raster),
-        Err(stop) => Err(stop),
-    }
+    image_of(blob, header, mask, &mut raster)?;
+    Ok(raster)
 }
 
 /// The raster of a blob whose checksum stands.
@@ -471,18 +473,24 @@ fn raster_of(
     ensures fault { IfErr result (λ stop.
         IsStopOf (blob_faults before.now header.now blob.now) stop) }
 {
-    let mask = mask_form(blob, header, before)?;
+    let mask = match mask_form(blob, header, before) {
+        Ok(mask) => mask,
+        Err(fault) => return Err(BodyStop::Fault(fault)),
+    };
     let raster = marked(alloc, blob, header, &mask, before)?;
-    pictured(blob, header, &mask, raster)
+    match pictured(blob, header, &mask, raster) {
+        Ok(raster) => Ok(raster),
+        Err(fault) => Err(BodyStop::Fault(fault)),
+    }
 }
 
 /// Whether the checksum stands.
-pub(crate) fn test_sum(blob: &[u8], header: &Header) -> Result<(), BodyStop>
+pub(crate) fn test_sum(blob: &[u8], header: &Header) -> Result<(), BlobFault>
     requires head { HeadAt blob.now header.now }
     requires size { length blob.now ≡ header.now.size }
     ensures ok { OnOk result (HasSum header.now blob.now) }
-    ensures fault { IfErr result (λ stop. (before : Option Previous) →
-        IsStopOf (blob_faults before header.now blob.now) stop) }
+    ensures fault { IfErr result (λ fault. (before : Option Previous) →
+        IsFaultIn (blob_faults before header.now blob.now) fault) }
 {
     let computed = sum_behind(blob);
     if header.checksum != computed {
@@ -512,6 +520,6 @@ pub(crate) fn body(
 {
     match test_sum(blob, header) {
         Ok(()) => raster_of(alloc, blob, header, before),
-        Err(stop) => Err(stop),
+        Err(fault) => Err(BodyStop::Fault(fault)),
     }
 }

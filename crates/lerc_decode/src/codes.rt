@@ -10,16 +10,16 @@ ghost use Rattle.lerc_grammar.specs.Codes.{AreAllDeltas, codes_faults};
 ghost use Rattle.lerc_grammar.specs.Image.{value_count};
 ghost use Rattle.lerc_grammar.specs.Mask.{count_of};
 ghost use Rattle.lerc_grammar.specs.Reasons.{code_reason};
-ghost use Rattle.lerc_decode.specs.inside.Body.{HasHeadShape, IsStopOf, KeepsMarks};
+ghost use Rattle.lerc_decode.specs.inside.Body.{HasHeadShape, IsFaultIn, KeepsMarks};
 ghost use Rattle.lerc_decode.specs.inside.Codes.{HasDeltas, HasPlain, words_faults};
 ghost use Rattle.lerc_decode.specs.inside.Words.{AreWordsLeft, frame_of, have_come, left_in};
 
 use crate::blocks::reason_of_list;
-use crate::body::{BodyStop, stopped, value_len};
+use crate::body::{stopped, value_len};
 use crate::words::Words;
 use delta_mode::{SymbolSource, undelta_from, unplain_from};
 use huff_codes::{CodeFault, CodeReason, Codes, read_table};
-use lerc_header::{BlobReason, Header};
+use lerc_header::{BlobFault, BlobReason, Header};
 use raster_target::Target;
 
 /// The reason of a fault of codes.
@@ -35,18 +35,18 @@ fn reason_of_code(reason: CodeReason) -> BlobReason
 }
 
 /// A fault of the codes that begin at this place.
-fn refused(fault: CodeFault, place: usize) -> Result<(), BodyStop>
+fn refused(fault: CodeFault, place: usize) -> Result<(), BlobFault>
     requires { place + fault.at < 2 ^ 63 }
-    ensures { result ≡ Err (BodyStop.Fault (record {
+    ensures { result ≡ Err (record {
       reason = code_reason fault.reason;
       place = place + fault.at;
-    })) }
+    }) }
 {
     stopped(reason_of_code(fault.reason), place + fault.at)
 }
 
 /// Ends the words, which are the blob's last bytes and begin at this place.
-fn end_words(words: &Words, rest: &[u8], place: usize) -> Result<(), BodyStop>
+fn end_words(words: &Words, rest: &[u8], place: usize) -> Result<(), BlobFault>
     requires sound { AreWordsLeft words.now }
     requires all { left_in words.now ≡ 0 }
     requires bytes { (frame_of words.now).bytes ≡ rest.now }
@@ -54,8 +54,8 @@ fn end_words(words: &Words, rest: &[u8], place: usize) -> Result<(), BodyStop>
     ensures ok { (symbols : List ℕ) → have_come words.now symbols
         → length symbols ≡ (frame_of words.now).total → OnOk result
         (AreWords (frame_of words.now).codes (frame_of words.now).total rest.now symbols) }
-    ensures fault { IfErr result (λ stop. IsStopOf (moved place
-        (words_faults (frame_of words.now).codes (frame_of words.now).total rest.now)) stop) }
+    ensures fault { IfErr result (λ fault. IsFaultIn (moved place
+        (words_faults (frame_of words.now).codes (frame_of words.now).total rest.now)) fault) }
 {
     match words.end() {
         Ok(used) if used < rest.len() => stopped(BlobReason::Leftover, place + used),
@@ -101,7 +101,7 @@ fn pour_delta_words<T: Target>(
     codes: &Codes,
     header: &Header,
     raster: &mut T,
-) -> Result<(), BodyStop>
+) -> Result<(), BlobFault>
     requires shape { HasHeadShape header.now (T.pixels raster.old) }
     requires kind { IsByteType header.now.kind }
     requires valid { count_of (marks_of (T.pixels raster.old)) ≡ header.now.valid }
@@ -112,8 +112,8 @@ fn pour_delta_words<T: Target>(
     ensures ok { OnOk result ((symbols : List ℕ)
         × (AreWords codes.now (value_count header.now) rest.now symbols
         × AreAllDeltas header.now (T.pixels raster.new) symbols)) }
-    ensures fault { IfErr result (λ stop. IsStopOf
-        (moved place (words_faults codes.now (value_count header.now) rest.now)) stop) }
+    ensures fault { IfErr result (λ fault. IsFaultIn
+        (moved place (words_faults codes.now (value_count header.now) rest.now)) fault) }
     ensures sound { T.sound raster.new }
     ensures kept { T.kept raster.new ≡ T.kept raster.old }
 {
@@ -131,7 +131,7 @@ pub(crate) fn pour_deltas<T: Target>(
     place: usize,
     header: &Header,
     raster: &mut T,
-) -> Result<(), BodyStop>
+) -> Result<(), BlobFault>
     requires shape { HasHeadShape header.now (T.pixels raster.old) }
     requires kind { IsByteType header.now.kind }
     requires valid { count_of (marks_of (T.pixels raster.old)) ≡ header.now.valid }
@@ -140,8 +140,8 @@ pub(crate) fn pour_deltas<T: Target>(
     requires sound { T.sound raster.old }
     ensures marks { KeepsMarks (T.pixels raster.old) (T.pixels raster.new) }
     ensures ok { OnOk result (HasDeltas header.now rest.now (T.pixels raster.new)) }
-    ensures fault { IfErr result (λ stop. IsStopOf
-        (moved place (codes_faults (value_count header.now) rest.now)) stop) }
+    ensures fault { IfErr result (λ fault. IsFaultIn
+        (moved place (codes_faults (value_count header.now) rest.now)) fault) }
     ensures sound { T.sound raster.new }
     ensures kept { T.kept raster.new ≡ T.kept raster.old }
 {
@@ -187,7 +187,7 @@ fn pour_plain_words<T: Target>(
     codes: &Codes,
     header: &Header,
     raster: &mut T,
-) -> Result<(), BodyStop>
+) -> Result<(), BlobFault>
     requires shape { HasHeadShape header.now (T.pixels raster.old) }
     requires kind { IsByteType header.now.kind }
     requires valid { count_of (marks_of (T.pixels raster.old)) ≡ header.now.valid }
@@ -198,8 +198,8 @@ fn pour_plain_words<T: Target>(
     ensures ok { OnOk result ((symbols : List ℕ)
         × (AreWords codes.now (value_count header.now) rest.now symbols
         × ArePlain (T.pixels raster.new) symbols)) }
-    ensures fault { IfErr result (λ stop. IsStopOf
-        (moved place (words_faults codes.now (value_count header.now) rest.now)) stop) }
+    ensures fault { IfErr result (λ fault. IsFaultIn
+        (moved place (words_faults codes.now (value_count header.now) rest.now)) fault) }
     ensures sound { T.sound raster.new }
     ensures kept { T.kept raster.new ≡ T.kept raster.old }
 {
@@ -216,7 +216,7 @@ pub(crate) fn pour_plain<T: Target>(
     place: usize,
     header: &Header,
     raster: &mut T,
-) -> Result<(), BodyStop>
+) -> Result<(), BlobFault>
     requires shape { HasHeadShape header.now (T.pixels raster.old) }
     requires kind { IsByteType header.now.kind }
     requires valid { count_of (marks_of (T.pixels raster.old)) ≡ header.now.valid }
@@ -225,8 +225,8 @@ pub(crate) fn pour_plain<T: Target>(
     requires sound { T.sound raster.old }
     ensures marks { KeepsMarks (T.pixels raster.old) (T.pixels raster.new) }
     ensures ok { OnOk result (HasPlain header.now rest.now (T.pixels raster.new)) }
-    ensures fault { IfErr result (λ stop. IsStopOf
-        (moved place (codes_faults (value_count header.now) rest.now)) stop) }
+    ensures fault { IfErr result (λ fault. IsFaultIn
+        (moved place (codes_faults (value_count header.now) rest.now)) fault) }
     ensures sound { T.sound raster.new }
     ensures kept { T.kept raster.new ≡ T.kept raster.old }
 {

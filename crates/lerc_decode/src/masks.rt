@@ -8,12 +8,12 @@ ghost use Rattle.lerc_header.specs.Head.{HeadAt, head_length};
 ghost use Rattle.lerc_grammar.specs.Blob.{blob_faults};
 ghost use Rattle.lerc_grammar.specs.Mask.{IsMaskAfter, count_before, mask_size, runs_faults};
 ghost use Rattle.lerc_grammar.specs.Outline.{image_place};
-ghost use Rattle.lerc_decode.specs.inside.Body.{HasSum, IsMarkedBy, IsMaskFormFor, IsStopOf, marks_for};
+ghost use Rattle.lerc_decode.specs.inside.Body.{HasSum, IsFaultIn, IsMarkedBy, IsMaskFormFor, marks_for};
 
 use crate::before::Before;
-use crate::body::{BodyStop, stopped};
+use crate::body::stopped;
 use lerc_grammar::MaskForm;
-use lerc_header::{BlobReason, Header};
+use lerc_header::{BlobFault, BlobReason, Header};
 use mask_runs::read_runs;
 use raster_values::{clear_bits, clear_spare, count_marked, set_bits};
 
@@ -23,7 +23,7 @@ pub(crate) fn bits_of_runs(
     place: usize,
     header: &Header,
     bits: &mut [u8],
-) -> Result<(), BodyStop>
+) -> Result<(), BlobFault>
     requires pixels { header.now.rows * header.now.cols ≤ 16777216 }
     requires room { length bits.old ≡ mask_size (header.now.rows * header.now.cols) }
     requires few { place + length runs.now < 2 ^ 62 }
@@ -32,8 +32,8 @@ pub(crate) fn bits_of_runs(
         runs.now (marks_in (header.now.rows * header.now.cols) bits.new)) }
     ensures spare { OnOk result ((k : ℕ) → header.now.rows * header.now.cols ≤ k
         → mask_bit bits.new k ≡ false) }
-    ensures fault { IfErr result (λ stop. IsStopOf (moved place
-        (runs_faults (header.now.rows * header.now.cols) header.now.valid runs.now)) stop) }
+    ensures fault { IfErr result (λ fault. IsFaultIn (moved place
+        (runs_faults (header.now.rows * header.now.cols) header.now.valid runs.now)) fault) }
 {
     if let Err(fault) = read_runs(runs, bits) {
         return stopped(BlobReason::BadRun, place + fault.at);
@@ -76,7 +76,7 @@ pub(crate) fn mask_bits(
     form: &MaskForm,
     before: &Option<Before>,
     bits: &mut [u8],
-) -> Result<(), BodyStop>
+) -> Result<(), BlobFault>
     requires head { HeadAt blob.now header.now }
     requires size { length blob.now ≡ header.now.size }
     requires sum { HasSum header.now blob.now }
@@ -90,8 +90,8 @@ pub(crate) fn mask_bits(
         (marks_in (header.now.rows * header.now.cols) bits.new)) }
     ensures spare { OnOk result ((k : ℕ) → header.now.rows * header.now.cols ≤ k
         → mask_bit bits.new k ≡ false) }
-    ensures fault { IfErr result (λ stop.
-        IsStopOf (blob_faults before.now header.now blob.now) stop) }
+    ensures fault { IfErr result (λ fault.
+        IsFaultIn (blob_faults before.now header.now blob.now) fault) }
 {
     let pixels = header.rows as usize * header.cols as usize;
     match *form {

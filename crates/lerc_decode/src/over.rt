@@ -13,10 +13,10 @@ ghost use Rattle.lerc_grammar.specs.Blob.{Blob, blob_faults};
 ghost use Rattle.lerc_grammar.specs.Mask.{IsMaskAfter};
 ghost use Rattle.lerc_grammar.specs.Outline.{IsMaskForm, image_place};
 ghost use Rattle.lerc_decode.specs.Over.{AskOtherRoom, HaveRoom, HoldRaster, IsDecodedOver, IsFaultOf, IsOverStop};
-ghost use Rattle.lerc_decode.specs.inside.Body.{HasSum, IsMarkedFor, IsPouredOver, IsStopOf, KeepsMarks};
+ghost use Rattle.lerc_decode.specs.inside.Body.{HasSum, IsFaultIn, IsMarkedFor, IsPouredOver, KeepsMarks};
 
 use crate::before::Before;
-use crate::body::{BodyStop, image_of, mask_form, test_sum};
+use crate::body::{image_of, mask_form, test_sum};
 use crate::front::{header_at, version_at};
 use crate::masks::mask_bits;
 use lerc_grammar::MaskForm;
@@ -28,7 +28,6 @@ use raster_values::Lent;
 pub enum OverFault {
     /// What is wrong with the blob first, or that the bytes end too early.
     Blob(BlobFault),
-    OutOfMemory,
     /// The header asks for arrays of other lengths.
     Sizes,
 }
@@ -85,7 +84,12 @@ fn have_room(header: &Header, values: usize, mask: usize) -> bool
 }
 
 /// Gives the raster in the caller's arrays the values that the image says.
-fn fill_lent(blob: &[u8], header: &Header, form: &MaskForm, lent: &mut Lent) -> Result<(), BodyStop>
+fn fill_lent(
+    blob: &[u8],
+    header: &Header,
+    form: &MaskForm,
+    lent: &mut Lent,
+) -> Result<(), BlobFault>
     requires head { HeadAt blob.now header.now }
     requires size { length blob.now ≡ header.now.size }
     requires sum { HasSum header.now blob.now }
@@ -93,7 +97,7 @@ fn fill_lent(blob: &[u8], header: &Header, form: &MaskForm, lent: &mut Lent) -> 
     requires sound { IsLent lent.old }
     requires marked { IsMarkedFor None header.now blob.now form.now (lent_pixels lent.old) }
     ensures ok { OnOk result (Blob blob.now (lent_pixels lent.new)) }
-    ensures fault { IfErr result (λ stop. IsStopOf (blob_faults None header.now blob.now) stop) }
+    ensures fault { IfErr result (λ fault. IsFaultIn (blob_faults None header.now blob.now) fault) }
     ensures marks { KeepsMarks (lent_pixels lent.old) (lent_pixels lent.new) }
     ensures bytes { bytes_in lent.new ≡ values_bytes (lent_pixels lent.new).kind
         (all_values (lent_pixels lent.new)) }
@@ -109,7 +113,7 @@ fn pour_over(
     form: &MaskForm,
     mask: &[u8],
     values: &mut [u8],
-) -> Result<(), BodyStop>
+) -> Result<(), BlobFault>
     requires head { HeadAt blob.now header.now }
     requires size { length blob.now ≡ header.now.size }
     requires sum { HasSum header.now blob.now }
@@ -121,7 +125,7 @@ fn pour_over(
         (marks_in (header.now.rows * header.now.cols) mask.now) }
     ensures bytes { (k : ℕ) → get_or mask.now k 0 < 256 }
     ensures ok { OnOk result (IsPouredOver header.now blob.now mask.now values.new) }
-    ensures fault { IfErr result (λ stop. IsStopOf (blob_faults None header.now blob.now) stop) }
+    ensures fault { IfErr result (λ fault. IsFaultIn (blob_faults None header.now blob.now) fault) }
 {
     let mut lent = Lent::over(
         header.kind,
@@ -141,14 +145,14 @@ fn summed_over(
     header: &Header,
     values: &mut [u8],
     mask: &mut [u8],
-) -> Result<(), BodyStop>
+) -> Result<(), BlobFault>
     requires head { HeadAt blob.now header.now }
     requires size { length blob.now ≡ header.now.size }
     requires sum { HasSum header.now blob.now }
     requires room { HaveRoom header.now (length values.old) (length mask.old) }
     ensures ok { OnOk result ((r : Pixels) × (Blob blob.now r
         × HoldRaster r values.new mask.new)) }
-    ensures fault { IfErr result (λ stop. IsStopOf (blob_faults None header.now blob.now) stop) }
+    ensures fault { IfErr result (λ fault. IsFaultIn (blob_faults None header.now blob.now) fault) }
 {
     let before: Option<Before> = None;
     let form = mask_form(blob, header, &before)?;
@@ -162,17 +166,17 @@ fn body_over(
     header: &Header,
     values: &mut [u8],
     mask: &mut [u8],
-) -> Result<(), BodyStop>
+) -> Result<(), BlobFault>
     requires head { HeadAt blob.now header.now }
     requires size { length blob.now ≡ header.now.size }
     requires room { HaveRoom header.now (length values.old) (length mask.old) }
     ensures ok { OnOk result ((r : Pixels) × (Blob blob.now r
         × HoldRaster r values.new mask.new)) }
-    ensures fault { IfErr result (λ stop. IsStopOf (blob_faults None header.now blob.now) stop) }
+    ensures fault { IfErr result (λ fault. IsFaultIn (blob_faults None header.now blob.now) fault) }
 {
     match test_sum(blob, header) {
         Ok(()) => summed_over(blob, header, values, mask),
-        Err(stop) => Err(stop),
+        Err(fault) => Err(fault),
     }
 }
 
@@ -203,7 +207,6 @@ pub fn decode_over(blob: &[u8], values: &mut [u8], mask: &mut [u8]) -> Result<us
     }
     match body_over(&blob[..size], &header, values, mask) {
         Ok(()) => Ok(size),
-        Err(BodyStop::Fault(fault)) => Err(OverFault::Blob(fault)),
-        Err(BodyStop::OutOfMemory) => Err(OverFault::OutOfMemory),
+        Err(fault) => Err(OverFault::Blob(fault)),
     }
 }

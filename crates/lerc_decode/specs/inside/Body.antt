@@ -9,6 +9,7 @@ use Rattle.raster_values.specs.Flat.{EachValid, all_values, marks_of}
 use Rattle.raster_values.specs.Grid.{values_bytes}
 use Rattle.raster_values.specs.Order.{marks_in}
 use Rattle.lerc_header.specs.declared.header.Header.{Header}
+use Rattle.lerc_header.specs.declared.fault.BlobFault.{BlobFault}
 use Rattle.lerc_header.specs.declared.fault.BlobReason.{BlobReason}
 use Rattle.lerc_header.specs.Head.{head_length}
 use Rattle.lerc_header.specs.Checksum.{sum_of}
@@ -20,9 +21,13 @@ use Rattle.lerc_grammar.specs.Image.{IsImage, image_faults, value_count}
 use Rattle.lerc_decode.specs.declared.body.BodyStop.{BodyStop}
 use Rattle.lerc_decode.specs.declared.body.BodyStop.TheVariants.{Fault, OutOfMemory}
 
--- it is one of these faults; want of memory may be at any time
+-- it is one of these faults
+abbrev pub IsFaultIn : Faults BlobReason → BlobFault → Type 0
+IsFaultIn faults f = faults f.place f.reason
+
+-- the same, and want of memory may be at any time
 abbrev pub IsStopOf : Faults BlobReason → BodyStop → Type 0
-IsStopOf faults (Fault f) = faults f.place f.reason
+IsStopOf faults (Fault f) = IsFaultIn faults f
 IsStopOf faults OutOfMemory = Unit {0}
 
 -- the raster has the header's type and shape
@@ -80,13 +85,13 @@ pub record IsMarkedFor (before : Option Previous) (h : Header) (blob : List ℕ)
       (marks_of r)
 
 -- the image behind the mask is read into a raster that has the mask's marks: it keeps them and has
--- the values that the bytes stand for, or there is no memory, or one of their faults
+-- the values that the bytes stand for, or it is one of their faults
 pub record ReadsImage (h : Header) (blob : List ℕ) (mask : MaskForm) (old new : Pixels)
-    (result : Result (Unit {0}) BodyStop) : Type 0 where
+    (result : Result (Unit {0}) BlobFault) : Type 0 where
   pub marks : KeepsMarks old new
   pub ok : OnOk result (IsImage h (drop (image_place h mask) blob) new)
-  pub fault : IfErr result (λ stop. IsStopOf (moved (image_place h mask)
-      (image_faults h (marks_of old) (drop (image_place h mask) blob))) stop)
+  pub fault : IfErr result (λ fault. IsFaultIn (moved (image_place h mask)
+      (image_faults h (marks_of old) (drop (image_place h mask) blob))) fault)
 
 -- the array has the values of the raster of the blob, whose marks are those of the bits
 pub record IsPouredOver (h : Header) (blob bits values : List ℕ) : Type 0 where

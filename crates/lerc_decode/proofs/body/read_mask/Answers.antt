@@ -4,7 +4,7 @@ use Rattle.raster_values.specs.Raster.{Pixels, valid_count}
 use Rattle.raster_values.specs.Flat.{marks_of}
 use Rattle.lerc_header.proofs.HeadLemmas.{pixels_of_head}
 use Rattle.lerc_decode.proofs.Marks.{blank_count, blank_marks, filled_marks}
-use Rattle.lerc_decode.proofs.Bodies.{empty_mask, full_mask, runs_mask, runs_fault, previous_mask, ok_map, err_map}
+use Rattle.lerc_decode.proofs.Bodies.{empty_mask, full_mask, runs_mask, runs_fault, previous_mask, ok_map, stops_map}
 use Rattle.lerc_decode.proofs.body.read_mask.Goals as goal
 
 pub mark_all-requires : goal.mark_all-requires
@@ -29,7 +29,7 @@ returns-in-Runs-clause-ok c =
 
 pub returns-in-Runs-clause-fault : goal.returns-in-Runs-clause-fault
 returns-in-Runs-clause-fault c =
-    err_map (λ p r w. runs_fault c.args.before.now c.args.header.now c.args.blob.now c.args.form.now c.in-Runs.at c.in-Runs.len _ p r c.in-Runs.is c.requires.form.0 (ap (λ n. n + 4) c.head_length-place.ensures) w) c.mark_runs.result c.mark_runs.ensures.fault
+    stops_map (λ p r w. runs_fault c.args.before.now c.args.header.now c.args.blob.now c.args.form.now c.in-Runs.at c.in-Runs.len _ p r c.in-Runs.is c.requires.form.0 (ap (λ n. n + 4) c.head_length-place.ensures) w) c.mark_runs.result c.mark_runs.ensures.fault
 
 pub returns-in-Previous-clause-ok : goal.returns-in-Previous-clause-ok
 returns-in-Previous-clause-ok c =

@@ -2,7 +2,7 @@ use Rattle.std.proofs.Common.{◌*◌, sym, subst, arith}
 use Rattle.std.specs.Prelude.{IfErr}
 use Rattle.first_fault.specs.Faults.{moved}
 use Rattle.lerc_grammar.specs.Codes.{codes_faults}
-use Rattle.lerc_decode.specs.inside.Body.{IsStopOf}
+use Rattle.lerc_decode.specs.inside.Body.{IsFaultIn}
 use Rattle.lerc_decode.proofs.Bodies.{err_map, ok_map}
 use Rattle.lerc_decode.proofs.CodePlaces.{table_within}
 use Rattle.lerc_decode.proofs.Symbols.{coding_fault, coding_read, table_fault}
@@ -28,5 +28,5 @@ pub returns-in-Err-clause-fault : goal.returns-in-Err-clause-fault
 returns-in-Err-clause-fault g c =
     let n = c.args.header.now.valid * c.args.header.now.depth in
     let f = c.in-Err.fault in
-    subst (λ r. IfErr r (IsStopOf (moved c.args.place (codes_faults n c.args.rest.now)))) (sym c.refused.ensures)
+    subst (λ r. IfErr r (IsFaultIn (moved c.args.place (codes_faults n c.args.rest.now)))) (sym c.refused.ensures)
     (table_fault n c.args.place c.args.rest.now f ((c.read_table.ensures.fault f).0 c.in-Err.is))

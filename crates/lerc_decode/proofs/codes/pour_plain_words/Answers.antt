@@ -2,7 +2,7 @@ use Rattle.std.proofs.Common.{◌≡◌, ℕ, ◌*◌, [], length, sym, ap, ◌�
 use Rattle.std.specs.Prelude.{IfErr, OnOk}
 use Rattle.first_fault.specs.Faults.{moved}
 use Rattle.huff_codes.specs.Words.{AreWords}
-use Rattle.lerc_decode.specs.inside.Body.{IsStopOf}
+use Rattle.lerc_decode.specs.inside.Body.{IsFaultIn}
 use Rattle.lerc_decode.specs.inside.Codes.{words_faults}
 use Rattle.lerc_decode.specs.inside.Words.{WordFrame, frame_of, stops_with}
 use Rattle.lerc_decode.proofs.Bodies.{ok_map}
@@ -38,7 +38,7 @@ returns-in-Ok-clause-fault g c =
     let n = h.valid * h.depth in
     let frame : frame_of c.take_plain.new.source ≡ record { codes = c.args.codes.now; bytes = c.args.rest.now; total = n } =
     c.in-Ok.ensures.sources ∙ c.of-words.ensures.frame ∙ ap (λ (k : ℕ). record { codes = c.args.codes.now; bytes = c.args.rest.now; total = k }) c.value_len.ensures.value in
-    subst (λ (w : WordFrame). IfErr c.end_words.result (IsStopOf (moved c.args.place (words_faults w.codes w.total c.args.rest.now)))) frame c.end_words.ensures.fault
+    subst (λ (w : WordFrame). IfErr c.end_words.result (IsFaultIn (moved c.args.place (words_faults w.codes w.total c.args.rest.now)))) frame c.end_words.ensures.fault
 
 pub returns-in-Err-clause-fault : goal.returns-in-Err-clause-fault
 returns-in-Err-clause-fault g c =
@@ -46,5 +46,5 @@ returns-in-Err-clause-fault g c =
     let n = h.valid * h.depth in
     let f = c.in-Err.fault in
     let told = subst (λ (w : WordFrame). stops_with w f) (c.of-words.ensures.frame ∙ ap (λ (k : ℕ). record { codes = c.args.codes.now; bytes = c.args.rest.now; total = k }) c.value_len.ensures.value) c.in-Err.ensures.stop in
-    subst (λ r. IfErr r (IsStopOf (moved c.args.place (words_faults c.args.codes.now n c.args.rest.now)))) (sym c.refused.ensures)
+    subst (λ r. IfErr r (IsFaultIn (moved c.args.place (words_faults c.args.codes.now n c.args.rest.now)))) (sym c.refused.ensures)
     (words_fault c.args.codes.now n c.args.place c.args.rest.now f told)

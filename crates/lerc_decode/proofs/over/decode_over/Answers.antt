@@ -1,9 +1,6 @@
-use Rattle.std.proofs.Common.{length, take, refl, subst, arith, inl, inr}
-use Rattle.std.specs.Prelude.{None}
-use Rattle.lerc_grammar.specs.Blob.{blob_faults}
+use Rattle.std.proofs.Common.{length, refl, arith, inl, inr}
 use Rattle.lerc_grammar.specs.Verdict.{of_blob}
 use Rattle.lerc_grammar.proofs.More.{more_body}
-use Rattle.lerc_decode.specs.inside.Body.{IsStopOf}
 use Rattle.lerc_decode.proofs.CallersArrays.{head_taken, no_other_room}
 use Rattle.lerc_decode.proofs.over.decode_over.Goals as goal
 
@@ -25,14 +22,13 @@ returns-in-Ok-body_over-clause-sizes c = (
   λ other. absurd (no_other_room c.args.blob.now c.in-Ok.header (length c.args.values.now) (length c.args.mask.now) c.in-Ok.ensures.ok (c.if-not-have_room.ensures.0 refl) other),
 )
 
-pub returns-in-Err-Fault-clause-stop : goal.returns-in-Err-Fault-clause-stop
-returns-in-Err-Fault-clause-stop c =
+pub returns-in-Err-clause-stop : goal.returns-in-Err-clause-stop
+returns-in-Err-clause-stop c =
     let h = c.in-Ok.header in
-    inl (of_blob h (omega (arith, c.if-blob-size.false)) (head_taken c.args.blob.now h c.in-Ok.ensures.ok (omega (arith, c.if-blob-size.false)))
-    (subst (IsStopOf (blob_faults None h (take h.size c.args.blob.now))) c.in-Err-Fault.field-0-is c.in-Err-Fault.ensures.fault))
+    inl (of_blob h (omega (arith, c.if-blob-size.false)) (head_taken c.args.blob.now h c.in-Ok.ensures.ok (omega (arith, c.if-blob-size.false))) c.in-Err.ensures.fault)
 
-pub returns-in-Err-OutOfMemory-clause-sizes : goal.returns-in-Err-OutOfMemory-clause-sizes
-returns-in-Err-OutOfMemory-clause-sizes c = (
+pub returns-in-Err-clause-sizes : goal.returns-in-Err-clause-sizes
+returns-in-Err-clause-sizes c = (
   λ e. absurd (cc),
   λ other. absurd (no_other_room c.args.blob.now c.in-Ok.header (length c.args.values.now) (length c.args.mask.now) c.in-Ok.ensures.ok (c.if-not-have_room.ensures.0 refl) other),
 )
