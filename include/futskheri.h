@@ -99,9 +99,8 @@ uint32_t futskheri_decode(const uint8_t *blob, size_t blob_size, void *values, s
                           uint8_t *mask, size_t mask_size, struct futskheri_fault *fault);
 
 /* The same without a copy: the values are laid into the caller's arrays at once, which is faster where every pixel is
- * valid. It takes no memory for values; where the image is one value or one list of values it takes eight bytes for
- * each depth, and else no memory.
- * OK, REFUSED and NO_MEMORY: as above. BAD_SIZES: the bytes begin with a header that asks for arrays of other lengths;
+ * valid. It takes no memory, and never answers NO_MEMORY.
+ * OK and REFUSED: as above. BAD_SIZES: the bytes begin with a header that asks for arrays of other lengths;
  * what follows the header was not looked at. Where it is not OK the arrays may hold anything; where it is not REFUSED
  * *fault stays. Take it where the arrays are there for this raster. Where they have to keep what they have if the blob
  * turns out to be none, take futskheri_decode. */

@@ -62,6 +62,15 @@ pub err_map : {T : Type 0} {f g : Faults BlobReason} → ((p : ℕ) (r : BlobRea
 err_map go (Ok x) w = tt
 err_map go (Err fault) w = go fault.place fault.reason w
 
+-- what holds of each answer that it is
+pub each_ok : {T E : Type 0} {P : T → Type 0} (result : Result T E) → ((x : T) → result ≡ Ok x → P x) → IfOk result P
+each_ok (Ok x) h = h x refl
+each_ok (Err e) h = tt
+
+pub each_err : {T E : Type 0} {P : E → Type 0} (result : Result T E) → ((e : E) → result ≡ Err e → P e) → IfErr result P
+each_err (Ok x) h = tt
+each_err (Err e) h = h e refl
+
 pub ok_map : {T E P Q : Type 0} → (P → Q) → (result : Result T E) → OnOk result P → OnOk result Q
 ok_map go (Ok x) p = go p
 ok_map go (Err stop) p = tt

@@ -372,10 +372,7 @@ pub(crate) fn mask_form(
     ensures fault { IfErr result (λ fault.
         IsFaultIn (blob_faults before.now header.now blob.now) fault) }
 {
-    match mask_part(blob, header, counted_before(before, header)) {
-        Ok(form) => Ok(form),
-        Err(fault) => Err(fault),
-    }
+    mask_part(blob, header, counted_before(before, header))
 }
 
 /// A raster whose pixels are valid as the mask says.

@@ -1,5 +1,14 @@
-use Rattle.lerc_decode.proofs.Bodies.{mask_form_stop}
+use Rattle.std.proofs.Common.{ℕ, subst}
+use Rattle.std.specs.Prelude.{Option}
+use Rattle.lerc_grammar.specs.Outline.{IsMaskFormAfter}
+use Rattle.lerc_decode.proofs.Bodies.{each_err, each_ok, mask_form_stop}
 use Rattle.lerc_decode.proofs.body.mask_form.Goals as goal
 
-pub returns-in-Err-clause-fault : goal.returns-in-Err-clause-fault
-returns-in-Err-clause-fault c = mask_form_stop c.args.before.now c.args.header.now c.args.blob.now _ c.mask_part.result c.counted_before.ensures c.requires.sum c.mask_part.ensures.fault c.in-Err.fault c.in-Err.is
+pub returns-clause-ok : goal.returns-clause-ok
+returns-clause-ok c =
+    each_ok c.mask_part.result (λ form is. subst (λ (count : Option ℕ). IsMaskFormAfter count c.args.header.now c.args.blob.now form) c.counted_before.ensures ((c.mask_part.ensures.ok form).0 is))
+
+pub returns-clause-fault : goal.returns-clause-fault
+returns-clause-fault c =
+    each_err c.mask_part.result
+    (mask_form_stop c.args.before.now c.args.header.now c.args.blob.now _ c.mask_part.result c.counted_before.ensures c.requires.sum c.mask_part.ensures.fault)
