@@ -457,11 +457,6 @@ pub picture_made : (before : Option Previous) (h : Header) (blob : List ℕ) (ma
 picture_made before h blob mask old r head size sum form m sound keeps image = blob_made before h blob mask old r head size sum form sound m.shape keeps m.mask image
 
 -- what holds whatever the raster before is, of the one that there is
-pub picked_ok : {E : Type 0} (before : Option Previous) (h : Header) (blob : List ℕ) (mask : MaskForm) (old : Pixels) (result : Result Pixels E) → IsMarkedFor before h blob mask old
-    → IfOk result (λ r. (b : Option Previous) → IsMarkedFor b h blob mask old → BlobAfter b blob r) → IfOk result (λ r. BlobAfter before blob r)
-picked_ok before h blob mask old (Ok r) m w = w before m
-picked_ok before h blob mask old (Err stop) m w = tt
-
 pub picked_err : {T : Type 0} (before : Option Previous) (h : Header) (blob : List ℕ) (mask : MaskForm) (old : Pixels) (result : Result T BlobFault) → IsMarkedFor before h blob mask old
     → IfErr result (λ f. (b : Option Previous) → IsMarkedFor b h blob mask old → IsFaultIn (blob_faults b h blob) f) → IfErr result (IsFaultIn (blob_faults before h blob))
 picked_err before h blob mask old (Ok r) m w = tt

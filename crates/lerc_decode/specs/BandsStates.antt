@@ -1,5 +1,5 @@
 -- What a decoder of bands answers.
-use Rattle.std.specs.Prelude.{◌≡◌, ℕ, suc, zero, List, Result, Ok, Err}
+use Rattle.std.specs.Prelude.{ℕ, suc, zero, List, Result, Ok, Err}
 use Rattle.raster_values.specs.Raster.{Pixels}
 use Rattle.lerc_grammar.specs.declared.bands.BandReason.{BandReason}
 use Rattle.lerc_grammar.specs.Bands.{BandsBlob, BandsFaultAt, FirstBandsFault, IsLeastFault}

@@ -1,6 +1,6 @@
 -- A decoder of bands, as contracts see it. It keeps the bytes of one blob alone, so which bytes it
 -- took is a relation: `IsAfter taken d` says that d may be the decoder after these bytes.
-use Rattle.std.specs.Prelude.{◌≡◌, ℕ, ◌+◌, ◌<◌, List, [], ◌∷◌, ◌++◌, codes, length, take, Option, None, Some, IfSome}
+use Rattle.std.specs.Prelude.{◌≡◌, ℕ, ◌<◌, List, [], ◌∷◌, codes, length, take, Option, None, Some, IfSome}
 use Rattle.std.specs.List.{concat}
 use Rattle.raster_values.specs.Raster.{Pixels}
 use Rattle.lerc_grammar.specs.declared.bands.BandReason.{BandReason}

@@ -174,8 +174,10 @@ fn body_over(
         × HoldRaster r values.new mask.new)) }
     ensures fault { IfErr result (λ fault. IsFaultIn (blob_faults None header.now blob.now) fault) }
 {
-    test_sum(blob, header)?;
-    summed_over(blob, header, values, mask)
+    match test_sum(blob, header) {
+        Ok(()) => summed_over(blob, header, values, mask),
+        Err(fault) => Err(fault),
+    }
 }
 
 /// Decodes the blob with which the bytes begin into a caller's arrays, and answers how many bytes it

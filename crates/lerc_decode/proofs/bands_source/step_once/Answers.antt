@@ -1,4 +1,4 @@
-use Rattle.std.proofs.Common.{◌≡◌, ℕ, ◌<◌, ◌≤◌, Ok, take, ◌∙◌, subst, arith}
+use Rattle.std.proofs.Common.{◌≡◌, ℕ, Ok, take, subst, arith}
 use Rattle.outside_io.specs.streams.Source.{Takes}
 use Rattle.lerc_decode.proofs.BandsFeeding.{reads_at, reads_more, reads_none, room_falls, some_used, used_of}
 use Rattle.lerc_decode.proofs.Feeding.{takes_few}

@@ -1,5 +1,5 @@
 use Rattle.std.specs.Prelude.{None}
 use Rattle.lerc_decode.proofs.over.body_over.Goals as goal
 
-pub returns-in_err-test_sum-clause-fault : goal.returns-in_err-test_sum-clause-fault
-returns-in_err-test_sum-clause-fault c = c.in_err-test_sum.ensures.fault None
+pub returns-in-Err-clause-fault : goal.returns-in-Err-clause-fault
+returns-in-Err-clause-fault c = c.in-Err.ensures.fault None

@@ -22,13 +22,13 @@ returns-in-Ok-body_over-clause-sizes c = (
   λ other. absurd (no_other_room c.args.blob.now c.in-Ok.header (length c.args.values.now) (length c.args.mask.now) c.in-Ok.ensures.ok (c.if-not-have_room.ensures.0 refl) other),
 )
 
-pub returns-in-Err-clause-stop : goal.returns-in-Err-clause-stop
-returns-in-Err-clause-stop c =
+pub returns-in-Err-body_over-clause-stop : goal.returns-in-Err-body_over-clause-stop
+returns-in-Err-body_over-clause-stop c =
     let h = c.in-Ok.header in
-    inl (of_blob h (omega (arith, c.if-blob-size.false)) (head_taken c.args.blob.now h c.in-Ok.ensures.ok (omega (arith, c.if-blob-size.false))) c.in-Err.ensures.fault)
+    inl (of_blob h (omega (arith, c.if-blob-size.false)) (head_taken c.args.blob.now h c.in-Ok.ensures.ok (omega (arith, c.if-blob-size.false))) c.in-Err-body_over.ensures.fault)
 
-pub returns-in-Err-clause-sizes : goal.returns-in-Err-clause-sizes
-returns-in-Err-clause-sizes c = (
+pub returns-in-Err-body_over-clause-sizes : goal.returns-in-Err-body_over-clause-sizes
+returns-in-Err-body_over-clause-sizes c = (
   λ e. absurd (cc),
   λ other. absurd (no_other_room c.args.blob.now c.in-Ok.header (length c.args.values.now) (length c.args.mask.now) c.in-Ok.ensures.ok (c.if-not-have_room.ensures.0 refl) other),
 )

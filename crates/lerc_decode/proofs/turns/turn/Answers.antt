@@ -1,4 +1,4 @@
-use Rattle.std.proofs.Common.{◌≡◌, ℕ, ◌<◌, ◌≤◌, ◌++◌, List, length, take, sym, ap, ◌∙◌, arith}
+use Rattle.std.proofs.Common.{◌≡◌, ℕ, ◌++◌, List, length, take, sym, ap, ◌∙◌, arith}
 use Rattle.std.specs.Prelude.{min}
 use Rattle.lerc_decode.specs.States.{missing_at}
 use Rattle.lerc_decode.proofs.BlobTurns.{fed_is, live_done, live_more, live_wrong, part_is, turn_done, turn_more, turn_none, turn_wrong, used_all}

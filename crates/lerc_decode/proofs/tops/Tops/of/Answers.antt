@@ -1,4 +1,4 @@
-use Rattle.std.proofs.Common.{◌*◌, ◌+◌, ◌-◌, ◌≡◌, ◌≤◌, length, take, drop, ap, arith, ◌∙◌, inl}
+use Rattle.std.proofs.Common.{◌*◌, ◌-◌, ◌≡◌, ◌≤◌, length, take, drop, ap, arith, ◌∙◌, inl}
 use Rattle.std.proofs.lemmas.List.{length-drop, length-take-le}
 use Rattle.lerc_grammar.proofs.Forms.{untrue}
 use Rattle.lerc_decode.proofs.TopLists.{listed_tops, one_top, value_at, which_version}
