@@ -14,10 +14,13 @@ target=${DESTDIR-}$prefix
 # The shared library's own file, to which its other two names lead.
 library_file() { echo "libfutskheri.so.$(version)"; }
 
-# Each file, by its path below the prefix.
+# Each file, by its path below the prefix: programs, manual pages, libraries, the header, and what pkg-config and CMake
+# ask for.
 installed() {
-    programs | while read -r name crate; do printf '%s\n' "bin/$name" "share/man/man1/$name.1"; done
-    printf 'lib/%s\n' libfutskheri.a libfutskheri.so "$(soname)" "$(library_file)" pkgconfig/futskheri.pc \
-        cmake/futskheri/futskheri-config.cmake cmake/futskheri/futskheri-config-version.cmake
+    programs | while read -r name crate; do echo "bin/$name"; done
+    programs | while read -r name crate; do echo "share/man/man1/$name.1"; done
+    printf 'lib/%s\n' libfutskheri.a "$(library_file)" "$(soname)" libfutskheri.so
     echo include/futskheri.h
+    printf 'lib/%s\n' pkgconfig/futskheri.pc cmake/futskheri/futskheri-config.cmake \
+        cmake/futskheri/futskheri-config-version.cmake
 }

@@ -49,6 +49,20 @@ holds "and leaves the rest" sh -c '[ -e kept/bin/other ] && [ ! -e kept/bin/lerc
 prefix=$room/place
 holds "everything is installed" "$here/bin/install" "$prefix"
 holds "and a second time over it" "$here/bin/install" "$prefix"
+cp said put
+sed '$d' put >paths
+# Whether its paths are those of all files that are there, each once, and its last line says what is left to do.
+names_files() {
+    find "$prefix" ! -type d | sort >there
+    sort paths | cmp - there && tail -n 1 put | grep -q "^installed in $prefix; .* ldconfig, or name $prefix/lib in LD_LIBRARY_PATH\$"
+}
+holds "it ends with the path of each file that it put there" names_files
+for file in bin/lerc_cli share/man/man1/lerc_cli.1 lib/libfutskheri.a lib/libfutskheri.so include/futskheri.h \
+    lib/pkgconfig/futskheri.pc lib/cmake/futskheri/futskheri-config.cmake; do
+    echo "$prefix/$file"
+done >some
+holds "programs first, then manual pages, libraries, the header, and what pkg-config and CMake ask for" \
+    sh -c 'grep -Fx -f some paths | cmp - some'
 
 holds "the program is there" sh -c '"$1/bin/lerc_cli" - encode 4 0 <"$2/docs/hill.lgr1" | "$1/bin/lerc_cli" - decode | cmp - "$2/docs/hill.lgr1"' sh "$prefix" "$here"
 
