@@ -1,7 +1,7 @@
 //! Commands that encode two tiles at once, which a gate shows.
 
+use crate::runs::left_through;
 use crate::same::same;
-use crate::tests::told_through;
 use crate::volumes::{empty, joined};
 use meeting_gate::Meeting;
 use std::process::Abort;
@@ -23,18 +23,8 @@ fn meet(
     let input = joined(rt, parts);
     let mut vol = empty(rt);
     let gate = Meeting::new();
-    let told = told_through(
-        rt,
-        alloc,
-        words,
-        &input,
-        (7, 100),
-        (&[], &[]),
-        &mut vol,
-        &gate,
-    );
-    let (report, out, err) = told.expect(rt, "memory");
-    let found = (report.status, out.held(), err.held());
+    let left = left_through(rt, alloc, words, &input, &mut vol, &gate).expect(rt, "memory");
+    let found = (left.status, left.out.held(), left.err.held());
     same(rt, "what is given", found, (0, output, b"".as_slice()));
     same(rt, "the workers met", gate.both_met(), true);
 }

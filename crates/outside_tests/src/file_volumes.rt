@@ -1,10 +1,8 @@
 //! The two files of a machine as a volume: files of the machine itself, in the folder where the
-//! test runs, and a machine that counts what it is asked for.
+//! test runs.
 
 ghost use Rattle.std.specs.Prelude.{◌≤◌, ◌+◌, ◌^◌, length};
 
-mod counted;
-mod desk;
 mod on_the_machine;
 
 use outside_io::{Failed, FileVolume, VolFile, Volume};

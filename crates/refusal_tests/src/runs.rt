@@ -37,18 +37,18 @@ pub(crate) fn volume(alloc: Global, bundle: &[u8]) -> Result<MemVolume, AllocErr
 
 /// What a run left.
 #[derive(Drop)]
-pub(crate) struct Ending {
-    pub(crate) status: u8,
-    pub(crate) out: MemSink,
+struct Ending {
+    status: u8,
+    out: MemSink,
 }
 
 /// What a run of these words over this input and this volume leaves.
-pub(crate) fn run_over<R: Threads + Sync, V: Volume>(
+fn left_by<R: Threads + Sync>(
     rt: &R,
     alloc: Global,
     words: &[&str],
     input: &[u8],
-    vol: &mut V,
+    vol: &mut MemVolume,
 ) -> Result<Ending, AllocError> {
     let words = words_of(alloc, words)?;
     let mut src = MemSource::new(Bytes::of(alloc, input)?, 7, Bytes::of(alloc, &[])?);
@@ -61,28 +61,24 @@ pub(crate) fn run_over<R: Threads + Sync, V: Volume>(
     })
 }
 
-/// The run gave this output, or it ended for want of memory and gave none; whether it gave it.
-pub(crate) fn gave_or_wanted(rt: &impl Abort, left: &Ending, output: &[u8]) -> bool {
-    if left.status == 6 {
-        assert!(rt; left.out.held().is_empty());
-        return false;
-    }
-    assert!(rt; left.status == 0);
-    assert_eq!(rt; left.out.held(), output);
-    true
-}
-
-/// A run of these words over a volume gives this output, or none for want of memory.
+/// A run of these words over this input and this volume gives this output, or ends for want of memory
+/// and gives none; whether it gave it.
 pub(crate) fn gives(
     rt: &(impl Abort + Threads + Sync),
     alloc: Global,
     words: &[&str],
+    input: &[u8],
     vol: &mut MemVolume,
     output: &[u8],
-) -> Result<(), AllocError> {
-    let left = run_over(rt, alloc, words, &[], vol)?;
-    gave_or_wanted(rt, &left, output);
-    Ok(())
+) -> Result<bool, AllocError> {
+    let left = left_by(rt, alloc, words, input, vol)?;
+    if left.status == 6 {
+        assert!(rt; left.out.held().is_empty());
+        return Ok(false);
+    }
+    assert!(rt; left.status == 0);
+    assert_eq!(rt; left.out.held(), output);
+    Ok(true)
 }
 
 /// One image of a moment, recovered, gives this output of these words.
@@ -97,9 +93,9 @@ fn recovers(
 ) -> Result<(), AllocError> {
     assert!(rt; moment <= vol.moment());
     let mut crashed = vol.crash(alloc, moment, pick)?;
-    let recovered = run_over(rt, alloc, &["recover"], &[], &mut crashed)?;
-    assert!(rt; recovered.status == 0);
-    gives(rt, alloc, words, &mut crashed, output)
+    assert!(rt; left_by(rt, alloc, &["recover"], &[], &mut crashed)?.status == 0);
+    assert!(rt; gives(rt, alloc, words, &[], &mut crashed, output)?);
+    Ok(())
 }
 
 /// Each image of each moment, recovered, gives this output of these words: of the files as last
@@ -112,9 +108,9 @@ pub(crate) fn all_recover(
     output: &[u8],
 ) -> Result<(), AllocError> {
     for moment in 0..=vol.moment() {
-        recovers(rt, alloc, vol, moment, Pick::Oldest, words, output)?;
-        recovers(rt, alloc, vol, moment, Pick::Newest, words, output)?;
-        recovers(rt, alloc, vol, moment, Pick::Torn(255), words, output)?;
+        for pick in [Pick::Oldest, Pick::Newest, Pick::Torn(255)] {
+            recovers(rt, alloc, vol, moment, pick, words, output)?;
+        }
     }
     Ok(())
 }

@@ -1,5 +1,7 @@
 //! Tiles encoded at once.
 
+ghost use Rattle.std.specs.Prelude.{◌≤◌};
+
 use bundle_index::Slot;
 use lerc_encode::EncodeFault;
 use lerc_header::{Step, Version};
@@ -8,8 +10,9 @@ use outside_io::{Bytes, MemSource};
 use raster_values::{Bands, bands_read};
 use std::alloc::Global;
 use std::process::Abort;
+use std::thread::Threads;
 use tile_updates::{Batch, BatchStop, UpdateList, encode_batch};
-use tile_workers::{Open, encode_tiles};
+use tile_workers::{Blobs, Gate, Open, encode_tiles};
 
 /// One unsigned byte, 7.
 const SEVEN: [u8; 19] = *b"LGR1\x01\x01\0\0\0\x01\0\0\0\x01\0\0\0\x01\x07";
@@ -34,31 +37,52 @@ fn bands_of(rt: &impl Abort, alloc: Global, grid: &[u8]) -> Bands {
     bands_read(alloc, &mut source, 0).expect(rt, "bands")
 }
 
-/// Tiles of these grids.
-fn tiles_of(rt: &impl Abort, alloc: Global, grids: &[&[u8]]) -> Vec<Bands> {
+/// The blobs of tiles of these grids, one behind the other, or the number of the tile that is refused
+/// and whether that is for its depths.
+fn encoded<R: Threads + Sync + Abort, G: Gate>(
+    rt: &R,
+    alloc: Global,
+    grids: &[&[u8]],
+    workers: usize,
+    gate: &G,
+) -> Result<Vec<u8>, (usize, bool)>
+    requires { (1 ≤ workers) × (workers ≤ 64) }
+{
     let mut tiles = Vec::new(alloc);
     for grid in grids {
         tiles.push(bands_of(rt, alloc, grid)).expect(rt, "memory");
     }
-    tiles
+    match encode_tiles(rt, alloc, &tiles, Version::V3, Step::of(0), workers, gate) {
+        Ok(blobs) => Ok(joined(rt, alloc, &blobs)),
+        Err(fault) => Err((fault.at, matches!(&fault.cause, EncodeFault::DepthNeedsV4))),
+    }
+}
+
+/// The blobs, one behind the other.
+fn joined(rt: &impl Abort, alloc: Global, blobs: &Blobs) -> Vec<u8> {
+    let mut all = Vec::new(alloc);
+    for at in 0..blobs.len() {
+        all.extend_from_slice(blobs.at(at)).expect(rt, "memory");
+    }
+    all
 }
 
 #[test]
 fn two_workers_encode_at_once(rt: HostRuntime) {
-    let alloc = rt.alloc();
-    let tiles = tiles_of(&rt, alloc, &[&SEVEN, &EIGHT]);
     let gate = Meeting::new();
-    let blobs = encode_tiles(&rt, alloc, &tiles, Version::V3, Step::of(0), 2, &gate);
-    let blobs = blobs.expect(&rt, "blobs");
+    let blobs = encoded(&rt, rt.alloc(), &[&SEVEN, &EIGHT], 2, &gate).expect(&rt, "blobs");
     assert!(&rt; gate.both_met(), "the workers did not meet");
-    if blobs.len() != 2 {
-        panic!(&rt; "two tiles");
+    assert!(&rt; blobs.starts_with(&SEVEN_BLOB), "the blob of the first");
+    assert_eq!(&rt; blobs.len(), 132, "two blobs");
+}
+
+#[test]
+fn the_first_deep_tile_is_told_by_its_number(rt: HostRuntime) {
+    for workers in [1, 2, 4, 64] {
+        let grids: [&[u8]; 4] = [&SEVEN, &DEEP, &EIGHT, &DEEP];
+        let answer = encoded(&rt, rt.alloc(), &grids, workers, &Open);
+        assert_eq!(&rt; answer.err(), Some((1, true)), "{workers} workers");
     }
-    assert!(&rt;
-        blobs.at(0) == SEVEN_BLOB.as_slice(),
-        "the blob of the first tile"
-    );
-    assert!(&rt; blobs.at(1).len() == 66, "the blob of the second tile");
 }
 
 /// A batch of these tiles, each for the slot of its number.
@@ -100,23 +124,4 @@ fn a_batch_is_encoded_at_once(rt: HostRuntime) {
         panic!(&rt; "two updates");
     }
     assert_eq!(&rt; updates[1].slot.number(), 1);
-}
-
-#[test]
-fn the_first_deep_tile_is_told_by_its_number(rt: HostRuntime) {
-    let alloc = rt.alloc();
-    let tiles = tiles_of(&rt, alloc, &[&SEVEN, &DEEP, &EIGHT, &DEEP]);
-    for workers in [1, 2, 4, 64] {
-        let answer = encode_tiles(&rt, alloc, &tiles, Version::V3, Step::of(0), workers, &Open);
-        match answer {
-            Ok(_) => panic!(&rt; "no fault"),
-            Err(fault) => {
-                assert_eq!(&rt; fault.at, 1);
-                assert!(&rt;
-                    matches!(&fault.cause, EncodeFault::DepthNeedsV4),
-                    "the cause"
-                );
-            }
-        }
-    }
 }

@@ -78,28 +78,3 @@ fn the_updates_are_those_of_one_worker(rt: HostRuntime) {
         assert!(&rt; by_many == by_one, "{workers} workers");
     }
 }
-
-/// Whichever the number of workers, a stream is refused for this reason at this place.
-fn is_refused(rt: &(impl Threads + Sync + Abort), alloc: Global, stream: &[u8], stop: StreamStop) {
-    for workers in [1, 2, 7, 64] {
-        match made_of(rt, alloc, stream, workers) {
-            Ok(_) => panic!(rt; "no refusal"),
-            Err(found) => assert_eq!(rt; found, stop, "{workers} workers"),
-        }
-    }
-}
-
-#[test]
-fn a_deep_tile_behind_a_whole_batch(rt: HostRuntime) {
-    let alloc = rt.alloc();
-    // 2,770 bytes: three, a head of 17, 64 marks and 64 values, fewer by the column
-    let mut stream = stream_of(&rt, alloc, 20);
-    let deep = *b"T\0\0LGR1\x01\x01\0\0\0\x01\0\0\0\x02\0\0\0\x01\x07\x08T";
-    stream.extend_from_slice(&deep).expect(&rt, "memory");
-    is_refused(
-        &rt,
-        alloc,
-        &stream,
-        StreamStop::DepthNeedsV4 { place: 2786 },
-    );
-}
