@@ -3,6 +3,7 @@
 
 root=$(cd "$(dirname "$(readlink -f "${BASH_SOURCE[0]}")")/.." && pwd)
 . "$root/bin/proving.sh"
+. "$root/bin/front.sh"
 
 # The programs: the name of each, and the crate that it is made of.
 programs() {
@@ -42,41 +43,55 @@ build_program() {
         scratch=$(mktemp -d)
         for ((at = 0; at < $(made_by "$crate"); at++)); do words[at]=$scratch/${words[at]}; done
         [ -e "$input" ] || input=/dev/null
+        need_kit
         build_by "${0##*/}" "$program" "$crate" "$input" rt run -- "${words[@]}"
     fi
 }
 
-# Builds a program, and becomes it. The words --help and --version, alone, are answered here: the program's own words
-# stand in its manual page, which is shown.
-run_program() {
-    local name=$1 crate
-    shift
-    crate=$(crate_of "$name")
-    case $#:${1-} in
-    1:--version) echo "$name $(version), $(rt version)" ;;
-    1:--help) show_manual "$name" ;;
-    *)
-        build_program "$crate"
-        exec "$root/crates/$crate/out/$crate" "$@"
-        ;;
-    esac
+# Ends with 69 where the kit is not there, and says what is missing.
+need_kit() {
+    ! command -v rt >/dev/null 2>&1 || return 0
+    cat >&2 <<END_OF_TEXT
+${0##*/}: to build it takes rt, which is not on the path.
+rt is the command of the Rattle kit, $(kit_wanted), with which this repository is proved and built. The kit is no part of
+it: get it from whoever gave you the repository, and put the kit's folder bin on the path. What is installed needs none.
+END_OF_TEXT
+    tell_empty
+    exit 69
 }
 
-# Shows a manual page: by man where it is there, else as it stands.
-show_manual() {
-    if command -v man >/dev/null 2>&1; then
-        MANPAGER=cat MANWIDTH=${MANWIDTH:-80} man -l "$root/man/$1.1"
-    else
-        cat "$root/man/$1.1"
+# The kit that README names.
+kit_wanted() { grep -som1 'rattle-kit-[0-9a-z]*' "$root/README.md"; }
+
+# Says of an empty file that standard output goes to that it is no result.
+tell_empty() {
+    if [ -f "/proc/$$/fd/1" ] && ! [ -s "/proc/$$/fd/1" ]; then
+        echo "${0##*/}: nothing was run, so $(readlink "/proc/$$/fd/1") is no result" >&2
     fi
 }
 
-# What a script that is no program says of itself: to --help its first comment, to --version the repository's and the
+# Builds a program, and becomes it, unless --help, -h or --version, alone, asks for something else.
+run_program() {
+    name=$1
+    shift
+    answer_help "$root/man/$name.1" "$@"
+    local crate
+    crate=$(crate_of "$name")
+    build_program "$crate"
+    become "$name" "$root/crates/$crate/out/$crate" "$@"
+}
+
+tell_version() { echo "$name $(version), $(kit_version)"; }
+
+# The kit that is on the path.
+kit_version() { rt version 2>/dev/null || echo "no kit on the path"; }
+
+# What a script that is no program says of itself: to --help or -h its first comment, to --version the repository's and the
 # kit's.
 answer_words() {
     case $#:${1-} in
-    1:--help) sed -n '2,/^[^#]/s/^# \{0,1\}//p' "$0" ;;
-    1:--version) echo "futskheri $(version), $(rt version)" ;;
+    1:--help | 1:-h) sed -n '2,/^[^#]/s/^# \{0,1\}//p' "$0" ;;
+    1:--version) echo "futskheri $(version), $(kit_version)" ;;
     *) return ;;
     esac
     exit 0

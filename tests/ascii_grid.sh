@@ -19,6 +19,8 @@ expect 'a text becomes its file' 0 "$file" '' plainly split i16 <"$row"
 expect 'a file becomes its text' 0 "$row" '' plainly join <"$file"
 expect 'no words' 1 nothing 'usage: split TYPE, join' plainly <"$row"
 expect 'a type that there is not' 1 nothing 'usage: split TYPE, join' plainly split f4 <"$row"
+# shellcheck disable=SC2046
+expect 'forty words' 1 nothing 'usage: split TYPE, join' plainly $(seq 40) <"$row"
 expect 'a word too many' 1 nothing 'usage: split TYPE, join' plainly join i16 <"$file"
 printf 'ncols 1\nnrows 1\nxllcenter 0\nyllcenter 0\ncellsize 1\n300\n' >wide
 expect 'a number out of range' 2 nothing 'refused: OutOfRange at 51' plainly split u8 <wide
@@ -27,6 +29,41 @@ expect 'a file cut off' 2 nothing 'refused: Truncated at 20' plainly join <cut
 expect 'a closed input' 3 nothing 'source failed' input_closed join
 expect 'a closed output' 4 nothing 'output failed' output_closed join <"$file"
 expect 'a full output' 4 nothing 'output failed' output_full split i16 <"$row"
+
+# A text as two files, by examples/ascii2lgr.
+mkdir programs
+ln -s "$program" programs/ascii_grid
+two_files() { FUTSKHERI_BIN=$room/programs "$here/examples/ascii2lgr" "$@" >out 2>err; }
+two_files i16 place grid <"$row"
+if [ $? -eq 0 ] && cat place grid | cmp -s - "$file"; then holds=yes; else holds=no; fi
+count 'two files, which are those bytes together' "$holds"
+if [ "$(head -c 4 grid)" = LGR1 ] && [ ! -e grid.both ]; then holds=yes; else holds=no; fi
+count 'of which the second is a grid, and no third is left' "$holds"
+two_files u8 no_place no_grid <wide
+if [ $? -eq 2 ] && [ ! -e no_place ] && [ ! -e no_grid ] && [ ! -e no_grid.both ]; then holds=yes; else holds=no; fi
+count 'none of a text that is refused' "$holds"
+rm place
+
+# Large cases, each of which is to end well: a text of more than 65,535 rows, and one of as many columns.
+then_joined() { "$program" "$@" 2>err | "$program" join >out; }
+head_of() { printf 'ncols %s\nnrows %s\nxllcorner 0\nyllcorner 0\ncellsize 1\nNODATA_value -9999\n' "$1" "$2"; }
+{ head_of 1 70000; seq 70000; } >tall
+{ head_of 70000 1; seq -s ' ' 70000; } >wide_row
+for text in tall wide_row; do
+    expect "large: $text comes back" 0 "$text" '' then_joined split i32 <"$text"
+    "$program" split i32 <"$text" >split_text 2>err
+    if [ "$(wc -c <split_text)" -eq 350036 ]; then holds=yes; else holds=no; fi
+    count "large: $text has 70,000 values" "$holds"
+done
+
+# A text of blanks alone: of 2^30, and of one more, which is too long.
+of_blanks() {
+    blanks_=$1
+    shift
+    zeros "$blanks_" | tr '\0' ' ' | "$program" "$@" >out 2>err
+}
+expect '2^30 blanks' 2 nothing 'refused: Truncated at 1073741824' of_blanks 1073741824 split i16
+expect '2^30 blanks and one more' 2 nothing 'refused: TooLong at 1073741824' of_blanks 1073741825 split i16
 
 # From a GeoTIFF to a blob and back.
 if ! command -v gdal_translate >/dev/null; then

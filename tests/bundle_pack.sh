@@ -92,6 +92,9 @@ begins_as none none
 gives 'eight sources' 0 'packed 2 131282' '' plainly disk bundle_3 bundle_1 bundle_1 bundle_1 bundle_1 bundle_1 bundle_1 bundle_1
 target_is 'the two tiles' packed_3_1
 begins_as none none
+gives 'eight sources, of which the last has the tile' 0 'packed 2 131282' '' plainly disk bundle_1 bundle_1 bundle_1 bundle_1 bundle_1 bundle_1 bundle_1 bundle_3
+target_is 'and the last is packed' packed_3_1
+begins_as none none
 gives 'sources that are not there' 0 'packed 0 131136' '' plainly disk nowhere nowhere_else
 target_is 'a bundle of no tiles' bundle_0
 if [ -e nowhere ] || [ -e nowhere.jnl ]; then holds=no; else holds=yes; fi
@@ -109,9 +112,30 @@ target_is 'and its new tile packed' packed_2
 same 'the source stands as the recovery leaves it' source bundle_2
 rm -f source.jnl
 
+# ---- Large cases, each of which is to end well
+
+with_slack bundle_1 >source
+begins_as none none
+gives 'large: all slack that can be said' 0 'packed 1 131206' '' plainly disk source
+target_is 'large: the tile without slack' bundle_1
+digits 3000000 >far_tile
+{ header 3000000 0 3131140; index 64 131140 3000000; record far_tile; } >bundle_far
+begins_as none none
+gives 'large: a tile of more than 2^20 bytes' 0 'packed 1 3131140' '' plainly disk bundle_far
+target_is 'large: which stands whole' bundle_far
+all_tiles >stream
+rm -f source source.jnl
+"$codec" source build 3 0 2 <stream >made 2>err
+begins_as none none
+gives 'large: a tile in each slot' 0 'packed 16384 1278016' '' plainly disk source
+target_is 'large: each is there' source
+rm -f source source.jnl
+
 # ---- Refused
 
 begins_as none none
+# shellcheck disable=SC2046
+expect 'forty words' 1 nothing "$usage" plainly disk $(seq 40)
 expect 'no words' 1 nothing "$usage" plainly
 expect 'a target alone' 1 nothing "$usage" plainly disk
 expect 'nine sources' 1 nothing "$usage" plainly disk bundle_1 bundle_1 bundle_1 bundle_1 bundle_1 bundle_1 bundle_1 bundle_1 bundle_1
@@ -160,10 +184,8 @@ target_is 'whole' packed_2
 
 # A source that may only be read is packed, by another user than root.
 if [ "$(id -u)" -eq 0 ] && command -v setpriv >/dev/null 2>&1; then
-    built=$program
-    case $program in */bin/bundle_pack) built=$here/crates/bundle_pack_main/out/bundle_pack_main ;; esac
     mkdir shared
-    cp "$built" shared/program
+    cp "$(built_of bundle_pack_main)" shared/program
     cp bundle_2 shared/source
     chmod 755 "$room" shared/program
     chmod 444 shared/source
@@ -173,6 +195,19 @@ if [ "$(id -u)" -eq 0 ] && command -v setpriv >/dev/null 2>&1; then
     same 'is packed' shared/disk packed_2
 else
     echo 'skipped: there is no other user than this one'
+fi
+
+# No number of a closed stream can be held, so no bundle is opened.
+if make_closed_root "$(built_of bundle_pack_main)"; then
+    cp bundle_2 "$closed_root/source"
+    mkdir "$closed_root/free"
+    chmod 777 "$closed_root/free"
+    expect 'no folder opens' 5 nothing 'volume failed' in_closed_root free/disk source
+    if [ -e "$closed_root/free/disk" ]; then holds=no; else holds=yes; fi
+    count 'and no target is made' "$holds"
+    mkdir "$closed_root/tmp"
+    chmod 755 "$closed_root/tmp"
+    gives 'another folder than the root opens' 0 'packed 1 131212' '' in_closed_root free/disk source
 fi
 
 tell

@@ -1,5 +1,6 @@
 #!/bin/sh
-# Builds the example in C over libfutskheri.a and runs it. Where there is no C compiler it says so and passes.
+# Builds the examples in C over libfutskheri.a and runs them, and then the cases of tests/c_cases.c, whose last line is
+# 'N passed, M failed'. Where there is no C compiler it says so and passes.
 set -u
 here=$(cd "$(dirname "$0")/.." && pwd) || exit 1
 . "$here/tests/lib.sh"
@@ -9,12 +10,16 @@ if ! command -v cc >/dev/null 2>&1; then
 fi
 begin
 library=$("$here/bin/build_c") || exit 1
-cc -std=c99 -Wall -Wextra -Werror -I "$here/include" -o "$room/tile" "$here/examples/c/tile.c" "$library" || exit 1
-"$room/tile" >"$room/given" || exit 1
-if cmp -s "$room/given" "$here/examples/c/tile.stdout"; then
-    echo "c_example: passed"
-else
-    echo "c_example: FAILED; it gave" >&2
-    cat "$room/given" >&2
-    exit 1
-fi
+over() { cc -std=c99 -Wall -Wextra -Werror -I "$here/include" -o "$room/$1" "$2" "$library"; }
+for example in tile from_liblerc; do
+    over "$example" "$here/examples/c/$example.c" || exit 1
+    "$room/$example" >"$room/given" || exit 1
+    if ! cmp -s "$room/given" "$here/examples/c/$example.stdout"; then
+        echo "c_example: $example FAILED; it gave" >&2
+        cat "$room/given" >&2
+        exit 1
+    fi
+done
+echo "c_example: passed"
+over cases "$here/tests/c_cases.c" || exit 1
+"$room/cases"

@@ -7,8 +7,8 @@
 shared=$room/shared
 mkdir "$shared"
 chmod 755 "$room" "$shared"
-built=$program
-case $program in */bin/lerc_cli) "$program" >out 2>err; built=$here/crates/lerc_main/out/lerc_main ;; esac
+"$program" >out 2>err
+built=$(built_of lerc_main)
 cp "$built" "$shared/program"
 chmod 755 "$shared/program"
 
@@ -74,24 +74,10 @@ chmod 755 "$shared"
 # ---- No number can be held
 
 # Below a root that may not be listed, with nothing else that opens: no bundle is opened, so that no closed stream's
-# number goes to it. The program is one without shared libraries, or with those that it needs.
-closed_root=$room/closed_root
-if [ "$(id -u)" -eq 0 ] && command -v setpriv >/dev/null && command -v chroot >/dev/null; then
-    mkdir "$closed_root"
-    cp "$built" "$closed_root/program"
-    ldd "$built" 2>/dev/null | tr ' \t' '\n\n' | grep '^/' | while read -r library; do
-        mkdir -p "$closed_root$(dirname "$library")"
-        cp -L "$library" "$closed_root$library"
-    done
+# number goes to it.
+if make_closed_root "$built"; then
     cp bundle_2 "$closed_root/disk"
     chmod 666 "$closed_root/disk"
-    chmod 711 "$closed_root"
-    in_closed_root() {
-        chroot --userspec=65534:65534 --groups= "$closed_root" /program "$@" >out 2>err
-    }
-    in_closed_root_unheard() {
-        chroot --userspec=65534:65534 --groups= "$closed_root" /program "$@" >&- 2>err
-    }
     expect 'list: no folder opens' 5 nothing "$no_volume" in_closed_root disk list
     expect 'decode: no folder opens' 0 grid '' in_closed_root - decode <blob
     expect 'get: no folder opens, and the output is closed' 5 nothing "$no_volume" in_closed_root_unheard disk get 127 127 raw
@@ -100,8 +86,6 @@ if [ "$(id -u)" -eq 0 ] && command -v setpriv >/dev/null && command -v chroot >/
     mkdir "$closed_root/tmp"
     chmod 755 "$closed_root/tmp"
     expect 'list: another folder than the root opens' 0 list_2 '' in_closed_root disk list
-else
-    echo 'skipped: a root that may not be listed, which wants root, setpriv and chroot'
 fi
 
 # ---- Files longer than 4 GiB

@@ -43,8 +43,10 @@ done
 mkdir -p kept/bin
 : >kept/bin/lerc_cli
 : >kept/bin/other
-holds "bin/uninstall takes away what is there of an install" "$here/bin/uninstall" "$room/kept"
+holds "bin/uninstall takes away what is there of an install, and says how much that was" \
+    sh -c '"$1/bin/uninstall" "$2/kept" | grep -qx "taken away from $2/kept: 1 files"' sh "$here" "$room"
 holds "and leaves the rest" sh -c '[ -e kept/bin/other ] && [ ! -e kept/bin/lerc_cli ]'
+holds "bin/uninstall of a folder that is none says so" sh -c '! "$1/bin/uninstall" "$2/nowhere" 2>line && grep -q "nowhere is no folder" line' sh "$here" "$room"
 
 prefix=$room/place
 holds "everything is installed" "$here/bin/install" "$prefix"
@@ -58,13 +60,38 @@ names_files() {
 }
 holds "it ends with the path of each file that it put there" names_files
 for file in bin/lerc_cli share/man/man1/lerc_cli.1 lib/libfutskheri.a lib/libfutskheri.so include/futskheri.h \
-    lib/pkgconfig/futskheri.pc lib/cmake/futskheri/futskheri-config.cmake; do
+    lib/pkgconfig/futskheri.pc lib/cmake/futskheri/futskheri-config.cmake libexec/futskheri/lerc_cli libexec/futskheri/front.sh \
+    share/bash-completion/completions/lerc_cli; do
     echo "$prefix/$file"
 done >some
-holds "programs first, then manual pages, libraries, the header, and what pkg-config and CMake ask for" \
+holds "what is called first, then manual pages, libraries, the header, what pkg-config and CMake ask for, programs and completions" \
     sh -c 'grep -Fx -f some paths | cmp - some'
 
 holds "the program is there" sh -c '"$1/bin/lerc_cli" - encode 4 0 <"$2/docs/hill.lgr1" | "$1/bin/lerc_cli" - decode | cmp - "$2/docs/hill.lgr1"' sh "$prefix" "$here"
+
+# What stands in front of the programs (tests/front.sh has more, over stand-ins).
+kit=$("$here/bin/install" --version | sed 's/^[^,]*, //')
+for called in lerc_cli ascii_grid bundle_pack level_cache overview_tiles; do
+    for word in --help -h; do
+        holds "$called $word shows its manual page" sh -c '"$1" "$2" | grep -qi "$3"' sh "$prefix/bin/$called" "$word" "$called"
+    done
+    holds "$called --version tells version and kit" test "$("$prefix/bin/$called" --version)" = "$called $(cat "$here/VERSION"), $kit"
+    holds "$called itself is beside them" test -x "$prefix/libexec/futskheri/$called"
+    holds "$called has completions" bash -c '. "$1/share/bash-completion/completions/$2" && complete -p "$2"' bash "$prefix" "$called"
+done
+refuses_none() {
+    "$@" >told 2>line </dev/null
+    [ $? -eq 1 ] && [ ! -s told ]
+}
+holds "no words: the program's line alone where nobody looks on" refuses_none "$prefix/bin/lerc_cli"
+holds "which is its usage" sh -c '[ "$(wc -l <line)" -eq 1 ] && grep -q "^usage: " line'
+holds "a word that is no command, where somebody does" refuses_none env FUTSKHERI_PROGRESS=1 "$prefix/bin/lerc_cli" - xdecode
+holds "is named behind the usage, with the manual page" \
+    sh -c 'head -n 1 line | grep -q "^usage: " && sed 1d line | grep -qx "lerc_cli: xdecode is no command; its manual page, lerc_cli(1), is shown by $1/bin/lerc_cli --help"' sh "$prefix"
+if has flock; then
+    holds "a lock is taken where it is asked for" \
+        sh -c 'FUTSKHERI_LOCK=1 "$1/bin/lerc_cli" locked list && [ -e locked.lock ] && [ ! -e locked ]' sh "$prefix"
+fi
 
 compile() { cc -std=c99 -Wall -Wextra -Werror -o "$1" "$here/examples/c/tile.c" $2; }
 if has pkg-config; then

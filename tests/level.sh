@@ -1,5 +1,6 @@
 #!/bin/sh
-# Tests examples/level: a GeoTIFF to levels of bundles that GDAL's driver ESRIC opens, and back, by several tasks, some of
+# Tests examples/level: a GeoTIFF to levels of bundles that GDAL's driver ESRIC opens, and back, with errors, with several
+# bands, in metres, feet and degrees, and as GUIDE.md does it with floats; by several tasks, some of
 # them killed and run again; and the same tasks on a cluster of Dask's. It takes the programs of bin/, or of the folder
 # that it is given. Skipped with a word where what it needs is not there. Its last line is 'N passed, M failed'.
 set -u

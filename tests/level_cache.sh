@@ -1,13 +1,14 @@
 #!/bin/sh
 # Runs the program for one level of many bundles through bin/level_cache, or the program that it is given, and compares
 # what it ends with, what it gives to standard output and to standard error, and the files of the folder; and has GDAL's
-# driver for such caches read a level of four bundles, where it is here. It needs sh, the core utilities, od and cmp. Its
-# last line is 'N passed, M failed'.
+# driver for such caches read a level of four bundles, where it is here. The blob of a large grid is made by bin/lerc_cli or
+# the second program. It needs sh, the core utilities, od and cmp. Its last line is 'N passed, M failed'.
 set -u
 
 here=$(cd "$(dirname "$0")/.." && pwd) || exit 1
 . "$here/tests/lib.sh"
 program=$(readlink -f "${1:-$here/bin/level_cache}")
+codec=$(readlink -f "${2:-$here/bin/lerc_cli}")
 begin
 
 # A blob, and the grid of which it is.
@@ -101,6 +102,65 @@ cp stopped/R0000C0000.bundle.jnl journal
 expect 'the tile of a put that was stopped is given' 0 "$blob" '' plainly stopped get 1 127 raw
 if cmp -s after stopped/R0000C0000.bundle && cmp -s journal stopped/R0000C0000.bundle.jnl; then holds=yes; else holds=no; fi
 count 'and its bundle is whole' "$holds"
+
+# ---- Large cases, each of which is to end well
+
+# The last place of a level.
+echo 'put 2147483647 2147483647 66' >put_last
+expect 'large: the last place' 0 put_last '' plainly level put 3 0 2147483647 2147483647 <"$grid"
+expect 'large: the tile of the last place' 0 "$blob" '' plainly level get 2147483647 2147483647 raw
+if [ -e level/R7fffff80C7fffff80.bundle ]; then holds=yes; else holds=no; fi
+count 'large: and its bundle' "$holds"
+
+# Sixteen bands of one pixel.
+{ printf 'LGR2'; head -c 17 "$grid" | tail -c 13; numbers 4 16; } >sixteen_bands
+: >sixteen_blobs
+k=0
+while [ "$k" -lt 16 ]; do
+    tail -c 2 "$grid" >>sixteen_bands
+    cat "$blob" >>sixteen_blobs
+    k=$((k + 1))
+done
+echo 'put 128 126 1056' >put_sixteen
+expect 'large: 16 bands' 0 put_sixteen '' plainly level put 3 0 128 126 <sixteen_bands
+expect 'large: the tile of 16 bands' 0 sixteen_blobs '' plainly level get 128 126 raw
+
+# A tile of more than 2^20 bytes.
+{ printf 'LGR1'; numbers 1 5; numbers 4 1 1000000 1; ones 1000000; digits 4000000; } >long_grid
+"$codec" - encode 3 0 <long_grid >long_blob 2>err
+size=$(wc -c <long_blob)
+if [ "$size" -gt 1048576 ]; then holds=yes; else holds=no; fi
+count 'large: a blob of more than 2^20 bytes' "$holds"
+echo "put 300 5 $size" >put_long
+expect 'large: a tile of more than 2^20 bytes' 0 put_long '' plainly level put 3 0 300 5 <long_grid
+expect 'large: which stands whole' 0 long_blob '' plainly level get 300 5 raw
+
+# A bundle with all slack that can be said.
+mkdir slack
+with_slack kept/R0080C0000.bundle >slack/R0080C0000.bundle
+expect 'large: a tile beside all slack that can be said' 0 "$blob" '' plainly slack get 128 127 raw
+expect 'large: another one is put' 0 put_128 '' plainly slack put 3 0 128 127 <"$grid"
+expect 'large: and is given' 0 "$blob" '' plainly slack get 128 127 raw
+
+# A folder's path of 405 bytes, and forty words.
+# shellcheck disable=SC2046
+far_level=$(printf './%.0s' $(seq 200))level
+expect 'large: a path of 405 bytes' 0 "$blob" '' plainly "$far_level" get 128 127 raw
+# shellcheck disable=SC2046
+expect 'forty words' 1 nothing "$usage" plainly level $(seq 40)
+
+# ---- No number can be held
+
+# Where no number of a closed stream can be held no bundle is opened, and each take from the shelf fails.
+if make_closed_root "$(built_of level_cache_main)"; then
+    cp -r kept "$closed_root/level"
+    chmod 755 "$closed_root/level"
+    expect 'no folder opens' 8 nothing 'shelf failed' in_closed_root level get 128 127 raw
+    expect 'no folder opens, and a name needs none' 0 first '' in_closed_root level name 0 0
+    mkdir "$closed_root/tmp"
+    chmod 755 "$closed_root/tmp"
+    expect 'another folder than the root opens' 0 "$blob" '' in_closed_root level get 128 127 raw
+fi
 
 # ---- A level of four bundles, read by GDAL
 

@@ -17,8 +17,10 @@
 
 # ---- From the beginning to the end
 
-# Makes the folder, which is gone at the end, and enters it. No case was counted yet.
+# Makes the folder, which is gone at the end, and enters it. No case was counted yet. Nothing is asked of the scripts in
+# front of the programs.
 begin() {
+    unset FUTSKHERI_LOCK FUTSKHERI_PROGRESS
     room=$(mktemp -d) || exit 1
     trap 'rm -rf "$room"' EXIT
     cd "$room" || exit 1
@@ -42,9 +44,9 @@ has_gdal() {
     gdalinfo --formats | grep -q ESRIC || { echo 'skipped: this GDAL has no driver ESRIC'; return 1; }
 }
 
-# A Python that has numpy; nothing where there is none.
+# A Python that has numpy, the one that $PYTHON names where it has; nothing where there is none.
 python_with_numpy() {
-    for python in python3 /usr/bin/python3; do
+    for python in ${PYTHON:+"$PYTHON"} python3 /usr/bin/python3; do
         if "$python" -c 'import numpy' >/dev/null 2>&1; then
             echo "$python"
             return
@@ -160,6 +162,36 @@ through_a_link() {
 # No file of it grows past 136,192 bytes; a write behind that fails.
 files_are_short() { (trap '' XFSZ && ulimit -f 266 && exec "$program" "$@") >out 2>err; }
 
+# ---- A root below which nothing opens
+
+# The program as it was built of its crate, where `program` is the script that builds it.
+built_of() {
+    case $program in
+    */bin/*) echo "$here/crates/$1/out/$1" ;;
+    *) echo "$program" ;;
+    esac
+}
+
+# Makes the folder `closed_root`, which may not be listed, with this program and the shared libraries that it needs, if any;
+# whether there can be one here. A program in it can hold the numbers of no closed streams.
+make_closed_root() {
+    if [ "$(id -u)" -ne 0 ] || ! command -v chroot >/dev/null; then
+        echo 'skipped: a root that may not be listed, which wants root and chroot'
+        return 1
+    fi
+    closed_root=$room/closed_root
+    mkdir "$closed_root"
+    cp "$1" "$closed_root/program"
+    ldd "$1" 2>/dev/null | tr ' \t' '\n\n' | grep '^/' | while read -r library; do
+        mkdir -p "$closed_root$(dirname "$library")"
+        cp -L "$library" "$closed_root$library"
+    done
+    chmod 711 "$closed_root"
+}
+
+in_closed_root() { chroot --userspec=65534:65534 --groups= "$closed_root" /program "$@" >out 2>err; }
+in_closed_root_unheard() { chroot --userspec=65534:65534 --groups= "$closed_root" /program "$@" >&- 2>err; }
+
 # ---- Making files
 
 # Writes bytes that are given in hexadecimal.
@@ -187,6 +219,25 @@ numbers() {
 }
 
 zeros() { head -c "$1" /dev/zero; }
+ones() { zeros "$1" | tr '\0' '\1'; }
+
+# Writes so many bytes of decimal digits, of which any four in turn are another number than the four behind them.
+digits() { seq 10000000 $((10000000 + $1 / 8)) | tr -d '\n' | head -c "$1"; }
+
+# Writes so many bytes at random, which the first number determines: it is multiplied by 16,807, modulo 2^31 - 1, for each.
+noise() {
+    awk -v x="$1" -v left="$2" 'BEGIN {
+        while (left > 0) {
+            line = ""
+            for (k = 0; k < 256 && left > 0; k++) {
+                x = x * 16807 % 2147483647
+                line = line sprintf("\\0%o", int(x / 8388608))
+                left--
+            }
+            print line
+        }
+    }' | while read -r line; do printf '%b' "$line"; done
+}
 
 # ---- Making bundles
 
@@ -204,6 +255,9 @@ index() {
     numbers 3 "$3"
     zeros $((131136 - 8 - $1))
 }
+
+# A bundle as this one, with as much slack as can be said: 2^64 - 1 bytes.
+with_slack() { head -c 16 "$1"; bytes ff ff ff ff ff ff ff ff; tail -c +25 "$1"; }
 
 # A record of this file.
 record() {
@@ -261,6 +315,19 @@ sixteen_tiles() {
         cat big_head big_marks "big_values_$t" >"big_grid_$t"
         tile $((t / 4)) $((t % 4)) "big_grid_$t"
     done >big_stream
+}
+
+# A stream of a tile of one pixel for each slot, in their order: 16,384 tiles.
+all_tiles() {
+    awk 'BEGIN {
+        for (row = 0; row < 128; row++) {
+            line = ""
+            for (col = 0; col < 128; col++) {
+                line = line sprintf("T\\0%o\\0%oLGR1\\01\\01\\0\\0\\0\\01\\0\\0\\0\\01\\0\\0\\0\\01\\0%o", row, col, (128 * row + col) % 256)
+            }
+            print line
+        }
+    }' | while read -r line; do printf '%b' "$line"; done
 }
 
 # A stream of this many tiles of one pixel, in the order of the slots, and the lines of its updates and of its

@@ -342,6 +342,83 @@ for workers in 1 2 7 64; do
 done
 from_stands 'the sixteen are as they were'
 
+# ---- Large cases, each of which is to end well
+
+# Sixteen bands of one pixel.
+{ printf 'LGR2'; head -c 17 seven | tail -c 13; numbers 4 16; } >sixteen_bands
+k=0
+while [ "$k" -lt 16 ]; do
+    tail -c 2 seven >>sixteen_bands
+    k=$((k + 1))
+done
+tile 0 0 sixteen_bands >stream
+from_is stream
+begins_as none none
+puts_are 0 0 1056
+expect 'large: 16 bands' 0 wanted '' plainly from disk overview 0 3 0 1
+is_put 'large: each has its mean' stream 3
+
+# A row of a million numbers, any two neighbours alike, whose blob has more than 2^20 bytes; its half has each number once.
+quads() {
+    k=0
+    while [ "$k" -lt 56 ]; do
+        seq 1000 9999
+        k=$((k + 1))
+    done | head -n 500000
+}
+long_head() { printf 'LGR1'; numbers 1 5; numbers 4 1 1000000 1; }
+{ long_head; ones 1000000; quads | sed 's/.*/&&/' | tr -d '\n'; } >long_grid
+{ long_head; ones 500000; zeros 500000; quads | tr -d '\n'; } >long_half
+tile 0 0 long_grid >stream
+from_is stream
+if [ "$(wc -c <from)" -gt $((131140 + 1048576)) ]; then holds=yes; else holds=no; fi
+count 'large: a tile of more than 2^20 bytes' "$holds"
+"$codec" - encode 3 0 <long_half >blob
+begins_as none none
+puts_are 0 0 "$(wc -c <blob)"
+expect 'large: its half' 0 wanted '' plainly from disk overview 0 3 0 1
+tile 0 0 long_half >halves
+is_put 'large: has each number once' halves 3
+
+# A bundle with all slack that can be said.
+tile 0 0 seven >stream
+from_is stream
+with_slack from >slack
+rm -f slack.jnl
+begins_as none none
+puts_are 0 0 66
+expect 'large: all slack that can be said' 0 wanted '' plainly slack disk overview 0 3 0 1
+is_put 'large: is nothing to the half' stream 3
+# shellcheck disable=SC2046
+expect 'forty words' 1 nothing "$usage" plainly from disk $(seq 40)
+
+# A tile in each slot: all coarse tiles that there may be, up to 1,024 of them encoded at once.
+all_tiles >stream
+rm -f from from.jnl
+"$codec" from build 3 0 2 <stream >made 2>err
+awk 'BEGIN { for (k = 0; k < 4096; k++) print "put", int(k / 64), k % 64, 66 }' >wanted
+for workers in 1 64; do
+    begins_as none none
+    expect "large: a tile in each slot, $workers workers" 0 wanted '' plainly from disk overview 0 3 0 "$workers"
+done
+
+# ---- No number can be held
+
+# Where no number of a closed stream can be held no bundle is opened.
+if make_closed_root "$(built_of overview_tiles_main)"; then
+    tile 0 0 seven >stream
+    from_is stream
+    cp from "$closed_root/from"
+    mkdir "$closed_root/free"
+    chmod 777 "$closed_root/free"
+    expect 'no folder opens' 5 nothing "$no_volume" in_closed_root from free/disk overview 0 3 0 1
+    if [ -e "$closed_root/free/disk" ]; then count 'and no bundle is made' no; else count 'and no bundle is made' yes; fi
+    mkdir "$closed_root/tmp"
+    chmod 755 "$closed_root/tmp"
+    puts_are 0 0 66
+    expect 'another folder than the root opens' 0 wanted '' in_closed_root from free/disk overview 0 3 0 1
+fi
+
 # ---- Killed
 
 # Tiles of one pixel in the first 32 rows of slots: a thousand and twenty-four coarse tiles.

@@ -14,6 +14,7 @@ begin
 . "$here/tests/bundles.sh"
 . "$here/tests/puts.sh"
 . "$here/tests/builds.sh"
+. "$here/tests/large.sh"
 . "$here/tests/samples.sh"
 . "$here/tests/edges.sh"
 . "$here/tests/gdal.sh"
