@@ -2,8 +2,8 @@
 # progress. Nothing of it is proved. The program takes the place of the script by `exec`, so its number, its status and
 # its signals are its own. Locks and progress want Linux' /proc, locks the command flock of util-linux, too.
 
-# Whether somebody looks on: standard error is a terminal, or FUTSKHERI_PROGRESS is 1.
-is_watched() { [ -t 2 ] || [ "${FUTSKHERI_PROGRESS-}" = 1 ]; }
+# Whether somebody looks on: FUTSKHERI_PROGRESS is 1, or standard error is a terminal and it is not 0.
+is_watched() { [ "${FUTSKHERI_PROGRESS-}" = 1 ] || { [ -t 2 ] && [ "${FUTSKHERI_PROGRESS-}" != 0 ]; }; }
 
 # Answers --help, -h and --version, alone: by a manual page, and by the function `tell_version` of the script that takes
 # these. Else it does nothing.
