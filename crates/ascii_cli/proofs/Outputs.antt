@@ -5,7 +5,7 @@ use Rattle.outside_io.specs.streams.Faults.{CountsFaults, FailedBetween, IsCause
 use Rattle.outside_io.specs.streams.Sink.{Holds, HoldsPrefix}
 use Rattle.outside_io.proofs.StreamLemmas.Gives.{Holds_none}
 use Rattle.first_fault.specs.Faults.{Faults}
-use Rattle.raster_values.specs.declared.kind.PixelType.{PixelType}
+use Rattle.raster_cells.specs.declared.kind.PixelType.{PixelType}
 use Rattle.program_ends.specs.Moves.{Change, SinkMove, SourceMove, sink_move}
 use Rattle.program_ends.specs.Stop.{Gained}
 use Rattle.program_ends.specs.declared.stop.Stop.{Stop}

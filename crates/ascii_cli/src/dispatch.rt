@@ -6,7 +6,7 @@ ghost use Rattle.outside_io.specs.streams.Faults.{IsCause};
 ghost use Rattle.outside_io.specs.streams.Sink.{Holds};
 ghost use Rattle.program_ends.specs.Moves.{sink_move, source_move};
 ghost use Rattle.program_ends.specs.declared.stop.Stop.{Stop};
-ghost use Rattle.raster_values.specs.declared.kind.PixelType.{PixelType};
+ghost use Rattle.raster_cells.specs.declared.kind.PixelType.{PixelType};
 ghost use Rattle.ascii_grid.specs.declared.grid.AsciiGrid.{AsciiGrid};
 ghost use Rattle.ascii_grid.specs.Canon.{canon};
 ghost use Rattle.ascii_grid.specs.Lga.{IsLga, lga_faults, lga_of};

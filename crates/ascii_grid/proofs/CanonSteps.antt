@@ -6,9 +6,9 @@ use Rattle.std.proofs.lemmas.List.{length-append}
 use Rattle.std.proofs.lemmas.List.Elements.{All-from_get_or, All-head, All-tail}
 use Rattle.std.proofs.Math.Nat.{le-mul_of_pos_right, le_trans, mul_comm}
 use Rattle.std.specs.Fmt.{signed_decimal}
-use Rattle.raster_values.specs.declared.kind.PixelType.{PixelType}
-use Rattle.raster_values.specs.declared.kind.PixelType.TheVariants.{I8, U8, I16, U16, I32, U32}
-use Rattle.raster_values.specs.PixelType.{InRange}
+use Rattle.raster_cells.specs.declared.kind.PixelType.{PixelType}
+use Rattle.raster_cells.specs.declared.kind.PixelType.TheVariants.{I8, U8, I16, U16, I32, U32}
+use Rattle.raster_cells.specs.PixelType.{InRange}
 use Rattle.raster_values.specs.Raster.{IsPixel, IsRaster}
 use Rattle.outside_io.specs.program.Word.{IsDigit}
 use Rattle.ascii_grid.specs.declared.words.Key.{Key}

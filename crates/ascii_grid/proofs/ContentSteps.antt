@@ -8,11 +8,12 @@ use Rattle.std.proofs.lemmas.List.Elements.{All-append, All-cons, All-head, All-
 use Rattle.std.proofs.lemmas.List.Sums.{count_by_more_no, count_by_more_yes}
 use Rattle.first_fault.specs.Faults.{ends, in_order, moved}
 use Rattle.outside_io.specs.streams.Source.{IsAtEnd}
-use Rattle.raster_values.specs.declared.reading.GridStop.{GridStop}
-use Rattle.raster_values.specs.declared.reading.GridStop.TheVariants.{Fault as GridFaultOf, Source as GridSource, OutOfMemory as GridMemory}
-use Rattle.raster_values.specs.PixelType.{bytes_of}
+use Rattle.raster_grids.specs.declared.reading.GridStop.{GridStop}
+use Rattle.raster_grids.specs.declared.reading.GridStop.TheVariants.{Fault as GridFaultOf, Source as GridSource, OutOfMemory as GridMemory}
+use Rattle.raster_cells.specs.PixelType.{bytes_of}
 use Rattle.raster_values.specs.Raster.{Pixels, pixel_at, valid_at, value_at}
-use Rattle.raster_values.specs.ReadGrid.{IsGrid, IsToldFault, TookBytes, TookGrid, grid_faults}
+use Rattle.raster_grids.specs.ReadGrid.{IsGrid, IsToldFault, TookGrid, grid_faults}
+use Rattle.raster_grids.specs.Taken.{TookBytes}
 use Rattle.ascii_grid.specs.declared.fault.AsciiFault.{AsciiFault}
 use Rattle.ascii_grid.specs.declared.fault.AsciiReason.TheVariants.{Collision, DepthNot1, Leftover}
 use Rattle.ascii_grid.specs.declared.fault.AsciiStop.{AsciiStop}

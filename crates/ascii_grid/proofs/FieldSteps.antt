@@ -7,7 +7,7 @@ use Rattle.std.proofs.lemmas.Int.{ints}
 use Rattle.byteorder.specs.Endian.{little_number, twos_complement}
 use Rattle.first_fault.specs.Faults.{Faults, ends, in_order, moved, none, unless, wrong}
 use Rattle.outside_io.specs.streams.Source.{IsAtEnd, TakesFront}
-use Rattle.raster_values.specs.ReadGrid.{TookBytes}
+use Rattle.raster_grids.specs.Taken.{TookBytes}
 use Rattle.ascii_grid.specs.declared.fault.AsciiFault.{AsciiFault}
 use Rattle.ascii_grid.specs.declared.fault.AsciiReason.{AsciiReason}
 use Rattle.ascii_grid.specs.declared.fault.AsciiReason.TheVariants.{BadFlags, BadMagic, BadNumber, BadText, Leftover, Truncated}

@@ -11,11 +11,11 @@ use Rattle.first_fault.specs.Faults.{Faults, ends, in_order, none, unless, wrong
 use Rattle.first_fault.specs.Parts.{AreBytes, HasFault, IsEmpty, IsSingle}
 use Rattle.first_fault.proofs.Parts.{empty-ends, empty-in_order, passed, same_rest, single-choice, single-ends, single-in_order, single-none, single-unless, single-wrong}
 use Rattle.first_fault.proofs.Decided.{Joined, decided_in_order, decided_unless}
-use Rattle.raster_values.specs.PixelType.{bytes_of, complement_of}
+use Rattle.raster_cells.specs.PixelType.{bytes_of, complement_of}
 use Rattle.raster_values.specs.Raster.{IsRaster, Pixels}
-use Rattle.raster_values.specs.Grid.{grid_of}
-use Rattle.raster_values.specs.ReadGrid.{IsGrid}
-use Rattle.raster_values.proofs.GridLaws.{grids_are_parts, written_grid}
+use Rattle.raster_grids.specs.Grid.{grid_of}
+use Rattle.raster_grids.specs.ReadGrid.{IsGrid}
+use Rattle.raster_grids.proofs.GridLaws.{grids_are_parts, written_grid}
 use Rattle.ascii_grid.specs.declared.fault.AsciiReason.{AsciiReason}
 use Rattle.ascii_grid.specs.declared.fault.AsciiReason.TheVariants.{Collision, DepthNot1, Leftover}
 use Rattle.ascii_grid.specs.declared.grid.AsciiGrid.{AsciiGrid}

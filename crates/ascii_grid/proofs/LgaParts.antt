@@ -6,11 +6,11 @@ use Rattle.first_fault.specs.Faults.{Faults, none, unless, wrong}
 use Rattle.first_fault.specs.Parts.{AreBytes, HasFault, InFront, IsDecided, IsPart, IsSingle}
 use Rattle.first_fault.proofs.Parts.{passed, same_rest, single-none, single-unless}
 use Rattle.first_fault.proofs.Decided.{decided_unless}
-use Rattle.raster_values.specs.declared.reading.GridReason.{GridReason}
+use Rattle.raster_grids.specs.declared.reading.GridReason.{GridReason}
 use Rattle.raster_values.specs.Raster.{Pixels}
-use Rattle.raster_values.specs.ReadGrid.{IsGrid, grid_faults}
-use Rattle.raster_values.proofs.GridDecided.{grids_are_decided}
-use Rattle.raster_values.proofs.GridLaws.{grids_are_parts}
+use Rattle.raster_grids.specs.ReadGrid.{IsGrid, grid_faults}
+use Rattle.raster_grids.proofs.GridDecided.{grids_are_decided}
+use Rattle.raster_grids.proofs.GridLaws.{grids_are_parts}
 use Rattle.raster_values.proofs.OneGrid.{split_front}
 use Rattle.ascii_grid.specs.declared.fault.AsciiReason.{AsciiReason}
 use Rattle.ascii_grid.specs.declared.fault.AsciiReason.TheVariants.{BadFlags, BadMagic, BadNumber, BadText, Grid, Truncated}

@@ -4,7 +4,7 @@ use Rattle.std.proofs.lemmas.List.{append-nil, take_all}
 use Rattle.first_fault.specs.Faults.{Faults, none, unless, wrong}
 use Rattle.first_fault.specs.Parts.{IsSingle}
 use Rattle.first_fault.proofs.Parts.{single-choice, single-none, single-unless, single-wrong}
-use Rattle.raster_values.specs.declared.kind.PixelType.{PixelType}
+use Rattle.raster_cells.specs.declared.kind.PixelType.{PixelType}
 use Rattle.ascii_grid.specs.declared.words.Key.{Key}
 use Rattle.ascii_grid.specs.declared.words.Key.TheVariants.{Cols, Rows, XCorner, XCenter, YCorner, YCenter, Cell, Nodata}
 use Rattle.ascii_grid.specs.declared.fault.AsciiReason.{AsciiReason}

@@ -2,7 +2,7 @@
 use Rattle.std.specs.Prelude.{◌≡◌, ◌⊎◌, ℕ, List}
 use Rattle.raster_values.specs.Raster.{IsRaster}
 use Rattle.ascii_grid.specs.declared.grid.AsciiGrid.{AsciiGrid}
-use Rattle.raster_values.specs.declared.kind.PixelType.{PixelType}
+use Rattle.raster_cells.specs.declared.kind.PixelType.{PixelType}
 use Rattle.ascii_grid.specs.Tokens.{AreTokens, Spot}
 use Rattle.first_fault.specs.Parts.{AreBytes, HasFault, IsSingle}
 use Rattle.ascii_grid.specs.declared.fault.AsciiReason.{AsciiReason}

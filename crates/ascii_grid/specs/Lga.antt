@@ -4,11 +4,11 @@ use Rattle.std.specs.Prelude.{◌≡◌, ◌⊎◌, ℕ, ℤ, pos, suc, ◌+◌,
 use Rattle.std.specs.List.{count_by}
 use Rattle.byteorder.specs.Endian.{little_bytes, little_number, twos_complement}
 use Rattle.first_fault.specs.Faults.{Faults, ends, in_order, none, unless, wrong}
-use Rattle.raster_values.specs.declared.reading.GridReason.{GridReason}
-use Rattle.raster_values.specs.PixelType.{bytes_of, complement_of}
+use Rattle.raster_grids.specs.declared.reading.GridReason.{GridReason}
+use Rattle.raster_cells.specs.PixelType.{bytes_of, complement_of}
 use Rattle.raster_values.specs.Raster.{Pixels}
-use Rattle.raster_values.specs.Grid.{grid_of}
-use Rattle.raster_values.specs.ReadGrid.{IsGrid, grid_faults}
+use Rattle.raster_grids.specs.Grid.{grid_of}
+use Rattle.raster_grids.specs.ReadGrid.{IsGrid, grid_faults}
 use Rattle.ascii_grid.specs.declared.fault.AsciiReason.{AsciiReason}
 use Rattle.ascii_grid.specs.declared.fault.AsciiReason.TheVariants.{BadFlags, BadMagic, BadNumber, BadText, Collision, DepthNot1, Grid, Leftover, Truncated}
 use Rattle.ascii_grid.specs.declared.fault.AsciiStop.{AsciiStop}

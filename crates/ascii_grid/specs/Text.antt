@@ -1,8 +1,8 @@
 -- The text of an ASCII grid of whole numbers, and its first fault.
 use Rattle.std.specs.Prelude.{◌≡◌, ◌≢◌, ◌⊎◌, ◌↔◌, ℕ, ℤ, pos, negsuc, ◌*◌, ◌<◌, ◌≤◌, IsTrue, List, [], ◌∷◌, ◌++◌, length, map, Option, None, Some, Result, Ok, Err}
 use Rattle.first_fault.specs.Faults.{Faults, choice, none, unless, wrong}
-use Rattle.raster_values.specs.declared.kind.PixelType.{PixelType}
-use Rattle.raster_values.specs.PixelType.{InRange}
+use Rattle.raster_cells.specs.declared.kind.PixelType.{PixelType}
+use Rattle.raster_cells.specs.PixelType.{InRange}
 use Rattle.ascii_grid.specs.declared.fault.AsciiReason.{AsciiReason}
 use Rattle.ascii_grid.specs.declared.fault.AsciiReason.TheVariants.{BadNumber, Leftover, OutOfRange}
 use Rattle.ascii_grid.specs.declared.words.Key.TheVariants.{XCenter, YCenter}

@@ -1,7 +1,7 @@
 ghost use Rattle.std.specs.Prelude.{◌≡◌};
 
 use outside_io::Failed;
-use raster_values::GridReason;
+use raster_grids::GridReason;
 
 /// Why bytes are no ASCII grid, or no `LGA1`.
 #[derive(Clone, Copy, Debug, PartialEq, Eq)]

@@ -1,5 +1,5 @@
 ghost use Rattle.std.specs.Prelude.{◌≡◌, ◌*◌, ◌<◌, ◌≤◌, ◌∷◌, ◌++◌, ℕ, ℤ, List, [], length, MatchBool, OnOk, All};
-ghost use Rattle.raster_values.specs.PixelType.{InRange};
+ghost use Rattle.raster_cells.specs.PixelType.{InRange};
 ghost use Rattle.raster_values.specs.Raster.{blank};
 ghost use Rattle.ascii_grid.specs.Tokens.{Spot};
 ghost use Rattle.ascii_grid.specs.Canon.{IsApart};

@@ -1,7 +1,7 @@
 //! Blobs of rasters whose pixels are all alike, laid without the raster.
 
 ghost use Rattle.std.specs.Prelude.{IsTrue, IfSome};
-ghost use Rattle.raster_values.specs.PixelType.{InRange};
+ghost use Rattle.raster_cells.specs.PixelType.{InRange};
 
 use crate::encoding::{blob_of, tell_laid};
 use crate::fixtures::{kind_at, version_at};

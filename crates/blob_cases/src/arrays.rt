@@ -1,8 +1,8 @@
 //! A raster in the arrays of a row: as one with arrays of its own, and read where it lies.
 
 ghost use Rattle.std.specs.Prelude.{◌≡◌, ◌≤◌, ◌*◌, length};
-ghost use Rattle.raster_values.specs.PixelType.{bytes_of};
-ghost use Rattle.raster_values.specs.Raster.{IsShape};
+ghost use Rattle.raster_cells.specs.PixelType.{bytes_of};
+ghost use Rattle.raster_cells.specs.Shapes.{IsShape};
 
 use crate::fixtures::kind_at;
 use case_rows::{CaseStop, Row};

@@ -3,10 +3,10 @@
 use case_rows::{CaseStop, Row, Told};
 use lerc_header::{BlobFault, Version};
 use outside_io::{Bytes, MemSink, MemSource, take_all};
-use raster_values::{
-    Bands, GridStop, PixelType, Raster, bands_read, bands_size, bands_write, grid_read, grid_size,
-    grid_write,
+use raster_grids::{
+    GridStop, bands_read, bands_size, bands_write, grid_read, grid_size, grid_write,
 };
+use raster_values::{Bands, PixelType, Raster};
 use std::alloc::Global;
 
 /// A source that gives at most `piece` bytes a call, and fails at the calls that are named.

@@ -4,7 +4,7 @@
 use crate::fixtures::{bands_grid_of, bands_of, grid_of, raster_of, sink_of, source_of, tell_left};
 use case_rows::{CaseStop, Row, Told};
 use outside_io::MemSource;
-use raster_values::{
+use raster_grids::{
     GridFault, GridReason, GridStop, bands_read, bands_write, grid_read, grid_write,
 };
 use std::alloc::Global;

@@ -1,4 +1,4 @@
-ghost use Rattle.std.specs.Prelude.{◌≡◌, ◌↔◌, ◌+◌, ◌<◌, ◌≤◌, ◌++◌, false, true, [], length, replicate, IsTrue, IsErrOf, Err};
+ghost use Rattle.std.specs.Prelude.{◌≡◌, ◌↔◌, ◌+◌, ◌<◌, ◌≤◌, ◌++◌, true, [], length, replicate, IsTrue, IsErrOf, Err};
 ghost use Rattle.outside_io.specs.declared.volume.VolFile.TheVariants.{Bundle};
 ghost use Rattle.outside_io.specs.streams.Faults.{IsCause};
 ghost use Rattle.outside_io.specs.volume.History.{During, contents, current};
@@ -7,6 +7,8 @@ ghost use Rattle.bundle_store.specs.Session.{IsReadyToPut};
 ghost use Rattle.bundle_store.specs.Tiles.{IsReadable, tiles};
 ghost use Rattle.bundle_lines.specs.Builds.{BuildGave, BuildKeeps, BuildMarks, BuildReads, KeepsSomeLength, OnBuildAnswer, OnNoBuild};
 ghost use Rattle.bundle_lines.specs.inside.Raising.{Raises, build_stop_of};
+ghost use Rattle.bundle_store.specs.Told.{Told};
+ghost use Rattle.bundle_store.specs.Serving.{ServingPuts};
 
 use crate::lines::give_built;
 use crate::stop::BuildStop;
@@ -31,10 +33,8 @@ fn raise<V: Volume>(
     vol: &mut V,
     updates: &[TileRec],
 ) -> Result<(), BuildStop>
-    requires running { session.old.stopped ≡ false }
+    requires serving { ServingPuts V.told V.history session.old vol.old }
     requires fit { EachFits updates.now }
-    requires ready { IsTrue (V.told vol.old) →
-        IsReadyToPut session.old (current (V.history vol.old)) }
     ensures raises { Raises result updates.now (V.told vol.old) (V.history vol.old)
         (V.history vol.new) }
     ensures images { IsTrue (V.told vol.old) → IsReadable (contents Bundle (V.history vol.old)) →
@@ -47,9 +47,7 @@ fn raise<V: Volume>(
     ensures stops { session.new.stopped ≡ true ↔ IsErrOf result BuildStop.Volume }
     ensures later { IsTrue (V.told vol.old) →
         (V.history vol.old).moment ≤ (V.history vol.new).moment }
-    ensures told { V.told vol.new ≡ V.told vol.old }
-    ensures failed { IsCause (result ≡ Err BuildStop.Volume) (V.faults vol.old)
-        (V.faults vol.new) }
+    ensures told { Told V.told V.faults (IsCause (result ≡ Err BuildStop.Volume)) vol.old vol.new }
 {
     match session.build(vol, updates) {
         Ok(()) => Ok(()),
@@ -79,12 +77,10 @@ pub fn build_all<V: Volume, K: Sink>(
     marks: &mut Marks,
     updates: &[TileRec],
 ) -> Result<(), BuildStop>
-    requires running { session.old.stopped ≡ false }
+    requires serving { ServingPuts V.told V.history session.old vol.old }
     requires fit { EachFits updates.now }
     requires none { marks.old.marks ≡ [] }
     requires room { length updates.now ≤ marks.old.spare }
-    requires ready { IsTrue (V.told vol.old) →
-        IsReadyToPut session.old (current (V.history vol.old)) }
     ensures gave { BuildGave result updates.now (out.new ≡ out.old) (K.held out.old)
         (K.held out.new) }
     ensures marks { BuildMarks result updates.now marks.new.marks (V.history vol.new).moment }
@@ -101,11 +97,9 @@ pub fn build_all<V: Volume, K: Sink>(
     ensures stops { session.new.stopped ≡ true ↔ IsErrOf result BuildStop.Volume }
     ensures later { IsTrue (V.told vol.old) →
         (V.history vol.old).moment ≤ (V.history vol.new).moment }
-    ensures told { V.told vol.new ≡ V.told vol.old }
+    ensures told { Told V.told V.faults (IsCause (result ≡ Err BuildStop.Volume)) vol.old vol.new }
     ensures output_failed { IsCause (result ≡ Err BuildStop.Output) (K.faults out.old)
         (K.faults out.new) }
-    ensures volume_failed { IsCause (result ≡ Err BuildStop.Volume) (V.faults vol.old)
-        (V.faults vol.new) }
 {
     let size = match built_size(alloc, updates) {
         Ok(size) => size,

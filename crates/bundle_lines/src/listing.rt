@@ -1,19 +1,20 @@
 //! The listing of a bundle, a row of slots at a time.
 
-ghost use Rattle.std.specs.Prelude.{◌≡◌, ◌+◌, ◌*◌, ◌<◌, ◌≤◌, ◌++◌, [], false, length, IsTrue};
+ghost use Rattle.std.specs.Prelude.{◌≡◌, ◌+◌, ◌*◌, ◌<◌, ◌≤◌, ◌++◌, length, IsTrue};
 ghost use Rattle.outside_io.specs.declared.volume.VolFile.TheVariants.{Bundle};
 ghost use Rattle.outside_io.specs.streams.Faults.{CountsFaults};
 ghost use Rattle.outside_io.specs.volume.History.{contents};
 ghost use Rattle.bundle_index.specs.Entry.{entry_at};
-ghost use Rattle.bundle_store.specs.Session.{Serves};
+ghost use Rattle.arrayvec.specs.ArrayVec.{array_vec_len};
 ghost use Rattle.bundle_lines.specs.Gave.{ListGave};
 ghost use Rattle.bundle_lines.specs.Lines.{list_line};
 ghost use Rattle.bundle_lines.specs.inside.Rows.{row_lines};
+ghost use Rattle.bundle_store.specs.Serving.{Serving};
 
+use arrayvec::ArrayVec;
 use bundle_index::{Entry, Slot};
 use bundle_store::Session;
 use outside_io::{Failed, Line, Sink, Volume, give_all};
-use std::marker::Model;
 
 /// The greatest number of bytes of a row's lines: four numbers in each.
 const ROOM: usize = 10752;
@@ -21,57 +22,18 @@ const ROOM: usize = 10752;
 /// The entry of no tile.
 const NO_ENTRY: Entry = Entry { offset: 0, size: 0 };
 
-/// The lines of a row, made without taking memory. Contracts see the list of their bytes.
-#[derive(Drop)]
-struct RowLines {
-    bytes: [u8; ROOM],
-    len: usize,
-}
+/// The lines of a row, made without taking memory.
+type RowLines = ArrayVec<u8, ROOM>;
 
-impl Model for RowLines {
-    ghost use Rattle.std.specs.Prelude.{ℕ, List, take, ◌≤◌};
-
-    ghost Value = { List ℕ };
-
-    ghost view = { λ l. take l.len l.bytes };
-
-    ghost invariant = { λ l. l.len ≤ 10752 };
-}
-
-impl RowLines {
-    /// No lines.
-    fn new() -> RowLines
-        ensures { result ≡ [] }
-    {
-        RowLines {
-            bytes: [0; ROOM],
-            len: 0,
-        }
-    }
-
-    /// Drops the lines.
-    fn clear(&mut self)
-        ensures { self.new ≡ [] }
-    {
-        self.len = 0;
-    }
-
-    /// The bytes.
-    fn as_slice(&self) -> &[u8]
-        ensures { result.now ≡ self.now }
-    {
-        &self.bytes[..self.len]
-    }
-
-    /// Adds a line behind what is there.
-    fn add(&mut self, line: &[u8])
-        requires { length self.old + length line.now ≤ 10752 }
-        ensures bytes { self.new ≡ self.old ++ line.now }
-        ensures longer { length self.new ≡ length self.old + length line.now }
-    {
-        let end = self.len + line.len();
-        self.bytes[self.len..end].copy_from_slice(line);
-        self.len = end;
+/// Adds a line behind what is there.
+fn add_line(lines: &mut RowLines, line: &[u8])
+    requires { array_vec_len lines.old + length line.now ≤ 10752 }
+    ensures bytes { lines.new.items ≡ lines.old.items ++ line.now }
+    ensures longer { array_vec_len lines.new ≡ array_vec_len lines.old + length line.now }
+{
+    match lines.try_extend_from_slice(line) {
+        Ok(()) => {}
+        Err(_) => unreachable!(),
     }
 }
 
@@ -98,9 +60,7 @@ fn slot_line(row: u8, col: u8, entry: &Entry) -> Line
 fn entry_of<V: Volume>(session: &Session, vol: &mut V, row: u8, col: u8) -> Entry
     requires row { row < 128 }
     requires col { col < 128 }
-    requires running { session.now.stopped ≡ false }
-    requires serves { IsTrue (V.told vol.old) →
-        Serves session.now (contents Bundle (V.history vol.old)) }
+    requires serving { Serving V.told V.history session.now vol.old }
     ensures value { IsTrue (V.told vol.old) →
         result ≡ entry_at (contents Bundle (V.history vol.old)) (128 * row + col) }
     ensures same { vol.new ≡ vol.old }
@@ -117,17 +77,15 @@ fn entry_of<V: Volume>(session: &Session, vol: &mut V, row: u8, col: u8) -> Entr
 /// Makes the lines of a row, by no device call.
 fn spell_row<V: Volume>(session: &Session, vol: &mut V, row: u8, lines: &mut RowLines)
     requires row { row < 128 }
-    requires running { session.now.stopped ≡ false }
-    requires serves { IsTrue (V.told vol.old) →
-        Serves session.now (contents Bundle (V.history vol.old)) }
+    requires serving { Serving V.told V.history session.now vol.old }
     ensures lines { IsTrue (V.told vol.old) →
-        lines.new ≡ row_lines (contents Bundle (V.history vol.old)) row 128 }
+        lines.new.items ≡ row_lines (contents Bundle (V.history vol.old)) row 128 }
     ensures same { vol.new ≡ vol.old }
 {
     lines.clear();
     for col in 0..128u8 {
         let entry = entry_of(session, vol, row, col);
-        lines.add(slot_line(row, col, &entry).as_slice());
+        add_line(lines, slot_line(row, col, &entry).as_slice());
     }
 }
 
@@ -138,15 +96,13 @@ pub fn list_all<V: Volume, K: Sink>(
     vol: &mut V,
     out: &mut K,
 ) -> Result<(), Failed>
-    requires running { session.now.stopped ≡ false }
-    requires serves { IsTrue (V.told vol.old) →
-        Serves session.now (contents Bundle (V.history vol.old)) }
+    requires serving { Serving V.told V.history session.now vol.old }
     ensures gave { ListGave (V.told vol.old) (contents Bundle (V.history vol.old)) result
         (K.held out.old) (K.held out.new) }
     ensures same { vol.new ≡ vol.old }
     ensures counted { CountsFaults result (K.faults out.old) (K.faults out.new) }
 {
-    let mut lines = RowLines::new();
+    let mut lines: RowLines = ArrayVec::new();
     for row in 0..128u8 {
         spell_row(session, vol, row, &mut lines);
         give_all(out, lines.as_slice())?;

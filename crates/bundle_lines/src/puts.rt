@@ -1,29 +1,28 @@
-ghost use Rattle.std.specs.Prelude.{◌≡◌, ◌+◌, ◌<◌, ◌≤◌, false, [], length, IsTrue, OnOk, OnErr, Err};
+ghost use Rattle.std.specs.Prelude.{◌≡◌, ◌+◌, ◌<◌, ◌≤◌, [], length, IsTrue, OnOk, OnErr, Err};
 ghost use Rattle.outside_io.specs.declared.volume.VolFile.TheVariants.{Bundle};
 ghost use Rattle.outside_io.specs.streams.Faults.{CountsFaults, IsCause};
 ghost use Rattle.outside_io.specs.streams.Sink.{Holds, HoldsPrefix};
-ghost use Rattle.outside_io.specs.volume.History.{During, contents, current};
+ghost use Rattle.outside_io.specs.volume.History.{During, contents};
 ghost use Rattle.bundle_store.specs.Build.{EachFits};
 ghost use Rattle.bundle_store.specs.GroupPuts.{AllOrNone};
 ghost use Rattle.bundle_store.specs.Images.{EachImage};
-ghost use Rattle.bundle_store.specs.Session.{IsReadyToPut, Serves};
 ghost use Rattle.bundle_store.specs.Tiles.{IsReadable, tiles};
 ghost use Rattle.bundle_lines.specs.Lines.{put_lines};
 ghost use Rattle.bundle_lines.specs.Puts.{PutsEnd};
-ghost use Rattle.bundle_lines.specs.inside.Turns.{Commits, HasRoomFirst, IsFitting, IsNext, Turns, end_of, stop_of};
+ghost use Rattle.bundle_lines.specs.inside.Turns.{Commits, IsFitting, IsNext, Turns, end_of, stop_of};
+ghost use Rattle.bundle_store.specs.Told.{OnlyReads, Told};
+ghost use Rattle.bundle_store.specs.Serving.{Serving, ServingPuts};
+ghost use Rattle.bundle_store.specs.Fitting.{HasRoomFirst};
 
 use crate::builds::add_marks;
 use crate::lines::give_put;
 use crate::stop::PutStop;
 use bundle_index::INDEX_END;
-use bundle_store::{Session, StoreFault, TileRec};
+use bundle_store::{Session, StoreFault, TileRec, fitting};
 use outside_io::{Failed, Marks, Sink, Volume};
 
 /// The greatest number of tiles that are put at once.
 const MOST: usize = 64;
-
-/// The greatest length of a bundle.
-const GREATEST_LENGTH: u64 = 1 << 40;
 
 /// Where the first record behind a bundle of `len` bytes stands.
 fn first_place(len: u64) -> u64
@@ -33,22 +32,12 @@ fn first_place(len: u64) -> u64
 }
 
 /// How many of the first tiles there is room for behind a bundle of `len` bytes, of 64 at most.
-fn fitting(len: u64, updates: &[TileRec]) -> usize
+fn first_fitting(len: u64, updates: &[TileRec]) -> usize
     requires fit { EachFits updates.now }
     ensures { IsFitting len updates.now result }
 {
-    let mut end = first_place(len);
     let most = updates.len().min(MOST);
-    for i in 0..most {
-        // for the proof: `number` ensures that there is such a slot
-        let _number = updates[i].slot.number();
-        let size = updates[i].bytes.len() as u64;
-        if end > GREATEST_LENGTH - 4 - size {
-            return i;
-        }
-        end += 4 + size;
-    }
-    most
+    fitting(first_place(len), updates, most)
 }
 
 /// How many of the first tiles are put at once: as many as there is room for, of 64 at most.
@@ -57,23 +46,19 @@ fn next_group<V: Volume>(
     vol: &mut V,
     updates: &[TileRec],
 ) -> Result<usize, PutStop>
-    requires running { session.now.stopped ≡ false }
+    requires serving { Serving V.told V.history session.now vol.old }
     requires some { 0 < length updates.now }
     requires fit { EachFits updates.now }
-    requires serves { IsTrue (V.told vol.old) →
-        Serves session.now (contents Bundle (V.history vol.old)) }
     ensures next { IsNext result updates.now (V.told vol.old)
         (length (contents Bundle (V.history vol.old))) }
-    ensures during { IsTrue (V.told vol.old) → During (λ d. d ≡ current (V.history vol.old))
-        (V.history vol.old) (V.history vol.new) }
-    ensures told { V.told vol.new ≡ V.told vol.old }
-    ensures failed { IsCause (result ≡ Err PutStop.Volume) (V.faults vol.old) (V.faults vol.new) }
+    ensures reads { OnlyReads V.told V.history V.faults (IsCause (result ≡ Err PutStop.Volume))
+        vol.old vol.new }
 {
     let len = match session.length(vol) {
         Ok(len) => len,
         Err(_) => return Err(PutStop::Volume),
     };
-    let count = fitting(len, updates);
+    let count = first_fitting(len, updates);
     if count == 0 {
         return Err(PutStop::Full { len });
     }
@@ -92,22 +77,20 @@ fn put_stop(fault: StoreFault) -> PutStop
 
 /// Puts a group of tiles at once.
 fn commit<V: Volume>(session: &mut Session, vol: &mut V, group: &[TileRec]) -> Result<(), PutStop>
-    requires running { session.old.stopped ≡ false }
+    requires serving { ServingPuts V.told V.history session.old vol.old }
     requires some { 0 < length group.now }
     requires most { length group.now ≤ 64 }
     requires fit { EachFits group.now }
     requires first { IsTrue (V.told vol.old) →
-        HasRoomFirst (length (contents Bundle (V.history vol.old))) group.now (length group.now) }
-    requires ready { IsTrue (V.told vol.old) →
-        IsReadyToPut session.old (current (V.history vol.old)) }
+        HasRoomFirst (end_of (length (contents Bundle (V.history vol.old)))) group.now
+        (length group.now) }
     ensures commits { Commits result group.now session.new (V.told vol.old) (V.history vol.old)
         (V.history vol.new) }
     ensures images { IsTrue (V.told vol.old) →
         During (λ d. IsReadable (contents Bundle (V.history vol.old)) →
         EachImage (AllOrNone group.now (tiles (contents Bundle (V.history vol.old)))) d)
         (V.history vol.old) (V.history vol.new) }
-    ensures told { V.told vol.new ≡ V.told vol.old }
-    ensures failed { IsCause (result ≡ Err PutStop.Volume) (V.faults vol.old) (V.faults vol.new) }
+    ensures told { Told V.told V.faults (IsCause (result ≡ Err PutStop.Volume)) vol.old vol.new }
 {
     match session.put_group(vol, group) {
         Ok(()) => Ok(()),
@@ -139,15 +122,14 @@ fn put_some<V: Volume, K: Sink>(
     marks: &mut Marks,
     group: &[TileRec],
 ) -> Result<(), PutStop>
-    requires running { session.old.stopped ≡ false }
+    requires serving { ServingPuts V.told V.history session.old vol.old }
     requires some { 0 < length group.now }
     requires most { length group.now ≤ 64 }
     requires fit { EachFits group.now }
     requires first { IsTrue (V.told vol.old) →
-        HasRoomFirst (length (contents Bundle (V.history vol.old))) group.now (length group.now) }
+        HasRoomFirst (end_of (length (contents Bundle (V.history vol.old)))) group.now
+        (length group.now) }
     requires room { length group.now ≤ marks.old.spare }
-    requires ready { IsTrue (V.told vol.old) →
-        IsReadyToPut session.old (current (V.history vol.old)) }
     ensures turn { Turns result group.now session.new marks.old.marks marks.new.marks
         (V.told vol.old) (V.history vol.old) (V.history vol.new) (K.held out.old) (K.held out.new) }
     ensures images { IsTrue (V.told vol.old) →
@@ -155,11 +137,9 @@ fn put_some<V: Volume, K: Sink>(
         EachImage (AllOrNone group.now (tiles (contents Bundle (V.history vol.old)))) d)
         (V.history vol.old) (V.history vol.new) }
     ensures spare { marks.old.spare ≤ marks.new.spare + length group.now }
-    ensures told { V.told vol.new ≡ V.told vol.old }
+    ensures told { Told V.told V.faults (IsCause (result ≡ Err PutStop.Volume)) vol.old vol.new }
     ensures output_failed { IsCause (result ≡ Err PutStop.Output) (K.faults out.old)
         (K.faults out.new) }
-    ensures volume_failed { IsCause (result ≡ Err PutStop.Volume) (V.faults vol.old)
-        (V.faults vol.new) }
 {
     match commit(session, vol, group) {
         Ok(()) => {}
@@ -184,19 +164,15 @@ pub fn put_all<V: Volume, K: Sink>(
     marks: &mut Marks,
     updates: &[TileRec],
 ) -> Result<(), PutStop>
-    requires running { session.old.stopped ≡ false }
+    requires serving { ServingPuts V.told V.history session.old vol.old }
     requires fit { EachFits updates.now }
     requires none { marks.old.marks ≡ [] }
     requires room { length updates.now ≤ marks.old.spare }
-    requires ready { IsTrue (V.told vol.old) →
-        IsReadyToPut session.old (current (V.history vol.old)) }
     ensures ended { PutsEnd result updates.now marks.new.marks session.new (V.told vol.old)
         (V.history vol.old) (V.history vol.new) (K.held out.old) (K.held out.new) }
-    ensures told { V.told vol.new ≡ V.told vol.old }
+    ensures told { Told V.told V.faults (IsCause (result ≡ Err PutStop.Volume)) vol.old vol.new }
     ensures output_failed { IsCause (result ≡ Err PutStop.Output) (K.faults out.old)
         (K.faults out.new) }
-    ensures volume_failed { IsCause (result ≡ Err PutStop.Volume) (V.faults vol.old)
-        (V.faults vol.new) }
 {
     let mut done = 0;
     while done < updates.len() {

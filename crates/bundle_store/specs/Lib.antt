@@ -16,12 +16,15 @@ pub mod Built
 pub mod Causes
 pub mod Check
 pub mod FirstImages
+pub mod Fitting
 pub mod GroupPuts
 pub mod Images
 pub mod Kept
 pub mod LaidOver
 pub mod Layout
 pub mod Recover
+pub mod Serving
 pub mod Session
 pub mod Tiles
+pub mod Told
 pub mod inside

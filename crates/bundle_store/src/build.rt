@@ -1,48 +1,38 @@
-ghost use Rattle.std.specs.Prelude.{◌≡◌, ◌⊎◌, ◌∷◌, ◌<◌, [], length, IsTrue, IsErrOf, IfOk, IfErr, OnOk};
-ghost use Rattle.outside_io.specs.declared.volume.VolFile.TheVariants.{Bundle, Journal};
-ghost use Rattle.outside_io.specs.volume.Disk.{IsQuiet, settled};
+ghost use Rattle.std.specs.Prelude.{◌≡◌, ◌<◌, [], length, IsTrue, IsErrOf, IfErr, OnOk};
+ghost use Rattle.outside_io.specs.declared.volume.VolFile.TheVariants.{Bundle};
 ghost use Rattle.outside_io.specs.streams.Faults.{CountsFaults};
 ghost use Rattle.outside_io.specs.volume.History.{During, contents, current};
-ghost use Rattle.bundle_index.specs.Sizes.{slot_count};
-ghost use Rattle.side_journal.specs.Says.{IsOpen, SaysBuild};
-ghost use Rattle.bundle_store.specs.inside.Parts.{IsAtRest, IsBegun};
-ghost use Rattle.bundle_store.specs.inside.Table.{HasRoom, IsTable, TilesFail, table_map};
-ghost use Rattle.bundle_store.specs.Build.{EachFits, last_tiles};
+ghost use Rattle.bundle_store.specs.inside.Parts.{IsAtRest, IsBegun, IsIdle};
+ghost use Rattle.bundle_store.specs.inside.Table.{HasRoom, IsTable, table_map};
+ghost use Rattle.bundle_store.specs.Build.{EachFits};
 ghost use Rattle.bundle_store.specs.Causes.{CountsDevice, OnRefusal, UnlessDevice};
 ghost use Rattle.bundle_store.specs.Session.{BuildFails, KeepsLength};
 ghost use Rattle.bundle_store.specs.Images.{EachImage, EmptyOr, HoldsClosed};
 ghost use Rattle.bundle_store.specs.Kept.{Keeps};
 ghost use Rattle.bundle_store.specs.Layout.{layout};
 ghost use Rattle.bundle_store.specs.Tiles.{AreTiles, Opens, no_tiles};
+ghost use Rattle.bundle_store.specs.Told.{Told};
 
 pub(crate) mod laying;
 pub(crate) mod size;
 
-use crate::put::updates::Updates;
-use crate::session::front::Front;
+use crate::front::Front;
 use crate::{StoreFault, TileRec};
-use bundle_index::SLOT_COUNT;
 use laying::lay_out;
 use outside_io::{Failed, VolFile, Volume};
 use side_journal::{Body, arm, close_gate, open_gate, prepare};
-use std::alloc::{AllocError, Global};
-
-/// How many bytes a tile has at most.
-const GREATEST_TILE: usize = 16777215;
 
 /// Opens the journal of a bundle that is being built, beside an empty bundle.
 fn begin<V: Volume>(vol: &mut V) -> Result<(), Failed>
     requires empty { IsTrue (V.told vol.old) → contents Bundle (V.history vol.old) ≡ [] }
-    requires quiet { IsTrue (V.told vol.old) → IsQuiet (current (V.history vol.old)) }
-    requires closed { IsTrue (V.told vol.old) → ¬ IsOpen (contents Journal (V.history vol.old)) }
+    requires idle { IsTrue (V.told vol.old) → IsIdle (current (V.history vol.old)) }
     ensures bundle { IsTrue (V.told vol.old) → (current (V.history vol.new)).bundle
         ≡ (current (V.history vol.old)).bundle }
     ensures journal { IsTrue (V.told vol.old) →
         OnOk result (IsBegun (current (V.history vol.new))) }
     ensures images { IsTrue (V.told vol.old) → During (EachImage (λ map. map ≡ no_tiles))
         (V.history vol.old) (V.history vol.new) }
-    ensures told { V.told vol.new ≡ V.told vol.old }
-    ensures counted { CountsFaults result (V.faults vol.old) (V.faults vol.new) }
+    ensures told { Told V.told V.faults (CountsFaults result) vol.old vol.new }
 {
     prepare(vol)?;
     arm(vol, &Body::Build)?;
@@ -62,8 +52,7 @@ pub(crate) fn build_empty<V: Volume>(
     requires table { IsTable tiles.now table.now }
     requires tiles { AreTiles (table_map tiles.now table.now) }
     requires empty { IsTrue (V.told vol.old) → contents Bundle (V.history vol.old) ≡ [] }
-    requires quiet { IsTrue (V.told vol.old) → IsQuiet (current (V.history vol.old)) }
-    requires closed { IsTrue (V.told vol.old) → ¬ IsOpen (contents Journal (V.history vol.old)) }
+    requires idle { IsTrue (V.told vol.old) → IsIdle (current (V.history vol.old)) }
     ensures done { IsTrue (V.told vol.old) →
         OnOk result (HoldsClosed (layout (table_map tiles.now table.now))
         (current (V.history vol.new))) }
@@ -71,63 +60,11 @@ pub(crate) fn build_empty<V: Volume>(
     ensures images { IsTrue (V.told vol.old) →
         During (EachImage (EmptyOr (table_map tiles.now table.now))) (V.history vol.old)
         (V.history vol.new) }
-    ensures told { V.told vol.new ≡ V.told vol.old }
-    ensures counted { CountsFaults result (V.faults vol.old) (V.faults vol.new) }
+    ensures told { Told V.told V.faults (CountsFaults result) vol.old vol.new }
 {
     begin(vol)?;
     lay_out(vol, tiles, table, buffer, front)?;
     close_gate(vol)
-}
-
-/// For each slot the number of its last tile.
-pub(crate) fn number_tiles(
-    alloc: Global,
-    tiles: &[TileRec],
-) -> Result<Vec<Option<usize>>, AllocError>
-    ensures table { IfOk result (λ t. IsTable tiles.now t.items) }
-    ensures long { IfOk result (λ t. length t.items ≡ slot_count) }
-    ensures last { IfOk result (λ t. table_map tiles.now t.items ≡ last_tiles tiles.now) }
-{
-    let slots = SLOT_COUNT as usize;
-    let mut table = Vec::with_capacity(alloc, slots)?;
-    table.resize(slots, None)?;
-    for number in 0..tiles.len() {
-        let slot = tiles[number].slot.number() as usize;
-        table[slot] = Some(number);
-    }
-    Ok(table)
-}
-
-/// Bytes for the record of one tile, whichever it is.
-pub(crate) fn record_buffer(alloc: Global, tiles: &[TileRec]) -> Result<Vec<u8>, AllocError>
-    requires { EachFits tiles.now }
-    ensures { IfOk result (λ b. HasRoom tiles.now (length b.items)) }
-{
-    let mut most = 0;
-    for i in 0..tiles.len() {
-        most = most.max(tiles[i].bytes.len());
-    }
-    vec![in alloc; 0u8; most + 4]
-}
-
-/// The first tile that is empty or too large.
-pub(crate) fn check_tiles(tiles: &Updates) -> Result<(), StoreFault>
-    ensures fits { OnOk result (EachFits tiles.now) }
-    ensures answers { IfErr result (λ f. TilesFail tiles.now f) }
-{
-    for at in 0..tiles.len() {
-        let len = tiles.bytes(at).len();
-        if len == 0 {
-            return Err(StoreFault::EmptyTile { at: at as u64 });
-        }
-        if len > GREATEST_TILE {
-            return Err(StoreFault::TileTooLarge {
-                at: at as u64,
-                len: len as u64,
-            });
-        }
-    }
-    Ok(())
 }
 
 /// Builds the bundle, if the file is empty; `front` then has its header and its index.
@@ -145,8 +82,7 @@ pub(crate) fn build_on<V: Volume>(
     requires opens { IsTrue (V.told vol.old) → Opens (contents Bundle (V.history vol.old)) }
     requires keeps { IsTrue (V.told vol.old) → Keeps front.old (contents Bundle
         (V.history vol.old)) }
-    requires quiet { IsTrue (V.told vol.old) → IsQuiet (current (V.history vol.old)) }
-    requires closed { IsTrue (V.told vol.old) → ¬ IsOpen (contents Journal (V.history vol.old)) }
+    requires idle { IsTrue (V.told vol.old) → IsIdle (current (V.history vol.old)) }
     ensures done { IsTrue (V.told vol.old) →
         OnOk result (HoldsClosed (layout (table_map tiles.now table.now))
         (current (V.history vol.new))) }
@@ -167,8 +103,7 @@ pub(crate) fn build_on<V: Volume>(
         ≡ []
         → EachImage (EmptyOr (table_map tiles.now table.now)) d) (V.history vol.old)
         (V.history vol.new) }
-    ensures told { V.told vol.new ≡ V.told vol.old }
-    ensures counted { CountsDevice result (V.faults vol.old) (V.faults vol.new) }
+    ensures told { Told V.told V.faults (CountsDevice result) vol.old vol.new }
 {
     let len = vol.len(VolFile::Bundle)?;
     if len != 0 {

@@ -1,6 +1,6 @@
 //! The check of a bundle: each entry, and the number in front of each tile.
 
-ghost use Rattle.std.specs.Prelude.{◌≡◌, ◌+◌, ◌*◌, ◌^◌, ◌<◌, ◌≤◌, ◌==◌, ℕ, None, length, IsTrue, IfOk, if◌then◌else◌};
+ghost use Rattle.std.specs.Prelude.{◌≡◌, ◌+◌, ◌^◌, ◌<◌, ◌≤◌, ◌==◌, None, length, IsTrue, IfOk};
 ghost use Rattle.outside_io.specs.declared.volume.VolFile.TheVariants.{Bundle};
 ghost use Rattle.outside_io.specs.streams.Faults.{CountsFaults};
 ghost use Rattle.outside_io.specs.volume.History.{During, contents, current};
@@ -9,8 +9,9 @@ ghost use Rattle.bundle_index.specs.Sizes.{slot_count};
 ghost use Rattle.bundle_store.specs.Check.{Reports, is_bad};
 ghost use Rattle.bundle_store.specs.Kept.{Keeps};
 ghost use Rattle.bundle_store.specs.inside.Checking.{IsSmall, NextReport};
+ghost use Rattle.bundle_store.specs.Told.{Told};
 
-use crate::session::front::Front;
+use crate::front::Front;
 use bundle_index::{Entry, INDEX_END, SLOT_COUNT, Slot};
 use byteorder::{ByteOrder, LittleEndian};
 use outside_io::{Failed, VolFile, Volume};
@@ -40,8 +41,7 @@ fn is_bad_entry<V: Volume>(vol: &mut V, entry: Entry, len: u64) -> Result<bool, 
     ensures during { IsTrue (V.told vol.old) → During (λ d. d ≡ current (V.history vol.old))
         (V.history vol.old) (V.history vol.new) }
     ensures calls { (V.history vol.new).moment ≤ (V.history vol.old).moment + 1 }
-    ensures told { V.told vol.new ≡ V.told vol.old }
-    ensures counted { CountsFaults result (V.faults vol.old) (V.faults vol.new) }
+    ensures told { Told V.told V.faults (CountsFaults result) vol.old vol.new }
 {
     if entry.size == 0 {
         return Ok(false);
@@ -92,8 +92,7 @@ pub(crate) fn check_index<V: Volume>(
     ensures during { IsTrue (V.told vol.old) → During (λ d. d ≡ current (V.history vol.old))
         (V.history vol.old) (V.history vol.new) }
     ensures calls { (V.history vol.new).moment ≤ (V.history vol.old).moment + slot_count }
-    ensures told { V.told vol.new ≡ V.told vol.old }
-    ensures counted { CountsFaults result (V.faults vol.old) (V.faults vol.new) }
+    ensures told { Told V.told V.faults (CountsFaults result) vol.old vol.new }
 {
     let mut all = CheckReport {
         tiles: 0,

@@ -9,11 +9,16 @@
 mod build;
 mod check;
 mod fault;
+mod front;
 mod laws;
 mod put;
 mod recovery;
+mod room;
 mod session;
+mod spelling;
+mod table;
 mod tile_rec;
+mod updates;
 
 pub use build::size::{BuiltSize, built_size};
 pub use check::CheckReport;
@@ -25,5 +30,7 @@ pub use laws::{
     recoveries_have_one_answer, recoveries_leave_one_bundle, the_bundle_of_no_tiles_is_fresh,
 };
 pub use recovery::{Recovery, recover};
+pub use room::{GREATEST_LENGTH, fitting};
 pub use session::Session;
 pub use tile_rec::TileRec;
+pub use updates::GREATEST_TILE;

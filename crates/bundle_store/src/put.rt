@@ -1,11 +1,9 @@
 //! Tiles put at once: their entries, the body of their journal, and the put.
 
-ghost use Rattle.std.specs.Prelude.{◌≡◌, ◌⊎◌, ◌+◌, ◌^◌, ◌<◌, ◌≤◌, ◌∷◌, ◌++◌, ℕ, List, [], length, take, IsTrue, IsErrOf, IfErr, OnOk};
-ghost use Rattle.outside_io.specs.declared.volume.VolFile.TheVariants.{Bundle, Journal};
-ghost use Rattle.outside_io.specs.volume.Disk.{IsQuiet};
+ghost use Rattle.std.specs.Prelude.{◌≡◌, ◌+◌, ◌^◌, ◌<◌, ◌≤◌, ◌∷◌, ◌++◌, ℕ, List, [], length, IsTrue, IsErrOf, IfErr, OnOk};
+ghost use Rattle.outside_io.specs.declared.volume.VolFile.TheVariants.{Bundle};
 ghost use Rattle.outside_io.specs.streams.Faults.{CountsFaults};
 ghost use Rattle.outside_io.specs.volume.History.{During, contents, current};
-ghost use Rattle.side_journal.specs.Says.{IsOpen};
 ghost use Rattle.side_journal.specs.declared.body.Body.TheVariants.{Group as OfGroup};
 ghost use Rattle.bundle_index.specs.Sizes.{index_end, slot_count};
 ghost use Rattle.bundle_store.specs.Appended.{bundle_with_tile};
@@ -17,25 +15,23 @@ ghost use Rattle.bundle_store.specs.Kept.{Keeps};
 ghost use Rattle.bundle_store.specs.Layout.{layout};
 ghost use Rattle.bundle_store.specs.Session.{GroupFails};
 ghost use Rattle.bundle_store.specs.Tiles.{IsBundle, IsReadable, Opens, no_tiles, tiles};
-ghost use Rattle.bundle_store.specs.inside.Grouped.{IsFullOf};
-ghost use Rattle.bundle_store.specs.inside.Parts.{IsAtRest};
+ghost use Rattle.bundle_store.specs.inside.Grouped.{AreForOnePut, IsFullOf};
+ghost use Rattle.bundle_store.specs.inside.Parts.{IsAtRest, IsIdle};
+ghost use Rattle.bundle_store.specs.Told.{Told};
 
 mod append;
-pub(crate) mod overlay;
+mod overlay;
 pub(crate) mod steps;
-pub(crate) mod updates;
 
 use crate::StoreFault;
 use crate::build::build_empty;
-use crate::session::front::Front;
+use crate::front::Front;
+use crate::room::fitting_tiles;
+use crate::updates::Updates;
 use bundle_index::{Entry, INDEX_END, Slot};
 use outside_io::{Failed, VolFile, Volume};
 use side_journal::{Body, Group};
 use steps::commit;
-use updates::Updates;
-
-/// The greatest length of a bundle.
-const GREATEST_LENGTH: u64 = 1099511627776;
 
 /// Adds the entry of a tile, whose record is to stand at `end`, to the group, and to what is kept
 /// of the bundle.
@@ -96,16 +92,13 @@ fn put_on_bundle<V: Volume>(
     front: &mut Front,
     updates: &Updates,
 ) -> Result<(), Failed>
-    requires some { 1 ≤ length updates.now }
-    requires most { length updates.now ≤ 64 }
-    requires fit { EachFits updates.now }
+    requires group { AreForOnePut updates.now }
     requires room { len + length (group_records updates.now) ≤ 2 ^ 40 }
     requires least { IsTrue (V.told vol.old) → index_end ≤ len }
     requires len { IsTrue (V.told vol.old) → len ≡ length (contents Bundle (V.history vol.old)) }
     requires keeps { IsTrue (V.told vol.old) → Keeps front.old (contents Bundle
         (V.history vol.old)) }
-    requires quiet { IsTrue (V.told vol.old) → IsQuiet (current (V.history vol.old)) }
-    requires closed { IsTrue (V.told vol.old) → ¬ IsOpen (contents Journal (V.history vol.old)) }
+    requires idle { IsTrue (V.told vol.old) → IsIdle (current (V.history vol.old)) }
     ensures done { IsTrue (V.told vol.old) →
         OnOk result (HoldsClosed (bundle_with_tiles (contents Bundle
         (V.history vol.old)) updates.now) (current (V.history vol.new))) }
@@ -116,8 +109,7 @@ fn put_on_bundle<V: Volume>(
         During (λ d. IsBundle (contents Bundle (V.history vol.old))
         → EachImage (AllOrNone updates.now (tiles (contents Bundle (V.history vol.old)))) d)
         (V.history vol.old) (V.history vol.new) }
-    ensures told { V.told vol.new ≡ V.told vol.old }
-    ensures counted { CountsFaults result (V.faults vol.old) (V.faults vol.new) }
+    ensures told { Told V.told V.faults (CountsFaults result) vol.old vol.new }
 {
     let body = body_of_tiles(front, len, updates);
     commit(vol, len, updates, &body)
@@ -129,13 +121,10 @@ fn put_on_nothing<V: Volume>(
     front: &mut Front,
     updates: &Updates,
 ) -> Result<(), Failed>
-    requires some { 1 ≤ length updates.now }
-    requires most { length updates.now ≤ 64 }
-    requires fit { EachFits updates.now }
+    requires group { AreForOnePut updates.now }
     requires room { index_end + length (group_records updates.now) ≤ 2 ^ 40 }
     requires empty { IsTrue (V.told vol.old) → contents Bundle (V.history vol.old) ≡ [] }
-    requires quiet { IsTrue (V.told vol.old) → IsQuiet (current (V.history vol.old)) }
-    requires closed { IsTrue (V.told vol.old) → ¬ IsOpen (contents Journal (V.history vol.old)) }
+    requires idle { IsTrue (V.told vol.old) → IsIdle (current (V.history vol.old)) }
     ensures done { IsTrue (V.told vol.old) →
         OnOk result (HoldsClosed (bundle_with_tiles (layout no_tiles) updates.now)
         (current (V.history vol.new))) }
@@ -145,8 +134,7 @@ fn put_on_nothing<V: Volume>(
     ensures images { IsTrue (V.told vol.old) →
         During (EachImage (AllOrNone updates.now no_tiles)) (V.history vol.old)
         (V.history vol.new) }
-    ensures told { V.told vol.new ≡ V.told vol.old }
-    ensures counted { CountsFaults result (V.faults vol.old) (V.faults vol.new) }
+    ensures told { Told V.told V.faults (CountsFaults result) vol.old vol.new }
 {
     build_empty(vol, &[], &[], &mut [], front)?;
     put_on_bundle(vol, INDEX_END, front, updates)
@@ -160,13 +148,9 @@ fn room_for(len: u64, updates: &Updates) -> Result<(), StoreFault>
     ensures room { OnOk result (len + length (group_records updates.now) ≤ 2 ^ 40) }
     ensures full { IfErr result (λ f. IsFullOf len updates.now f) }
 {
-    let mut end = len;
-    for i in 0..updates.len() {
-        let size = updates.bytes(i).len() as u64;
-        if end > GREATEST_LENGTH - 4 - size {
-            return Err(StoreFault::Full { len: end });
-        }
-        end += 4 + size;
+    let (count, end) = fitting_tiles(len, updates, updates.len());
+    if count < updates.len() {
+        return Err(StoreFault::Full { len: end });
     }
     Ok(())
 }
@@ -178,14 +162,11 @@ pub(crate) fn put_tiles<V: Volume>(
     front: &mut Front,
     updates: &Updates,
 ) -> Result<(), StoreFault>
-    requires some { 1 ≤ length updates.now }
-    requires most { length updates.now ≤ 64 }
-    requires fit { EachFits updates.now }
+    requires group { AreForOnePut updates.now }
     requires opens { IsTrue (V.told vol.old) → Opens (contents Bundle (V.history vol.old)) }
     requires keeps { IsTrue (V.told vol.old) → Keeps front.old (contents Bundle
         (V.history vol.old)) }
-    requires quiet { IsTrue (V.told vol.old) → IsQuiet (current (V.history vol.old)) }
-    requires closed { IsTrue (V.told vol.old) → ¬ IsOpen (contents Journal (V.history vol.old)) }
+    requires idle { IsTrue (V.told vol.old) → IsIdle (current (V.history vol.old)) }
     ensures done { IsTrue (V.told vol.old) →
         OnOk result (HoldsClosed (bundle_after_puts (contents Bundle
         (V.history vol.old)) updates.now) (current (V.history vol.new))) }
@@ -203,8 +184,7 @@ pub(crate) fn put_tiles<V: Volume>(
         During (λ d. IsReadable (contents Bundle (V.history vol.old))
         → EachImage (AllOrNone updates.now (tiles (contents Bundle (V.history vol.old)))) d)
         (V.history vol.old) (V.history vol.new) }
-    ensures told { V.told vol.new ≡ V.told vol.old }
-    ensures counted { CountsDevice result (V.faults vol.old) (V.faults vol.new) }
+    ensures told { Told V.told V.faults (CountsDevice result) vol.old vol.new }
 {
     let len = vol.len(VolFile::Bundle)?;
     room_for(len, updates)?;

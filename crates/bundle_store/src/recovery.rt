@@ -11,6 +11,7 @@ ghost use Rattle.bundle_store.specs.inside.Parts.{EachKeeps, EachMidway, EachWho
 ghost use Rattle.bundle_store.specs.Images.{EachImage};
 ghost use Rattle.bundle_store.specs.Recover.{EachBundleMidway, EachStandsForOneOf, IsRecovered, Leaves, OnBadJournal, RecoverFails, RecoverySays, synced_disk};
 ghost use Rattle.bundle_store.specs.Tiles.{no_tiles};
+ghost use Rattle.bundle_store.specs.Told.{Told};
 
 mod syncs;
 
@@ -45,8 +46,7 @@ fn empty<V: Volume>(vol: &mut V) -> Result<(), Failed>
         (V.history vol.old) (V.history vol.new) }
     ensures bytes { IsTrue (V.told vol.old) → During (EachWholeOrNone (contents Bundle
         (V.history vol.old))) (V.history vol.old) (V.history vol.new) }
-    ensures told { V.told vol.new ≡ V.told vol.old }
-    ensures counted { CountsFaults result (V.faults vol.old) (V.faults vol.new) }
+    ensures told { Told V.told V.faults (CountsFaults result) vol.old vol.new }
 {
     wipe(vol)?;
     close_gate(vol)
@@ -85,8 +85,7 @@ fn finish_group<V: Volume>(
     ensures answers { IfErr result (λ f. RecoverFails f) }
     ensures refused { IsTrue (V.told vol.old) → OnBadJournal result (current (V.history vol.new)
         ≡ current (V.history vol.old)) }
-    ensures told { V.told vol.new ≡ V.told vol.old }
-    ensures counted { CountsDevice result (V.faults vol.old) (V.faults vol.new) }
+    ensures told { Told V.told V.faults (CountsDevice result) vol.old vol.new }
 {
     if vol.len(VolFile::Bundle)? < size {
         return Err(StoreFault::BadJournal { place, found: size });
@@ -115,8 +114,7 @@ fn finish<V: Volume>(vol: &mut V) -> Result<Recovery, StoreFault>
     ensures answers { IfErr result (λ f. RecoverFails f) }
     ensures refused { IsTrue (V.told vol.old) → OnBadJournal result (current (V.history vol.new)
         ≡ current (V.history vol.old)) }
-    ensures told { V.told vol.new ≡ V.told vol.old }
-    ensures counted { CountsDevice result (V.faults vol.old) (V.faults vol.new) }
+    ensures told { Told V.told V.faults (CountsDevice result) vol.old vol.new }
 {
     let state = read_journal(vol)?;
     match &state {
@@ -164,8 +162,7 @@ pub fn recover<V: Volume>(vol: &mut V) -> Result<Recovery, StoreFault>
     ensures answers { IfErr result (λ f. RecoverFails f) }
     ensures refused { IsTrue (V.told vol.old) → OnBadJournal result (current (V.history vol.new)
         ≡ synced_disk (current (V.history vol.old))) }
-    ensures told { V.told vol.new ≡ V.told vol.old }
-    ensures counted { CountsDevice result (V.faults vol.old) (V.faults vol.new) }
+    ensures told { Told V.told V.faults (CountsDevice result) vol.old vol.new }
 {
     sync_both(vol)?;
     finish(vol)

@@ -1,5 +1,5 @@
-ghost use Rattle.std.specs.Prelude.{◌≡◌, ◌↔◌, ◌⊎◌, ◌+◌, ◌^◌, ◌<◌, ◌≤◌, ℕ, List, [], false, true, None, Some, length, IsTrue, IsErrOf, IfOk, IfErr, OnErr, OnOk};
-ghost use Rattle.outside_io.specs.declared.volume.VolFile.TheVariants.{Bundle, Journal};
+ghost use Rattle.std.specs.Prelude.{◌≡◌, ◌↔◌, ◌⊎◌, ◌+◌, ◌^◌, ◌<◌, ◌≤◌, ℕ, List, [], false, true, None, Some, length, IsTrue, IsErrOf, IfOk, IfErr, OnOk};
+ghost use Rattle.outside_io.specs.declared.volume.VolFile.TheVariants.{Bundle};
 ghost use Rattle.outside_io.specs.volume.History.{During, contents, current};
 ghost use Rattle.bundle_index.specs.Entry.{entry_at};
 ghost use Rattle.bundle_index.specs.Sizes.{slot_count};
@@ -13,17 +13,18 @@ ghost use Rattle.bundle_store.specs.Layout.{layout};
 ghost use Rattle.bundle_store.specs.Images.{EachImage, EmptyOr, HoldsClosed, WithOrWithout};
 ghost use Rattle.bundle_store.specs.Tiles.{IsReadable, tiles};
 ghost use Rattle.bundle_store.specs.Session.{BuildFails, GetFails, GetGives, GetRefuses, GroupFails, IsReadyToPut, KeepsLength, OpenFails, OpenRefuses, PutFails, Serves};
+ghost use Rattle.bundle_store.specs.Told.{Told};
 
-pub(crate) mod front;
 mod header;
 
-use crate::build::{build_on, check_tiles, number_tiles, record_buffer};
+use crate::build::build_on;
 use crate::check::check_index;
+use crate::front::Front;
 use crate::put::put_tiles;
-use crate::put::updates::Updates;
+use crate::table::{number_tiles, record_buffer};
+use crate::updates::{Updates, check_tiles};
 use crate::{CheckReport, StoreFault, TileRec};
 use bundle_index::{Entry, INDEX_END, Slot};
-use front::Front;
 use header::{fault_of, read_header};
 use outside_io::{Bytes, VolFile, Volume};
 use std::alloc::Global;
@@ -60,8 +61,7 @@ impl Session {
         ensures during { IsTrue (V.told vol.old) → During (λ d. d ≡ current (V.history vol.old))
             (V.history vol.old) (V.history vol.new) }
         ensures calls { (V.history vol.new).moment ≤ (V.history vol.old).moment + 3 }
-        ensures told { V.told vol.new ≡ V.told vol.old }
-        ensures counted { CountsDevice result (V.faults vol.old) (V.faults vol.new) }
+        ensures told { Told V.told V.faults (CountsDevice result) vol.old vol.new }
     {
         let len = vol.len(VolFile::Bundle)?;
         if len == 0 {
@@ -110,8 +110,7 @@ impl Session {
             (V.history vol.old) (V.history vol.new) }
         ensures calls { (V.history vol.new).moment ≤ (V.history vol.old).moment + 1 }
         ensures idle { self.now.stopped ≡ true → vol.new ≡ vol.old }
-        ensures told { V.told vol.new ≡ V.told vol.old }
-        ensures counted { CountsDevice result (V.faults vol.old) (V.faults vol.new) }
+        ensures told { Told V.told V.faults (CountsDevice result) vol.old vol.new }
     {
         if self.stopped {
             return Err(StoreFault::Stopped);
@@ -131,8 +130,7 @@ impl Session {
             (V.history vol.old) (V.history vol.new) }
         ensures calls { (V.history vol.new).moment ≤ (V.history vol.old).moment + 1 + slot_count }
         ensures idle { self.now.stopped ≡ true → vol.new ≡ vol.old }
-        ensures told { V.told vol.new ≡ V.told vol.old }
-        ensures counted { CountsDevice result (V.faults vol.old) (V.faults vol.new) }
+        ensures told { Told V.told V.faults (CountsDevice result) vol.old vol.new }
     {
         if self.stopped {
             return Err(StoreFault::Stopped);
@@ -188,8 +186,7 @@ impl Session {
         ensures calls { (V.history vol.new).moment ≤ (V.history vol.old).moment + 1 }
         ensures unread { IsErrOf result StoreFault.NoTile → vol.new ≡ vol.old }
         ensures idle { self.now.stopped ≡ true → vol.new ≡ vol.old }
-        ensures told { V.told vol.new ≡ V.told vol.old }
-        ensures counted { CountsDevice result (V.faults vol.old) (V.faults vol.new) }
+        ensures told { Told V.told V.faults (CountsDevice result) vol.old vol.new }
     {
         if self.stopped {
             return Err(StoreFault::Stopped);
@@ -240,8 +237,7 @@ impl Session {
         ensures ready { IsTrue (V.told vol.old) → self.old.stopped ≡ false → UnlessDevice result
             (IsReadyToPut self.new (current (V.history vol.new))) }
         ensures idle { self.old.stopped ≡ true → vol.new ≡ vol.old }
-        ensures told { V.told vol.new ≡ V.told vol.old }
-        ensures counted { CountsDevice result (V.faults vol.old) (V.faults vol.new) }
+        ensures told { Told V.told V.faults (CountsDevice result) vol.old vol.new }
     {
         if self.stopped {
             return Err(StoreFault::Stopped);
@@ -289,8 +285,7 @@ impl Session {
         ensures ready { IsTrue (V.told vol.old) → self.old.stopped ≡ false → UnlessDevice result
             (IsReadyToPut self.new (current (V.history vol.new))) }
         ensures idle { self.old.stopped ≡ true → vol.new ≡ vol.old }
-        ensures told { V.told vol.new ≡ V.told vol.old }
-        ensures counted { CountsDevice result (V.faults vol.old) (V.faults vol.new) }
+        ensures told { Told V.told V.faults (CountsDevice result) vol.old vol.new }
     {
         self.put_updates(vol, &Updates::one(slot, tile))
     }
@@ -331,8 +326,7 @@ impl Session {
         ensures ready { IsTrue (V.told vol.old) → self.old.stopped ≡ false → UnlessDevice result
             (IsReadyToPut self.new (current (V.history vol.new))) }
         ensures idle { self.old.stopped ≡ true → vol.new ≡ vol.old }
-        ensures told { V.told vol.new ≡ V.told vol.old }
-        ensures counted { CountsDevice result (V.faults vol.old) (V.faults vol.new) }
+        ensures told { Told V.told V.faults (CountsDevice result) vol.old vol.new }
     {
         self.put_updates(vol, &Updates::all(updates))
     }
@@ -372,8 +366,7 @@ impl Session {
             (IsReadyToPut self.new (current (V.history vol.new))) }
         ensures idle { self.old.stopped ≡ true → vol.new ≡ vol.old }
         ensures early { IsErrOf result StoreFault.OutOfMemory → vol.new ≡ vol.old }
-        ensures told { V.told vol.new ≡ V.told vol.old }
-        ensures counted { CountsDevice result (V.faults vol.old) (V.faults vol.new) }
+        ensures told { Told V.told V.faults (CountsDevice result) vol.old vol.new }
     {
         if self.stopped {
             return Err(StoreFault::Stopped);

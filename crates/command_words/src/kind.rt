@@ -1,5 +1,5 @@
 ghost use Rattle.std.specs.Prelude.{◌≡◌, ◌↔◌, ◌≤◌, Some, length};
-ghost use Rattle.raster_values.specs.declared.kind.PixelType.{PixelType};
+ghost use Rattle.raster_cells.specs.declared.kind.PixelType.{PixelType};
 ghost use Rattle.command_words.specs.Words.{type_name};
 
 use crate::number::has_text;

@@ -4,10 +4,10 @@ use Rattle.std.specs.Prelude.{All}
 use Rattle.std.proofs.lemmas.Int.{ints}
 use Rattle.std.proofs.lemmas.List.Concat.{flat_map-cons}
 use Rattle.std.proofs.lemmas.List.Elements.{All-head, All-tail}
-use Rattle.raster_values.specs.declared.kind.PixelType.{PixelType}
-use Rattle.raster_values.specs.declared.kind.PixelType.TheVariants.{I8, U8}
-use Rattle.raster_values.specs.PixelType.{InRange, bytes_of, value_bytes, complement_of}
-use Rattle.raster_values.specs.Grid.{values_bytes}
+use Rattle.raster_cells.specs.declared.kind.PixelType.{PixelType}
+use Rattle.raster_cells.specs.declared.kind.PixelType.TheVariants.{I8, U8}
+use Rattle.raster_cells.specs.PixelType.{InRange, bytes_of, value_bytes, complement_of}
+use Rattle.raster_cells.specs.Values.{values_bytes}
 use Rattle.delta_mode.specs.Symbols.{IsByteType, symbol_of}
 use Rattle.delta_mode.proofs.Numbers.{by_byte, symbol-is}
 

@@ -3,8 +3,8 @@ use Rattle.std.proofs.Common.{◌≡◌, ℕ, zero, suc, ℤ, ◌-ℤ◌, ◌+�
 use Rattle.std.proofs.lemmas.Bool.{cases_lt, lt-ltb}
 use mir.Syntax.{w64}
 use mir.Val.{to_z, of_z}
-use Rattle.raster_values.specs.declared.kind.PixelType.{PixelType}
-use Rattle.raster_values.specs.PixelType.{InRange}
+use Rattle.raster_cells.specs.declared.kind.PixelType.{PixelType}
+use Rattle.raster_cells.specs.PixelType.{InRange}
 use Rattle.delta_mode.specs.Symbols.{IsByteType, symbol_of}
 use Rattle.delta_mode.specs.Deltas.{has_left, has_upper, last_value, predictor, delta}
 use Rattle.delta_mode.specs.inside.Pieces.{rank, predicted_by, IsAt, AreCoded}

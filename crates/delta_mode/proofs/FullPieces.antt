@@ -4,7 +4,7 @@ use Rattle.std.proofs.lemmas.Bool.{cases_lt}
 use Rattle.std.proofs.Math.Seq.{take-append-add}
 use Rattle.std.proofs.lemmas.List.{append-nil, append_assoc, length-append, length-take-le, take-append-le, take_all}
 use Rattle.std.proofs.Math.Nat.{mod-eq_of_lt, mul-le-mul_left, mul-le-mul_right, mul-mod_left}
-use Rattle.raster_values.specs.PixelType.{InRange}
+use Rattle.raster_cells.specs.PixelType.{InRange}
 use Rattle.raster_values.specs.Raster.{Pixels, IsRaster, valid_count}
 use Rattle.raster_values.specs.Flat.{value_in}
 use Rattle.delta_mode.specs.Symbols.{IsByteType, bias}

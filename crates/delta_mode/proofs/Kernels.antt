@@ -7,8 +7,8 @@ use Rattle.std.proofs.lemmas.Int.{ints, to_z-of_z, int_rem_euclid_is}
 use Rattle.std.proofs.lemmas.List.{get_or-set_same, get_or-set_other, get_or_past}
 use mir.Syntax.{w64}
 use mir.Val.{to_z, of_z}
-use Rattle.raster_values.specs.declared.kind.PixelType.{PixelType}
-use Rattle.raster_values.specs.PixelType.{InRange}
+use Rattle.raster_cells.specs.declared.kind.PixelType.{PixelType}
+use Rattle.raster_cells.specs.PixelType.{InRange}
 use Rattle.delta_mode.specs.Symbols.{IsByteType, bias, symbol_of}
 use Rattle.delta_mode.specs.inside.Pieces.{biased, IsSmall, value_of_place}
 use Rattle.delta_mode.proofs.Marks.{zero_in_range}

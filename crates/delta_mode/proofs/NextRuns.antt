@@ -3,10 +3,10 @@ use Rattle.std.proofs.Common.{◌≡◌, ℕ, ℤ, ◌+◌, ◌-◌, ◌*◌, �
 use Rattle.std.specs.Prelude.{nat_eq}
 use Rattle.std.proofs.lemmas.Bool.{cases_lt}
 use Rattle.std.proofs.lemmas.Bool.Decides.{nat_tests}
-use Rattle.raster_values.specs.declared.kind.PixelType.{PixelType}
+use Rattle.raster_cells.specs.declared.kind.PixelType.{PixelType}
 use Rattle.raster_values.specs.Raster.{Pixels, IsRaster, valid_count}
 use Rattle.raster_values.specs.Flat.{marks_of}
-use Rattle.raster_values.specs.MarkRuns.{AreRuns}
+use Rattle.raster_cells.specs.MarkRuns.{AreRuns}
 use Rattle.delta_mode.specs.Deltas.{is_valid, last_value}
 use Rattle.delta_mode.specs.inside.Pieces.{rank, IsAt, AreCoded}
 use Rattle.delta_mode.proofs.Pieces.{rank_grows}

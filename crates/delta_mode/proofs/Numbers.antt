@@ -2,9 +2,9 @@
 use Rattle.std.proofs.Common.{◌≡◌, ℕ, ℤ, pos, negsuc, ◌+ℤ◌, ◌-ℤ◌, ◌≤ℤ◌, ◌+◌, ◌*◌, ◌%◌, ◌<◌, true, false, cond, refl, ap, arith}
 use Rattle.std.specs.Prelude.{unsigned_abs}
 use Rattle.std.proofs.lemmas.Int.{ints, int_rem_euclid_is}
-use Rattle.raster_values.specs.declared.kind.PixelType.{PixelType}
-use Rattle.raster_values.specs.declared.kind.PixelType.TheVariants.{I8, U8, I16, U16, I32, U32}
-use Rattle.raster_values.specs.PixelType.{is_signed}
+use Rattle.raster_cells.specs.declared.kind.PixelType.{PixelType}
+use Rattle.raster_cells.specs.declared.kind.PixelType.TheVariants.{I8, U8, I16, U16, I32, U32}
+use Rattle.raster_cells.specs.PixelType.{is_signed}
 use Rattle.delta_mode.specs.Symbols.{IsByteType, bias, symbol_of}
 
 -- what holds for i8 and for u8 holds for each type of bytes

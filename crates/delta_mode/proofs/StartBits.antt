@@ -13,7 +13,7 @@ use Rattle.std.proofs.Math.Nat.{pow-succ'}
 use mir.Syntax.{w32}
 use Rattle.raster_values.specs.Flat.{marks_of}
 use Rattle.raster_values.specs.Raster.{Pixels}
-use Rattle.raster_values.specs.Words.{word_bit, AreMarks}
+use Rattle.raster_cells.specs.Words.{word_bit, AreMarks}
 use Rattle.delta_mode.specs.Deltas.{is_valid}
 use Rattle.delta_mode.specs.inside.Pieces.{left_of, rank}
 use Rattle.delta_mode.specs.inside.Starts.{mark_of}

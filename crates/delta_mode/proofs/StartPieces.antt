@@ -7,13 +7,13 @@ use Rattle.std.proofs.lemmas.Bool.Decides.{nat_tests}
 use Rattle.std.proofs.lemmas.Int.{ints}
 use Rattle.std.proofs.lemmas.List.{get_or-append-add, get_or_append_left}
 use Rattle.std.proofs.lemmas.Nat.Bits.{bit_at_lowest, bit_at-zero}
-use Rattle.raster_values.specs.declared.kind.PixelType.{PixelType}
-use Rattle.raster_values.specs.declared.kind.PixelType.TheVariants.{I8, U8}
-use Rattle.raster_values.specs.Distance.{distance_of}
+use Rattle.raster_cells.specs.declared.kind.PixelType.{PixelType}
+use Rattle.raster_cells.specs.declared.kind.PixelType.TheVariants.{I8, U8}
+use Rattle.raster_cells.specs.Distance.{distance_of}
 use Rattle.raster_values.specs.Flat.{marks_of, value_in, valid_from}
-use Rattle.raster_values.specs.PixelType.{InRange}
+use Rattle.raster_cells.specs.PixelType.{InRange}
 use Rattle.raster_values.specs.Raster.{Pixels, IsRaster}
-use Rattle.raster_values.specs.Words.{word_bit, AreMarks}
+use Rattle.raster_cells.specs.Words.{word_bit, AreMarks}
 use Rattle.delta_mode.specs.Symbols.{IsByteType, bias, symbol_of}
 use Rattle.delta_mode.specs.Deltas.{delta, has_left, has_upper, is_valid, last_value, predictor}
 use Rattle.delta_mode.specs.Ways.{deltas_before}

@@ -5,7 +5,7 @@ use Rattle.std.proofs.lemmas.List.{get_or-map}
 use Rattle.std.proofs.Math.Nat.{mul-le-mul_right}
 use Rattle.raster_values.specs.Raster.{Pixels, IsRaster}
 use Rattle.raster_values.specs.Flat.{AllStand, all_values, value_in}
-use Rattle.raster_values.specs.Grid.{values_bytes}
+use Rattle.raster_cells.specs.Values.{values_bytes}
 use Rattle.delta_mode.specs.Symbols.{IsByteType}
 use Rattle.delta_mode.specs.Deltas.{predictor}
 use Rattle.delta_mode.specs.inside.Bytewise.{byte_of}

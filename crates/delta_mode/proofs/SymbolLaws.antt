@@ -5,13 +5,13 @@ use Rattle.std.specs.List.{filter, range_with_len}
 use Rattle.std.proofs.lemmas.Bool.{cases_lt, cases_Bool}
 use Rattle.std.proofs.lemmas.Int.{ints}
 use Rattle.std.proofs.lemmas.List.{ext_get_or, length-map, get_or-map}
-use Rattle.raster_values.specs.declared.kind.PixelType.{PixelType}
-use Rattle.raster_values.specs.declared.kind.PixelType.TheVariants.{I8, U8}
-use Rattle.raster_values.specs.PixelType.{InRange}
+use Rattle.raster_cells.specs.declared.kind.PixelType.{PixelType}
+use Rattle.raster_cells.specs.declared.kind.PixelType.TheVariants.{I8, U8}
+use Rattle.raster_cells.specs.PixelType.{InRange}
 use Rattle.raster_values.specs.Raster.{Pixels, IsRaster, values_of}
 use Rattle.raster_values.specs.Block.{SameMask}
 use Rattle.raster_values.specs.Flat.{value_in}
-use Rattle.raster_values.proofs.Every.{Every, map_same, filter_every, range_every}
+use Rattle.raster_cells.proofs.Every.{Every, map_same, filter_every, range_every}
 use Rattle.raster_values.proofs.Same.{same_raster}
 use Rattle.raster_values.proofs.Deep.{AreDeep, raster_deep, pixels_once, values_in_range}
 use Rattle.delta_mode.specs.Symbols.{IsByteType, bias, symbol_of}

@@ -8,7 +8,7 @@ use Rattle.std.proofs.lemmas.List.Elements.{filter-append}
 use Rattle.std.proofs.lemmas.List.Sums.{sum_by-cons}
 use Rattle.std.proofs.Math.Nat.{mul-le-mul_right}
 use Rattle.std.proofs.Math.Path.{transport}
-use Rattle.raster_values.specs.declared.kind.PixelType.{PixelType}
+use Rattle.raster_cells.specs.declared.kind.PixelType.{PixelType}
 use Rattle.raster_values.specs.Raster.{Pixels, IsRaster, valid_count}
 use Rattle.raster_values.specs.Block.{SameMask}
 use Rattle.delta_mode.specs.Symbols.{symbol_of}

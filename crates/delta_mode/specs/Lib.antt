@@ -3,6 +3,7 @@ pub use Rattle.raster_values.specs.Flat
 pub use Rattle.raster_values.specs.Block
 pub mod Symbols
 pub mod Deltas
+pub mod Frames
 pub mod Ways
 pub mod PlainWays
 pub mod Laws

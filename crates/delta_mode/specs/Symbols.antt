@@ -1,8 +1,8 @@
 -- The symbol of a number: a byte.
 use Rattle.std.specs.Prelude.{ℕ, ◌≡◌, ℤ, pos, ◌+ℤ◌, unsigned_abs, if◌then◌else◌}
 use Rattle.std.specs.Int.{int_rem_euclid}
-use Rattle.raster_values.specs.declared.kind.PixelType.{PixelType}
-use Rattle.raster_values.specs.PixelType.{bytes_of, is_signed}
+use Rattle.raster_cells.specs.declared.kind.PixelType.{PixelType}
+use Rattle.raster_cells.specs.PixelType.{bytes_of, is_signed}
 
 -- a value of the type takes one byte: it is i8 or u8
 abbrev pub IsByteType : PixelType → Type 0

@@ -1,15 +1,17 @@
 //! The symbols of pixels one behind the other of a raster of bytes of which every pixel is valid: of
 //! its bytes as they lie.
 
-ghost use Rattle.std.specs.Prelude.{◌≡◌, ℕ, ◌+◌, ◌-◌, ◌*◌, ◌%◌, ◌^◌, ◌<◌, ◌≤◌, ◌++◌, length, get_or};
+ghost use Rattle.std.specs.Prelude.{◌≡◌, ℕ, ◌+◌, ◌-◌, ◌*◌, ◌%◌, ◌^◌, ◌<◌, ◌≤◌, ◌++◌, length};
+ghost use Rattle.std.specs.Prelude.{get_or};
 ghost use Rattle.raster_values.specs.Raster.{valid_count};
-ghost use Rattle.delta_mode.specs.Symbols.{IsByteType, bias};
+ghost use Rattle.delta_mode.specs.Symbols.{bias};
 ghost use Rattle.delta_mode.specs.Ways.{deltas_before};
 ghost use Rattle.delta_mode.specs.inside.Bytewise.{wrapped};
 ghost use Rattle.delta_mode.specs.inside.Strided.{cell, cell_above, cell_before};
 
+use super::byte_plane::BytePlane;
+use raster_access::View;
 use raster_values::{PixelType, cells_are_values};
-use raster_view::View;
 
 /// What is added to a byte of the type.
 pub(super) fn added(kind: PixelType) -> u8
@@ -202,26 +204,25 @@ fn byte_piece(
 }
 
 /// Writes the symbols of as many pixels as `out` has room for, from number `place` on.
-pub(super) fn write_full<V: View>(raster: &V, d: u32, place: usize, out: &mut [u8])
-    requires kind { IsByteType (V.pixels raster.now).kind }
-    requires full { valid_count (V.pixels raster.now)
-        ≡ (V.pixels raster.now).rows * (V.pixels raster.now).cols }
-    requires depth { d < (V.pixels raster.now).depth }
+pub(super) fn write_full<V: View>(plane: &BytePlane<V>, place: usize, out: &mut [u8])
+    requires full { valid_count (V.pixels plane.now.raster.now)
+        ≡ (V.pixels plane.now.raster.now).rows * (V.pixels plane.now.raster.now).cols }
     requires within { place + length out.old
-        ≤ (V.pixels raster.now).rows * (V.pixels raster.now).cols }
+        ≤ (V.pixels plane.now.raster.now).rows * (V.pixels plane.now.raster.now).cols }
     ensures room { length out.new ≡ length out.old }
-    ensures symbols { deltas_before (V.pixels raster.now) d (place + length out.old)
-        ≡ deltas_before (V.pixels raster.now) d place ++ out.new }
+    ensures symbols { deltas_before (V.pixels plane.now.raster.now) plane.now.d (place
+        + length out.old)
+        ≡ deltas_before (V.pixels plane.now.raster.now) plane.now.d place ++ out.new }
 {
     cells_are_values();
-    let cells = raster.cells();
-    let depth = raster.depth() as usize;
-    let cols = raster.cols() as usize;
+    let cells = plane.raster.cells();
+    let depth = plane.raster.depth() as usize;
+    let cols = plane.raster.cols() as usize;
     byte_piece(
-        added(raster.kind()),
+        added(plane.raster.kind()),
         cols,
         depth,
-        d as usize,
+        plane.d as usize,
         cells,
         place,
         out,

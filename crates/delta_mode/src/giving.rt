@@ -6,11 +6,12 @@ ghost use Rattle.delta_mode.specs.Symbols.{IsByteType};
 ghost use Rattle.delta_mode.specs.Ways.{IsOn, deltas_of_all, left_over};
 ghost use Rattle.delta_mode.specs.inside.Steps.{IsDeeper, IsFurther};
 
+use super::byte_plane::BytePlane;
 use super::depth::is_full;
 use super::full::write_full;
 use super::marked_piece::{PIECE, write_marked};
 use super::walk::{Walk, start};
-use raster_view::View;
+use raster_access::View;
 
 /// How far the symbols of the differences have been given, one depth behind the other.
 #[derive(Clone, Copy)]
@@ -81,7 +82,8 @@ fn next_full<V: View>(raster: &V, way: Way, out: &mut [u8]) -> Way
 {
     let pixels = raster.rows() as usize * raster.cols() as usize;
     let count = out.len().min(pixels - way.place);
-    write_full(raster, way.d, way.place, &mut out[..count]);
+    let plane = BytePlane { raster, d: way.d };
+    write_full(&plane, way.place, &mut out[..count]);
     advanced(way, pixels, count, count, way.walk)
 }
 
@@ -103,7 +105,8 @@ fn next_marked<V: View>(raster: &V, way: Way, out: &mut [u8]) -> Way
 {
     let pixels = raster.rows() as usize * raster.cols() as usize;
     let least = PIECE.min(out.len());
-    let (walk, count) = write_marked(raster, way.d, way.place, way.walk, least, out);
+    let plane = BytePlane { raster, d: way.d };
+    let (walk, count) = write_marked(&plane, way.place, way.walk, least, out);
     advanced(way, pixels, count, walk.count - way.walk.count, walk)
 }
 

@@ -1,13 +1,14 @@
 //! The plain symbols, piece by piece.
 
-ghost use Rattle.std.specs.Prelude.{◌≡◌, ℕ, ◌+◌, ◌-◌, ◌*◌, ◌^◌, ◌<◌, ◌≤◌, ◌++◌, length, get_or, take};
+ghost use Rattle.std.specs.Prelude.{◌≡◌, ℕ, ◌+◌, ◌-◌, ◌*◌, ◌^◌, ◌<◌, ◌≤◌, ◌++◌, length, get_or};
+ghost use Rattle.std.specs.Prelude.{take};
 ghost use Rattle.raster_values.specs.Raster.{Pixels, valid_count};
 ghost use Rattle.delta_mode.specs.Symbols.{IsByteType};
 ghost use Rattle.delta_mode.specs.Deltas.{is_valid, plain};
 ghost use Rattle.delta_mode.specs.PlainWays.{IsOnPlain, plain_before};
 ghost use Rattle.delta_mode.specs.inside.Pieces.{rank};
 
-use raster_view::View;
+use raster_access::View;
 
 /// How many pixels are looked at together, at most.
 const PIECE: usize = 1024;

@@ -1,10 +1,11 @@
-//! Delta and plain mode: the symbols of rasters of bytes. It stands on `raster_values`,
-//! `raster_target` and `raster_view`, and takes no memory.
+//! Delta and plain mode: the symbols of rasters of bytes. It stands on `raster_cells`,
+//! `raster_values` and `raster_access`, and takes no memory.
 //!
 //! The contract that the layer above uses: a pixel's symbol is that of its value less its
 //! predictor, one equation per pixel; symbols of all depths have one raster.
 #![tactic(auto)]
 
+mod byte_plane;
 mod depth;
 mod full;
 mod giving;

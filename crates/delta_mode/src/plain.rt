@@ -5,8 +5,8 @@ ghost use Rattle.raster_values.specs.Raster.{valid_count};
 ghost use Rattle.delta_mode.specs.Symbols.{IsByteType};
 ghost use Rattle.delta_mode.specs.Deltas.{ArePlain};
 
+use raster_access::View;
 use raster_values::PixelType;
-use raster_view::View;
 
 /// Adds 128 to each byte, modulo 256.
 fn add_bias(bytes: &mut [u8])
@@ -20,7 +20,8 @@ fn add_bias(bytes: &mut [u8])
 /// The symbols of the valid pixels' values, pixel by pixel and depth innermost, in plain mode.
 pub fn plain_of<V: View>(raster: &V, out: &mut [u8])
     requires kind { IsByteType (V.pixels raster.now).kind }
-    requires count { length out.old ≡ valid_count (V.pixels raster.now) * (V.pixels raster.now).depth }
+    requires count { length out.old
+        ≡ valid_count (V.pixels raster.now) * (V.pixels raster.now).depth }
     ensures { ArePlain (V.pixels raster.now) out.new }
 {
     raster.value_bytes(out);

@@ -2,10 +2,10 @@
 
 ghost use Rattle.std.specs.Prelude.{◌≡◌, ℕ, ◌+◌, ◌*◌, ◌<◌, ◌≤◌, ◌++◌, true, List, length, get_or};
 ghost use Rattle.std.specs.Prelude.{IfErr, OnOk};
-ghost use Rattle.raster_values.specs.PixelType.{InRange};
+ghost use Rattle.raster_cells.specs.PixelType.{InRange};
 ghost use Rattle.raster_values.specs.Raster.{valid_count};
-ghost use Rattle.raster_values.specs.Block.{SameMask};
 ghost use Rattle.raster_values.specs.Flat.{value_in};
+ghost use Rattle.delta_mode.specs.Frames.{KeepsMask};
 ghost use Rattle.delta_mode.specs.Symbols.{IsByteType, symbol_of};
 ghost use Rattle.delta_mode.specs.Deltas.{TakesPlain, is_valid};
 ghost use Rattle.delta_mode.specs.inside.Pieces.{rank, mark_at, value_of_place};
@@ -14,7 +14,7 @@ ghost use Rattle.delta_mode.specs.inside.Plain.{ArePlaced};
 use super::full::added;
 use super::run::lowered;
 use super::source::{ListSymbols, SymbolSource};
-use raster_target::Target;
+use raster_access::Target;
 use raster_values::PixelType;
 
 /// How many pixels are looked at together, at most.
@@ -70,23 +70,24 @@ fn give_plain<T: Target>(
     values: &mut [i64],
 )
     requires kind { IsByteType (T.pixels raster.old).kind }
-    requires within { place + length marks.now ≤ (T.pixels raster.old).rows * (T.pixels raster.old).cols }
+    requires within { place + length marks.now
+        ≤ (T.pixels raster.old).rows * (T.pixels raster.old).cols }
     requires marks { (i : ℕ) → i < length marks.now
         → mark_at marks.now i ≡ is_valid (T.pixels raster.old) (place + i) }
     requires values { length values.old ≡ length marks.now }
     requires count { length symbols.now
         ≡ rank (mark_at marks.now) (length marks.now) * (T.pixels raster.old).depth }
     requires few { length symbols.now ≤ 65536 }
-    requires sound { T.sound raster.old }
-    ensures same { SameMask (T.pixels raster.old) (T.pixels raster.new) }
-    ensures placed { (i e : ℕ) → i < length marks.now → e < (T.pixels raster.old).depth → mark_at marks.now i ≡ true
+    ensures placed { (i e : ℕ) → i < length marks.now → e < (T.pixels raster.old).depth
+        → mark_at marks.now i ≡ true
         → symbol_of (T.pixels raster.old).kind (value_in (T.pixels raster.new) e (place + i))
         ≡ get_or symbols.now (rank (mark_at marks.now) i * (T.pixels raster.old).depth + e) 0 }
-    ensures rest { (k e : ℕ) → k < (T.pixels raster.old).rows * (T.pixels raster.old).cols → e < (T.pixels raster.old).depth
+    ensures rest { (k e : ℕ) → k < (T.pixels raster.old).rows * (T.pixels raster.old).cols
+        → e < (T.pixels raster.old).depth
         → (place ≤ k → k < place + length marks.now → ⊥)
         → value_in (T.pixels raster.new) e k ≡ value_in (T.pixels raster.old) e k }
-    ensures sound { T.sound raster.new }
-    ensures kept { T.kept raster.new ≡ T.kept raster.old }
+    ensures frame { KeepsMask (T.pixels raster.old) (T.pixels raster.new)
+        (T.kept raster.old) (T.kept raster.new) }
 {
     let kind = raster.kind();
     let depth = raster.depth();
@@ -107,31 +108,38 @@ fn take_plain<S: SymbolSource, T: Target>(
     symbols: &mut [u8],
 ) -> Result<(), S::Stop>
     requires kind { IsByteType (T.pixels raster.old).kind }
-    requires within { place + length marks.old ≤ (T.pixels raster.old).rows * (T.pixels raster.old).cols }
+    requires within { place + length marks.old
+        ≤ (T.pixels raster.old).rows * (T.pixels raster.old).cols }
     requires values { length values.old ≡ length marks.old }
     requires room { length marks.old * (T.pixels raster.old).depth ≤ length symbols.old }
     requires few { length symbols.old ≤ 65536 }
     requires ready { S.sound source.old }
-    requires left { rank (is_valid (T.pixels raster.old)) (place + length marks.old) * (T.pixels raster.old).depth
-        ≤ rank (is_valid (T.pixels raster.old)) place * (T.pixels raster.old).depth + S.left source.old }
-    requires sound { T.sound raster.old }
-    ensures left { OnOk result (rank (is_valid (T.pixels raster.old)) (place + length marks.old) * (T.pixels raster.old).depth + S.left source.new
-        ≡ rank (is_valid (T.pixels raster.old)) place * (T.pixels raster.old).depth + S.left source.old) }
-    ensures same { SameMask (T.pixels raster.old) (T.pixels raster.new) }
+    requires left { rank (is_valid (T.pixels raster.old)) (place + length marks.old) *
+        (T.pixels raster.old).depth
+        ≤ rank (is_valid (T.pixels raster.old)) place * (T.pixels raster.old).depth
+        + S.left source.old }
+    ensures left { OnOk result (rank (is_valid (T.pixels raster.old)) (place + length marks.old) *
+        (T.pixels raster.old).depth + S.left source.new
+        ≡ rank (is_valid (T.pixels raster.old)) place * (T.pixels raster.old).depth
+        + S.left source.old) }
     ensures placed { (before front : List ℕ) → S.has_given source.old (before ++ front)
         → length front ≡ rank (is_valid (T.pixels raster.old)) place * (T.pixels raster.old).depth
         → OnOk result ((piece : List ℕ) × (S.has_given source.new (before ++ (front ++ piece))
-        × ((length (front ++ piece) ≡ rank (is_valid (T.pixels raster.old)) (place + length marks.old) * (T.pixels raster.old).depth)
-        × ArePlaced (T.pixels raster.old).kind (T.pixels raster.old).depth (is_valid (T.pixels raster.old))
+        × ((length (front ++ piece)
+        ≡ rank (is_valid (T.pixels raster.old)) (place + length marks.old) *
+        (T.pixels raster.old).depth)
+        × ArePlaced (T.pixels raster.old).kind (T.pixels raster.old).depth
+        (is_valid (T.pixels raster.old))
         (value_in (T.pixels raster.new)) place (place + length marks.old) (front ++ piece)))) }
-    ensures rest { (k e : ℕ) → k < (T.pixels raster.old).rows * (T.pixels raster.old).cols → e < (T.pixels raster.old).depth
+    ensures rest { (k e : ℕ) → k < (T.pixels raster.old).rows * (T.pixels raster.old).cols
+        → e < (T.pixels raster.old).depth
         → (place ≤ k → k < place + length marks.old → ⊥)
         → value_in (T.pixels raster.new) e k ≡ value_in (T.pixels raster.old) e k }
     ensures ready { S.sound source.new }
     ensures sources { S.kept source.new ≡ S.kept source.old }
     ensures stop { IfErr result (λ f. S.stops (S.kept source.old) f) }
-    ensures sound { T.sound raster.new }
-    ensures kept { T.kept raster.new ≡ T.kept raster.old }
+    ensures frame { KeepsMask (T.pixels raster.old) (T.pixels raster.new)
+        (T.kept raster.old) (T.kept raster.new) }
 {
     raster.marks_from(place, marks);
     let piece = &mut symbols[..count_set(marks) * raster.depth() as usize];
@@ -148,21 +156,22 @@ pub fn unplain_from<S: SymbolSource, T: Target>(
     raster: &mut T,
 ) -> Result<(), S::Stop>
     requires kind { IsByteType (T.pixels raster.old).kind }
-    requires count { valid_count (T.pixels raster.old) * (T.pixels raster.old).depth ≤ S.left source.old }
+    requires count { valid_count (T.pixels raster.old) * (T.pixels raster.old).depth
+        ≤ S.left source.old }
     requires ready { S.sound source.old }
-    requires sound { T.sound raster.old }
-    ensures taken { (before : List ℕ) → S.has_given source.old before → OnOk result ((symbols : List ℕ)
+    ensures taken { (before : List ℕ) → S.has_given source.old before
+        → OnOk result ((symbols : List ℕ)
         × (S.has_given source.new (before ++ symbols)
         × ((length symbols ≡ valid_count (T.pixels raster.old) * (T.pixels raster.old).depth)
         × TakesPlain (T.pixels raster.old) (T.pixels raster.new) symbols))) }
-    ensures left { OnOk result (S.left source.new + valid_count (T.pixels raster.old) * (T.pixels raster.old).depth
+    ensures left { OnOk result (S.left source.new
+        + valid_count (T.pixels raster.old) * (T.pixels raster.old).depth
         ≡ S.left source.old) }
     ensures stop { IfErr result (λ f. S.stops (S.kept source.old) f) }
-    ensures same { SameMask (T.pixels raster.old) (T.pixels raster.new) }
     ensures ready { S.sound source.new }
     ensures sources { S.kept source.new ≡ S.kept source.old }
-    ensures sound { T.sound raster.new }
-    ensures kept { T.kept raster.new ≡ T.kept raster.old }
+    ensures frame { KeepsMask (T.pixels raster.old) (T.pixels raster.new)
+        (T.kept raster.old) (T.kept raster.new) }
 {
     let pixels = raster.rows() as usize * raster.cols() as usize;
     let most = PIECE.min(ROOM / raster.depth() as usize);
@@ -189,11 +198,11 @@ pub fn unplain_from<S: SymbolSource, T: Target>(
 /// else stays.
 pub fn unplain<T: Target>(symbols: &[u8], raster: &mut T)
     requires kind { IsByteType (T.pixels raster.old).kind }
-    requires count { length symbols.now ≡ valid_count (T.pixels raster.old) * (T.pixels raster.old).depth }
-    requires sound { T.sound raster.old }
+    requires count { length symbols.now
+        ≡ valid_count (T.pixels raster.old) * (T.pixels raster.old).depth }
     ensures taken { TakesPlain (T.pixels raster.old) (T.pixels raster.new) symbols.now }
-    ensures sound { T.sound raster.new }
-    ensures kept { T.kept raster.new ≡ T.kept raster.old }
+    ensures frame { KeepsMask (T.pixels raster.old) (T.pixels raster.new)
+        (T.kept raster.old) (T.kept raster.new) }
 {
     let mut source = ListSymbols::of(symbols);
     match unplain_from(&mut source, raster) {

@@ -1,10 +1,11 @@
 //! Pieces of a row of which every pixel is valid, and their values from symbols: each but the first has
 //! the one before it as its predictor, so that no mark is looked at.
 
-ghost use Rattle.std.specs.Prelude.{◌≡◌, ℕ, pos, ◌+◌, ◌*◌, ◌%◌, ◌<◌, ◌≤◌, ◌++◌, ◌+ℤ◌, ◌-ℤ◌, ◌≤ℤ◌, true, List, length, get_or};
-ghost use Rattle.raster_values.specs.PixelType.{InRange};
-ghost use Rattle.raster_values.specs.Block.{SameMask};
+ghost use Rattle.std.specs.Prelude.{◌≡◌, ℕ, pos, ◌+◌, ◌*◌, ◌%◌, ◌<◌, ◌≤◌, ◌++◌, ◌+ℤ◌, ◌-ℤ◌, ◌≤ℤ◌};
+ghost use Rattle.std.specs.Prelude.{true, List, length, get_or};
+ghost use Rattle.raster_cells.specs.PixelType.{InRange};
 ghost use Rattle.raster_values.specs.Flat.{value_in};
+ghost use Rattle.delta_mode.specs.Frames.{KeepsMask};
 ghost use Rattle.delta_mode.specs.Symbols.{IsByteType, symbol_of};
 ghost use Rattle.delta_mode.specs.Deltas.{has_left, is_valid, last_value, predictor};
 ghost use Rattle.delta_mode.specs.inside.Pieces.{rank, IsAt, AreCoded, value_of_place};
@@ -12,7 +13,7 @@ ghost use Rattle.delta_mode.specs.inside.Runs.{value_before};
 
 use super::full::added;
 use super::walk::{Walk, predicted, read_above};
-use raster_target::Target;
+use raster_access::Target;
 use raster_values::PixelType;
 
 /// How far a value is above the type's least, by what is added to it.
@@ -69,9 +70,10 @@ fn predictor_at<T: Target>(raster: &T, d: u32, place: usize, walk: Walk) -> i64
     requires across { place % (T.pixels raster.now).cols + 1 ≤ (T.pixels raster.now).cols }
     requires last_in_range { InRange (T.pixels raster.now).kind walk.last }
     requires within { place < (T.pixels raster.now).rows * (T.pixels raster.now).cols }
-    requires last { walk.last ≡ last_value (is_valid (T.pixels raster.now)) (value_in (T.pixels raster.now) d) place }
-    requires left { walk.left ≡ has_left (T.pixels raster.now).cols (is_valid (T.pixels raster.now)) place }
-    requires sound { T.sound raster.now }
+    requires last { walk.last
+        ≡ last_value (is_valid (T.pixels raster.now)) (value_in (T.pixels raster.now) d) place }
+    requires left { walk.left
+        ≡ has_left (T.pixels raster.now).cols (is_valid (T.pixels raster.now)) place }
     ensures { result ≡ predictor (T.pixels raster.now).cols (is_valid (T.pixels raster.now))
         (value_in (T.pixels raster.now) d) place }
 {
@@ -97,25 +99,32 @@ pub(super) fn give_run<T: Target>(
     requires kind { IsByteType (T.pixels raster.old).kind }
     requires depth { d < (T.pixels raster.old).depth }
     requires some { 0 < length symbols.now }
-    requires across { place % (T.pixels raster.old).cols + length symbols.now ≤ (T.pixels raster.old).cols }
-    requires within { place + length symbols.now ≤ (T.pixels raster.old).rows * (T.pixels raster.old).cols }
-    requires valid { (i : ℕ) → i < length symbols.now → is_valid (T.pixels raster.old) (place + i) ≡ true }
+    requires across { place % (T.pixels raster.old).cols + length symbols.now
+        ≤ (T.pixels raster.old).cols }
+    requires within { place + length symbols.now
+        ≤ (T.pixels raster.old).rows * (T.pixels raster.old).cols }
+    requires valid { (i : ℕ) → i < length symbols.now → is_valid (T.pixels raster.old) (place + i)
+        ≡ true }
     requires values { length values.old ≡ length symbols.now }
-    requires last { walk.last ≡ last_value (is_valid (T.pixels raster.old)) (value_in (T.pixels raster.old) d) place }
-    requires left { walk.left ≡ has_left (T.pixels raster.old).cols (is_valid (T.pixels raster.old)) place }
+    requires last { walk.last
+        ≡ last_value (is_valid (T.pixels raster.old)) (value_in (T.pixels raster.old) d) place }
+    requires left { walk.left
+        ≡ has_left (T.pixels raster.old).cols (is_valid (T.pixels raster.old)) place }
     requires count { walk.count ≡ rank (is_valid (T.pixels raster.old)) place }
-    requires sound { T.sound raster.old }
-    ensures at { IsAt (is_valid (T.pixels raster.old)) (value_in (T.pixels raster.new) d) (place + length symbols.now)
+    ensures at { IsAt (is_valid (T.pixels raster.old)) (value_in (T.pixels raster.new) d) (place
+        + length symbols.now)
         result.left result.last result.count }
-    ensures same { SameMask (T.pixels raster.old) (T.pixels raster.new) }
     ensures coded { (before : List ℕ) → length before ≡ walk.count
-        → AreCoded (T.pixels raster.old).kind (T.pixels raster.old).cols (is_valid (T.pixels raster.old))
-        (value_in (T.pixels raster.new) d) place (place + length symbols.now) (before ++ symbols.now) }
-    ensures rest { (k e : ℕ) → k < (T.pixels raster.old).rows * (T.pixels raster.old).cols → e < (T.pixels raster.old).depth
+        → AreCoded (T.pixels raster.old).kind (T.pixels raster.old).cols
+        (is_valid (T.pixels raster.old))
+        (value_in (T.pixels raster.new) d) place (place + length symbols.now) (before
+        ++ symbols.now) }
+    ensures rest { (k e : ℕ) → k < (T.pixels raster.old).rows * (T.pixels raster.old).cols
+        → e < (T.pixels raster.old).depth
         → (place ≤ k → k < place + length symbols.now → e ≡ d → ⊥)
         → value_in (T.pixels raster.new) e k ≡ value_in (T.pixels raster.old) e k }
-    ensures sound { T.sound raster.new }
-    ensures kept { T.kept raster.new ≡ T.kept raster.old }
+    ensures frame { KeepsMask (T.pixels raster.old) (T.pixels raster.new)
+        (T.kept raster.old) (T.kept raster.new) }
 {
     let kind = raster.kind();
     let predictor = predictor_at(raster, d, place, walk);

@@ -2,10 +2,10 @@
 
 ghost use Rattle.std.specs.Prelude.{◌≡◌, ℕ, ◌+◌, ◌-◌, ◌*◌, ◌%◌, ◌<◌, ◌≤◌, ◌++◌, true, List, length};
 ghost use Rattle.std.specs.Prelude.{IfErr, IfOk, OnOk};
-ghost use Rattle.raster_values.specs.Raster.{valid_count};
-ghost use Rattle.raster_values.specs.Block.{SameMask};
+ghost use Rattle.raster_values.specs.Raster.{valid_count, IsRaster};
 ghost use Rattle.raster_values.specs.Flat.{marks_of, value_in};
-ghost use Rattle.raster_values.specs.MarkRuns.{AreRuns};
+ghost use Rattle.raster_cells.specs.MarkRuns.{AreRuns};
+ghost use Rattle.delta_mode.specs.Frames.{KeepsMask};
 ghost use Rattle.delta_mode.specs.Symbols.{IsByteType};
 ghost use Rattle.delta_mode.specs.Deltas.{TakesDeltas, is_valid};
 ghost use Rattle.delta_mode.specs.inside.Pieces.{rank, IsAt, AreCoded};
@@ -13,7 +13,7 @@ ghost use Rattle.delta_mode.specs.inside.Pieces.{rank, IsAt, AreCoded};
 use super::run::give_run;
 use super::source::{ListSymbols, SymbolSource};
 use super::walk::{Walk, enter, passed, start};
-use raster_target::Target;
+use raster_access::Target;
 use raster_values::Run;
 
 /// How many pixels of a row are taken together, at most.
@@ -33,32 +33,39 @@ fn take_run<S: SymbolSource, T: Target>(
     requires kind { IsByteType (T.pixels raster.old).kind }
     requires depth { d < (T.pixels raster.old).depth }
     requires some { 0 < length symbols.old }
-    requires across { place % (T.pixels raster.old).cols + length symbols.old ≤ (T.pixels raster.old).cols }
-    requires within { place + length symbols.old ≤ (T.pixels raster.old).rows * (T.pixels raster.old).cols }
-    requires valid { (i : ℕ) → i < length symbols.old → is_valid (T.pixels raster.old) (place + i) ≡ true }
+    requires across { place % (T.pixels raster.old).cols + length symbols.old
+        ≤ (T.pixels raster.old).cols }
+    requires within { place + length symbols.old
+        ≤ (T.pixels raster.old).rows * (T.pixels raster.old).cols }
+    requires valid { (i : ℕ) → i < length symbols.old → is_valid (T.pixels raster.old) (place + i)
+        ≡ true }
     requires values { length values.old ≡ length symbols.old }
     requires at { IsAt (is_valid (T.pixels raster.old)) (value_in (T.pixels raster.old) d) place
         walk.left walk.last walk.count }
     requires ready { S.sound source.old }
-    requires left { rank (is_valid (T.pixels raster.old)) (place + length symbols.old) ≤ walk.count + S.left source.old }
-    requires sound { T.sound raster.old }
-    ensures at { IfOk result (λ walk. IsAt (is_valid (T.pixels raster.old)) (value_in (T.pixels raster.new) d)
+    requires left { rank (is_valid (T.pixels raster.old)) (place + length symbols.old)
+        ≤ walk.count + S.left source.old }
+    ensures at { IfOk result (λ walk. IsAt (is_valid (T.pixels raster.old))
+        (value_in (T.pixels raster.new) d)
         (place + length symbols.old) walk.left walk.last walk.count) }
     ensures left { IfOk result (λ w. w.count + S.left source.new ≡ walk.count + S.left source.old) }
-    ensures same { SameMask (T.pixels raster.old) (T.pixels raster.new) }
-    ensures coded { (before front : List ℕ) → S.has_given source.old (before ++ front) → length front ≡ walk.count
+    ensures coded { (before front : List ℕ) → S.has_given source.old (before ++ front)
+        → length front ≡ walk.count
         → OnOk result ((piece : List ℕ) × (S.has_given source.new (before ++ (front ++ piece))
-        × ((length (front ++ piece) ≡ rank (is_valid (T.pixels raster.old)) (place + length symbols.old))
-        × AreCoded (T.pixels raster.old).kind (T.pixels raster.old).cols (is_valid (T.pixels raster.old))
+        × ((length (front ++ piece)
+        ≡ rank (is_valid (T.pixels raster.old)) (place + length symbols.old))
+        × AreCoded (T.pixels raster.old).kind (T.pixels raster.old).cols
+        (is_valid (T.pixels raster.old))
         (value_in (T.pixels raster.new) d) place (place + length symbols.old) (front ++ piece)))) }
-    ensures rest { (k e : ℕ) → k < (T.pixels raster.old).rows * (T.pixels raster.old).cols → e < (T.pixels raster.old).depth
+    ensures rest { (k e : ℕ) → k < (T.pixels raster.old).rows * (T.pixels raster.old).cols
+        → e < (T.pixels raster.old).depth
         → (place ≤ k → k < place + length symbols.old → e ≡ d → ⊥)
         → value_in (T.pixels raster.new) e k ≡ value_in (T.pixels raster.old) e k }
     ensures ready { S.sound source.new }
     ensures sources { S.kept source.new ≡ S.kept source.old }
     ensures stop { IfErr result (λ f. S.stops (S.kept source.old) f) }
-    ensures sound { T.sound raster.new }
-    ensures kept { T.kept raster.new ≡ T.kept raster.old }
+    ensures frame { KeepsMask (T.pixels raster.old) (T.pixels raster.new)
+        (T.kept raster.old) (T.kept raster.new) }
 {
     let before = enter(walk, place, raster.cols() as usize);
     source.next(symbols)?;
@@ -80,7 +87,8 @@ fn take_next<S: SymbolSource, T: Target>(
     requires kind { IsByteType (T.pixels raster.old).kind }
     requires depth { d < (T.pixels raster.old).depth }
     requires runs { AreRuns (marks_of (T.pixels raster.old)) place run.start run.end }
-    requires across { place % (T.pixels raster.old).cols + (run.end - place) ≤ (T.pixels raster.old).cols }
+    requires across { place % (T.pixels raster.old).cols + (run.end - place)
+        ≤ (T.pixels raster.old).cols }
     requires within { run.end ≤ (T.pixels raster.old).rows * (T.pixels raster.old).cols }
     requires values { run.end ≤ run.start + length values.old }
     requires symbols { run.end ≤ run.start + length symbols.old }
@@ -88,24 +96,27 @@ fn take_next<S: SymbolSource, T: Target>(
         walk.left walk.last walk.count }
     requires ready { S.sound source.old }
     requires left { rank (is_valid (T.pixels raster.old)) run.end ≤ walk.count + S.left source.old }
-    requires sound { T.sound raster.old }
-    ensures at { IfOk result (λ walk. IsAt (is_valid (T.pixels raster.old)) (value_in (T.pixels raster.new) d)
+    requires sound { IsRaster (T.pixels raster.old) }
+    ensures at { IfOk result (λ walk. IsAt (is_valid (T.pixels raster.old))
+        (value_in (T.pixels raster.new) d)
         run.end walk.left walk.last walk.count) }
     ensures left { IfOk result (λ w. w.count + S.left source.new ≡ walk.count + S.left source.old) }
-    ensures same { SameMask (T.pixels raster.old) (T.pixels raster.new) }
-    ensures coded { (before front : List ℕ) → S.has_given source.old (before ++ front) → length front ≡ walk.count
+    ensures coded { (before front : List ℕ) → S.has_given source.old (before ++ front)
+        → length front ≡ walk.count
         → OnOk result ((piece : List ℕ) × (S.has_given source.new (before ++ (front ++ piece))
         × ((length (front ++ piece) ≡ rank (is_valid (T.pixels raster.old)) run.end)
-        × AreCoded (T.pixels raster.old).kind (T.pixels raster.old).cols (is_valid (T.pixels raster.old))
+        × AreCoded (T.pixels raster.old).kind (T.pixels raster.old).cols
+        (is_valid (T.pixels raster.old))
         (value_in (T.pixels raster.new) d) place run.end (front ++ piece)))) }
-    ensures rest { (k e : ℕ) → k < (T.pixels raster.old).rows * (T.pixels raster.old).cols → e < (T.pixels raster.old).depth
+    ensures rest { (k e : ℕ) → k < (T.pixels raster.old).rows * (T.pixels raster.old).cols
+        → e < (T.pixels raster.old).depth
         → (place ≤ k → k < run.end → e ≡ d → ⊥)
         → value_in (T.pixels raster.new) e k ≡ value_in (T.pixels raster.old) e k }
     ensures ready { S.sound source.new }
     ensures sources { S.kept source.new ≡ S.kept source.old }
     ensures stop { IfErr result (λ f. S.stops (S.kept source.old) f) }
-    ensures sound { T.sound raster.new }
-    ensures kept { T.kept raster.new ≡ T.kept raster.old }
+    ensures frame { KeepsMask (T.pixels raster.old) (T.pixels raster.new)
+        (T.kept raster.old) (T.kept raster.new) }
 {
     let before = passed(walk, place, run.start);
     if run.start == run.end {
@@ -129,18 +140,18 @@ pub fn undelta_from<S: SymbolSource, T: Target>(
     requires depth { d < (T.pixels raster.old).depth }
     requires count { valid_count (T.pixels raster.old) ≤ S.left source.old }
     requires ready { S.sound source.old }
-    requires sound { T.sound raster.old }
-    ensures taken { (before : List ℕ) → S.has_given source.old before → OnOk result ((symbols : List ℕ)
+    ensures taken { (before : List ℕ) → S.has_given source.old before
+        → OnOk result ((symbols : List ℕ)
         × (S.has_given source.new (before ++ symbols)
         × ((length symbols ≡ valid_count (T.pixels raster.old))
         × TakesDeltas (T.pixels raster.old) (T.pixels raster.new) d symbols))) }
-    ensures left { OnOk result (S.left source.new + valid_count (T.pixels raster.old) ≡ S.left source.old) }
+    ensures left { OnOk result (S.left source.new + valid_count (T.pixels raster.old)
+        ≡ S.left source.old) }
     ensures stop { IfErr result (λ f. S.stops (S.kept source.old) f) }
-    ensures same { SameMask (T.pixels raster.old) (T.pixels raster.new) }
     ensures ready { S.sound source.new }
     ensures sources { S.kept source.new ≡ S.kept source.old }
-    ensures sound { T.sound raster.new }
-    ensures kept { T.kept raster.new ≡ T.kept raster.old }
+    ensures frame { KeepsMask (T.pixels raster.old) (T.pixels raster.new)
+        (T.kept raster.old) (T.kept raster.new) }
 {
     let cols = raster.cols() as usize;
     let pixels = raster.rows() as usize * cols;
@@ -172,10 +183,9 @@ pub fn undelta<T: Target>(symbols: &[u8], raster: &mut T, d: u32)
     requires kind { IsByteType (T.pixels raster.old).kind }
     requires depth { d < (T.pixels raster.old).depth }
     requires count { length symbols.now ≡ valid_count (T.pixels raster.old) }
-    requires sound { T.sound raster.old }
     ensures taken { TakesDeltas (T.pixels raster.old) (T.pixels raster.new) d symbols.now }
-    ensures sound { T.sound raster.new }
-    ensures kept { T.kept raster.new ≡ T.kept raster.old }
+    ensures frame { KeepsMask (T.pixels raster.old) (T.pixels raster.new)
+        (T.kept raster.old) (T.kept raster.new) }
 {
     let mut source = ListSymbols::of(symbols);
     match undelta_from(&mut source, raster, d) {

@@ -1,12 +1,13 @@
 //! The way along the pixels of a depth, in pieces of a row.
 
-ghost use Rattle.std.specs.Prelude.{◌≡◌, ℕ, pos, ◌+◌, ◌-◌, ◌*◌, ◌%◌, ◌<◌, ◌≤◌, length, true, false, ◌&&◌, nat_eq, nat_lt};
-ghost use Rattle.raster_values.specs.PixelType.{InRange};
+ghost use Rattle.std.specs.Prelude.{◌≡◌, ℕ, pos, ◌+◌, ◌-◌, ◌*◌, ◌%◌, ◌<◌, ◌≤◌, length, true, false};
+ghost use Rattle.std.specs.Prelude.{◌&&◌, nat_eq, nat_lt};
+ghost use Rattle.raster_cells.specs.PixelType.{InRange};
 ghost use Rattle.raster_values.specs.Flat.{value_in};
 ghost use Rattle.delta_mode.specs.Deltas.{has_upper, is_valid};
 ghost use Rattle.delta_mode.specs.inside.Pieces.{mark_at, predicted_by, value_of_place};
 
-use raster_target::Target;
+use raster_access::Target;
 
 /// What is kept from pixel to pixel of a depth.
 #[derive(Clone, Copy)]
@@ -71,16 +72,18 @@ pub(super) fn read_above<T: Target>(
     above: &mut [i64],
 )
     requires depth { d < (T.pixels raster.now).depth }
-    requires across { place % (T.pixels raster.now).cols + length up.old ≤ (T.pixels raster.now).cols }
-    requires within { place + length up.old ≤ (T.pixels raster.now).rows * (T.pixels raster.now).cols }
+    requires across { place % (T.pixels raster.now).cols + length up.old
+        ≤ (T.pixels raster.now).cols }
+    requires within { place + length up.old
+        ≤ (T.pixels raster.now).rows * (T.pixels raster.now).cols }
     requires room { length above.old ≡ length up.old }
-    requires sound { T.sound raster.now }
     ensures up_room { length up.new ≡ length up.old }
     ensures above_room { length above.new ≡ length above.old }
     ensures up { (i : ℕ) → i < length up.old → mark_at up.new i
         ≡ has_upper (T.pixels raster.now).cols (is_valid (T.pixels raster.now)) (place + i) }
     ensures above { (i : ℕ) → i < length up.old → mark_at up.new i ≡ true
-        → value_of_place above.new i ≡ value_in (T.pixels raster.now) d (place + i - (T.pixels raster.now).cols) }
+        → value_of_place above.new i
+        ≡ value_in (T.pixels raster.now) d (place + i - (T.pixels raster.now).cols) }
     ensures in_range { (i : ℕ) → InRange (T.pixels raster.now).kind (value_of_place above.new i) }
 {
     let cols = raster.cols() as usize;

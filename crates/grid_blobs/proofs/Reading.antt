@@ -1,15 +1,17 @@
 -- What is read, what is made of it, and how that ends.
-use Rattle.std.proofs.Common.{◌≡◌, ℕ, ◌<◌, ◌≤◌, Bool, true, false, List, [], ◌∷◌, ◌++◌, length, Option, Some, None, Result, Ok, Err, refl, sym, ap, subst, ◌∙◌, arith}
+use Rattle.std.proofs.Common.{◌≡◌, ℕ, ◌<◌, ◌≤◌, Bool, true, false, List, [], ◌∷◌, ◌++◌, length, take, drop, append_assoc, Option, Some, None, Result, Ok, Err, refl, sym, ap, subst, ◌∙◌, arith}
 use Rattle.std.specs.Prelude.{IfErr, IfOk, IfSome}
-use Rattle.std.proofs.lemmas.List.{append-nil}
-use Rattle.raster_values.specs.declared.reading.GridStop.{GridStop}
-use Rattle.raster_values.specs.declared.reading.GridStop.TheVariants.{Fault as GridFaultOf, Source as GridSource, OutOfMemory as GridMemory}
-use Rattle.raster_values.specs.BandsGrid.{IsBandsGrid, TookBands, bands_faults}
+use Rattle.std.proofs.lemmas.List.{append-nil, take-append-drop}
+use Rattle.outside_io.specs.declared.streams.failed.Failed.{Failed}
+use Rattle.raster_grids.specs.declared.reading.GridStop.{GridStop}
+use Rattle.raster_grids.specs.declared.reading.GridStop.TheVariants.{Fault as GridFaultOf, Source as GridSource, OutOfMemory as GridMemory}
+use Rattle.raster_grids.specs.BandsGrid.{IsBandsGrid, TookBands, bands_faults}
 use Rattle.raster_values.specs.Raster.{Pixels}
 use Rattle.raster_values.specs.Bands.{AreBands}
-use Rattle.raster_values.specs.ReadGrid.{IsToldFault}
-use Rattle.raster_values.proofs.BandsGridLaws.{grids_are_of_bands}
-use Rattle.program_ends.specs.Asks.{AsksOne}
+use Rattle.raster_grids.specs.ReadGrid.{IsToldFault}
+use Rattle.raster_grids.specs.Taken.{TookSome}
+use Rattle.raster_grids.proofs.BandsGridLaws.{grids_are_of_bands}
+use Rattle.outside_io.specs.streams.Asks.{AsksOne}
 use Rattle.lerc_header.specs.declared.header.Version.{Version}
 use Rattle.lerc_header.specs.declared.header.Version.TheVariants.{V3}
 use Rattle.lerc_header.specs.Written.{step_of}
@@ -21,14 +23,14 @@ use Rattle.grid_blobs.specs.declared.stop.InputReason.TheVariants.{Grid, Leftove
 use Rattle.grid_blobs.specs.declared.stop.InputStop.{InputStop}
 use Rattle.grid_blobs.specs.declared.stop.InputStop.TheVariants.{Fault, Source, OutOfMemory}
 use Rattle.grid_blobs.specs.Blobs.{AreBlobsOf, AreChosen}
-use Rattle.grid_blobs.specs.Stops.{IsFirstFault, IsStopOf, grid_stop_of}
+use Rattle.grid_blobs.specs.Stops.{IsFirstFault, IsStopOf, OfDepths, SaysOfAny, grid_stop_of}
 use Rattle.grid_blobs.specs.inside.Reads.{MakesBlobs, ReadsGrid}
 
 pub told_stop : (stop : GridStop) (left : Option (List ℕ)) → IsToldFault bands_faults left 0 stop → ReadsGrid left (Err (grid_stop_of stop))
-told_stop (GridFaultOf f) None told = λ version. tt
-told_stop (GridFaultOf f) (Some left) (at, (is, fault)) = λ version. let same : at ≡ f.place = omega (arith, is) in subst (λ (p : ℕ). bands_faults left p f.reason) same fault
-told_stop GridSource left told = λ version. tt
-told_stop GridMemory left told = λ version. tt
+told_stop (GridFaultOf f) None told = λ version. (tt, tt)
+told_stop (GridFaultOf f) (Some left) (at, (is, fault)) = λ version. (let same : at ≡ f.place = omega (arith, is) in subst (λ (p : ℕ). bands_faults left p f.reason) same fault, tt)
+told_stop GridSource left told = λ version. (tt, tt)
+told_stop GridMemory left told = λ version. (tt, tt)
 
 pub reads_all : (bands : List Pixels) (left mid new : Option (List ℕ)) → TookBands left mid bands → AsksOne (Ok false) mid new → ReadsGrid left (Ok bands)
 reads_all bands None mid new took asks = (grids_are_of_bands took.0 bands took.1.0, tt)
@@ -39,10 +41,23 @@ reads_all bands (Some input) mid new (grid, (stands, (rest, (joined, is)))) asks
 
 pub reads_more : (bands : List Pixels) (place : ℕ) (left mid new : Option (List ℕ)) → ((grid : List ℕ) → IsBandsGrid grid bands → place ≡ length grid) → TookBands left mid bands → AsksOne (Ok true) mid new
     → ReadsGrid left (Err (Fault (record { reason = Leftover; place = place })))
-reads_more bands place None mid new ends took asks = λ version. tt
+reads_more bands place None mid new ends took asks = λ version. (tt, tt)
 reads_more bands place (Some input) mid new ends (grid, (stands, (rest, (joined, is)))) asks = λ version.
     let some : AsksOne (Ok true) (Some rest) new = subst (λ (o : Option (List ℕ)). AsksOne (Ok true) o new) is asks in
-    record { bands = bands; grid = grid; rest = rest; joined = joined; stands = stands; ends = ends grid stands; more = some.0 }
+    (record { bands = bands; grid = grid; rest = rest; joined = joined; stands = stands; ends = ends grid stands; more = some.0 }, tt)
+
+-- what was taken
+pub took_some : (bands : List Pixels) (left mid : Option (List ℕ)) → TookBands left mid bands → TookSome left mid
+took_some bands left mid took = (took.0, took.1.1)
+
+pub took_more : (asked : Result Bool Failed) (left mid new : Option (List ℕ)) → TookSome left mid → AsksOne asked mid new → TookSome left new
+took_more asked None mid new (bytes, is) asks = ([], (let there : AsksOne asked None new = subst (λ (o : Option (List ℕ)). AsksOne asked o new) is asks in there))
+took_more asked (Some left) mid new (bytes, (rest, (joined, is))) asks = by asked (subst (λ (o : Option (List ℕ)). AsksOne asked o new) is asks)
+  where
+    by : (a : Result Bool Failed) → AsksOne a (Some rest) new → TookSome (Some left) new
+    by (Ok true) here = (bytes ++ take 1 rest, (drop 1 rest, (joined ∙ ap (λ u. bytes ++ u) (sym (take-append-drop 1 rest)) ∙ sym (append_assoc bytes (take 1 rest) (drop 1 rest)), here.1)))
+    by (Ok false) here = (bytes, (rest, (joined, here.1 ∙ ap Some (sym here.0))))
+    by (Err e) here = (bytes, (rest, (joined, here)))
 
 pub makes : (version : Version) (error step : ℕ) (bands : List Pixels) (blobs : List ℕ) → step ≡ step_of error → ¬ BandsNeedV4 version bands → blobs ≡ chosen_bands None bands version step → DeclareEach blobs bands version step
     → AreEncodedOnce blobs bands step → length blobs ≤ 134217728 → MakesBlobs version error bands (Ok blobs)
@@ -73,6 +88,12 @@ made_stop version error input bands (Err (Fault f)) told h =
     subst (λ (why : InputReason). IfSome input (λ bytes. IsFirstFault version bytes f.place why)) (sym h.0) (too_deep version input bands f.place told h.1 h.2)
 made_stop version error input bands (Err Source) told h = absurd h
 made_stop version error input bands (Err OutOfMemory) told h = tt
+
+pub made_deep : (version : Version) (error : ℕ) (bands : List Pixels) (result : Result (List ℕ) InputStop) → MakesBlobs version error bands result → IfErr result (λ stop. SaysOfAny version stop)
+made_deep version error bands (Ok blobs) h = tt
+made_deep version error bands (Err (Fault f)) h = subst (OfDepths version f.place) (sym h.0) (h.1, needs_v4 version bands h.2)
+made_deep version error bands (Err Source) h = absurd h
+made_deep version error bands (Err OutOfMemory) h = tt
 
 pub made : (version : Version) (error : ℕ) (input : Option (List ℕ)) (bands : List Pixels) (result : Result (List ℕ) InputStop) → AreBands bands → IfSome input (λ bytes. IsBandsGrid bytes bands) → MakesBlobs version error bands result
     → IfOk result (λ blobs. AreBlobsOf version error input blobs)

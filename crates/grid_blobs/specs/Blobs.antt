@@ -1,7 +1,7 @@
 -- The blobs of an input that is one grid.
 use Rattle.std.specs.Prelude.{◌≡◌, ℕ, List, Option, None, IfSome}
 use Rattle.raster_values.specs.Bands.{AreBands}
-use Rattle.raster_values.specs.BandsGrid.{IsBandsGrid}
+use Rattle.raster_grids.specs.BandsGrid.{IsBandsGrid}
 use Rattle.raster_values.specs.Raster.{Pixels}
 use Rattle.lerc_header.specs.declared.header.Version.{Version}
 use Rattle.lerc_header.specs.Written.{step_of}

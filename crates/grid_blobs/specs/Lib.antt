@@ -1,7 +1,9 @@
 pub use Rattle.outside_io.specs.streams.Faults
 pub use Rattle.outside_io.specs.streams.Source
 pub use Rattle.raster_values.specs.Bands
-pub use Rattle.raster_values.specs.BandsGrid
+pub use Rattle.raster_grids.specs.BandsGrid
+pub use Rattle.raster_grids.specs.ReadGrid
+pub use Rattle.raster_grids.specs.Taken
 pub use Rattle.lerc_header.specs.Written
 pub use Rattle.lerc_encode.specs.Choice
 pub use Rattle.lerc_encode.specs.Encoded

@@ -1,9 +1,9 @@
 -- What is wrong first in an input that is to be one grid.
 use Rattle.std.specs.Prelude.{◌≡◌, ℕ, ◌<◌, List, ◌++◌, length, Option, IfSome}
-use Rattle.raster_values.specs.BandsGrid.{IsBandsGrid, bands_faults}
+use Rattle.raster_grids.specs.BandsGrid.{IsBandsGrid, bands_faults}
 use Rattle.raster_values.specs.Raster.{Pixels}
-use Rattle.raster_values.specs.declared.reading.GridStop.{GridStop}
-use Rattle.raster_values.specs.declared.reading.GridStop.TheVariants.{Fault as GridFaultOf, Source as GridSource, OutOfMemory as GridMemory}
+use Rattle.raster_grids.specs.declared.reading.GridStop.{GridStop}
+use Rattle.raster_grids.specs.declared.reading.GridStop.TheVariants.{Fault as GridFaultOf, Source as GridSource, OutOfMemory as GridMemory}
 use Rattle.lerc_header.specs.declared.header.Version.{Version}
 use Rattle.lerc_header.specs.declared.header.Version.TheVariants.{V3}
 use Rattle.lerc_encode.specs.Encoded.{BandsNeedV4}
@@ -40,6 +40,18 @@ IsStopOf version input (Fault fault) =
     IfSome input (λ bytes. IsFirstFault version bytes fault.place fault.reason)
 IsStopOf version input Source = Unit {0}
 IsStopOf version input OutOfMemory = Unit {0}
+
+-- What a fault says of whatever input: that of the depths has the place of their number, and the
+-- version is 3.
+abbrev pub OfDepths : Version → ℕ → InputReason → Type 0
+OfDepths version place (Grid reason) = Unit {0}
+OfDepths version place Leftover = Unit {0}
+OfDepths version place DepthNeedsV4 = (place ≡ 13) × (version ≡ V3)
+
+abbrev pub SaysOfAny : Version → InputStop → Type 0
+SaysOfAny version (Fault fault) = OfDepths version fault.place fault.reason
+SaysOfAny version Source = Unit {0}
+SaysOfAny version OutOfMemory = Unit {0}
 
 -- why a source gave no bands
 abbrev pub grid_stop_of : GridStop → InputStop

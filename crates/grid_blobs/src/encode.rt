@@ -4,18 +4,19 @@ ghost use Rattle.std.specs.Prelude.{◌≡◌, ◌<◌, ◌≤◌, Err, IfErr, I
 ghost use Rattle.outside_io.specs.streams.Faults.{IsCause};
 ghost use Rattle.outside_io.specs.streams.Source.{IsAtEnd};
 ghost use Rattle.raster_values.specs.Bands.{AreBands};
+ghost use Rattle.raster_grids.specs.Taken.{TookSome};
 ghost use Rattle.grid_blobs.specs.declared.stop.InputReason.{InputReason};
 ghost use Rattle.grid_blobs.specs.declared.stop.InputStop.{InputStop};
 ghost use Rattle.grid_blobs.specs.Blobs.{AreBlobsOf};
-ghost use Rattle.grid_blobs.specs.Stops.{IsStopOf};
+ghost use Rattle.grid_blobs.specs.Stops.{IsStopOf, SaysOfAny};
 ghost use Rattle.grid_blobs.specs.inside.Reads.{MakesBlobs, ReadsGrid};
 
 use crate::stop::{InputFault, InputReason, InputStop, grid_stop};
 use lerc_encode::{EncodeFault, encode_bands};
 use lerc_header::{Step, Version};
-use outside_io::{Bytes, Source};
-use program_ends::has_more;
-use raster_values::{Bands, bands_read, bands_size};
+use outside_io::{Bytes, Source, has_more};
+use raster_grids::{bands_read, bands_size};
+use raster_values::Bands;
 use std::alloc::Global;
 
 /// That a byte stands behind the grid.
@@ -34,6 +35,7 @@ fn read_grid<S: Source>(alloc: Global, src: &mut S) -> Result<Bands, InputStop>
     ensures grid { ReadsGrid (S.left src.old) result }
     ensures source { IsCause (result ≡ Err InputStop.Source)
         (S.faults src.old) (S.faults src.new) }
+    ensures taken { TookSome (S.left src.old) (S.left src.new) }
     ensures end { OnOk result (IsAtEnd (S.left src.new)) }
 {
     let bands = match bands_read(alloc, src, 0) {
@@ -77,8 +79,10 @@ pub fn encode_grid<S: Source>(
     ensures some { IfOk result (λ blobs. 0 < length blobs) }
     ensures few { IfOk result (λ blobs. length blobs ≤ 134217728) }
     ensures refused { IfErr result (λ stop. IsStopOf version (S.left src.old) stop) }
+    ensures deep { IfErr result (λ stop. SaysOfAny version stop) }
     ensures source { IsCause (result ≡ Err InputStop.Source)
         (S.faults src.old) (S.faults src.new) }
+    ensures taken { TookSome (S.left src.old) (S.left src.new) }
     ensures end { OnOk result (IsAtEnd (S.left src.new)) }
 {
     let bands = match read_grid(alloc, src) {

@@ -3,7 +3,7 @@
 ghost use Rattle.std.specs.Prelude.{◌≡◌};
 ghost use Rattle.grid_blobs.specs.Stops.{grid_stop_of};
 
-use raster_values::{GridReason, GridStop};
+use raster_grids::{GridReason, GridStop};
 
 /// What is wrong with an input that is to be one grid.
 #[derive(Clone, Copy, Debug, PartialEq, Eq)]

@@ -9,7 +9,7 @@ use Rattle.huff_codes.specs.Words.{joined_codes, word_count}
 use Rattle.huff_codes.specs.Written.{AreWritten, IsFilled, written_size}
 use Rattle.huff_codes.specs.Pieces.{Writing, AreBegun, HasRoom}
 use Rattle.huff_codes.specs.declared.codes.Code.{Code}
-use Rattle.huff_codes.specs.declared.word_pairs.CodeNumber.{CodeNumber}
+use Rattle.huff_codes.specs.declared.words.word_pairs.CodeNumber.{CodeNumber}
 use Rattle.huff_codes.specs.inside.Filling.{IsLoose, IsNumbered, no_number}
 use Rattle.huff_codes.specs.inside.Begun.{numbered_codes, AreNumbers, writing_of}
 use Rattle.huff_codes.specs.inside.Stored.{codes_held}

@@ -21,7 +21,7 @@ use Rattle.lut_stuff.specs.Lists.IsList.{simple}
 use Rattle.huff_codes.specs.Codes.{AreLengths, code_at, canonical_codes}
 use Rattle.huff_codes.specs.Words.{joined_codes, word_count}
 use Rattle.huff_codes.specs.Table.{int_at, IsRange, HaveLengths, symbol_in, symbols_in, words_size, AreCodeWords}
-use Rattle.huff_codes.specs.declared.table.SymbolRange.{SymbolRange}
+use Rattle.huff_codes.specs.declared.tables.table.SymbolRange.{SymbolRange}
 use Rattle.huff_codes.specs.Written.{AreTableWords, IsShortestRun, IsTableSize, run_lengths, table_head}
 use Rattle.huff_codes.specs.Laws.{WrittenTablesAreTables}
 use Rattle.huff_codes.proofs.ChosenRuns.{holds_from, one_run}

@@ -15,7 +15,7 @@ use Rattle.huff_codes.specs.Bits.{word_bits, BeginsWith}
 use Rattle.huff_codes.specs.Codes.{code_at, HasCode, IsPrefixFree}
 use Rattle.huff_codes.specs.Words.{whole_end, AreWords, IsStuck, IsBegun, word_faults}
 use Rattle.huff_codes.specs.Table.{int_at, IsRange, IsFirst, IsEnd, number_faults, end_faults, first_faults, symbols_faults, range_faults, HaveLengths, IsLengthList, length_faults, words_size, HoldCodes, AreCodeWords, code_faults, prefix_faults, AreRangeCodes, range_code_faults, IsTable, table_faults, IsCoding, coding_faults}
-use Rattle.huff_codes.specs.declared.table.SymbolRange.{SymbolRange}
+use Rattle.huff_codes.specs.declared.tables.table.SymbolRange.{SymbolRange}
 use Rattle.huff_codes.specs.declared.faults.CodeFault.{CodeFault}
 use Rattle.huff_codes.specs.declared.faults.CodeReason.{CodeReason}
 use Rattle.huff_codes.specs.declared.faults.CodeReason.TheVariants.{Cut, BadTable, NoCode, List as InList}

@@ -258,15 +258,21 @@ joined_within codes symbols k =
     let size = length-append (joined_codes codes (take k symbols)) (joined_codes codes (drop k symbols)) in
     omega (arith, ap length whole, size)
 
-pub pending_none : (codes : List (List Bool)) (out : List ℕ) → IsPending (joined_codes codes []) out 0 0 0
-pending_none codes out = record {
+pub pending_nothing : (out : List ℕ) → IsPending [] out 0 0 0
+pending_nothing out = record {
   words = 0;
   whole = refl;
   within = omega arith;
   few = omega arith;
   low = pow_pos 0;
-  same = joined_codes-nil codes ∙ sym ((λ i. word_none (take 0 out) (omega arith) i ++ bits-zero 0 i));
+  same = sym ((λ i. word_none (take 0 out) (omega arith) i ++ bits-zero 0 i));
 }
+
+pub pending_first : (codes : List (List Bool)) (out : List ℕ) (held count at : ℕ) → IsPending [] out held count at → IsPending (joined_codes codes []) out held count at
+pending_first codes out held count at h = subst (λ (bits : List Bool). IsPending bits out held count at) (sym (joined_codes-nil codes)) h
+
+pub pending_none : (codes : List (List Bool)) (out : List ℕ) → IsPending (joined_codes codes []) out 0 0 0
+pending_none codes out = pending_first codes out 0 0 0 (pending_nothing out)
 
 pub pending_bits : (bits : List Bool) (out : List ℕ) (held count at : ℕ) → IsPending bits out held count at → 8 * at + count ≡ length bits
 pending_bits bits out held count at h = sym (pending_size bits out held count at h)

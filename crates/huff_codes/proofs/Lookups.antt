@@ -11,8 +11,8 @@ use Rattle.huff_codes.specs.Bits.{bits_of, word_bits, BeginsWith}
 use Rattle.huff_codes.specs.Codes.{code_at, HasCode}
 use Rattle.huff_codes.specs.Words.{joined_codes}
 use Rattle.huff_codes.specs.declared.codes.Code.{Code}
-use Rattle.huff_codes.specs.declared.lookup.Entry.{Entry}
-use Rattle.huff_codes.specs.declared.words.Cursor.{Cursor}
+use Rattle.huff_codes.specs.declared.words.lookup.Entry.{Entry}
+use Rattle.huff_codes.specs.declared.words.reading.Cursor.{Cursor}
 use Rattle.huff_codes.specs.inside.Lookup.{AreEntries, IsEntry, IsSeen, no_entry, symbols_of}
 use Rattle.huff_codes.specs.inside.Looking.{IsReading}
 use Rattle.huff_codes.specs.inside.Reading.{HaveReached}

@@ -10,8 +10,8 @@ use Rattle.huff_codes.specs.Bits.{bits_of, BeginsWith}
 use Rattle.huff_codes.specs.Codes.{HasCode, IsPrefixFree, code_at}
 use Rattle.huff_codes.specs.Prefixes.{ArePrefixes, IsLook}
 use Rattle.huff_codes.specs.declared.codes.Code.{Code}
-use Rattle.huff_codes.specs.declared.prefixes.Look.{Look}
-use Rattle.huff_codes.specs.declared.prefixes.Look.TheVariants.{Symbol, Longer, Nothing}
+use Rattle.huff_codes.specs.declared.words.prefixes.Look.{Look}
+use Rattle.huff_codes.specs.declared.words.prefixes.Look.TheVariants.{Symbol, Longer, Nothing}
 use Rattle.huff_codes.specs.inside.Noted.{Tells, IsNoted, AreNotedBelow}
 use Rattle.huff_codes.specs.inside.Spans.{IsLaid}
 use Rattle.huff_codes.specs.inside.Stored.{code_bits}

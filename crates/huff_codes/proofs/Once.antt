@@ -8,7 +8,7 @@ use Rattle.first_fault.specs.Parts.{AreBytes}
 use Rattle.huff_codes.specs.Bits.{bits_of, word_bits}
 use Rattle.huff_codes.specs.Codes.{canonical_codes}
 use Rattle.huff_codes.specs.Table.{symbols_in}
-use Rattle.huff_codes.specs.declared.table.SymbolRange.{SymbolRange}
+use Rattle.huff_codes.specs.declared.tables.table.SymbolRange.{SymbolRange}
 use Rattle.huff_codes.specs.Written.{AreTableWords, IsFilled, run_lengths, table_head}
 use Rattle.huff_codes.specs.Laws.{WrittenWordsAreOnce, WrittenTablesAreOnce}
 use Rattle.huff_codes.proofs.BitLists.{length-bits, same_from_bits}

@@ -8,8 +8,8 @@ use Rattle.huff_codes.specs.Words.{IsBegun, IsStuck}
 use Rattle.huff_codes.specs.inside.Reading.{IsNext}
 use Rattle.huff_codes.specs.inside.Stored.{IsAhead}
 use Rattle.huff_codes.specs.declared.codes.Ahead.{Ahead}
-use Rattle.huff_codes.specs.declared.prefixes.Look.{Look}
-use Rattle.huff_codes.specs.declared.prefixes.Look.TheVariants.{Symbol, Longer, Nothing}
+use Rattle.huff_codes.specs.declared.words.prefixes.Look.{Look}
+use Rattle.huff_codes.specs.declared.words.prefixes.Look.TheVariants.{Symbol, Longer, Nothing}
 use Rattle.huff_codes.proofs.BitLists.{length-bits, take-bits}
 use Rattle.huff_codes.proofs.WordLaws.{one_symbol}
 

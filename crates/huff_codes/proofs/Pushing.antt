@@ -8,7 +8,7 @@ use Rattle.byteorder.specs.Endian.{little_bytes}
 use Rattle.huff_codes.specs.Bits.{bits_of, word_bits}
 use Rattle.huff_codes.specs.Codes.{code_at}
 use Rattle.huff_codes.specs.Words.{joined_codes}
-use Rattle.huff_codes.specs.declared.word_pairs.CodeNumber.{CodeNumber}
+use Rattle.huff_codes.specs.declared.words.word_pairs.CodeNumber.{CodeNumber}
 use Rattle.huff_codes.specs.inside.Filling.{IsPending, IsLoose, IsNumbered, no_number}
 use Rattle.huff_codes.proofs.BitLists.{length-bits}
 use Rattle.huff_codes.proofs.Windows.{bits-append}

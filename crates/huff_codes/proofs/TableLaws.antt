@@ -16,7 +16,7 @@ use Rattle.lut_stuff.proofs.Lists.{list_part}
 use Rattle.huff_codes.specs.Codes.{code_at, HasCode, IsPrefixFree, AreCodes}
 use Rattle.huff_codes.specs.Words.{joined_codes, AreWords, word_faults}
 use Rattle.huff_codes.specs.Table.{int_at, IsRange, IsFirst, IsEnd, number_faults, end_faults, first_faults, symbols_faults, range_faults, HaveLengths, IsLengthList, length_faults, symbol_in, symbols_in, words_size, HoldCodes, AreCodeWords, prefix_faults, code_faults, AreRangeCodes, range_code_faults, IsTable, table_faults, IsCoding, coding_faults}
-use Rattle.huff_codes.specs.declared.table.SymbolRange.{SymbolRange}
+use Rattle.huff_codes.specs.declared.tables.table.SymbolRange.{SymbolRange}
 use Rattle.huff_codes.specs.declared.faults.CodeReason.{CodeReason}
 use Rattle.huff_codes.specs.declared.faults.CodeReason.TheVariants.{Cut, BadTable, List as InList}
 use Rattle.huff_codes.proofs.Reading.{joined_codes-nil, joined_codes-push}

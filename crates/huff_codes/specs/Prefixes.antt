@@ -2,8 +2,8 @@
 use Rattle.std.specs.Prelude.{ℕ, ◌≡◌, ◌↔◌, ◌<◌, Bool, List, length, get_or}
 use Rattle.huff_codes.specs.Bits.{bits_of, BeginsWith}
 use Rattle.huff_codes.specs.Codes.{code_at, HasCode}
-use Rattle.huff_codes.specs.declared.prefixes.Look.{Look}
-use Rattle.huff_codes.specs.declared.prefixes.Look.TheVariants.{Symbol, Longer, Nothing}
+use Rattle.huff_codes.specs.declared.words.prefixes.Look.{Look}
+use Rattle.huff_codes.specs.declared.words.prefixes.Look.TheVariants.{Symbol, Longer, Nothing}
 
 -- the code of the symbol has this length, and stands in front of the byte's eight bits, the highest
 -- of them first

@@ -1,7 +1,7 @@
 -- A reader of code words, which goes on from where it stands.
 use Rattle.std.specs.Prelude.{ℕ, ◌≡◌, ◌+◌, ◌*◌, ◌/◌, ◌^◌, ◌≤◌, Bool, List, All, length}
 use Rattle.huff_codes.specs.Prefixes.{ArePrefixes}
-use Rattle.huff_codes.specs.declared.reader.SymbolReader.{SymbolReader}
+use Rattle.huff_codes.specs.declared.words.reader.SymbolReader.{SymbolReader}
 use Rattle.huff_codes.specs.inside.Lookup.{AreEntries, IsShort}
 use Rattle.huff_codes.specs.inside.Reading.{HaveReached}
 

@@ -13,7 +13,7 @@ use Rattle.huff_codes.specs.Bits.{word_bits, BeginsWith}
 use Rattle.huff_codes.specs.Codes.{code_at, IsPrefixFree}
 use Rattle.huff_codes.specs.Words.{joined_codes, word_count, AreWords, word_faults}
 use Rattle.huff_codes.specs.Turns.{InTurn}
-use Rattle.huff_codes.specs.declared.table.SymbolRange.{SymbolRange}
+use Rattle.huff_codes.specs.declared.tables.table.SymbolRange.{SymbolRange}
 use Rattle.huff_codes.specs.declared.faults.CodeReason.{CodeReason}
 use Rattle.huff_codes.specs.declared.faults.CodeReason.TheVariants.{Cut, BadTable, List as InList}
 

@@ -6,7 +6,7 @@ use Rattle.byteorder.specs.Endian.{little_bytes}
 use Rattle.bit_stuff.specs.Simple.{simple_bytes}
 use Rattle.huff_codes.specs.Codes.{canonical_codes}
 use Rattle.huff_codes.specs.Table.{symbol_in, symbols_in, words_size}
-use Rattle.huff_codes.specs.declared.table.SymbolRange.{SymbolRange}
+use Rattle.huff_codes.specs.declared.tables.table.SymbolRange.{SymbolRange}
 use Rattle.huff_codes.specs.Bits.{word_bits}
 use Rattle.huff_codes.specs.Words.{joined_codes, word_count}
 

@@ -6,8 +6,9 @@ use Rattle.std.proofs.lemmas.List.Elements.{All-nil, All-cons}
 use Rattle.std.proofs.lemmas.Bool.{cases_lt}
 use Rattle.std.proofs.lemmas.Bool.Decides.{nat_tests}
 use Rattle.std.proofs.Math.Nat.{add-mul, mul-le-mul_left, mul-le-mul_right}
-use Rattle.raster_values.specs.declared.kind.PixelType.{PixelType}
-use Rattle.raster_values.specs.Raster.{Pixels, IsRaster, IsShape}
+use Rattle.raster_cells.specs.declared.kind.PixelType.{PixelType}
+use Rattle.raster_values.specs.Raster.{Pixels, IsRaster}
+use Rattle.raster_cells.specs.Shapes.{IsShape}
 use Rattle.raster_values.specs.Places.{SameShape}
 use Rattle.raster_values.specs.Bands.{IsLike, AreLike, MayBeBands}
 use Rattle.lerc_c.specs.Arrays.{GivesSizes, IsGiven, values_size, mask_array_size}

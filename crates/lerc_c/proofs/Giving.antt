@@ -5,11 +5,12 @@ use Rattle.std.proofs.lemmas.List.{get_or-map, get_or-replicate}
 use Rattle.std.proofs.lemmas.List.FromFn.{get_or-map-range_with_len}
 use Rattle.std.proofs.lemmas.Nat.{div_below}
 use Rattle.std.proofs.lemmas.Bool.Decides.{nat_tests}
-use Rattle.raster_values.specs.declared.kind.PixelType.{PixelType}
-use Rattle.raster_values.specs.PixelType.{bytes_of, Spells}
+use Rattle.raster_cells.specs.declared.kind.PixelType.{PixelType}
+use Rattle.raster_cells.specs.PixelType.{bytes_of, Spells}
 use Rattle.raster_values.specs.Raster.{Pixels, IsRaster, blank, filled}
 use Rattle.raster_values.specs.Block.{SameMask}
-use Rattle.raster_values.specs.Order.{MarksBits, mask_bit, marks_in}
+use Rattle.raster_values.specs.Order.{MarksBits}
+use Rattle.raster_cells.specs.Masks.{mask_bit, marks_in}
 use Rattle.raster_values.specs.Flat.{PutsAll, marks_of, value_in}
 use Rattle.lerc_c.specs.Arrays.{IsGiven, mark_at}
 use Rattle.lerc_c.specs.inside.Marked.{IsMarked}

@@ -5,9 +5,10 @@ use Rattle.std.proofs.lemmas.Bool.{cases_lt}
 use Rattle.lerc_header.specs.declared.fault.BlobReason.{BlobReason}
 use Rattle.lerc_header.specs.declared.fault.BlobReason.TheVariants.{Truncated, BadKey, BadVersion, BadRows, BadCols, BadDepth, TooLarge, BadCount, BadBlockSize, BadBlobSize, FloatPixels, BadType, BadError, BadRange, BadChecksum, BadMaskLength, BadRun, BadMaskCount, MaskMissing, BadSweep, BadMode, BadBlockTag, BadOffsetCode, BadListHead, BadListCount, BadTable, BadIndex, BadCodeTable, NoCode, PastEnd, Leftover}
 use Rattle.lerc_c.specs.Told.{reason_number}
-use Rattle.lerc_c.specs.Names.{name_at, reason_name}
+use Rattle.reason_names.specs.Names.{blob_name_of}
+use Rattle.lerc_c.specs.Names.{name_at}
 
-pub named : (reason : BlobReason) → name_at (reason_number reason) ≡ reason_name reason
+pub named : (reason : BlobReason) → name_at (reason_number reason) ≡ blob_name_of reason
 named Truncated = refl
 named BadKey = refl
 named BadVersion = refl

@@ -6,10 +6,10 @@ use Rattle.std.proofs.lemmas.List.{get_or-drop, get_or-take, get_or_past, get_or
 use Rattle.std.proofs.lemmas.Nat.{div_below, pow_pos}
 use Rattle.std.proofs.Math.Nat.{mul-le-mul_right}
 use Rattle.lerc_encode.specs.Endian.{little_from}
-use Rattle.raster_values.specs.declared.kind.PixelType.{PixelType}
-use Rattle.raster_values.specs.PixelType.{InRange, Spells, bytes_of, value_of}
-use Rattle.raster_values.specs.Order.{mask_bit}
-use Rattle.raster_values.specs.Raster.{IsShape}
+use Rattle.raster_cells.specs.declared.kind.PixelType.{PixelType}
+use Rattle.raster_cells.specs.PixelType.{InRange, Spells, bytes_of, value_of}
+use Rattle.raster_cells.specs.Masks.{mask_bit}
+use Rattle.raster_cells.specs.Shapes.{IsShape}
 use Rattle.raster_values.specs.Flat.{value_in}
 use Rattle.lerc_encode.specs.AllAlike.{alike}
 use Rattle.lerc_encode.proofs.AlikeBlobs.{alike_sound}

@@ -8,8 +8,8 @@ use Rattle.lerc_header.proofs.Prefixes.{head_of_take}
 use Rattle.lerc_grammar.specs.Mask.{Previous}
 use Rattle.lerc_grammar.specs.Verdict.{IsDone, IsMore, FirstFault}
 use Rattle.lerc_grammar.specs.Blob.{Blob}
-use Rattle.lerc_decode.specs.declared.decoder.DecodeFault.{DecodeFault}
-use Rattle.lerc_decode.specs.declared.decoder.FedState.TheVariants.{More}
+use Rattle.lerc_decode.specs.declared.streams.decoder.DecodeFault.{DecodeFault}
+use Rattle.lerc_decode.specs.declared.streams.decoder.FedState.TheVariants.{More}
 use Rattle.lerc_decode.specs.Decoding.{Decoding, Stage, Key, Fields, Body, Whole, Wrong, NoMemory, HasTaken}
 use Rattle.lerc_decode.specs.States.{state_at, finished_at, IsTold}
 use Rattle.lerc_decode.specs.Over.{IsFaultOf}

@@ -1,11 +1,13 @@
 -- Rasters as arrays of their values and of the bytes of their masks.
 use Rattle.std.specs.Prelude.{◌≡◌, ℕ, ◌+◌, ◌*◌, ◌/◌, ◌<◌, ◌≤◌, Bool, true, List, length, get_or, drop, ◌++◌, is_some, None, nat_eq, if◌then◌else◌}
-use Rattle.raster_values.specs.declared.kind.PixelType.{PixelType}
-use Rattle.raster_values.specs.PixelType.{bytes_of, code_of, Spells}
-use Rattle.raster_values.specs.Raster.{Pixels, IsRaster, HasZero, IsTooLarge}
-use Rattle.raster_values.specs.Grid.{values_bytes}
+use Rattle.raster_cells.specs.declared.kind.PixelType.{PixelType}
+use Rattle.raster_cells.specs.PixelType.{bytes_of, code_of, Spells}
+use Rattle.raster_values.specs.Raster.{Pixels, IsRaster}
+use Rattle.raster_cells.specs.Shapes.{HasZero, IsTooLarge}
+use Rattle.raster_cells.specs.Values.{values_bytes}
 use Rattle.raster_values.specs.Flat.{all_values, value_in}
-use Rattle.raster_values.specs.Order.{mask_bit, IsMaskOf}
+use Rattle.raster_cells.specs.Masks.{mask_bit}
+use Rattle.raster_values.specs.Order.{IsMaskOf}
 use Rattle.lerc_header.specs.declared.header.Version.{Version}
 use Rattle.lerc_header.specs.Head.{version_number}
 use Rattle.lerc_grammar.specs.Verdict.{IsDone}

@@ -1,14 +1,15 @@
 -- Bands as arrays that lie band behind band.
 use Rattle.std.specs.Prelude.{◌≡◌, ℕ, ◌*◌, ◌<◌, ◌≤◌, ◌⊎◌, List, [], ◌∷◌, ◌++◌, suc, length, take, drop, nat_lt, if◌then◌else◌}
-use Rattle.raster_values.specs.declared.kind.PixelType.{PixelType}
-use Rattle.raster_values.specs.Raster.{Pixels, HasZero, IsTooLarge}
+use Rattle.raster_cells.specs.declared.kind.PixelType.{PixelType}
+use Rattle.raster_values.specs.Raster.{Pixels}
+use Rattle.raster_cells.specs.Shapes.{HasZero, IsTooLarge}
 use Rattle.raster_values.specs.Bands.{AreBands}
 use Rattle.lerc_header.specs.declared.header.Version.{Version}
 use Rattle.lerc_encode.specs.Choice.{chosen_bands}
 use Rattle.lerc_encode.specs.Encoded.{AreEncodedOnce}
 use Rattle.std.specs.Prelude.{None}
 use Rattle.std.specs.List.{flat_map}
-use Rattle.raster_values.specs.Grid.{values_bytes}
+use Rattle.raster_cells.specs.Values.{values_bytes}
 use Rattle.raster_values.specs.Flat.{all_values}
 use Rattle.raster_values.specs.Order.{IsMaskOf}
 use Rattle.lerc_grammar.specs.Bands.{BandsBlob}

@@ -1,4 +1,5 @@
 -- What contracts of this crate cite.
+pub use Rattle.reason_names.specs.Names as ReasonNames
 pub mod Told
 pub mod Arrays
 pub mod BandArrays

@@ -1,6 +1,6 @@
 -- What a call tells of a blob: its header, or its first fault, as numbers.
 use Rattle.std.specs.Prelude.{◌≡◌, ℕ, ◌≤◌, ◌⊎◌, List, length, take}
-use Rattle.raster_values.specs.PixelType.{code_of}
+use Rattle.raster_cells.specs.PixelType.{code_of}
 use Rattle.lerc_header.specs.declared.header.Header.{Header}
 use Rattle.lerc_header.specs.Head.{version_number}
 use Rattle.lerc_header.specs.declared.fault.BlobReason.{BlobReason}

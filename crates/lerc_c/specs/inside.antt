@@ -1,4 +1,5 @@
 -- Words of functions that this crate keeps to itself.
-pub mod Stops
 pub mod Marked
+pub mod Numbered
 pub mod Repeated
+pub mod Stops

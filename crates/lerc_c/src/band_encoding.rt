@@ -1,7 +1,7 @@
 //! Arrays of bands encoded into blobs.
 
 ghost use Rattle.std.specs.Prelude.{◌≡◌, ◌+◌, ◌*◌, ◌<◌, ◌≤◌, ◌⊎◌, ◌↔◌, IfOk, IfErr, IfSome, OnOk, OnErr, IsTrue, length};
-ghost use Rattle.raster_values.specs.Raster.{IsShape};
+ghost use Rattle.raster_cells.specs.Shapes.{IsShape};
 ghost use Rattle.lerc_header.specs.Written.{step_of};
 ghost use Rattle.lerc_c.specs.Arrays.{GivesSizes, IsGiven, values_size, mask_array_size};
 ghost use Rattle.lerc_c.specs.BandArrays.{AreAllowed, AreGiven, AreEncodedInto, GiveBandSizes, mask_for, part_at};

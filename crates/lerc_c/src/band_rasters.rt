@@ -9,13 +9,6 @@ ghost use Rattle.lerc_c.specs.inside.Marked.{IsMarked};
 use raster_values::{PixelType, Raster};
 use std::alloc::Global;
 
-/// What holds of each raster, for the proofs: `rows` ensures it of the raster that it is asked of.
-fn note_sound(raster: &Raster)
-    ensures { IsRaster raster.now }
-{
-    let _rows = raster.rows();
-}
-
 /// Makes the pixels valid whose bits are 1.
 fn mark_bits(raster: &mut Raster, mask: &[u8])
     requires blank { raster.old
@@ -26,7 +19,6 @@ fn mark_bits(raster: &mut Raster, mask: &[u8])
         mask.now raster.new }
 {
     raster.mark_from_bits(mask);
-    note_sound(raster);
 }
 
 /// Gives the valid pixels their values.
@@ -37,7 +29,6 @@ fn put(raster: &mut Raster, values: &[u8])
     ensures sound { IsRaster raster.new }
 {
     raster.put_cells(values);
-    note_sound(raster);
 }
 
 /// Makes a raster with no valid pixel the raster that the arrays are.

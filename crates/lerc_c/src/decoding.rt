@@ -1,7 +1,7 @@
 //! Blobs decoded into arrays.
 
 ghost use Rattle.std.specs.Prelude.{◌≡◌, ℕ, ◌↔◌, IfOk, IfErr, OnOk, OnErr, IsTrue, length};
-ghost use Rattle.raster_values.specs.Grid.{values_bytes};
+ghost use Rattle.raster_cells.specs.Values.{values_bytes};
 ghost use Rattle.raster_values.specs.Flat.{all_values};
 ghost use Rattle.raster_values.specs.Order.{IsMaskOf};
 ghost use Rattle.lerc_grammar.specs.Verdict.{IsDone};

@@ -1,14 +1,14 @@
 //! Arrays encoded into a blob.
 
 ghost use Rattle.std.specs.Prelude.{◌≡◌, ℕ, ◌-◌, ◌<◌, ◌≤◌, ◌↔◌, drop, get_or, take, IfOk, IfErr, IfSome, OnOk, OnErr, IsTrue, length};
-ghost use Rattle.raster_values.specs.Raster.{IsShape};
+ghost use Rattle.raster_cells.specs.Shapes.{IsShape};
 ghost use Rattle.lerc_header.specs.Head.{version_number};
 ghost use Rattle.lerc_header.specs.Written.{step_of};
 ghost use Rattle.lerc_c.specs.Arrays.{GivesSizes, IsGiven, IsEncoded};
 ghost use Rattle.lerc_c.specs.inside.Stops.{IsArgumentStop, IsFit, IsWriteStop, IsWritten, IsEncodeStop};
 ghost use Rattle.lerc_c.specs.inside.Repeated.{IsOneValue};
 ghost use Rattle.lerc_encode.specs.AllAlike.{alike};
-ghost use Rattle.raster_values.specs.PixelType.{InRange, bytes_of, code_of};
+ghost use Rattle.raster_cells.specs.PixelType.{InRange, bytes_of, code_of};
 
 use lerc_encode::{LayFault, encode_alike_over, encode_view_over};
 use lerc_header::{Step, Version, kind_of, needs_v4};

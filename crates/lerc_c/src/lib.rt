@@ -1,7 +1,8 @@
 //! The C interface: blobs looked at, decoded into arrays, and made of arrays.
 //!
-//! It stands on `lerc_encode`, `lerc_decode` and the layers below. Each export calls the library
-//! and states its clauses again, over numbers and arrays; include/futskheri.h says them to C.
+//! It stands on `lerc_encode`, `lerc_decode`, `reason_names` and the layers below. Each export calls
+//! the library and states its clauses again, over numbers and arrays; include/futskheri.h says them
+//! to C.
 #![tactic(auto)]
 
 mod band_decoding;
@@ -16,15 +17,16 @@ mod tests;
 mod told;
 
 ghost use Rattle.std.specs.Prelude.{◌≡◌, ◌≢◌, ℕ, ◌*◌, ◌<◌, ◌≤◌, ◌⊎◌, ◌↔◌, ◌++◌, List, drop, length, min, take};
-ghost use Rattle.raster_values.specs.Raster.{HasZero, IsShape, IsTooLarge, Pixels};
+ghost use Rattle.raster_cells.specs.Shapes.{HasZero, IsShape, IsTooLarge};
+ghost use Rattle.raster_values.specs.Raster.{Pixels};
 ghost use Rattle.lerc_grammar.specs.Bands.{BandsBlob};
 ghost use Rattle.lerc_encode.specs.Sizes.{BlobsAreSmall, greatest_size};
 ghost use Rattle.lerc_header.specs.declared.header.Header.{Header};
 ghost use Rattle.lerc_header.specs.declared.fault.BlobFault.{BlobFault};
 ghost use Rattle.lerc_header.specs.declared.fault.BlobReason.{BlobReason};
 ghost use Rattle.lerc_header.specs.Head.{HeadAt, version_number};
-ghost use Rattle.raster_values.specs.declared.kind.PixelType.{PixelType};
-ghost use Rattle.raster_values.specs.PixelType.{code_of};
+ghost use Rattle.raster_cells.specs.declared.kind.PixelType.{PixelType};
+ghost use Rattle.raster_cells.specs.PixelType.{code_of};
 ghost use Rattle.lerc_header.specs.declared.header.Version.{Version};
 ghost use Rattle.lerc_header.specs.HeadFaults.{header_faults};
 ghost use Rattle.lerc_header.specs.Written.{step_of};
@@ -33,7 +35,8 @@ ghost use Rattle.lerc_decode.specs.Over.{AskOtherRoom};
 ghost use Rattle.lerc_c.specs.Told.{reason_number, TellsBandsRefusal, TellsFault, TellsHead, TellsRefusal};
 ghost use Rattle.lerc_c.specs.Arrays.{AreNamed, IsAllowed, GivesSizes, AreDecoded, IsEncoded, IsMisfit, IsTooLong, WithKind, WithVersion};
 ghost use Rattle.lerc_c.specs.BandArrays.{AreAllowed, AreBandsDecoded, AreBandsMisfit, AreEncodedInto, AreTooLong, GiveBandSizes};
-ghost use Rattle.lerc_c.specs.Names.{name_at, reason_name};
+ghost use Rattle.reason_names.specs.Names.{blob_name_of};
+ghost use Rattle.lerc_c.specs.Names.{name_at};
 
 use band_decoding::{BandsDecodeStop, count_of, decode_bands_into};
 use band_encoding::encode_bands_into;
@@ -377,7 +380,7 @@ pub extern "C" fn futskheri_encode_bands(
 #[unsafe(no_mangle)]
 pub extern "C" fn futskheri_reason_name(reason: u32, out: &mut [u8]) -> usize
     ensures reasons { (r : BlobReason) → reason ≡ reason_number r
-        → name_at reason ≡ reason_name r }
+        → name_at reason ≡ blob_name_of r }
     ensures size { result ≡ length (name_at reason) }
     ensures name { out.new ≡ take (length out.old) (name_at reason) ++ drop result out.old }
 {

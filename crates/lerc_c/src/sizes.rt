@@ -1,7 +1,7 @@
 //! How long a blob may be.
 
 ghost use Rattle.std.specs.Prelude.{◌≡◌, ◌≤◌};
-ghost use Rattle.raster_values.specs.Raster.{IsShape};
+ghost use Rattle.raster_cells.specs.Shapes.{IsShape};
 ghost use Rattle.lerc_encode.specs.Sizes.{greatest_size};
 
 use raster_values::PixelType;

@@ -1,7 +1,7 @@
 //! What a call tells of a blob, as numbers that C reads.
 
 ghost use Rattle.std.specs.Prelude.{◌≡◌};
-ghost use Rattle.raster_values.specs.PixelType.{code_of};
+ghost use Rattle.raster_cells.specs.PixelType.{code_of};
 ghost use Rattle.lerc_c.specs.Told.{TellsFault, TellsBandsFault, TellsHead, found_of, reason_number, stated_of};
 
 use lerc_grammar::{BandReason, BandsFault};

@@ -1,5 +1,4 @@
 //! A source becomes what a command works on, or a stop.
 
 pub(crate) mod blobs;
-pub(crate) mod grid;
 pub(crate) mod tiles;

@@ -1,6 +1,6 @@
 //! The program as a library: the words of the command line and the bytes of a source become the
 //! bytes of an output and a status. It stands on `program_ends`, `command_words` and
-//! `opened_bundle`, on `lerc_decode`, `lerc_encode`, `tile_workers`, `tile_updates`, `sample_tiles`,
+//! `opened_bundle`, on `lerc_decode`, `grid_blobs`, `tile_workers`, `tile_updates`, `sample_tiles`,
 //! `bundle_lines`, `reason_names` and the layers below them. `serve` reads the words and calls
 //! `run`.
 //!

@@ -8,7 +8,7 @@ use lerc_header::BlobReason;
 use opened_bundle::StoreRefusal;
 use outside_io::Line;
 use program_ends::Stop;
-use raster_values::GridReason;
+use raster_grids::GridReason;
 
 /// Why an input is refused.
 #[derive(Clone, Copy)]

@@ -9,6 +9,7 @@ use bundle_index::Slot;
 use command_words::{error_of, has_text, slot_of, up_to, version_of, workers_of};
 use lerc_header::Version;
 use outside_io::Word;
+use sample_tiles::MOST_TILES;
 
 /// What is told where the words are no command: the commands that there are.
 pub const USAGE: &[u8] =
@@ -118,9 +119,6 @@ fn get_raw_of(row: &Word, col: &Word) -> Option<Command>
     let slot = slot_of(row, col)?;
     Some(Command::GetRaw { slot })
 }
-
-/// How many tiles a sample may have.
-const MOST_TILES: u32 = 4096;
 
 /// The command `sample` of a start's word and that of a number of tiles.
 fn sample_of(start: &Word, count: &Word) -> Option<Command>

@@ -9,7 +9,7 @@ use Rattle.lerc_header.specs.declared.header.Version.TheVariants.{V3, V4}
 use Rattle.lerc_header.specs.Head.{head_length}
 use Rattle.lerc_grammar.proofs.BandsDecided.{begun_few}
 use Rattle.lerc_decode.specs.Decoding.{Stage, Key, Fields, Body, Whole, Wrong as WrongBlob, NoMemory as NoneLeft, Decoding, HasHeader, IsStageOf}
-use Rattle.lerc_decode.specs.declared.decoder.FedState.TheVariants.{More}
+use Rattle.lerc_decode.specs.declared.streams.decoder.FedState.TheVariants.{More}
 use Rattle.lerc_decode.specs.States.{state_at, missing_at}
 use Rattle.lerc_decode.specs.Reading.{WholeFront, BandsStage, InBlob, Behind, Wrong, NoMemory, BandsDecoding, IsAt, IsAfter, HasEndedAt, wanted}
 use Rattle.lerc_decode.specs.inside.BandsFeeding.{Reads, ReadsAt, HasRead, reached, room_at, room_of}

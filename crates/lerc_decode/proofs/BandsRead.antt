@@ -9,8 +9,8 @@ use Rattle.lerc_grammar.specs.declared.bands.BandReason.{BandReason}
 use Rattle.lerc_grammar.specs.declared.bands.BandsFault.{BandsFault}
 use Rattle.lerc_grammar.specs.Bands.{BandsBlob, BandsFaultAt}
 use Rattle.lerc_grammar.proofs.BandsSteps.{bands_faults_stay}
-use Rattle.lerc_decode.specs.declared.bands.BandsStop.{BandsStop}
-use Rattle.lerc_decode.specs.declared.bands.BandsStop.TheVariants.{Fault, OutOfMemory}
+use Rattle.lerc_decode.specs.declared.streams.bands.BandsStop.{BandsStop}
+use Rattle.lerc_decode.specs.declared.streams.bands.BandsStop.TheVariants.{Fault, OutOfMemory}
 use Rattle.lerc_decode.specs.Decoding.{Decoding, HasHeader}
 use Rattle.lerc_decode.specs.BandsStates.{IsBandsFinish}
 use Rattle.lerc_decode.specs.BandsSource.{IsNoBands, HoldsBlobs, IsDecidedBy, LeavesRest}

@@ -3,7 +3,8 @@ use Rattle.std.proofs.Common.{◌≡◌, ℕ, ◌*◌, Bool, true, false, cond, 
 use Rattle.std.proofs.lemmas.Bool.{eqb-true}
 use Rattle.raster_values.specs.Raster.{Pixels, IsRaster, valid_count}
 use Rattle.raster_values.specs.Flat.{marks_of}
-use Rattle.raster_values.specs.Order.{IsMaskOf, marks_in}
+use Rattle.raster_values.specs.Order.{IsMaskOf}
+use Rattle.raster_cells.specs.Masks.{marks_in}
 use Rattle.raster_values.proofs.NumberedBlocks.{mask_says_marks}
 use Rattle.lerc_grammar.specs.Mask.{Previous, count_before, count_of, marks_before, mask_size}
 use Rattle.lerc_grammar.proofs.Counts.{counted}

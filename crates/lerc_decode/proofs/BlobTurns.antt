@@ -27,11 +27,11 @@ use Rattle.lerc_grammar.proofs.BandsSteps.{begun_more}
 use Rattle.lerc_grammar.proofs.BandsReader.{behind_more, step_more, step_done, step_wrong, step_unlike}
 use Rattle.lerc_header.specs.declared.fault.BlobFault.{BlobFault}
 use Rattle.lerc_header.specs.declared.fault.BlobReason.TheVariants.{Truncated}
-use Rattle.lerc_decode.specs.declared.decoder.FedState.{FedState}
-use Rattle.lerc_decode.specs.declared.decoder.FedState.TheVariants.{More, Refused as Refuses, OutOfMemory as NoRoom}
-use Rattle.lerc_decode.specs.declared.turns.Ended.{Ended}
-use Rattle.lerc_decode.specs.declared.turns.Next.{Next}
-use Rattle.lerc_decode.specs.declared.turns.Next.TheVariants.{Goes, Ends, Refused, OutOfMemory}
+use Rattle.lerc_decode.specs.declared.streams.decoder.FedState.{FedState}
+use Rattle.lerc_decode.specs.declared.streams.decoder.FedState.TheVariants.{More, Refused as Refuses, OutOfMemory as NoRoom}
+use Rattle.lerc_decode.specs.declared.streams.turns.Ended.{Ended}
+use Rattle.lerc_decode.specs.declared.streams.turns.Next.{Next}
+use Rattle.lerc_decode.specs.declared.streams.turns.Next.TheVariants.{Goes, Ends, Refused, OutOfMemory}
 use Rattle.lerc_decode.specs.Decoding.{Stage, Key, Fields, Body, Whole, Wrong, NoMemory, Decoding, HasHeader, HasTaken, IsLeastAfter, IsStageOf}
 use Rattle.lerc_decode.specs.States.{state_at, missing_at, IsTold, IsUsed}
 use Rattle.lerc_decode.specs.Reading.{GoesOnBehind}

@@ -6,11 +6,12 @@ use Rattle.std.proofs.lemmas.List.FromFn.{length-map-range_with_len, map-range_w
 use Rattle.std.proofs.lemmas.Nat.{div-add-mod', mod_below}
 use Rattle.first_fault.specs.Faults.{Faults, wrong, unless, moved, in_order, ends, AllNumbered, InNumbered, Numbered}
 use Rattle.first_fault.proofs.Decided.{numbered_push}
-use Rattle.raster_values.specs.Raster.{InShape, IsShape, Pixels}
+use Rattle.raster_values.specs.Raster.{InShape, Pixels}
+use Rattle.raster_cells.specs.Shapes.{IsShape}
 use Rattle.raster_values.specs.Block.{InBlock, PoursBlock, block_count, block_values}
 use Rattle.raster_values.specs.Flat.{marks_of, valid_numbers, value_in}
 use Rattle.raster_values.proofs.BlockLaws.{has_count, leaves_others, of_mask, partition}
-use Rattle.raster_values.proofs.Every.{every_range, same_map}
+use Rattle.raster_cells.proofs.Every.{every_range, same_map}
 use Rattle.raster_values.proofs.NumberedBlocks.{block_numbered}
 use Rattle.micro_block.specs.Block.{IsBlock}
 use Rattle.micro_block.specs.Faults.{block_faults}
@@ -24,7 +25,7 @@ use Rattle.std.proofs.Math.Nat.{mul-le-mul_left, mul-le-mul_right}
 use Rattle.lerc_header.specs.declared.fault.BlobReason.TheVariants.{BadBlockSize, Leftover}
 use Rattle.lerc_grammar.proofs.BlockRasters.{begins_within}
 use Rattle.lerc_grammar.proofs.OneBlocks.{mask_by_marks, number_below, number_col, number_depth, number_row}
-use Rattle.lerc_decode.specs.declared.tops.Tops.{Tops}
+use Rattle.lerc_decode.specs.declared.blob.tops.Tops.{Tops}
 use Rattle.lerc_decode.specs.inside.Blocks.{HasBlocks, HasRead, IsBlockHead, IsSquare, block_number}
 use Rattle.lerc_decode.specs.inside.Body.{HasHeadShape, KeepsMarks}
 use Rattle.lerc_decode.specs.inside.Tops.{top_in}
@@ -212,3 +213,8 @@ faults_same h marks f g bytes p r some same w =
     subst (λ (F : ℕ → Frame). unless (h.side ≤ 32) (wrong BadBlockSize 0)
     (in_order (AllNumbered (λ k. IsBlock (F k)) (coded_blocks h)) (InNumbered (λ k. IsBlock (F k)) (λ k rest. told block_reason (block_faults (F k) rest)) (coded_blocks h)) nothing_behind bytes) p r)
     (all_frames h marks f g some same) w
+
+-- what was read counts for the marks before the calls, which are the same
+pub read_then : (h : Header) (first last new : Pixels) (tops : Tops) (rest : List ℕ) (k n at : ℕ) → KeepsMarks first last → k ≡ n → HasRead h (marks_of last) tops rest k at new → HasRead h (marks_of first) tops rest n at new
+read_then h first last new tops rest k n at keeps is read =
+    subst (λ (marks : List Bool). HasRead h marks tops rest n at new) (sym keeps.marks) (subst (λ (j : ℕ). HasRead h (marks_of last) tops rest j at new) is read)

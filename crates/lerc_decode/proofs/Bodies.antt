@@ -7,10 +7,10 @@ use Rattle.first_fault.specs.Parts.{AreBytes}
 use Rattle.mask_runs.specs.Runs.{Runs}
 use Rattle.mask_runs.specs.Fault.{FirstRunFault, in_run, after_end}
 use Rattle.mask_runs.specs.declared.read.RunFault.{RunFault}
-use Rattle.raster_values.specs.PixelType.{bytes_of}
+use Rattle.raster_cells.specs.PixelType.{bytes_of}
 use Rattle.raster_values.specs.Raster.{Pixels, IsRaster, values_of}
 use Rattle.raster_values.specs.Flat.{marks_of, EachValid}
-use Rattle.raster_values.specs.Order.{marks_in}
+use Rattle.raster_cells.specs.Masks.{marks_in}
 use Rattle.lerc_header.specs.declared.header.Header.{Header}
 use Rattle.lerc_header.specs.declared.fault.BlobReason.{BlobReason}
 use Rattle.lerc_header.specs.declared.fault.BlobReason.TheVariants.{BadChecksum, BadRun, BadMaskCount}
@@ -26,7 +26,7 @@ use Rattle.lerc_grammar.specs.Image.{Ends, IsFront, AreEqual, IsBare, IsCoded, I
 use Rattle.lerc_grammar.specs.Blocks.{AreBlocks, all_blocks, blocks_faults}
 use Rattle.lerc_grammar.specs.Blob.{BlobAfter, blob_faults}
 use Rattle.lerc_grammar.specs.Outline.{HasMaskLength, IsMaskForm, IsImageForm, IsCodedForm, IsFormBytes, HasLists, values_place, image_place, mask_part_faults, image_part_faults}
-use Rattle.raster_values.specs.Values.{AreValues}
+use Rattle.raster_cells.specs.Values.{AreValues}
 use Rattle.lerc_grammar.proofs.Bytes.{bytes_in_drop}
 use Rattle.lerc_grammar.proofs.ImageDecided.{none_each}
 use Rattle.lerc_grammar.proofs.Lists.{first_list, front_list_long}
@@ -34,15 +34,15 @@ use Rattle.std.proofs.Math.Nat.{mul-le-mul_right}
 use Rattle.lerc_grammar.proofs.Counts.{mask_count, counted}
 use Rattle.lerc_grammar.proofs.MaskDecided.{alike_stands, mixed_stands, taken_stands}
 use Rattle.lerc_grammar.proofs.Looking.{mask_outside, mask_inside, image_outside, image_inside, sweep_inside, blocks_inside, codes_inside}
-use Rattle.lerc_decode.specs.declared.body.BodyStop.{BodyStop}
-use Rattle.lerc_decode.specs.declared.body.BodyStop.TheVariants.{Fault, OutOfMemory}
+use Rattle.lerc_decode.specs.declared.blob.body.BodyStop.{BodyStop}
+use Rattle.lerc_decode.specs.declared.blob.body.BodyStop.TheVariants.{Fault, OutOfMemory}
 use Rattle.lerc_header.specs.declared.header.Version.{Version}
 use Rattle.lerc_header.specs.declared.header.Version.TheVariants.{V3, V4}
 use Rattle.huff_codes.specs.Table.{IsCoding}
 use Rattle.lerc_grammar.specs.Codes.{codes_faults}
 use Rattle.lerc_grammar.proofs.CodedOnce.{least_mode}
 use Rattle.lerc_decode.specs.inside.Codes.{HasDeltas, HasPlain}
-use Rattle.lerc_decode.specs.declared.tops.Tops.{Tops}
+use Rattle.lerc_decode.specs.declared.blob.tops.Tops.{Tops}
 use Rattle.lerc_decode.specs.inside.Blocks.{HasBlocks}
 use Rattle.lerc_decode.specs.inside.Tops.{AreTopsOf, HasBoth, top_in}
 use Rattle.lerc_decode.proofs.BlockReading.{blocks_same, faults_same}

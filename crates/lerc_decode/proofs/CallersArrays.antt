@@ -6,7 +6,8 @@ use Rattle.std.proofs.lemmas.List.FromFn.{get_or-map-range_with_len}
 use Rattle.first_fault.specs.Parts.{AreBytes}
 use Rattle.raster_values.specs.Raster.{Pixels, IsRaster}
 use Rattle.raster_values.specs.Flat.{marks_of}
-use Rattle.raster_values.specs.Order.{IsMaskOf, marks_in, mask_bit}
+use Rattle.raster_values.specs.Order.{IsMaskOf}
+use Rattle.raster_cells.specs.Masks.{marks_in, mask_bit}
 use Rattle.lerc_header.specs.declared.header.Header.{Header}
 use Rattle.lerc_header.specs.declared.header.Version.{Version}
 use Rattle.lerc_header.specs.declared.fault.BlobFault.{BlobFault}

@@ -7,7 +7,7 @@ use Rattle.outside_io.specs.streams.Source.{TakesUpTo}
 use Rattle.raster_values.specs.Raster.{IsRaster}
 use Rattle.lerc_header.specs.Head.{HeadAt}
 use Rattle.lerc_header.proofs.Prefixes.{head_more}
-use Rattle.lerc_decode.specs.declared.from_source.Decoded.{Decoded}
+use Rattle.lerc_decode.specs.declared.streams.from_source.Decoded.{Decoded}
 use Rattle.lerc_decode.specs.FromSource.{IsSized}
 use Rattle.std.proofs.lemmas.List.{append_assoc, length-append, length-take-le, take-append-drop, take_all}
 use Rattle.lerc_header.specs.Head.{head_length}
@@ -20,7 +20,7 @@ use Rattle.outside_io.specs.streams.Source.{IsAtEnd}
 use Rattle.lerc_decode.specs.Feeding.{Begins, Joins, Follows}
 use Rattle.lerc_decode.specs.inside.Feeding.{from_finished, work_at}
 use Rattle.lerc_header.specs.declared.fault.BlobReason.TheVariants.{Truncated}
-use Rattle.lerc_decode.specs.declared.from_source.FromFault.TheVariants.{Blob}
+use Rattle.lerc_decode.specs.declared.streams.from_source.FromFault.TheVariants.{Blob}
 use Rattle.lerc_decode.specs.FromSource.{IsDecoded}
 use Rattle.lerc_decode.proofs.Steps.{told_of}
 use Rattle.lerc_grammar.specs.Mask.{Previous}

@@ -6,11 +6,12 @@ use Rattle.std.proofs.lemmas.List.{ext_get_or, length-map, get_or-map}
 use Rattle.std.proofs.lemmas.List.FromFn.{length-range_with_len, get_or-map-range_with_len}
 use Rattle.std.proofs.lemmas.Nat.{div_below, mul-add-lt}
 use Rattle.raster_values.proofs.Deep.{raster_deep}
-use Rattle.raster_values.specs.declared.kind.PixelType.{PixelType}
+use Rattle.raster_cells.specs.declared.kind.PixelType.{PixelType}
 use Rattle.raster_values.specs.Raster.{Pixels, IsRaster, InShape, valid_at, valid_count, blank, filled}
 use Rattle.raster_values.specs.Flat.{marks_of, EachValid}
 use Rattle.raster_values.specs.Block.{SameMask}
-use Rattle.raster_values.specs.Order.{MarksBits, FillsValid, mask_bit, marks_in}
+use Rattle.raster_values.specs.Order.{MarksBits, FillsValid}
+use Rattle.raster_cells.specs.Masks.{mask_bit, marks_in}
 use Rattle.lerc_grammar.specs.Mask.{count_of}
 use Rattle.lerc_grammar.proofs.Counts.{all_alike, counted}
 

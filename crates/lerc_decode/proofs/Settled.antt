@@ -5,11 +5,11 @@ use Rattle.raster_values.specs.Bands.{MayBeBands}
 use Rattle.lerc_grammar.specs.declared.bands.BandsFault.{BandsFault}
 use Rattle.lerc_grammar.specs.Mask.{Previous}
 use Rattle.lerc_grammar.specs.Bands.{FirstBandsFault, IsLeastFault}
-use Rattle.lerc_decode.specs.declared.bands.BandsProgress.{BandsProgress}
-use Rattle.lerc_decode.specs.declared.bands.BandsProgress.TheVariants.{Inside, Behind as AtKey, Refused as AtFault, OutOfMemory as AtNone}
-use Rattle.lerc_decode.specs.declared.turns.Ended.{Ended}
-use Rattle.lerc_decode.specs.declared.turns.Next.{Next}
-use Rattle.lerc_decode.specs.declared.turns.Next.TheVariants.{Ends, Refused}
+use Rattle.lerc_decode.specs.declared.streams.bands.BandsProgress.{BandsProgress}
+use Rattle.lerc_decode.specs.declared.streams.bands.BandsProgress.TheVariants.{Inside, Behind as AtKey, Refused as AtFault, OutOfMemory as AtNone}
+use Rattle.lerc_decode.specs.declared.streams.turns.Ended.{Ended}
+use Rattle.lerc_decode.specs.declared.streams.turns.Next.{Next}
+use Rattle.lerc_decode.specs.declared.streams.turns.Next.TheVariants.{Ends, Refused}
 use Rattle.lerc_decode.specs.Decoding.{Stage, Key, Fields, Body, Whole, Wrong as WrongBlob, NoMemory as NoneLeft, HasHeader, IsStageOf}
 use Rattle.lerc_decode.specs.States.{IsUsed}
 use Rattle.lerc_decode.specs.Reading.{WholeFront, Behind, IsFrontOf, IsAt}

@@ -16,12 +16,12 @@ use Rattle.lerc_header.proofs.Prefixes.{head_more}
 use Rattle.lerc_header.proofs.FaultLemmas.{one_version}
 use Rattle.lerc_grammar.proofs.More.{more_key, more_fields, more_body, least_fields, least_body}
 use Rattle.lerc_grammar.proofs.Verdicts.{take_same}
-use Rattle.lerc_decode.specs.declared.decoder.Decoder.TheInside.{Inside}
-use Rattle.lerc_decode.specs.declared.decoder.Progress.{Progress}
-use Rattle.lerc_decode.specs.declared.decoder.Progress.TheVariants.{Key as AtKey, Fields as AtFields, Body as AtBody, Done as AtDone, Refused, OutOfMemory}
+use Rattle.lerc_decode.specs.declared.streams.decoder.Decoder.TheInside.{Inside}
+use Rattle.lerc_decode.specs.declared.streams.decoder.Progress.{Progress}
+use Rattle.lerc_decode.specs.declared.streams.decoder.Progress.TheVariants.{Key as AtKey, Fields as AtFields, Body as AtBody, Done as AtDone, Refused, OutOfMemory}
 use Rattle.lerc_decode.specs.Decoding.{Stage, Key, Fields, Body, Whole, Wrong, NoMemory, Decoding, IsStageOf, IsLeastAfter, HasTaken, IsSame}
 use Rattle.lerc_decode.specs.inside.Steps.{AfterKey, AfterFields, AfterBody, StepsKey, StepsFields, StepsBody}
-use Rattle.lerc_decode.specs.declared.decoder.FedState.TheVariants.{More}
+use Rattle.lerc_decode.specs.declared.streams.decoder.FedState.TheVariants.{More}
 use Rattle.lerc_decode.specs.States.{state_at, missing_at, IsTold, HasStopped, IsUsed}
 use Rattle.lerc_decode.specs.inside.Steps.{UsesKey, UsesFields, UsesBody}
 use Rattle.lerc_decode.specs.inside.Stages.{HasEnded, KeepsHead, stage_of}

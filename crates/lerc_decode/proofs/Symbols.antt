@@ -107,9 +107,6 @@ other_depth old new d e symbols xs was is t low other stands =
     let same : value_in old e ≡ value_in new e = λ i k. sym (same_values old new d e symbols was is t low other k) i in
     stands ∙ ap (λ v. deltas_from old.kind old.cols (is_valid old) v 0 (old.rows * old.cols)) same ∙ deltas_as old new e was is t.same
 
-pub keeps_then : (a b c : Pixels) → KeepsMarks a b → KeepsMarks b c → KeepsMarks a c
-keeps_then a b c x y = record { kind = x.kind ∙ y.kind; rows = x.rows ∙ y.rows; cols = x.cols ∙ y.cols; depth = x.depth ∙ y.depth; marks = x.marks ∙ y.marks }
-
 -- one depth more has its symbols
 pub next_depths : (h : Header) (old new : Pixels) (symbols : List ℕ) (d at : ℕ) → IsRaster old → IsRaster new → d < h.depth → h.depth ≡ old.depth → at ≡ d * h.valid
     → TakesDeltas old new d (take (at + h.valid - at) (drop at symbols)) → ((e : ℕ) → e < d → AreDeltas old e (symbols_of h symbols e)) → (e : ℕ) → e < d + 1 → AreDeltas new e (symbols_of h symbols e)

@@ -17,13 +17,13 @@ use Rattle.lerc_grammar.proofs.Verdicts.{done_head}
 use Rattle.lerc_grammar.proofs.BandsOnce.{one_bands_verdict}
 use Rattle.lerc_grammar.proofs.BandsReader.{begin, step_key, step_begin, step_left}
 use Rattle.lerc_grammar.proofs.BandsSteps.{cut_there, inside_undecided, inside_not_whole, whole_there, left_there, between_undecided}
-use Rattle.lerc_decode.specs.declared.decoder.FedState.TheVariants.{More}
+use Rattle.lerc_decode.specs.declared.streams.decoder.FedState.TheVariants.{More}
 use Rattle.lerc_decode.specs.Decoding.{Stage, Key, Fields, Body, Whole, Wrong as WrongBlob, NoMemory as NoneLeft, Decoding, HasHeader, IsStageOf}
 use Rattle.lerc_decode.specs.States.{state_at}
 use Rattle.lerc_decode.specs.Reading.{WholeFront, BandsStage, InBlob, Behind, Wrong, NoMemory, AreBlobs, AreKept, IsFrontOf, IsAt}
 use Rattle.lerc_decode.specs.BandsStates.{state_of, IsBandsTold}
-use Rattle.lerc_decode.specs.declared.bands.BandsProgress.{BandsProgress}
-use Rattle.lerc_decode.specs.declared.bands.BandsProgress.TheVariants.{Inside as AtBlob, Behind as AtKey, Refused as AtFault, OutOfMemory as AtNone}
+use Rattle.lerc_decode.specs.declared.streams.bands.BandsProgress.{BandsProgress}
+use Rattle.lerc_decode.specs.declared.streams.bands.BandsProgress.TheVariants.{Inside as AtBlob, Behind as AtKey, Refused as AtFault, OutOfMemory as AtNone}
 use Rattle.lerc_decode.specs.inside.BandsStages.{stage_in, IsBegunBehind}
 use Rattle.lerc_decode.specs.inside.Turns.{kept_with, with_blob}
 use Rattle.lerc_decode.proofs.BlobTurns.{header_before}

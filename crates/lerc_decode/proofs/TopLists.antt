@@ -4,14 +4,14 @@ use Rattle.std.specs.Prelude.{if◌then◌else◌}
 use Rattle.std.proofs.lemmas.Bool.{eq-eqb, ne_eqb}
 use Rattle.std.proofs.lemmas.List.{append_assoc, drop-drop, drop_at, get_or-drop, length-append, length-drop, length-take-le, take-append-drop, take_at}
 use Rattle.byteorder.specs.Endian.{little_number}
-use Rattle.raster_values.specs.declared.kind.PixelType.{PixelType}
-use Rattle.raster_values.specs.PixelType.{bytes_of, value_of, InRange}
+use Rattle.raster_cells.specs.declared.kind.PixelType.{PixelType}
+use Rattle.raster_cells.specs.PixelType.{bytes_of, value_of, InRange}
 use Rattle.lerc_header.specs.declared.header.Header.{Header}
 use Rattle.lerc_header.specs.declared.header.Version.{Version}
 use Rattle.lerc_header.specs.declared.header.Version.TheVariants.{V3, V4}
 use Rattle.lerc_grammar.specs.Image.{Ends, IsFront, top_of}
 use Rattle.lerc_grammar.specs.Outline.{HasLists}
-use Rattle.lerc_decode.specs.declared.tops.Tops.TheVariants.{One}
+use Rattle.lerc_decode.specs.declared.blob.tops.Tops.TheVariants.{One}
 use Rattle.lerc_decode.specs.inside.Tops.{AreTopsOf, IsOneTop, top_in}
 
 -- ---- one top for all depths

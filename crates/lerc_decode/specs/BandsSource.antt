@@ -1,5 +1,6 @@
 -- What decoding all bands of a source answers.
-use Rattle.std.specs.Prelude.{◌≡◌, ℕ, ◌⊎◌, ◌≤◌, List, [], ◌++◌, Option, None, Some, IfSome, Result, Ok, Err}
+use Rattle.std.specs.Prelude.{◌≡◌, ℕ, ◌⊎◌, ◌≤◌, List, [], ◌++◌, Option, None, Some, IfSome, Result}
+use Rattle.std.specs.Prelude.{Ok, Err}
 use Rattle.std.specs.List.{concat}
 use Rattle.outside_io.specs.streams.Faults.{FailedBetween}
 use Rattle.raster_values.specs.Raster.{Pixels}
@@ -8,8 +9,10 @@ use Rattle.lerc_grammar.specs.declared.bands.BandsFault.{BandsFault}
 use Rattle.lerc_grammar.specs.Bands.{BandsBlob, BandsFaultAt, FirstBandsFault, IsLeastFault}
 use Rattle.lerc_decode.specs.Decoding.{HasHeader}
 use Rattle.lerc_decode.specs.Reading.{AreBlobs}
-use Rattle.lerc_decode.specs.declared.bands_source.BandsFromFault.{BandsFromFault}
-use Rattle.lerc_decode.specs.declared.bands_source.BandsFromFault.TheVariants.{Fault, Source, OutOfMemory}
+use Rattle.lerc_decode.specs.declared.streams.bands_source.BandsFromFault.{BandsFromFault}
+use Rattle.lerc_decode.specs.declared.streams.bands_source.BandsFromFault.TheVariants.{Fault}
+use Rattle.lerc_decode.specs.declared.streams.bands_source.BandsFromFault.TheVariants.{Source}
+use Rattle.lerc_decode.specs.declared.streams.bands_source.BandsFromFault.TheVariants.{OutOfMemory}
 
 -- the source failed exactly where the answer says so
 abbrev pub CountsBands : {X : Type 0} → Result X BandsFromFault → ℕ → ℕ → Type 0

@@ -3,10 +3,11 @@ use Rattle.std.specs.Prelude.{ℕ, suc, zero, List, Result, Ok, Err}
 use Rattle.raster_values.specs.Raster.{Pixels}
 use Rattle.lerc_grammar.specs.declared.bands.BandReason.{BandReason}
 use Rattle.lerc_grammar.specs.Bands.{BandsBlob, BandsFaultAt, FirstBandsFault, IsLeastFault}
-use Rattle.lerc_decode.specs.declared.bands.BandsState.{BandsState}
-use Rattle.lerc_decode.specs.declared.bands.BandsState.TheVariants.{More, Whole, Refused, OutOfMemory as NoMemoryState}
-use Rattle.lerc_decode.specs.declared.bands.BandsStop.{BandsStop}
-use Rattle.lerc_decode.specs.declared.bands.BandsStop.TheVariants.{Fault, OutOfMemory}
+use Rattle.lerc_decode.specs.declared.streams.bands.BandsState.{BandsState}
+use Rattle.lerc_decode.specs.declared.streams.bands.BandsState.TheVariants.{More, Whole, Refused}
+use Rattle.lerc_decode.specs.declared.streams.bands.BandsState.TheVariants.{OutOfMemory as NoMemoryState}
+use Rattle.lerc_decode.specs.declared.streams.bands.BandsStop.{BandsStop}
+use Rattle.lerc_decode.specs.declared.streams.bands.BandsStop.TheVariants.{Fault, OutOfMemory}
 use Rattle.lerc_decode.specs.Decoding.{HasHeader}
 use Rattle.lerc_decode.specs.Reading.{BandsStage, InBlob, Behind, Wrong, NoMemory}
 

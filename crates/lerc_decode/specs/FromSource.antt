@@ -1,14 +1,16 @@
 -- What decoding from a source answers.
-use Rattle.std.specs.Prelude.{◌≡◌, ℕ, ◌≤◌, ◌⊎◌, List, [], ◌++◌, length, Option, None, Some, IfSome, Result, Ok, Err}
+use Rattle.std.specs.Prelude.{◌≡◌, ℕ, ◌≤◌, ◌⊎◌, List, [], ◌++◌, length, Option, None, Some, IfSome}
+use Rattle.std.specs.Prelude.{Result, Ok, Err}
 use Rattle.outside_io.specs.streams.Faults.{FailedBetween}
 use Rattle.raster_values.specs.Raster.{Pixels}
 use Rattle.lerc_header.specs.declared.fault.BlobFault.{BlobFault}
 use Rattle.lerc_header.specs.declared.fault.BlobReason.TheVariants.{Truncated}
 use Rattle.lerc_grammar.specs.Verdict.{FirstFault, IsDone, IsMore}
 use Rattle.lerc_decode.specs.Decoding.{HasHeader, IsLeastTaken}
-use Rattle.lerc_decode.specs.declared.from_source.Decoded.{Decoded}
-use Rattle.lerc_decode.specs.declared.from_source.FromFault.{FromFault}
-use Rattle.lerc_decode.specs.declared.from_source.FromFault.TheVariants.{Blob, Source, OutOfMemory}
+use Rattle.lerc_decode.specs.declared.streams.from_source.Decoded.{Decoded}
+use Rattle.lerc_decode.specs.declared.streams.from_source.FromFault.{FromFault}
+use Rattle.lerc_decode.specs.declared.streams.from_source.FromFault.TheVariants.{Blob, Source}
+use Rattle.lerc_decode.specs.declared.streams.from_source.FromFault.TheVariants.{OutOfMemory}
 
 -- the source failed exactly where the answer says so
 abbrev pub CountsSource : {X : Type 0} → Result X FromFault → ℕ → ℕ → Type 0

@@ -1,8 +1,8 @@
 -- What decoding into a caller's arrays answers.
 use Rattle.std.specs.Prelude.{◌≡◌, ℕ, ◌*◌, ◌⊎◌, List, length}
-use Rattle.raster_values.specs.PixelType.{bytes_of}
+use Rattle.raster_cells.specs.PixelType.{bytes_of}
 use Rattle.raster_values.specs.Raster.{Pixels}
-use Rattle.raster_values.specs.Grid.{values_bytes}
+use Rattle.raster_cells.specs.Values.{values_bytes}
 use Rattle.raster_values.specs.Flat.{all_values}
 use Rattle.raster_values.specs.Order.{IsMaskOf}
 use Rattle.lerc_header.specs.declared.header.Header.{Header}

@@ -1,6 +1,7 @@
 -- A decoder of bands, as contracts see it. It keeps the bytes of one blob alone, so which bytes it
 -- took is a relation: `IsAfter taken d` says that d may be the decoder after these bytes.
-use Rattle.std.specs.Prelude.{◌≡◌, ℕ, ◌<◌, List, [], ◌∷◌, codes, length, take, Option, None, Some, IfSome}
+use Rattle.std.specs.Prelude.{◌≡◌, ℕ, ◌<◌, List, [], ◌∷◌, codes, length, take, Option, None, Some}
+use Rattle.std.specs.Prelude.{IfSome}
 use Rattle.std.specs.List.{concat}
 use Rattle.raster_values.specs.Raster.{Pixels}
 use Rattle.lerc_grammar.specs.declared.bands.BandReason.{BandReason}
@@ -8,7 +9,7 @@ use Rattle.lerc_grammar.specs.Mask.{Previous, previous_of}
 use Rattle.lerc_grammar.specs.Blob.{BlobAfter}
 use Rattle.lerc_grammar.specs.Bands.{last_after, FirstBandsFault, IsLeastFault}
 use Rattle.lerc_grammar.specs.BandsReading.{IsInside, IsBetween}
-use Rattle.lerc_decode.specs.declared.decoder.FedState.TheVariants.{More}
+use Rattle.lerc_decode.specs.declared.streams.decoder.FedState.TheVariants.{More}
 use Rattle.lerc_decode.specs.Decoding.{Decoding, HasHeader, IsStageOf}
 use Rattle.lerc_decode.specs.States.{state_at, missing_at}
 

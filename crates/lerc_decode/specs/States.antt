@@ -5,11 +5,14 @@ use Rattle.lerc_header.specs.Head.{head_length}
 use Rattle.lerc_grammar.specs.Mask.{Previous}
 use Rattle.lerc_grammar.specs.Verdict.{FirstFaultAfter, IsDoneAfter, IsMoreAfter}
 use Rattle.lerc_header.specs.declared.fault.BlobReason.TheVariants.{Truncated}
-use Rattle.lerc_decode.specs.declared.decoder.DecodeFault.{DecodeFault}
-use Rattle.lerc_decode.specs.declared.decoder.DecodeFault.TheVariants.{Blob as BlobOf, OutOfMemory as NoMemoryOf}
-use Rattle.lerc_decode.specs.declared.decoder.FedState.{FedState}
-use Rattle.lerc_decode.specs.declared.decoder.FedState.TheVariants.{More, Done, Refused, OutOfMemory}
-use Rattle.lerc_decode.specs.Decoding.{Stage, Key, Fields, Body, Whole, Wrong, NoMemory, HasHeader, IsLeastAfter}
+use Rattle.lerc_decode.specs.declared.streams.decoder.DecodeFault.{DecodeFault}
+use Rattle.lerc_decode.specs.declared.streams.decoder.DecodeFault.TheVariants.{Blob as BlobOf}
+use Rattle.lerc_decode.specs.declared.streams.decoder.DecodeFault.TheVariants.{OutOfMemory as NoMemoryOf}
+use Rattle.lerc_decode.specs.declared.streams.decoder.FedState.{FedState}
+use Rattle.lerc_decode.specs.declared.streams.decoder.FedState.TheVariants.{More, Done, Refused}
+use Rattle.lerc_decode.specs.declared.streams.decoder.FedState.TheVariants.{OutOfMemory}
+use Rattle.lerc_decode.specs.Decoding.{Stage, Key, Fields, Body, Whole, Wrong, NoMemory, HasHeader}
+use Rattle.lerc_decode.specs.Decoding.{IsLeastAfter}
 
 abbrev pub state_at : Stage → FedState
 state_at Key = More

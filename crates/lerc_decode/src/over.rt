@@ -1,24 +1,28 @@
 //! Decoding into a caller's arrays.
 
-ghost use Rattle.std.specs.Prelude.{◌≡◌, ◌≤◌, ◌<◌, ◌*◌, ◌-◌, ◌↔◌, ℕ, IfErr, IfOk, IsErrOf, IsTrue, None, OnOk, drop, get_or, length, take};
+ghost use Rattle.std.specs.Prelude.{◌≡◌, ◌≤◌, ◌<◌, ◌*◌, ◌-◌, ◌↔◌, ℕ, IfErr, IfOk, IsErrOf, IsTrue};
+ghost use Rattle.std.specs.Prelude.{None, OnOk, drop, get_or, length, take};
 ghost use Rattle.raster_values.specs.Flat.{all_values};
-ghost use Rattle.raster_values.specs.Grid.{values_bytes};
-ghost use Rattle.raster_values.specs.Lent.{IsLent, array_of, bytes_in, lent_pixels};
-ghost use Rattle.raster_values.specs.Order.{marks_in};
-ghost use Rattle.raster_values.specs.Raster.{IsShape, Pixels};
+ghost use Rattle.raster_cells.specs.Values.{values_bytes};
+ghost use Rattle.raster_values.specs.Lent.{array_of, bytes_in, lent_pixels};
+ghost use Rattle.raster_cells.specs.Masks.{marks_in};
+ghost use Rattle.raster_cells.specs.Shapes.{IsShape};
+ghost use Rattle.raster_values.specs.Raster.{Pixels};
 ghost use Rattle.lerc_header.specs.Head.{HeadAt, head_length};
 ghost use Rattle.lerc_header.specs.HeadFaults.{HasKey, HasVersion};
 ghost use Rattle.lerc_header.specs.declared.header.Header.{Header};
 ghost use Rattle.lerc_grammar.specs.Blob.{Blob, blob_faults};
 ghost use Rattle.lerc_grammar.specs.Mask.{IsMaskAfter};
 ghost use Rattle.lerc_grammar.specs.Outline.{IsMaskForm, image_place};
-ghost use Rattle.lerc_decode.specs.Over.{AskOtherRoom, HaveRoom, HoldRaster, IsDecodedOver, IsFaultOf, IsOverStop};
-ghost use Rattle.lerc_decode.specs.inside.Body.{HasSum, IsFaultIn, IsMarkedFor, IsPouredOver, KeepsMarks};
+ghost use Rattle.lerc_decode.specs.Over.{AskOtherRoom, HaveRoom, HoldRaster, IsDecodedOver};
+ghost use Rattle.lerc_decode.specs.Over.{IsFaultOf, IsOverStop};
+ghost use Rattle.lerc_decode.specs.inside.Body.{IsFaultIn, IsMarkedFor, IsPouredOver, KeepsMarks};
 
-use crate::before::Before;
-use crate::body::{image_of, mask_form, test_sum};
-use crate::front::{header_at, version_at};
-use crate::masks::mask_bits;
+use crate::blob::before::Before;
+use crate::blob::body::{image_of, mask_form};
+use crate::blob::front::{header_at, version_at};
+use crate::blob::masks::mask_bits;
+use crate::blob::summed::SummedBlob;
 use lerc_grammar::MaskForm;
 use lerc_header::{BlobFault, BlobReason, Header, Version};
 use raster_values::Lent;
@@ -84,49 +88,41 @@ fn have_room(header: &Header, values: usize, mask: usize) -> bool
 }
 
 /// Gives the raster in the caller's arrays the values that the image says.
-fn fill_lent(
-    blob: &[u8],
-    header: &Header,
-    form: &MaskForm,
-    lent: &mut Lent,
-) -> Result<(), BlobFault>
-    requires head { HeadAt blob.now header.now }
-    requires size { length blob.now ≡ header.now.size }
-    requires sum { HasSum header.now blob.now }
-    requires form { IsMaskForm header.now blob.now form.now }
-    requires sound { IsLent lent.old }
-    requires marked { IsMarkedFor None header.now blob.now form.now (lent_pixels lent.old) }
-    ensures ok { OnOk result (Blob blob.now (lent_pixels lent.new)) }
-    ensures fault { IfErr result (λ fault. IsFaultIn (blob_faults None header.now blob.now) fault) }
+fn fill_lent(blob: &SummedBlob, form: &MaskForm, lent: &mut Lent) -> Result<(), BlobFault>
+    requires form { IsMaskForm blob.now.header blob.now.bytes.now form.now }
+    requires marked { IsMarkedFor None blob.now.header blob.now.bytes.now form.now
+        (lent_pixels lent.old) }
+    ensures ok { OnOk result (Blob blob.now.bytes.now (lent_pixels lent.new)) }
+    ensures fault { IfErr result
+        (λ fault. IsFaultIn (blob_faults None blob.now.header blob.now.bytes.now) fault) }
     ensures marks { KeepsMarks (lent_pixels lent.old) (lent_pixels lent.new) }
     ensures bytes { bytes_in lent.new ≡ values_bytes (lent_pixels lent.new).kind
         (all_values (lent_pixels lent.new)) }
     ensures array { array_of lent.new ≡ array_of lent.old }
 {
-    image_of(blob, header, form, lent)
+    image_of(blob, form, lent)
 }
 
 /// Reads the image into the array of values, behind a mask that stands.
 fn pour_over(
-    blob: &[u8],
-    header: &Header,
+    blob: &SummedBlob,
     form: &MaskForm,
     mask: &[u8],
     values: &mut [u8],
 ) -> Result<(), BlobFault>
-    requires head { HeadAt blob.now header.now }
-    requires size { length blob.now ≡ header.now.size }
-    requires sum { HasSum header.now blob.now }
-    requires form { IsMaskForm header.now blob.now form.now }
-    requires room { HaveRoom header.now (length values.old) (length mask.now) }
-    requires mask { IsMaskAfter None (header.now.rows * header.now.cols) header.now.valid
-        (take (image_place header.now form.now - head_length header.now.version)
-        (drop (head_length header.now.version) blob.now))
-        (marks_in (header.now.rows * header.now.cols) mask.now) }
+    requires form { IsMaskForm blob.now.header blob.now.bytes.now form.now }
+    requires room { HaveRoom blob.now.header (length values.old) (length mask.now) }
+    requires mask { IsMaskAfter None (blob.now.header.rows * blob.now.header.cols)
+        blob.now.header.valid
+        (take (image_place blob.now.header form.now - head_length blob.now.header.version)
+        (drop (head_length blob.now.header.version) blob.now.bytes.now))
+        (marks_in (blob.now.header.rows * blob.now.header.cols) mask.now) }
     ensures bytes { (k : ℕ) → get_or mask.now k 0 < 256 }
-    ensures ok { OnOk result (IsPouredOver header.now blob.now mask.now values.new) }
-    ensures fault { IfErr result (λ fault. IsFaultIn (blob_faults None header.now blob.now) fault) }
+    ensures ok { OnOk result (IsPouredOver blob.now.header blob.now.bytes.now mask.now values.new) }
+    ensures fault { IfErr result
+        (λ fault. IsFaultIn (blob_faults None blob.now.header blob.now.bytes.now) fault) }
 {
+    let header = &blob.header;
     let mut lent = Lent::over(
         header.kind,
         header.rows,
@@ -135,29 +131,22 @@ fn pour_over(
         mask,
         values,
     );
-    fill_lent(blob, header, form, &mut lent)
+    fill_lent(blob, form, &mut lent)
 }
 
 /// Decodes a whole blob, whose header and checksum stand, into arrays of the lengths that it asks
 /// for.
-fn summed_over(
-    blob: &[u8],
-    header: &Header,
-    values: &mut [u8],
-    mask: &mut [u8],
-) -> Result<(), BlobFault>
-    requires head { HeadAt blob.now header.now }
-    requires size { length blob.now ≡ header.now.size }
-    requires sum { HasSum header.now blob.now }
-    requires room { HaveRoom header.now (length values.old) (length mask.old) }
-    ensures ok { OnOk result ((r : Pixels) × (Blob blob.now r
+fn summed_over(blob: &SummedBlob, values: &mut [u8], mask: &mut [u8]) -> Result<(), BlobFault>
+    requires room { HaveRoom blob.now.header (length values.old) (length mask.old) }
+    ensures ok { OnOk result ((r : Pixels) × (Blob blob.now.bytes.now r
         × HoldRaster r values.new mask.new)) }
-    ensures fault { IfErr result (λ fault. IsFaultIn (blob_faults None header.now blob.now) fault) }
+    ensures fault { IfErr result
+        (λ fault. IsFaultIn (blob_faults None blob.now.header blob.now.bytes.now) fault) }
 {
     let before: Option<Before> = None;
-    let form = mask_form(blob, header, &before)?;
-    mask_bits(blob, header, &form, &before, mask)?;
-    pour_over(blob, header, &form, mask, values)
+    let form = mask_form(blob, &before)?;
+    mask_bits(blob, &form, &before, mask)?;
+    pour_over(blob, &form, mask, values)
 }
 
 /// The same, where it is not known that the checksum stands.
@@ -174,8 +163,8 @@ fn body_over(
         × HoldRaster r values.new mask.new)) }
     ensures fault { IfErr result (λ fault. IsFaultIn (blob_faults None header.now blob.now) fault) }
 {
-    match test_sum(blob, header) {
-        Ok(()) => summed_over(blob, header, values, mask),
+    match SummedBlob::of(blob, header) {
+        Ok(summed) => summed_over(&summed, values, mask),
         Err(fault) => Err(fault),
     }
 }

@@ -10,12 +10,13 @@ use Rattle.std.proofs.lemmas.List.Folds.{sum_by-replicate}
 use Rattle.std.proofs.Math.Nat.{mul-le-mul_left}
 use mir.Syntax.{w64}
 use mir.Val.{to_z, of_z}
-use Rattle.raster_values.specs.declared.kind.PixelType.{PixelType}
-use Rattle.raster_values.specs.PixelType.{InRange}
-use Rattle.raster_values.specs.Raster.{IsRaster, IsPixel, IsShape, values_of, valid_count}
+use Rattle.raster_cells.specs.declared.kind.PixelType.{PixelType}
+use Rattle.raster_cells.specs.PixelType.{InRange}
+use Rattle.raster_values.specs.Raster.{IsRaster, IsPixel, values_of, valid_count}
+use Rattle.raster_cells.specs.Shapes.{IsShape}
 use Rattle.raster_values.specs.Flat.{marks_of}
 use Rattle.raster_values.proofs.Deep.{values_next}
-use Rattle.raster_values.proofs.Views.{same_bits}
+use Rattle.raster_cells.proofs.ValueBits.{same_bits}
 use Rattle.lerc_header.specs.declared.header.Header.{Header}
 use Rattle.lerc_header.specs.declared.header.Version.{Version}
 use Rattle.lerc_header.specs.declared.header.Version.TheVariants.{V3}

@@ -6,8 +6,8 @@ use Rattle.std.proofs.lemmas.List.Elements.{All-nil, All-cons, All-head, All-tai
 use Rattle.std.proofs.lemmas.List.Sums.{sum_by-cons, sum_by-le}
 use Rattle.raster_values.specs.Raster.{Pixels, IsRaster}
 use Rattle.raster_values.specs.Bands.{IsLike}
-use Rattle.raster_values.specs.PixelType.{bytes_of}
-use Rattle.raster_values.proofs.Spelled.{few_bytes}
+use Rattle.raster_cells.specs.PixelType.{bytes_of}
+use Rattle.raster_cells.proofs.Spelled.{few_bytes}
 use Rattle.lerc_grammar.specs.Mask.{previous_of}
 use Rattle.lerc_encode.specs.Choice.{chosen_after, chosen_bands}
 use Rattle.lerc_encode.specs.Sizes.{BandsAreSmall, TilesAreSmall, greatest_size}

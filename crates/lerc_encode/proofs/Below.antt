@@ -10,10 +10,10 @@ use Rattle.lerc_header.specs.Bits.{half_bits}
 use Rattle.mask_runs.specs.Runs.{IsRun, Runs, spelling, end_mark}
 use Rattle.mask_runs.specs.Chosen.{chosen_runs}
 use Rattle.mask_runs.proofs.Chosen.{chosen_are_runs}
-use Rattle.raster_values.specs.PixelType.{code_of}
+use Rattle.raster_cells.specs.PixelType.{code_of}
 use Rattle.raster_values.specs.Raster.{Pixels, values_of}
 use Rattle.raster_values.specs.Flat.{marks_of}
-use Rattle.raster_values.proofs.Every.{Every, every_flat_map}
+use Rattle.raster_cells.proofs.Every.{Every, every_flat_map}
 use Rattle.lerc_header.specs.declared.header.Header.{Header}
 use Rattle.lerc_header.specs.declared.header.Version.{Version}
 use Rattle.lerc_header.specs.declared.header.Version.TheVariants.{V3, V4}

@@ -8,16 +8,16 @@ use Rattle.std.proofs.lemmas.List.Elements.{All-map}
 use Rattle.std.proofs.Math.Nat.{mul-le-mul_left, mul-le-mul_right}
 use borrow.Rule.Slice.PartMut.{put_mid}
 use Rattle.bit_stuff.proofs.Buffers.{end_written}
-use Rattle.raster_values.specs.declared.kind.PixelType.{PixelType}
-use Rattle.raster_values.specs.PixelType.{InRange, bytes_of}
+use Rattle.raster_cells.specs.declared.kind.PixelType.{PixelType}
+use Rattle.raster_cells.specs.PixelType.{InRange, bytes_of}
 use Rattle.raster_values.specs.Raster.{Pixels, IsRaster, IsPixel}
 use Rattle.raster_values.specs.Block.{block_values, block_count}
 use Rattle.raster_values.specs.Flat.{value_in}
 use Rattle.raster_values.proofs.BlockLaws.{has_count}
 use Rattle.raster_values.proofs.NumberedBlocks.{block_numbered}
-use Rattle.raster_values.proofs.Pack.{length-values_bytes}
-use Rattle.raster_values.proofs.Spelled.{few_bytes}
-use Rattle.raster_values.proofs.Views.{zero_in_range}
+use Rattle.raster_cells.proofs.Pack.{length-values_bytes}
+use Rattle.raster_cells.proofs.Spelled.{few_bytes}
+use Rattle.raster_cells.proofs.ValueBits.{zero_in_range}
 use Rattle.lerc_header.specs.declared.header.Header.{Header}
 use Rattle.micro_block.specs.Fewest.{first_least}
 use Rattle.micro_block.specs.ChosenBlock as micro

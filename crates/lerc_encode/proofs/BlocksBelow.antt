@@ -11,12 +11,12 @@ use Rattle.bit_stuff.proofs.Digits.{digits-le}
 use Rattle.bit_stuff.proofs.HeadLaws.{chosen_code-lt}
 use Rattle.bit_stuff.proofs.Numbers.{little_bytes-lt}
 use Rattle.lut_stuff.specs.Tables.{distinct_above_0, entries_of, index_in, table_bytes}
-use Rattle.raster_values.specs.declared.kind.PixelType.{PixelType}
-use Rattle.raster_values.specs.declared.kind.PixelType.TheVariants.{I8, U8, I16, U16, I32, U32}
-use Rattle.raster_values.specs.PixelType.{bytes_of, complement_of, value_bytes}
-use Rattle.raster_values.specs.Grid.{values_bytes}
+use Rattle.raster_cells.specs.declared.kind.PixelType.{PixelType}
+use Rattle.raster_cells.specs.declared.kind.PixelType.TheVariants.{I8, U8, I16, U16, I32, U32}
+use Rattle.raster_cells.specs.PixelType.{bytes_of, complement_of, value_bytes}
+use Rattle.raster_cells.specs.Values.{values_bytes}
 use Rattle.raster_values.specs.Raster.{Pixels}
-use Rattle.raster_values.proofs.Every.{Every, every_append, every_flat_map}
+use Rattle.raster_cells.proofs.Every.{Every, every_append, every_flat_map}
 use Rattle.lerc_header.specs.declared.header.Header.{Header}
 use Rattle.micro_block.specs.ChosenBlock as micro
 use Rattle.micro_block.specs.ChosenBlock.{WrittenForm, May, block_bytes, chosen_form, written_form_bytes, holds, is_flat, is_stuffable, least_value, narrow_type, narrowest, narrow_code, offset_bytes, quantised_values, tag_byte}

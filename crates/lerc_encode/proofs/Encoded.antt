@@ -7,12 +7,12 @@ use Rattle.std.proofs.lemmas.List.Sums.{count_by-le-length}
 use Rattle.std.proofs.Math.Nat.{mul-le-mul_right, mul-le-mul_left}
 use Rattle.byteorder.specs.Endian.{little_bytes}
 use Rattle.raster_values.specs.Raster.{Pixels, IsRaster, value_at, values_of, valid_count}
-use Rattle.raster_values.specs.PixelType.{bytes_of}
+use Rattle.raster_cells.specs.PixelType.{bytes_of}
 use Rattle.raster_values.specs.Flat.{marks_of, value_in}
-use Rattle.raster_values.proofs.Spelled.{few_bytes}
+use Rattle.raster_cells.proofs.Spelled.{few_bytes}
 use Rattle.lerc_header.specs.declared.header.Version.{Version}
 use Rattle.lerc_header.specs.declared.header.Version.TheVariants.{V3, V4}
-use Rattle.raster_values.specs.Step.{IsTwiceError}
+use Rattle.raster_cells.specs.Step.{IsTwiceError}
 use Rattle.lerc_header.specs.Head.{HeadAt, head_length}
 use Rattle.lerc_header.specs.Written.{IsHeader, AreEnds, head_bytes, field_bytes}
 use Rattle.lerc_header.specs.Checksum.{sum_of}

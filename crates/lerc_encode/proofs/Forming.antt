@@ -13,16 +13,16 @@ use borrow.Rule.Slice.PartMut.{put_mid}
 use mir.Syntax.{w64}
 use mir.Val.{to_z, of_z}
 use Rattle.bit_stuff.proofs.Buffers.{end_written}
-use Rattle.raster_values.specs.declared.kind.PixelType.{PixelType}
-use Rattle.raster_values.specs.PixelType.{InRange, bytes_of, value_bytes}
+use Rattle.raster_cells.specs.declared.kind.PixelType.{PixelType}
+use Rattle.raster_cells.specs.PixelType.{InRange, bytes_of, value_bytes}
 use Rattle.raster_values.specs.Raster.{Pixels, IsRaster, values_of, valid_count}
-use Rattle.raster_values.specs.Grid.{values_bytes}
-use Rattle.raster_values.proofs.Pack.{length-values_bytes, value_put}
+use Rattle.raster_cells.specs.Values.{values_bytes}
+use Rattle.raster_cells.proofs.Pack.{length-values_bytes, value_put}
 use Rattle.lerc_header.specs.declared.header.Header.{Header}
 use Rattle.lerc_header.specs.declared.header.Version.{Version}
 use Rattle.lerc_header.specs.declared.header.Version.TheVariants.{V4}
 use Rattle.micro_block.specs.ChosenBlock.{least_value}
-use Rattle.raster_values.proofs.Views.{same_bits}
+use Rattle.raster_cells.proofs.ValueBits.{same_bits}
 use Rattle.lerc_encode.specs.Heads.{header_of}
 use Rattle.lerc_encode.specs.Ranges.{greatest_value, leasts, greatests, lists_bytes, has_equal_ranges, is_constant, is_empty}
 use Rattle.lerc_encode.specs.Images as images

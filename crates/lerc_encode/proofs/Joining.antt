@@ -5,7 +5,7 @@ use Rattle.std.proofs.lemmas.List.{append_assoc, append-nil}
 use Rattle.std.proofs.lemmas.List.Elements.{All-nil, All-cons, All-head, All-tail}
 use Rattle.raster_values.specs.Raster.{Pixels, IsRaster}
 use Rattle.raster_values.specs.Bands.{AreBands, IsLike}
-use Rattle.raster_values.specs.Step.{IsTwiceError}
+use Rattle.raster_cells.specs.Step.{IsTwiceError}
 use Rattle.lerc_header.specs.declared.header.Version.{Version}
 use Rattle.lerc_header.specs.declared.header.Version.TheVariants.{V3}
 use Rattle.lerc_grammar.specs.Mask.{Previous, previous_of}

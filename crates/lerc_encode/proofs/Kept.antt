@@ -9,8 +9,8 @@ use Rattle.std.proofs.lemmas.Nat.{div_below, mod_below, div-mul-add, mod-mul-add
 use Rattle.std.proofs.lemmas.Simd.{map-map}
 use Rattle.std.proofs.Math.Nat.{mul-le-mul_left}
 use Rattle.raster_values.specs.Raster.{Pixels, IsRaster, IsPixel}
-use Rattle.raster_values.specs.PixelType.{InRange}
-use Rattle.raster_values.specs.declared.kind.PixelType.{PixelType}
+use Rattle.raster_cells.specs.PixelType.{InRange}
+use Rattle.raster_cells.specs.declared.kind.PixelType.{PixelType}
 use Rattle.raster_values.specs.Flat.{marks_of, value_in, revalued}
 use Rattle.raster_values.proofs.NumberedBlocks.{block_numbered}
 use Rattle.raster_values.proofs.Revalued.{new_shape, new_marks, new_value, new_raster}

@@ -7,7 +7,7 @@ use borrow.Rule.Slice.PartMut.{put_mid}
 use mir.Syntax.{w64}
 use mir.Val.{to_z, of_z}
 use Rattle.bit_stuff.proofs.Buffers.{end_written}
-use Rattle.raster_values.specs.declared.kind.PixelType.{PixelType}
+use Rattle.raster_cells.specs.declared.kind.PixelType.{PixelType}
 use Rattle.raster_values.specs.Raster.{Pixels, values_of, valid_count}
 use Rattle.lerc_header.specs.declared.header.Header.{Header}
 use Rattle.lerc_header.specs.declared.header.Version.{Version}
@@ -16,7 +16,7 @@ use Rattle.lerc_header.specs.Written.{head_bytes}
 use Rattle.lerc_header.specs.Checksum.{sum_of}
 use Rattle.lerc_header.proofs.WrittenHeads.{length-head}
 use Rattle.micro_block.specs.ChosenBlock.{least_value}
-use Rattle.raster_values.proofs.Views.{same_bits}
+use Rattle.raster_cells.proofs.ValueBits.{same_bits}
 use Rattle.lerc_encode.specs.Ranges.{greatest_value}
 use Rattle.lerc_encode.specs.Masks.{mask_part}
 use Rattle.lerc_encode.specs.Heads.{header_of}

@@ -9,7 +9,7 @@ use Rattle.std.proofs.lemmas.Nat.Bits.{bit_at_and, bit_at_mask_inside, bit_at_ma
 use Rattle.std.proofs.Math.Nat.{mul-le-mul}
 use Rattle.mask_runs.specs.Ending.{ending_with}
 use Rattle.raster_values.specs.Raster.{Pixels, IsRaster}
-use Rattle.raster_values.specs.Order.{mask_bit}
+use Rattle.raster_cells.specs.Masks.{mask_bit}
 use Rattle.raster_values.specs.Flat.{marks_of}
 use Rattle.lerc_encode.specs.Masks.{packed}
 use Rattle.lerc_encode.proofs.Packing.{mask_packed}

@@ -15,7 +15,8 @@ use Rattle.mask_runs.specs.Runs.{MaskPiece, Literal, Repeat, end_mark, piece_con
 use Rattle.mask_runs.specs.Chosen.{chosen_runs, chosen_pieces, piece_bytes, equal_bytes, before_repeat, first_piece}
 use Rattle.mask_runs.proofs.Chosen.{pieces_go_on}
 use Rattle.raster_values.specs.Raster.{Pixels, IsRaster, valid_count}
-use Rattle.raster_values.specs.Order.{IsMaskOf, mask_bit, marks_in}
+use Rattle.raster_values.specs.Order.{IsMaskOf}
+use Rattle.raster_cells.specs.Masks.{mask_bit, marks_in}
 use Rattle.raster_values.specs.Flat.{marks_of}
 use Rattle.lerc_grammar.specs.Mask.{count_of, mask_size}
 use Rattle.lerc_encode.specs.Masks.{bit_of, mask_byte, packed, are_alike, mask_runs_of, mask_part, runs_unless}

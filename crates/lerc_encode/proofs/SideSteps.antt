@@ -11,8 +11,8 @@ use Rattle.lut_stuff.specs.declared.naming.Names.{Names}
 use Rattle.lut_stuff.specs.Names.{KeepsNames}
 use Rattle.micro_block.specs.Named.{AreNamed}
 use Rattle.micro_block.proofs.Named.{named_joined, still_named}
-use Rattle.raster_values.specs.declared.kind.PixelType.{PixelType}
-use Rattle.raster_values.specs.Distance.{IsDistance, value_above}
+use Rattle.raster_cells.specs.declared.kind.PixelType.{PixelType}
+use Rattle.raster_cells.specs.Distance.{IsDistance, value_above}
 use Rattle.raster_values.specs.Raster.{Pixels}
 use Rattle.lerc_header.specs.declared.header.Header.{Header}
 use Rattle.lerc_encode.specs.declared.blocks.Spot.{Spot}

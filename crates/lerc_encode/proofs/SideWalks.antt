@@ -4,10 +4,10 @@ use Rattle.std.specs.Prelude.{ℤ, All, MatchOption}
 use Rattle.std.specs.List.{flat_map, range_with_len}
 use Rattle.std.proofs.lemmas.Bool.{cases_lt}
 use Rattle.std.proofs.lemmas.List.Elements.{All-append}
-use Rattle.lut_stuff.specs.Ranked.{Rises}
-use Rattle.raster_values.specs.declared.kind.PixelType.{PixelType}
-use Rattle.raster_values.specs.PixelType.{InRange}
-use Rattle.raster_values.specs.Distance.{value_above}
+use Rattle.lut_stuff.specs.Facts.{Rises}
+use Rattle.raster_cells.specs.declared.kind.PixelType.{PixelType}
+use Rattle.raster_cells.specs.PixelType.{InRange}
+use Rattle.raster_cells.specs.Distance.{value_above}
 use Rattle.raster_values.specs.Raster.{Pixels}
 use Rattle.lerc_header.specs.declared.header.Header.{Header}
 use Rattle.lerc_grammar.specs.Blocks.{coded_blocks}

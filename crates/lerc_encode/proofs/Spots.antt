@@ -3,11 +3,11 @@ use Rattle.std.proofs.Common.{◌≡◌, ℕ, ◌+◌, ◌-◌, ◌*◌, ◌/◌
 use Rattle.std.specs.Prelude.{ℤ, ◌≤ℤ◌, ◌↔◌, IsTrue, All, map}
 use Rattle.std.proofs.lemmas.Nat.{div-add-mod', div-mul-add, mod-mul-add, div_below, le-div, mod_below}
 use Rattle.std.proofs.lemmas.List.{length-map, take_at}
-use Rattle.raster_values.specs.declared.kind.PixelType.{PixelType}
-use Rattle.raster_values.specs.PixelType.{InRange, type_greatest}
-use Rattle.raster_values.specs.Distance.{IsDistance, distance_of, value_above}
+use Rattle.raster_cells.specs.declared.kind.PixelType.{PixelType}
+use Rattle.raster_cells.specs.PixelType.{InRange, type_greatest}
+use Rattle.raster_cells.specs.Distance.{IsDistance, distance_of, value_above}
 use Rattle.raster_values.proofs.BlockLaws.{has_count}
-use Rattle.raster_values.proofs.Distances.{all_small, stand}
+use Rattle.raster_cells.proofs.Distances.{all_small, stand}
 use Rattle.raster_values.specs.Raster.{Pixels}
 use Rattle.raster_values.specs.Block.{block_count, block_values}
 use Rattle.lerc_header.specs.declared.header.Header.{Header}

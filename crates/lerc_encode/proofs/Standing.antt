@@ -6,10 +6,10 @@ use Rattle.std.proofs.lemmas.Bool.{eqb-true}
 use Rattle.std.proofs.lemmas.List.FromFn.{length-map-range_with_len}
 use Rattle.first_fault.specs.Faults.{Numbered}
 use Rattle.raster_values.specs.Raster.{Pixels, IsRaster, values_of}
-use Rattle.raster_values.specs.Grid.{values_bytes}
-use Rattle.raster_values.specs.PixelType.{InRange, bytes_of}
+use Rattle.raster_cells.specs.Values.{values_bytes}
+use Rattle.raster_cells.specs.PixelType.{InRange, bytes_of}
 use Rattle.raster_values.specs.Flat.{marks_of, value_in}
-use Rattle.raster_values.specs.declared.kind.PixelType.{PixelType}
+use Rattle.raster_cells.specs.declared.kind.PixelType.{PixelType}
 use Rattle.raster_values.proofs.Revalued.{new_marks}
 use Rattle.lerc_header.specs.declared.header.Version.{Version}
 use Rattle.lerc_header.specs.declared.header.Version.TheVariants.{V3, V4}

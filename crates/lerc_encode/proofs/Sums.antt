@@ -3,7 +3,7 @@ use Rattle.std.proofs.Common.{ℕ, ◌≡◌, ◌+◌, ◌-◌, ◌*◌, ◌/◌
 use Rattle.std.specs.Prelude.{slice_index, nat_eq, if◌then◌else◌}
 use Rattle.std.proofs.lemmas.List.Sums.{sum_by-cons}
 use Rattle.std.proofs.lemmas.Nat.{or_of_32}
-use Rattle.raster_values.proofs.Every.{Every}
+use Rattle.raster_cells.proofs.Every.{Every}
 use Rattle.lerc_header.specs.Checksum.{Sums, words, folded, after_group, after_groups, after_last, groups_of, sum_of}
 
 abbrev pub AreBelow : List ℕ → Type 0

@@ -7,7 +7,7 @@ use Rattle.std.proofs.lemmas.List.{take_at, drop_at, drop-drop, get_or_past}
 use Rattle.std.proofs.lemmas.List.FromFn.{length-range_with_len}
 use Rattle.first_fault.specs.Parts.{AreBytes}
 use Rattle.raster_values.specs.Raster.{Pixels, IsRaster, valid_count}
-use Rattle.raster_values.specs.PixelType.{bytes_of}
+use Rattle.raster_cells.specs.PixelType.{bytes_of}
 use Rattle.lerc_header.specs.declared.header.Version.{Version}
 use Rattle.lerc_header.specs.declared.header.Version.TheVariants.{V3, V4}
 use Rattle.delta_mode.specs.Deltas.{deltas, plain as plain_symbols}

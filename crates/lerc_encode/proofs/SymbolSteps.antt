@@ -9,10 +9,10 @@ use Rattle.std.proofs.lemmas.List.Concat.{flat_map-cons}
 use Rattle.std.proofs.lemmas.List.Elements.{All-head, All-tail}
 use borrow.Rule.Slice.PartMut.{put_mid}
 use Rattle.bit_stuff.proofs.Buffers.{end_written}
-use Rattle.raster_values.specs.declared.kind.PixelType.{PixelType}
-use Rattle.raster_values.specs.declared.kind.PixelType.TheVariants.{U8}
-use Rattle.raster_values.specs.PixelType.{InRange, bytes_of, value_bytes, complement_of}
-use Rattle.raster_values.specs.Grid.{values_bytes}
+use Rattle.raster_cells.specs.declared.kind.PixelType.{PixelType}
+use Rattle.raster_cells.specs.declared.kind.PixelType.TheVariants.{U8}
+use Rattle.raster_cells.specs.PixelType.{InRange, bytes_of, value_bytes, complement_of}
+use Rattle.raster_cells.specs.Values.{values_bytes}
 use Rattle.raster_values.specs.Raster.{Pixels, IsRaster, valid_count, values_of}
 use Rattle.raster_values.specs.Flat.{all_values, marks_of}
 use Rattle.delta_mode.specs.Symbols.{symbol_of}

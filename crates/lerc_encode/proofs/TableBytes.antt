@@ -17,7 +17,7 @@ use Rattle.huff_codes.specs.Codes.{AreLengths, canonical_codes}
 use Rattle.huff_codes.specs.Words.{AreWords, joined_codes, word_count}
 use Rattle.huff_codes.specs.Table.{IsCoding, symbols_in}
 use Rattle.huff_codes.specs.Written.{AreWritten, HoldsUsed, IsShortestRun, IsTableSize, IsWrittenTable, run_lengths, table_head, written_size}
-use Rattle.huff_codes.specs.declared.table.SymbolRange.{SymbolRange}
+use Rattle.huff_codes.specs.declared.tables.table.SymbolRange.{SymbolRange}
 use Rattle.huff_codes.proofs.Cutting.{symbol_place}
 use Rattle.huff_codes.proofs.ChosenRuns.{one_run}
 use Rattle.huff_codes.proofs.ChosenTables.{head_long, run_bits, table_from}

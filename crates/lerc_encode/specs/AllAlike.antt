@@ -1,6 +1,6 @@
 -- A raster whose pixels are all alike.
 use Rattle.std.specs.Prelude.{ℕ, ℤ, Option, Some, None}
-use Rattle.raster_values.specs.declared.kind.PixelType.{PixelType}
+use Rattle.raster_cells.specs.declared.kind.PixelType.{PixelType}
 use Rattle.raster_values.specs.Raster.{Pixels, blank, filled}
 
 -- no pixel is valid, or every one, with one value at each depth

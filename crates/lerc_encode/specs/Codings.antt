@@ -3,7 +3,9 @@
 -- What the bytes of a table and of words are is said by the relations of huff_codes: a law,
 -- `codings_are_written`, says that those below are the ones in these relations, and no others are.
 -- So nobody has to follow how they are made.
-use Rattle.std.specs.Prelude.{ℕ, zero, suc, ◌+◌, ◌-◌, ◌*◌, ◌%◌, ◌^◌, Bool, false, ◌&&◌, nat_eq, nat_le, if◌then◌else◌, List, [], ◌∷◌, ◌++◌, length, slice_index, take, drop, replicate, map, unwrap_or, Some}
+use Rattle.std.specs.Prelude.{ℕ, zero, suc, ◌+◌, ◌-◌, ◌*◌, ◌%◌, ◌^◌, Bool, false, ◌&&◌, nat_eq}
+use Rattle.std.specs.Prelude.{nat_le, if◌then◌else◌, List, [], ◌∷◌, ◌++◌, length, slice_index, take}
+use Rattle.std.specs.Prelude.{drop, replicate, map, unwrap_or, Some}
 use Rattle.std.specs.List.{list_all, range_with_len}
 use Rattle.byteorder.specs.Endian.{little_bytes}
 use Rattle.bit_stuff.specs.Simple.{greatest_number, simple_bytes}
@@ -14,7 +16,7 @@ use Rattle.huff_codes.specs.Words.{joined_codes, word_count}
 unfoldable pub use Rattle.huff_codes.specs.Counts.{counts_of}
 use Rattle.huff_codes.specs.Table.{symbols_in}
 use Rattle.huff_codes.specs.Written.{run_lengths, table_head}
-use Rattle.huff_codes.specs.declared.table.SymbolRange.{SymbolRange}
+use Rattle.huff_codes.specs.declared.tables.table.SymbolRange.{SymbolRange}
 
 -- ---- words of bits
 

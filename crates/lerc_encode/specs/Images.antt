@@ -1,9 +1,10 @@
 -- The images that are written for a raster: the forms of its values, and the one that is chosen.
-use Rattle.std.specs.Prelude.{ℕ, Bool, true, false, ◌&&◌, nat_eq, if◌then◌else◌, List, [], ◌∷◌, ◌++◌, length, Option, Some, unwrap_or}
+use Rattle.std.specs.Prelude.{ℕ, Bool, true, false, ◌&&◌, nat_eq, if◌then◌else◌, List, [], ◌∷◌}
+use Rattle.std.specs.Prelude.{◌++◌, length, Option, Some, unwrap_or}
 use Rattle.std.specs.List.{flat_map, range_with_len}
-use Rattle.raster_values.specs.PixelType.{bytes_of}
+use Rattle.raster_cells.specs.PixelType.{bytes_of}
 use Rattle.raster_values.specs.Raster.{Pixels, values_of}
-use Rattle.raster_values.specs.Grid.{values_bytes}
+use Rattle.raster_cells.specs.Values.{values_bytes}
 use Rattle.lerc_header.specs.declared.header.Header.{Header}
 use Rattle.lerc_header.specs.declared.header.Version.{Version}
 use Rattle.lerc_header.specs.declared.header.Version.TheVariants.{V3, V4}

@@ -4,10 +4,11 @@ use Rattle.raster_values.specs.Raster.{Pixels, IsRaster}
 use Rattle.raster_values.specs.Bands.{AreBands}
 use Rattle.raster_values.specs.Flat.{marks_of}
 use Rattle.lerc_header.specs.declared.header.Version.{Version}
-use Rattle.raster_values.specs.Step.{IsTwiceError}
+use Rattle.raster_cells.specs.Step.{IsTwiceError}
 use Rattle.lerc_grammar.specs.Mask.{Previous, marks_before}
 use Rattle.lerc_encode.specs.Choice.{chosen_after, chosen_bands, chosen_blob}
-use Rattle.lerc_encode.specs.Encoded.{AreEncodedOnce, BandsNeedV4, DeclareEach, Declares, IsEncodedAfter, IsEncodedOnce, NeedsV4}
+use Rattle.lerc_encode.specs.Encoded.{AreEncodedOnce, BandsNeedV4, DeclareEach, Declares}
+use Rattle.lerc_encode.specs.Encoded.{IsEncodedAfter, IsEncodedOnce, NeedsV4}
 use Rattle.lerc_encode.specs.Masks.{are_alike, takes_mask}
 
 -- the mask of the raster before is taken exactly where that has as many rows and columns and the

@@ -1,9 +1,11 @@
 //! The chosen blob of a raster whose pixels are all alike. Nothing is read of such a raster, since
 //! there are neither runs of its mask nor an image.
 
-ghost use Rattle.std.specs.Prelude.{◌≡◌, ℕ, ◌+◌, ◌<◌, ◌≤◌, ◌↔◌, ◌++◌, [], IfOk, IfSome, IsErrOf, OnErr, OnOk, drop, length};
-ghost use Rattle.raster_values.specs.PixelType.{InRange};
-ghost use Rattle.raster_values.specs.Raster.{IsShape, valid_count, values_of};
+ghost use Rattle.std.specs.Prelude.{◌≡◌, ℕ, ◌+◌, ◌<◌, ◌≤◌, ◌↔◌, ◌++◌, [], IfOk, IfSome, IsErrOf};
+ghost use Rattle.std.specs.Prelude.{OnErr, OnOk, drop, length};
+ghost use Rattle.raster_cells.specs.PixelType.{InRange};
+ghost use Rattle.raster_cells.specs.Shapes.{IsShape};
+ghost use Rattle.raster_values.specs.Raster.{valid_count, values_of};
 ghost use Rattle.lerc_header.specs.declared.header.Version.TheVariants.{V3};
 ghost use Rattle.lerc_header.specs.Head.{head_length};
 ghost use Rattle.lerc_header.specs.Written.{IsHeader};
@@ -36,7 +38,8 @@ fn level_of(kind: PixelType, rows: u32, cols: u32, depth: u32, value: Option<i64
     requires shape { IsShape rows cols depth }
     requires in_range { IfSome value (InRange kind) }
     ensures least { result ≡ least_value (values_of (alike kind rows cols depth value).pixels) }
-    ensures greatest { result ≡ greatest_value (values_of (alike kind rows cols depth value).pixels) }
+    ensures greatest { result
+        ≡ greatest_value (values_of (alike kind rows cols depth value).pixels) }
 {
     value.unwrap_or(0)
 }

@@ -1,6 +1,7 @@
 //! The chosen blobs of bands.
 
-ghost use Rattle.std.specs.Prelude.{◌≡◌, ◌<◌, ◌≤◌, ◌↔◌, All, IfOk, IsErrOf, None, Some, length, slice_get, take};
+ghost use Rattle.std.specs.Prelude.{◌≡◌, ◌<◌, ◌≤◌, ◌↔◌, All, IfOk, IsErrOf, None, Some, length};
+ghost use Rattle.std.specs.Prelude.{slice_get, take};
 ghost use Rattle.raster_values.specs.Raster.{Pixels};
 ghost use Rattle.lerc_grammar.specs.Bands.{last_after};
 ghost use Rattle.lerc_encode.specs.Choice.{chosen_bands};

@@ -1,6 +1,7 @@
 //! The chosen blob of a raster.
 
-ghost use Rattle.std.specs.Prelude.{◌≡◌, ◌^◌, ◌<◌, ◌≤◌, ◌↔◌, ◌++◌, ℕ, IfOk, IsErrOf, OnErr, OnOk, drop, length};
+ghost use Rattle.std.specs.Prelude.{◌≡◌, ◌^◌, ◌<◌, ◌≤◌, ◌↔◌, ◌++◌, ℕ, IfOk, IsErrOf, OnErr, OnOk};
+ghost use Rattle.std.specs.Prelude.{drop, length};
 ghost use Rattle.raster_values.specs.Flat.{marks_of};
 ghost use Rattle.lerc_header.specs.declared.header.Version.TheVariants.{V3};
 ghost use Rattle.lerc_header.specs.Head.{head_length};
@@ -10,7 +11,8 @@ ghost use Rattle.lerc_encode.specs.Encoded.{Declares, IsEncodedOnce};
 ghost use Rattle.lerc_encode.specs.Masks.{runs_unless};
 ghost use Rattle.lerc_encode.specs.inside.Asked.{IsAsked};
 ghost use Rattle.lerc_encode.specs.inside.Choosing.{AreRanges, IsBase};
-ghost use Rattle.lerc_encode.specs.inside.Layout.{IsPlan, IsPlanOf, IsSealed, planned_behind, planned_blob, planned_runs};
+ghost use Rattle.lerc_encode.specs.inside.Layout.{IsPlan, IsPlanOf, IsSealed, planned_behind};
+ghost use Rattle.lerc_encode.specs.inside.Layout.{planned_blob, planned_runs};
 
 use crate::choosing::{Ending, ending_of};
 use crate::images::{image_len, side_of, write_image};
@@ -18,8 +20,8 @@ use crate::masks::{runs_size, write_mask};
 use crate::ranging::{Ranges, ranges_of};
 use lerc_header::{Header, Step, Version, needs_v4, sum_behind, write_header};
 use outside_io::Bytes;
+use raster_access::View;
 use raster_values::Raster;
-use raster_view::View;
 use std::alloc::{AllocError, Global};
 use thiserror::Error;
 
@@ -148,7 +150,8 @@ fn header_of<V: View>(plan: &Plan, raster: &V, size: usize) -> Header
     requires plan { IsPlanOf (V.pixels raster.now) plan.now }
     requires size { size ≡ length (planned_blob plan.now (V.pixels raster.now)) }
     requires few { size < 2 ^ 32 }
-    ensures { result ≡ header_with (planned_runs plan.now (V.pixels raster.now)) (V.pixels raster.now) plan.now.base.version plan.now.base.step 0 }
+    ensures { result ≡ header_with (planned_runs plan.now (V.pixels raster.now))
+        (V.pixels raster.now) plan.now.base.version plan.now.base.step 0 }
 {
     Header {
         side: side_of(&plan.ending, &plan.base, raster),
@@ -313,9 +316,12 @@ pub fn encode_view_over<V: View>(
     ensures few { IfOk result (λ n. n ≤ 134217728) }
     ensures kept { OnErr result (out.new ≡ out.old) }
     ensures size { IfOk result (λ n. n ≡ length (chosen_blob (V.pixels raster.now) version step)) }
-    ensures laid { IfOk result (λ n. out.new ≡ chosen_blob (V.pixels raster.now) version step ++ drop n out.old) }
-    ensures decodes { OnOk result (IsEncodedOnce (chosen_blob (V.pixels raster.now) version step) (V.pixels raster.now) step) }
-    ensures declares { OnOk result (Declares (chosen_blob (V.pixels raster.now) version step) version step) }
+    ensures laid { IfOk result (λ n. out.new ≡ chosen_blob (V.pixels raster.now) version step
+        ++ drop n out.old) }
+    ensures decodes { OnOk result (IsEncodedOnce (chosen_blob (V.pixels raster.now) version step)
+        (V.pixels raster.now) step) }
+    ensures declares { OnOk result (Declares (chosen_blob (V.pixels raster.now) version step)
+        version step) }
 {
     if needs_v4(version, raster.depth()) {
         return Err(LayFault::DepthNeedsV4);
@@ -345,8 +351,10 @@ pub fn encode_over(
     ensures few { IfOk result (λ n. n ≤ 134217728) }
     ensures kept { OnErr result (out.new ≡ out.old) }
     ensures size { IfOk result (λ n. n ≡ length (chosen_blob raster.now version step)) }
-    ensures laid { IfOk result (λ n. out.new ≡ chosen_blob raster.now version step ++ drop n out.old) }
-    ensures decodes { OnOk result (IsEncodedOnce (chosen_blob raster.now version step) raster.now step) }
+    ensures laid { IfOk result (λ n. out.new
+        ≡ chosen_blob raster.now version step ++ drop n out.old) }
+    ensures decodes { OnOk result (IsEncodedOnce (chosen_blob raster.now version step) raster.now
+        step) }
     ensures declares { OnOk result (Declares (chosen_blob raster.now version step) version step) }
 {
     encode_view_over(alloc, raster, version, step, out)

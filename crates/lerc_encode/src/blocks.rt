@@ -1,22 +1,21 @@
-// The chosen blocks of a raster: how many bytes they take, which have a table, and their bytes.
+//! The chosen blocks of a raster: how many bytes they take, which have a table, and their bytes.
 
-ghost use Rattle.std.specs.Prelude.{◌≡◌, ℕ, ◌+◌, ◌*◌, ◌<◌, ◌≤◌, ◌≤ℤ◌, ◌↔◌, ◌++◌, All, drop, length, map, take, IsTrue};
-ghost use Rattle.lut_stuff.specs.Names.{AreNames};
-ghost use Rattle.lut_stuff.specs.Ranked.{AreRanked, Rises};
+ghost use Rattle.std.specs.Prelude.{◌≡◌, ℕ, ◌+◌, ◌*◌, ◌<◌, ◌≤◌, ◌≤ℤ◌, ◌↔◌, ◌++◌, All, drop, length};
+ghost use Rattle.std.specs.Prelude.{map, take, IsTrue};
+ghost use Rattle.lut_stuff.specs.Facts.{Rises};
 ghost use Rattle.micro_block.specs.ChosenBlock as micro;
 ghost use Rattle.micro_block.specs.ChosenBlock.{chosen_form};
-ghost use Rattle.micro_block.specs.Frame.{IsBlockCtx};
-ghost use Rattle.raster_values.specs.Distance.{IsDistance, value_above};
-ghost use Rattle.raster_values.specs.PixelType.{type_greatest};
+ghost use Rattle.raster_cells.specs.Distance.{IsDistance, value_above};
 ghost use Rattle.lerc_grammar.specs.Blocks.{blocks_across, coded_blocks};
 ghost use Rattle.lerc_encode.specs.Images.{blocks_bytes};
-ghost use Rattle.lerc_encode.specs.inside.Blocked.{AreFlags, HasTableAt, IsBlocked, IsSpot, IsWithin, bytes_at, values_at};
+ghost use Rattle.lerc_encode.specs.inside.Blocked.{AreFlags, HasTableAt, IsBlocked, IsContext};
+ghost use Rattle.lerc_encode.specs.inside.Blocked.{IsSpot, IsWithin, bytes_at, values_at};
 
 use crate::flags::{Flags, are_single, is_marked};
 use lerc_header::Header;
 use lut_stuff::{Names, Ranks};
 use micro_block::{BlockCtx, block_size, write_ranked};
-use raster_view::View;
+use raster_access::View;
 
 /// The most values that a block may have.
 pub(crate) const MOST: usize = 256;
@@ -115,13 +114,7 @@ pub(crate) fn next_spot<V: View>(h: &Header, raster: &V, spot: Spot) -> Spot
 /// What a block depends on besides its values. Its bytes do not depend on the top.
 pub(crate) fn context<V: View>(h: &Header, raster: &V, col: u32) -> BlockCtx
     requires { IsBlocked h.now (V.pixels raster.now) }
-    ensures value { result ≡ record {
-      kind = h.now.kind;
-      col = col;
-      step = h.now.step;
-      top = type_greatest h.now.kind;
-    } }
-    ensures sound { IsBlockCtx result }
+    ensures { IsContext h.now col result }
 {
     BlockCtx {
         kind: h.kind,
@@ -149,13 +142,13 @@ pub(crate) fn gather<V: View>(h: &Header, raster: &V, spot: Spot, distances: &mu
 /// unless the group has no other block.
 fn has_table(flag: bool, alone: bool, distances: &[u32], ctx: &BlockCtx) -> bool
     requires few { length distances.now ≤ 256 }
-    requires ctx { IsBlockCtx ctx.now }
     requires in_range { All (IsDistance ctx.now.kind) distances.now }
     requires capped { All (λ v. v ≤ℤ ctx.now.top) (map (value_above ctx.now.kind) distances.now) }
     requires flag { let values = map (value_above ctx.now.kind) distances.now in
         (chosen_form ctx.now.kind ctx.now.col ctx.now.step values ≡ micro.table) → IsTrue flag }
     requires alone { let values = map (value_above ctx.now.kind) distances.now in
-        IsTrue alone → IsTrue flag → chosen_form ctx.now.kind ctx.now.col ctx.now.step values ≡ micro.table }
+        IsTrue alone → IsTrue flag → chosen_form ctx.now.kind ctx.now.col ctx.now.step values
+        ≡ micro.table }
     ensures { let values = map (value_above ctx.now.kind) distances.now in
         IsTrue result ↔ (chosen_form ctx.now.kind ctx.now.col ctx.now.step values ≡ micro.table) }
 {
@@ -176,12 +169,10 @@ fn write_at<V: View>(
 ) -> usize
     requires blocked { IsBlocked h.now (V.pixels raster.now) }
     requires within { IsWithin h.now spot }
-    requires ranks { AreRanked ranks.old }
     requires room { length distances.old ≡ 256 }
     requires flag { HasTableAt h.now (V.pixels raster.now) spot → IsTrue flag }
     requires alone { IsTrue alone → IsTrue flag → HasTableAt h.now (V.pixels raster.now) spot }
     requires fits { length (bytes_at h.now (V.pixels raster.now) spot) ≤ length out.old }
-    ensures ranks { AreRanked ranks.new }
     ensures count { result ≡ length (bytes_at h.now (V.pixels raster.now) spot) }
     ensures bytes { out.new ≡ bytes_at h.now (V.pixels raster.now) spot
         ++ drop (length (bytes_at h.now (V.pixels raster.now) spot)) out.old }
@@ -194,7 +185,6 @@ fn write_at<V: View>(
 
 /// The values that have a name, in rising order, and none where there were too many.
 pub(crate) fn sorted_values(names: &Names) -> Sorted
-    requires { AreNames names.now }
     ensures rises { Rises (take result.count result.values) }
     ensures few { result.count ≤ 256 }
 {

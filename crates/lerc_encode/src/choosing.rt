@@ -1,4 +1,4 @@
-// What is chosen for the image of a raster.
+//! What is chosen for the image of a raster.
 
 ghost use Rattle.std.specs.Prelude.{◌≡◌, ◌≤◌, ◌&&◌, ◌⊎◌, IfOk, Some};
 ghost use Rattle.lerc_encode.specs.Images.{is_v4};
@@ -6,26 +6,14 @@ ghost use Rattle.lerc_encode.specs.Ranges as ranges;
 ghost use Rattle.lerc_encode.specs.inside.Choosing as inside;
 ghost use Rattle.lerc_encode.specs.inside.Choosing.{AreRanges, IsBase, IsChosen, IsEnding};
 
-use crate::blocks::Measured;
-use crate::codings::{Codings, coded_form_len, codings_of};
-use crate::forms::{ValueForm, block_form_len, sweep_len, with_large};
+use crate::codings::{coded_form_len, codings_of};
+use crate::forms::{Chosen, ValueForm, block_form_len, sweep_len, with_large};
 use crate::ranging::Ranges;
 use crate::sides::measure_sides;
 use lerc_header::{Header, Version};
 use micro_block::first_least;
-use raster_view::View;
+use raster_access::View;
 use std::alloc::{AllocError, Global};
-
-/// The form that is chosen for an image's values, and the number of its bytes; and what is known of
-/// the values: their symbols, and their blocks of both sides, where these may be the shortest.
-#[derive(Drop)]
-pub(crate) struct Chosen {
-    pub(crate) form: ValueForm,
-    pub(crate) size: usize,
-    pub(crate) codings: Codings,
-    pub(crate) small: Option<Measured>,
-    pub(crate) large: Option<Measured>,
-}
 
 /// How an image ends.
 #[derive(Drop)]

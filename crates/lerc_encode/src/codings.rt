@@ -1,17 +1,20 @@
-// The values of a raster of bytes as symbols, and these as code words.
+//! The values of a raster of bytes as symbols, and these as code words.
 
-ghost use Rattle.std.specs.Prelude.{◌≡◌, ℕ, ◌+◌, ◌^◌, ◌≤◌, ◌&&◌, ◌∷◌, false, List, length, sum, IsTrue, MatchOption};
+ghost use Rattle.std.specs.Prelude.{◌≡◌, ℕ, ◌+◌, ◌^◌, ◌≤◌, ◌&&◌, ◌∷◌, false, List, length, sum};
+ghost use Rattle.std.specs.Prelude.{IsTrue, MatchOption};
 ghost use Rattle.std.specs.Option.{option_map};
 ghost use Rattle.delta_mode.specs.Symbols.{IsByteType};
 ghost use Rattle.lerc_encode.specs.Codings.{coding_bytes, counts_of, have_codes};
 ghost use Rattle.lerc_encode.specs.Images as images;
 ghost use Rattle.lerc_encode.specs.Images.{is_v4};
-ghost use Rattle.lerc_encode.specs.inside.Coded.{AreCodings, AreSymbols, IsCodingOf, mode_number, symbols_of};
+ghost use Rattle.lerc_encode.specs.inside.Coded.{AreCodings, AreSymbols, IsCodingOf, mode_number};
+ghost use Rattle.lerc_encode.specs.inside.Coded.{symbols_of};
 
+use crate::byte_view::ByteView;
 use crate::symbols::{SymbolMode, count_mode, write_words};
 use huff_codes::{Lengths, counted_len, table_size, write_code_table};
 use lerc_header::Version;
-use raster_view::View;
+use raster_access::View;
 
 /// The lengths of the codes of some symbols, and how many bytes their table and words take.
 #[derive(Drop)]
@@ -43,18 +46,17 @@ fn coding_of(counts: &[u32; 256]) -> Option<Coding>
 }
 
 /// Writes the code table of symbols and their code words over all of `out`.
-fn write_coding<V: View>(mode: SymbolMode, coding: &Coding, raster: &V, out: &mut [u8])
-    requires kind { IsByteType (V.pixels raster.now).kind }
-    requires coding { IsCodingOf (symbols_of mode (V.pixels raster.now)) coding.now }
+fn write_coding<V: View>(mode: SymbolMode, coding: &Coding, bytes: &ByteView<V>, out: &mut [u8])
+    requires coding { IsCodingOf (symbols_of mode (V.pixels bytes.now.raster.now)) coding.now }
     requires room { length out.old
-        ≡ length (coding_bytes (symbols_of mode (V.pixels raster.now))) }
-    ensures { out.new ≡ coding_bytes (symbols_of mode (V.pixels raster.now)) }
+        ≡ length (coding_bytes (symbols_of mode (V.pixels bytes.now.raster.now))) }
+    ensures { out.new ≡ coding_bytes (symbols_of mode (V.pixels bytes.now.raster.now)) }
 {
     // for the proof: `kind` ensures that the raster is a lawful one
-    let _kind = raster.kind();
+    let _kind = bytes.raster.kind();
     let table = table_size(&coding.lengths).min(out.len());
     write_code_table(&coding.lengths, &mut out[..table]);
-    write_words(mode, raster, &coding.lengths, &mut out[table..]);
+    write_words(mode, bytes, &coding.lengths, &mut out[table..]);
 }
 
 /// The number that names the mode in a blob.
@@ -82,10 +84,11 @@ pub(crate) fn write_coded_form<V: View>(
     ensures { out.new
         ≡ 0 ∷ mode_number mode ∷ coding_bytes (symbols_of mode (V.pixels raster.now)) }
 {
+    let bytes = ByteView { raster };
     out[0] = 0;
     out[1] = number_of(mode);
     if let Some(coding) = coding {
-        write_coding(mode, coding, raster, &mut out[2..]);
+        write_coding(mode, coding, &bytes, &mut out[2..]);
     }
 }
 
@@ -113,7 +116,8 @@ fn mode_coding<V: View>(mode: SymbolMode, raster: &V, wanted: bool) -> Option<Co
     ensures { AreSymbols wanted (symbols_of mode (V.pixels raster.now)) result }
 {
     if wanted {
-        coding_of(&count_mode(mode, raster))
+        let bytes = ByteView { raster };
+        coding_of(&count_mode(mode, &bytes))
     } else {
         None
     }

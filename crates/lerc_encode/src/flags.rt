@@ -1,6 +1,7 @@
-// Flags by their numbers, a bit for each, and flags of groups of numbers.
+//! Flags by their numbers, a bit for each, and flags of groups of numbers.
 
-ghost use Rattle.std.specs.Prelude.{◌≡◌, ◌⊎◌, ℕ, ◌+◌, ◌-◌, ◌*◌, ◌/◌, ◌^◌, ◌<◌, ◌↔◌, length, IfOk, IsTrue};
+ghost use Rattle.std.specs.Prelude.{◌≡◌, ◌⊎◌, ℕ, ◌+◌, ◌-◌, ◌*◌, ◌/◌, ◌^◌, ◌<◌, ◌↔◌, length, IfOk};
+ghost use Rattle.std.specs.Prelude.{IsTrue};
 ghost use Rattle.lerc_encode.specs.inside.Flags.{IsFlagged, IsMarked, room_of};
 
 use std::alloc::{AllocError, Global};
@@ -45,7 +46,8 @@ pub(crate) fn no_flags(alloc: Global, count: usize, group: usize) -> Result<Flag
     requires some { 0 < group }
     requires few { group < 2 ^ 31 }
     ensures group { IfOk result (λ flags. flags.group ≡ group) }
-    ensures words { IfOk result (λ flags. length flags.words.items ≡ ((count + group - 1) / group + 63) / 64) }
+    ensures words { IfOk result (λ flags. length flags.words.items
+        ≡ ((count + group - 1) / group + 63) / 64) }
     ensures none { IfOk result (λ flags. (k : ℕ) → IsMarked flags k → ⊥) }
 {
     let words = vec![in alloc; 0u64; words_of((count + group - 1) / group)]?;

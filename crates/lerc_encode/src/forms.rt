@@ -1,26 +1,25 @@
-// The forms of an image's values: how many bytes each takes, and these bytes.
+//! The forms of an image's values: how many bytes each takes, and these bytes.
 
 ghost use Rattle.std.specs.Prelude.{◌≡◌, ◌+◌, ◌*◌, ◌≤◌, ◌∷◌, ◌++◌, length, MatchOption};
 ghost use Rattle.std.specs.Option.{option_map};
-ghost use Rattle.raster_values.specs.Grid.{values_bytes};
-ghost use Rattle.raster_values.specs.PixelType.{bytes_of};
+ghost use Rattle.raster_cells.specs.Values.{values_bytes};
+ghost use Rattle.raster_cells.specs.PixelType.{bytes_of};
 ghost use Rattle.lerc_header.specs.declared.header.Version.TheVariants.{V4};
 ghost use Rattle.raster_values.specs.Raster.{values_of};
 ghost use Rattle.lerc_grammar.specs.Blocks.{coded_blocks};
-ghost use Rattle.lut_stuff.specs.Ranked.{Rises};
+ghost use Rattle.lut_stuff.specs.Facts.{Rises};
 ghost use Rattle.lerc_encode.specs.Images.{blocks_bytes, coded_form_bytes, mode_bytes};
 ghost use Rattle.lerc_encode.specs.Ranges.{greatests, leasts, lists_bytes};
 ghost use Rattle.lerc_encode.specs.inside.Blocked.{AreFlags, IsBlocked, IsMeasured};
 ghost use Rattle.lerc_encode.specs.inside.Choosing.{AreRanges, IsBase, IsChosen, named};
 
 use crate::blocks::{Measured, write_blocks};
-use crate::choosing::Chosen;
-use crate::codings::{has_mode, write_coded_form};
+use crate::codings::{Codings, has_mode, write_coded_form};
 use crate::flags::Flags;
 use crate::ranging::{Ranges, range_at};
 use crate::symbols::SymbolMode;
 use lerc_header::{Header, Version};
-use raster_view::View;
+use raster_access::View;
 
 /// The forms of an image's values, in the order in which they are tried.
 #[derive(Clone, Copy)]
@@ -37,6 +36,17 @@ pub(crate) enum ValueForm {
     Plain,
 }
 
+/// The form that is chosen for an image's values, and the number of its bytes; and what is known of
+/// the values: their symbols, and their blocks of both sides, where these may be the shortest.
+#[derive(Drop)]
+pub(crate) struct Chosen {
+    pub(crate) form: ValueForm,
+    pub(crate) size: usize,
+    pub(crate) codings: Codings,
+    pub(crate) small: Option<Measured>,
+    pub(crate) large: Option<Measured>,
+}
+
 /// The header with blocks of 16 rows and columns.
 pub(crate) fn with_large(base: &Header) -> Header
     ensures { result ≡ record base.now { side = 16 } }
@@ -47,7 +57,8 @@ pub(crate) fn with_large(base: &Header) -> Header
 /// How many bytes the sweep takes.
 pub(crate) fn sweep_len<V: View>(raster: &V) -> usize
     ensures value { result
-        ≡ length (1 ∷ values_bytes (V.pixels raster.now).kind (values_of (V.pixels raster.now).pixels)) }
+        ≡ length (1 ∷ values_bytes (V.pixels raster.now).kind
+        (values_of (V.pixels raster.now).pixels)) }
     ensures few { result ≤ 67108865 }
 {
     1 + raster.valid_count() as usize * raster.depth() as usize * raster.kind().bytes()
@@ -61,7 +72,8 @@ pub(crate) fn block_form_len<V: View>(
 ) -> Option<usize>
     requires { MatchOption found.now Unit (λ m. m.size ≤ 1025 * 16777216) }
     ensures { result
-        ≡ option_map (λ m. 1 + length (mode_bytes (V.pixels raster.now) h.now.step) + m.size) found.now }
+        ≡ option_map (λ m. 1 + length (mode_bytes (V.pixels raster.now) h.now.step)
+        + m.size) found.now }
 {
     match found {
         Some(measured) => Some(1 + usize::from(has_mode(raster, h.step)) + measured.size),
@@ -72,8 +84,10 @@ pub(crate) fn block_form_len<V: View>(
 /// Writes the sweep.
 fn write_sweep<V: View>(raster: &V, out: &mut [u8])
     requires { length out.old
-        ≡ length (1 ∷ values_bytes (V.pixels raster.now).kind (values_of (V.pixels raster.now).pixels)) }
-    ensures { out.new ≡ 1 ∷ values_bytes (V.pixels raster.now).kind (values_of (V.pixels raster.now).pixels) }
+        ≡ length (1 ∷ values_bytes (V.pixels raster.now).kind
+        (values_of (V.pixels raster.now).pixels)) }
+    ensures { out.new ≡ 1 ∷ values_bytes (V.pixels raster.now).kind
+        (values_of (V.pixels raster.now).pixels) }
 {
     // for the proof: `kind` ensures that the raster is a lawful one
     let _kind = raster.kind();
@@ -89,8 +103,10 @@ fn write_measured<V: View>(h: &Header, raster: &V, tables: &Flags, values: &[u32
     requires rises { Rises values.now }
     requires few { length values.now ≤ 256 }
     requires room { length out.old
-        ≡ length (0 ∷ (mode_bytes (V.pixels raster.now) h.now.step ++ blocks_bytes h.now (V.pixels raster.now))) }
-    ensures { out.new ≡ 0 ∷ (mode_bytes (V.pixels raster.now) h.now.step ++ blocks_bytes h.now (V.pixels raster.now)) }
+        ≡ length (0 ∷ (mode_bytes (V.pixels raster.now) h.now.step
+        ++ blocks_bytes h.now (V.pixels raster.now))) }
+    ensures { out.new ≡ 0 ∷ (mode_bytes (V.pixels raster.now) h.now.step
+        ++ blocks_bytes h.now (V.pixels raster.now)) }
 {
     out[0] = 0;
     if has_mode(raster, h.step) {
@@ -106,8 +122,10 @@ fn write_block_form<V: View>(h: &Header, raster: &V, found: &Option<Measured>, o
     requires blocked { IsBlocked h.now (V.pixels raster.now) }
     requires measured { MatchOption found.now ⊥ (IsMeasured h.now (V.pixels raster.now)) }
     requires room { length out.old
-        ≡ length (0 ∷ (mode_bytes (V.pixels raster.now) h.now.step ++ blocks_bytes h.now (V.pixels raster.now))) }
-    ensures { out.new ≡ 0 ∷ (mode_bytes (V.pixels raster.now) h.now.step ++ blocks_bytes h.now (V.pixels raster.now)) }
+        ≡ length (0 ∷ (mode_bytes (V.pixels raster.now) h.now.step
+        ++ blocks_bytes h.now (V.pixels raster.now))) }
+    ensures { out.new ≡ 0 ∷ (mode_bytes (V.pixels raster.now) h.now.step
+        ++ blocks_bytes h.now (V.pixels raster.now)) }
 {
     if let Some(measured) = found {
         write_measured(h, raster, &measured.tables, measured.values.as_slice(), out);
@@ -118,7 +136,8 @@ fn write_block_form<V: View>(h: &Header, raster: &V, found: &Option<Measured>, o
 pub(crate) fn write_form<V: View>(chosen: &Chosen, base: &Header, raster: &V, out: &mut [u8])
     requires base { IsBase base.now (V.pixels raster.now) }
     requires chosen { IsChosen (V.pixels raster.now) base.now.version base.now.step chosen.now }
-    requires room { length out.old ≡ length (coded_form_bytes (V.pixels raster.now) base.now.version base.now.step
+    requires room { length out.old
+        ≡ length (coded_form_bytes (V.pixels raster.now) base.now.version base.now.step
         (named chosen.now.form)) }
     ensures { out.new ≡ coded_form_bytes (V.pixels raster.now) base.now.version base.now.step
         (named chosen.now.form) }

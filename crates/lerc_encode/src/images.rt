@@ -1,4 +1,4 @@
-// The image of a raster, by how it ends.
+//! The image of a raster, by how it ends.
 
 ghost use Rattle.std.specs.Prelude.{◌≡◌, ◌≤◌, length};
 ghost use Rattle.lerc_encode.specs.Images.{ending, image_bytes, side_at};
@@ -8,7 +8,7 @@ use crate::choosing::Ending;
 use crate::forms::{ValueForm, front_len, write_form, write_front};
 use crate::ranging::Ranges;
 use lerc_header::Header;
-use raster_view::View;
+use raster_access::View;
 
 /// The side of blocks that the header says.
 pub(crate) fn side_of<V: View>(end: &Ending, base: &Header, raster: &V) -> u32
@@ -29,7 +29,8 @@ pub(crate) fn side_of<V: View>(end: &Ending, base: &Header, raster: &V) -> u32
 pub(crate) fn image_len<V: View>(end: &Ending, base: &Header, raster: &V) -> usize
     requires base { IsBase base.now (V.pixels raster.now) }
     requires ending { IsEnding (V.pixels raster.now) base.now.version base.now.step end.now }
-    ensures value { result ≡ length (image_bytes (V.pixels raster.now) base.now.version base.now.step
+    ensures value { result ≡ length (image_bytes (V.pixels raster.now) base.now.version
+        base.now.step
         (ending (V.pixels raster.now) base.now.version base.now.step)) }
     ensures few { result ≤ 67633153 }
 {
@@ -51,7 +52,8 @@ pub(crate) fn write_image<V: View>(
     requires base { IsBase base.now (V.pixels raster.now) }
     requires ranges { AreRanges (V.pixels raster.now) found.now }
     requires ending { IsEnding (V.pixels raster.now) base.now.version base.now.step end.now }
-    requires room { length out.old ≡ length (image_bytes (V.pixels raster.now) base.now.version base.now.step
+    requires room { length out.old
+        ≡ length (image_bytes (V.pixels raster.now) base.now.version base.now.step
         (ending (V.pixels raster.now) base.now.version base.now.step)) }
     ensures { out.new ≡ image_bytes (V.pixels raster.now) base.now.version base.now.step
         (ending (V.pixels raster.now) base.now.version base.now.step) }

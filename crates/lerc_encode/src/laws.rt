@@ -4,7 +4,9 @@ ghost use Rattle.std.specs.Prelude.{◌≡◌, ℕ, ◌*◌, ◌≤◌, Bool, Li
 ghost use Rattle.first_fault.specs.Parts.{AreBytes};
 ghost use Rattle.huff_codes.specs.Written.{IsFilled, IsShortestRun, IsWrittenTable};
 ghost use Rattle.lerc_encode.specs.Codings.{code_table_bytes, filled_words, shortest_run};
-ghost use Rattle.lerc_encode.specs.Laws.{BandsDecode, BandsDeclare, ChoicesDecode, ChoicesDecodeAfter, ChoicesDeclare, MasksAreTaken, OwnIsBehindNone};
+ghost use Rattle.lerc_encode.specs.Laws.{BandsDecode, BandsDeclare, ChoicesDecode};
+ghost use Rattle.lerc_encode.specs.Laws.{ChoicesDecodeAfter, ChoicesDeclare, MasksAreTaken};
+ghost use Rattle.lerc_encode.specs.Laws.{OwnIsBehindNone};
 ghost use Rattle.lerc_encode.specs.Sizes.{BandsAreSmall, BlobsAreSmall, TilesAreSmall};
 
 /// A law: no blob is longer than type and shape allow, nor are those of bands together.

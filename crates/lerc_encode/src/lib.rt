@@ -1,6 +1,6 @@
 //! The encoder: the blob that is chosen for a raster, and the blobs that are chosen for bands. It
 //! stands on `lerc_grammar` and the crates that write a blob's parts, and reads rasters however
-//! they are kept (`raster_view`).
+//! they are kept (`raster_access`).
 //!
 //! The contract that the layers above use: the blob is the chosen one, and it is a blob of exactly
 //! one raster, which is near the given one.
@@ -10,6 +10,7 @@ mod alike;
 mod bands;
 mod blob;
 mod blocks;
+mod byte_view;
 mod choosing;
 mod codings;
 mod flags;

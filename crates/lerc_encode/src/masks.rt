@@ -1,17 +1,18 @@
-// The mask of a raster.
+//! The mask of a raster.
 
-ghost use Rattle.std.specs.Prelude.{◌≡◌, ℕ, ◌+◌, ◌-◌, ◌*◌, ◌/◌, ◌%◌, ◌^◌, ◌<◌, ◌≤◌, ◌&&◌, [], None, Some, false, get_or, is_some, length, nat_eq, nat_lt};
+ghost use Rattle.std.specs.Prelude.{◌≡◌, ℕ, ◌+◌, ◌-◌, ◌*◌, ◌/◌, ◌%◌, ◌^◌, ◌<◌, ◌≤◌, ◌&&◌, [], None};
+ghost use Rattle.std.specs.Prelude.{Some, false, get_or, is_some, length, nat_eq, nat_lt};
 ghost use Rattle.mask_runs.specs.Ending.{ending_with};
 ghost use Rattle.raster_values.specs.Raster.{valid_count};
-ghost use Rattle.raster_values.specs.Order.{mask_bit};
+ghost use Rattle.raster_cells.specs.Masks.{mask_bit};
 ghost use Rattle.raster_values.specs.Flat.{marks_of};
 ghost use Rattle.lerc_grammar.specs.Mask.{previous_of};
 ghost use Rattle.lerc_encode.specs.Masks.{are_alike, mask_part, packed, runs_unless, takes_mask};
 
 use byteorder::{ByteOrder, LittleEndian};
 use mask_runs::{runs_len_with, write_runs_with};
+use raster_access::View;
 use raster_values::Raster;
-use raster_view::View;
 
 /// Whether no pixel of a raster is valid, or every one.
 fn is_alike<V: View>(raster: &V) -> bool

@@ -1,4 +1,4 @@
-// The least and the greatest value of a raster and of each of its depths.
+//! The least and the greatest value of a raster and of each of its depths.
 
 ghost use Rattle.std.specs.Prelude.{◌≡◌, ◌<◌, ◌&&◌, ℕ, pos, get_or, length};
 ghost use Rattle.std.specs.Int.{int_max, int_min};
@@ -7,7 +7,7 @@ ghost use Rattle.micro_block.specs.ChosenBlock.{least_value};
 ghost use Rattle.lerc_encode.specs.Ranges.{depth_values, greatest_value};
 ghost use Rattle.lerc_encode.specs.inside.Choosing.{AreRanges};
 
-use raster_view::View;
+use raster_access::View;
 
 /// The least and the greatest of values.
 #[derive(Clone, Copy)]

@@ -1,20 +1,23 @@
-// The blocks of both sides from one walk: with each block of 16 rows and columns those of 8 in it.
+//! The blocks of both sides from one walk: with each block of 16 rows and columns those of 8 in it.
 
-ghost use Rattle.std.specs.Prelude.{◌≡◌, ℕ, ◌+◌, ◌*◌, ◌/◌, ◌%◌, ◌^◌, ◌<◌, ◌≤◌, ◌↔◌, ◌⊎◌, ◌++◌, All, length, map, take, IfOk, IsTrue, MatchOption};
-ghost use Rattle.lut_stuff.specs.Names.{AreNames, KeepsNames};
-ghost use Rattle.lut_stuff.specs.Ranked.{Rises};
+ghost use Rattle.std.specs.Prelude.{◌≡◌, ℕ, ◌+◌, ◌*◌, ◌/◌, ◌%◌, ◌^◌, ◌<◌, ◌≤◌, ◌↔◌, ◌⊎◌, ◌++◌, All};
+ghost use Rattle.std.specs.Prelude.{length, map, take, IfOk, IsTrue, MatchOption};
+ghost use Rattle.lut_stuff.specs.Names.{KeepsNames};
+ghost use Rattle.lut_stuff.specs.Facts.{Rises};
 ghost use Rattle.micro_block.specs.Named.{AreNamed};
 ghost use Rattle.micro_block.specs.ChosenBlock as micro;
 ghost use Rattle.micro_block.specs.ChosenBlock.{block_bytes, chosen_form};
-ghost use Rattle.raster_values.specs.Distance.{IsDistance, value_above};
+ghost use Rattle.raster_cells.specs.Distance.{IsDistance, value_above};
 ghost use Rattle.raster_values.specs.Block.{block_values};
-ghost use Rattle.raster_values.specs.PixelType.{InRange};
+ghost use Rattle.raster_cells.specs.PixelType.{InRange};
 ghost use Rattle.lerc_grammar.specs.Blocks.{blocks_across, blocks_down, coded_blocks};
 ghost use Rattle.lerc_encode.specs.Images.{blocks_bytes};
 ghost use Rattle.lerc_encode.specs.inside.Flags.{IsMarked, room_of};
-ghost use Rattle.lerc_encode.specs.inside.Blocked.{HasTableAt, IsBlocked, IsMeasured, IsSpot, IsWithin, bytes_at};
+ghost use Rattle.lerc_encode.specs.inside.Blocked.{HasTableAt, IsBlocked, IsMeasured, IsSpot};
+ghost use Rattle.lerc_encode.specs.inside.Blocked.{IsWithin, bytes_at};
 ghost use Rattle.lerc_encode.specs.inside.Sides as inside;
-ghost use Rattle.lerc_encode.specs.inside.Sides.{AreFlaggedAt, AreMore, IsFlaggedAt, IsMore, four_sizes, four_values, number_at};
+ghost use Rattle.lerc_encode.specs.inside.Sides.{AreFlaggedAt, AreMore, IsFlaggedAt, IsMore};
+ghost use Rattle.lerc_encode.specs.inside.Sides.{four_sizes, four_values, number_at};
 
 use crate::blocks::{
     FIRST, MOST, Measured, Spot, across, context, count, gather, next_spot, sorted_values,
@@ -23,7 +26,7 @@ use crate::flags::{Flags, mark_where, no_flags};
 use lerc_header::Header;
 use lut_stuff::Names;
 use micro_block::{BlockSize, size_and_names};
-use raster_view::View;
+use raster_access::View;
 use std::alloc::{AllocError, Global};
 
 /// What is known of the blocks of a side that were looked at: how many bytes they take, and in which
@@ -120,21 +123,22 @@ fn tally_block<V: View>(
     requires blocked { IsBlocked h.now (V.pixels raster.now) }
     requires spot { IsSpot h.now k spot }
     requires most { most ≤ 67108865 }
-    requires names { AreNames names.old }
     requires few { length distances.now ≤ 256 }
     requires fit { All (IsDistance h.now.kind) distances.now }
     requires values { All (InRange h.now.kind) (map (value_above h.now.kind) distances.now) }
-    requires long { length (block_bytes h.now.kind spot.col h.now.step (map (value_above h.now.kind) distances.now))
+    requires long { length (block_bytes h.now.kind spot.col h.now.step
+        (map (value_above h.now.kind) distances.now))
         ≡ length (bytes_at h.now (V.pixels raster.now) spot) }
-    requires table { (chosen_form h.now.kind spot.col h.now.step (map (value_above h.now.kind) distances.now) ≡ micro.table)
+    requires table { (chosen_form h.now.kind spot.col h.now.step
+        (map (value_above h.now.kind) distances.now) ≡ micro.table)
         ↔ HasTableAt h.now (V.pixels raster.now) spot }
     requires within { k < room_of tally.old.tables }
     requires room { length found.old ≡ length distances.now }
     requires known { IsTrue known.old → AreNamed names.old distances.now found.old }
-    ensures names { AreNames names.new }
     ensures kept { KeepsNames names.old names.new }
     ensures known { IsTrue known.new → AreNamed names.new distances.now found.new }
-    ensures size { IsMore most (length (bytes_at h.now (V.pixels raster.now) spot)) tally.old.size tally.new.size }
+    ensures size { IsMore most (length (bytes_at h.now (V.pixels raster.now) spot)) tally.old.size
+        tally.new.size }
     ensures tables { AreMore h.now (V.pixels raster.now) tally.old.tables tally.new.tables }
     ensures this { tally.new.size ≤ most → HasTableAt h.now (V.pixels raster.now) spot
         → IsMarked tally.new.tables k }
@@ -171,18 +175,18 @@ fn tally_part<V: View>(
     requires col { spot.col % 8 ≡ 0 }
     requires depth { spot.d < h.now.depth }
     requires most { most ≤ 67108865 }
-    requires names { AreNames names.old }
     requires room { 64 ≤ length distances.old }
     requires beside { length found.old ≡ length distances.old }
     requires tables { coded_blocks h.now ≤ room_of tally.old.tables }
-    ensures names { AreNames names.new }
     ensures kept { KeepsNames names.old names.new }
     ensures few { result ≤ 64 }
-    ensures known { IsTrue known.new → AreNamed names.new (take result distances.new) (take result found.new) }
+    ensures known { IsTrue known.new
+        → AreNamed names.new (take result distances.new) (take result found.new) }
     ensures fit { All (IsDistance h.now.kind) (take result distances.new) }
     ensures are { map (value_above h.now.kind) (take result distances.new)
         ≡ block_values (V.pixels raster.now) spot.row spot.col 8 spot.d }
-    ensures size { IsMore most (inside.size_at h.now (V.pixels raster.now) spot) tally.old.size tally.new.size }
+    ensures size { IsMore most (inside.size_at h.now (V.pixels raster.now) spot) tally.old.size
+        tally.new.size }
     ensures tables { AreMore h.now (V.pixels raster.now) tally.old.tables tally.new.tables }
     ensures this { tally.new.size ≤ most
         → IsFlaggedAt h.now (V.pixels raster.now) spot tally.new.tables }
@@ -229,22 +233,23 @@ fn tally_behind<V: View>(
     requires col { spot.col % 8 ≡ 0 }
     requires depth { spot.d < h.now.depth }
     requires most { most ≤ 67108865 }
-    requires names { AreNames names.old }
     requires room { at + 64 ≤ length distances.old }
     requires beside { length found.old ≡ length distances.old }
-    requires known { IsTrue known.old → AreNamed names.old (take at distances.old) (take at found.old) }
+    requires known { IsTrue known.old
+        → AreNamed names.old (take at distances.old) (take at found.old) }
     requires fit { All (IsDistance h.now.kind) (take at distances.old) }
     requires tables { coded_blocks h.now ≤ room_of tally.old.tables }
-    ensures names { AreNames names.new }
     ensures few { result ≤ at + 64 }
     ensures room { length distances.new ≡ length distances.old }
     ensures beside { length found.new ≡ length distances.old }
-    ensures known { IsTrue known.new → AreNamed names.new (take result distances.new) (take result found.new) }
+    ensures known { IsTrue known.new
+        → AreNamed names.new (take result distances.new) (take result found.new) }
     ensures fit { All (IsDistance h.now.kind) (take result distances.new) }
     ensures are { map (value_above h.now.kind) (take result distances.new)
         ≡ map (value_above h.now.kind) (take at distances.old)
         ++ block_values (V.pixels raster.now) spot.row spot.col 8 spot.d }
-    ensures size { IsMore most (inside.size_at h.now (V.pixels raster.now) spot) tally.old.size tally.new.size }
+    ensures size { IsMore most (inside.size_at h.now (V.pixels raster.now) spot) tally.old.size
+        tally.new.size }
     ensures tables { AreMore h.now (V.pixels raster.now) tally.old.tables tally.new.tables }
     ensures this { tally.new.size ≤ most
         → IsFlaggedAt h.now (V.pixels raster.now) spot tally.new.tables }
@@ -285,19 +290,19 @@ fn tally_parts<V: View>(
     requires row { spot.row % 8 ≡ 0 }
     requires col { spot.col % 8 ≡ 0 }
     requires most { most ≤ 67108865 }
-    requires names { AreNames names.old }
     requires room { length distances.old ≡ 256 }
     requires beside { length found.old ≡ 256 }
     requires tables { coded_blocks h.now ≤ room_of tally.old.tables }
-    ensures names { AreNames names.new }
     ensures few { result ≤ 256 }
     ensures room { length distances.new ≡ 256 }
     ensures beside { length found.new ≡ 256 }
-    ensures known { IsTrue known.new → AreNamed names.new (take result distances.new) (take result found.new) }
+    ensures known { IsTrue known.new
+        → AreNamed names.new (take result distances.new) (take result found.new) }
     ensures fit { All (IsDistance h.now.kind) (take result distances.new) }
     ensures are { map (value_above h.now.kind) (take result distances.new)
         ≡ four_values (V.pixels raster.now) spot }
-    ensures size { IsMore most (four_sizes h.now (V.pixels raster.now) spot) tally.old.size tally.new.size }
+    ensures size { IsMore most (four_sizes h.now (V.pixels raster.now) spot) tally.old.size
+        tally.new.size }
     ensures tables { AreMore h.now (V.pixels raster.now) tally.old.tables tally.new.tables }
     ensures these { tally.new.size ≤ most
         → AreFlaggedAt h.now (V.pixels raster.now) spot tally.new.tables }
@@ -350,18 +355,20 @@ fn tally_both<V: View>(
     requires spot { IsSpot large.now k spot }
     requires within { k < coded_blocks large.now }
     requires most { most ≤ 67108865 }
-    requires names { AreNames names.old }
     requires room { length distances.old ≡ 256 }
     requires beside { length found.old ≡ 256 }
     requires eights { coded_blocks small.now ≤ room_of eights.old.tables }
     requires sixteens { coded_blocks large.now ≤ room_of sixteens.old.tables }
-    ensures names { AreNames names.new }
-    ensures small_size { IsMore most (four_sizes small.now (V.pixels raster.now) spot) eights.old.size eights.new.size }
-    ensures small_tables { AreMore small.now (V.pixels raster.now) eights.old.tables eights.new.tables }
+    ensures small_size { IsMore most (four_sizes small.now (V.pixels raster.now) spot)
+        eights.old.size eights.new.size }
+    ensures small_tables { AreMore small.now (V.pixels raster.now) eights.old.tables
+        eights.new.tables }
     ensures small_these { eights.new.size ≤ most
         → AreFlaggedAt small.now (V.pixels raster.now) spot eights.new.tables }
-    ensures large_size { IsMore most (length (bytes_at large.now (V.pixels raster.now) spot)) sixteens.old.size sixteens.new.size }
-    ensures large_tables { AreMore large.now (V.pixels raster.now) sixteens.old.tables sixteens.new.tables }
+    ensures large_size { IsMore most (length (bytes_at large.now (V.pixels raster.now) spot))
+        sixteens.old.size sixteens.new.size }
+    ensures large_tables { AreMore large.now (V.pixels raster.now) sixteens.old.tables
+        sixteens.new.tables }
     ensures large_this { sixteens.new.size ≤ most → HasTableAt large.now (V.pixels raster.now) spot
         → IsMarked sixteens.new.tables k }
 {
@@ -385,7 +392,6 @@ fn tally_both<V: View>(
 
 /// What is known of all blocks of a side, unless they take more than `most` bytes.
 fn measured_of(tally: Tally, most: usize, names: &Names) -> Option<Measured>
-    requires { AreNames names.now }
     ensures { MatchOption result (most < tally.size)
         (λ m. (m.size ≡ tally.size) × ((tally.size ≤ most) × ((m.tables ≡ tally.tables)
         × (Rises (take m.values.count m.values.values) × (m.values.count ≤ 256))))) }
@@ -414,9 +420,11 @@ pub(crate) fn measure_sides<V: View>(
     requires large { large.now ≡ record small.now { side = 16 } }
     requires most { most ≤ 67108865 }
     ensures small { IfOk result (λ found. MatchOption found.small
-        (most < length (blocks_bytes small.now (V.pixels raster.now))) (IsMeasured small.now (V.pixels raster.now))) }
+        (most < length (blocks_bytes small.now (V.pixels raster.now)))
+        (IsMeasured small.now (V.pixels raster.now))) }
     ensures large { IfOk result (λ found. MatchOption found.large
-        (most < length (blocks_bytes large.now (V.pixels raster.now))) (IsMeasured large.now (V.pixels raster.now))) }
+        (most < length (blocks_bytes large.now (V.pixels raster.now)))
+        (IsMeasured large.now (V.pixels raster.now))) }
 {
     let mut eights = no_tally(alloc, small, raster)?;
     let mut sixteens = no_tally(alloc, large, raster)?;

@@ -1,8 +1,8 @@
 //! The symbols of a raster of bytes, counted and written piece by piece: they are nowhere kept.
 
-ghost use Rattle.std.specs.Prelude.{◌≡◌, ◌*◌, ◌^◌, ◌<◌, ◌≤◌, ◌↔◌, All, IsTrue, length, slice_index, sum};
+ghost use Rattle.std.specs.Prelude.{◌≡◌, ◌*◌, ◌^◌, ◌<◌, ◌≤◌, ◌↔◌, All, IsTrue, length, slice_index};
+ghost use Rattle.std.specs.Prelude.{sum};
 ghost use Rattle.raster_values.specs.Raster.{IsRaster, valid_count};
-ghost use Rattle.delta_mode.specs.Symbols.{IsByteType};
 ghost use Rattle.delta_mode.specs.Deltas.{plain};
 ghost use Rattle.huff_codes.specs.Codes.{canonical_codes};
 ghost use Rattle.huff_codes.specs.Written.{AreWritten, written_size};
@@ -10,10 +10,11 @@ ghost use Rattle.lerc_encode.specs.Codings.{counts_of};
 ghost use Rattle.lerc_encode.specs.Images.{all_deltas};
 ghost use Rattle.lerc_encode.specs.inside.Coded.{IsLying, symbols_of};
 
+use crate::byte_view::ByteView;
 use delta_mode::{first_plain, first_way, next_deltas, next_plain};
 use huff_codes::{Lengths, SymbolCounter, SymbolWriter, count_symbols, write_symbols};
+use raster_access::View;
 use raster_values::PixelType;
-use raster_view::View;
 
 /// Which symbols stand for the values.
 #[derive(Clone, Copy)]
@@ -31,17 +32,16 @@ const DELTAS: usize = 4096;
 const PLAINS: usize = 65536;
 
 /// Counts the symbols of the differences.
-fn count_deltas<V: View>(raster: &V) -> [u32; 256]
-    requires { IsByteType (V.pixels raster.now).kind }
-    ensures counts { result ≡ counts_of (all_deltas (V.pixels raster.now)) }
+fn count_deltas<V: View>(bytes: &ByteView<V>) -> [u32; 256]
+    ensures counts { result ≡ counts_of (all_deltas (V.pixels bytes.now.raster.now)) }
     ensures few { sum result ≤ 2 ^ 24 }
 {
-    let depth = raster.depth();
+    let depth = bytes.raster.depth();
     let mut counter = SymbolCounter::new();
     let mut room = [0; DELTAS];
     let mut way = first_way();
     while way.d < depth {
-        let next = next_deltas(raster, way, &mut room);
+        let next = next_deltas(bytes.raster, way, &mut room);
         counter.add(&room[..next.given - way.given]);
         way = next;
     }
@@ -49,18 +49,18 @@ fn count_deltas<V: View>(raster: &V) -> [u32; 256]
 }
 
 /// Writes the words of the differences' symbols over all of `out`.
-fn write_deltas<V: View>(raster: &V, lengths: &Lengths, out: &mut [u8])
-    requires kind { IsByteType (V.pixels raster.now).kind }
+fn write_deltas<V: View>(bytes: &ByteView<V>, lengths: &Lengths, out: &mut [u8])
     requires room { length out.old
-        ≡ written_size (canonical_codes lengths.now) (all_deltas (V.pixels raster.now)) }
-    ensures { AreWritten (canonical_codes lengths.now) (all_deltas (V.pixels raster.now)) out.new }
+        ≡ written_size (canonical_codes lengths.now) (all_deltas (V.pixels bytes.now.raster.now)) }
+    ensures { AreWritten (canonical_codes lengths.now) (all_deltas (V.pixels bytes.now.raster.now))
+        out.new }
 {
-    let depth = raster.depth();
+    let depth = bytes.raster.depth();
     let mut writer = SymbolWriter::new(lengths);
     let mut room = [0; DELTAS];
     let mut way = first_way();
     while way.d < depth {
-        let next = next_deltas(raster, way, &mut room);
+        let next = next_deltas(bytes.raster, way, &mut room);
         writer.write(&room[..next.given - way.given], out);
         way = next;
     }
@@ -79,17 +79,16 @@ fn is_lying<V: View>(raster: &V) -> bool
 }
 
 /// Counts the plain symbols piece by piece.
-fn count_pieces<V: View>(raster: &V) -> [u32; 256]
-    requires { IsByteType (V.pixels raster.now).kind }
-    ensures counts { result ≡ counts_of (plain (V.pixels raster.now)) }
+fn count_pieces<V: View>(bytes: &ByteView<V>) -> [u32; 256]
+    ensures counts { result ≡ counts_of (plain (V.pixels bytes.now.raster.now)) }
     ensures few { sum result ≤ 2 ^ 24 }
 {
-    let pixels = raster.rows() as usize * raster.cols() as usize;
+    let pixels = bytes.raster.rows() as usize * bytes.raster.cols() as usize;
     let mut counter = SymbolCounter::new();
     let mut room = [0; PLAINS];
     let mut way = first_plain();
     while way.place < pixels {
-        let next = next_plain(raster, way, &mut room);
+        let next = next_plain(bytes.raster, way, &mut room);
         counter.add(&room[..next.given - way.given]);
         way = next;
     }
@@ -97,31 +96,30 @@ fn count_pieces<V: View>(raster: &V) -> [u32; 256]
 }
 
 /// Counts the plain symbols.
-fn count_plain<V: View>(raster: &V) -> [u32; 256]
-    requires { IsByteType (V.pixels raster.now).kind }
-    ensures counts { result ≡ counts_of (plain (V.pixels raster.now)) }
+fn count_plain<V: View>(bytes: &ByteView<V>) -> [u32; 256]
+    ensures counts { result ≡ counts_of (plain (V.pixels bytes.now.raster.now)) }
     ensures few { sum result ≤ 2 ^ 24 }
 {
-    if is_lying(raster) {
-        count_symbols(raster.cells())
+    if is_lying(bytes.raster) {
+        count_symbols(bytes.raster.cells())
     } else {
-        count_pieces(raster)
+        count_pieces(bytes)
     }
 }
 
 /// Writes the words of the plain symbols piece by piece over all of `out`.
-fn write_pieces<V: View>(raster: &V, lengths: &Lengths, out: &mut [u8])
-    requires kind { IsByteType (V.pixels raster.now).kind }
+fn write_pieces<V: View>(bytes: &ByteView<V>, lengths: &Lengths, out: &mut [u8])
     requires room { length out.old
-        ≡ written_size (canonical_codes lengths.now) (plain (V.pixels raster.now)) }
-    ensures { AreWritten (canonical_codes lengths.now) (plain (V.pixels raster.now)) out.new }
+        ≡ written_size (canonical_codes lengths.now) (plain (V.pixels bytes.now.raster.now)) }
+    ensures { AreWritten (canonical_codes lengths.now) (plain (V.pixels bytes.now.raster.now))
+        out.new }
 {
-    let pixels = raster.rows() as usize * raster.cols() as usize;
+    let pixels = bytes.raster.rows() as usize * bytes.raster.cols() as usize;
     let mut writer = SymbolWriter::new(lengths);
     let mut room = [0; PLAINS];
     let mut way = first_plain();
     while way.place < pixels {
-        let next = next_plain(raster, way, &mut room);
+        let next = next_plain(bytes.raster, way, &mut room);
         writer.write(&room[..next.given - way.given], out);
         way = next;
     }
@@ -129,44 +127,48 @@ fn write_pieces<V: View>(raster: &V, lengths: &Lengths, out: &mut [u8])
 }
 
 /// Writes the words of the plain symbols over all of `out`.
-fn write_plain<V: View>(raster: &V, lengths: &Lengths, out: &mut [u8])
-    requires kind { IsByteType (V.pixels raster.now).kind }
-    requires coded { All (λ s. 0 < slice_index lengths.now s) (plain (V.pixels raster.now)) }
+fn write_plain<V: View>(bytes: &ByteView<V>, lengths: &Lengths, out: &mut [u8])
+    requires coded { All (λ s. 0 < slice_index lengths.now s)
+        (plain (V.pixels bytes.now.raster.now)) }
     requires room { length out.old
-        ≡ written_size (canonical_codes lengths.now) (plain (V.pixels raster.now)) }
-    ensures { AreWritten (canonical_codes lengths.now) (plain (V.pixels raster.now)) out.new }
+        ≡ written_size (canonical_codes lengths.now) (plain (V.pixels bytes.now.raster.now)) }
+    ensures { AreWritten (canonical_codes lengths.now) (plain (V.pixels bytes.now.raster.now))
+        out.new }
 {
-    if is_lying(raster) {
-        write_symbols(raster.cells(), lengths, out);
+    if is_lying(bytes.raster) {
+        write_symbols(bytes.raster.cells(), lengths, out);
     } else {
-        write_pieces(raster, lengths, out);
+        write_pieces(bytes, lengths, out);
     }
 }
 
 /// Counts the symbols of a mode.
-pub(crate) fn count_mode<V: View>(mode: SymbolMode, raster: &V) -> [u32; 256]
-    requires { IsByteType (V.pixels raster.now).kind }
-    ensures counts { result ≡ counts_of (symbols_of mode (V.pixels raster.now)) }
+pub(crate) fn count_mode<V: View>(mode: SymbolMode, bytes: &ByteView<V>) -> [u32; 256]
+    ensures counts { result ≡ counts_of (symbols_of mode (V.pixels bytes.now.raster.now)) }
     ensures few { sum result ≤ 2 ^ 24 }
 {
     match mode {
-        SymbolMode::Deltas => count_deltas(raster),
-        SymbolMode::Plain => count_plain(raster),
+        SymbolMode::Deltas => count_deltas(bytes),
+        SymbolMode::Plain => count_plain(bytes),
     }
 }
 
 /// Writes the words of a mode's symbols over all of `out`.
-pub(crate) fn write_words<V: View>(mode: SymbolMode, raster: &V, lengths: &Lengths, out: &mut [u8])
-    requires kind { IsByteType (V.pixels raster.now).kind }
+pub(crate) fn write_words<V: View>(
+    mode: SymbolMode,
+    bytes: &ByteView<V>,
+    lengths: &Lengths,
+    out: &mut [u8],
+)
     requires coded { All (λ s. 0 < slice_index lengths.now s)
-        (symbols_of mode (V.pixels raster.now)) }
+        (symbols_of mode (V.pixels bytes.now.raster.now)) }
     requires room { length out.old ≡ written_size (canonical_codes lengths.now)
-        (symbols_of mode (V.pixels raster.now)) }
+        (symbols_of mode (V.pixels bytes.now.raster.now)) }
     ensures { AreWritten (canonical_codes lengths.now)
-        (symbols_of mode (V.pixels raster.now)) out.new }
+        (symbols_of mode (V.pixels bytes.now.raster.now)) out.new }
 {
     match mode {
-        SymbolMode::Deltas => write_deltas(raster, lengths, out),
-        SymbolMode::Plain => write_plain(raster, lengths, out),
+        SymbolMode::Deltas => write_deltas(bytes, lengths, out),
+        SymbolMode::Plain => write_plain(bytes, lengths, out),
     }
 }

@@ -12,8 +12,8 @@ use Rattle.lerc_header.specs.Head.{HeadAt, shift}
 use Rattle.lerc_header.specs.HeadFaults.{HasKey, header_faults}
 use Rattle.lerc_header.proofs.DecidedHeads.{header_or_fault}
 use Rattle.lerc_header.proofs.HeadLemmas.{kind_once, one_head}
-use Rattle.raster_values.specs.PixelType.{code_of}
-use Rattle.raster_values.specs.declared.kind.PixelType.{PixelType}
+use Rattle.raster_cells.specs.PixelType.{code_of}
+use Rattle.raster_cells.specs.declared.kind.PixelType.{PixelType}
 use Rattle.lerc_header.specs.declared.fault.BlobReason.TheVariants.{Truncated, TooLarge, Leftover}
 use Rattle.lerc_grammar.specs.declared.bands.BandReason.TheVariants.{Blob as OfBlob, BadBand}
 use Rattle.lerc_grammar.specs.Mask.{Previous, previous_of}

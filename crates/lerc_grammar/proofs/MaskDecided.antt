@@ -7,7 +7,7 @@ use Rattle.first_fault.specs.Parts.{AreBytes, InFront, HasFault, IsDecided}
 use Rattle.first_fault.proofs.Decided.{decided_unless}
 use Rattle.mask_runs.specs.Runs.{Runs}
 use Rattle.mask_runs.proofs.Decided.{RunsOrFault, runs_decided}
-use Rattle.raster_values.specs.Order.{marks_in}
+use Rattle.raster_cells.specs.Masks.{marks_in}
 use Rattle.lerc_header.specs.Head.{i32_at}
 use Rattle.lerc_header.specs.declared.fault.BlobReason.{BlobReason}
 use Rattle.lerc_header.specs.declared.fault.BlobReason.TheVariants.{BadMaskLength, BadMaskCount, BadRun, MaskMissing, PastEnd}

@@ -1,7 +1,7 @@
 //! What stands in a blob before its runs and its values: the forms of its mask and of its image.
 
 ghost use Rattle.std.specs.Prelude.{◌≡◌, ◌≢◌, ◌^◌, ℕ, pos, ◌≤◌, ◌+◌, ◌*◌, ◌<◌, ◌⊎◌, IsTrue, ◌↔◌, IfOk, IfErr, List, [], length, drop, take, Option, Some, None, ◌∷◌, ◌++◌};
-ghost use Rattle.raster_values.specs.PixelType.{bytes_of};
+ghost use Rattle.raster_cells.specs.PixelType.{bytes_of};
 ghost use Rattle.first_fault.specs.Faults.{choice, ends, none};
 ghost use Rattle.lerc_header.specs.Head.{HeadAt, i32_at, head_length};
 ghost use Rattle.lerc_grammar.specs.Mask.{IsAlike, mask_faults_of, taken_faults};

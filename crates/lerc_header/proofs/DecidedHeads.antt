@@ -6,9 +6,9 @@ use Rattle.std.proofs.lemmas.Bool.{cases_eq, cases_lt}
 use Rattle.first_fault.specs.Faults.{Faults, none, wrong, choice}
 use Rattle.first_fault.specs.Parts.{HasFault}
 use Rattle.first_fault.proofs.Decided.{decided_unless}
-use Rattle.raster_values.specs.declared.kind.PixelType.{PixelType}
-use Rattle.raster_values.specs.declared.kind.PixelType.TheVariants.{I8, U8, I16, U16, I32, U32}
-use Rattle.raster_values.specs.PixelType.{InRange, type_least, type_greatest, code_of}
+use Rattle.raster_cells.specs.declared.kind.PixelType.{PixelType}
+use Rattle.raster_cells.specs.declared.kind.PixelType.TheVariants.{I8, U8, I16, U16, I32, U32}
+use Rattle.raster_cells.specs.PixelType.{InRange, type_least, type_greatest, code_of}
 use Rattle.double_bits.specs.Halves.{HalfDouble}
 use Rattle.double_bits.proofs.HalfBits.{half_or_none}
 use Rattle.double_bits.proofs.OneHalf.{one_half}
@@ -17,7 +17,7 @@ use Rattle.lerc_header.specs.declared.fault.BlobReason.TheVariants.{Truncated, B
 use Rattle.lerc_header.specs.declared.header.Version.{Version}
 use Rattle.lerc_header.specs.declared.header.Version.TheVariants.{V3, V4}
 use Rattle.lerc_header.specs.declared.header.Header.{Header}
-use Rattle.raster_values.specs.Step.{IsTwiceError}
+use Rattle.raster_cells.specs.Step.{IsTwiceError}
 use Rattle.lerc_header.specs.Head.{HeadAt, RangeAt, i32_at, u32_at, double_at, shift, head_length, depth_at}
 use Rattle.lerc_header.specs.HeadFaults.{HasKey, HasVersion, key_tests, key_faults, IsWithin, pixels_at, values_at, HasKind, HasStep, HasLeast, HasEnds, HasNone, field_faults, whole_faults, header_faults}
 use Rattle.lerc_header.proofs.HeadLemmas.{number_once, kind_once}

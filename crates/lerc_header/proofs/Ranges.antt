@@ -4,8 +4,8 @@ use Rattle.std.specs.Prelude.{unsigned_abs}
 use Rattle.std.proofs.lemmas.Int.{ints, unsigned_abs-mul}
 use mir.Syntax.{w64}
 use mir.Val.{to_z, of_z}
-use Rattle.raster_values.specs.declared.kind.PixelType.{PixelType}
-use Rattle.raster_values.specs.PixelType.{InRange}
+use Rattle.raster_cells.specs.declared.kind.PixelType.{PixelType}
+use Rattle.raster_cells.specs.PixelType.{InRange}
 use Rattle.double_bits.specs.Halves.{HalfDouble, IsTwiceZero, IsTwiceNormal}
 use Rattle.lerc_header.specs.Head.{double_at, HasRange, RangeAt}
 

@@ -10,10 +10,10 @@ use mir.Syntax.{w64}
 use mir.Val.{to_z, of_z}
 use Rattle.byteorder.specs.Endian.{little_number, little_bytes, twos_complement}
 use Rattle.byteorder.specs.Numbers.{little_number-reads_back}
-use Rattle.raster_values.specs.declared.kind.PixelType.{PixelType}
-use Rattle.raster_values.specs.declared.kind.PixelType.TheVariants.{I8, U8, I16, U16, I32, U32}
-use Rattle.raster_values.specs.PixelType.{InRange, code_of}
-use Rattle.raster_values.specs.Raster.{IsShape}
+use Rattle.raster_cells.specs.declared.kind.PixelType.{PixelType}
+use Rattle.raster_cells.specs.declared.kind.PixelType.TheVariants.{I8, U8, I16, U16, I32, U32}
+use Rattle.raster_cells.specs.PixelType.{InRange, code_of}
+use Rattle.raster_cells.specs.Shapes.{IsShape}
 use Rattle.double_bits.specs.Bits.{half_bits}
 use Rattle.double_bits.specs.Halves.{HalfDouble}
 use Rattle.double_bits.proofs.HalfBits.{half_stands, half_fits}

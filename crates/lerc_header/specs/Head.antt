@@ -1,11 +1,11 @@
 -- The header of a LERC2 blob, versions 3 and 4: which bytes stand for it.
 use Rattle.std.specs.Prelude.{◌≡◌, ℕ, ℤ, pos, ◌+◌, ◌*◌, ◌<◌, ◌≤◌, ◌≤ℤ◌, ◌*ℤ◌, ◌⊎◌, List, codes, length, take, drop}
 use Rattle.byteorder.specs.Endian.{little_number, twos_complement}
-use Rattle.raster_values.specs.PixelType.{InRange, code_of}
-use Rattle.raster_values.specs.Raster.{IsShape}
-use Rattle.raster_values.specs.Step.{IsTwiceError}
+use Rattle.raster_cells.specs.PixelType.{InRange, code_of}
+use Rattle.raster_cells.specs.Shapes.{IsShape}
+use Rattle.raster_cells.specs.Step.{IsTwiceError}
 use Rattle.double_bits.specs.Halves.{HalfDouble}
-use Rattle.raster_values.specs.declared.kind.PixelType.{PixelType}
+use Rattle.raster_cells.specs.declared.kind.PixelType.{PixelType}
 use Rattle.lerc_header.specs.declared.header.Version.{Version}
 use Rattle.lerc_header.specs.declared.header.Version.TheVariants.{V3, V4}
 use Rattle.lerc_header.specs.declared.header.Header.{Header}

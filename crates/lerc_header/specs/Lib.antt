@@ -3,11 +3,12 @@ pub use Rattle.double_bits.specs.Bits
 pub use Rattle.double_bits.specs.Halves
 pub use Rattle.first_fault.specs.Faults
 pub use Rattle.first_fault.specs.Parts
-pub use Rattle.raster_values.specs.PixelType
-pub use Rattle.raster_values.specs.Raster
-pub use Rattle.raster_values.specs.Step
+pub use Rattle.raster_cells.specs.PixelType
+pub use Rattle.raster_cells.specs.Shapes
+pub use Rattle.raster_cells.specs.Step
 pub mod Checksum
 pub mod Head
 pub mod HeadFaults
+pub mod HeadProps
 pub mod Written
 pub mod inside

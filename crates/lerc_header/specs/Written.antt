@@ -1,14 +1,14 @@
 -- The bytes of a header, as they are written.
 use Rattle.std.specs.Prelude.{◌≡◌, ℕ, ℤ, pos, ◌+◌, ◌*◌, ◌^◌, ◌<◌, ◌≤◌, ◌≤ℤ◌, ◌*ℤ◌, ◌⊎◌, zero, suc, List, [], ◌++◌, codes}
 use Rattle.byteorder.specs.Endian.{little_bytes}
-use Rattle.raster_values.specs.declared.kind.PixelType.{PixelType}
-use Rattle.raster_values.specs.PixelType.{InRange, code_of}
-use Rattle.raster_values.specs.Raster.{IsShape}
+use Rattle.raster_cells.specs.declared.kind.PixelType.{PixelType}
+use Rattle.raster_cells.specs.PixelType.{InRange, code_of}
+use Rattle.raster_cells.specs.Shapes.{IsShape}
 use Rattle.double_bits.specs.Bits.{half_bits}
 use Rattle.lerc_header.specs.declared.header.Version.{Version}
 use Rattle.lerc_header.specs.declared.header.Version.TheVariants.{V3, V4}
 use Rattle.lerc_header.specs.declared.header.Header.{Header}
-use Rattle.raster_values.specs.Step.{IsTwiceError}
+use Rattle.raster_cells.specs.Step.{IsTwiceError}
 use Rattle.lerc_header.specs.Head.{version_number, head_length}
 
 -- the least and the greatest of the valid values are values of the type, in order; both are 0

@@ -5,7 +5,7 @@ ghost use Rattle.lerc_header.specs.declared.header.Version.{Version};
 ghost use Rattle.lerc_header.specs.declared.header.Version.TheVariants.{V3};
 ghost use Rattle.lerc_header.specs.Head.{head_length, version_number, shift};
 
-use raster_values::PixelType;
+use raster_cells::PixelType;
 
 /// The version of a blob's layout.
 #[derive(Clone, Copy, Debug, PartialEq, Eq)]

@@ -1,6 +1,6 @@
 //! The header and the checksum of a LERC2 blob, and what a blob is refused for.
 //!
-//! It stands on raster_values, double_bits, first_fault and byteorder, and takes no memory. The
+//! It stands on raster_cells, double_bits, first_fault and byteorder, and takes no memory. The
 //! layer above uses one contract: `read_header` answers the header exactly where the bytes begin
 //! with one, and else the first of its fields that fails.
 #![tactic(auto)]

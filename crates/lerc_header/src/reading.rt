@@ -1,14 +1,14 @@
 //! A header read field by field, each test in its order.
 
 ghost use Rattle.std.specs.Prelude.{◌≡◌, ℕ, ℤ, pos, ◌+◌, ◌*◌, ◌<◌, ◌≤◌, ◌≤ℤ◌, ◌*ℤ◌, ◌↔◌, ◌⊎◌, IsTrue, IsNone, IfOk, IfErr, length};
-ghost use Rattle.raster_values.specs.declared.kind.PixelType.{PixelType};
-ghost use Rattle.raster_values.specs.PixelType.{InRange, code_of};
-ghost use Rattle.raster_values.specs.Raster.{IsShape};
+ghost use Rattle.raster_cells.specs.declared.kind.PixelType.{PixelType};
+ghost use Rattle.raster_cells.specs.PixelType.{InRange, code_of};
+ghost use Rattle.raster_cells.specs.Shapes.{IsShape};
 ghost use Rattle.double_bits.specs.Halves.{HalfDouble};
 ghost use Rattle.lerc_header.specs.declared.fault.BlobFault.{BlobFault};
 ghost use Rattle.lerc_header.specs.declared.header.Header.{Header};
 ghost use Rattle.lerc_header.specs.declared.header.Version.{Version};
-ghost use Rattle.raster_values.specs.Step.{IsTwiceError};
+ghost use Rattle.raster_cells.specs.Step.{IsTwiceError};
 ghost use Rattle.lerc_header.specs.Head.{i32_at, double_at, shift, head_length, depth_at, RangeAt, HeadAt};
 ghost use Rattle.lerc_header.specs.HeadFaults.{HasKey, HasVersion, HasKind, IsWithin, field_faults, key_faults, whole_faults, header_faults};
 ghost use Rattle.lerc_header.specs.Written.{IsHeader};
@@ -20,7 +20,7 @@ use crate::fault::{BlobFault, BlobReason};
 use crate::header::{Header, Version};
 use crate::numbers::{bits_at, signed_at, unsigned_at};
 use double_bits::halves_of;
-use raster_values::{GREATEST_DEPTH, PixelType, is_shape};
+use raster_cells::{GREATEST_DEPTH, PixelType, is_shape};
 
 /// How many bytes hold the key and the version.
 const FRONT_LENGTH: usize = 10;

@@ -1,7 +1,7 @@
 //! The step of the values.
 
 ghost use Rattle.std.specs.Prelude.{◌≡◌, ℕ};
-ghost use Rattle.raster_values.specs.Step.{IsTwiceError};
+ghost use Rattle.raster_cells.specs.Step.{IsTwiceError};
 ghost use Rattle.lerc_header.specs.Written.{step_of};
 
 use std::marker::Model;

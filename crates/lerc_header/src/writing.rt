@@ -2,7 +2,7 @@
 
 ghost use Rattle.std.specs.Prelude.{◌≡◌, ◌+◌, ◌≤◌, ◌++◌, ◌*ℤ◌, pos, codes, length, take, drop};
 ghost use Rattle.byteorder.specs.Endian.{little_bytes};
-ghost use Rattle.raster_values.specs.PixelType.{code_of};
+ghost use Rattle.raster_cells.specs.PixelType.{code_of};
 ghost use Rattle.double_bits.specs.Bits.{half_bits};
 ghost use Rattle.lerc_header.specs.declared.header.Header.{Header};
 ghost use Rattle.lerc_header.specs.Head.{shift, head_length, HeadAt};

@@ -5,6 +5,7 @@ ghost use Rattle.level_cache.specs.Names.{IsHexDigit, IsName, digit_value};
 ghost use Rattle.level_cache.specs.inside.Digits.{AddsDigits, AddsHex};
 
 use crate::Base;
+use arrayvec::ArrayVec;
 use std::marker::Model;
 
 /// The greatest number of bytes of a name.
@@ -13,18 +14,15 @@ const ROOM: usize = 25;
 /// The name of a bundle, at most 25 bytes. Contracts see the list of its bytes.
 #[derive(Drop)]
 pub struct Name {
-    bytes: [u8; ROOM],
-    len: usize,
+    bytes: ArrayVec<u8, ROOM>,
 }
 
 impl Model for Name {
-    ghost use Rattle.std.specs.Prelude.{ℕ, List, take, ◌≤◌};
+    ghost use Rattle.std.specs.Prelude.{ℕ, List};
 
     ghost Value = { List ℕ };
 
-    ghost view = { λ n. take n.len n.bytes };
-
-    ghost invariant = { λ n. n.len ≤ 25 };
+    ghost view = { λ n. n.bytes.items };
 }
 
 impl Name {
@@ -32,15 +30,14 @@ impl Name {
     pub fn as_slice(&self) -> &[u8]
         ensures { result.now ≡ self.now }
     {
-        &self.bytes[..self.len]
+        self.bytes.as_slice()
     }
 
     fn new() -> Name
         ensures { result ≡ [] }
     {
         Name {
-            bytes: [0; ROOM],
-            len: 0,
+            bytes: ArrayVec::new(),
         }
     }
 
@@ -50,9 +47,10 @@ impl Name {
         ensures bytes { self.new ≡ self.old ++ text.now }
         ensures longer { length self.new ≡ length self.old + length text.now }
     {
-        let end = self.len + text.len();
-        self.bytes[self.len..end].copy_from_slice(text);
-        self.len = end;
+        match self.bytes.try_extend_from_slice(text) {
+            Ok(()) => {}
+            Err(_) => unreachable!(),
+        }
     }
 
     // Adds so many hexadecimal digits of a number, from 1 to 8.

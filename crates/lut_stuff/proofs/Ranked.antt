@@ -11,7 +11,8 @@ use Rattle.bit_stuff.specs.Simple.{binary_digits, width_of}
 use Rattle.bit_stuff.specs.Stuffed.{stuffed_bytes, stuffed_size}
 use Rattle.bit_stuff.proofs.HeadLaws.{length-head_bytes}
 use Rattle.bit_stuff.proofs.StuffedLaws.{length-stuffed_bytes}
-use Rattle.lut_stuff.specs.Ranked.{AreRanks, RanksTell, Rises, above_first, known_bytes}
+use Rattle.lut_stuff.specs.Facts.{Rises}
+use Rattle.lut_stuff.specs.Ranked.{AreRanks, RanksTell, above_first, known_bytes}
 use Rattle.lut_stuff.specs.Tables.{distinct_above_0, entries_of, index_in, occurs, table_bytes}
 use Rattle.lut_stuff.proofs.Tabled.{length-table_bytes}
 use Rattle.lut_stuff.proofs.Rising.{Has, Rising, entries_from, entries_have, entries_rising, has_filter, has_filtered, has_occurs, has_range, occurs_has, range_rising, rising_above, rising_filter, rising_same, has_at}

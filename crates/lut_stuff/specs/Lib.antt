@@ -1,6 +1,7 @@
 pub mod Lists
 pub mod Faults
 pub mod Tables
+pub mod Facts
 pub mod Ranked
 pub mod Names
 pub mod inside

@@ -1,5 +1,5 @@
 -- The different values that came so far, each by the number of those before it.
-use Rattle.std.specs.Prelude.{◌≡◌, ◌≢◌, ℕ, ◌<◌, ◌≤◌, All, List, false, get_or, length, take}
+use Rattle.std.specs.Prelude.{◌≡◌, ℕ, ◌<◌, ◌≤◌, All, List, false, get_or, length, take}
 use Rattle.lut_stuff.specs.declared.naming.Names.{Names}
 use Rattle.lut_stuff.specs.declared.naming.NameSet.{NameSet}
 use Rattle.lut_stuff.specs.Tables.{occurs}
@@ -7,11 +7,6 @@ use Rattle.lut_stuff.specs.Tables.{occurs}
 -- the values that have a name, in the order of their names
 abbrev pub named_values : Names → List ℕ
 named_values n = take n.count n.values
-
--- at most 256 values have a name, and no two of them are one
-pub record AreNames (n : Names) : Type 0 where
-  pub few : n.count ≤ 256
-  pub different : (i j : ℕ) → i < j → j < n.count → get_or n.values i 0 ≢ get_or n.values j 0
 
 -- those that had a name keep it
 pub record KeepsNames (old new : Names) : Type 0 where

@@ -1,13 +1,10 @@
 -- Values by their ranks: by smaller numbers that rise with them.
-use Rattle.std.specs.Prelude.{◌≡◌, ◌↔◌, ℕ, ◌+◌, ◌-◌, ◌<◌, ◌≤◌, All, List, ◌∷◌, ◌++◌, drop, length, get_or, map, take, true}
+use Rattle.std.specs.Prelude.{◌≡◌, ◌↔◌, ℕ, ◌+◌, ◌-◌, ◌<◌, All, List, ◌∷◌, ◌++◌, drop, length, get_or, map, take, true}
 use Rattle.bit_stuff.specs.Head.{list_head_bytes}
 use Rattle.bit_stuff.specs.Simple.{binary_digits}
 use Rattle.bit_stuff.specs.Stuffed.{stuffed_bytes}
+use Rattle.lut_stuff.specs.Facts.{Rises}
 use Rattle.lut_stuff.specs.declared.ranking.Ranks.{Ranks}
-
--- each number is above those before it
-abbrev pub Rises : List ℕ → Type 0
-Rises table = (i j : ℕ) → i < j → j < length table → get_or table i 0 < get_or table j 0
 
 -- the table has each of the values at its rank, and they rise with their ranks
 pub record AreRanks (table values ranks : List ℕ) : Type 0 where
@@ -42,12 +39,6 @@ above_value least values = map (λ v. v - least) values
 
 abbrev pub ranked_values : Ranks → List ℕ
 ranked_values r = take r.count r.table
-
--- they are at most 256, and rise
-pub record AreRanked (r : Ranks) : Type 0 where
-  pub few : r.count ≤ 256
-  pub size : length r.table ≡ 256
-  pub rises : Rises (ranked_values r)
 
 -- they stay
 pub record KeepsTable (old new : Ranks) : Type 0 where

@@ -1,4 +1,4 @@
-// The different values of a list of any numbers, by a slot for each hash.
+//! The different values of a list of any numbers, by a slot for each hash.
 
 ghost use Rattle.std.specs.Prelude.{◌≡◌, ◌+◌, ◌<◌, ◌≤◌, ◌++◌, ◌∷◌, [], ℕ, List, length, map, min, take};
 ghost use Rattle.lut_stuff.specs.Tables.{distinct_above_0, index_in, occurs};

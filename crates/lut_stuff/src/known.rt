@@ -1,4 +1,4 @@
-// Lists in the table form of values of which the different ones are known before.
+//! Lists in the table form of values of which the different ones are known before.
 
 ghost use Rattle.std.specs.Prelude.{◌≡◌, ℕ, ◌+◌, ◌*◌, ◌^◌, ◌<◌, ◌≤◌, ◌++◌, ◌∷◌, All, IfSome, List, drop, length, map, min, true};
 ghost use Rattle.bit_stuff.specs.Head.{head_size, list_head_bytes};

@@ -1,4 +1,4 @@
-// Reading lists.
+//! Reading lists.
 
 ghost use Rattle.std.specs.Prelude.{◌≡◌, ◌∷◌, ◌+◌, ◌-◌, ◌^◌, ◌<◌, ◌≤◌, ◌↔◌, ◌++◌, ℕ, List, All, IfErr, IfOk};
 ghost use Rattle.std.specs.Prelude.{IsTrue, IsFalse, MatchResult, length, slice_index, take};

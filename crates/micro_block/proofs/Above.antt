@@ -8,10 +8,10 @@ use Rattle.std.proofs.lemmas.List.Elements.{All-contains, All-drop, All-from_get
 use Rattle.lane_kernels.specs.Kernels.{IsLeast, IsGreatest}
 use Rattle.bit_stuff.specs.Simple.{greatest_number}
 use Rattle.bit_stuff.proofs.Digits.{greatest_above}
-use Rattle.raster_values.specs.declared.kind.PixelType.{PixelType}
-use Rattle.raster_values.specs.declared.kind.PixelType.TheVariants.{I8, U8, I16, U16, I32, U32}
-use Rattle.raster_values.specs.Distance.{IsDistance, distance_of, value_above}
-use Rattle.raster_values.specs.PixelType.{InRange, type_least}
+use Rattle.raster_cells.specs.declared.kind.PixelType.{PixelType}
+use Rattle.raster_cells.specs.declared.kind.PixelType.TheVariants.{I8, U8, I16, U16, I32, U32}
+use Rattle.raster_cells.specs.Distance.{IsDistance, distance_of, value_above}
+use Rattle.raster_cells.specs.PixelType.{InRange, type_least}
 use Rattle.micro_block.specs.declared.spreading.Spread.{Spread}
 use Rattle.micro_block.specs.declared.stepping.Rule.{Rule}
 use Rattle.micro_block.specs.declared.stepping.Rule.TheVariants.{Subtract, Shift, Multiply, Divide}

@@ -14,13 +14,13 @@ use Rattle.std.proofs.lemmas.Simd.{map-map}
 use Rattle.byteorder.specs.Endian.{little_number}
 use Rattle.byteorder.specs.Numbers.{little_from-lt, little_from-take}
 use Rattle.first_fault.specs.Parts.{AreBytes}
-use Rattle.raster_values.specs.declared.kind.PixelType.{PixelType}
-use Rattle.raster_values.specs.declared.kind.PixelType.TheVariants.{I8, U8, I16, U16, I32, U32}
-use Rattle.raster_values.specs.PixelType.{InRange, Spells, bytes_of, type_greatest, type_least, value_of}
-use Rattle.raster_values.specs.Distance.{distance_of}
-use Rattle.raster_values.specs.Values.{AreValues}
-use Rattle.raster_values.proofs.Distances.{value_back}
-use Rattle.raster_values.proofs.Spelled.{value_fits}
+use Rattle.raster_cells.specs.declared.kind.PixelType.{PixelType}
+use Rattle.raster_cells.specs.declared.kind.PixelType.TheVariants.{I8, U8, I16, U16, I32, U32}
+use Rattle.raster_cells.specs.PixelType.{InRange, Spells, bytes_of, type_greatest, type_least, value_of}
+use Rattle.raster_cells.specs.Distance.{distance_of}
+use Rattle.raster_cells.specs.Values.{AreValues}
+use Rattle.raster_cells.proofs.Distances.{value_back}
+use Rattle.raster_cells.proofs.Spelled.{value_fits}
 use Rattle.bit_stuff.proofs.Numbers.{bytes_drop}
 use Rattle.lane_kernels.specs.Kernels.{IsSmall, capped_sums}
 use Rattle.lut_stuff.specs.Faults.{list_faults}
@@ -31,7 +31,7 @@ use Rattle.micro_block.specs.declared.context.BlockReason.TheVariants as reasons
 use Rattle.micro_block.specs.Block.{IsBlock, IsOffset, offset_type, offset_types}
 use Rattle.micro_block.specs.Block as forms
 use Rattle.micro_block.specs.Faults.{block_faults, code_faults, form_faults, offset_faults, tag_faults, told_of_list}
-use Rattle.raster_values.specs.Step.{IsTwiceError}
+use Rattle.raster_cells.specs.Step.{IsTwiceError}
 use Rattle.micro_block.specs.Frame.{Frame}
 use Rattle.micro_block.specs.Near.{stands_for}
 use Rattle.micro_block.specs.ReadSteps.{stepped_values}

@@ -8,10 +8,10 @@ use Rattle.first_fault.specs.Faults.{Faults, none, wrong, choice, unless, moved}
 use Rattle.first_fault.specs.Parts.{IsSingle, IsPart, IsDecided, AreBytes, HasFault}
 use Rattle.first_fault.proofs.Parts.{single-none, single-wrong, single-unless, single-choice, single-moved, passed, failed, same_rest}
 use Rattle.first_fault.proofs.Decided.{decided_unless}
-use Rattle.raster_values.specs.declared.kind.PixelType.{PixelType}
-use Rattle.raster_values.specs.PixelType.{bytes_of, value_of}
-use Rattle.raster_values.specs.Values.{AreValues}
-use Rattle.raster_values.proofs.Spelled.{values_once, values_there}
+use Rattle.raster_cells.specs.declared.kind.PixelType.{PixelType}
+use Rattle.raster_cells.specs.PixelType.{bytes_of, value_of}
+use Rattle.raster_cells.specs.Values.{AreValues}
+use Rattle.raster_cells.proofs.Spelled.{values_once, values_there}
 use Rattle.bit_stuff.specs.declared.heads.ListReason.{ListReason}
 use Rattle.bit_stuff.proofs.HeadParts.{same_front}
 use Rattle.bit_stuff.proofs.Numbers.{bytes_drop, bytes_take}

@@ -3,9 +3,9 @@ use Rattle.std.proofs.Common.{◌≡◌, ℕ, zero, suc, ◌+◌, ◌*◌, ◌<�
 use Rattle.std.specs.Prelude.{Option, Some, None, not, ◌&&◌, nat_eq, nat_lt, nat_le, unsigned_abs, unwrap_or, MatchOption, if◌then◌else◌}
 use Rattle.std.specs.Option.{option_map}
 use Rattle.std.proofs.lemmas.List.{length-map}
-use Rattle.raster_values.specs.declared.kind.PixelType.{PixelType}
-use Rattle.raster_values.specs.PixelType.{bytes_of}
-use Rattle.raster_values.proofs.Pack.{length-value_bytes, length-values_bytes}
+use Rattle.raster_cells.specs.declared.kind.PixelType.{PixelType}
+use Rattle.raster_cells.specs.PixelType.{bytes_of}
+use Rattle.raster_cells.proofs.Pack.{length-value_bytes, length-values_bytes}
 use Rattle.bit_stuff.specs.Stuffed.{stuffed_size}
 use Rattle.bit_stuff.specs.Head.{head_size}
 use Rattle.bit_stuff.specs.Simple.{greatest_number, simple_bytes, binary_digits, width_of}

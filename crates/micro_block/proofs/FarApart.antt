@@ -8,10 +8,10 @@ use Rattle.bit_stuff.specs.Head.{head_size}
 use Rattle.bit_stuff.specs.Simple.{binary_digits, greatest_number}
 use Rattle.bit_stuff.specs.Stuffed.{stuffed_size}
 use Rattle.bit_stuff.proofs.Digits.{digits-le}
-use Rattle.raster_values.specs.declared.kind.PixelType.{PixelType}
-use Rattle.raster_values.specs.declared.kind.PixelType.TheVariants.{I8, U8, I16, U16, I32, U32}
-use Rattle.raster_values.specs.PixelType.{type_least}
-use Rattle.raster_values.specs.Distance.{IsDistance, value_above}
+use Rattle.raster_cells.specs.declared.kind.PixelType.{PixelType}
+use Rattle.raster_cells.specs.declared.kind.PixelType.TheVariants.{I8, U8, I16, U16, I32, U32}
+use Rattle.raster_cells.specs.PixelType.{type_least}
+use Rattle.raster_cells.specs.Distance.{IsDistance, value_above}
 use Rattle.lut_stuff.specs.Ranked.{above_value}
 use Rattle.lut_stuff.specs.Tables.{distinct_above_0}
 use Rattle.lut_stuff.proofs.NameSets.{all_has}

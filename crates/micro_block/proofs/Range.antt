@@ -11,9 +11,9 @@ use Rattle.micro_block.specs.Near.{quantised}
 use Rattle.micro_block.proofs.Written.{least_below}
 use mir.Syntax.{w64}
 use mir.Val.{to_z, of_z}
-use Rattle.raster_values.specs.PixelType.{InRange}
-use Rattle.raster_values.specs.declared.kind.PixelType.{PixelType}
-use Rattle.raster_values.specs.declared.kind.PixelType.TheVariants.{I8, U8, I16, U16, I32, U32}
+use Rattle.raster_cells.specs.PixelType.{InRange}
+use Rattle.raster_cells.specs.declared.kind.PixelType.{PixelType}
+use Rattle.raster_cells.specs.declared.kind.PixelType.TheVariants.{I8, U8, I16, U16, I32, U32}
 use Rattle.micro_block.proofs.Fast.{greatest_quantised}
 
 same_default : (xs : List ℤ) (k : ℕ) (d e : ℤ) → k < length xs → get_or xs k d ≡ get_or xs k e

@@ -4,14 +4,14 @@ use Rattle.std.specs.Prelude.{All, set}
 use Rattle.std.proofs.lemmas.List.{drop-drop, drop_at, take_at, take_rest}
 use mir.Syntax.{w64}
 use mir.Val.{of_z, to_z}
-use Rattle.raster_values.specs.Distance.{value_above}
+use Rattle.raster_cells.specs.Distance.{value_above}
 use Rattle.micro_block.specs.declared.spreading.Spread.{Spread}
 use Rattle.micro_block.specs.inside.Stepping.{IsSpread, steps_above, values_above}
 use Rattle.micro_block.proofs.Above.{above_in_range}
 use Rattle.micro_block.proofs.Range.{reread}
-use Rattle.raster_values.specs.declared.kind.PixelType.{PixelType}
-use Rattle.raster_values.specs.PixelType.{InRange, bytes_of}
-use Rattle.raster_values.proofs.Pack.{length-value_bytes}
+use Rattle.raster_cells.specs.declared.kind.PixelType.{PixelType}
+use Rattle.raster_cells.specs.PixelType.{InRange, bytes_of}
+use Rattle.raster_cells.proofs.Pack.{length-value_bytes}
 use Rattle.bit_stuff.specs.Simple.{simple_bytes}
 use Rattle.bit_stuff.proofs.Buffers.{end_written}
 use Rattle.lut_stuff.specs.Tables.{table_bytes}
@@ -21,7 +21,7 @@ use Rattle.micro_block.specs.ChosenBlock as chosen_block
 use Rattle.micro_block.specs.ChosenBlock.{least_value, narrow_code, narrow_type, offset_bytes, tag_byte, written_form_bytes, block_bytes, kept}
 use Rattle.micro_block.specs.Near.{quantised}
 use Rattle.micro_block.specs.Block.{IsBlock}
-use Rattle.micro_block.specs.Frame.{AreWritable, IsBlockCtx, frame_of}
+use Rattle.micro_block.specs.Frame.{AreWritable, frame_of}
 use Rattle.micro_block.specs.declared.context.BlockCtx.{BlockCtx}
 use Rattle.micro_block.proofs.BlockSteps.{step_small}
 use Rattle.micro_block.proofs.Written.{written_stands}
@@ -67,9 +67,9 @@ unfolding written_form_bytes
 table_is kind col step values m e = ap (λ (u : ℤ). tag_byte col 1 (narrow_code kind u) ∷ (offset_bytes kind u ++ table_bytes (map (quantised step u) values))) e
 
 -- what is asked of the values, by the context
-pub writable : (ctx : BlockCtx) (values : List ℤ) → IsBlockCtx ctx → length values ≤ 256 → All (InRange ctx.kind) values → All (λ v. v ≤ℤ ctx.top) values → AreWritable (frame_of ctx (length values)) values
-writable ctx values is few fits below =
-    record { counted = refl; few = few; step = (let s = step_small ctx.step is.step in omega (arith, s)); in_range = fits; below = λ i within. below i (pos 0) within }
+pub writable : (ctx : BlockCtx) (values : List ℤ) → length values ≤ 256 → All (InRange ctx.kind) values → All (λ v. v ≤ℤ ctx.top) values → AreWritable (frame_of ctx (length values)) values
+writable ctx values few fits below =
+    record { counted = refl; few = few; step = (let s = step_small ctx.step ctx.twice_error in omega (arith, s)); in_range = fits; below = λ i within. below i (pos 0) within }
 
 -- the written block stands, whatever is behind it
 pub written_block : (ctx : BlockCtx) (values : List ℤ) (rest out : List ℕ) (n : ℕ) → AreWritable (frame_of ctx (length values)) values → length (block_bytes ctx.kind ctx.col ctx.step values) ≡ n → out ≡ block_bytes ctx.kind ctx.col ctx.step values ++ rest

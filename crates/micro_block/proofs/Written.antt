@@ -7,20 +7,20 @@ use Rattle.std.proofs.lemmas.List.{length-map, get_or-map, append-nil}
 use Rattle.std.proofs.lemmas.List.Elements.{All-head, All-tail}
 use Rattle.std.proofs.lemmas.Simd.{map-map}
 use Rattle.std.proofs.lemmas.Bool.{eqb-true, leb-true, ltb-true}
-use Rattle.raster_values.specs.declared.kind.PixelType.{PixelType}
-use Rattle.raster_values.specs.declared.kind.PixelType.TheVariants.{I8, U8, I16, U16, I32, U32}
+use Rattle.raster_cells.specs.declared.kind.PixelType.{PixelType}
+use Rattle.raster_cells.specs.declared.kind.PixelType.TheVariants.{I8, U8, I16, U16, I32, U32}
 use Rattle.byteorder.specs.Endian.{little_number}
-use Rattle.raster_values.specs.PixelType.{bytes_of, value_of, InRange, value_bytes}
-use Rattle.raster_values.specs.Grid.{values_bytes}
-use Rattle.raster_values.proofs.CellBytes.{value_there}
-use Rattle.raster_values.proofs.Pack.{length-value_bytes, length-values_bytes}
-use Rattle.raster_values.proofs.OneGrid.{spelled_back}
+use Rattle.raster_cells.specs.PixelType.{bytes_of, value_of, InRange, value_bytes}
+use Rattle.raster_cells.specs.Values.{values_bytes}
+use Rattle.raster_cells.proofs.CellRuns.{value_there}
+use Rattle.raster_cells.proofs.Pack.{length-value_bytes, length-values_bytes}
+use Rattle.raster_cells.proofs.SpelledBack.{spelled_back}
 use Rattle.bit_stuff.specs.Simple as numbers
 use Rattle.bit_stuff.proofs.HeadLaws.{simple_bytes-list}
 use Rattle.bit_stuff.proofs.Digits.{greatest_above}
 use Rattle.micro_block.specs.Fewest.{allowed}
 use Rattle.micro_block.specs.Frame.{Frame, AreWritable}
-use Rattle.raster_values.specs.Values.{AreValues}
+use Rattle.raster_cells.specs.Values.{AreValues}
 use Rattle.lut_stuff.specs.Lists as lists
 use Rattle.lut_stuff.specs.Tables.{distinct_above_0, table_bytes}
 use Rattle.lut_stuff.proofs.Tabled.{distinct_some, table_list}

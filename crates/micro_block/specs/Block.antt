@@ -1,10 +1,10 @@
 -- Which bytes are a block of given values.
 use Rattle.std.specs.Prelude.{◌≡◌, ℕ, ℤ, pos, ◌/◌, ◌%◌, List, [], ◌∷◌, ◌++◌, length, get_or, map}
 use Rattle.std.specs.Prelude.{replicate, Option, Some, None}
-use Rattle.raster_values.specs.declared.kind.PixelType.{PixelType}
-use Rattle.raster_values.specs.declared.kind.PixelType.TheVariants.{I8, U8, I16, U16, I32, U32}
-use Rattle.raster_values.specs.PixelType.{Spells, bytes_of}
-use Rattle.raster_values.specs.Values.{AreValues}
+use Rattle.raster_cells.specs.declared.kind.PixelType.{PixelType}
+use Rattle.raster_cells.specs.declared.kind.PixelType.TheVariants.{I8, U8, I16, U16, I32, U32}
+use Rattle.raster_cells.specs.PixelType.{Spells, bytes_of}
+use Rattle.raster_cells.specs.Values.{AreValues}
 use Rattle.lut_stuff.specs.Lists.{IsList}
 use Rattle.micro_block.specs.Frame.{Frame}
 use Rattle.micro_block.specs.Near.{stands_for}

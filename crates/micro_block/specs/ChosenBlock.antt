@@ -3,10 +3,10 @@ use Rattle.std.specs.Prelude.{ℕ, ℤ, pos, ◌+◌, ◌*◌, ◌/◌, ◌%◌,
 use Rattle.std.specs.Prelude.{nat_lt, int_le, if◌then◌else◌, List, [], ◌∷◌, ◌++◌, length, map}
 use Rattle.std.specs.Prelude.{◌≡◌, true, Option, Some, unwrap_or, unsigned_abs, fold}
 use Rattle.std.specs.Int.{int_min}
-use Rattle.raster_values.specs.declared.kind.PixelType.{PixelType}
-use Rattle.raster_values.specs.declared.kind.PixelType.TheVariants.{I8, U8, I16, U16, I32, U32}
-use Rattle.raster_values.specs.PixelType.{type_least, type_greatest, value_bytes}
-use Rattle.raster_values.specs.Grid.{values_bytes}
+use Rattle.raster_cells.specs.declared.kind.PixelType.{PixelType}
+use Rattle.raster_cells.specs.declared.kind.PixelType.TheVariants.{I8, U8, I16, U16, I32, U32}
+use Rattle.raster_cells.specs.PixelType.{type_least, type_greatest, value_bytes}
+use Rattle.raster_cells.specs.Values.{values_bytes}
 use Rattle.bit_stuff.specs.Simple as numbers
 use Rattle.micro_block.specs.Fewest.{allowed, first_least}
 use Rattle.micro_block.specs.Near.{quantised, stands_for}

@@ -3,8 +3,8 @@
 use Rattle.std.specs.Prelude.{◌≡◌, ℕ, ◌*◌, ◌/◌, ◌%◌, ◌<◌, ◌≤◌, List, length, slice_index, drop}
 use Rattle.std.specs.Prelude.{Option, Some, None}
 use Rattle.first_fault.specs.Faults.{Faults, none, wrong, choice, unless, moved}
-use Rattle.raster_values.specs.declared.kind.PixelType.{PixelType}
-use Rattle.raster_values.specs.PixelType.{bytes_of}
+use Rattle.raster_cells.specs.declared.kind.PixelType.{PixelType}
+use Rattle.raster_cells.specs.PixelType.{bytes_of}
 use Rattle.bit_stuff.specs.declared.heads.ListReason.{ListReason}
 use Rattle.lut_stuff.specs.Faults.{list_faults}
 use Rattle.micro_block.specs.declared.context.BlockReason.{BlockReason}

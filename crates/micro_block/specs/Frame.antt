@@ -1,9 +1,8 @@
 -- What a block depends on, and what is asked of it.
 use Rattle.std.specs.Prelude.{◌≡◌, ℕ, ℤ, ◌<◌, ◌≤◌, pos, ◌≤ℤ◌}
 use Rattle.std.specs.Prelude.{List, All, length, get_or}
-use Rattle.raster_values.specs.declared.kind.PixelType.{PixelType}
-use Rattle.raster_values.specs.PixelType.{InRange}
-use Rattle.raster_values.specs.Step.{IsTwiceError}
+use Rattle.raster_cells.specs.declared.kind.PixelType.{PixelType}
+use Rattle.raster_cells.specs.PixelType.{InRange}
 use Rattle.micro_block.specs.declared.context.BlockCtx.{BlockCtx}
 
 -- the type, the first column, the step, the top, and how many values there are
@@ -13,11 +12,6 @@ pub record Frame : Type 0 where
   pub step : ℕ
   pub top : ℤ
   pub count : ℕ
-
--- what always holds of the numbers that a block is read and written with
-pub record IsBlockCtx (ctx : BlockCtx) : Type 0 where
-  pub top : InRange ctx.kind ctx.top
-  pub step : IsTwiceError ctx.step
 
 -- the frame of a block of n values
 abbrev pub frame_of : BlockCtx → ℕ → Frame

@@ -7,9 +7,9 @@ pub mod Faults
 pub mod ReadSteps
 pub mod Named
 pub mod inside
-pub use Rattle.raster_values.specs.PixelType
-pub use Rattle.raster_values.specs.Step
-pub use Rattle.raster_values.specs.Values
+pub use Rattle.raster_cells.specs.PixelType
+pub use Rattle.raster_cells.specs.Step
+pub use Rattle.raster_cells.specs.Values
 pub use Rattle.lut_stuff.specs.Lists
 pub use Rattle.lut_stuff.specs.Names
 pub use Rattle.lut_stuff.specs.Ranked

@@ -1,12 +1,11 @@
-// The form that is chosen for a block.
+//! The form that is chosen for a block.
 
 ghost use Rattle.std.specs.Prelude.{◌≡◌, ◌+◌, ◌*◌, ℕ, ℤ, ◌≤◌, ◌≤ℤ◌, ◌↔◌, ◌≢◌, length, map, All};
 ghost use Rattle.std.specs.Prelude.{IsTrue, IfSome};
-ghost use Rattle.raster_values.specs.Distance.{IsDistance, value_above};
-ghost use Rattle.raster_values.specs.PixelType.{InRange, bytes_of};
+ghost use Rattle.raster_cells.specs.Distance.{IsDistance, value_above};
+ghost use Rattle.raster_cells.specs.PixelType.{InRange, bytes_of};
 ghost use Rattle.micro_block.specs.ChosenBlock as chosen_block;
-ghost use Rattle.micro_block.specs.Frame.{IsBlockCtx};
-ghost use Rattle.raster_values.specs.Step.{IsTwiceError};
+ghost use Rattle.raster_cells.specs.Step.{IsTwiceError};
 ghost use Rattle.micro_block.specs.inside.Sizes.{IsFirst, IsTabledLength};
 ghost use Rattle.micro_block.specs.inside.Forms as inside;
 ghost use Rattle.micro_block.specs.inside.Forms.{IsChosen, named};
@@ -17,7 +16,7 @@ use crate::distances::{distances_of, value_of};
 use crate::first::first_least;
 use crate::sizes::{form_sizes, tabled_len};
 use crate::spreading::{Spread, spread_of};
-use raster_values::PixelType;
+use raster_cells::PixelType;
 
 /// The forms of a block, in the order in which they are tried.
 #[derive(Clone, Copy)]
@@ -126,14 +125,14 @@ pub struct BlockSize {
 /// and whether it has a table, which `write_distances` wants to know.
 pub fn block_size(distances: &[u32], ctx: &BlockCtx) -> BlockSize
     requires few { length distances.now ≤ 256 }
-    requires ctx { IsBlockCtx ctx.now }
     requires in_range { All (IsDistance ctx.now.kind) distances.now }
     requires capped { All (λ v. v ≤ℤ ctx.now.top) (map (value_above ctx.now.kind) distances.now) }
     ensures length { let values = map (value_above ctx.now.kind) distances.now in
         result.len ≡ length (chosen_block.block_bytes ctx.now.kind ctx.now.col ctx.now.step values) }
     ensures table { let values = map (value_above ctx.now.kind) distances.now in
         IsTrue result.has_table
-        ↔ (chosen_block.chosen_form ctx.now.kind ctx.now.col ctx.now.step values ≡ chosen_block.table) }
+        ↔ (chosen_block.chosen_form ctx.now.kind ctx.now.col ctx.now.step values
+        ≡ chosen_block.table) }
     ensures short { result.len ≤ 1 + length distances.now * bytes_of ctx.now.kind }
 {
     let chosen = choose(distances, ctx.kind, ctx.step);
@@ -148,7 +147,6 @@ pub fn block_size(distances: &[u32], ctx: &BlockCtx) -> BlockSize
 /// where two take as many.
 pub fn block_len(values: &[i64], ctx: &BlockCtx) -> usize
     requires few { length values.now ≤ 256 }
-    requires ctx { IsBlockCtx ctx.now }
     requires in_range { All (InRange ctx.now.kind) values.now }
     requires capped { All (λ v. v ≤ℤ ctx.now.top) values.now }
     ensures length { result

@@ -1,7 +1,10 @@
-// What a block depends on, what is read of it, and what is wrong with one.
+//! What a block depends on, what is read of it, and what is wrong with one.
+
+ghost use Rattle.raster_cells.specs.PixelType.{InRange};
+ghost use Rattle.raster_cells.specs.Step.{IsTwiceError};
 
 use bit_stuff::ListReason;
-use raster_values::PixelType;
+use raster_cells::PixelType;
 
 /// What a block depends on besides its values. Always: `top` is one of the type's values, and
 /// `step` is 1, or even and from 2 to 2^33 - 2.
@@ -15,6 +18,8 @@ pub struct BlockCtx {
     pub step: u64,
     /// The greatest value that a block of this depth may have.
     pub top: i64,
+    ghost top_of_type: { InRange kind top },
+    ghost twice_error: { IsTwiceError step },
 }
 
 /// What is read of a block beside its numbers of steps: each value is so many steps from the offset,

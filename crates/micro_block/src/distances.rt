@@ -1,13 +1,13 @@
-// Distances from the least value of a type.
+//! Distances from the least value of a type.
 
 ghost use Rattle.std.specs.Prelude.{◌≡◌, ◌≤◌, length, map, unsigned_abs, All};
-ghost use Rattle.raster_values.specs.Distance.{distance_of, value_above};
-ghost use Rattle.raster_values.specs.PixelType.{InRange};
+ghost use Rattle.raster_cells.specs.Distance.{distance_of, value_above};
+ghost use Rattle.raster_cells.specs.PixelType.{InRange};
 ghost use Rattle.micro_block.specs.inside.Products.{AreUpTo};
 ghost use Rattle.micro_block.specs.inside.Stepping.{AreEndsOf};
 
 use lane_kernels::minus;
-use raster_values::PixelType;
+use raster_cells::PixelType;
 
 /// The value that is so far above the least of its type.
 #[inline(always)]

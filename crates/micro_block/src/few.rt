@@ -1,19 +1,19 @@
-// Blocks at step 1 of values of which few are different and that are far apart: these are counted by
-// names, and listed by ranks.
+//! Blocks at step 1 of values of which few are different and that are far apart: these are counted by
+//! names, and listed by ranks.
 
-ghost use Rattle.std.specs.Prelude.{◌≡◌, ℕ, ◌+◌, ◌*◌, ◌≤◌, ◌≤ℤ◌, ◌↔◌, ◌++◌, All, IfSome, IsTrue, Some, drop, length, map, suc};
+ghost use Rattle.std.specs.Prelude.{◌≡◌, ◌+◌, ◌*◌, ◌≤◌, ◌≤ℤ◌, ◌↔◌, ◌++◌, All, IfSome, IsTrue, Some};
+ghost use Rattle.std.specs.Prelude.{drop, length, map, suc};
 ghost use Rattle.bit_stuff.specs.Simple.{greatest_number};
-ghost use Rattle.lut_stuff.specs.Names.{AreNames, KeepsNames};
-ghost use Rattle.lut_stuff.specs.Ranked.{AreRanked};
+ghost use Rattle.lut_stuff.specs.Names.{KeepsNames};
 ghost use Rattle.lut_stuff.specs.Tables.{distinct_above_0, table_bytes, table_size};
-ghost use Rattle.raster_values.specs.Distance.{IsDistance, value_above};
-ghost use Rattle.raster_values.specs.PixelType.{bytes_of};
+ghost use Rattle.raster_cells.specs.Distance.{IsDistance, value_above};
+ghost use Rattle.raster_cells.specs.PixelType.{bytes_of};
 ghost use Rattle.micro_block.specs.ChosenBlock as chosen_block;
 ghost use Rattle.micro_block.specs.ChosenBlock.{block_bytes, written_form_bytes};
-ghost use Rattle.micro_block.specs.Frame.{IsBlockCtx};
 ghost use Rattle.micro_block.specs.Named.{AreNamed};
 ghost use Rattle.micro_block.specs.inside.Sizes.{IsTabledLength};
-ghost use Rattle.micro_block.specs.inside.Stepping.{AreListable, IsSpread, steps_above, values_above};
+ghost use Rattle.micro_block.specs.inside.Stepping.{AreListable, IsSpread, steps_above};
+ghost use Rattle.micro_block.specs.inside.Stepping.{values_above};
 
 use crate::choosing::{BlockSize, fewest};
 use crate::context::BlockCtx;
@@ -23,7 +23,7 @@ use crate::spreading::{Spread, spread_of};
 use crate::writing::{write_distances, write_offset, write_table_list};
 use bit_stuff::digit_count;
 use lut_stuff::{NameSet, Names, Ranks, known_len};
-use raster_values::PixelType;
+use raster_cells::PixelType;
 
 /// Values that are no further apart are counted by a mark for each number.
 const NEAR: u32 = 1024;
@@ -39,10 +39,8 @@ fn different_of(names: &[u8]) -> usize
 
 /// Finds the names of values, unless they are known, and tells whether there are enough.
 fn find_names(distances: &[u32], names: &mut Names, found: &mut [u8], known: bool) -> bool
-    requires names { AreNames names.old }
     requires room { length found.old ≡ length distances.now }
     requires known { IsTrue known → AreNamed names.old distances.now found.old }
-    ensures names { AreNames names.new }
     ensures kept { KeepsNames names.old names.new }
     ensures known { IsTrue result → AreNamed names.new distances.now found.new }
 {
@@ -56,10 +54,8 @@ fn count_named(
     found: &mut [u8],
     known: &mut bool,
 ) -> Option<usize>
-    requires names { AreNames names.old }
     requires room { length found.old ≡ length distances.now }
     requires known { IsTrue known.old → AreNamed names.old distances.now found.old }
-    ensures names { AreNames names.new }
     ensures kept { KeepsNames names.old names.new }
     ensures known { IsTrue known.new → AreNamed names.new distances.now found.new }
     ensures count { IfSome result (λ n. n ≡ distinct_above_0 (map suc distances.now)) }
@@ -86,10 +82,8 @@ fn named_len(
     requires count { length distances.now ≤ 256 }
     requires spread { IsSpread kind step distances.now spread }
     requires in_range { All (IsDistance kind) distances.now }
-    requires names { AreNames names.old }
     requires room { length found.old ≡ length distances.now }
     requires known { IsTrue known.old → AreNamed names.old distances.now found.old }
-    ensures names { AreNames names.new }
     ensures kept { KeepsNames names.old names.new }
     ensures known { IsTrue known.new → AreNamed names.new distances.now found.new }
     ensures value { IsTabledLength step (values_above kind distances.now) result }
@@ -113,20 +107,18 @@ pub fn size_and_names(
     known: &mut bool,
 ) -> BlockSize
     requires few { length distances.now ≤ 256 }
-    requires ctx { IsBlockCtx ctx.now }
     requires in_range { All (IsDistance ctx.now.kind) distances.now }
     requires capped { All (λ v. v ≤ℤ ctx.now.top) (map (value_above ctx.now.kind) distances.now) }
-    requires names { AreNames names.old }
     requires room { length found.old ≡ length distances.now }
     requires known { IsTrue known.old → AreNamed names.old distances.now found.old }
-    ensures names { AreNames names.new }
     ensures kept { KeepsNames names.old names.new }
     ensures known { IsTrue known.new → AreNamed names.new distances.now found.new }
     ensures length { let values = map (value_above ctx.now.kind) distances.now in
         result.len ≡ length (chosen_block.block_bytes ctx.now.kind ctx.now.col ctx.now.step values) }
     ensures table { let values = map (value_above ctx.now.kind) distances.now in
         IsTrue result.has_table
-        ↔ (chosen_block.chosen_form ctx.now.kind ctx.now.col ctx.now.step values ≡ chosen_block.table) }
+        ↔ (chosen_block.chosen_form ctx.now.kind ctx.now.col ctx.now.step values
+        ≡ chosen_block.table) }
     ensures short { result.len ≤ 1 + length distances.now * bytes_of ctx.now.kind }
 {
     let spread = spread_of(distances, ctx.kind, ctx.step);
@@ -142,16 +134,14 @@ pub fn size_and_names(
 /// and in the blocks before, are counted by their names.
 pub fn named_size(distances: &[u32], ctx: &BlockCtx, names: &mut Names) -> BlockSize
     requires few { length distances.now ≤ 256 }
-    requires ctx { IsBlockCtx ctx.now }
     requires in_range { All (IsDistance ctx.now.kind) distances.now }
     requires capped { All (λ v. v ≤ℤ ctx.now.top) (map (value_above ctx.now.kind) distances.now) }
-    requires names { AreNames names.old }
-    ensures names { AreNames names.new }
     ensures length { let values = map (value_above ctx.now.kind) distances.now in
         result.len ≡ length (chosen_block.block_bytes ctx.now.kind ctx.now.col ctx.now.step values) }
     ensures table { let values = map (value_above ctx.now.kind) distances.now in
         IsTrue result.has_table
-        ↔ (chosen_block.chosen_form ctx.now.kind ctx.now.col ctx.now.step values ≡ chosen_block.table) }
+        ↔ (chosen_block.chosen_form ctx.now.kind ctx.now.col ctx.now.step values
+        ≡ chosen_block.table) }
     ensures short { result.len ≤ 1 + length distances.now * bytes_of ctx.now.kind }
 {
     let mut found = [0; 256];
@@ -174,7 +164,6 @@ fn write_ranked_list(
     ranks: &mut Ranks,
     out: &mut [u8],
 ) -> usize
-    requires ranks { AreRanked ranks.old }
     requires exact { step ≡ 1 }
     requires listable { AreListable step spread.least spread.rule distances.now }
     requires most { spread.most
@@ -183,7 +172,6 @@ fn write_ranked_list(
         table_size qs ≡ Some (length (table_bytes qs)) }
     requires room { length (table_bytes (map (steps_above step spread.least) distances.now))
         ≤ length out.old }
-    ensures ranks { AreRanked ranks.new }
     ensures count { result
         ≡ length (table_bytes (map (steps_above step spread.least) distances.now)) }
     ensures bytes { out.new ≡ table_bytes (map (steps_above step spread.least) distances.now)
@@ -204,7 +192,6 @@ fn write_ranked_form(
     ranks: &mut Ranks,
     out: &mut [u8],
 ) -> usize
-    requires ranks { AreRanked ranks.old }
     requires exact { ctx.now.step ≡ 1 }
     requires spread { IsSpread ctx.now.kind ctx.now.step distances.now spread }
     requires listable { AreListable ctx.now.step spread.least spread.rule distances.now }
@@ -213,9 +200,9 @@ fn write_ranked_form(
     requires room { let values = values_above ctx.now.kind distances.now in
         length (written_form_bytes ctx.now.kind ctx.now.col ctx.now.step values chosen_block.table)
         ≤ length out.old }
-    ensures ranks { AreRanked ranks.new }
     ensures count { let values = values_above ctx.now.kind distances.now in result
-        ≡ length (written_form_bytes ctx.now.kind ctx.now.col ctx.now.step values chosen_block.table) }
+        ≡ length (written_form_bytes ctx.now.kind ctx.now.col ctx.now.step values
+        chosen_block.table) }
     ensures bytes { let values = values_above ctx.now.kind distances.now in
         out.new ≡ written_form_bytes ctx.now.kind ctx.now.col ctx.now.step values chosen_block.table
         ++ drop result out.old }
@@ -234,16 +221,14 @@ pub fn write_ranked(
     out: &mut [u8],
 ) -> usize
     requires few { length distances.now ≤ 256 }
-    requires ctx { IsBlockCtx ctx.now }
     requires in_range { All (IsDistance ctx.now.kind) distances.now }
     requires capped { All (λ v. v ≤ℤ ctx.now.top) (map (value_above ctx.now.kind) distances.now) }
-    requires ranks { AreRanked ranks.old }
     requires table { let values = map (value_above ctx.now.kind) distances.now in
         IsTrue has_table
-        ↔ (chosen_block.chosen_form ctx.now.kind ctx.now.col ctx.now.step values ≡ chosen_block.table) }
+        ↔ (chosen_block.chosen_form ctx.now.kind ctx.now.col ctx.now.step values
+        ≡ chosen_block.table) }
     requires room { let values = map (value_above ctx.now.kind) distances.now in
         length (block_bytes ctx.now.kind ctx.now.col ctx.now.step values) ≤ length out.old }
-    ensures ranks { AreRanked ranks.new }
     ensures count { let values = map (value_above ctx.now.kind) distances.now in
         result ≡ length (block_bytes ctx.now.kind ctx.now.col ctx.now.step values) }
     ensures bytes { let values = map (value_above ctx.now.kind) distances.now in

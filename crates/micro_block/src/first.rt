@@ -1,4 +1,4 @@
-// The first of the fewest.
+//! The first of the fewest.
 
 ghost use Rattle.std.specs.Prelude.{◌≡◌, ℕ, ◌<◌, ◌≤◌, get_or, MatchOption, Some, None};
 ghost use Rattle.micro_block.specs.Fewest.{IsFirstLeast};

@@ -1,5 +1,5 @@
-// Laws of the definitions, for the crates above. Each function does nothing: its contract is the
-// law.
+//! Laws of the definitions, for the crates above. Each function does nothing: its contract is the
+//! law.
 
 ghost use Rattle.std.specs.Prelude.{◌≡◌, ℕ, ℤ, pos, ◌<◌, ◌≤ℤ◌, List, All, Some, Option, length};
 ghost use Rattle.std.specs.Prelude.{get_or, map};
@@ -10,7 +10,7 @@ ghost use Rattle.micro_block.specs.ChosenBlock.{WrittenForm, block_bytes, kept, 
 ghost use Rattle.micro_block.specs.Fewest.{IsFirstLeast, first_least};
 ghost use Rattle.micro_block.specs.Frame.{AreWritable, Frame};
 ghost use Rattle.micro_block.specs.Near.{IsNear};
-ghost use Rattle.raster_values.specs.PixelType.{InRange};
+ghost use Rattle.raster_cells.specs.PixelType.{InRange};
 
 /// A block is read in one way, whatever follows it, and bytes begin with one or have one first
 /// fault.
@@ -46,6 +46,7 @@ pub fn written_blocks_stand()
 /// What is taken of candidates is the one that is there, not larger than any, and smaller than each
 /// before it.
 pub fn first_least_is_first()
-    ensures { (size : WrittenForm → ℕ) (candidates : List (Option WrittenForm)) (k : ℕ) (x : WrittenForm) →
+    ensures { (size : WrittenForm
+        → ℕ) (candidates : List (Option WrittenForm)) (k : ℕ) (x : WrittenForm) →
         IsFirstLeast size candidates k x → first_least size candidates ≡ Some x }
 {}

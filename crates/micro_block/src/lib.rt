@@ -1,7 +1,7 @@
 //! Micro blocks: the values of one depth of a few rows and columns, raw, as numbers of steps from
 //! an offset, or all alike.
 //!
-//! The crate stands on `raster_values`, `bit_stuff`, `lut_stuff`, `lane_kernels`, `first_fault` and
+//! The crate stands on `raster_cells`, `bit_stuff`, `lut_stuff`, `lane_kernels`, `first_fault` and
 //! byteorder, and takes no memory. The layer above uses one contract: bytes are a block of these
 //! values, both ways.
 #![tactic(auto)]

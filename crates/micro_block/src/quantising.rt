@@ -1,9 +1,9 @@
-// Quantised values.
+//! Quantised values.
 
 ghost use Rattle.std.specs.Prelude.{◌≡◌, ℤ, pos, ◌+◌, ◌*◌, ◌/◌, ◌≤ℤ◌, ◌≤◌, ◌<◌, length, map, All};
 ghost use Rattle.std.specs.Prelude.{unsigned_abs};
 ghost use Rattle.lane_kernels.specs.Kernels.{IsSmall};
-ghost use Rattle.raster_values.specs.Step.{IsTwiceError};
+ghost use Rattle.raster_cells.specs.Step.{IsTwiceError};
 ghost use Rattle.micro_block.specs.Near.{quantised};
 ghost use Rattle.micro_block.specs.inside.Products.{rounded_steps, AreUpTo};
 

@@ -1,25 +1,27 @@
-// Reading blocks.
+//! Reading blocks.
 
 ghost use Rattle.std.specs.Prelude.{◌≡◌, ◌+◌, ◌*◌, ◌/◌, ◌%◌, ◌^◌, ◌<◌, ◌≤◌, ◌↔◌, ◌++◌, ℕ, ℤ, pos};
-ghost use Rattle.std.specs.Prelude.{if◌then◌else◌, List, All, IfErr, IfOk, IsOkAnd, MatchResult, length};
+ghost use Rattle.std.specs.Prelude.{if◌then◌else◌, List, All, IfErr, IfOk, IsOkAnd, MatchResult};
+ghost use Rattle.std.specs.Prelude.{length};
 ghost use Rattle.std.specs.Prelude.{map, replicate, take};
 ghost use Rattle.lane_kernels.specs.Kernels.{IsStepSize, capped_sums};
 ghost use Rattle.lut_stuff.specs.Faults.{list_faults};
-ghost use Rattle.raster_values.specs.PixelType.{InRange, bytes_of, type_greatest, type_least};
-ghost use Rattle.raster_values.specs.Values.{AreValues};
+ghost use Rattle.raster_cells.specs.PixelType.{InRange, bytes_of, type_greatest, type_least};
+ghost use Rattle.raster_cells.specs.Values.{AreValues};
 ghost use Rattle.micro_block.specs.declared.context.BlockFault.{BlockFault};
 ghost use Rattle.micro_block.specs.Block.{IsBlock};
 ghost use Rattle.micro_block.specs.Block as block;
 ghost use Rattle.micro_block.specs.Faults.{block_faults, form_faults};
 ghost use Rattle.micro_block.specs.Faults.{offset_faults, raw_faults, told_of_list};
-ghost use Rattle.micro_block.specs.Frame.{IsBlockCtx, frame_of};
+ghost use Rattle.micro_block.specs.Frame.{frame_of};
 ghost use Rattle.micro_block.specs.ReadSteps.{stepped_values};
-ghost use Rattle.micro_block.specs.inside.Tagged.{FitSteps, HasConstant, HasSteps, HasStuffed, HasTagged, LiesIn};
+ghost use Rattle.micro_block.specs.inside.Tagged.{FitSteps, HasConstant, HasSteps, HasStuffed};
+ghost use Rattle.micro_block.specs.inside.Tagged.{HasTagged, LiesIn};
 
 use crate::context::{BlockCtx, BlockFault, BlockReason, SteppedBlock};
 use lane_kernels::plus_capped_unsigned;
 use lut_stuff::read_list;
-use raster_values::PixelType;
+use raster_cells::PixelType;
 
 /// The answer with this fault.
 fn refused(reason: BlockReason, at: usize) -> Result<SteppedBlock, BlockFault>
@@ -32,7 +34,12 @@ fn refused(reason: BlockReason, at: usize) -> Result<SteppedBlock, BlockFault>
 fn behind(n: usize, part: Result<SteppedBlock, BlockFault>) -> Result<SteppedBlock, BlockFault>
     requires { MatchResult part (λ s. n + s.used < 2 ^ 64) (λ f. n + f.at < 2 ^ 64) }
     ensures { MatchResult part
-        (λ s. result ≡ Ok (record { used = n + s.used; offset = s.offset; step = s.step; top = s.top }))
+        (λ s. result ≡ Ok (record {
+          used = n + s.used;
+          offset = s.offset;
+          step = s.step;
+          top = s.top;
+        }))
         (λ f. result ≡ Err (record { reason = f.reason; at = n + f.at })) }
 {
     match part {
@@ -166,7 +173,6 @@ fn read_numbers(
     numbers: &mut [u32],
 ) -> Result<SteppedBlock, BlockFault>
     requires few { length numbers.old ≤ 1024 }
-    requires ctx { IsBlockCtx ctx.now }
     requires offset { InRange ctx.now.kind offset }
     ensures { MatchResult result
         (λ s. HasSteps (frame_of ctx.now (length numbers.old)) offset bytes.now s.used
@@ -194,7 +200,6 @@ fn read_stuffed(
     numbers: &mut [u32],
 ) -> Result<SteppedBlock, BlockFault>
     requires few { length numbers.old ≤ 1024 }
-    requires ctx { IsBlockCtx ctx.now }
     requires within { LiesIn ctx.now.kind kind }
     ensures { MatchResult result
         (λ s. HasStuffed (frame_of ctx.now (length numbers.old)) kind bytes.now s.used
@@ -221,7 +226,6 @@ fn read_offset(
     numbers: &mut [u32],
 ) -> Result<SteppedBlock, BlockFault>
     requires few { length numbers.old ≤ 1024 }
-    requires ctx { IsBlockCtx ctx.now }
     requires not_raw { ¬ (tag % 4 ≡ 0) }
     requires not_zero { ¬ (tag % 4 ≡ 2) }
     requires kind { block.offset_type ctx.now.kind (tag / 64) ≡ Some kind }
@@ -247,7 +251,6 @@ fn read_tagged(
     numbers: &mut [u32],
 ) -> Result<SteppedBlock, BlockFault>
     requires few { length numbers.old ≤ 1024 }
-    requires ctx { IsBlockCtx ctx.now }
     ensures { MatchResult result
         (λ s. HasTagged (frame_of ctx.now (length numbers.old)) tag bytes.now s.used
         (stepped_values s numbers.new)
@@ -270,7 +273,6 @@ fn read_tagged(
 /// Reads a block, with one clause for both answers.
 fn read_form(bytes: &[u8], ctx: &BlockCtx, numbers: &mut [u32]) -> Result<SteppedBlock, BlockFault>
     requires few { length numbers.old ≤ 1024 }
-    requires ctx { IsBlockCtx ctx.now }
     ensures { MatchResult result
         (λ s. ((s.used ≤ length bytes.now)
         × IsBlock (frame_of ctx.now (length numbers.old)) (take s.used bytes.now)
@@ -308,7 +310,6 @@ pub fn read_steps(
     numbers: &mut [u32],
 ) -> Result<SteppedBlock, BlockFault>
     requires few { length numbers.old ≤ 1024 }
-    requires ctx { IsBlockCtx ctx.now }
     ensures ok { IfOk result (λ s. (s.used ≤ length bytes.now)
         × IsBlock (frame_of ctx.now (length numbers.old)) (take s.used bytes.now)
         (stepped_values s numbers.new)) }
@@ -336,7 +337,6 @@ fn read_through(
 ) -> Result<usize, BlockFault>
     requires few { length out.old ≤ 1024 }
     requires room { length numbers.old ≡ length out.old }
-    requires ctx { IsBlockCtx ctx.now }
     ensures { MatchResult result
         (λ used. (used ≤ length bytes.now)
         × IsBlock (frame_of ctx.now (length out.old)) (take used bytes.now) out.new)
@@ -355,7 +355,6 @@ fn read_through(
 /// Reads a block's values, with one clause for both answers.
 fn read_sums(bytes: &[u8], ctx: &BlockCtx, out: &mut [i64]) -> Result<usize, BlockFault>
     requires few { length out.old ≤ 1024 }
-    requires ctx { IsBlockCtx ctx.now }
     ensures { MatchResult result
         (λ used. (used ≤ length bytes.now)
         × IsBlock (frame_of ctx.now (length out.old)) (take used bytes.now) out.new)
@@ -380,7 +379,6 @@ fn read_sums(bytes: &[u8], ctx: &BlockCtx, out: &mut [i64]) -> Result<usize, Blo
 /// content.
 pub fn read_block(bytes: &[u8], ctx: &BlockCtx, out: &mut [i64]) -> Result<usize, BlockFault>
     requires few { length out.old ≤ 1024 }
-    requires ctx { IsBlockCtx ctx.now }
     ensures ok { IfOk result (λ used. (used ≤ length bytes.now)
         × IsBlock (frame_of ctx.now (length out.old)) (take used bytes.now) out.new) }
     ensures complete { (front rest : List ℕ) (values : List ℤ) → bytes.now ≡ front ++ rest →

@@ -1,4 +1,4 @@
-// Numbers of steps told apart by their remainders modulo 64.
+//! Numbers of steps told apart by their remainders modulo 64.
 
 ghost use Rattle.std.specs.Prelude.{◌≡◌, ℕ, ◌<◌, ◌≤◌, length, map, IfSome, IsNone};
 ghost use Rattle.lut_stuff.specs.Tables.{distinct_above_0};

@@ -1,4 +1,4 @@
-// Where a table can be shorter than a list in the simple form.
+//! Where a table can be shorter than a list in the simple form.
 
 ghost use Rattle.std.specs.Prelude.{◌≡◌, ℕ, ◌+◌, ◌^◌, ◌<◌, ◌≤◌, length, true, MatchOption};
 ghost use Rattle.lut_stuff.specs.Tables.{distinct_above_0};

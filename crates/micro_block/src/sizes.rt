@@ -1,6 +1,7 @@
-// How long a block is in each form.
+//! How long a block is in each form.
 
-ghost use Rattle.std.specs.Prelude.{◌≡◌, ℕ, ◌+◌, ◌≤◌, ◌<◌, ◌^◌, ◌⊎◌, length, map, true, All, IfSome, None};
+ghost use Rattle.std.specs.Prelude.{◌≡◌, ℕ, ◌+◌, ◌≤◌, ◌<◌, ◌^◌, ◌⊎◌, length, map, true, All};
+ghost use Rattle.std.specs.Prelude.{IfSome, None};
 ghost use Rattle.bit_stuff.specs.Head.{head_size};
 ghost use Rattle.bit_stuff.specs.Simple.{binary_digits, width_of};
 ghost use Rattle.bit_stuff.specs.Stuffed.{stuffed_size};
@@ -17,7 +18,7 @@ use crate::spreading::Spread;
 use crate::stepping::{Rule, steps_each};
 use bit_stuff::{digit_count, head_len, stuffed_len};
 use lut_stuff::{known_len, table_len};
-use raster_values::PixelType;
+use raster_cells::PixelType;
 
 fn holds(kind: PixelType, value: i64) -> bool
     ensures { result ≡ chosen_block.holds kind value }

@@ -1,13 +1,13 @@
-// What a block's least and greatest value tell of it.
+//! What a block's least and greatest value tell of it.
 
 ghost use Rattle.std.specs.Prelude.{◌≡◌, ◌<◌, ◌≤◌, ℕ, [], length, All};
-ghost use Rattle.raster_values.specs.Distance.{IsDistance};
-ghost use Rattle.raster_values.specs.Step.{IsTwiceError};
+ghost use Rattle.raster_cells.specs.Distance.{IsDistance};
+ghost use Rattle.raster_cells.specs.Step.{IsTwiceError};
 ghost use Rattle.micro_block.specs.inside.Stepping.{IsSpread};
 
 use crate::distances::ends;
 use crate::stepping::{Rule, rule_for, steps_at};
-use raster_values::PixelType;
+use raster_cells::PixelType;
 
 /// What is known of a block without a further look at its values.
 #[derive(Clone, Copy)]

@@ -1,7 +1,7 @@
-// How many steps lie between distances.
+//! How many steps lie between distances.
 
 ghost use Rattle.std.specs.Prelude.{◌≡◌, ◌+◌, ◌-◌, ◌*◌, ◌^◌, ◌<◌, ◌≤◌, length, map, All, IfSome};
-ghost use Rattle.raster_values.specs.Step.{IsTwiceError};
+ghost use Rattle.raster_cells.specs.Step.{IsTwiceError};
 ghost use Rattle.micro_block.specs.inside.Products.{IsProduct, rounded_steps};
 ghost use Rattle.micro_block.specs.inside.Stepping.{AreStepped, IsRule, steps_above};
 

@@ -1,17 +1,18 @@
-// Writing blocks.
+//! Writing blocks.
 
 ghost use Rattle.std.specs.Prelude.{◌≡◌, ◌≢◌, ◌+◌, ◌*◌, ◌<◌, ◌≤◌, ◌≤ℤ◌, ◌∷◌, [], ◌++◌, ℕ, ℤ, pos};
 ghost use Rattle.std.specs.Prelude.{All, Some, length, map, get_or, take, drop, IsTrue, ◌↔◌};
 ghost use Rattle.bit_stuff.specs.Simple.{greatest_number, simple_bytes};
 ghost use Rattle.lut_stuff.specs.Tables.{table_bytes, table_size};
-ghost use Rattle.raster_values.specs.Distance.{IsDistance, value_above};
-ghost use Rattle.raster_values.specs.PixelType.{InRange, bytes_of};
-ghost use Rattle.raster_values.specs.Grid.{values_bytes};
+ghost use Rattle.raster_cells.specs.Distance.{IsDistance, value_above};
+ghost use Rattle.raster_cells.specs.PixelType.{InRange, bytes_of};
+ghost use Rattle.raster_cells.specs.Values.{values_bytes};
 ghost use Rattle.micro_block.specs.Block.{IsBlock};
 ghost use Rattle.micro_block.specs.ChosenBlock as chosen_block;
-ghost use Rattle.micro_block.specs.ChosenBlock.{block_bytes, written_form_bytes, kept, narrow_code, narrow_type, offset_bytes};
+ghost use Rattle.micro_block.specs.ChosenBlock.{block_bytes, written_form_bytes, kept, narrow_code};
+ghost use Rattle.micro_block.specs.ChosenBlock.{narrow_type, offset_bytes};
 ghost use Rattle.micro_block.specs.ChosenBlock.{tag_byte};
-ghost use Rattle.micro_block.specs.Frame.{IsBlockCtx, frame_of};
+ghost use Rattle.micro_block.specs.Frame.{frame_of};
 ghost use Rattle.micro_block.specs.Near.{IsNear};
 ghost use Rattle.micro_block.specs.inside.Forms.{IsChosen};
 ghost use Rattle.micro_block.specs.inside.Stepping.{AreListable, IsSpread, steps_above};
@@ -25,7 +26,7 @@ use crate::spreading::{Spread, spread_of};
 use crate::stepping::{Rule, steps_each};
 use bit_stuff::{digit_count, stuff, write_head};
 use lut_stuff::write_table_front;
-use raster_values::PixelType;
+use raster_cells::PixelType;
 
 /// The tag of a block.
 fn tag(col: u32, form: u8, code: u8) -> u8
@@ -200,9 +201,11 @@ fn write_simple_form(distances: &[u32], ctx: &BlockCtx, spread: Spread, out: &mu
     requires spread { IsSpread ctx.now.kind ctx.now.step distances.now spread }
     requires listable { AreListable ctx.now.step spread.least spread.rule distances.now }
     requires room { let values = values_above ctx.now.kind distances.now in length out.old
-        ≡ length (written_form_bytes ctx.now.kind ctx.now.col ctx.now.step values chosen_block.simple) }
+        ≡ length (written_form_bytes ctx.now.kind ctx.now.col ctx.now.step values
+        chosen_block.simple) }
     ensures { let values = values_above ctx.now.kind distances.now in
-        out.new ≡ written_form_bytes ctx.now.kind ctx.now.col ctx.now.step values chosen_block.simple }
+        out.new ≡ written_form_bytes ctx.now.kind ctx.now.col ctx.now.step values
+        chosen_block.simple }
 {
     let used = write_offset(1, ctx.col, ctx.kind, value_of(ctx.kind, spread.least), out);
     write_simple_list(distances, spread, ctx.step, &mut out[used..]);
@@ -218,7 +221,8 @@ fn write_table_form(distances: &[u32], ctx: &BlockCtx, spread: Spread, out: &mut
         length (written_form_bytes ctx.now.kind ctx.now.col ctx.now.step values chosen_block.table)
         ≤ length out.old }
     ensures count { let values = values_above ctx.now.kind distances.now in result
-        ≡ length (written_form_bytes ctx.now.kind ctx.now.col ctx.now.step values chosen_block.table) }
+        ≡ length (written_form_bytes ctx.now.kind ctx.now.col ctx.now.step values
+        chosen_block.table) }
     ensures bytes { let values = values_above ctx.now.kind distances.now in
         out.new ≡ written_form_bytes ctx.now.kind ctx.now.col ctx.now.step values chosen_block.table
         ++ drop result out.old }
@@ -231,7 +235,6 @@ fn write_table_form(distances: &[u32], ctx: &BlockCtx, spread: Spread, out: &mut
 /// Writes the chosen form, which has no table, over all of `out`.
 fn write_plain(distances: &[u32], ctx: &BlockCtx, spread: Spread, chosen: Chosen, out: &mut [u8])
     requires few { length distances.now ≤ 256 }
-    requires ctx { IsBlockCtx ctx.now }
     requires in_range { All (IsDistance ctx.now.kind) distances.now }
     requires spread { IsSpread ctx.now.kind ctx.now.step distances.now spread }
     requires chosen { let values = values_above ctx.now.kind distances.now in
@@ -257,12 +260,12 @@ fn write_plain(distances: &[u32], ctx: &BlockCtx, spread: Spread, chosen: Chosen
 /// It is told whether that block has a table.
 pub fn write_distances(distances: &[u32], ctx: &BlockCtx, has_table: bool, out: &mut [u8]) -> usize
     requires few { length distances.now ≤ 256 }
-    requires ctx { IsBlockCtx ctx.now }
     requires in_range { All (IsDistance ctx.now.kind) distances.now }
     requires capped { All (λ v. v ≤ℤ ctx.now.top) (map (value_above ctx.now.kind) distances.now) }
     requires table { let values = map (value_above ctx.now.kind) distances.now in
         IsTrue has_table
-        ↔ (chosen_block.chosen_form ctx.now.kind ctx.now.col ctx.now.step values ≡ chosen_block.table) }
+        ↔ (chosen_block.chosen_form ctx.now.kind ctx.now.col ctx.now.step values
+        ≡ chosen_block.table) }
     requires room { let values = map (value_above ctx.now.kind) distances.now in
         length (block_bytes ctx.now.kind ctx.now.col ctx.now.step values) ≤ length out.old }
     ensures count { let values = map (value_above ctx.now.kind) distances.now in
@@ -286,7 +289,6 @@ pub fn write_distances(distances: &[u32], ctx: &BlockCtx, has_table: bool, out: 
 /// themselves at step 1.
 pub fn write_block(values: &[i64], ctx: &BlockCtx, out: &mut [u8]) -> usize
     requires few { length values.now ≤ 256 }
-    requires ctx { IsBlockCtx ctx.now }
     requires in_range { All (InRange ctx.now.kind) values.now }
     requires capped { All (λ v. v ≤ℤ ctx.now.top) values.now }
     requires room { length (block_bytes ctx.now.kind ctx.now.col ctx.now.step values.now)

@@ -1,4 +1,5 @@
 -- What the contracts of sources and sinks cite.
+pub mod Asks
 pub mod Faults
 pub mod Memory
 pub mod Sink

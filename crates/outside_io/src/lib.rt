@@ -15,6 +15,6 @@ pub use laws::settled_has_one_image;
 pub use program::{Line, Marks, Report, Word, give_line};
 pub use streams::{
     Bytes, Failed, MemSink, MemSource, Numbers, Sink, Source, StdSink, StdSource, give_all,
-    hold_numbers, take_all,
+    has_more, hold_numbers, take_all,
 };
 pub use volume::{FileVolume, MemVolume, NoVolume, Pick, Piece, Start, VolFile, Volume};

@@ -30,7 +30,7 @@ use overview_updates::{Asked, read_overview};
 use program_ends::{Stop, ended_status};
 use std::alloc::Global;
 use std::thread::Threads;
-use tile_workers::Gate;
+use tile_workers::{Coding, Gate};
 
 /// Reads the updates of the bundle's overview, once it was recovered and opened, and takes memory
 /// for their marks.
@@ -56,11 +56,14 @@ fn take_overview<R: Threads + Sync, V: Volume, G: Gate>(
         Ok(session) => session,
         Err(stop) => return Err(store_stop(stop)),
     };
-    let asked = Asked {
-        quarter: command.quarter,
+    let coding = Coding {
         version: command.version,
         step: Step::of(command.error),
         workers: command.workers as usize,
+    };
+    let asked = Asked {
+        quarter: command.quarter,
+        coding,
     };
     let updates = match read_overview(rt, alloc, &session, from, asked, gate) {
         Ok(updates) => updates,

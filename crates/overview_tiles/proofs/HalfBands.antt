@@ -6,8 +6,9 @@ use Rattle.std.proofs.lemmas.Option.{get_or_from_slice_get, slice_get_within, sl
 use Rattle.std.proofs.lemmas.List.{get_or-replicate, get_or_append_left, get_or_past, get_or_push, length-replicate, length_push}
 use Rattle.std.proofs.Math.Nat.{mul-le-mul_right}
 use Rattle.std.proofs.lemmas.List.Elements.{All-head, All-tail, All-weaker}
-use Rattle.raster_values.specs.declared.kind.PixelType.{PixelType}
-use Rattle.raster_values.specs.Raster.{Pixels, IsRaster, IsShape, blank}
+use Rattle.raster_cells.specs.declared.kind.PixelType.{PixelType}
+use Rattle.raster_values.specs.Raster.{Pixels, IsRaster, blank}
+use Rattle.raster_cells.specs.Shapes.{IsShape}
 use Rattle.raster_values.specs.Places.{SameShape}
 use Rattle.raster_values.specs.Bands.{AreBands, AreLike, IsLike, MayBeBands}
 use Rattle.overview_tiles.specs.Tiles.{AreHalf, Tiles, band_of, no_tiles}

@@ -5,8 +5,8 @@ use Rattle.std.proofs.lemmas.Nat.{div_below, mod_below, div-add-mod', mul-add-lt
 use Rattle.std.proofs.lemmas.Bool.{lt-ltb, ltb-true, cases_lt}
 use Rattle.std.proofs.lemmas.Option.{none-some, slice_get_within}
 use Rattle.std.proofs.lemmas.List.{get_or_past}
-use Rattle.raster_values.specs.declared.kind.PixelType.{PixelType}
-use Rattle.raster_values.specs.PixelType.{type_least, type_greatest}
+use Rattle.raster_cells.specs.declared.kind.PixelType.{PixelType}
+use Rattle.raster_cells.specs.PixelType.{type_least, type_greatest}
 use Rattle.raster_values.specs.Raster.{Pixels, IsRaster, InShape, valid_at}
 use Rattle.raster_values.specs.Places.{SameShape}
 use Rattle.raster_values.specs.Bands.{AreBands}

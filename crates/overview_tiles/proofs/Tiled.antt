@@ -9,10 +9,11 @@ use Rattle.std.proofs.lemmas.Bool.{eq-eqb, ne_eqb, cases_eq, false≢true}
 use Rattle.std.proofs.lemmas.Option.{none-some, get_or_from_slice_get, slice_get_within, slice_get-get_or}
 use Rattle.std.proofs.lemmas.List.{get_or-set_same, get_or-set_other, length-set}
 use Rattle.std.proofs.lemmas.List.Elements.{All-weaker}
-use Rattle.raster_values.specs.declared.kind.PixelType.{PixelType}
-use Rattle.raster_values.specs.declared.kind.PixelType.TheVariants.{I8, U8, I16, U16, I32, U32}
-use Rattle.raster_values.specs.PixelType.{type_least, type_greatest}
-use Rattle.raster_values.specs.Raster.{Pixels, IsRaster, IsShape}
+use Rattle.raster_cells.specs.declared.kind.PixelType.{PixelType}
+use Rattle.raster_cells.specs.declared.kind.PixelType.TheVariants.{I8, U8, I16, U16, I32, U32}
+use Rattle.raster_cells.specs.PixelType.{type_least, type_greatest}
+use Rattle.raster_values.specs.Raster.{Pixels, IsRaster}
+use Rattle.raster_cells.specs.Shapes.{IsShape}
 use Rattle.raster_values.specs.Bands.{AreBands}
 use Rattle.overview_tiles.specs.declared.layer.Frame.{Frame}
 use Rattle.overview_tiles.specs.Half.{Quarters, four_pixels, valid_of, sum_at}

@@ -5,8 +5,8 @@ use Rattle.std.proofs.lemmas.Int.{ints}
 use Rattle.std.proofs.lemmas.Nat.{mul-add-lt, div_below, mod_below, div-add-mod'}
 use Rattle.std.proofs.lemmas.Bool.{cases_eq}
 use Rattle.std.proofs.lemmas.List.Elements.{All-get_or}
-use Rattle.raster_values.specs.declared.kind.PixelType.{PixelType}
-use Rattle.raster_values.specs.PixelType.{InRange, type_least, type_greatest}
+use Rattle.raster_cells.specs.declared.kind.PixelType.{PixelType}
+use Rattle.raster_cells.specs.PixelType.{InRange, type_least, type_greatest}
 use Rattle.raster_values.specs.Raster.{Pixels, IsRaster, IsPixel, pixel_at}
 use Rattle.raster_values.specs.Flat.{value_in}
 use Rattle.overview_tiles.specs.declared.layer.Frame.{Frame}

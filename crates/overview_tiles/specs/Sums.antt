@@ -1,7 +1,7 @@
 -- What a mosaic keeps of the tiles that were laid into it: of each pixel of the half, how many of
 -- its four are valid, and the sum of their values at each depth.
 use Rattle.std.specs.Prelude.{◌≡◌, ℕ, ℤ, pos, ◌+◌, ◌*◌, ◌<◌, Bool, true, List, [], length, get_or, replicate, IfSome, is_some, All}
-use Rattle.raster_values.specs.declared.kind.PixelType.{PixelType}
+use Rattle.raster_cells.specs.declared.kind.PixelType.{PixelType}
 use Rattle.raster_values.specs.Raster.{Pixels}
 use Rattle.raster_values.specs.Bands.{AreBands}
 use Rattle.overview_tiles.specs.Half.{Quarters, valid_four, sum_at}

@@ -1,9 +1,10 @@
 //! The raster of the means of a band's numbers.
 
 ghost use Rattle.std.specs.Prelude.{◌≡◌, ℕ, pos, ◌+◌, ◌*◌, ◌/◌, ◌<◌, ◌≤◌, All, IfOk, None, get_or, length};
-ghost use Rattle.raster_values.specs.declared.kind.PixelType.{PixelType as Kind};
-ghost use Rattle.raster_values.specs.PixelType.{InRange};
-ghost use Rattle.raster_values.specs.Raster.{IsRaster, IsShape};
+ghost use Rattle.raster_cells.specs.declared.kind.PixelType.{PixelType as Kind};
+ghost use Rattle.raster_cells.specs.PixelType.{InRange};
+ghost use Rattle.raster_values.specs.Raster.{IsRaster};
+ghost use Rattle.raster_cells.specs.Shapes.{IsShape};
 ghost use Rattle.overview_tiles.specs.inside.Means.{Counted, Fills, HasMeans, HaveMeans, mean_at};
 
 use super::layer::Layer;

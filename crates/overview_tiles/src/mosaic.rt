@@ -1,7 +1,8 @@
 //! The mosaic of four neighbouring tiles.
 
 ghost use Rattle.std.specs.Prelude.{◌≡◌, ◌↔◌, ℕ, pos, true, false, ◌*◌, ◌/◌, ◌%◌, ◌<◌, ◌≤◌, IfOk, IsTrue, Some, get_or, length, replicate, slice_get, slice_set};
-ghost use Rattle.raster_values.specs.Raster.{IsShape, Pixels};
+ghost use Rattle.raster_cells.specs.Shapes.{IsShape};
+ghost use Rattle.raster_values.specs.Raster.{Pixels};
 ghost use Rattle.raster_values.specs.Bands.{AreBands};
 ghost use Rattle.overview_tiles.specs.Sums.{AreSums, IsLikeMosaic, IsTileOf, no_sums, zero_sums};
 ghost use Rattle.overview_tiles.specs.Tiles.{AreHalf, Tiles, no_tiles, with_tile};

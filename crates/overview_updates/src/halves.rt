@@ -1,13 +1,14 @@
 //! Half of the four tiles of a coarse place.
 
-ghost use Rattle.std.specs.Prelude.{◌≡◌, ◌<◌, Err, IfErr, IfOk, IfSome, IsTrue, false};
+ghost use Rattle.std.specs.Prelude.{◌≡◌, ◌<◌, Err, IfErr, IfOk, IfSome, IsTrue};
 ghost use Rattle.outside_io.specs.declared.volume.VolFile.TheVariants.{Bundle};
 ghost use Rattle.outside_io.specs.streams.Faults.{IsCause};
-ghost use Rattle.outside_io.specs.volume.History.{During, contents, current};
-ghost use Rattle.bundle_store.specs.Session.{Serves};
+ghost use Rattle.outside_io.specs.volume.History.{contents};
 ghost use Rattle.lerc_encode.specs.Encoded.{BandsNeedV4};
 ghost use Rattle.overview_updates.specs.Refusals.{PlaceStops, ReadFails};
 ghost use Rattle.overview_updates.specs.inside.SoFar.{IsHalfOf};
+ghost use Rattle.bundle_store.specs.Told.{OnlyReads};
+ghost use Rattle.bundle_store.specs.Serving.{Serving};
 
 use crate::quarters::{first_laid, read_four, slot_of};
 use crate::stop::OverviewStop;
@@ -30,20 +31,15 @@ pub(crate) fn read_half<V: Volume>(
 ) -> Result<Option<Bands>, OverviewStop>
     requires row { row < 64 }
     requires col { col < 64 }
-    requires running { session.now.stopped ≡ false }
-    requires serves { IsTrue (V.told vol.old) →
-        Serves session.now (contents Bundle (V.history vol.old)) }
+    requires serving { Serving V.told V.history session.now vol.old }
     ensures half { IsTrue (V.told vol.old) → IfOk result (λ half. IsHalfOf
         (contents Bundle (V.history vol.old)) row col half) }
     ensures flat { IfOk result (λ half. IfSome half (λ bands. ¬ BandsNeedV4 version bands)) }
     ensures refused { IsTrue (V.told vol.old) → IfErr result (λ stop. PlaceStops
         (contents Bundle (V.history vol.old)) version (row, col) stop) }
     ensures answers { IfErr result (λ stop. ReadFails stop) }
-    ensures volume { IsCause (result ≡ Err OverviewStop.Volume) (V.faults vol.old)
-        (V.faults vol.new) }
-    ensures during { IsTrue (V.told vol.old) → During (λ d. d ≡ current (V.history vol.old))
-        (V.history vol.old) (V.history vol.new) }
-    ensures told { V.told vol.new ≡ V.told vol.old }
+    ensures reads { OnlyReads V.told V.history V.faults
+        (IsCause (result ≡ Err OverviewStop.Volume)) vol.old vol.new }
 {
     let mosaic = match read_four(alloc, session, vol, row, col) {
         Ok(Some(mosaic)) => mosaic,

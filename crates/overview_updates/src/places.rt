@@ -1,12 +1,13 @@
 //! Coarse places, one after the other: 64 rows of 64.
 
-ghost use Rattle.std.specs.Prelude.{◌≡◌, ◌+◌, ◌/◌, ◌%◌, ◌<◌, ◌≤◌, Err, IfErr, IfOk, IsTrue, false, length};
+ghost use Rattle.std.specs.Prelude.{◌≡◌, ◌+◌, ◌/◌, ◌%◌, ◌<◌, ◌≤◌, Err, IfErr, IfOk, IsTrue, length};
 ghost use Rattle.outside_io.specs.declared.volume.VolFile.TheVariants.{Bundle};
 ghost use Rattle.outside_io.specs.streams.Faults.{IsCause};
-ghost use Rattle.outside_io.specs.volume.History.{During, contents, current};
-ghost use Rattle.bundle_store.specs.Session.{Serves};
+ghost use Rattle.outside_io.specs.volume.History.{contents};
 ghost use Rattle.overview_updates.specs.Overview.{coarse_slot};
-ghost use Rattle.overview_updates.specs.inside.SoFar.{Follows, IsFilled, IsLawful, Steps, IsToldAtOnce, waits_of};
+ghost use Rattle.overview_updates.specs.inside.SoFar.{Follows, IsFilled, Steps, IsToldAtOnce, waits_of};
+ghost use Rattle.bundle_store.specs.Told.{OnlyReads};
+ghost use Rattle.bundle_store.specs.Serving.{Serving};
 
 use crate::asked::Asked;
 use crate::halves::read_half;
@@ -73,26 +74,21 @@ fn wait_next<V: Volume>(
     asked: &Asked,
     waiting: &mut Waiting,
 ) -> Result<Ending, OverviewStop>
-    requires lawful { IsLawful asked.now }
     requires place { waiting.old.place < 4096 }
     requires few { length waiting.old.batch ≤ waiting.old.place }
-    requires running { session.now.stopped ≡ false }
-    requires serves { IsTrue (V.told vol.old) →
-        Serves session.now (contents Bundle (V.history vol.old)) }
-    ensures steps { IfOk result (λ ending. Steps asked.now.version waiting.old waiting.new ending) }
+    requires serving { Serving V.told V.history session.now vol.old }
+    ensures steps { IfOk result
+        (λ ending. Steps asked.now.coding.version waiting.old waiting.new ending) }
     ensures follows { IsTrue (V.told vol.old) → IfOk result (λ ending. Follows
-        (contents Bundle (V.history vol.old)) asked.now.quarter asked.now.version
+        (contents Bundle (V.history vol.old)) asked.now.quarter asked.now.coding.version
         waiting.old waiting.new ending) }
     ensures at_once { IfErr result (λ stop. IsToldAtOnce stop) }
-    ensures volume { IsCause (result ≡ Err OverviewStop.Volume) (V.faults vol.old)
-        (V.faults vol.new) }
-    ensures during { IsTrue (V.told vol.old) → During (λ d. d ≡ current (V.history vol.old))
-        (V.history vol.old) (V.history vol.new) }
-    ensures told { V.told vol.new ≡ V.told vol.old }
+    ensures reads { OnlyReads V.told V.history V.faults
+        (IsCause (result ≡ Err OverviewStop.Volume)) vol.old vol.new }
 {
     let row = (waiting.place / ROW_PLACES) as u8;
     let col = (waiting.place % ROW_PLACES) as u8;
-    let half = match read_half(alloc, session, vol, asked.version, row, col) {
+    let half = match read_half(alloc, session, vol, asked.coding.version, row, col) {
         Ok(Some(half)) => half,
         Ok(None) => {
             waiting.place += 1;
@@ -118,25 +114,20 @@ pub(crate) fn fill<V: Volume>(
     asked: &Asked,
     place: u16,
 ) -> Result<(Waiting, Ending), OverviewStop>
-    requires lawful { IsLawful asked.now }
     requires place { place < 4096 }
-    requires running { session.now.stopped ≡ false }
-    requires serves { IsTrue (V.told vol.old) →
-        Serves session.now (contents Bundle (V.history vol.old)) }
+    requires serving { Serving V.told V.history session.now vol.old }
     ensures ok { IfOk result (λ r. IsFilled (V.told vol.old)
-        (contents Bundle (V.history vol.old)) asked.now.quarter asked.now.version place r.0 r.1) }
+        (contents Bundle (V.history vol.old)) asked.now.quarter asked.now.coding.version place
+        r.0 r.1) }
     ensures at_once { IfErr result (λ stop. IsToldAtOnce stop) }
-    ensures volume { IsCause (result ≡ Err OverviewStop.Volume) (V.faults vol.old)
-        (V.faults vol.new) }
-    ensures during { IsTrue (V.told vol.old) → During (λ d. d ≡ current (V.history vol.old))
-        (V.history vol.old) (V.history vol.new) }
-    ensures told { V.told vol.new ≡ V.told vol.old }
+    ensures reads { OnlyReads V.told V.history V.faults
+        (IsCause (result ≡ Err OverviewStop.Volume)) vol.old vol.new }
 {
     let mut waiting = Waiting {
         batch: Batch::new(alloc),
         place,
     };
-    while waiting.place < MOST_PLACES && !waiting.batch.is_full(asked.workers) {
+    while waiting.place < MOST_PLACES && !waiting.batch.is_full(asked.coding.workers) {
         match wait_next(alloc, session, vol, asked, &mut waiting) {
             Ok(Ending::More) => {}
             Ok(Ending::Refused(stop)) => return Ok((waiting, Ending::Refused(stop))),

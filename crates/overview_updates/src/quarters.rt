@@ -2,8 +2,7 @@
 
 ghost use Rattle.std.specs.Prelude.{◌≡◌, ◌⊎◌, ◌+◌, ◌<◌, ◌/◌, ◌%◌, Err, IfErr, IfOk, IfSome, IsTrue, OnOk, Some, true, false, get_or};
 ghost use Rattle.outside_io.specs.declared.volume.VolFile.TheVariants.{Bundle};
-ghost use Rattle.outside_io.specs.volume.History.{During, contents, current};
-ghost use Rattle.bundle_store.specs.Session.{Serves};
+ghost use Rattle.outside_io.specs.volume.History.{contents};
 ghost use Rattle.bundle_store.specs.Tiles.{tiles};
 ghost use Rattle.outside_io.specs.streams.Faults.{IsCause};
 ghost use Rattle.overview_tiles.specs.Sums.{AreSums, IsTileOf, Kept};
@@ -11,6 +10,8 @@ ghost use Rattle.overview_tiles.specs.Tiles.{Tiles, no_tiles, with_tile};
 ghost use Rattle.overview_updates.specs.inside.Laid.{HasTiles, IsFirstLaid, IsFreeBehind, IsRead};
 ghost use Rattle.overview_updates.specs.Overview.{AreRead, IsQuarter, LiesWhole, quarter_slot};
 ghost use Rattle.overview_updates.specs.Refusals.{FourStops, QuarterStops, ReadFails};
+ghost use Rattle.bundle_store.specs.Told.{OnlyReads};
+ghost use Rattle.bundle_store.specs.Serving.{Serving};
 
 use crate::stop::OverviewStop;
 use bundle_index::Slot;
@@ -28,21 +29,16 @@ fn read_quarter<V: Volume>(
     vol: &mut V,
     slot: Slot,
 ) -> Result<Option<Bands>, OverviewStop>
-    requires running { session.now.stopped ≡ false }
-    requires serves { IsTrue (V.told vol.old) →
-        Serves session.now (contents Bundle (V.history vol.old)) }
-    ensures reads { IsTrue (V.told vol.old) → IfOk result
+    requires serving { Serving V.told V.history session.now vol.old }
+    ensures quarter { IsTrue (V.told vol.old) → IfOk result
         (λ tile. IsQuarter (tiles (contents Bundle (V.history vol.old)) slot) tile) }
     ensures whole { IsTrue (V.told vol.old) →
         OnOk result (LiesWhole (contents Bundle (V.history vol.old)) slot) }
     ensures refused { IsTrue (V.told vol.old) → IfErr result
         (λ stop. QuarterStops (contents Bundle (V.history vol.old)) slot stop) }
     ensures answers { IfErr result (λ stop. ReadFails stop) }
-    ensures volume { IsCause (result ≡ Err OverviewStop.Volume) (V.faults vol.old)
-        (V.faults vol.new) }
-    ensures during { IsTrue (V.told vol.old) → During (λ d. d ≡ current (V.history vol.old))
-        (V.history vol.old) (V.history vol.new) }
-    ensures told { V.told vol.new ≡ V.told vol.old }
+    ensures reads { OnlyReads V.told V.history V.faults
+        (IsCause (result ≡ Err OverviewStop.Volume)) vol.old vol.new }
 {
     let bytes = match session.get(vol, slot) {
         Ok(bytes) => bytes,
@@ -133,9 +129,7 @@ fn add_quarter<V: Volume>(
     requires quarter { quarter < 4 }
     requires free { IfSome mosaic (λ m. get_or m.laid quarter true ≡ false) }
     requires later { IfSome mosaic (λ m. IsFreeBehind quarter m) }
-    requires running { session.now.stopped ≡ false }
-    requires serves { IsTrue (V.told vol.old) →
-        Serves session.now (contents Bundle (V.history vol.old)) }
+    requires serving { Serving V.told V.history session.now vol.old }
     ensures read { IsTrue (V.told vol.old) → (before : Tiles)
         → AreRead (contents Bundle (V.history vol.old)) row col quarter before
         → HasTiles mosaic before → IfOk result (λ next. IsRead
@@ -146,11 +140,8 @@ fn add_quarter<V: Volume>(
         (λ stop. FourStops (contents Bundle (V.history vol.old)) row col stop) }
     ensures later { IfOk result (λ next. IfSome next (λ m. IsFreeBehind quarter m)) }
     ensures answers { IfErr result (λ stop. ReadFails stop) }
-    ensures volume { IsCause (result ≡ Err OverviewStop.Volume) (V.faults vol.old)
-        (V.faults vol.new) }
-    ensures during { IsTrue (V.told vol.old) → During (λ d. d ≡ current (V.history vol.old))
-        (V.history vol.old) (V.history vol.new) }
-    ensures told { V.told vol.new ≡ V.told vol.old }
+    ensures reads { OnlyReads V.told V.history V.faults
+        (IsCause (result ≡ Err OverviewStop.Volume)) vol.old vol.new }
 {
     let slot = slot_of(row, col, quarter);
     let tile = match read_quarter(alloc, session, vol, slot) {
@@ -174,19 +165,14 @@ pub(crate) fn read_four<V: Volume>(
 ) -> Result<Option<Mosaic>, OverviewStop>
     requires row { row < 64 }
     requires col { col < 64 }
-    requires running { session.now.stopped ≡ false }
-    requires serves { IsTrue (V.told vol.old) →
-        Serves session.now (contents Bundle (V.history vol.old)) }
+    requires serving { Serving V.told V.history session.now vol.old }
     ensures read { IsTrue (V.told vol.old) → IfOk result (λ mosaic. IsRead
         (contents Bundle (V.history vol.old)) row col 4 mosaic) }
     ensures refused { IsTrue (V.told vol.old) → IfErr result
         (λ stop. FourStops (contents Bundle (V.history vol.old)) row col stop) }
     ensures answers { IfErr result (λ stop. ReadFails stop) }
-    ensures volume { IsCause (result ≡ Err OverviewStop.Volume) (V.faults vol.old)
-        (V.faults vol.new) }
-    ensures during { IsTrue (V.told vol.old) → During (λ d. d ≡ current (V.history vol.old))
-        (V.history vol.old) (V.history vol.new) }
-    ensures told { V.told vol.new ≡ V.told vol.old }
+    ensures reads { OnlyReads V.told V.history V.faults
+        (IsCause (result ≡ Err OverviewStop.Volume)) vol.old vol.new }
 {
     let first = match add_quarter(alloc, session, vol, row, col, 0, None) {
         Ok(first) => first,

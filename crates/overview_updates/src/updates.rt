@@ -1,15 +1,16 @@
 //! The updates of an overview, batch by batch.
 
-ghost use Rattle.std.specs.Prelude.{◌≡◌, ◌<◌, ◌≤◌, Err, IfErr, IfOk, IsTrue, OnOk, false, length};
+ghost use Rattle.std.specs.Prelude.{◌≡◌, ◌<◌, ◌≤◌, Err, IfErr, IfOk, IsTrue, OnOk, length};
 ghost use Rattle.outside_io.specs.declared.volume.VolFile.TheVariants.{Bundle};
 ghost use Rattle.outside_io.specs.streams.Faults.{IsCause};
-ghost use Rattle.outside_io.specs.volume.History.{During, contents, current};
+ghost use Rattle.outside_io.specs.volume.History.{contents};
 ghost use Rattle.bundle_store.specs.Build.{EachFits};
-ghost use Rattle.bundle_store.specs.Session.{Serves};
 ghost use Rattle.tile_updates.specs.Updates.{AreEncoded};
 ghost use Rattle.overview_updates.specs.Stops.{OverviewFails, TellsStop};
 ghost use Rattle.overview_updates.specs.Updates.{IsEncodedOverview, IsOverviewUpdates};
-ghost use Rattle.overview_updates.specs.inside.SoFar.{IsLawful, IsSoFar};
+ghost use Rattle.overview_updates.specs.inside.SoFar.{IsSoFar};
+ghost use Rattle.bundle_store.specs.Told.{OnlyReads};
+ghost use Rattle.bundle_store.specs.Serving.{Serving};
 
 use crate::asked::Asked;
 use crate::places::{Ending, MOST_PLACES, Waiting, fill};
@@ -40,45 +41,31 @@ fn add_batch<R: Threads + Sync, V: Volume, G: Gate>(
     gate: &G,
     done: &mut SoFar,
 ) -> Result<(), OverviewStop>
-    requires lawful { IsLawful asked.now }
     requires place { done.old.place < 4096 }
     requires few { length done.old.list ≤ done.old.place }
-    requires running { session.now.stopped ≡ false }
-    requires serves { IsTrue (V.told vol.old) →
-        Serves session.now (contents Bundle (V.history vol.old)) }
+    requires serving { Serving V.told V.history session.now vol.old }
     ensures ok { IsSoFar (V.told vol.old) (contents Bundle (V.history vol.old))
-        asked.now.quarter asked.now.version asked.now.step done.old
+        asked.now.quarter asked.now.coding.version asked.now.coding.step done.old
         → OnOk result (IsSoFar (V.told vol.old) (contents Bundle (V.history vol.old))
-        asked.now.quarter asked.now.version asked.now.step done.new) }
+        asked.now.quarter asked.now.coding.version asked.now.coding.step done.new) }
     ensures grows { OnOk result (done.old.place < done.new.place) }
     ensures within { OnOk result (done.new.place ≤ 4096) }
     ensures few { OnOk result (length done.new.list ≤ done.new.place) }
     ensures refused { IsSoFar (V.told vol.old) (contents Bundle (V.history vol.old))
-        asked.now.quarter asked.now.version asked.now.step done.old
+        asked.now.quarter asked.now.coding.version asked.now.coding.step done.old
         → IsTrue (V.told vol.old) → IfErr result (λ stop. TellsStop
-        (contents Bundle (V.history vol.old)) asked.now.quarter asked.now.version asked.now.step stop) }
+        (contents Bundle (V.history vol.old)) asked.now.quarter asked.now.coding.version
+        asked.now.coding.step stop) }
     ensures answers { IfErr result (λ stop. OverviewFails stop) }
-    ensures volume { IsCause (result ≡ Err OverviewStop.Volume) (V.faults vol.old)
-        (V.faults vol.new) }
-    ensures during { IsTrue (V.told vol.old) → During (λ d. d ≡ current (V.history vol.old))
-        (V.history vol.old) (V.history vol.new) }
-    ensures told { V.told vol.new ≡ V.told vol.old }
+    ensures reads { OnlyReads V.told V.history V.faults
+        (IsCause (result ≡ Err OverviewStop.Volume)) vol.old vol.new }
 {
     let (waiting, ending) = match fill(alloc, session, vol, asked, done.place) {
         Ok(filled) => filled,
         Err(stop) => return Err(stop),
     };
     let Waiting { batch, place } = waiting;
-    match encode_batch(
-        rt,
-        alloc,
-        batch,
-        asked.version,
-        asked.step,
-        asked.workers,
-        gate,
-        &mut done.list,
-    ) {
+    match encode_batch(rt, alloc, batch, asked.coding, gate, &mut done.list) {
         Ok(()) => done.place = place,
         Err(stop) => return Err(overview_stop(stop)),
     }
@@ -108,29 +95,23 @@ pub fn read_overview<R: Threads + Sync, V: Volume, G: Gate>(
     asked: Asked,
     gate: &G,
 ) -> Result<Vec<TileRec>, OverviewStop>
-    requires quarter { asked.quarter < 4 }
-    requires workers { (1 ≤ asked.workers) × (asked.workers ≤ 64) }
-    requires running { session.now.stopped ≡ false }
-    requires serves { IsTrue (V.told vol.old) →
-        Serves session.now (contents Bundle (V.history vol.old)) }
+    requires serving { Serving V.told V.history session.now vol.old }
     ensures ok { IsTrue (V.told vol.old) → IfOk result (λ updates. IsOverviewUpdates
-        (contents Bundle (V.history vol.old)) asked.quarter asked.version asked.step
+        (contents Bundle (V.history vol.old)) asked.quarter asked.coding.version asked.coding.step
         updates.items) }
     ensures near { IsTrue (V.told vol.old) → IfOk result (λ updates. IsEncodedOverview
-        (contents Bundle (V.history vol.old)) asked.quarter asked.version asked.step
+        (contents Bundle (V.history vol.old)) asked.quarter asked.coding.version asked.coding.step
         updates.items) }
-    ensures encoded { IfOk result (λ updates. AreEncoded asked.version asked.step
+    ensures encoded { IfOk result (λ updates. AreEncoded asked.coding.version asked.coding.step
         updates.items) }
     ensures few { IfOk result (λ updates. length updates.items ≤ 4096) }
     ensures fits { IfOk result (λ updates. EachFits updates.items) }
     ensures refused { IsTrue (V.told vol.old) → IfErr result (λ stop. TellsStop
-        (contents Bundle (V.history vol.old)) asked.quarter asked.version asked.step stop) }
+        (contents Bundle (V.history vol.old)) asked.quarter asked.coding.version
+        asked.coding.step stop) }
     ensures answers { IfErr result (λ stop. OverviewFails stop) }
-    ensures volume { IsCause (result ≡ Err OverviewStop.Volume) (V.faults vol.old)
-        (V.faults vol.new) }
-    ensures during { IsTrue (V.told vol.old) → During (λ d. d ≡ current (V.history vol.old))
-        (V.history vol.old) (V.history vol.new) }
-    ensures told { V.told vol.new ≡ V.told vol.old }
+    ensures reads { OnlyReads V.told V.history V.faults
+        (IsCause (result ≡ Err OverviewStop.Volume)) vol.old vol.new }
 {
     let mut done = SoFar {
         list: UpdateList::new(alloc),

@@ -5,7 +5,8 @@ ghost use Rattle.std.specs.Prelude.{◌<◌};
 use crate::runs::{sink_of, source_of};
 use case_rows::{CaseStop, Row, Told};
 use overview_tiles::Mosaic;
-use raster_values::{Bands, bands_read, bands_write};
+use raster_grids::{bands_read, bands_write};
+use raster_values::Bands;
 use std::alloc::Global;
 
 /// The bands of a grid.

@@ -2,6 +2,5 @@ pub use Rattle.outside_io.specs.program.Line
 pub use Rattle.outside_io.specs.streams.Faults
 pub use Rattle.outside_io.specs.streams.Sink
 pub mod Arguments
-pub mod Asks
 pub mod Moves
 pub mod Stop

@@ -8,12 +8,10 @@
 
 mod arguments;
 mod ended;
-mod more;
 mod paths;
 mod stop;
 
 pub use arguments::{Arguments, ProcessArguments, word_at, words_from};
 pub use ended::{end_without_memory, ended_status, exit_code, tell};
-pub use more::has_more;
 pub use paths::{Paths, paths_at};
 pub use stop::{Refusal, Stop};

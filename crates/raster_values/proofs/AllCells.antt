@@ -1,29 +1,31 @@
 -- The values of all pixels, and those put at the places of marked ones.
-use Rattle.std.proofs.Common.{◌≡◌, ℕ, ◌+◌, ◌-◌, ◌*◌, ◌<◌, ◌≤◌, zero, suc, Bool, true, false, cond, List, [], ◌∷◌, ◌++◌, length, get_or, take, drop, replicate, Option, Some, None, refl, sym, ap, ◌∙◌, subst, arith, ⊎_elim, length-append}
-use Rattle.std.specs.Prelude.{ℤ, pos, All, unwrap_or, is_some}
+use Rattle.std.proofs.Common.{[], ℕ, List, replicate, Option, ◌≡◌, length, Some, None, ◌<◌, get_or, refl, suc, ◌∷◌, arith, ◌+◌, ◌*◌, ap, ◌∙◌, length-append, sym, subst, ◌-◌, zero, ◌++◌, Bool, true, false, cond, take, drop, ◌≤◌, ⊎_elim}
+use Rattle.std.specs.Prelude.{ℤ, pos, unwrap_or, All, is_some}
+use Rattle.std.proofs.lemmas.List.{length-replicate, get_or-replicate, get_or_append_left, get_or-append_right, length-take-le, length-drop, get_or-take, get_or-drop, take-append-drop, ext_get_or}
+use Rattle.std.proofs.lemmas.List.Elements.{All-replicate, All-append, All-nil, All-take, All-drop}
 use Rattle.std.specs.List.{flat_map}
-use Rattle.std.proofs.lemmas.List.{length-take-le, length-drop, get_or-take, get_or-drop, get_or_append_left, get_or-append_right, length-replicate, get_or-replicate, take-append-drop, ext_get_or}
 use Rattle.std.proofs.lemmas.List.Concat.{flat_map-cons}
-use Rattle.std.proofs.lemmas.List.Elements.{All-append, All-nil, All-replicate, All-take, All-drop}
 use Rattle.std.proofs.lemmas.Bool.{cases_lt, false≢true}
-use Rattle.std.proofs.lemmas.Nat.{mul-add-lt}
 use Rattle.std.proofs.Math.Nat.{mul-le-mul_right}
+use Rattle.std.proofs.lemmas.Nat.{mul-add-lt}
+use Rattle.raster_cells.specs.declared.kind.PixelType.{PixelType}
+use Rattle.raster_cells.specs.PixelType.{InRange, bytes_of, value_of}
+use Rattle.raster_cells.proofs.ValueBits.{zero_in_range}
+use Rattle.raster_cells.specs.Values.{values_bytes}
+use Rattle.raster_cells.specs.inside.CellList.{values_in, CellList}
+use Rattle.raster_cells.proofs.CellRuns.{values_is, bytes_front, bytes_behind, length-values_in, with_run, value_there}
+use Rattle.raster_cells.proofs.Spelled.{AreBytes, bytes_of_values, values_fit, value_in-at, bytes_put, put_as_run}
+use Rattle.raster_cells.specs.MarkRuns.{AreRuns}
+use Rattle.raster_cells.proofs.WholeRuns.{with_run_at, with_run_before, with_run_after}
 use Rattle.byteorder.specs.Endian.{little_number}
-use Rattle.raster_values.specs.declared.kind.PixelType.{PixelType}
-use Rattle.raster_values.specs.declared.raster.Raster.TheInside.{Inside}
-use Rattle.raster_values.specs.PixelType.{bytes_of, value_of, InRange}
-use Rattle.raster_values.specs.Raster.{Pixels, IsRaster, IsPixel, IsShape, InShape, IsValidAt, blank, filled}
-use Rattle.raster_values.specs.Grid.{values_bytes}
-use Rattle.raster_values.specs.Flat.{all_values, value_in, PutsAll, AllStand, AllValuesStand, PuttingAllIsOne, AllPutGive}
-use Rattle.raster_values.specs.inside.View.{seen, IsInside, pixels_of}
-use Rattle.raster_values.specs.inside.CellList.{values_in, CellList}
-use Rattle.raster_values.specs.inside.Runs.{AreRuns}
+use Rattle.raster_cells.specs.Shapes.{IsShape}
+use Rattle.raster_values.specs.Raster.{IsPixel, Pixels, IsRaster, InShape, IsValidAt, blank, filled}
+use Rattle.raster_values.specs.Flat.{all_values, AllValuesStand, PutsAll, value_in, PuttingAllIsOne, AllStand, AllPutGive}
+use Rattle.raster_values.specs.inside.View.{pixels_of, seen, IsInside}
+use Rattle.raster_values.specs.declared.rasters.raster.Raster.TheInside.{Inside}
 use Rattle.raster_values.specs.inside.Ordered.{PutsMarkedBytes}
-use Rattle.raster_values.proofs.Views.{KeepsValues, zero_in_range}
-use Rattle.raster_values.proofs.FlatViews.{with_values, value_flat, mark_flat, same_mask, pours_keep, keeps_itself}
-use Rattle.raster_values.proofs.CellBytes.{with_run, values_is, bytes_front, bytes_behind, length-values_in, value_there}
-use Rattle.raster_values.proofs.Spelled.{AreBytes, bytes_of_values, values_fit, value_in-at, bytes_put, put_as_run}
-use Rattle.raster_values.proofs.WholeRuns.{with_run_at, with_run_before, with_run_after}
+use Rattle.raster_values.proofs.Views.{KeepsValues}
+use Rattle.raster_values.proofs.FlatViews.{pours_keep, with_values, value_flat, mark_flat, same_mask, keeps_itself}
 use Rattle.raster_values.proofs.Same.{same_raster}
 
 -- ---- one list for each pixel
@@ -120,12 +122,6 @@ unfolding all_values
 all_inside a h = all_of_vectors a.depth a.marks a.values.values (h.values ∙ ap (λ n. n * a.depth) (sym h.marks)) h.zeros
 
 -- ---- values put at the places of marked pixels
-
-pub puts_none : (kind : PixelType) (depth : ℕ) (marks : List Bool) (bytes : List ℕ) (old : List ℤ) → PutsMarkedBytes kind depth 0 marks bytes old old
-puts_none kind depth marks bytes old = record {
-  each = λ k d below less on. absurd (let no : ⊥ = omega arith in no);
-  rest = λ k d less off. refl;
-}
 
 -- the values of a piece of bytes are a piece of the values
 piece_values : (kind : PixelType) (n first count : ℕ) (bytes : List ℕ) → AreBytes bytes → length bytes ≡ n * bytes_of kind → first + count ≤ n

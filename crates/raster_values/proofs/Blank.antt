@@ -1,16 +1,16 @@
 -- The vectors of a raster of which no pixel is valid.
-use Rattle.std.proofs.Common.{◌≡◌, ℕ, ◌+◌, ◌*◌, ◌/◌, ◌%◌, ◌<◌, zero, suc, Bool, true, false, cond, List, [], ◌∷◌, length, get_or, replicate, refl, sym, ap, ◌∙◌, arith}
-use Rattle.std.specs.Prelude.{pos, count_by}
-use Rattle.std.proofs.lemmas.List.{ext_get_or, length-replicate, get_or-replicate}
+use Rattle.std.proofs.Common.{[], ◌≡◌, ℕ, ◌+◌, zero, suc, Bool, true, false, cond, List, ◌∷◌, get_or, refl, arith, ◌*◌, ◌/◌, ◌%◌, ◌<◌, length, replicate, sym, ap, ◌∙◌}
+use Rattle.std.specs.Prelude.{count_by, pos}
 use Rattle.std.proofs.lemmas.List.Sums.{sum_by-cons}
-use Rattle.std.proofs.lemmas.Nat.{div_below}
-use Rattle.raster_values.specs.declared.raster.Raster.TheInside.{Inside}
+use Rattle.std.proofs.lemmas.List.{ext_get_or, length-replicate, get_or-replicate}
+use Rattle.std.proofs.lemmas.Nat.{div_below, mul-add-lt}
+use Rattle.raster_cells.specs.Masks.{mask_bit}
+use Rattle.raster_values.specs.declared.rasters.raster.Raster.TheInside.{Inside}
 use Rattle.raster_values.specs.Raster.{valid_count}
 use Rattle.raster_values.specs.inside.View.{seen, IsInside, pixels_of}
-use Rattle.std.proofs.lemmas.Nat.{mul-add-lt}
-use Rattle.raster_values.specs.Order.{MarksBits, mask_bit}
-use Rattle.raster_values.proofs.BlockViews.{value_there}
 use Rattle.raster_values.proofs.Views.{count-pixels_of, full, valid-pixels_of}
+use Rattle.raster_values.specs.Order.{MarksBits}
+use Rattle.raster_values.proofs.BlockViews.{value_there}
 
 pub none_on : (ms : List Bool) → count_by (λ m. m) ms ≡ 0 → (k : ℕ) → get_or ms k false ≡ false
 none_on [] none k = refl

@@ -1,23 +1,24 @@
 -- How the runs of the vectors stand for the blocks of a raster.
-use Rattle.std.proofs.Common.{◌≡◌, ℕ, ◌+◌, ◌-◌, ◌*◌, ◌<◌, ◌≤◌, zero, suc, min, Bool, true, false, cond, List, [], ◌∷◌, ◌++◌, length, get_or, drop, map, refl, sym, ap, ◌∙◌, arith, length-append}
-use Rattle.std.specs.Prelude.{ℤ, pos, All, unwrap_or}
+use Rattle.std.proofs.Common.{[], ◌≡◌, Bool, List, ◌∷◌, ◌++◌, map, refl, sym, ap, ◌∙◌, ℕ, ◌+◌, ◌<◌, zero, suc, true, false, cond, arith, ◌*◌, length, get_or, ◌-◌, min, length-append, drop, ◌≤◌}
 use Rattle.std.specs.List.{filter, flat_map, range_with_len}
-use Rattle.std.proofs.lemmas.List.{length-map, map-append, take-append-drop}
+use Rattle.std.proofs.lemmas.List.{map-append, length-map, take-append-drop}
 use Rattle.std.proofs.lemmas.List.Elements.{filter-append}
 use Rattle.std.proofs.lemmas.List.Concat.{flat_map-cons}
-use Rattle.std.proofs.lemmas.Nat.{same_from_place, mul-add-lt}
+use Rattle.std.specs.Prelude.{ℤ, pos, unwrap_or, All}
+use Rattle.std.proofs.lemmas.Nat.{mul-add-lt, same_from_place}
 use Rattle.std.proofs.lemmas.Bool.{false≢true}
-use Rattle.raster_values.specs.declared.kind.PixelType.{PixelType}
-use Rattle.raster_values.specs.declared.raster.Raster.TheInside.{Inside}
-use Rattle.raster_values.specs.Raster.{Pixels, valid_at, value_at}
-use Rattle.raster_values.specs.PixelType.{InRange}
+use Rattle.raster_cells.specs.declared.kind.PixelType.{PixelType}
+use Rattle.raster_cells.proofs.Every.{every_range, same_flat_map}
+use Rattle.raster_cells.specs.inside.Runs.{run_places}
+use Rattle.raster_values.specs.inside.Runs.{Gathers, run_values, rows_values, rows_places, LeavesRows}
+use Rattle.raster_cells.specs.PixelType.{InRange}
+use Rattle.raster_values.specs.Raster.{Pixels, value_at, valid_at}
 use Rattle.raster_values.specs.inside.View.{pixels_of, seen, IsInside}
-use Rattle.raster_values.specs.Block.{block_count, block_values, InBlock, PoursBlock}
-use Rattle.raster_values.specs.inside.Runs.{run_places, run_values, rows_places, rows_values, LeavesRows, Gathers}
-use Rattle.raster_values.proofs.Views.{get_or-pixels_of, valid-pixels_of, value-pixel_of, KeepsValues}
-use Rattle.raster_values.proofs.Every.{every_range, same_flat_map}
+use Rattle.raster_values.proofs.Views.{get_or-pixels_of, value-pixel_of, valid-pixels_of, KeepsValues}
+use Rattle.raster_values.specs.Block.{block_values, block_count, InBlock, PoursBlock}
 use Rattle.raster_values.proofs.RunSteps.{length_values}
 use Rattle.raster_values.proofs.BlockLaws.{has_count}
+use Rattle.raster_values.specs.declared.rasters.raster.Raster.TheInside.{Inside}
 
 -- ---- places
 

@@ -1,13 +1,13 @@
 -- The values of the valid pixels, one pixel behind the other.
-use Rattle.std.proofs.Common.{◌≡◌, ℕ, ℤ, ◌+◌, ◌*◌, ◌<◌, suc, cond, List, [], ◌∷◌, ◌++◌, length, get_or, take, drop, map, Option, Some, None, refl, sym, ap, ◌∙◌, arith, length-append}
-use Rattle.std.specs.Prelude.{is_some, unwrap_or, IfSome, All, count_by}
-use Rattle.std.proofs.lemmas.List.{take_at, drop_at}
+use Rattle.std.proofs.Common.{[], ◌≡◌, ℕ, ℤ, ◌<◌, List, length, get_or, Option, None, Some, suc, ◌∷◌, arith, ◌++◌, ◌+◌, ◌*◌, cond, sym, ap, ◌∙◌, length-append, take, drop, map, refl}
+use Rattle.std.specs.Prelude.{IfSome, unwrap_or, is_some, count_by, All}
 use Rattle.std.proofs.lemmas.List.Concat.{flat_map-cons}
 use Rattle.std.proofs.lemmas.List.Sums.{sum_by-cons}
 use Rattle.std.proofs.lemmas.List.Elements.{All-append, All-nil}
-use Rattle.raster_values.specs.declared.kind.PixelType.{PixelType}
-use Rattle.raster_values.specs.PixelType.{InRange}
-use Rattle.raster_values.specs.Raster.{Pixels, IsRaster, IsPixel, values_of}
+use Rattle.std.proofs.lemmas.List.{take_at, drop_at}
+use Rattle.raster_cells.specs.declared.kind.PixelType.{PixelType}
+use Rattle.raster_cells.specs.PixelType.{InRange}
+use Rattle.raster_values.specs.Raster.{IsPixel, Pixels, IsRaster, values_of}
 
 -- each valid pixel has so many values
 abbrev pub AreDeep : ℕ → List (Option (List ℤ)) → Type 0

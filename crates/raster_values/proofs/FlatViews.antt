@@ -1,25 +1,26 @@
 -- How the vectors stand for the numbered pixels of a raster.
-use Rattle.std.proofs.Common.{◌≡◌, ℕ, ◌+◌, ◌*◌, ◌/◌, ◌<◌, ◌≤◌, Bool, true, false, cond, List, [], ◌∷◌, ◌++◌, length, get_or, take, drop, map, Some, None, refl, sym, ap, ◌∙◌, subst, arith}
-use Rattle.std.specs.Prelude.{ℤ, pos, All, unwrap_or, is_some}
-use Rattle.std.specs.List.{filter, range_with_len}
-use Rattle.std.proofs.lemmas.List.{get_or_past, length-map, map-id, take-append-drop}
-use Rattle.std.proofs.lemmas.Nat.{mul-add-lt}
+use Rattle.std.proofs.Common.{[], List, ◌≡◌, ℕ, ◌+◌, ◌*◌, ◌<◌, length, get_or, ap, ◌∙◌, true, false, sym, cond, take, drop, Some, None, refl, Bool, map, ◌++◌, arith, ◌≤◌, subst, ◌/◌, ◌∷◌}
+use Rattle.std.specs.Prelude.{ℤ, pos, unwrap_or, is_some, All}
 use Rattle.std.proofs.lemmas.Bool.{false≢true}
-use Rattle.raster_values.specs.declared.raster.Raster.TheInside.{Inside}
-use Rattle.raster_values.specs.PixelType.{InRange}
+use Rattle.std.specs.List.{filter, range_with_len}
+use Rattle.std.proofs.lemmas.List.{map-id, length-map, take-append-drop, get_or_past}
+use Rattle.std.proofs.lemmas.Nat.{mul-add-lt}
+use Rattle.raster_values.specs.inside.Runs.{Gathers, run_values}
+use Rattle.raster_cells.specs.PixelType.{InRange}
+use Rattle.raster_cells.specs.Values.{values_bytes, AreValues}
+use Rattle.raster_cells.proofs.Spelled.{written_values}
+use Rattle.raster_cells.specs.Masks.{mask_bit}
+use Rattle.raster_cells.specs.inside.CellList.{CellList}
+use Rattle.raster_values.specs.declared.rasters.raster.Raster.TheInside.{Inside}
 use Rattle.raster_values.specs.Raster.{Pixels, IsRaster, values_of, valid_count}
-use Rattle.raster_values.specs.Grid.{values_bytes}
-use Rattle.raster_values.specs.Values.{AreValues}
+use Rattle.raster_values.specs.inside.View.{seen, pixels_of, IsInside, AreVectors}
+use Rattle.raster_values.specs.Flat.{value_in, values_among, valid_from, PutsFrom}
+use Rattle.raster_values.proofs.Views.{get_or-pixels_of, value-pixel_of, KeepsValues, valid-pixels_of, sound}
 use Rattle.raster_values.specs.Block.{SameMask}
-use Rattle.raster_values.specs.Order.{FillsValid, PoursBytes, IsMaskOf, mask_bit}
-use Rattle.raster_values.specs.Flat.{PutsFrom, valid_from, value_in, values_among}
-use Rattle.raster_values.specs.inside.View.{seen, IsInside, pixels_of}
-use Rattle.raster_values.specs.inside.Runs.{run_values, Gathers}
-use Rattle.raster_values.specs.inside.Ordered.{ChangesMarked, FillsMarked, PutsMarked}
-use Rattle.raster_values.proofs.Views.{get_or-pixels_of, valid-pixels_of, value-pixel_of, KeepsValues, sound}
 use Rattle.raster_values.proofs.BlockViews.{picks_same, value_there}
-use Rattle.raster_values.proofs.Deep.{length-values_of, raster_deep, values_in_range}
-use Rattle.raster_values.proofs.Spelled.{written_values}
+use Rattle.raster_values.specs.inside.Ordered.{PutsMarked, FillsMarked, ChangesMarked}
+use Rattle.raster_values.specs.Order.{FillsValid, PoursBytes, IsMaskOf}
+use Rattle.raster_values.proofs.Deep.{values_in_range, length-values_of, raster_deep}
 
 -- a raster with other values in its vector
 abbrev pub with_values : Inside → List ℤ → Pixels
@@ -156,3 +157,11 @@ unfolding pixels_of
 marks_of-pixels_of depth [] vs = refl
 marks_of-pixels_of depth (true ∷ ms) vs = ap (λ bs. true ∷ bs) (marks_of-pixels_of depth ms (drop depth vs))
 marks_of-pixels_of depth (false ∷ ms) vs = ap (λ bs. false ∷ bs) (marks_of-pixels_of depth ms (drop depth vs))
+
+-- ---- vectors by themselves
+
+pub inside_vectors : (rows cols depth : ℕ) (ms : List Bool) (cells : CellList) → AreVectors rows cols depth ms cells → IsInside (record { rows = rows; cols = cols; depth = depth; marks = ms; values = cells })
+inside_vectors rows cols depth ms cells h = record { shape = h.shape; marks = h.marks; values = h.values; in_range = h.in_range; zeros = h.zeros }
+
+pub vectors_inside : (a : Inside) → IsInside a → AreVectors a.rows a.cols a.depth a.marks a.values
+vectors_inside a h = record { shape = h.shape; marks = h.marks; values = h.values; in_range = h.in_range; zeros = h.zeros }

@@ -1,12 +1,13 @@
 -- Rows that are as wide as the raster lie one behind another: they are one run.
-use Rattle.std.proofs.Common.{◌≡◌, ℕ, ◌+◌, ◌*◌, ◌/◌, ◌%◌, ◌<◌, ◌≤◌, zero, suc, Bool, List, [], ◌++◌, sym, ap, ◌∙◌, subst, refl, arith, append-nil, ⊎_elim}
-use Rattle.std.specs.Prelude.{ℤ}
+use Rattle.std.proofs.Common.{[], ◌≡◌, ℕ, ◌+◌, ◌*◌, zero, suc, List, ◌++◌, sym, ap, ◌∙◌, arith, append-nil, ◌≤◌, Bool, refl, ◌/◌, ◌%◌, ◌<◌, ⊎_elim, subst}
 use Rattle.std.specs.List.{flat_map, range_with_len}
-use Rattle.std.proofs.lemmas.Bool.{cases_lt}
 use Rattle.std.proofs.Math.Nat.{add-mul, div-add-mod', mod-lt, mul-le-mul_right}
-use Rattle.raster_values.specs.inside.Runs.{run_places, run_values, rows_places, rows_values, LeavesRows}
-use Rattle.raster_values.proofs.PouredWords.{places_join, values_join}
+use Rattle.std.specs.Prelude.{ℤ}
+use Rattle.std.proofs.lemmas.Bool.{cases_lt}
+use Rattle.raster_cells.specs.inside.Runs.{run_places}
 use Rattle.raster_values.proofs.RowSteps.{pieces_more}
+use Rattle.raster_values.specs.inside.Runs.{rows_places, run_values, rows_values, LeavesRows}
+use Rattle.raster_values.proofs.PouredWords.{places_join, values_join}
 
 -- pieces that are those of one run
 one_run : {Y : Type 0} (piece : ℕ → ℕ → List Y) (cols row high : ℕ) → ((from : ℕ) → piece from 0 ≡ []) → ((from a b : ℕ) → piece from (a + b) ≡ piece from a ++ piece (from + a) b)

@@ -1,8 +1,9 @@
 -- Runs gathered one behind the other.
-use Rattle.std.proofs.Common.{◌≡◌, ◌≤◌, ℕ, ◌+◌, ◌*◌, Bool, List, [], ◌∷◌, length, get_or, take, map, refl, sym, ap, ◌∙◌, subst, arith, append-nil}
+use Rattle.std.proofs.Common.{[], ℕ, List, take, refl, sym, arith, append-nil, ◌≡◌, ◌∷◌, length, ◌+◌, ◌*◌, Bool, get_or, map, subst, ap, ◌∙◌, ◌≤◌}
 use Rattle.std.specs.Prelude.{ℤ, pos}
-use Rattle.std.proofs.lemmas.List.{length-map, map-append}
-use Rattle.raster_values.specs.inside.Runs.{run_places, run_values, Gathers}
+use Rattle.std.proofs.lemmas.List.{map-append, length-map}
+use Rattle.raster_cells.specs.inside.Runs.{run_places}
+use Rattle.raster_values.specs.inside.Runs.{Gathers, run_values}
 use Rattle.raster_values.proofs.PouredWords.{values_join}
 use Rattle.raster_values.proofs.RunSteps.{gathers_join, length_places, length_values}
 

@@ -1,23 +1,23 @@
 -- Rasters with given values in their blocks.
-use Rattle.std.proofs.Common.{◌≡◌, ℕ, ◌+◌, ◌-◌, ◌*◌, ◌/◌, ◌%◌, ◌<◌, ◌≤◌, zero, suc, Bool, true, false, cond, List, [], ◌∷◌, ◌++◌, length, get_or, map, min, None, sym, ap, ◌∙◌, subst, arith, ⊎_elim, ◌⊎◌, inl, inr}
-use Rattle.std.specs.Prelude.{ℤ, pos, All, nat_eq, is_some, Contains}
-use Rattle.std.specs.List.{filter, flat_map, range_with_len}
-use Rattle.std.proofs.lemmas.List.{ext_get_or, get_or-map, length-map, get_or_past}
+use Rattle.std.proofs.Common.{[], ℕ, ◌+◌, ◌<◌, ◌≤◌, List, ◌∷◌, arith, ◌++◌, Bool, true, false, cond, ◌≡◌, zero, suc, map, subst, ◌*◌, sym, ap, length, get_or, ◌∙◌, ◌/◌, ◌%◌, ⊎_elim, ◌-◌, min, None, ◌⊎◌, inl, inr}
+use Rattle.std.specs.List.{filter, range_with_len, flat_map}
 use Rattle.std.proofs.lemmas.List.Concat.{flat_map-cons}
-use Rattle.std.proofs.lemmas.Nat.{mul-add-lt, div-mul-add, mod-mul-add, div_below}
-use Rattle.std.proofs.lemmas.Bool.{cases_lt}
-use Rattle.std.proofs.lemmas.Bool.Decides.{nat_tests}
 use Rattle.std.proofs.Math.Nat.{mul-le-mul_right}
-use Rattle.raster_values.specs.declared.kind.PixelType.{PixelType}
-use Rattle.raster_values.specs.PixelType.{InRange}
+use Rattle.std.specs.Prelude.{nat_eq, ℤ, pos, All, is_some, Contains}
+use Rattle.std.proofs.lemmas.Bool.Decides.{nat_tests}
+use Rattle.std.proofs.lemmas.List.{ext_get_or, get_or-map, length-map, get_or_past}
+use Rattle.std.proofs.lemmas.Bool.{cases_lt}
+use Rattle.std.proofs.lemmas.Nat.{div_below, mul-add-lt, div-mul-add, mod-mul-add}
+use Rattle.raster_cells.specs.declared.kind.PixelType.{PixelType}
+use Rattle.raster_cells.specs.PixelType.{InRange}
+use Rattle.raster_cells.proofs.ValueBits.{zero_in_range}
+use Rattle.raster_cells.proofs.Every.{Every, every_map, every_flat_map, every_filter, every_range, same_map}
 use Rattle.raster_values.specs.Raster.{Pixels, IsRaster, InShape}
+use Rattle.raster_values.specs.Flat.{valid_numbers, marks_of, block_numbers, value_in, revalued, ChangesValues}
 use Rattle.raster_values.specs.Places.{SameShape}
-use Rattle.raster_values.specs.Block.{block_values, InBlock, SameMask, PoursBlock, PoursEach, BlocksAreThere, AllBlocksGive}
-use Rattle.raster_values.specs.Flat.{marks_of, value_in, block_numbers, valid_numbers, revalued, ChangesValues}
-use Rattle.raster_values.proofs.Every.{Every, every_map, every_flat_map, every_filter, every_range, same_map}
-use Rattle.raster_values.proofs.Views.{zero_in_range}
-use Rattle.raster_values.proofs.BlockLaws.{determine, leaves_others, partition, has_count}
-use Rattle.raster_values.proofs.NumberedBlocks.{block_numbered, marks_at}
+use Rattle.raster_values.specs.Block.{SameMask, InBlock, BlocksAreThere, block_values, PoursBlock, PoursEach, AllBlocksGive}
+use Rattle.raster_values.proofs.NumberedBlocks.{marks_at, block_numbered}
+use Rattle.raster_values.proofs.BlockLaws.{partition, has_count, leaves_others, determine}
 use Rattle.raster_values.proofs.Revalued.{may_change}
 
 -- ---- rising numbers, and where one stands among them

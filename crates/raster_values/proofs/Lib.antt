@@ -1,62 +1,33 @@
-pub mod Views
-mod MaskBits
-mod MaskBytes
-mod MaskCounts
-mod EqualMasks
-mod Points
-pub mod Same
-mod Places
-mod Changes
-pub mod Pack
-mod Filled
-pub mod OneGrid
-pub mod Every
-pub mod BlockLaws
-mod RunSteps
-mod RowSteps
-mod BlockViews
-pub mod CellBytes
-mod WholeRuns
-mod InOrder
-pub mod Blank
-pub mod Spelled
-mod MarkedRuns
-mod PixelSteps
-mod OrderSteps
-mod Poured
-pub mod Deep
-mod FlatViews
-pub mod Taken
-mod TakenRuns
-mod TakenAhead
-mod GridParts
-pub mod Revalued
-pub mod NumberedBlocks
-mod GivenBlocks
-pub mod GridLaws
-pub mod GridDecided
-pub mod BandLists
-pub mod BandsGridLaws
-pub mod BandsGridDecided
-mod BandsGiven
-mod BandsTaken
-pub mod BandSizes
-mod Repeats
 mod AllCells
-pub mod Distances
-mod Ranges
+pub mod Blank
+pub mod BlockLaws
+mod BlockViews
 mod CellDistances
-mod ValueBytes
-mod LentMasks
-mod SeenArrays
-mod MarkedValues
-mod MarkedPuts
-pub mod LentArrays
-mod MixedRuns
-mod GatheredRuns
+mod Changes
+pub mod Deep
+pub mod FlatViews
 mod FullWidth
-mod MarkWords
-mod FrontBits
+mod GatheredRuns
+mod GivenBlocks
+mod InOrder
+pub mod LentArrays
+mod MarkedPuts
+pub mod MarkedRuns
+mod MixedRuns
+pub mod NumberedBlocks
+pub mod OneGrid
+mod OrderSteps
+pub mod Pack
+mod PixelSteps
+mod Places
+mod Points
+pub mod Poured
 mod PouredWords
-mod GivenRuns
-mod GivenSums
+mod Ranges
+pub mod Revalued
+mod RowSteps
+mod RunSteps
+pub mod Same
+mod SeenArrays
+pub mod Views
+mod Windows

@@ -1,10 +1,11 @@
 -- Values put at marked pixels, by the bits of their marks.
-use Rattle.std.proofs.Common.{◌≡◌, ◌≢◌, ℕ, ◌+◌, ◌-◌, ◌*◌, ◌<◌, ◌≤◌, Bool, true, false, cond, List, length, get_or, take, drop, set, refl, sym, ap, ◌∙◌, arith, ⊎_elim}
+use Rattle.std.proofs.Common.{ℕ, Bool, List, refl, arith, ◌≡◌, ◌+◌, ◌<◌, ◌≤◌, false, get_or, sym, ◌∙◌, true, ◌≢◌, ◌*◌, cond, length, set, ap, ⊎_elim, ◌-◌, take, drop}
 use Rattle.std.specs.Prelude.{ℤ, pos}
-use Rattle.std.proofs.lemmas.Bool.{cases_eq, cases_lt, false≢true}
+use Rattle.std.proofs.lemmas.Bool.{false≢true, cases_eq, cases_lt}
 use Rattle.std.proofs.lemmas.List.{get_or-set_same, get_or-set_other, get_or-take, get_or-drop}
 use Rattle.std.proofs.lemmas.Nat.{same_from_place}
-use Rattle.raster_values.specs.inside.Ordered.{PutsMarked, PutsPixels}
+use Rattle.raster_cells.specs.inside.Ordered.{PutsPixels}
+use Rattle.raster_values.specs.inside.Ordered.{PutsMarked}
 
 pub puts_none : (depth d : ℕ) (marks : List Bool) (place : ℕ) (input old : List ℤ) → PutsMarked depth d marks place 0 input old old
 puts_none depth d marks place input old = record {

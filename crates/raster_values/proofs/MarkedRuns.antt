@@ -1,19 +1,18 @@
 -- Runs of marked pixels, one behind the other.
-use Rattle.std.proofs.Common.{◌≡◌, ℕ, ◌+◌, ◌-◌, ◌*◌, ◌<◌, ◌≤◌, zero, suc, Bool, true, false, cond, Some, None, List, [], ◌∷◌, ◌++◌, length, take, drop, refl, sym, ap, ◌∙◌, arith, append_assoc, length-append, ⊎_elim}
+use Rattle.std.proofs.Common.{[], ℕ, Bool, List, take, ◌*◌, drop, ◌≡◌, refl, cond, Some, None, suc, ◌∷◌, ◌++◌, ◌+◌, ap, ◌∙◌, arith, ◌≤◌, zero, length, sym, append_assoc, ◌-◌, false, ◌<◌, ⊎_elim, length-append, true}
 use Rattle.std.specs.Prelude.{ℤ, unwrap_or}
-use Rattle.std.proofs.lemmas.List.{append-nil, take_at, drop_at, take_all, drop_all, take-append-drop, length-take-le, length-drop, drop-drop, drop-take, get_or-take, take-take}
+use Rattle.std.proofs.lemmas.List.{drop-drop, drop-take, take-take, drop_all, take_all, append-nil, length-take-le, get_or-take, take_at, drop_at, take-append-le, length-drop, take-append-drop}
+use Rattle.std.proofs.Math.Nat.{mul-le-mul_right, add-mul}
 use Rattle.std.proofs.lemmas.Bool.{cases_lt, false≢true}
-use Rattle.std.proofs.Math.Nat.{add-mul, mul-le-mul_right}
-use Rattle.raster_values.specs.declared.kind.PixelType.{PixelType}
-use Rattle.raster_values.specs.PixelType.{bytes_of}
+use Rattle.raster_cells.specs.MarkRuns.{AreRuns}
+use Rattle.raster_cells.proofs.CellRuns.{with_run}
+use Rattle.raster_cells.proofs.WholeRuns.{with_run_before, with_run_after}
+use Rattle.raster_cells.specs.declared.kind.PixelType.{PixelType}
+use Rattle.raster_cells.specs.PixelType.{bytes_of}
 use Rattle.raster_values.specs.Raster.{values_of}
 use Rattle.raster_values.specs.inside.View.{pixels_of}
-use Rattle.raster_values.specs.inside.Ordered.{KeepsUnmarked}
-use Rattle.raster_values.specs.inside.Runs.{AreRuns}
 use Rattle.raster_values.proofs.Pack.{next_values, two_runs, apart}
-use Rattle.raster_values.proofs.CellBytes.{with_run}
-use Rattle.raster_values.proofs.WholeRuns.{with_run_before, with_run_after}
-use Rattle.std.proofs.lemmas.List.{take-append-le}
+use Rattle.raster_values.specs.inside.Ordered.{KeepsUnmarked}
 
 -- the values of the marked ones among the first pixels
 abbrev pub front_values : ℕ → ℕ → List Bool → List ℤ → List ℤ
@@ -119,15 +118,6 @@ put_front depth at start end marks vs run h full long =
     front_more depth at start end marks new h
     ∙ ap (λ xs. xs ++ take ((end - start) * depth) (drop (start * depth) new)) (front_same depth at marks new vs before)
     ∙ ap (λ xs. front_values depth at marks vs ++ xs) there
-
-pub put_behind : (depth start end : ℕ) (vs run : List ℤ) → start ≤ end → end * depth ≤ length vs → length run ≡ (end - start) * depth → drop (end * depth) (with_run vs (start * depth) run) ≡ drop (end * depth) vs
-put_behind depth start end vs run order within long =
-    let cut : (end - start) * depth ≡ end * depth - start * depth = apart start end depth order in
-    let up : start * depth ≤ end * depth = mul-le-mul_right depth order in
-    let front : length (take (start * depth) vs ++ run) ≡ end * depth = length-append (take (start * depth) vs) run ∙ omega (arith, length-take-le (start * depth) vs (omega arith)) in
-    ap (drop (end * depth)) (sym (append_assoc (take (start * depth) vs) run (drop (start * depth + length run) vs)))
-    ∙ drop_at (take (start * depth) vs ++ run) (drop (start * depth + length run) vs) (end * depth) front
-    ∙ ap (λ n. drop n vs) (let e : start * depth + length run ≡ end * depth = omega arith in e)
 
 pub put_rest : (depth at start end : ℕ) (marks : List Bool) (old vs run : List ℤ) → AreRuns marks at start end → length vs ≡ length marks * depth → length run ≡ (end - start) * depth
     → KeepsUnmarked depth marks old vs → KeepsUnmarked depth marks old (with_run vs (start * depth) run)

@@ -1,21 +1,17 @@
 -- Runs of which some pixels are marked, gathered by putting each where the next marked one belongs.
-use Rattle.std.proofs.Common.{◌≡◌, ℕ, ◌+◌, ◌-◌, ◌*◌, ◌<◌, ◌≤◌, zero, suc, Bool, true, false, cond, List, [], ◌∷◌, ◌++◌, length, get_or, take, drop, set, map, refl, sym, ap, ◌∙◌, subst, arith, append_assoc, append-nil, length-append}
+use Rattle.std.proofs.Common.{[], ◌≡◌, ℕ, ◌+◌, Bool, List, ◌++◌, length, take, drop, map, ◌*◌, true, false, cond, ◌∷◌, get_or, refl, ap, ◌∙◌, length-append, ◌<◌, set, sym, arith, append_assoc, append-nil, zero, suc, ◌-◌, ◌≤◌, subst}
 use Rattle.std.specs.Prelude.{ℤ, pos}
-use Rattle.std.specs.List.{filter, range_with_len}
-use Rattle.std.proofs.lemmas.List.{drop-drop, length-drop, length-take-le, map-append, take-set-le, drop-set-lt}
+use Rattle.std.proofs.lemmas.List.{map-append, drop-drop, take-set-le, drop-set-lt, length-drop, length-take-le}
 use Rattle.std.proofs.lemmas.Grind.{take-set_at}
+use Rattle.std.specs.List.{filter, range_with_len}
 use Rattle.std.proofs.lemmas.List.FromFn.{length-map-range_with_len}
 use Rattle.std.proofs.lemmas.Simd.{map-map}
 use borrow.Rule.Slice.PartMut.{put_mid}
-use mir.Val.{bool_byte}
-use Rattle.raster_values.specs.inside.Runs.{run_places, run_values, Gathers}
-use Rattle.raster_values.proofs.MaskCounts.{count_most}
-use Rattle.raster_values.proofs.PixelSteps.{gathers_piece}
+use Rattle.raster_cells.specs.inside.Runs.{run_places}
+use Rattle.raster_values.specs.inside.Runs.{Gathers, run_values}
+use Rattle.raster_cells.proofs.MaskCounts.{count_most}
 use Rattle.raster_values.proofs.RunSteps.{places_more}
-
-pub byte_is : (b : Bool) → bool_byte b ≡ cond b 1 0
-byte_is true = refl
-byte_is false = refl
+use Rattle.raster_values.proofs.PixelSteps.{gathers_piece}
 
 -- what is known after so many of the pixels
 pub record IsMixed (g : ℤ → ℕ) (depth d : ℕ) (marks : List Bool) (values : List ℤ) (from i : ℕ) (old new : List ℕ) (at n : ℕ) : Type 0 where

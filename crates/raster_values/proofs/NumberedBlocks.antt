@@ -1,17 +1,17 @@
 -- Blocks by the numbers of their pixels, and masks by their marks.
-use Rattle.std.proofs.Common.{◌≡◌, ℕ, ◌+◌, ◌-◌, ◌*◌, ◌/◌, ◌%◌, ◌<◌, ◌≤◌, min, Bool, false, length, get_or, map, None, refl, sym, ap, ◌∙◌, arith, ⊎_elim}
-use Rattle.std.specs.Prelude.{ℤ, is_some}
+use Rattle.std.proofs.Common.{◌≡◌, ℕ, ◌<◌, ◌≤◌, false, length, get_or, None, sym, ap, ◌∙◌, arith, ⊎_elim, ◌+◌, ◌-◌, ◌*◌, min, Bool, map, refl, ◌/◌, ◌%◌}
+use Rattle.std.specs.Prelude.{is_some, ℤ}
+use Rattle.std.proofs.lemmas.List.{get_or-map, length-map, get_or_past, ext_get_or}
+use Rattle.std.proofs.lemmas.Bool.{cases_lt}
 use Rattle.std.specs.List.{filter, range_with_len}
-use Rattle.std.proofs.lemmas.List.{ext_get_or, get_or-map, length-map, get_or_past}
 use Rattle.std.proofs.lemmas.List.FromFn.{length-map-range_with_len, get_or-map-range_with_len}
 use Rattle.std.proofs.lemmas.Nat.{div_below}
-use Rattle.std.proofs.lemmas.Bool.{cases_lt}
+use Rattle.raster_cells.proofs.Every.{every_range, same_flat_map}
+use Rattle.raster_cells.specs.Masks.{mask_bit, marks_in}
 use Rattle.raster_values.specs.Raster.{Pixels, valid_at, value_at}
-use Rattle.raster_values.specs.Block.{block_values}
-use Rattle.raster_values.specs.Order.{mask_bit, marks_in}
 use Rattle.raster_values.specs.Flat.{marks_of, value_in, BlockIsNumbered, MarkedByBits, MaskSaysMarks}
+use Rattle.raster_values.specs.Block.{block_values}
 use Rattle.raster_values.proofs.BlockViews.{picks_flat, picks_same}
-use Rattle.raster_values.proofs.Every.{every_range, same_flat_map}
 
 pub marks_at : (r : Pixels) (k : ℕ) → get_or (marks_of r) k false ≡ is_some (get_or r.pixels k None)
 marks_at r k =

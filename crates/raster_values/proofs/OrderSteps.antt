@@ -1,10 +1,10 @@
 -- The loops over marked pixels: where the values of a run lie among all, and their bytes.
-use Rattle.std.proofs.Common.{◌≡◌, ℕ, ◌*◌, ◌≤◌, Bool, List, length, ap, arith}
+use Rattle.std.proofs.Common.{ℕ, ◌≤◌, ◌≡◌, ◌*◌, Bool, List, length, ap, arith}
 use Rattle.std.proofs.Math.Nat.{mul-le-mul, mul-le-mul_right}
-use Rattle.raster_values.specs.declared.kind.PixelType.{PixelType}
-use Rattle.raster_values.specs.PixelType.{bytes_of}
-use Rattle.raster_values.specs.inside.Runs.{AreRuns}
-use Rattle.raster_values.proofs.Spelled.{few_bytes}
+use Rattle.raster_cells.specs.declared.kind.PixelType.{PixelType}
+use Rattle.raster_cells.specs.PixelType.{bytes_of}
+use Rattle.raster_cells.specs.MarkRuns.{AreRuns}
+use Rattle.raster_cells.proofs.Spelled.{few_bytes}
 
 pub record Cut (from end size bytes_from bytes_end bytes : ℕ) : Type 0 where
   pub order : from ≤ end

@@ -1,98 +1,18 @@
 -- The loops over the values of pixels and over runs of marked ones.
-use Rattle.std.proofs.Common.{◌≡◌, ◌≢◌, ℕ, ◌+◌, ◌-◌, ◌*◌, ◌<◌, ◌≤◌, zero, suc, Bool, true, false, cond, List, [], ◌∷◌, ◌++◌, length, get_or, take, drop, set, map, refl, sym, ap, ◌∙◌, subst, arith, ⊎_elim, append_assoc, length-append}
-use Rattle.std.specs.Prelude.{ℤ, pos}
+use Rattle.std.proofs.Common.{[], ◌≡◌, ℕ, ◌+◌, ◌<◌, ◌≤◌, zero, suc, Bool, false, cond, ◌∷◌, refl, ap, ◌∙◌, arith, true, ◌-◌, List, ◌++◌, get_or, length, length-append, ◌*◌, map, take, drop, sym, append_assoc}
 use Rattle.std.specs.List.{filter, range_with_len}
-use Rattle.std.proofs.lemmas.List.{get_or-set_same, get_or-set_other, length-take-le, length-drop, map-append, take_at, drop_at, drop-drop, ext_get_or}
-use Rattle.std.proofs.lemmas.List.FromFn.{length-range_with_len, get_or-map-range_with_len, length-map-range_with_len}
 use Rattle.std.proofs.lemmas.List.Elements.{filter-append}
-use Rattle.std.proofs.lemmas.Simd.{map-map}
-use Rattle.std.proofs.lemmas.Bool.{cases_eq, cases_lt}
-use Rattle.std.proofs.lemmas.Nat.{same_from_place}
+use Rattle.std.proofs.lemmas.List.FromFn.{length-range_with_len, get_or-map-range_with_len, length-map-range_with_len}
+use Rattle.std.specs.Prelude.{ℤ, pos}
+use Rattle.std.proofs.lemmas.List.{map-append, length-take-le, take_at, drop_at, drop-drop, length-drop, ext_get_or}
 use Rattle.std.proofs.Math.Seq.{take-add}
-use Rattle.std.proofs.Math.Nat.{mul-le-mul_left, mul-le-mul_right}
 use borrow.Rule.Slice.PartMut.{put_mid}
-use Rattle.raster_values.specs.inside.Runs.{run_places, run_values, Gathers, LeavesRun, AreRuns}
-use Rattle.raster_values.specs.inside.Ordered.{FillsPixels, PutsPixels}
-use Rattle.raster_values.proofs.CellBytes.{with_run}
-use Rattle.raster_values.proofs.WholeRuns.{with_run_at, with_run_before, with_run_after}
-use Rattle.raster_values.proofs.MaskCounts.{range_join}
-use Rattle.raster_values.proofs.RunSteps.{run_same, places_rise, gathers_join}
-
--- ---- pixel by pixel
-
--- the values of the first pixels lie within the list
-pub pixel_room : {i n depth d size : ℕ} (first : ℕ) → i < n → d < depth → (first + n) * depth ≤ size → ((first + i) * depth + d < size) × (first + i ≤ size)
-pixel_room {i} {n} {depth} first below less within =
-    let up : suc (first + i) * depth ≤ (first + n) * depth = mul-le-mul_right depth (omega arith) in
-    let wide : (first + n) * 1 ≤ (first + n) * depth = mul-le-mul_left (first + n) (omega arith) in
-    (omega (arith, up), omega (arith, wide))
-
-pub pixels_more : (depth d first n : ℕ) (input old vs : List ℤ) (x : ℤ) → d < depth → (first + n) * depth + d < length vs → x ≡ get_or input n (pos 0)
-    → PutsPixels depth d first n input old vs → PutsPixels depth d first (n + 1) input old (set vs ((first + n) * depth + d) x)
-pixels_more depth d first n input old vs x below within is h = record {
-  put = λ i less.
-      ⊎_elim
-      (λ (same : i ≡ n).
-      ap (λ j. get_or (set vs ((first + n) * depth + d) x) ((first + j) * depth + d) (pos 0)) same ∙ get_or-set_same vs ((first + n) * depth + d) x (pos 0) within ∙ is ∙ ap (λ j. get_or input j (pos 0)) (sym same))
-      (λ (ne : i ≢ n).
-      get_or-set_other vs ((first + n) * depth + d) ((first + i) * depth + d) x (pos 0)
-      (λ e. let at : first + i ≡ first + n = (same_from_place (first + i) d (first + n) d depth below below e).0 in ne (omega arith))
-      ∙ h.put i (omega arith))
-      (cases_eq i n);
-  rest = λ k e less out.
-      get_or-set_other vs ((first + n) * depth + d) (k * depth + e) x (pos 0)
-      (λ same. let at = same_from_place k e (first + n) d depth less below same in
-      let here : k ≡ first + n = at.0 in
-      out (omega arith) (omega arith) at.1)
-      ∙ h.rest k e less (λ lo hi depth_is. out lo (omega arith) depth_is);
-}
-
--- a run of values is put pixel by pixel where a pixel has one value
-pub run_puts : (d first : ℕ) (run vs : List ℤ) → d < 1 → first + length run ≤ length vs
-    → PutsPixels 1 d first (length run) run vs (with_run vs first run)
-run_puts d first run vs deep within =
-    let new = with_run vs first run in
-    record {
-      put = λ i less.
-          ap (λ j. get_or new j (pos 0)) (let e : (first + i) * 1 + d ≡ first + i = omega arith in e)
-          ∙ with_run_at vs run first i within less;
-      rest = λ k e small out.
-          ⊎_elim
-          (λ (lt : k * 1 + e < first). with_run_before vs run first (k * 1 + e) within lt)
-          (λ (ge : first ≤ k * 1 + e). ⊎_elim
-          (λ (in_run : k * 1 + e < first + length run).
-          absurd (out (omega arith) (omega arith) (omega arith)))
-          (λ (past : first + length run ≤ k * 1 + e).
-          with_run_after vs run first (k * 1 + e) within past)
-          (cases_lt (k * 1 + e) (first + length run)))
-          (cases_lt (k * 1 + e) first);
-    }
-
-pub fills_one_more : (first n : ℕ) (pixel old vs : List ℤ) → (first + n) * length pixel + length pixel ≤ length vs
-    → FillsPixels first n pixel old vs → FillsPixels first (n + 1) pixel old (with_run vs ((first + n) * length pixel) pixel)
-fills_one_more first n pixel old vs within h =
-    let deep = length pixel in
-    let at = first + n in
-    let new = with_run vs (at * deep) pixel in
-    let before : (k d : ℕ) → k < at → d < deep → get_or new (k * deep + d) (pos 0) ≡ get_or vs (k * deep + d) (pos 0) = λ k d lt less.
-    (let some : suc k * deep ≤ at * deep = mul-le-mul_right deep (omega arith) in with_run_before vs pixel (at * deep) (k * deep + d) within (omega arith)) in
-    let after : (k d : ℕ) → at < k → d < deep → get_or new (k * deep + d) (pos 0) ≡ get_or vs (k * deep + d) (pos 0) = λ k d gt less.
-    (let some : suc at * deep ≤ k * deep = mul-le-mul_right deep (omega arith) in with_run_after vs pixel (at * deep) (k * deep + d) within (omega arith)) in
-    record {
-      each = λ k d low high less.
-          ⊎_elim
-          (λ (is : k ≡ at). ap (λ j. get_or new (j * deep + d) (pos 0)) is ∙ with_run_at vs pixel (at * deep) d within less)
-          (λ (ne : k ≢ at). before k d (omega arith) less ∙ h.each k d low (omega arith) less)
-          (cases_eq k at);
-      rest = λ k d less out.
-          ⊎_elim
-          (λ (lt : k < at). before k d lt less ∙ h.rest k d less (λ low high. out low (omega arith)))
-          (λ (ge : at ≤ k). ⊎_elim
-          (λ (is : k ≡ at). absurd (out (omega arith) (omega arith)))
-          (λ (ne : k ≢ at). after k d (omega arith) less ∙ h.rest k d less (λ low high. absurd (let no : ⊥ = omega arith in no)))
-          (cases_eq k at))
-          (cases_lt k at);
-    }
+use Rattle.raster_cells.specs.inside.Runs.{run_places}
+use Rattle.raster_values.specs.inside.Runs.{Gathers, run_values, LeavesRun}
+use Rattle.raster_cells.specs.MarkRuns.{AreRuns}
+use Rattle.raster_cells.proofs.MaskCounts.{range_join}
+use Rattle.raster_cells.specs.inside.Ordered.{PutsPixels}
+use Rattle.raster_values.proofs.RunSteps.{run_same}
 
 -- ---- run by run
 
@@ -128,12 +48,6 @@ places_longer marks from k start stop low runs =
     ap length (places_run marks from k start stop low runs) ∙ length-append (run_places marks from (k - from)) (range_with_len start (stop - start))
     ∙ ap (λ n. length (run_places marks from (k - from)) + n) (length-range_with_len start (stop - start))
 
--- there is room for the run where there is room for all
-pub places_room : (marks : List Bool) (from count stop : ℕ) → stop ≤ from + count → from ≤ stop → length (run_places marks from (stop - from)) ≤ length (run_places marks from count)
-places_room marks from count stop within low =
-    let e : (stop - from) + (from + count - stop) ≡ count = omega arith in
-    subst (λ n. length (run_places marks from (stop - from)) ≤ length (run_places marks from n)) e (places_rise marks from (stop - from) (from + count - stop))
-
 pub values_run : (depth d : ℕ) (marks : List Bool) (vs : List ℤ) (from k start stop : ℕ) → from ≤ k → AreRuns marks k start stop
     → run_values depth d marks vs from (stop - from) ≡ run_values depth d marks vs from (k - from) ++ map (λ j. get_or vs (j * depth + d) (pos 0)) (range_with_len start (stop - start))
 values_run depth d marks vs from k start stop low runs =
@@ -152,21 +66,6 @@ gathers_piece piece old n next is within =
       front = ap (take next) joined ∙ take_at (take n old ++ piece) (drop next old) next both;
       rest = ap (drop next) joined ∙ drop_at (take n old ++ piece) (drop next old) next both;
     }
-
--- what the values of a run of marked pixels give, gathered behind what those before it give
-pub gather_piece : {X : Type 0} (g : ℤ → X) (depth d : ℕ) (marks : List Bool) (values : List ℤ) (first out piece : List X) (from k start stop at n next : ℕ) → from ≤ k → AreRuns marks k start stop
-    → next ≡ n + (stop - start) → next ≤ length out → piece ≡ map (λ j. g (get_or values (j * depth + d) (pos 0))) (range_with_len start (stop - start))
-    → Gathers (map g (run_values depth d marks values from (k - from))) first out at n
-    → Gathers (map g (run_values depth d marks values from (stop - from))) first (put_mid n (next - n) out piece) at next
-gather_piece g depth d marks values first out piece from k start stop at n next low runs is within cut before =
-    let f : ℕ → ℤ = λ j. get_or values (j * depth + d) (pos 0) in
-    let long : length piece ≡ stop - start = ap length cut ∙ length-map-range_with_len (λ j. g (f j)) start (stop - start) in
-    let one : Gathers piece out (put_mid n (next - n) out piece) n next = gathers_piece piece out n next (omega (arith, is, long)) within in
-    let run : piece ≡ map g (map f (range_with_len start (stop - start))) = cut ∙ sym (map-map g f (range_with_len start (stop - start))) in
-    subst (λ vs. Gathers vs first (put_mid n (next - n) out piece) at next)
-    (ap (λ vs. map g (run_values depth d marks values from (k - from)) ++ vs) run
-    ∙ sym (ap (map g) (values_run depth d marks values from k start stop low runs) ∙ map-append g (run_values depth d marks values from (k - from)) (map f (range_with_len start (stop - start)))))
-    (gathers_join (map g (run_values depth d marks values from (k - from))) piece first out (put_mid n (next - n) out piece) at n next before one)
 
 -- values poured over a run
 pub pour_piece : (depth d : ℕ) (marks : List Bool) (input piece old new : List ℤ) (from k start stop at n next : ℕ) → d < depth → from ≤ k → AreRuns marks k start stop

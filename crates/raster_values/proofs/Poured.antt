@@ -1,25 +1,26 @@
 -- The loops that take the bytes of marked pixels' values, or give them, run by run.
-use Rattle.std.proofs.Common.{◌≡◌, ℕ, ◌+◌, ◌-◌, ◌*◌, ◌<◌, ◌≤◌, Bool, List, [], ◌++◌, length, get_or, take, drop, refl, sym, ap, ◌∙◌, subst, arith, ⊎_elim, append_assoc}
+use Rattle.std.proofs.Common.{[], ◌≡◌, ℕ, ◌*◌, Bool, List, drop, ap, arith, ◌+◌, ◌-◌, ◌≤◌, length, ◌<◌, get_or, take, ◌∙◌, ⊎_elim, refl, sym, subst, ◌++◌}
 use Rattle.std.specs.Prelude.{ℤ}
-use Rattle.std.proofs.lemmas.List.{length-append, take_all, take-append-drop, length-take-le, length-drop, length-take, get_or-take, get_or-drop, get_or_past}
-use Rattle.std.proofs.lemmas.Slice.{take-put_mid, drop-put_mid}
+use Rattle.std.proofs.Math.Nat.{mul-le-mul_right}
+use Rattle.std.proofs.lemmas.List.{length-take, get_or-take, get_or-drop, get_or_past, length-append, length-take-le, length-drop, take_all}
 use Rattle.std.proofs.lemmas.Bool.{cases_lt}
 use Rattle.std.proofs.lemmas.Grind.{flat_map-append}
 use Rattle.std.proofs.Math.Seq.{take-add}
-use Rattle.std.proofs.Math.Nat.{mul-le-mul_right}
+use Rattle.std.proofs.lemmas.Slice.{take-put_mid}
 use borrow.Rule.Slice.PartMut.{put_mid}
-use Rattle.raster_values.specs.declared.kind.PixelType.{PixelType}
-use Rattle.raster_values.specs.PixelType.{bytes_of, value_bytes}
+use Rattle.raster_cells.specs.MarkRuns.{AreRuns}
+use Rattle.raster_cells.proofs.Spelled.{AreBytes, bytes_put, put_as_run, length-bytes_put, bytes_put_in_range, bytes_of_values}
+use Rattle.raster_cells.specs.declared.kind.PixelType.{PixelType}
+use Rattle.raster_cells.specs.inside.CellList.{values_in}
+use Rattle.raster_cells.proofs.CellRuns.{length-values_in}
+use Rattle.raster_cells.specs.PixelType.{bytes_of, value_bytes}
+use Rattle.raster_cells.specs.Values.{values_bytes}
+use Rattle.raster_cells.proofs.Pack.{length-values_bytes}
 use Rattle.raster_values.specs.Raster.{values_of}
-use Rattle.raster_values.specs.Grid.{values_bytes}
 use Rattle.raster_values.specs.inside.View.{pixels_of}
-use Rattle.raster_values.specs.inside.CellList.{values_in}
-use Rattle.raster_values.specs.inside.Ordered.{KeepsUnmarked, ChangesMarked}
-use Rattle.raster_values.proofs.Pack.{apart, length-values_bytes}
-use Rattle.raster_values.proofs.CellBytes.{length-values_in}
-use Rattle.raster_values.proofs.Spelled.{AreBytes, bytes_of_values, bytes_put, put_as_run, length-bytes_put, bytes_put_in_range}
-use Rattle.raster_values.specs.inside.Runs.{AreRuns}
-use Rattle.raster_values.proofs.MarkedRuns.{front_values, back_values, none_before, none_behind, all_before, front_more, fits_more, put_front, put_rest}
+use Rattle.raster_values.proofs.MarkedRuns.{back_values, put_rest, front_values, none_before, fits_more, put_front, all_before, none_behind, front_more}
+use Rattle.raster_values.proofs.Pack.{apart}
+use Rattle.raster_values.specs.inside.Ordered.{ChangesMarked, KeepsUnmarked}
 
 -- all of the values stand behind the first 0
 pub back_all : (depth : ℕ) (marks : List Bool) (vs : List ℤ) → back_values depth 0 marks vs ≡ values_of (pixels_of depth marks vs)
@@ -202,12 +203,3 @@ written_all {kind} {depth} {size} {at} {from} {marks} {vs} {out} past all h =
 pub piece_long : {X : Type 0} (from m : ℕ) (xs : List X) → from + m ≤ length xs → length (take (from + m - from) (drop from xs)) ≡ m
 piece_long from m xs within =
     length-take-le (from + m - from) (drop from xs) (omega (arith, length-drop from xs, within)) ∙ (let e : from + m - from ≡ m = omega arith in e)
-
--- a vector's bytes with some of them replaced
-pub put_whole : {X : Type 0} (a e : ℕ) (xs ys : List X) → a ≤ e → e ≤ length xs → length ys ≡ e - a → put_mid a (e - a) xs ys ≡ take a xs ++ (ys ++ drop e xs)
-put_whole a e xs ys order within long =
-    let n : a + length ys ≡ e = omega arith in
-    sym (take-append-drop (a + length ys) (put_mid a (e - a) xs ys))
-    ∙ ap (λ zs. zs ++ drop (a + length ys) (put_mid a (e - a) xs ys)) (take-put_mid a (e - a) xs ys (a + length ys) refl (omega arith))
-    ∙ ap (λ zs. (take a xs ++ ys) ++ zs) (drop-put_mid a (e - a) xs ys (a + length ys) (omega arith) (omega arith) long)
-    ∙ ap (λ m. (take a xs ++ ys) ++ drop m xs) n ∙ append_assoc (take a xs) ys (drop e xs)

@@ -1,15 +1,17 @@
 -- Runs poured one behind another, pixel by pixel where only some are marked.
-use Rattle.std.proofs.Common.{◌≡◌, ℕ, ◌+◌, ◌-◌, ◌*◌, ◌<◌, ◌≤◌, Bool, true, false, cond, List, ◌++◌, length, get_or, take, drop, set, map, refl, sym, ap, ◌∙◌, subst, arith, append_assoc, append-nil, length-append}
+use Rattle.std.proofs.Common.{ℕ, Bool, List, take, refl, arith, append-nil, ◌≡◌, ◌+◌, ◌-◌, ◌<◌, ◌≤◌, ◌++◌, length, drop, sym, ap, ◌∙◌, subst, false, get_or, true, cond, ◌*◌, set, map, append_assoc, length-append}
 use Rattle.std.specs.Prelude.{ℤ, pos}
-use Rattle.std.specs.List.{filter, range_with_len}
-use Rattle.std.proofs.lemmas.List.{get_or-set_same, get_or-set_other, get_or-take, get_or-drop, length-take-le, length-drop, map-append}
-use Rattle.std.proofs.lemmas.List.Elements.{filter-append}
+use Rattle.std.proofs.lemmas.List.{length-take-le, length-drop, get_or-set_same, get_or-set_other, get_or-take, get_or-drop, map-append}
 use Rattle.std.proofs.lemmas.Nat.{same_from_place}
-use Rattle.raster_values.specs.inside.Runs.{run_places, run_values, AreRuns, LeavesRun, PoursRun}
-use Rattle.raster_values.specs.inside.Ordered.{PutsPixels}
-use Rattle.raster_values.proofs.MaskCounts.{range_join, all_count}
-use Rattle.raster_values.proofs.MixedRuns.{places_next}
+use Rattle.std.specs.List.{filter, range_with_len}
+use Rattle.std.proofs.lemmas.List.Elements.{filter-append}
+use Rattle.raster_cells.specs.inside.Runs.{run_places}
+use Rattle.raster_cells.specs.MarkRuns.{AreRuns}
+use Rattle.raster_cells.specs.inside.Ordered.{PutsPixels}
+use Rattle.raster_cells.proofs.MaskCounts.{all_count, range_join}
+use Rattle.raster_values.specs.inside.Runs.{PoursRun, run_values, LeavesRun}
 use Rattle.raster_values.proofs.PixelSteps.{places_longer, pour_piece, leaves_piece}
+use Rattle.raster_values.proofs.MixedRuns.{places_next}
 use Rattle.raster_values.proofs.RunSteps.{places_rise, run_same}
 
 -- ---- a run of marked pixels more

@@ -1,22 +1,22 @@
 -- The least and the greatest of values gathered piece by piece.
-use Rattle.std.proofs.Common.{◌≡◌, ℕ, ◌+◌, ◌-◌, ◌*◌, ◌<◌, ◌≤◌, suc, Bool, true, false, cond, Option, Some, None, List, [], ◌∷◌, ◌++◌, length, get_or, take, drop, map, refl, sym, ap, ◌∙◌, subst, arith, ◌↔◌}
-use Rattle.std.specs.Prelude.{ℤ, pos, ◌≤ℤ◌, IsNone, fold, is_some}
+use Rattle.std.proofs.Common.{[], ◌≡◌, List, ◌++◌, subst, arith, sym, ℕ, ◌+◌, ◌-◌, ◌*◌, Bool, get_or, map, ap, ◌∙◌, ◌≤◌, suc, false, ◌∷◌, drop, ◌<◌, true, Some, None, length, take, refl, Option, ◌↔◌, cond}
+use Rattle.std.specs.Prelude.{ℤ, ◌≤ℤ◌, pos, IsNone, fold, is_some}
 use Rattle.std.specs.Int.{int_min, int_max}
-use Rattle.std.specs.List.{filter, flat_map, range_with_len}
 use Rattle.std.proofs.lemmas.Int.{ints, by_lt_z}
-use Rattle.std.proofs.lemmas.List.{append-nil, map-append, map-id, get_or-take, get_or-drop}
-use Rattle.std.proofs.lemmas.List.Concat.{flat_map-cons}
 use Rattle.std.proofs.lemmas.List.Elements.{All-append, All-weaker, Contains-append_left, Contains-append_right}
+use Rattle.std.specs.List.{range_with_len, filter, flat_map}
+use Rattle.std.proofs.lemmas.List.{append-nil, map-id, get_or-drop, get_or-take}
+use Rattle.std.proofs.lemmas.List.Concat.{flat_map-cons}
 use Rattle.lane_kernels.specs.Kernels.{IsLeast, IsGreatest}
-use Rattle.lane_kernels.proofs.Bounds.{IsLeast-push, IsGreatest-push, range-unique}
-use Rattle.raster_values.specs.declared.raster.Raster.TheInside.{Inside}
-use Rattle.raster_values.specs.Raster.{Pixels, valid_count}
+use Rattle.raster_cells.specs.MarkRuns.{AreRuns}
+use Rattle.lane_kernels.proofs.Bounds.{range-unique}
+use Rattle.raster_values.specs.inside.Runs.{run_values, IsRange}
+use Rattle.raster_values.proofs.PixelSteps.{values_run}
+use Rattle.raster_values.proofs.BlockViews.{picks_same}
 use Rattle.raster_values.specs.Flat.{at_depth, depth_values}
 use Rattle.raster_values.specs.inside.View.{pixels_of, seen}
-use Rattle.raster_values.specs.inside.Runs.{run_values, AreRuns, IsRange}
-use Rattle.raster_values.proofs.BlockViews.{picks_same}
-use Rattle.raster_values.proofs.PixelSteps.{values_run}
-use Rattle.raster_values.proofs.RunSteps.{range_more}
+use Rattle.raster_values.specs.declared.rasters.raster.Raster.TheInside.{Inside}
+use Rattle.raster_values.specs.Raster.{Pixels, valid_count}
 
 -- ---- two lists, one behind the other
 
@@ -48,27 +48,6 @@ pub range_joined : (xs ys : List ℤ) (a b m n low high : ℤ) → low ≡ int_m
     → IsLeast (xs ++ ys) low × IsGreatest (xs ++ ys) high
 range_joined xs ys a b m n low high is_low is_high la gb lm gn =
     (subst (IsLeast (xs ++ ys)) (sym is_low) (least_joined xs ys a m la lm), subst (IsGreatest (xs ++ ys)) (sym is_high) (greatest_joined xs ys b n gb gn))
-
--- ---- one value more
-
-pub range_more_values : (f : ℕ → ℤ) (first i : ℕ) → map f (range_with_len first (i + 1)) ≡ map f (range_with_len first i) ++ f (first + i) ∷ []
-range_more_values f first i = ap (map f) (range_more first i) ∙ map-append f (range_with_len first i) ((first + i) ∷ [])
-
-pub least_pushed : (f : ℕ → ℤ) (first i : ℕ) (a m v : ℤ) → m ≡ int_min a v → v ≡ f (first + i) → IsLeast (map f (range_with_len first i)) a → IsLeast (map f (range_with_len first (i + 1))) m
-least_pushed f first i a m v is at h =
-    subst (λ xs. IsLeast xs m) (sym (range_more_values f first i))
-    (subst (IsLeast (map f (range_with_len first i) ++ f (first + i) ∷ [])) (sym (is ∙ ap (int_min a) at)) (IsLeast-push (map f (range_with_len first i)) a (f (first + i)) h))
-
-pub greatest_pushed : (f : ℕ → ℤ) (first i : ℕ) (b n v : ℤ) → n ≡ int_max b v → v ≡ f (first + i) → IsGreatest (map f (range_with_len first i)) b → IsGreatest (map f (range_with_len first (i + 1))) n
-greatest_pushed f first i b n v is at h =
-    subst (λ xs. IsGreatest xs n) (sym (range_more_values f first i))
-    (subst (IsGreatest (map f (range_with_len first i) ++ f (first + i) ∷ [])) (sym (is ∙ ap (int_max b) at)) (IsGreatest-push (map f (range_with_len first i)) b (f (first + i)) h))
-
-pub least_of_one : (v : ℤ) → IsLeast (v ∷ []) v
-least_of_one v = ((0, omega arith, refl), λ k d below. let is : k ≡ 0 = omega arith in subst (λ (j : ℕ). v ≤ℤ get_or (v ∷ []) j d) (sym is) (let same : v ≤ℤ v = omega (arith, ints) in same))
-
-pub greatest_of_one : (v : ℤ) → IsGreatest (v ∷ []) v
-greatest_of_one v = ((0, omega arith, refl), λ k d below. let is : k ≡ 0 = omega arith in subst (λ (j : ℕ). get_or (v ∷ []) j d ≤ℤ v) (sym is) (let same : v ≤ℤ v = omega (arith, ints) in same))
 
 -- ---- a run more
 

@@ -1,17 +1,17 @@
 -- Rasters with other values at the same valid pixels, and rasters made of marks and values.
-use Rattle.std.proofs.Common.{◌≡◌, ℕ, ◌+◌, ◌*◌, ◌<◌, zero, suc, Bool, true, false, List, [], ◌∷◌, ◌++◌, length, get_or, take, drop, map, refl, sym, ap, ◌∙◌, subst, arith, Option, Some, None}
-use Rattle.std.specs.Prelude.{ℤ, pos, is_some, unwrap_or, All, cond}
+use Rattle.std.proofs.Common.{[], ◌≡◌, ℕ, ◌+◌, ◌<◌, length, get_or, ap, ◌∙◌, arith, None, List, refl, Option, Some, false, sym, true, map, subst, Bool, ◌∷◌, drop, ◌*◌, ◌++◌, take, zero, suc}
+use Rattle.std.specs.Prelude.{ℤ, is_some, pos, unwrap_or, cond, All}
 use Rattle.std.specs.List.{range_with_len}
-use Rattle.std.proofs.lemmas.List.{ext_get_or, get_or-map, length-map, length-take-le, length-drop, take-append-drop}
+use Rattle.std.proofs.lemmas.List.{get_or-map, length-map, ext_get_or, length-drop, take-append-drop, length-take-le}
 use Rattle.std.proofs.lemmas.List.FromFn.{length-range_with_len, get_or-range_with_len}
-use Rattle.std.proofs.lemmas.List.Elements.{All-take, All-drop}
 use Rattle.std.proofs.lemmas.List.Sums.{sum_by-cons}
-use Rattle.raster_values.specs.declared.kind.PixelType.{PixelType}
-use Rattle.raster_values.specs.PixelType.{InRange}
-use Rattle.raster_values.specs.Raster.{Pixels, IsRaster, IsPixel, values_of}
+use Rattle.std.proofs.lemmas.List.Elements.{All-take, All-drop}
+use Rattle.raster_cells.specs.declared.kind.PixelType.{PixelType}
+use Rattle.raster_cells.specs.PixelType.{InRange}
+use Rattle.raster_cells.specs.Masks.{count_of}
+use Rattle.raster_values.specs.Raster.{Pixels, IsPixel, IsRaster, values_of}
+use Rattle.raster_values.specs.Flat.{new_pixel, revalued, marks_of, value_in, ValuesMayChange, pixels_with, RasterInOrder, OrderDetermines}
 use Rattle.raster_values.specs.Places.{SameShape}
-use Rattle.raster_values.specs.Flat.{marks_of, value_in, new_pixel, revalued, ValuesMayChange, pixels_with, RasterInOrder, OrderDetermines}
-use Rattle.raster_values.specs.ReadGrid.{count_of}
 use Rattle.raster_values.proofs.Deep.{values_next, pixels_once, raster_deep, AreDeep}
 
 pub new_at : (r : Pixels) (g : ℕ → ℕ → ℤ → ℤ) (k : ℕ) → k < length r.pixels → get_or (revalued r g).pixels k None ≡ new_pixel r.depth (g k) (get_or r.pixels k None)

@@ -1,13 +1,15 @@
 -- The loops over the rows of a block.
-use Rattle.std.proofs.Common.{◌≡◌, ℕ, ◌+◌, ◌-◌, ◌*◌, ◌<◌, ◌≤◌, zero, suc, Bool, true, false, cond, List, [], ◌∷◌, ◌++◌, length, get_or, take, map, refl, sym, ap, ◌∙◌, subst, arith, length-append, ⊎_elim}
-use Rattle.std.proofs.lemmas.Bool.{cases_lt}
-use Rattle.std.specs.Prelude.{ℤ}
+use Rattle.std.proofs.Common.{[], ◌≡◌, ℕ, ◌+◌, List, ◌++◌, sym, ap, ◌∙◌, ◌≤◌, zero, suc, length, subst, arith, length-append, ◌-◌, ◌<◌, ◌*◌, Bool, map, take, true, false, cond, ◌∷◌, get_or, refl, ⊎_elim}
 use Rattle.std.specs.List.{flat_map, range_with_len}
 use Rattle.std.proofs.lemmas.List.{flat_map_more, map-append}
 use Rattle.std.proofs.Math.Nat.{mul-le-mul_left, mul-le-mul_right}
-use Rattle.raster_values.specs.inside.Runs.{run_places, run_values, rows_places, rows_values, Gathers, LeavesRun, LeavesRows}
-use Rattle.raster_values.proofs.Every.{every_range, same_flat_map}
-use Rattle.raster_values.proofs.RunSteps.{length_places, range_more, run_same, gathers_join}
+use Rattle.std.specs.Prelude.{ℤ}
+use Rattle.std.proofs.lemmas.Bool.{cases_lt}
+use Rattle.raster_cells.proofs.RunSteps.{range_more}
+use Rattle.raster_cells.specs.inside.Runs.{run_places}
+use Rattle.raster_values.specs.inside.Runs.{Gathers, rows_places, run_values, rows_values, LeavesRun, LeavesRows}
+use Rattle.raster_cells.proofs.Every.{every_range, same_flat_map}
+use Rattle.raster_values.proofs.RunSteps.{gathers_join, run_same, length_places}
 
 pub pieces_more : {Y : Type 0} (f : ℕ → List Y) (a n : ℕ) → flat_map f (range_with_len a (n + 1)) ≡ flat_map f (range_with_len a n) ++ f (a + n)
 pieces_more f a n = ap (flat_map f) (range_more a n) ∙ sym (flat_map_more f [] (range_with_len a n) (a + n))

@@ -1,20 +1,15 @@
 -- The loops over runs of pixels.
-use Rattle.std.proofs.Common.{◌≡◌, ◌≢◌, ℕ, ◌+◌, ◌*◌, ◌<◌, ◌≤◌, zero, suc, Bool, true, false, cond, List, [], ◌∷◌, ◌++◌, length, get_or, take, drop, sym, ap, ◌∙◌, subst, arith, append_assoc, length-append}
-use Rattle.std.specs.Prelude.{ℤ, pos}
+use Rattle.std.proofs.Common.{[], ◌≡◌, ℕ, ◌+◌, Bool, false, cond, List, ◌∷◌, ◌++◌, get_or, ap, ◌∙◌, ◌≤◌, zero, suc, true, length, arith, length-append, sym, subst, take, drop, append_assoc, ◌*◌, ◌<◌}
 use Rattle.std.specs.List.{filter, range_with_len}
-use Rattle.std.proofs.lemmas.List.{drop-drop, length-map}
 use Rattle.std.proofs.lemmas.List.Elements.{filter-append}
-use Rattle.std.proofs.lemmas.Nat.{same_from_place}
-use Rattle.raster_values.specs.inside.Runs.{run_places, run_values, Gathers}
-use Rattle.raster_values.proofs.Every.{every_filter, every_range, same_map}
+use Rattle.std.proofs.lemmas.List.{drop-drop, length-map}
+use Rattle.std.specs.Prelude.{ℤ, pos}
+use Rattle.raster_cells.specs.inside.Runs.{run_places}
+use Rattle.raster_values.specs.inside.Runs.{Gathers, run_values}
+use Rattle.raster_cells.proofs.RunSteps.{range_more}
+use Rattle.raster_cells.proofs.Every.{every_filter, every_range, same_map}
 
 -- ---- one more pixel
-
-pub range_more : (a n : ℕ) → range_with_len a (n + 1) ≡ range_with_len a n ++ (a + n) ∷ []
-range_more a zero = ap (λ m. m ∷ []) (let e : a ≡ a + 0 = omega arith in e)
-range_more a (suc n) =
-    ap (range_with_len a) (let e : suc n + 1 ≡ suc (n + 1) = omega arith in e)
-    ∙ ap (λ ms. a ∷ ms) (range_more (a + 1) n ∙ ap (λ m. range_with_len (a + 1) n ++ m ∷ []) (let e : a + 1 + n ≡ a + suc n = omega arith in e))
 
 pub places_more : (marks : List Bool) (from n : ℕ) → run_places marks from (n + 1) ≡ run_places marks from n ++ cond (get_or marks (from + n) false) ((from + n) ∷ []) []
 places_more marks from n = ap (filter (λ k. get_or marks k false)) (range_more from n) ∙ filter-append (λ k. get_or marks k false) (range_with_len from n) ((from + n) ∷ [])
@@ -57,9 +52,6 @@ run_same depth d marks old new from n each =
     same_map (λ k. get_or new (k * depth + d) (pos 0)) (λ k. get_or old (k * depth + d) (pos 0)) (run_places marks from n)
     (every_filter (λ k. get_or new (k * depth + d) (pos 0) ≡ get_or old (k * depth + d) (pos 0)) (λ k. get_or marks k false) (range_with_len from n)
     (every_range (λ k. get_or marks k false ≡ true → get_or new (k * depth + d) (pos 0) ≡ get_or old (k * depth + d) (pos 0)) from n (λ k lo hi _. each k lo hi)))
-
-apart : (depth d k m : ℕ) → d < depth → k < m → k * depth + d ≢ m * depth + d
-apart depth d k m below less e = let is : k ≡ m = (same_from_place k d m d depth below below e).0 in absurd (let no : ⊥ = omega arith in no)
 
 pub length_values : (depth d : ℕ) (marks : List Bool) (values : List ℤ) (from n : ℕ) → length (run_values depth d marks values from n) ≡ length (run_places marks from n)
 length_values depth d marks values from n = length-map (run_places marks from n) (λ k. get_or values (k * depth + d) (pos 0))

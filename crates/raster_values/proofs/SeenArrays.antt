@@ -1,22 +1,23 @@
 -- Rasters that are read in a caller's arrays.
-use Rattle.std.proofs.Common.{◌≡◌, ℕ, ◌+◌, ◌*◌, ◌<◌, Bool, true, false, List, length, get_or, drop, cond, refl, sym, ap, ◌∙◌, subst, arith}
-use Rattle.std.specs.Prelude.{ℤ, pos, All, count_by}
+use Rattle.std.proofs.Common.{ℕ, ◌*◌, List, ◌≡◌, length, sym, ap, ◌∙◌, subst, ◌+◌, ◌<◌, true, false, get_or, drop, arith, Bool, cond, refl}
+use Rattle.std.specs.Prelude.{All, count_by, pos, ℤ}
 use Rattle.std.proofs.lemmas.Bool.{false≢true}
 use Rattle.std.proofs.lemmas.Nat.{mul-add-lt}
+use Rattle.raster_cells.specs.declared.kind.PixelType.{PixelType}
+use Rattle.raster_cells.specs.inside.CellList.{CellList, values_in}
+use Rattle.raster_cells.specs.PixelType.{InRange, bytes_of, value_of}
+use Rattle.raster_cells.specs.Shapes.{IsShape}
+use Rattle.raster_cells.proofs.CellRuns.{length-values_in}
+use Rattle.raster_cells.proofs.Spelled.{AreBytes, values_fit, value_in-at}
+use Rattle.raster_cells.proofs.MaskCounts.{all_set}
 use Rattle.byteorder.specs.Endian.{little_number}
-use Rattle.raster_values.specs.declared.kind.PixelType.{PixelType}
-use Rattle.raster_values.specs.declared.seen.Seen.TheInside.{Inside as Arrays}
-use Rattle.raster_values.specs.PixelType.{InRange, bytes_of, value_of}
-use Rattle.raster_values.specs.Raster.{IsRaster, IsShape, valid_count}
-use Rattle.raster_values.specs.Flat.{all_values, value_in}
-use Rattle.raster_values.specs.inside.CellList.{CellList, values_in}
+use Rattle.raster_values.specs.declared.rasters.seen.Seen.TheInside.{Inside as Arrays}
 use Rattle.raster_values.specs.inside.SeenView.{AreSeen, seen_there, vectors_of}
+use Rattle.raster_values.specs.Raster.{IsRaster, valid_count}
+use Rattle.raster_values.proofs.Views.{sound_vectors, count-pixels_of}
+use Rattle.raster_values.specs.Flat.{all_values, value_in}
 use Rattle.raster_values.proofs.AllCells.{all_of_vectors}
-use Rattle.raster_values.proofs.CellBytes.{length-values_in}
 use Rattle.raster_values.proofs.FlatViews.{value_marked, value_unmarked}
-use Rattle.raster_values.proofs.MaskCounts.{all_set}
-use Rattle.raster_values.proofs.Spelled.{AreBytes, value_in-at, values_fit}
-use Rattle.raster_values.proofs.Views.{count-pixels_of, sound_vectors}
 
 -- the values of a raster of a shape, as a caller's bytes have them
 abbrev pub lying : PixelType → ℕ → ℕ → ℕ → List ℕ → CellList

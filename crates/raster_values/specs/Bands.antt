@@ -1,5 +1,5 @@
 -- Bands: up to 16 rasters of one type and one shape, with a limit on all their values together.
-use Rattle.std.specs.Prelude.{◌+◌, ◌*◌, ◌<◌, ◌≤◌, List, [], ◌∷◌, length, All}
+use Rattle.std.specs.Prelude.{[], ◌+◌, ◌*◌, ◌≤◌, List, ◌∷◌, length, All, ◌<◌}
 use Rattle.raster_values.specs.Raster.{Pixels, IsRaster}
 use Rattle.raster_values.specs.Places.{SameShape}
 

@@ -1,13 +1,15 @@
 -- A raster by the numbers of its pixels: row by row, from 0.
-use Rattle.std.specs.Prelude.{◌≡◌, ◌≤◌, ◌<◌, ℕ, ℤ, pos, ◌+◌, ◌-◌, ◌*◌, Bool, true, false, List, [], ◌∷◌, length, get_or, take, drop, map, min, replicate, Option, Some, None, is_some, unwrap_or, IfSome, All}
-use Rattle.std.specs.List.{count_by, filter, flat_map, range_with_len}
-use Rattle.raster_values.specs.declared.kind.PixelType.{PixelType}
-use Rattle.raster_values.specs.PixelType.{InRange, Spells, bytes_of}
-use Rattle.raster_values.specs.Grid.{values_bytes}
-use Rattle.raster_values.specs.Raster.{Pixels, IsRaster, IsShape, values_of}
-use Rattle.raster_values.specs.Places.{SameShape}
+use Rattle.std.specs.Prelude.{[], Bool, List, map, is_some, ℕ, ℤ, pos, get_or, None, unwrap_or, ◌<◌, length, IfSome, ◌≡◌, ◌≤◌, ◌+◌, ◌*◌, true, ◌∷◌, Option, Some, replicate, drop, ◌-◌, min, false, take, All}
+use Rattle.std.specs.List.{filter, range_with_len, flat_map, count_by}
+use Rattle.raster_cells.specs.PixelType.{Spells, bytes_of, InRange}
+use Rattle.raster_cells.specs.Values.{values_bytes}
+use Rattle.raster_cells.specs.declared.kind.PixelType.{PixelType}
+use Rattle.raster_cells.specs.Shapes.{IsShape}
+use Rattle.raster_cells.specs.Masks.{marks_in}
+use Rattle.raster_values.specs.Raster.{Pixels, IsRaster, values_of}
 use Rattle.raster_values.specs.Block.{SameMask, block_values}
-use Rattle.raster_values.specs.Order.{MarksBits, IsMaskOf, marks_in}
+use Rattle.raster_values.specs.Places.{SameShape}
+use Rattle.raster_values.specs.Order.{MarksBits, IsMaskOf}
 
 -- which pixels are valid
 abbrev pub marks_of : Pixels → List Bool

@@ -1,17 +1,15 @@
 -- A raster that lies in a caller's arrays: a bit for each pixel, row by row and the highest of each
 -- byte first, and the bytes of all values as they lie in a raster, which are 0 where a pixel is
 -- invalid.
-use Rattle.std.specs.Prelude.{ℕ, ◌*◌, List}
+use Rattle.std.specs.Prelude.{ℕ, List}
 use Rattle.std.specs.Borrow.{GName}
-use Rattle.raster_values.specs.declared.kind.PixelType.{PixelType}
-use Rattle.raster_values.specs.declared.lent.Lent.{Lent}
-use Rattle.raster_values.specs.declared.raster.Raster.TheInside.{Inside}
-use Rattle.raster_values.specs.Order.{marks_in}
+use Rattle.raster_cells.specs.declared.kind.PixelType.{PixelType}
+use Rattle.raster_cells.specs.inside.CellList.{CellList, cells_in}
+use Rattle.raster_values.specs.declared.rasters.lent.Lent.{Lent}
+use Rattle.raster_values.specs.declared.rasters.raster.Raster.TheInside.{Inside}
 use Rattle.raster_values.specs.Raster.{Pixels}
-use Rattle.raster_values.specs.inside.CellList.{CellList, values_in}
-use Rattle.raster_values.specs.inside.LentBytes.{AreValueBytes}
-use Rattle.raster_values.specs.inside.LentMask.{AreBits}
-use Rattle.raster_values.specs.inside.View.{seen, IsInside}
+use Rattle.raster_values.specs.inside.Parts.{parts_of}
+use Rattle.raster_values.specs.inside.View.{seen}
 
 -- what no call changes: all but the values, and which array these are
 pub record Frame : Type 0 where
@@ -47,28 +45,12 @@ bytes_in t = t.values.now
 
 -- the values of all pixels
 abbrev pub lent_cells : Lent → CellList
-lent_cells t = record { kind = t.kind; values = values_in t.kind t.count t.values.now }
-
-abbrev pub AreLentCells : Lent → Type 0
-AreLentCells t = AreValueBytes t.kind t.count t.values.now
+lent_cells t = cells_in t.kind t.count t.values.now
 
 -- the arrays as the two vectors of a raster
 abbrev pub inside_of : Lent → Inside
-inside_of t =
-    record {
-      rows = t.rows;
-      cols = t.cols;
-      depth = t.depth;
-      marks = marks_in (t.rows * t.cols) t.mask.now;
-      values = lent_cells t;
-    }
+inside_of t = parts_of t.kind t.rows t.cols t.depth t.count t.mask.now t.values.now
 
 -- the raster
 abbrev pub lent_pixels : Lent → Pixels
 lent_pixels t = seen (inside_of t)
-
--- what holds of the arrays between calls
-pub record IsLent (t : Lent) : Type 0 where
-  pub inside : IsInside (inside_of t)
-  pub bits : AreBits (t.rows * t.cols) t.valid t.mask.now
-  pub cells : AreLentCells t

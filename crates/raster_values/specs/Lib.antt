@@ -1,21 +1,18 @@
 -- What contracts of this crate cite.
 pub use Rattle.byteorder.specs.Endian
-pub use Rattle.outside_io.specs.streams.Faults.{CountsFaults}
-pub use Rattle.outside_io.specs.streams.Sink.{Holds, HoldsPrefix}
-pub mod PixelType
-pub mod Distance
-pub mod Raster
-pub mod Step
-pub mod Places
-pub mod Grid
-pub mod Block
-pub mod Order
-pub mod Values
-pub mod Flat
-pub mod Words
-pub mod MarkRuns
-pub mod ReadGrid
+pub use Rattle.raster_cells.specs.Distance
+pub use Rattle.raster_cells.specs.MarkRuns
+pub use Rattle.raster_cells.specs.Masks
+pub use Rattle.raster_cells.specs.PixelType
+pub use Rattle.raster_cells.specs.Shapes
+pub use Rattle.raster_cells.specs.Step
+pub use Rattle.raster_cells.specs.Values
+pub use Rattle.raster_cells.specs.Words
 pub mod Bands
-pub mod BandsGrid
+pub mod Block
+pub mod Flat
 pub mod Lent
+pub mod Order
+pub mod Places
+pub mod Raster
 pub mod inside

@@ -1,11 +1,11 @@
 -- A raster in order: its values poured one behind the other, one list for every valid pixel, and
 -- its mask as bytes.
-use Rattle.std.specs.Prelude.{◌≡◌, ℕ, ℤ, pos, ◌+◌, ◌-◌, ◌*◌, ◌/◌, ◌%◌, ◌^◌, ◌<◌, ◌≤◌, Bool, false, List, length, get_or, map, None, is_some, nat_eq}
-use Rattle.std.specs.List.{range_with_len}
-use Rattle.raster_values.specs.Raster.{Pixels, IsRaster, InShape, IsValidAt, valid_at, value_at, values_of}
-use Rattle.raster_values.specs.Places.{SameShape}
+use Rattle.std.specs.Prelude.{◌≡◌, ℤ, List, ℕ, pos, ◌<◌, get_or, ◌+◌, ◌*◌, ◌/◌, ◌≤◌, false, length, None, is_some}
+use Rattle.raster_cells.specs.Values.{AreValues}
+use Rattle.raster_cells.specs.Masks.{mask_bit}
+use Rattle.raster_values.specs.Raster.{Pixels, values_of, InShape, IsValidAt, value_at, valid_at, IsRaster}
 use Rattle.raster_values.specs.Block.{SameMask}
-use Rattle.raster_values.specs.Values.{AreValues}
+use Rattle.raster_values.specs.Places.{SameShape}
 
 -- the valid pixels have these values, in order and depth innermost
 pub record PoursAll (old new : Pixels) (values : List ℤ) : Type 0 where
@@ -23,14 +23,6 @@ pub record FillsBytes (old new : Pixels) (bytes : List ℕ) : Type 0 where
   pub list : List ℤ
   pub stands : AreValues old.kind bytes list
   pub filled : FillsValid old new list
-
--- bit number k of a mask, the highest of each byte first
-abbrev pub mask_bit : List ℕ → ℕ → Bool
-mask_bit mask k = nat_eq (get_or mask (k / 8) 0 / 2 ^ (7 - k % 8) % 2) 1
-
--- which of so many pixels the bits of a mask say to be valid: further bits are free
-unfoldable pub marks_in : ℕ → List ℕ → List Bool
-marks_in pixels mask = map (mask_bit mask) (range_with_len 0 pixels)
 
 -- the pixels whose bits are 1 are valid, and every value is 0
 pub record MarksBits (old new : Pixels) (mask : List ℕ) : Type 0 where

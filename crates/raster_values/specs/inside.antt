@@ -1,17 +1,9 @@
--- Words of functions that this crate keeps to itself.
-pub mod Cleared
-pub mod View
-pub mod Pack
-pub mod Runs
-pub mod CellList
-pub mod CellView
+-- Words of functions that are no words of the crates above.
 pub mod Ordered
-pub mod Heads
-pub mod Sizes
-pub mod TakenRun
-pub mod Bits
-pub mod MaskView
-pub mod LentBytes
-pub mod LentMask
+pub mod Planes
+pub mod Runs
 pub mod SeenView
-pub mod Listed
+pub mod View
+pub mod Windows
+pub mod LentCells
+pub mod Parts

@@ -1,7 +1,7 @@
 -- The name of each reason for which a blob or a grid is refused.
 use Rattle.std.specs.Prelude.{ℕ, List, codes}
-use Rattle.raster_values.specs.declared.reading.GridReason.{GridReason}
-use Rattle.raster_values.specs.declared.reading.GridReason.TheVariants.{Truncated as GridTruncated, BadMagic, BadType as GridBadType, BadSize, TooLarge as GridTooLarge, BadMark}
+use Rattle.raster_grids.specs.declared.reading.GridReason.{GridReason}
+use Rattle.raster_grids.specs.declared.reading.GridReason.TheVariants.{Truncated as GridTruncated, BadMagic, BadType as GridBadType, BadSize, TooLarge as GridTooLarge, BadMark}
 use Rattle.lerc_header.specs.declared.fault.BlobReason.{BlobReason}
 use Rattle.lerc_header.specs.declared.fault.BlobReason.TheVariants.{Truncated, BadKey, BadVersion, BadRows, BadCols, BadDepth, TooLarge, BadCount, BadBlockSize, BadBlobSize, FloatPixels, BadType, BadError, BadRange, BadChecksum, BadMaskLength, BadRun, BadMaskCount, MaskMissing, BadSweep, BadMode, BadBlockTag, BadOffsetCode, BadListHead, BadListCount, BadTable, BadIndex, BadCodeTable, NoCode, PastEnd, Leftover}
 

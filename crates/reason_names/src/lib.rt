@@ -9,7 +9,7 @@ ghost use Rattle.std.specs.Prelude.{◌≡◌, ◌≤◌, length};
 ghost use Rattle.reason_names.specs.Names.{blob_name_of, grid_name_of};
 
 use lerc_header::BlobReason;
-use raster_values::GridReason;
+use raster_grids::GridReason;
 
 /// The name of a reason that a blob is refused for.
 pub fn blob_name(reason: BlobReason) -> &'static [u8]

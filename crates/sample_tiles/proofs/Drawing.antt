@@ -5,7 +5,7 @@ use Rattle.std.specs.List.{range_with_len}
 use Rattle.std.proofs.lemmas.Bool.{cases_lt}
 use Rattle.std.proofs.lemmas.List.{ext_get_or, get_or-replicate, get_or-set_other, get_or-set_same, get_or_past, length-replicate, length-set, set-set}
 use Rattle.std.proofs.lemmas.List.FromFn.{get_or-map-range_with_len, length-map-range_with_len}
-use Rattle.raster_values.specs.declared.kind.PixelType.TheVariants.{I16}
+use Rattle.raster_cells.specs.declared.kind.PixelType.TheVariants.{I16}
 use Rattle.raster_values.specs.Raster.{Pixels, blank, marked, written, IsValidAt}
 use Rattle.sample_tiles.specs.Drawn.{drawn, drawn_pixel, follower, sample_pixel, sample_tile}
 use Rattle.sample_tiles.specs.inside.Drawing.{IsDrawn, IsOpenFrom, pixel_of, tile_of}

@@ -2,7 +2,7 @@
 -- stand for.
 use Rattle.std.specs.Prelude.{ℕ, ℤ, pos, zero, suc, ◌+◌, ◌*◌, ◌/◌, ◌%◌, ◌^◌, nat_eq, if◌then◌else◌, List, [], ◌∷◌, map, Option, None, Some}
 use Rattle.std.specs.List.{range_with_len}
-use Rattle.raster_values.specs.declared.kind.PixelType.TheVariants.{I16}
+use Rattle.raster_cells.specs.declared.kind.PixelType.TheVariants.{I16}
 use Rattle.raster_values.specs.Raster.{Pixels}
 
 -- the number that follows

@@ -1,8 +1,8 @@
 //! What the tiles of a sample come to.
 
 ghost use Rattle.std.specs.Prelude.{◌≡◌, ◌+◌, ◌*◌, ◌<◌, ◌≤◌, ◌-ℤ◌, ◌∷◌, [], ℕ, List, pos, IfOk, OnOk, get_or, length, unsigned_abs};
-ghost use Rattle.raster_values.specs.declared.kind.PixelType.{PixelType};
-ghost use Rattle.raster_values.specs.PixelType.{InRange};
+ghost use Rattle.raster_cells.specs.declared.kind.PixelType.{PixelType};
+ghost use Rattle.raster_cells.specs.PixelType.{InRange};
 ghost use Rattle.raster_values.specs.Raster.{Pixels};
 ghost use Rattle.lerc_header.specs.Head.{u32_at};
 ghost use Rattle.lerc_grammar.specs.Bands.{BandsBlob};

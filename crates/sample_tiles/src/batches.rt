@@ -11,10 +11,13 @@ use lerc_header::{Step, Version};
 use raster_values::Bands;
 use std::alloc::{AllocError, Global};
 use std::thread::Threads;
-use tile_workers::{Blobs, Gate, encode_tiles};
+use tile_workers::{Blobs, Coding, Gate, encode_tiles};
 
 /// How many tiles are drawn and encoded at once.
 const BATCH: u32 = 64;
+
+/// How many tiles a sample may have.
+pub const MOST_TILES: u32 = 4096;
 
 /// How many workers encode them.
 const WORKERS: usize = 4;
@@ -43,7 +46,12 @@ fn encoded<R: Threads + Sync, G: Gate>(
 ) -> Result<Blobs, AllocError>
     ensures { IfOk result (AreTheirs tiles.now) }
 {
-    match encode_tiles(rt, alloc, tiles, Version::V4, Step::of(1), WORKERS, gate) {
+    let coding = Coding {
+        version: Version::V4,
+        step: Step::of(1),
+        workers: WORKERS,
+    };
+    match encode_tiles(rt, alloc, tiles, coding, gate) {
         Ok(blobs) => Ok(blobs),
         // Version 4 has a place for every depth, so that memory alone can be wanting.
         Err(_) => Err(AllocError),

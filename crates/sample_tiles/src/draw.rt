@@ -1,8 +1,8 @@
 //! Tiles of numbers that each follow from the one before.
 
 ghost use Rattle.std.specs.Prelude.{◌≡◌, ◌+◌, ◌*◌, ◌<◌, ◌≤◌, ℕ, None, IfOk, IfSome, OnOk, get_or, length, slice_set};
-ghost use Rattle.raster_values.specs.PixelType.{InRange};
-ghost use Rattle.raster_values.specs.declared.kind.PixelType.{PixelType};
+ghost use Rattle.raster_cells.specs.PixelType.{InRange};
+ghost use Rattle.raster_cells.specs.declared.kind.PixelType.{PixelType};
 ghost use Rattle.sample_tiles.specs.Drawn.{drawn, drawn_pixel, follower, sample_tile};
 ghost use Rattle.sample_tiles.specs.inside.Drawing.{IsDrawn, IsOpenFrom, pixel_of, tile_of};
 

@@ -11,5 +11,5 @@ mod draw;
 mod laws;
 
 pub use adding::Sums;
-pub use batches::sample;
+pub use batches::{MOST_TILES, sample};
 pub use laws::samples_are_one;

@@ -7,7 +7,7 @@ use outside_io::{Bytes, MemSource, Source};
 use std::alloc::Global;
 use std::thread::Threads;
 use tile_updates::read_updates;
-use tile_workers::Open;
+use tile_workers::{Coding, Open};
 
 /// `read BYTES PIECE FAILING WORKERS`: the slot's number and the bytes of each update, of an input
 /// that gives so many bytes a call and whose calls of these numbers fail; or why there are none. It
@@ -25,8 +25,12 @@ fn read<R: Threads + Sync>(
         return Err(CaseStop::BadRow);
     }
     let mut src = MemSource::new(bytes, piece.max(1), failing);
-    let (version, step) = (Version::V3, Step::of(0));
-    match read_updates(rt, alloc, &mut src, version, step, workers, &Open) {
+    let coding = Coding {
+        version: Version::V3,
+        step: Step::of(0),
+        workers,
+    };
+    match read_updates(rt, alloc, &mut src, coding, &Open) {
         Err(stop) => told.fact(stop),
         Ok(updates) => {
             tell_updates(&updates, told)?;

@@ -6,9 +6,9 @@ use Rattle.first_fault.specs.Faults.{none, wrong, unless}
 use Rattle.first_fault.specs.Parts.{AreBytes, InFront, HasFault, IsDecided}
 use Rattle.first_fault.proofs.Decided.{Joined, decided_in_order, decided_unless}
 use Rattle.raster_values.specs.Raster.{Pixels}
-use Rattle.raster_values.specs.BandsGrid.{IsBandsGrid, bands_faults}
-use Rattle.raster_values.specs.declared.reading.GridReason.TheVariants.{Truncated}
-use Rattle.raster_values.proofs.BandsGridDecided.{bands_grids_are_decided}
+use Rattle.raster_grids.specs.BandsGrid.{IsBandsGrid, bands_faults}
+use Rattle.raster_grids.specs.declared.reading.GridReason.TheVariants.{Truncated}
+use Rattle.raster_grids.proofs.BandsGridDecided.{bands_grids_are_decided}
 use Rattle.tile_stream.specs.declared.tile.TileReason.{TileReason}
 use Rattle.tile_stream.specs.declared.tile.TileReason.TheVariants.{BadTileMark, BadSlot, Grid}
 use Rattle.tile_stream.specs.Tile.{IsTile, IsTileHead, TilesAreDecided, col_faults, tile_cut, tile_head_faults, of_grid, row_faults, tile_faults}

@@ -6,15 +6,17 @@ use Rattle.first_fault.specs.Faults.{Faults, none, wrong, unless, moved}
 use Rattle.first_fault.specs.Parts.{IsSingle, IsPart}
 use Rattle.first_fault.proofs.Parts.{single-none, single-unless, single-in_order, passed, behind_it, same_rest}
 use Rattle.raster_values.specs.Raster.{Pixels}
-use Rattle.raster_values.specs.ReadGrid.{IsToldFault, TookBytes}
-use Rattle.raster_values.specs.BandsGrid.{IsBandsGrid, bands_faults}
-use Rattle.raster_values.specs.declared.reading.GridReason.{GridReason}
-use Rattle.raster_values.specs.declared.reading.GridReason.TheVariants.{Truncated}
-use Rattle.raster_values.specs.declared.reading.GridStop.{GridStop}
-use Rattle.raster_values.specs.declared.reading.GridStop.TheVariants.{Fault as GridFault, Source as GridSource, OutOfMemory as GridMemory}
+use Rattle.raster_grids.specs.ReadGrid.{IsToldFault}
+use Rattle.raster_grids.specs.Taken.{TookBytes}
+use Rattle.raster_grids.specs.BandsGrid.{IsBandsGrid, bands_faults}
+use Rattle.raster_grids.specs.declared.reading.GridReason.{GridReason}
+use Rattle.raster_grids.specs.declared.reading.GridReason.TheVariants.{Truncated}
+use Rattle.raster_grids.specs.declared.reading.GridStop.{GridStop}
+use Rattle.raster_grids.specs.declared.reading.GridStop.TheVariants.{Fault as GridFault, Source as GridSource, OutOfMemory as GridMemory}
 use Rattle.outside_io.specs.streams.Source.{IsAtEnd, TakesFront}
-use Rattle.raster_values.proofs.BandsGridLaws.{bands_grids_are_parts}
-use Rattle.raster_values.proofs.Taken.{ended, took_join}
+use Rattle.raster_grids.proofs.BandsGridLaws.{bands_grids_are_parts}
+use Rattle.raster_grids.proofs.Taken.{ended}
+use Rattle.raster_grids.proofs.TakenBytes.{took_join}
 use Rattle.tile_stream.specs.declared.tile.Tile.{Tile}
 use Rattle.tile_stream.specs.declared.tile.TileReason.{TileReason}
 use Rattle.tile_stream.specs.declared.tile.TileReason.TheVariants.{BadTileMark, BadSlot, Grid}

@@ -1,6 +1,9 @@
+pub use Rattle.raster_cells.specs.Shapes
 pub use Rattle.raster_values.specs.Raster
-pub use Rattle.raster_values.specs.ReadGrid
-pub use Rattle.raster_values.specs.BandsGrid
+pub use Rattle.raster_cells.specs.Masks
+pub use Rattle.raster_grids.specs.Taken
+pub use Rattle.raster_grids.specs.ReadGrid
+pub use Rattle.raster_grids.specs.BandsGrid
 pub use Rattle.first_fault.specs.Faults
 pub use Rattle.first_fault.specs.Parts
 pub mod Tile

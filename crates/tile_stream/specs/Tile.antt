@@ -4,10 +4,10 @@ use Rattle.std.specs.Prelude.{◌≡◌, ℕ, ◌+◌, ◌*◌, ◌<◌, ◌≤�
 use Rattle.first_fault.specs.Faults.{Faults, none, wrong, unless, moved, in_order}
 use Rattle.first_fault.specs.Parts.{IsPart, IsDecided}
 use Rattle.outside_io.specs.streams.Faults.{FailedBetween}
-use Rattle.raster_values.specs.ReadGrid.{TookBytes}
-use Rattle.raster_values.specs.BandsGrid.{IsBandsGrid, bands_faults}
-use Rattle.raster_values.specs.declared.reading.GridReason.{GridReason}
-use Rattle.raster_values.specs.declared.reading.GridReason.TheVariants.{Truncated}
+use Rattle.raster_grids.specs.Taken.{TookBytes}
+use Rattle.raster_grids.specs.BandsGrid.{IsBandsGrid, bands_faults}
+use Rattle.raster_grids.specs.declared.reading.GridReason.{GridReason}
+use Rattle.raster_grids.specs.declared.reading.GridReason.TheVariants.{Truncated}
 use Rattle.tile_stream.specs.declared.tile.Tile.{Tile}
 use Rattle.tile_stream.specs.declared.tile.TileReason.{TileReason}
 use Rattle.tile_stream.specs.declared.tile.TileReason.TheVariants.{BadTileMark, BadSlot, Grid}

@@ -1,11 +1,12 @@
 ghost use Rattle.std.specs.Prelude.{◌≡◌, ℕ, ◌+◌, ◌^◌, ◌<◌, ◌≤◌, List, None, Some, IfOk, IfErr, OnErr, MatchResult, length};
-ghost use Rattle.raster_values.specs.ReadGrid.{TookSome};
+ghost use Rattle.raster_grids.specs.Taken.{TookSome};
 ghost use Rattle.tile_stream.specs.Tile.{CountsTileStop, IsTile, IsTileHead, IsToldStop, TookTile, tile_mark_faults};
 ghost use Rattle.tile_stream.specs.inside.Stops.{stop_of};
 
 use bundle_index::Slot;
 use outside_io::{Failed, Source, take_all};
-use raster_values::{Bands, GridReason, GridStop, bands_read, bands_size};
+use raster_grids::{GridReason, GridStop, bands_read, bands_size};
+use raster_values::Bands;
 use std::alloc::Global;
 
 /// Bands and the slot that they go to.

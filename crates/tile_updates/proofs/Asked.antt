@@ -3,8 +3,8 @@ use Rattle.std.proofs.Common.{◌≡◌, ℕ, ◌<◌, true, false, List, [], �
 use Rattle.std.specs.Prelude.{Ok, Err}
 use Rattle.outside_io.specs.declared.streams.failed.Failed.{Failed}
 use Rattle.outside_io.specs.streams.Source.{IsAtEnd}
-use Rattle.program_ends.specs.Asks.{AsksOne}
-use Rattle.raster_values.specs.ReadGrid.{TookBytes, TookSome}
+use Rattle.outside_io.specs.streams.Asks.{AsksOne}
+use Rattle.raster_grids.specs.Taken.{TookBytes, TookSome}
 
 -- some bytes, the first of which was asked for
 pub record Taken (old new : Option (List ℕ)) : Type 0 where

@@ -4,8 +4,8 @@ use Rattle.std.specs.Prelude.{All, Ok}
 use Rattle.std.proofs.lemmas.List.{length-map}
 use Rattle.std.proofs.lemmas.List.Elements.{All-head}
 use Rattle.first_fault.specs.Faults.{moved}
-use Rattle.raster_values.specs.ReadGrid.{TookBytes}
-use Rattle.raster_values.proofs.Taken.{took_join}
+use Rattle.raster_grids.specs.Taken.{TookBytes}
+use Rattle.raster_grids.proofs.TakenBytes.{took_join}
 use Rattle.lerc_header.specs.declared.header.Version.{Version}
 use Rattle.lerc_encode.specs.Encoded.{BandsNeedV4}
 use Rattle.bundle_store.specs.declared.tile_rec.TileRec.{TileRec}
@@ -24,7 +24,7 @@ use Rattle.tile_updates.specs.declared.updates.Waiting.{Waiting}
 use Rattle.tile_updates.specs.Adding.{StopsBatch, TellsBatchStop}
 use Rattle.tile_updates.specs.Stops.{HasTile, IsRefused, IsStreamStop, IsTooLong, IsTooMuch, TellsStop}
 use Rattle.tile_updates.specs.Updates.{AllPass, OfBytes, kept_bytes, update_of, updates_of}
-use Rattle.program_ends.specs.Asks.{AsksOne}
+use Rattle.outside_io.specs.streams.Asks.{AsksOne}
 use Rattle.tile_updates.specs.inside.SoFar.{AreWaiting, IsSoFar, RefusesReading, TakesTile}
 use Rattle.tile_updates.specs.inside.StopOf.{stop_of}
 use Rattle.tile_updates.proofs.Asked.{Taken, more_asked}

@@ -6,8 +6,9 @@ use Rattle.std.proofs.lemmas.List.{append-nil, length-map, map-append}
 use Rattle.std.proofs.lemmas.List.Elements.{All-nil, All-append, All-map, All-get_or, All-push}
 use Rattle.outside_io.specs.streams.Faults.{IsCause}
 use Rattle.outside_io.specs.streams.Source.{IsAtEnd}
-use Rattle.raster_values.specs.ReadGrid.{TookBytes, TookSome}
-use Rattle.raster_values.proofs.Taken.{ended, took_join, took_more, took_none}
+use Rattle.raster_grids.specs.Taken.{TookBytes, TookSome}
+use Rattle.raster_grids.proofs.Taken.{ended, took_none}
+use Rattle.raster_grids.proofs.TakenBytes.{took_join, took_more}
 use Rattle.lerc_header.specs.declared.header.Version.{Version}
 use Rattle.lerc_grammar.proofs.BandsOne.{bands_some}
 use Rattle.lerc_encode.specs.Encoded.{AreEncodedOnce, BandsNeedV4}
@@ -21,7 +22,7 @@ use Rattle.tile_updates.specs.Adding.{MayBeAdded}
 use Rattle.tile_updates.specs.declared.updates.SoFar.{SoFar}
 use Rattle.tile_updates.specs.declared.updates.Waiting.{Waiting}
 use Rattle.tile_updates.specs.Updates.{AllPass, AreEncoded, IsUpdates, OfBytes, Passes, kept_bytes, update_of, updates_of, tile_bytes}
-use Rattle.program_ends.specs.Asks.{AsksOne}
+use Rattle.outside_io.specs.streams.Asks.{AsksOne}
 use Rattle.tile_updates.specs.inside.SoFar.{AreWaiting, IsAll, IsSoFar, WaitsToo}
 use Rattle.tile_updates.proofs.Asked.{more_asked, none_asked}
 use Rattle.tile_updates.proofs.Passing.{none_pass}

@@ -4,8 +4,11 @@ pub use Rattle.first_fault.specs.Parts
 pub use Rattle.lerc_encode.specs.Choice
 pub use Rattle.lerc_encode.specs.Encoded
 pub use Rattle.outside_io.specs.streams.Source
+pub use Rattle.raster_cells.specs.Shapes
 pub use Rattle.raster_values.specs.Raster
-pub use Rattle.raster_values.specs.ReadGrid
+pub use Rattle.raster_cells.specs.Masks
+pub use Rattle.raster_grids.specs.Taken
+pub use Rattle.raster_grids.specs.ReadGrid
 pub use Rattle.tile_stream.specs.Stream
 pub use Rattle.tile_stream.specs.Tile
 pub mod Updates

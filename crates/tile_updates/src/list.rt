@@ -6,14 +6,12 @@ ghost use Rattle.tile_updates.specs.Updates.{kept_bytes};
 
 use crate::stop::BatchStop;
 use bundle_index::Slot;
-use bundle_store::TileRec;
+use bundle_store::{GREATEST_TILE, TileRec};
 use outside_io::Bytes;
 use std::alloc::Global;
 use std::marker::Model;
 
-/// How many bytes a tile may have in a bundle, and how many all of them may have together.
-const MOST_BYTES: usize = 16777215;
-
+/// How many bytes all blobs may have together.
 const MOST_KEPT: u64 = 1073741824;
 
 /// A list of updates, whose blobs have at most 2^30 bytes together. Contracts see the list.
@@ -75,7 +73,7 @@ impl UpdateList {
     {
         let at = self.updates.len() as u64;
         let len = blobs.len() as u64;
-        if blobs.len() > MOST_BYTES {
+        if blobs.len() > GREATEST_TILE {
             return Err(BatchStop::TileTooLarge { at, len });
         }
         if self.kept + len > MOST_KEPT {

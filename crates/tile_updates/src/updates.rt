@@ -4,7 +4,7 @@ ghost use Rattle.std.specs.Prelude.{◌≡◌, ◌+◌, ◌*◌, ◌^◌, ◌<�
 ghost use Rattle.bundle_store.specs.Build.{EachFits};
 ghost use Rattle.outside_io.specs.streams.Faults.{IsCause};
 ghost use Rattle.outside_io.specs.streams.Source.{IsAtEnd};
-ghost use Rattle.raster_values.specs.ReadGrid.{TookSome};
+ghost use Rattle.raster_grids.specs.Taken.{TookSome};
 ghost use Rattle.tile_updates.specs.Stops.{TellsStop};
 ghost use Rattle.tile_updates.specs.Updates.{AreEncoded, IsUpdates, OfBytes};
 ghost use Rattle.tile_updates.specs.inside.SoFar.{Follows, IsFilled, IsMade, IsRoomy, IsSoFar};
@@ -14,13 +14,12 @@ use crate::encoding::encode_batch;
 use crate::list::UpdateList;
 use crate::stop::{StreamStop, stream_stop};
 use bundle_store::TileRec;
-use lerc_header::{Step, Version};
-use outside_io::Source;
-use program_ends::has_more;
+use lerc_header::Version;
+use outside_io::{Source, has_more};
 use std::alloc::Global;
 use std::thread::Threads;
 use tile_stream::{Tile, TileStop, next_tile};
-use tile_workers::{Gate, bands_need_v4};
+use tile_workers::{Coding, Gate, bands_need_v4};
 
 /// How many tiles an input may have.
 const MOST_TILES: usize = 1048576;
@@ -93,17 +92,16 @@ fn wait_next<S: Source>(
 fn fill<S: Source>(
     alloc: Global,
     src: &mut S,
-    version: Version,
-    workers: usize,
+    coding: &Coding,
     room: usize,
     place: u64,
 ) -> Result<(Waiting, Ending), StreamStop>
-    requires workers { (1 ≤ workers) × (workers ≤ 64) }
     requires room { (0 < room) × (room ≤ 1048576) }
     requires place { place ≤ 83886104 * 1048576 }
-    ensures ok { IfOk result (λ r. IsFilled version room place (S.left src.old) (S.left src.new)
-        r.0 r.1) }
-    ensures free { (step : ℕ) (input : Option (List ℕ)) → IfErr result (TellsStop version step input) }
+    ensures ok { IfOk result (λ r. IsFilled coding.now.version room place (S.left src.old)
+        (S.left src.new) r.0 r.1) }
+    ensures free { (step : ℕ) (input : Option (List ℕ)) →
+        IfErr result (TellsStop coding.now.version step input) }
     ensures some { TookSome (S.left src.old) (S.left src.new) }
     ensures counted { IsCause (result ≡ Err StreamStop.Source)
         (S.faults src.old) (S.faults src.new) }
@@ -112,8 +110,8 @@ fn fill<S: Source>(
         batch: Batch::new(alloc),
         place,
     };
-    while waiting.batch.len() < room && !waiting.batch.is_full(workers) {
-        match wait_next(alloc, src, version, &mut waiting) {
+    while waiting.batch.len() < room && !waiting.batch.is_full(coding.workers) {
+        match wait_next(alloc, src, coding.version, &mut waiting) {
             Ok(Ending::More) => {}
             Ok(Ending::AtEnd) => return Ok((waiting, Ending::AtEnd)),
             Ok(Ending::Refused(stop)) => return Ok((waiting, Ending::Refused(stop))),
@@ -129,42 +127,32 @@ fn add_batch<R: Threads + Sync, S: Source, G: Gate>(
     rt: &R,
     alloc: Global,
     src: &mut S,
-    version: Version,
-    step: Step,
-    workers: usize,
+    coding: &Coding,
     gate: &G,
     done: &mut SoFar,
 ) -> Result<bool, StreamStop>
-    requires workers { (1 ≤ workers) × (workers ≤ 64) }
     requires roomy { IsRoomy done.old }
-    ensures ok { (input : Option (List ℕ)) → IsSoFar version step input (S.left src.old) done.old
-        → IfOk result (λ more. IsMade version step input (S.left src.new) done.new more) }
+    ensures ok { (input : Option (List ℕ))
+        → IsSoFar coding.now.version coding.now.step input (S.left src.old) done.old → IfOk result
+        (λ more. IsMade coding.now.version coding.now.step input (S.left src.new) done.new more) }
     ensures grows { IfOk result (λ more. IsTrue more
         → length done.old.list < length done.new.list) }
     ensures few { OnOk result (length done.new.list ≤ 1048576) }
     ensures place { OnOk result (done.new.place ≤ 83886104 * length done.new.list) }
-    ensures refused { (input : Option (List ℕ)) → IsSoFar version step input (S.left src.old) done.old
-        → IfErr result (TellsStop version step input) }
+    ensures refused { (input : Option (List ℕ))
+        → IsSoFar coding.now.version coding.now.step input (S.left src.old) done.old
+        → IfErr result (TellsStop coding.now.version coding.now.step input) }
     ensures some { TookSome (S.left src.old) (S.left src.new) }
     ensures counted { IsCause (result ≡ Err StreamStop.Source)
         (S.faults src.old) (S.faults src.new) }
 {
     let room = MOST_TILES - done.list.len();
-    let (waiting, ending) = match fill(alloc, src, version, workers, room, done.place) {
+    let (waiting, ending) = match fill(alloc, src, coding, room, done.place) {
         Ok(filled) => filled,
         Err(stop) => return Err(stop),
     };
     let Waiting { batch, place } = waiting;
-    match encode_batch(
-        rt,
-        alloc,
-        batch,
-        version,
-        step,
-        workers,
-        gate,
-        &mut done.list,
-    ) {
+    match encode_batch(rt, alloc, batch, *coding, gate, &mut done.list) {
         Ok(()) => done.place = place,
         Err(stop) => return Err(stream_stop(stop)),
     }
@@ -176,8 +164,8 @@ fn add_batch<R: Threads + Sync, S: Source, G: Gate>(
 }
 
 /// Reads tiles up to the end of the source, and gives the updates that they ask for: for each tile
-/// its slot and the blobs of its bands, in this version and with this step. Where a tile is refused, nothing
-/// behind it is told.
+/// its slot and the blobs of its bands, of this coding. Where a tile is refused, nothing behind it is
+/// told.
 ///
 /// The tiles are read in batches, up to 16 for each worker or 2^24 values, each of which is encoded by so many
 /// workers. Whichever their number and whatever the gate does, the answer is the same, but for a source that
@@ -190,19 +178,17 @@ pub fn read_updates<R: Threads + Sync, S: Source, G: Gate>(
     rt: &R,
     alloc: Global,
     src: &mut S,
-    version: Version,
-    step: Step,
-    workers: usize,
+    coding: Coding,
     gate: &G,
 ) -> Result<Vec<TileRec>, StreamStop>
-    requires workers { (1 ≤ workers) × (workers ≤ 64) }
     ensures ok { IfOk result (λ updates. OfBytes (S.left src.old)
-        (λ bytes. IsUpdates version step bytes updates.items)) }
+        (λ bytes. IsUpdates coding.version coding.step bytes updates.items)) }
     ensures end { OnOk result (IsAtEnd (S.left src.new)) }
-    ensures encoded { IfOk result (λ updates. AreEncoded version step updates.items) }
+    ensures encoded { IfOk result (λ updates. AreEncoded coding.version coding.step updates.items) }
     ensures few { IfOk result (λ updates. length updates.items ≤ 1048576) }
     ensures fits { IfOk result (λ updates. EachFits updates.items) }
-    ensures refused { IfErr result (λ stop. TellsStop version step (S.left src.old) stop) }
+    ensures refused { IfErr result
+        (λ stop. TellsStop coding.version coding.step (S.left src.old) stop) }
     ensures taken { TookSome (S.left src.old) (S.left src.new) }
     ensures counted { IsCause (result ≡ Err StreamStop.Source)
         (S.faults src.old) (S.faults src.new) }
@@ -212,7 +198,7 @@ pub fn read_updates<R: Threads + Sync, S: Source, G: Gate>(
         place: 0,
     };
     while done.list.len() < MOST_TILES {
-        match add_batch(rt, alloc, src, version, step, workers, gate, &mut done) {
+        match add_batch(rt, alloc, src, &coding, gate, &mut done) {
             Ok(true) => {}
             Ok(false) => return Ok(done.list.into_vec()),
             Err(stop) => return Err(stop),

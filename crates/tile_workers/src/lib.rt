@@ -6,9 +6,11 @@
 #![tactic(auto)]
 
 mod blobs;
+mod coding;
 mod gate;
 mod workers;
 
 pub use blobs::Blobs;
+pub use coding::Coding;
 pub use gate::{Gate, Open};
 pub use workers::{NoBlobs, bands_need_v4, encode_tiles};

@@ -9,6 +9,7 @@ ghost use Rattle.tile_workers.specs.Deep.{AreFlat, IsFirstDeep, told};
 ghost use Rattle.tile_workers.specs.inside.Encoded.{IsEncodedSo};
 
 use crate::blobs::Blobs;
+use crate::coding::Coding;
 use crate::gate::Gate;
 use lerc_encode::{EncodeFault, encode_bands};
 use lerc_header::{Step, Version, needs_v4};
@@ -98,22 +99,22 @@ fn encode_run<G: Gate>(
     alloc: Global,
     tiles: &[Bands],
     first: usize,
-    version: Version,
-    step: Step,
+    coding: Coding,
     gate: &G,
 ) -> Result<Vec<Bytes>, NoBlobs>
-    requires flat { AreFlat version tiles.now }
+    requires flat { AreFlat coding.version tiles.now }
     requires room { first + length tiles.now < 2 ^ 64 }
     ensures blobs { IfOk result (λ bs.
-        bs.items ≡ map (λ t. chosen_bands None t version step) tiles.now) }
-    ensures encoded { OnOk result (All (IsEncodedSo version step) tiles.now) }
+        bs.items ≡ map (λ t. chosen_bands None t coding.version coding.step) tiles.now) }
+    ensures encoded { OnOk result
+        (All (IsEncodedSo coding.version coding.step) tiles.now) }
     ensures want { IfErr result (λ f. (f.cause ≡ EncodeFault.OutOfMemory)
         × ((first ≤ f.at) × (f.at < first + length tiles.now))) }
 {
     let mut blobs = Vec::new(alloc);
     for (i, tile) in tiles.iter().enumerate() {
         gate.pass(first + i);
-        match add_next(alloc, &mut blobs, tile, version, step) {
+        match add_next(alloc, &mut blobs, tile, coding.version, coding.step) {
             Ok(()) => {}
             Err(_) => return Err(want(first + i)),
         }
@@ -137,22 +138,23 @@ fn encode_halves<R: Threads + Sync, G: Gate>(
     alloc: Global,
     tiles: &[Bands],
     first: usize,
-    version: Version,
-    step: Step,
-    workers: usize,
+    coding: Coding,
     gate: &G,
 ) -> Result<Vec<Bytes>, NoBlobs>
-    requires workers { (0 < workers) × (workers ≤ 64) }
-    requires flat { AreFlat version tiles.now }
+    requires flat { AreFlat coding.version tiles.now }
     requires room { first + length tiles.now < 2 ^ 64 }
     ensures blobs { IfOk result (λ bs.
-        bs.items ≡ map (λ t. chosen_bands None t version step) tiles.now) }
-    ensures encoded { OnOk result (All (IsEncodedSo version step) tiles.now) }
+        bs.items ≡ map (λ t. chosen_bands None t coding.version coding.step) tiles.now) }
+    ensures encoded { OnOk result
+        (All (IsEncodedSo coding.version coding.step) tiles.now) }
     ensures want { IfErr result (λ f. (f.cause ≡ EncodeFault.OutOfMemory)
         × ((first ≤ f.at) × (f.at < first + length tiles.now))) }
 {
+    let version = coding.version;
+    let step = coding.step;
+    let workers = coding.workers;
     if workers == 1 || tiles.len() < 2 {
-        return encode_run(alloc, tiles, first, version, step, gate);
+        return encode_run(alloc, tiles, first, coding, gate);
     }
     let low = workers / 2;
     let high = workers - low;
@@ -168,7 +170,14 @@ fn encode_halves<R: Threads + Sync, G: Gate>(
             ensures encoded { OnOk result (All (IsEncodedSo version step) front.entry.now) }
             ensures want { IfErr result (λ f. (f.cause ≡ EncodeFault.OutOfMemory)
                 × ((first ≤ f.at) × (f.at < first + length front.entry.now))) }
-        { encode_halves(rt, alloc, front, first, version, step, low, gate) },
+        {
+            let coding = Coding {
+                version,
+                step,
+                workers: low,
+            };
+            encode_halves(rt, alloc, front, first, coding, gate)
+        },
         || -> Result<Vec<Bytes>, NoBlobs>
             requires { IsSync R.row × (IsSync G.row × (((0 < high) × (high ≤ 64))
                 × (AreFlat version back.now × (first + middle + length back.now < 2 ^ 64)))) }
@@ -177,7 +186,14 @@ fn encode_halves<R: Threads + Sync, G: Gate>(
             ensures encoded { OnOk result (All (IsEncodedSo version step) back.entry.now) }
             ensures want { IfErr result (λ f. (f.cause ≡ EncodeFault.OutOfMemory)
                 × ((first + middle ≤ f.at) × (f.at < first + middle + length back.entry.now))) }
-        { encode_halves(rt, alloc, back, first + middle, version, step, high, gate) },
+        {
+            let coding = Coding {
+                version,
+                step,
+                workers: high,
+            };
+            encode_halves(rt, alloc, back, first + middle, coding, gate)
+        },
     );
     let mut blobs = these?;
     let mut later = those?;
@@ -187,9 +203,9 @@ fn encode_halves<R: Threads + Sync, G: Gate>(
     Ok(blobs)
 }
 
-/// The blobs of each tile, in this version and with this step, in the tiles' order. The tiles are
-/// split into at most `workers` runs of neighbours, as even as can be, each of which is encoded in
-/// a thread of its own where one can be made. A worker calls `gate.pass(at)` before it encodes tile
+/// The blobs of each tile, of this coding, in the tiles' order. The tiles are split into at most
+/// `coding.workers` runs of neighbours, as even as can be, each of which is encoded in a thread of
+/// its own where one can be made. A worker calls `gate.pass(at)` before it encodes tile
 /// number `at`, counted from 0. No tile is encoded where one is refused for its depths.
 ///
 /// Want of memory is answered of a tile whose blobs could not be made or kept; which one that is
@@ -198,30 +214,29 @@ pub fn encode_tiles<R: Threads + Sync, G: Gate>(
     rt: &R,
     alloc: Global,
     tiles: &[Bands],
-    version: Version,
-    step: Step,
-    workers: usize,
+    coding: Coding,
     gate: &G,
 ) -> Result<Blobs, NoBlobs>
-    requires workers { (1 ≤ workers) × (workers ≤ 64) }
     ensures depth { (at : ℕ) → IsErrOf result (told at EncodeFault.DepthNeedsV4)
-        ↔ IsFirstDeep version tiles.now at }
+        ↔ IsFirstDeep coding.version tiles.now at }
     ensures within { IfErr result (λ f. f.at < length tiles.now) }
     ensures blobs { IfOk result (λ bs.
-        bs ≡ map (λ t. chosen_bands None t version step) tiles.now) }
+        bs ≡ map (λ t. chosen_bands None t coding.version coding.step) tiles.now) }
     ensures few { IfOk result (λ bs. All (λ b. length b ≤ 134217728) bs) }
     ensures encoded { OnOk result
-        (All (λ t. AreEncodedOnce (chosen_bands None t version step) t step) tiles.now) }
+        (All (λ t. AreEncodedOnce (chosen_bands None t coding.version coding.step) t coding.step)
+        tiles.now) }
     ensures declares { OnOk result
-        (All (λ t. DeclareEach (chosen_bands None t version step) t version step) tiles.now) }
+        (All (λ t. DeclareEach (chosen_bands None t coding.version coding.step) t coding.version
+        coding.step) tiles.now) }
 {
-    if let Some(at) = first_deep(tiles, version) {
+    if let Some(at) = first_deep(tiles, coding.version) {
         return Err(NoBlobs {
             at,
             cause: EncodeFault::DepthNeedsV4,
         });
     }
-    match encode_halves(rt, alloc, tiles, 0, version, step, workers, gate) {
+    match encode_halves(rt, alloc, tiles, 0, coding, gate) {
         Ok(blobs) => Ok(Blobs::from_vec(blobs)),
         Err(fault) => Err(fault),
     }

@@ -7,12 +7,13 @@ use lerc_encode::EncodeFault;
 use lerc_header::{Step, Version};
 use meeting_gate::Meeting;
 use outside_io::{Bytes, MemSource};
-use raster_values::{Bands, bands_read};
+use raster_grids::bands_read;
+use raster_values::Bands;
 use std::alloc::Global;
 use std::process::Abort;
 use std::thread::Threads;
 use tile_updates::{Batch, BatchStop, UpdateList, encode_batch};
-use tile_workers::{Blobs, Gate, Open, encode_tiles};
+use tile_workers::{Blobs, Coding, Gate, Open, encode_tiles};
 
 /// One unsigned byte, 7.
 const SEVEN: [u8; 19] = *b"LGR1\x01\x01\0\0\0\x01\0\0\0\x01\0\0\0\x01\x07";
@@ -52,7 +53,12 @@ fn encoded<R: Threads + Sync + Abort, G: Gate>(
     for grid in grids {
         tiles.push(bands_of(rt, alloc, grid)).expect(rt, "memory");
     }
-    match encode_tiles(rt, alloc, &tiles, Version::V3, Step::of(0), workers, gate) {
+    let coding = Coding {
+        version: Version::V3,
+        step: Step::of(0),
+        workers,
+    };
+    match encode_tiles(rt, alloc, &tiles, coding, gate) {
         Ok(blobs) => Ok(joined(rt, alloc, &blobs)),
         Err(fault) => Err((fault.at, matches!(&fault.cause, EncodeFault::DepthNeedsV4))),
     }
@@ -107,16 +113,12 @@ fn a_batch_is_encoded_at_once(rt: HostRuntime) {
     assert!(&rt; !batch.is_full(1), "two tiles are few");
     let gate = Meeting::new();
     let mut list = UpdateList::new(alloc);
-    let added = encode_batch(
-        &rt,
-        alloc,
-        batch,
-        Version::V4,
-        Step::of(0),
-        2,
-        &gate,
-        &mut list,
-    );
+    let coding = Coding {
+        version: Version::V4,
+        step: Step::of(0),
+        workers: 2,
+    };
+    let added = encode_batch(&rt, alloc, batch, coding, &gate, &mut list);
     assert!(&rt; added.is_ok(), "the updates");
     assert!(&rt; gate.both_met(), "the workers did not meet");
     let updates = list.into_vec();

@@ -8,7 +8,7 @@ use std::alloc::Global;
 use std::process::Abort;
 use std::thread::Threads;
 use tile_updates::{StreamStop, read_updates};
-use tile_workers::Open;
+use tile_workers::{Coding, Open};
 
 /// A tile of eight by eight unsigned bytes for row 1 and this column: pixel i has the value 3 * i + column,
 /// and is not valid where i is below the column.
@@ -48,15 +48,12 @@ fn made_of<R: Threads + Sync + Abort>(
     let bytes = Bytes::of(alloc, stream).expect(rt, "memory");
     let failing = Bytes::of(alloc, b"").expect(rt, "memory");
     let mut source = MemSource::new(bytes, 100, failing);
-    let updates = read_updates(
-        rt,
-        alloc,
-        &mut source,
-        Version::V3,
-        Step::of(1),
+    let coding = Coding {
+        version: Version::V3,
+        step: Step::of(1),
         workers,
-        &Open,
-    )?;
+    };
+    let updates = read_updates(rt, alloc, &mut source, coding, &Open)?;
     let mut all = Vec::new(alloc);
     for update in updates {
         all.extend_from_slice(&update.slot.number().to_le_bytes())

@@ -1,13 +1,13 @@
 -- What the readers of the fields of an `LGA1` leave.
 use Rattle.std.specs.Prelude.{◌≡◌, ℕ, ◌≤◌, List, length, Option, None, Some}
 use Rattle.first_fault.specs.Faults.{Faults, moved, none, unless}
-use Rattle.raster_values.specs.ReadGrid.{TookBytes}
+use Rattle.raster_grids.specs.Taken.{TookBytes}
 use Rattle.ascii_grid.specs.declared.fault.AsciiReason.{AsciiReason}
 use Rattle.ascii_grid.specs.declared.fault.AsciiStop.{AsciiStop}
 use Rattle.ascii_grid.specs.declared.fault.AsciiStop.TheVariants.{Fault, Source, OutOfMemory}
 use Rattle.ascii_grid.specs.declared.fault.AsciiReason.TheVariants.{Grid}
-use Rattle.raster_values.specs.declared.reading.GridStop.{GridStop}
-use Rattle.raster_values.specs.declared.reading.GridStop.TheVariants.{Fault as GridFaultOf, Source as GridSource, OutOfMemory as GridMemory}
+use Rattle.raster_grids.specs.declared.reading.GridStop.{GridStop}
+use Rattle.raster_grids.specs.declared.reading.GridStop.TheVariants.{Fault as GridFaultOf, Source as GridSource, OutOfMemory as GridMemory}
 use Rattle.ascii_grid.specs.Lga.{cut}
 
 -- of the bytes left, where they are told, this is what is wrong first, places counting from `at`

@@ -4,7 +4,7 @@ ghost use Rattle.std.specs.Prelude.{◌≡◌, ◌+◌, ◌*◌, ◌<◌, ◌≤
 ghost use Rattle.std.specs.Int.{w64};
 ghost use Rattle.first_fault.specs.Faults.{ends, moved};
 ghost use Rattle.outside_io.specs.streams.Source.{IsAtEnd};
-ghost use Rattle.raster_values.specs.ReadGrid.{IsGrid};
+ghost use Rattle.raster_grids.specs.ReadGrid.{IsGrid};
 ghost use Rattle.raster_values.specs.Raster.{IsRaster};
 ghost use Rattle.ascii_grid.specs.declared.fault.AsciiReason.{AsciiReason};
 ghost use Rattle.ascii_grid.specs.Canon.{IsApart};
@@ -14,7 +14,8 @@ ghost use Rattle.ascii_grid.specs.Stopping.{CountsStop};
 
 use crate::fault::{AsciiFault, AsciiReason, AsciiStop, stop};
 use outside_io::{Source, take_all};
-use raster_values::{GridStop, Raster, grid_read, grid_size};
+use raster_grids::{GridStop, grid_read, grid_size};
+use raster_values::Raster;
 use std::alloc::Global;
 
 /// Why no grid was read, as a stop.

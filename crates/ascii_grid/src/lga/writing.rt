@@ -2,14 +2,14 @@ ghost use Rattle.std.specs.Prelude.{◌≡◌, ◌≤◌, ◌∷◌, ◌++◌, [
 ghost use Rattle.outside_io.specs.streams.Faults.{CountsFaults};
 ghost use Rattle.outside_io.specs.streams.Sink.{Holds, HoldsPrefix};
 ghost use Rattle.byteorder.specs.Endian.{little_bytes};
-ghost use Rattle.raster_values.specs.PixelType.{complement_of};
+ghost use Rattle.raster_cells.specs.PixelType.{complement_of};
 ghost use Rattle.ascii_grid.specs.Canon.{IsLawful};
 ghost use Rattle.ascii_grid.specs.Lga.{flags_of, last_fields, lga_of, text_field};
 
 use crate::grid::AsciiGrid;
 use byteorder::{ByteOrder, LittleEndian};
 use outside_io::{Failed, Sink, give_all};
-use raster_values::grid_write;
+use raster_grids::grid_write;
 
 /// The flags of which text is that of a centre.
 fn flags(x_centre: bool, y_centre: bool) -> u8

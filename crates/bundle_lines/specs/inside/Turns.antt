@@ -8,7 +8,8 @@ use Rattle.bundle_store.specs.declared.fault.StoreFault.{StoreFault}
 use Rattle.bundle_store.specs.declared.fault.StoreFault.TheVariants.{Full as StoreFull}
 use Rattle.bundle_store.specs.declared.tile_rec.TileRec.{TileRec}
 use Rattle.bundle_store.specs.Build.{bytes_at, map_after}
-use Rattle.bundle_store.specs.GroupPuts.{AreTilesIn, bundle_after_puts, group_records}
+use Rattle.bundle_store.specs.Fitting.{HasRoomFirst}
+use Rattle.bundle_store.specs.GroupPuts.{bundle_after_puts, group_records}
 use Rattle.bundle_store.specs.Images.{HoldsClosed}
 use Rattle.bundle_store.specs.Session.{IsReadyToPut, SessionState}
 use Rattle.bundle_store.specs.Tiles.{IsReadable, tiles}
@@ -28,17 +29,11 @@ stop_of fault = Volume
 abbrev pub end_of : ℕ → ℕ
 end_of len = if len == 0 then index_end else len
 
--- there is room for the first n tiles behind a bundle of so many bytes, and they have slots
-pub record HasRoomFirst (len : ℕ) (updates : List TileRec) (n : ℕ) : Type 0 where
-  pub room : (i : ℕ) → i < n
-      → end_of len + length (group_records (take i updates)) + 4 + length (bytes_at updates i) ≤ 2 ^ 40
-  pub tiles : AreTilesIn (take n updates)
-
 -- So many of the tiles are put at once behind a bundle of so many bytes, 64 at most.
 pub record IsFitting (len : ℕ) (updates : List TileRec) (n : ℕ) : Type 0 where
   pub most : n ≤ 64
   pub within : n ≤ length updates
-  pub first : HasRoomFirst len updates n
+  pub first : HasRoomFirst (end_of len) updates n
   pub ends : (n ≡ 64) ⊎ ((n ≡ length updates)
       ⊎ (2 ^ 40 < end_of len + length (group_records (take n updates)) + 4 + length (bytes_at updates n)))
 

@@ -4,6 +4,7 @@ use Rattle.outside_io.specs.volume.Disk.{Disk, IsImage}
 use Rattle.bundle_store.specs.declared.fault.StoreFault.{StoreFault}
 use Rattle.bundle_store.specs.declared.fault.StoreFault.TheVariants.{Full}
 use Rattle.bundle_store.specs.declared.tile_rec.TileRec.{TileRec}
+use Rattle.bundle_store.specs.Build.{EachFits}
 use Rattle.bundle_store.specs.GroupPuts.{NoRoom, with_entries}
 use Rattle.side_journal.specs.Groups.{NewEntry}
 use Rattle.side_journal.specs.Bodies.{IsGroup}
@@ -12,6 +13,12 @@ use Rattle.side_journal.specs.declared.body.Body.{Body}
 use Rattle.side_journal.specs.declared.body.Body.TheVariants.{Tile, Build, Group}
 use Rattle.bundle_store.specs.LaidOver.{size_in, size_place}
 use Rattle.bundle_store.specs.Tiles.{IsReadable}
+
+-- tiles that can be put at once: some, 64 at most, each one that a bundle can hold
+pub record AreForOnePut (us : List TileRec) : Type 0 where
+  pub some : 1 ≤ length us
+  pub most : length us ≤ 64
+  pub fit : EachFits us
 
 -- a bundle differs from another one under a header and some entries alone
 pub record SameUnderAll (header : List ℕ) (es : List NewEntry) (old now : List ℕ) : Type 0 where

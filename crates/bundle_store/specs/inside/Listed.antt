@@ -1,7 +1,7 @@
 -- The list of the tiles of a put.
 use Rattle.std.specs.Prelude.{List, [], ◌∷◌}
-use Rattle.bundle_store.specs.declared.put.updates.Tiles.{Tiles}
-use Rattle.bundle_store.specs.declared.put.updates.Tiles.TheVariants.{One, All}
+use Rattle.bundle_store.specs.declared.updates.Tiles.{Tiles}
+use Rattle.bundle_store.specs.declared.updates.Tiles.TheVariants.{One, All}
 use Rattle.bundle_store.specs.declared.tile_rec.TileRec.{TileRec}
 
 abbrev pub listed : Tiles → List TileRec

@@ -39,6 +39,11 @@ pub record Extends (old now : Disk) (more : List ℕ) : Type 0 where
   pub journal : now.journal ≡ old.journal
   pub bundle : now.bundle.now ≡ old.bundle.now ++ more
 
+-- nothing is pending, and the journal is not open
+pub record IsIdle (d : Disk) : Type 0 where
+  pub quiet : IsQuiet d
+  pub closed : ¬ IsOpen d.journal.now
+
 -- nothing is pending on a journal that counts, of a bundle that is being built
 pub record IsBegun (d : Disk) : Type 0 where
   pub journal : IsSettled d.journal

@@ -4,9 +4,8 @@ ghost use Rattle.bundle_store.specs.Build.{EachFits, last_tiles};
 ghost use Rattle.bundle_store.specs.Built.{filled};
 ghost use Rattle.bundle_store.specs.Layout.{layout};
 
-use super::laying::{count_tiles, measure};
-use super::number_tiles;
 use crate::TileRec;
+use crate::table::{count_tiles, measure, number_tiles};
 use bundle_index::INDEX_END;
 use std::alloc::{AllocError, Global};
 

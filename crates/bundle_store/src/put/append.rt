@@ -8,8 +8,9 @@ ghost use Rattle.outside_io.specs.volume.History.{During, contents, current};
 ghost use Rattle.bundle_store.specs.Build.{EachFits};
 ghost use Rattle.bundle_store.specs.GroupPuts.{group_records};
 ghost use Rattle.bundle_store.specs.inside.Parts.{KeepsFront};
+ghost use Rattle.bundle_store.specs.Told.{Told};
 
-use super::updates::Updates;
+use crate::updates::Updates;
 use outside_io::{Failed, VolFile, Volume};
 
 /// Writes the tiles, each behind its size, at the bundle's end, and syncs the bundle.
@@ -27,8 +28,7 @@ pub(crate) fn append_records<V: Volume>(
         (current (V.history vol.old))) }
     ensures during { IsTrue (V.told vol.old) → During (KeepsFront (current (V.history vol.old)))
         (V.history vol.old) (V.history vol.new) }
-    ensures told { V.told vol.new ≡ V.told vol.old }
-    ensures counted { CountsFaults result (V.faults vol.old) (V.faults vol.new) }
+    ensures told { Told V.told V.faults (CountsFaults result) vol.old vol.new }
 {
     let mut at = end;
     for i in 0..tiles.len() {

@@ -1,27 +1,20 @@
 //! The header and the entries of a put, written over the bundle.
 
-ghost use Rattle.std.specs.Prelude.{◌≡◌, ◌+◌, ◌≤◌, length, IsTrue, OnOk};
+ghost use Rattle.std.specs.Prelude.{◌≡◌, ◌≤◌, length, IsTrue, OnOk};
 ghost use Rattle.outside_io.specs.declared.volume.VolFile.TheVariants.{Bundle};
 ghost use Rattle.outside_io.specs.volume.Disk.{IsSettled, change, settled};
 ghost use Rattle.outside_io.specs.streams.Faults.{CountsFaults};
 ghost use Rattle.outside_io.specs.volume.History.{During, contents, current};
-ghost use Rattle.bundle_index.specs.Entry.{IsEntry, entry_bytes};
 ghost use Rattle.bundle_index.specs.Sizes.{index_end};
 ghost use Rattle.bundle_store.specs.GroupPuts.{with_entries};
 ghost use Rattle.bundle_store.specs.inside.Grouped.{KeepsUnderAll};
 ghost use Rattle.side_journal.specs.Groups.{AreNew};
+ghost use Rattle.bundle_store.specs.Told.{Told};
 
-use bundle_index::{BundleHeader, Entry, entry_place};
+use crate::spelling::spelled;
+use bundle_index::{BundleHeader, entry_place};
 use outside_io::{Failed, VolFile, Volume};
 use side_journal::Group;
-
-/// The bytes of an entry.
-pub(crate) fn spelled(entry: Entry) -> [u8; 8]
-    requires { IsEntry entry }
-    ensures { result ≡ entry_bytes entry }
-{
-    entry.pack().to_le_bytes()
-}
 
 /// Writes the header at the front and each entry at its place, in their order, and syncs the
 /// bundle.
@@ -39,8 +32,7 @@ pub(crate) fn write_all_over<V: Volume>(
         (current (V.history vol.old))) }
     ensures during { IsTrue (V.told vol.old) → During (KeepsUnderAll header.now group.now
         (current (V.history vol.old))) (V.history vol.old) (V.history vol.new) }
-    ensures told { V.told vol.new ≡ V.told vol.old }
-    ensures counted { CountsFaults result (V.faults vol.old) (V.faults vol.new) }
+    ensures told { Told V.told V.faults (CountsFaults result) vol.old vol.new }
 {
     let front = header.bytes();
     vol.write(VolFile::Bundle, 0, &front)?;

@@ -3,7 +3,7 @@
 
 ghost use Rattle.std.specs.Prelude.{◌≡◌, ◌⊎◌, ◌+◌, ◌^◌, ◌∷◌, ◌++◌, ◌≤◌, [], drop, length, IsTrue, OnOk};
 ghost use Rattle.outside_io.specs.declared.volume.VolFile.TheVariants.{Bundle, Journal};
-ghost use Rattle.outside_io.specs.volume.Disk.{IsQuiet, IsSettled, settled};
+ghost use Rattle.outside_io.specs.volume.Disk.{IsQuiet, settled};
 ghost use Rattle.outside_io.specs.streams.Faults.{CountsFaults};
 ghost use Rattle.outside_io.specs.volume.History.{During, contents, current};
 ghost use Rattle.bundle_index.specs.Sizes.{index_end};
@@ -16,10 +16,12 @@ ghost use Rattle.bundle_store.specs.inside.Grouped.{AreUnderWay, EachUnderAll, I
 ghost use Rattle.bundle_store.specs.LaidOver.{size_in, with_body};
 ghost use Rattle.bundle_store.specs.Images.{EachImage};
 ghost use Rattle.bundle_store.specs.Tiles.{IsBundle, IsReadable, tiles};
+ghost use Rattle.bundle_store.specs.Told.{Told};
+ghost use Rattle.bundle_store.specs.inside.Parts.{IsIdle};
 
 use super::append::append_records;
 use super::overlay::write_all_over;
-use super::updates::Updates;
+use crate::updates::Updates;
 use bundle_index::{BundleHeader, Entry, Slot};
 use outside_io::{Failed, Volume};
 use side_journal::{Body, Group, arm, close_gate, open_gate, prepare};
@@ -43,8 +45,7 @@ pub(crate) fn redo<V: Volume>(
     requires header { length header.now ≡ 64 }
     requires long { IsTrue (V.told vol.old) → index_end ≤ length (contents Bundle
         (V.history vol.old)) }
-    requires bundle { IsTrue (V.told vol.old) → IsSettled (current (V.history vol.old)).bundle }
-    requires journal { IsTrue (V.told vol.old) → IsSettled (current (V.history vol.old)).journal }
+    requires quiet { IsTrue (V.told vol.old) → IsQuiet (current (V.history vol.old)) }
     requires opened { IsTrue (V.told vol.old) → IsOpen (contents Journal (V.history vol.old)) }
     ensures done { IsTrue (V.told vol.old) → OnOk result (current (V.history vol.new) ≡ record {
       bundle = settled (with_entries header.now group.now (contents Bundle (V.history vol.old)));
@@ -57,8 +58,7 @@ pub(crate) fn redo<V: Volume>(
         (V.history vol.old)))) d) (V.history vol.old) (V.history vol.new) }
     ensures bytes { IsTrue (V.told vol.old) → During (EachUnderAll header.now group.now
         (contents Bundle (V.history vol.old))) (V.history vol.old) (V.history vol.new) }
-    ensures told { V.told vol.new ≡ V.told vol.old }
-    ensures counted { CountsFaults result (V.faults vol.old) (V.faults vol.new) }
+    ensures told { Told V.told V.faults (CountsFaults result) vol.old vol.new }
 {
     write_all_over(vol, header, group)?;
     close_gate(vol)
@@ -72,8 +72,7 @@ fn apply<V: Volume>(vol: &mut V, header: &BundleHeader, group: &Group) -> Result
         (V.history vol.old)) }
     requires whole { IsTrue (V.told vol.old) →
         IsWhole (length (contents Journal (V.history vol.old))) }
-    requires bundle { IsTrue (V.told vol.old) → IsSettled (current (V.history vol.old)).bundle }
-    requires journal { IsTrue (V.told vol.old) → IsSettled (current (V.history vol.old)).journal }
+    requires quiet { IsTrue (V.told vol.old) → IsQuiet (current (V.history vol.old)) }
     ensures done { IsTrue (V.told vol.old) → OnOk result (current (V.history vol.new) ≡ record {
       bundle = settled (with_entries header.now group.now (contents Bundle (V.history vol.old)));
       journal = settled (0 ∷ drop 1 (contents Journal (V.history vol.old)));
@@ -85,8 +84,7 @@ fn apply<V: Volume>(vol: &mut V, header: &BundleHeader, group: &Group) -> Result
         → EachImage (λ map. (map ≡ tiles (contents Bundle (V.history vol.old))) ⊎
         (map ≡ tiles (with_entries header.now group.now (contents Bundle (V.history vol.old))))) d)
         (V.history vol.old) (V.history vol.new) }
-    ensures told { V.told vol.new ≡ V.told vol.old }
-    ensures counted { CountsFaults result (V.faults vol.old) (V.faults vol.new) }
+    ensures told { Told V.told V.faults (CountsFaults result) vol.old vol.new }
 {
     open_gate(vol)?;
     redo(vol, header, group)
@@ -99,9 +97,7 @@ fn stage<V: Volume>(vol: &mut V, end: u64, updates: &Updates, body: &Body) -> Re
     requires room { end + length (group_records updates.now) ≤ 2 ^ 40 }
     requires body { IsWritten body.now }
     requires end { IsTrue (V.told vol.old) → end ≡ length (contents Bundle (V.history vol.old)) }
-    requires bundle { IsTrue (V.told vol.old) → IsSettled (current (V.history vol.old)).bundle }
-    requires journal { IsTrue (V.told vol.old) → IsSettled (current (V.history vol.old)).journal }
-    requires closed { IsTrue (V.told vol.old) → ¬ IsOpen (contents Journal (V.history vol.old)) }
+    requires idle { IsTrue (V.told vol.old) → IsIdle (current (V.history vol.old)) }
     ensures done { IsTrue (V.told vol.old) → OnOk result (current (V.history vol.new) ≡ record {
       bundle = settled (contents Bundle (V.history vol.old) ++ group_records updates.now);
       journal = settled (0 ∷ body_bytes body.now);
@@ -110,8 +106,7 @@ fn stage<V: Volume>(vol: &mut V, end: u64, updates: &Updates, body: &Body) -> Re
         During (λ d. IsBundle (contents Bundle (V.history vol.old))
         → EachImage (λ map. map ≡ tiles (contents Bundle (V.history vol.old))) d)
         (V.history vol.old) (V.history vol.new) }
-    ensures told { V.told vol.new ≡ V.told vol.old }
-    ensures counted { CountsFaults result (V.faults vol.old) (V.faults vol.new) }
+    ensures told { Told V.told V.faults (CountsFaults result) vol.old vol.new }
 {
     append_records(vol, end, updates)?;
     prepare(vol)?;
@@ -128,8 +123,7 @@ pub(crate) fn apply_body<V: Volume>(vol: &mut V, body: &Body) -> Result<(), Fail
     requires least { IsTrue (V.told vol.old) → index_end ≤ size_in body.now }
     requires holds { IsTrue (V.told vol.old) →
         contents Journal (V.history vol.old) ≡ 0 ∷ body_bytes body.now }
-    requires bundle { IsTrue (V.told vol.old) → IsSettled (current (V.history vol.old)).bundle }
-    requires journal { IsTrue (V.told vol.old) → IsSettled (current (V.history vol.old)).journal }
+    requires quiet { IsTrue (V.told vol.old) → IsQuiet (current (V.history vol.old)) }
     ensures done { IsTrue (V.told vol.old) → OnOk result (current (V.history vol.new) ≡ record {
       bundle = settled (with_body body.now (contents Bundle (V.history vol.old)));
       journal = settled (0 ∷ body_bytes body.now);
@@ -140,8 +134,7 @@ pub(crate) fn apply_body<V: Volume>(vol: &mut V, body: &Body) -> Result<(), Fail
         → EachImage (λ map. (map ≡ tiles (contents Bundle (V.history vol.old))) ⊎
         (map ≡ tiles (with_body body.now (contents Bundle (V.history vol.old))))) d)
         (V.history vol.old) (V.history vol.new) }
-    ensures told { V.told vol.new ≡ V.told vol.old }
-    ensures counted { CountsFaults result (V.faults vol.old) (V.faults vol.new) }
+    ensures told { Told V.told V.faults (CountsFaults result) vol.old vol.new }
 {
     match body {
         Body::Group { group, header, .. } => apply(vol, header, group),
@@ -163,8 +156,7 @@ pub(crate) fn commit<V: Volume>(
     requires names { size_in body.now ≡ end + length (group_records updates.now) }
     requires least { IsTrue (V.told vol.old) → index_end ≤ end }
     requires end { IsTrue (V.told vol.old) → end ≡ length (contents Bundle (V.history vol.old)) }
-    requires quiet { IsTrue (V.told vol.old) → IsQuiet (current (V.history vol.old)) }
-    requires closed { IsTrue (V.told vol.old) → ¬ IsOpen (contents Journal (V.history vol.old)) }
+    requires idle { IsTrue (V.told vol.old) → IsIdle (current (V.history vol.old)) }
     ensures done { IsTrue (V.told vol.old) → OnOk result (current (V.history vol.new) ≡ record {
       bundle = settled (with_body body.now (contents Bundle (V.history vol.old)
           ++ group_records updates.now));
@@ -178,8 +170,7 @@ pub(crate) fn commit<V: Volume>(
         (map ≡ tiles (with_body body.now (contents Bundle (V.history vol.old)
         ++ group_records updates.now)))) d)
         (V.history vol.old) (V.history vol.new) }
-    ensures told { V.told vol.new ≡ V.told vol.old }
-    ensures counted { CountsFaults result (V.faults vol.old) (V.faults vol.new) }
+    ensures told { Told V.told V.faults (CountsFaults result) vol.old vol.new }
 {
     stage(vol, end, updates, body)?;
     apply_body(vol, body)

@@ -5,6 +5,7 @@ ghost use Rattle.outside_io.specs.streams.Faults.{CountsFaults};
 ghost use Rattle.outside_io.specs.volume.History.{During, contents, current};
 ghost use Rattle.bundle_store.specs.Recover.{synced_disk};
 ghost use Rattle.bundle_store.specs.inside.Parts.{EachWholeOrNone, KeepsJournal, Narrows};
+ghost use Rattle.bundle_store.specs.Told.{Told};
 
 use outside_io::{Failed, VolFile, Volume};
 
@@ -14,8 +15,7 @@ pub(crate) fn sync_both<V: Volume>(vol: &mut V) -> Result<(), Failed>
         ≡ synced_disk (current (V.history vol.old))) }
     ensures during { IsTrue (V.told vol.old) → During (Narrows (current (V.history vol.old)))
         (V.history vol.old) (V.history vol.new) }
-    ensures told { V.told vol.new ≡ V.told vol.old }
-    ensures counted { CountsFaults result (V.faults vol.old) (V.faults vol.new) }
+    ensures told { Told V.told V.faults (CountsFaults result) vol.old vol.new }
 {
     vol.sync(VolFile::Journal)?;
     vol.sync(VolFile::Bundle)
@@ -30,8 +30,7 @@ pub(crate) fn wipe<V: Volume>(vol: &mut V) -> Result<(), Failed>
         (V.history vol.old) (V.history vol.new) }
     ensures bytes { IsTrue (V.told vol.old) → During (EachWholeOrNone (contents Bundle
         (V.history vol.old))) (V.history vol.old) (V.history vol.new) }
-    ensures told { V.told vol.new ≡ V.told vol.old }
-    ensures counted { CountsFaults result (V.faults vol.old) (V.faults vol.new) }
+    ensures told { Told V.told V.faults (CountsFaults result) vol.old vol.new }
 {
     vol.cut(VolFile::Bundle, 0)?;
     vol.sync(VolFile::Bundle)

@@ -4,6 +4,7 @@ ghost use Rattle.outside_io.specs.streams.Faults.{CountsFaults};
 ghost use Rattle.outside_io.specs.volume.History.{Ticks, contents, current};
 ghost use Rattle.bundle_index.specs.Header.{header_fault};
 ghost use Rattle.bundle_store.specs.Session.{IsHeaderFault};
+ghost use Rattle.bundle_store.specs.Told.{Told};
 
 use bundle_index::{BundleHeader, HeaderFault};
 use outside_io::{Failed, VolFile, Volume};
@@ -17,8 +18,7 @@ pub(crate) fn read_header<V: Volume>(vol: &mut V) -> Result<BundleHeader, Failed
     ensures disk { IsTrue (V.told vol.old) →
         current (V.history vol.new) ≡ current (V.history vol.old) }
     ensures time { Ticks (V.history vol.old) (V.history vol.new) result }
-    ensures told { V.told vol.new ≡ V.told vol.old }
-    ensures counted { CountsFaults result (V.faults vol.old) (V.faults vol.new) }
+    ensures told { Told V.told V.faults (CountsFaults result) vol.old vol.new }
 {
     let mut bytes = [0; 64];
     vol.read(VolFile::Bundle, 0, &mut bytes)?;

@@ -1,6 +1,6 @@
 -- Bytes that stand for values, and their symbols.
 use Rattle.std.specs.Prelude.{ℕ, ℤ, ◌+◌, ◌-◌, ◌%◌}
-use Rattle.raster_values.specs.PixelType.{complement_of}
+use Rattle.raster_cells.specs.PixelType.{complement_of}
 
 -- the byte that stands for a value
 abbrev pub byte_of : ℤ → ℕ

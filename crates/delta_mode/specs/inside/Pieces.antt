@@ -3,7 +3,7 @@
 use Rattle.std.specs.Prelude.{ℕ, zero, suc, ◌≡◌, ◌⊎◌, ◌-◌, ◌+◌, ◌<◌, ◌≤◌, Bool, true, false, ℤ, pos}
 use Rattle.std.specs.Prelude.{negsuc, ◌≤ℤ◌, ◌+ℤ◌, unsigned_abs, if◌then◌else◌, List, get_or}
 use Rattle.std.specs.Int.{int_rem_euclid}
-use Rattle.raster_values.specs.declared.kind.PixelType.{PixelType}
+use Rattle.raster_cells.specs.declared.kind.PixelType.{PixelType}
 use Rattle.delta_mode.specs.Deltas.{delta, last_value}
 
 -- how many of the first n pixels are valid

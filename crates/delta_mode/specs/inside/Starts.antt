@@ -1,9 +1,9 @@
 -- The symbols of a piece of a row by distances: how far each value is above the type's least.
 use Rattle.std.specs.Prelude.{ℕ, ◌≡◌, ◌+◌, ◌-◌, ◌%◌, ◌^◌, ◌<◌, ◌≤◌, Bool, true, false, List, get_or}
 use Rattle.raster_values.specs.Raster.{Pixels}
-use Rattle.raster_values.specs.Distance.{distance_of}
+use Rattle.raster_cells.specs.Distance.{distance_of}
 use Rattle.raster_values.specs.Flat.{value_in}
-use Rattle.raster_values.specs.Words.{word_bit}
+use Rattle.raster_cells.specs.Words.{word_bit}
 use Rattle.delta_mode.specs.Deltas.{delta, has_left, is_valid, last_value}
 use Rattle.delta_mode.specs.inside.Pieces.{rank}
 

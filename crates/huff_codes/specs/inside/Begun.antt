@@ -3,7 +3,7 @@ use Rattle.std.specs.Prelude.{ℕ, ◌≡◌, ◌%◌, ◌^◌, ◌<◌, Bool, L
 use Rattle.huff_codes.specs.Bits.{bits_of}
 use Rattle.huff_codes.specs.Codes.{code_at}
 use Rattle.huff_codes.specs.Pieces.{Writing}
-use Rattle.huff_codes.specs.declared.word_pairs.CodeNumber.{CodeNumber}
+use Rattle.huff_codes.specs.declared.words.word_pairs.CodeNumber.{CodeNumber}
 use Rattle.huff_codes.specs.inside.Filling.{IsNumbered, no_number}
 
 -- the codes that the numbers have
@@ -19,8 +19,3 @@ pub record AreNumbers (numbers : List CodeNumber) : Type 0 where
 unfoldable pub writing_of : List CodeNumber → ℕ → ℕ → ℕ → Writing
 writing_of numbers held count at =
     record { codes = numbered_codes numbers; place = at; waiting = bits_of count (held % 2 ^ count) }
-
-pub record IsWriting (numbers : List CodeNumber) (count at : ℕ) : Type 0 where
-  pub are : AreNumbers numbers
-  pub few : count < 32
-  pub whole : at % 4 ≡ 0

@@ -2,7 +2,7 @@
 use Rattle.std.specs.Prelude.{ℕ, ◌≡◌, ◌-◌, ◌*◌, ◌%◌, ◌^◌, ◌<◌, ◌≤◌, Bool, false, List, ◌++◌, length, take}
 use Rattle.std.specs.Prelude.{replicate}
 use Rattle.huff_codes.specs.Bits.{bits_of, word_bits}
-use Rattle.huff_codes.specs.declared.word_pairs.CodeNumber.{CodeNumber}
+use Rattle.huff_codes.specs.declared.words.word_pairs.CodeNumber.{CodeNumber}
 
 -- The bits are those of the words in front of a place, and `count` more, fewer than a word has,
 -- which a number holds.

@@ -1,7 +1,7 @@
 -- Reading symbols by the table, out of a window of the next bits.
 use Rattle.std.specs.Prelude.{ℕ, List, Bool, ◌++◌, take, drop}
 use Rattle.huff_codes.specs.Bits.{word_bits}
-use Rattle.huff_codes.specs.declared.words.Cursor.{Cursor}
+use Rattle.huff_codes.specs.declared.words.reading.Cursor.{Cursor}
 use Rattle.huff_codes.specs.inside.Lookup.{IsSeen}
 use Rattle.huff_codes.specs.inside.Reading.{HaveReached}
 

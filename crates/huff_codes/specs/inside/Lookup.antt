@@ -3,7 +3,7 @@ use Rattle.std.specs.Prelude.{ℕ, ◌≡◌, ◌*◌, ◌<◌, ◌≤◌, Bool,
 use Rattle.huff_codes.specs.Bits.{bits_of, BeginsWith}
 use Rattle.huff_codes.specs.Codes.{HasCode}
 use Rattle.huff_codes.specs.Words.{joined_codes}
-use Rattle.huff_codes.specs.declared.lookup.Entry.{Entry}
+use Rattle.huff_codes.specs.declared.words.lookup.Entry.{Entry}
 
 -- the entry of bits that no code of at most eleven bits stands in front of
 abbrev pub no_entry : Entry

@@ -3,8 +3,8 @@ use Rattle.std.specs.Prelude.{ℕ, ◌≡◌, ◌<◌, ◌⊎◌, Bool, List, ge
 use Rattle.huff_codes.specs.Bits.{bits_of, BeginsWith}
 use Rattle.huff_codes.specs.Codes.{HasCode, code_at}
 use Rattle.huff_codes.specs.Prefixes.{IsLook}
-use Rattle.huff_codes.specs.declared.prefixes.Look.{Look}
-use Rattle.huff_codes.specs.declared.prefixes.Look.TheVariants.{Nothing}
+use Rattle.huff_codes.specs.declared.words.prefixes.Look.{Look}
+use Rattle.huff_codes.specs.declared.words.prefixes.Look.TheVariants.{Nothing}
 
 -- the code of the symbol stands in front of the byte's bits, or begins with them
 pub record Tells (codes : List (List Bool)) (byte s : ℕ) : Type 0 where

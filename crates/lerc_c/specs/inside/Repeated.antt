@@ -1,7 +1,7 @@
 -- Values that are all one.
 use Rattle.std.specs.Prelude.{ℕ, ℤ, ◌+◌, ◌*◌, ◌≤◌, List, length, drop}
-use Rattle.raster_values.specs.declared.kind.PixelType.{PixelType}
-use Rattle.raster_values.specs.PixelType.{InRange, Spells, bytes_of}
+use Rattle.raster_cells.specs.declared.kind.PixelType.{PixelType}
+use Rattle.raster_cells.specs.PixelType.{InRange, Spells, bytes_of}
 
 pub record IsOneValue (kind : PixelType) (bytes : List ℕ) (value : ℤ) : Type 0 where
   pub in_range : InRange kind value

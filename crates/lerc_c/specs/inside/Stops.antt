@@ -1,12 +1,13 @@
 -- Why a call stops.
 use Rattle.std.specs.Prelude.{◌≡◌, ℕ, ◌*◌, ◌<◌, ◌≤◌, ◌⊎◌, List, length, drop, ◌++◌}
-use Rattle.raster_values.specs.declared.kind.PixelType.{PixelType}
-use Rattle.raster_values.specs.Raster.{Pixels, HasZero, IsTooLarge}
+use Rattle.raster_cells.specs.declared.kind.PixelType.{PixelType}
+use Rattle.raster_values.specs.Raster.{Pixels}
+use Rattle.raster_cells.specs.Shapes.{HasZero, IsTooLarge}
 use Rattle.lerc_header.specs.declared.header.Version.{Version}
 use Rattle.lerc_header.specs.declared.header.Version.TheVariants.{V3}
 use Rattle.lerc_decode.specs.Decoding.{HasHeader}
-use Rattle.lerc_decode.specs.declared.decoder.DecodeFault.{DecodeFault}
-use Rattle.lerc_decode.specs.declared.decoder.DecodeFault.TheVariants.{Blob, OutOfMemory as NoMemory}
+use Rattle.lerc_decode.specs.declared.streams.decoder.DecodeFault.{DecodeFault}
+use Rattle.lerc_decode.specs.declared.streams.decoder.DecodeFault.TheVariants.{Blob, OutOfMemory as NoMemory}
 use Rattle.lerc_c.specs.declared.decoding.DecodeStop.{DecodeStop}
 use Rattle.lerc_c.specs.declared.decoding.DecodeStop.TheVariants.{Refused, OutOfMemory, Sizes}
 use Rattle.lerc_c.specs.declared.encoding.EncodeStop.{EncodeStop}

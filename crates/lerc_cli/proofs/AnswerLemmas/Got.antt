@@ -3,7 +3,7 @@ use Rattle.std.proofs.Common.{◌≡◌, ℕ, ◌≤◌, List, [], Option, Ok, E
 use Rattle.outside_io.specs.streams.Faults.{FailedBetween}
 use Rattle.outside_io.specs.streams.Sink.{Holds, HoldsPrefix}
 use Rattle.raster_values.specs.Raster.{Pixels}
-use Rattle.raster_values.specs.Grid.{bands_grid_of}
+use Rattle.raster_grids.specs.Grid.{bands_grid_of}
 use Rattle.bundle_store.specs.Session.{GetGives}
 use Rattle.lerc_grammar.specs.Bands.{BandsFaultAt}
 use Rattle.program_ends.specs.Moves.{SinkMove, sink_move}

@@ -1,7 +1,7 @@
 -- One command of words, and one answer of a command.
 use Rattle.std.proofs.Common.{◌≡◌, Err, List, ℕ, None, Option, Some, refl, rules, sym, ap, subst, ◌∙◌}
 use Rattle.std.specs.Prelude.{IsTrue}
-use Rattle.raster_values.specs.Grid.{bands_grid_of}
+use Rattle.raster_grids.specs.Grid.{bands_grid_of}
 use Rattle.raster_values.specs.Raster.{Pixels}
 use Rattle.lerc_header.specs.declared.header.Version.{Version}
 use Rattle.lerc_header.specs.Written.{step_of}

@@ -1,10 +1,10 @@
 -- The answer to a whole input that is to be one grid of bands: there is one.
 use Rattle.std.proofs.Common.{◌≡◌, ℕ, List, [], length, length-append, Option, Some, refl, sym, ap, subst, ◌∙◌, arith}
 use Rattle.std.proofs.lemmas.List.{append-nil}
-use Rattle.raster_values.specs.declared.reading.GridReason.{GridReason}
+use Rattle.raster_grids.specs.declared.reading.GridReason.{GridReason}
 use Rattle.raster_values.specs.Raster.{Pixels}
-use Rattle.raster_values.specs.BandsGrid.{IsBandsGrid, bands_faults}
-use Rattle.raster_values.proofs.BandsGridLaws.{bands_grids_are_parts}
+use Rattle.raster_grids.specs.BandsGrid.{IsBandsGrid, bands_faults}
+use Rattle.raster_grids.proofs.BandsGridLaws.{bands_grids_are_parts}
 use Rattle.lerc_header.specs.declared.header.Version.{Version}
 use Rattle.lerc_cli.specs.declared.refusal.Reason.{Reason}
 use Rattle.lerc_cli.specs.declared.refusal.Reason.TheVariants.{Blob, BadBand, Grid, Leftover, DepthNeedsV4, BadTileMark, BadSlot}

@@ -2,8 +2,8 @@
 use Rattle.std.proofs.Common.{◌≡◌, ℕ, true, List, [], Option, None, Some, rules, Err, refl, subst}
 use Rattle.std.specs.Prelude.{IfSome, IsTrue}
 use Rattle.lerc_decode.specs.BandsSource.{IsNoBands}
-use Rattle.lerc_decode.specs.declared.bands_source.BandsFromFault.{BandsFromFault}
-use Rattle.lerc_decode.specs.declared.bands_source.BandsFromFault.TheVariants.{Fault as FromBlobs, Source as FromSource, OutOfMemory as FromMemory}
+use Rattle.lerc_decode.specs.declared.streams.bands_source.BandsFromFault.{BandsFromFault}
+use Rattle.lerc_decode.specs.declared.streams.bands_source.BandsFromFault.TheVariants.{Fault as FromBlobs, Source as FromSource, OutOfMemory as FromMemory}
 use Rattle.program_ends.specs.Moves.{sink_move}
 use Rattle.lerc_cli.specs.declared.words.Command.TheVariants.{Decode, Info}
 use Rattle.program_ends.specs.declared.stop.Stop.{Stop}

@@ -12,8 +12,8 @@ use Rattle.bundle_lines.specs.Lines.{check_lines, listing, put_lines, recovery_l
 use Rattle.bundle_lines.specs.Puts.{HaveRoom, IsFirstFull, LeavesNoRoom}
 use Rattle.tile_updates.specs.Updates.{IsUpdates, OfBytes}
 use Rattle.raster_values.specs.Bands.{AreBands}
-use Rattle.raster_values.specs.BandsGrid.{IsBandsGrid}
-use Rattle.raster_values.specs.Grid.{bands_grid_of}
+use Rattle.raster_grids.specs.BandsGrid.{IsBandsGrid}
+use Rattle.raster_grids.specs.Grid.{bands_grid_of}
 use Rattle.raster_values.specs.Raster.{Pixels}
 use Rattle.lerc_header.specs.Written.{step_of}
 use Rattle.lerc_grammar.specs.declared.bands.BandReason.{BandReason}

@@ -1,7 +1,7 @@
 -- Inputs: what a whole input is to be, and what is wrong in it first.
 use Rattle.std.specs.Prelude.{◌≡◌, ℕ, ◌<◌, List, ◌++◌, length, Option}
 use Rattle.raster_values.specs.Raster.{Pixels}
-use Rattle.raster_values.specs.BandsGrid.{IsBandsGrid, bands_faults}
+use Rattle.raster_grids.specs.BandsGrid.{IsBandsGrid, bands_faults}
 use Rattle.lerc_header.specs.declared.header.Header.{Header}
 use Rattle.lerc_header.specs.declared.header.Version.{Version}
 use Rattle.lerc_header.specs.declared.header.Version.TheVariants.{V3}

@@ -3,8 +3,8 @@ use Rattle.std.specs.Prelude.{◌≡◌, ℕ, List, Result, Ok, Err}
 use Rattle.raster_values.specs.Raster.{Pixels}
 use Rattle.lerc_grammar.specs.declared.bands.BandReason.{BandReason}
 use Rattle.lerc_grammar.specs.Bands.{BandsBlob, BandsFaultAt}
-use Rattle.lerc_decode.specs.declared.bands.BandsStop.{BandsStop}
-use Rattle.lerc_decode.specs.declared.bands.BandsStop.TheVariants.{Fault as BandsFaultOf, OutOfMemory as NoMemoryOf}
+use Rattle.lerc_decode.specs.declared.streams.bands.BandsStop.{BandsStop}
+use Rattle.lerc_decode.specs.declared.streams.bands.BandsStop.TheVariants.{Fault as BandsFaultOf, OutOfMemory as NoMemoryOf}
 use Rattle.bundle_lines.specs.declared.stop.LineStop.TheVariants.{Output as LineOutput, Volume as LineVolume}
 use Rattle.bundle_lines.specs.Gave.{LineEnd}
 use Rattle.program_ends.specs.declared.stop.Stop.{Stop}

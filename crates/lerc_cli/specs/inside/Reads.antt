@@ -4,8 +4,8 @@ use Rattle.raster_values.specs.Bands.{AreBands}
 use Rattle.raster_values.specs.Raster.{Pixels}
 use Rattle.lerc_grammar.specs.Bands.{BandsBlob}
 use Rattle.lerc_decode.specs.BandsSource.{HoldsBlobs}
-use Rattle.lerc_decode.specs.declared.bands_source.BandsFromFault.{BandsFromFault}
-use Rattle.lerc_decode.specs.declared.bands_source.BandsFromFault.TheVariants.{Fault as FromBlobs, Source as FromSource, OutOfMemory as FromMemory}
+use Rattle.lerc_decode.specs.declared.streams.bands_source.BandsFromFault.{BandsFromFault}
+use Rattle.lerc_decode.specs.declared.streams.bands_source.BandsFromFault.TheVariants.{Fault as FromBlobs, Source as FromSource, OutOfMemory as FromMemory}
 use Rattle.program_ends.specs.declared.stop.Stop.{Stop}
 use Rattle.program_ends.specs.declared.stop.Stop.TheVariants.{Refused, Source, OutOfMemory}
 use Rattle.lerc_cli.specs.declared.refusal.Refusal.{Refusal}

@@ -5,8 +5,8 @@ use Rattle.outside_io.specs.program.Line.{GivesLine}
 use Rattle.outside_io.specs.streams.Sink.{Holds, HoldsPrefix}
 use Rattle.outside_io.specs.volume.History.{History, contents}
 use Rattle.raster_values.specs.Bands.{AreBands}
-use Rattle.raster_values.specs.BandsGrid.{IsBandsGrid}
-use Rattle.raster_values.specs.Grid.{bands_grid_of}
+use Rattle.raster_grids.specs.BandsGrid.{IsBandsGrid}
+use Rattle.raster_grids.specs.Grid.{bands_grid_of}
 use Rattle.raster_values.specs.Raster.{Pixels}
 use Rattle.lerc_header.specs.declared.header.Version.{Version}
 use Rattle.lerc_header.specs.Written.{step_of}

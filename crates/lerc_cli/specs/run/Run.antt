@@ -3,7 +3,7 @@ use Rattle.std.specs.Prelude.{◌≡◌, ℕ, ◌≤◌, List, [], length, repli
 use Rattle.outside_io.specs.streams.Faults.{IsCause}
 use Rattle.outside_io.specs.streams.Source.{TakesUpTo, IsAtEnd}
 use Rattle.outside_io.specs.program.Line.{GivesLine}
-use Rattle.raster_values.specs.ReadGrid.{TookSome}
+use Rattle.raster_grids.specs.Taken.{TookSome}
 use Rattle.bundle_lines.specs.Puts.{AreMarks}
 use Rattle.program_ends.specs.Moves.{SinkMove, SourceMove, VolumeMove}
 use Rattle.program_ends.specs.Stop.{Gained}

@@ -11,7 +11,7 @@ use crate::inputs::blobs::read_bands;
 use crate::refusal::Refusal;
 use outside_io::{Sink, Source};
 use program_ends::Stop;
-use raster_values::bands_write;
+use raster_grids::bands_write;
 use std::alloc::Global;
 
 /// Reads the blobs of bands from the source, and gives their grid to the output.

@@ -1,44 +1,44 @@
 //! A grid of bands becomes the blobs that are chosen for them.
 
-ghost use Rattle.std.specs.Prelude.{Option, OnOk};
-ghost use Rattle.raster_values.specs.Bands.{AreBands};
+ghost use Rattle.std.specs.Prelude.{◌≡◌, Option, OnOk};
 ghost use Rattle.program_ends.specs.Moves.{sink_move, source_move};
 ghost use Rattle.opened_bundle.specs.Files.{Files};
 ghost use Rattle.lerc_cli.specs.declared.words.Command.{Command};
 ghost use Rattle.lerc_cli.specs.inputs.Given.{given};
-ghost use Rattle.lerc_cli.specs.inside.Grids.{MakesBlobs};
+ghost use Rattle.lerc_cli.specs.inside.Grids.{input_reason_of, input_stop_of};
 ghost use Rattle.lerc_cli.specs.run.InWords.{GivesBlobs};
 ghost use Rattle.lerc_cli.specs.run.Run.{OfSource, OfOutput};
 
-use crate::inputs::grid::read_grid;
 use crate::refusal::{Fault, Reason, Refusal};
-use lerc_encode::{EncodeFault, encode_bands};
+use grid_blobs::{InputReason, InputStop, encode_grid};
 use lerc_grammar::nearest_is_same;
-use lerc_header::{Step, Version};
-use outside_io::{Bytes, Sink, Source, give_all};
+use lerc_header::Version;
+use outside_io::{Sink, Source, give_all};
 use program_ends::Stop;
-use raster_values::Bands;
 use std::alloc::Global;
 
-/// The blobs that are chosen for bands.
-fn blobs_of(
-    alloc: Global,
-    bands: &Bands,
-    version: Version,
-    error: u32,
-) -> Result<Bytes, Stop<Refusal>>
-    requires { AreBands bands.now }
-    ensures { MakesBlobs version error bands.now result }
+/// What is wrong with an input that is to be one grid, as a reason of the program.
+fn input_reason(reason: InputReason) -> Reason
+    ensures { result ≡ input_reason_of reason }
 {
-    // The law by which the blobs of an encoding without an error are those of the given bands.
-    nearest_is_same();
-    match encode_bands(alloc, bands, version, Step::of(error)) {
-        Ok(blobs) => Ok(blobs),
-        Err(EncodeFault::DepthNeedsV4) => Err(Stop::Refused(Refusal::Input(Fault {
-            reason: Reason::DepthNeedsV4,
-            place: 13,
-        }))),
-        Err(EncodeFault::OutOfMemory) => Err(Stop::OutOfMemory),
+    match reason {
+        InputReason::Grid(reason) => Reason::Grid(reason),
+        InputReason::Leftover => Reason::Leftover,
+        InputReason::DepthNeedsV4 => Reason::DepthNeedsV4,
+    }
+}
+
+/// Why no blobs were made, as a stop of the program.
+fn input_stop(stop: InputStop) -> Stop<Refusal>
+    ensures { result ≡ input_stop_of stop }
+{
+    match stop {
+        InputStop::Fault(fault) => Stop::Refused(Refusal::Input(Fault {
+            reason: input_reason(fault.reason),
+            place: fault.place,
+        })),
+        InputStop::Source => Stop::Source,
+        InputStop::OutOfMemory => Stop::OutOfMemory,
     }
 }
 
@@ -58,13 +58,11 @@ pub fn encode<S: Source, K: Sink>(
     ensures blobs { OnOk result (GivesBlobs version error (S.left src.old)
         (record { old = K.held out.old; new = K.held out.new })) }
 {
-    let bands = match read_grid(alloc, src) {
-        Ok(bands) => bands,
-        Err(stop) => return Err(stop),
-    };
-    let blobs = match blobs_of(alloc, &bands, version, error) {
+    // The law by which the blobs of an encoding without an error are those of the given bands.
+    nearest_is_same();
+    let blobs = match encode_grid(alloc, version, error, src) {
         Ok(blobs) => blobs,
-        Err(stop) => return Err(stop),
+        Err(stop) => return Err(input_stop(stop)),
     };
     match give_all(out, blobs.as_slice()) {
         Ok(()) => Ok(()),

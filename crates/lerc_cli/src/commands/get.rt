@@ -17,7 +17,7 @@ use bundle_index::Slot;
 use opened_bundle::read_tile;
 use outside_io::{Sink, Volume, give_all};
 use program_ends::Stop;
-use raster_values::bands_write;
+use raster_grids::bands_write;
 use std::alloc::Global;
 
 /// Gives the bytes of the slot's tile to the output.

@@ -3,7 +3,7 @@
 ghost use Rattle.std.specs.Prelude.{◌≡◌, ◌≤◌, Err, IfOk, OnOk, [], length};
 ghost use Rattle.outside_io.specs.streams.Faults.{IsCause};
 ghost use Rattle.outside_io.specs.streams.Source.{IsAtEnd};
-ghost use Rattle.raster_values.specs.ReadGrid.{TookSome};
+ghost use Rattle.raster_grids.specs.Taken.{TookSome};
 ghost use Rattle.bundle_store.specs.Build.{EachFits};
 ghost use Rattle.lerc_cli.specs.inputs.Refused.{stream_stop_of, tile_reason_of};
 ghost use Rattle.lerc_cli.specs.inside.Updates.{TakesUpdates};
@@ -17,7 +17,7 @@ use std::alloc::Global;
 use std::thread::Threads;
 use tile_stream::TileReason;
 use tile_updates::{StreamStop, read_updates};
-use tile_workers::Gate;
+use tile_workers::{Coding, Gate};
 
 /// What is wrong in a tile, as a reason.
 fn tile_reason(reason: TileReason) -> Reason
@@ -77,15 +77,12 @@ pub fn take_updates<R: Threads + Sync, S: Source, G: Gate>(
     ensures taken { TookSome (S.left src.old) (S.left src.new) }
     ensures end { OnOk result (IsAtEnd (S.left src.new)) }
 {
-    let updates = match read_updates(
-        rt,
-        alloc,
-        src,
+    let coding = Coding {
         version,
-        Step::of(error),
-        workers as usize,
-        gate,
-    ) {
+        step: Step::of(error),
+        workers: workers as usize,
+    };
+    let updates = match read_updates(rt, alloc, src, coding, gate) {
         Ok(updates) => updates,
         Err(stop) => return Err(stream_stop(stop)),
     };

@@ -1,6 +1,6 @@
 -- What a decoder of bands holds.
 use Rattle.std.specs.Prelude.{ℕ, List}
-use Rattle.lerc_decode.specs.declared.bands.BandsDecoder.TheInside.{Inside}
+use Rattle.lerc_decode.specs.declared.streams.bands.BandsDecoder.TheInside.{Inside}
 use Rattle.lerc_decode.specs.Reading.{BandsDecoding, IsAfter}
 use Rattle.lerc_decode.specs.inside.BandsStages.{stage_in}
 

@@ -1,7 +1,8 @@
 -- Feeding a decoder of bands from a source.
 use Rattle.std.specs.Prelude.{◌≡◌, ℕ, ◌+◌, ◌-◌, List, ◌++◌, length, Option, None, Some, IfSome}
 use Rattle.lerc_decode.specs.Decoding.{HasHeader}
-use Rattle.lerc_decode.specs.Reading.{BandsStage, InBlob, Behind, NoMemory, BandsDecoding, WholeFront, IsAfter}
+use Rattle.lerc_decode.specs.Reading.{BandsStage, InBlob, Behind, NoMemory, BandsDecoding}
+use Rattle.lerc_decode.specs.Reading.{WholeFront, IsAfter}
 
 -- What a source had is what the decoder took and what the source has left. None is a source that
 -- does not tell its bytes.

@@ -3,10 +3,13 @@ use Rattle.std.specs.Prelude.{◌≡◌, ℕ, ◌+◌, ◌<◌, List, codes, Opt
 use Rattle.raster_values.specs.Raster.{Pixels}
 use Rattle.lerc_grammar.specs.declared.bands.BandsFault.{BandsFault}
 use Rattle.lerc_grammar.specs.Bands.{BandsBlob, BandsFaultAt, last_after}
-use Rattle.lerc_decode.specs.declared.bands.BandsProgress.{BandsProgress}
-use Rattle.lerc_decode.specs.declared.bands.BandsProgress.TheVariants.{Inside, Behind as AtKey, Refused, OutOfMemory}
-use Rattle.lerc_decode.specs.declared.bands.BandsStop.{BandsStop}
-use Rattle.lerc_decode.specs.declared.bands.BandsStop.TheVariants.{Fault, OutOfMemory as NoMemoryStop}
+use Rattle.lerc_decode.specs.declared.streams.bands.BandsProgress.{BandsProgress}
+use Rattle.lerc_decode.specs.declared.streams.bands.BandsProgress.TheVariants.{Inside}
+use Rattle.lerc_decode.specs.declared.streams.bands.BandsProgress.TheVariants.{Behind as AtKey}
+use Rattle.lerc_decode.specs.declared.streams.bands.BandsProgress.TheVariants.{Refused, OutOfMemory}
+use Rattle.lerc_decode.specs.declared.streams.bands.BandsStop.{BandsStop}
+use Rattle.lerc_decode.specs.declared.streams.bands.BandsStop.TheVariants.{Fault}
+use Rattle.lerc_decode.specs.declared.streams.bands.BandsStop.TheVariants.{OutOfMemory as NoMemoryStop}
 use Rattle.lerc_decode.specs.Decoding.{HasHeader, IsStageOf}
 use Rattle.lerc_decode.specs.Reading.{BandsStage, InBlob, Behind, Wrong, NoMemory, AreKept}
 

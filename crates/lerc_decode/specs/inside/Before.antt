@@ -1,8 +1,8 @@
 -- What is kept of the raster before.
 use Rattle.std.specs.Prelude.{◌≡◌, ◌*◌, length}
-use Rattle.raster_values.specs.Order.{marks_in}
+use Rattle.raster_cells.specs.Masks.{marks_in}
 use Rattle.lerc_grammar.specs.Mask.{Previous, mask_size, count_of}
-use Rattle.lerc_decode.specs.declared.before.Before.TheInside.{Inside}
+use Rattle.lerc_decode.specs.declared.blob.before.Before.TheInside.{Inside}
 
 abbrev pub seen_before : Inside → Previous
 seen_before a = record {

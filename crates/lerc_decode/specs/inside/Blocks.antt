@@ -2,13 +2,15 @@
 use Rattle.std.specs.Prelude.{ℕ, ◌+◌, ◌*◌, ◌<◌, ◌≤◌, Bool, List, length, map, take}
 use Rattle.std.specs.List.{range_with_len}
 use Rattle.first_fault.specs.Faults.{Numbered}
-use Rattle.raster_values.specs.Raster.{Pixels, IsShape}
+use Rattle.raster_values.specs.Raster.{Pixels}
+use Rattle.raster_cells.specs.Shapes.{IsShape}
 use Rattle.micro_block.specs.Block.{IsBlock}
 use Rattle.lerc_header.specs.declared.header.Header.{Header}
-use Rattle.raster_values.specs.Step.{IsTwiceError}
-use Rattle.lerc_grammar.specs.Blocks.{AreBlocks, all_blocks, block_frame, blocks_across, blocks_down, coded_values}
-use Rattle.lerc_decode.specs.declared.tops.Tops.{Tops}
-use Rattle.lerc_decode.specs.inside.Tops.{top_in}
+use Rattle.raster_cells.specs.Step.{IsTwiceError}
+use Rattle.lerc_grammar.specs.Blocks.{AreBlocks, all_blocks, block_frame, blocks_across}
+use Rattle.lerc_grammar.specs.Blocks.{blocks_down, coded_values}
+use Rattle.lerc_decode.specs.declared.blob.tops.Tops.{Tops}
+use Rattle.lerc_decode.specs.inside.Tops.{AreTops, top_in}
 
 -- the number of the block in row a and column b of blocks, at depth d
 abbrev pub block_number : Header → ℕ → ℕ → ℕ → ℕ
@@ -25,6 +27,11 @@ pub record IsBlockHead (h : Header) : Type 0 where
   pub side_below : h.side ≤ 32
   pub shape : IsShape h.rows h.cols h.depth
   pub step : IsTwiceError h.step
+
+-- and these are the tops of its depths
+pub record HasToppedBlocks (h : Header) (tops : Tops) : Type 0 where
+  pub head : IsBlockHead h
+  pub tops_of : AreTops h tops
 
 -- the first `at` bytes are the first k blocks of the raster
 pub record HasRead (h : Header) (marks : List Bool) (tops : Tops) (rest : List ℕ) (k at : ℕ)

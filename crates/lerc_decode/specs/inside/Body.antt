@@ -1,13 +1,14 @@
 -- What the parts of a blob leave in the raster, and why there is none.
-use Rattle.std.specs.Prelude.{◌≡◌, ℕ, ℤ, ◌-◌, ◌*◌, Bool, List, length, drop, take, Option, Result, OnOk, IfErr}
+use Rattle.std.specs.Prelude.{◌≡◌, ℕ, ℤ, ◌-◌, ◌*◌, Bool, List, length, drop, take, Option, Result}
+use Rattle.std.specs.Prelude.{OnOk, IfErr}
 use Rattle.first_fault.specs.Faults.{Faults, moved}
 use Rattle.mask_runs.specs.Runs.{Runs}
-use Rattle.raster_values.specs.declared.kind.PixelType.{PixelType}
-use Rattle.raster_values.specs.Raster.{Pixels, values_of}
-use Rattle.raster_values.specs.Values.{AreValues}
+use Rattle.raster_cells.specs.declared.kind.PixelType.{PixelType}
+use Rattle.raster_values.specs.Raster.{IsRaster, Pixels, values_of}
+use Rattle.raster_cells.specs.Values.{AreValues}
 use Rattle.raster_values.specs.Flat.{EachValid, all_values, marks_of}
-use Rattle.raster_values.specs.Grid.{values_bytes}
-use Rattle.raster_values.specs.Order.{marks_in}
+use Rattle.raster_cells.specs.Values.{values_bytes}
+use Rattle.raster_cells.specs.Masks.{marks_in}
 use Rattle.lerc_header.specs.declared.header.Header.{Header}
 use Rattle.lerc_header.specs.declared.fault.BlobFault.{BlobFault}
 use Rattle.lerc_header.specs.declared.fault.BlobReason.{BlobReason}
@@ -15,11 +16,12 @@ use Rattle.lerc_header.specs.Head.{head_length}
 use Rattle.lerc_header.specs.Checksum.{sum_of}
 use Rattle.lerc_grammar.specs.declared.parts.MaskForm.{MaskForm}
 use Rattle.lerc_grammar.specs.Outline.{IsMaskFormAfter, image_place}
-use Rattle.lerc_grammar.specs.Mask.{Previous, IsMaskAfter, count_before, marks_before, mask_size, count_of}
+use Rattle.lerc_grammar.specs.Mask.{Previous, IsMaskAfter, count_before, marks_before, mask_size}
+use Rattle.lerc_grammar.specs.Mask.{count_of}
 use Rattle.lerc_grammar.specs.Blob.{Blob}
 use Rattle.lerc_grammar.specs.Image.{IsImage, image_faults, value_count}
-use Rattle.lerc_decode.specs.declared.body.BodyStop.{BodyStop}
-use Rattle.lerc_decode.specs.declared.body.BodyStop.TheVariants.{Fault, OutOfMemory}
+use Rattle.lerc_decode.specs.declared.blob.body.BodyStop.{BodyStop}
+use Rattle.lerc_decode.specs.declared.blob.body.BodyStop.TheVariants.{Fault, OutOfMemory}
 
 -- it is one of these faults
 abbrev pub IsFaultIn : Faults BlobReason → BlobFault → Type 0
@@ -37,6 +39,16 @@ pub record HasHeadShape (h : Header) (r : Pixels) : Type 0 where
   pub cols : h.cols ≡ r.cols
   pub depth : h.depth ≡ r.depth
 
+-- it is a raster of the header's type and shape
+pub record IsShapedAs (h : Header) (r : Pixels) : Type 0 where
+  pub raster : IsRaster r
+  pub shape : HasHeadShape h r
+
+-- and as many of its pixels are valid as the header says
+pub record IsMarkedAs (h : Header) (r : Pixels) : Type 0 where
+  pub shaped : IsShapedAs h r
+  pub valid : count_of (marks_of r) ≡ h.valid
+
 -- the pixels are valid that these runs say, as many as there are to be
 pub record IsMarkedBy (pixels valid : ℕ) (runs : List ℕ) (marks : List Bool) : Type 0 where
   pub mask : List ℕ
@@ -45,13 +57,20 @@ pub record IsMarkedBy (pixels valid : ℕ) (runs : List ℕ) (marks : List Bool)
   pub marks_are : marks ≡ marks_in pixels mask
   pub count : count_of (marks_in pixels mask) ≡ valid
 
--- the image is filled in: type, shape and marks are as they were
+-- type, shape and marks are as they were
 pub record KeepsMarks (old new : Pixels) : Type 0 where
   pub kind : old.kind ≡ new.kind
   pub rows : old.rows ≡ new.rows
   pub cols : old.cols ≡ new.cols
   pub depth : old.depth ≡ new.depth
   pub marks : marks_of old ≡ marks_of new
+
+-- the image is filled in: it is a raster as before but for the values, and what no call changes of
+-- who keeps it is the same, as which array the values are in
+pub record KeepsFrame {K : Type 0} (old new : Pixels) (kept_before kept_after : K) : Type 0 where
+  pub raster : IsRaster new
+  pub marks : KeepsMarks old new
+  pub kept : kept_after ≡ kept_before
 
 -- each valid pixel has the list that the bytes stand for
 pub record IsFilledWith (kind : PixelType) (bytes : List ℕ) (r : Pixels) : Type 0 where
@@ -84,11 +103,10 @@ pub record IsMarkedFor (before : Option Previous) (h : Header) (blob : List ℕ)
       (take (image_place h form - head_length h.version) (drop (head_length h.version) blob))
       (marks_of r)
 
--- the image behind the mask is read into a raster that has the mask's marks: it keeps them and has
--- the values that the bytes stand for, or it is one of their faults
+-- the image behind the mask is read into a raster that has the mask's marks: it has the values that
+-- the bytes stand for, or it is one of their faults
 pub record ReadsImage (h : Header) (blob : List ℕ) (mask : MaskForm) (old new : Pixels)
     (result : Result (Unit {0}) BlobFault) : Type 0 where
-  pub marks : KeepsMarks old new
   pub ok : OnOk result (IsImage h (drop (image_place h mask) blob) new)
   pub fault : IfErr result (λ fault. IsFaultIn (moved (image_place h mask)
       (image_faults h (marks_of old) (drop (image_place h mask) blob))) fault)

@@ -5,12 +5,19 @@ use Rattle.raster_values.specs.Raster.{Pixels}
 use Rattle.huff_codes.specs.Table.{IsCoding}
 use Rattle.huff_codes.specs.Words.{AreWords, word_faults}
 use Rattle.delta_mode.specs.Deltas.{ArePlain}
+use Rattle.delta_mode.specs.Symbols.{IsByteType}
 use Rattle.lerc_header.specs.declared.header.Header.{Header}
 use Rattle.lerc_header.specs.declared.fault.BlobReason.{BlobReason}
 use Rattle.lerc_header.specs.declared.fault.BlobReason.TheVariants.{Leftover}
 use Rattle.lerc_grammar.specs.Reasons.{told, code_reason}
 use Rattle.lerc_grammar.specs.Codes.{AreAllDeltas}
 use Rattle.lerc_grammar.specs.Image.{value_count}
+use Rattle.lerc_decode.specs.inside.Body.{IsMarkedAs}
+
+-- a raster of bytes that may be filled, as many of whose pixels are valid as the header says
+pub record IsCodedAs (h : Header) (r : Pixels) : Type 0 where
+  pub marked : IsMarkedAs h r
+  pub byte : IsByteType h.kind
 
 -- what is wrong first with the words of n symbols: they themselves, or bytes behind them
 abbrev pub words_faults : List (List Bool) → ℕ → List ℕ → Faults BlobReason

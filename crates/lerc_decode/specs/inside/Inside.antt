@@ -1,9 +1,12 @@
 -- What a decoder holds.
 use Rattle.std.specs.Prelude.{◌≡◌, ℕ, ◌<◌, ◌≤◌, nat_eq, if◌then◌else◌, List, [], length, take}
 use Rattle.lerc_header.specs.Head.{head_length}
-use Rattle.lerc_decode.specs.declared.decoder.Decoder.TheInside.{Inside}
-use Rattle.lerc_decode.specs.declared.decoder.Progress.{Progress}
-use Rattle.lerc_decode.specs.declared.decoder.Progress.TheVariants.{Key as AtKey, Fields as AtFields, Body as AtBody, Done as AtDone}
+use Rattle.lerc_decode.specs.declared.streams.decoder.Decoder.TheInside.{Inside}
+use Rattle.lerc_decode.specs.declared.streams.decoder.Progress.{Progress}
+use Rattle.lerc_decode.specs.declared.streams.decoder.Progress.TheVariants.{Key as AtKey}
+use Rattle.lerc_decode.specs.declared.streams.decoder.Progress.TheVariants.{Fields as AtFields}
+use Rattle.lerc_decode.specs.declared.streams.decoder.Progress.TheVariants.{Body as AtBody}
+use Rattle.lerc_decode.specs.declared.streams.decoder.Progress.TheVariants.{Done as AtDone}
 use Rattle.lerc_decode.specs.inside.Stages.{stage_of}
 use Rattle.lerc_decode.specs.Decoding.{Decoding, IsStageOf}
 

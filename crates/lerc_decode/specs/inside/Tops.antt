@@ -1,13 +1,13 @@
 -- The top of each depth, above which no stuffed value is, and where it stands.
 use Rattle.std.specs.Prelude.{◌≡◌, ℕ, ℤ, ◌+◌, ◌*◌, ◌<◌, ◌≤◌, List, length, drop, Option, ◌⊎◌}
 use Rattle.byteorder.specs.Endian.{little_number}
-use Rattle.raster_values.specs.PixelType.{InRange, bytes_of, value_of}
+use Rattle.raster_cells.specs.PixelType.{InRange, bytes_of, value_of}
 use Rattle.lerc_header.specs.declared.header.Header.{Header}
 use Rattle.lerc_header.specs.declared.header.Version.TheVariants.{V3, V4}
 use Rattle.lerc_grammar.specs.Image.{Ends, top_of}
 use Rattle.lerc_grammar.specs.Outline.{HasLists}
-use Rattle.lerc_decode.specs.declared.tops.Tops.{Tops}
-use Rattle.lerc_decode.specs.declared.tops.Tops.TheVariants.{One, Listed}
+use Rattle.lerc_decode.specs.declared.blob.tops.Tops.{Tops}
+use Rattle.lerc_decode.specs.declared.blob.tops.Tops.TheVariants.{One, Listed}
 
 -- the top of a depth: the header's greatest value, or the value for which the bytes of the list stand
 -- at the depth's place

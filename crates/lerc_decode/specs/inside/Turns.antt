@@ -6,8 +6,9 @@ use Rattle.lerc_header.specs.declared.header.Header.{Header}
 use Rattle.lerc_grammar.specs.Blob.{BlobAfter}
 use Rattle.lerc_grammar.specs.Bands.{last_after, unlike_faults, FirstBandsFault, IsLeastFault}
 use Rattle.lerc_grammar.specs.BandsReading.{IsBehind, IsInside, IsBetween}
-use Rattle.lerc_decode.specs.declared.turns.Next.{Next}
-use Rattle.lerc_decode.specs.declared.turns.Next.TheVariants.{Goes, Ends, Refused, OutOfMemory}
+use Rattle.lerc_decode.specs.declared.streams.turns.Next.{Next}
+use Rattle.lerc_decode.specs.declared.streams.turns.Next.TheVariants.{Goes, Ends, Refused}
+use Rattle.lerc_decode.specs.declared.streams.turns.Next.TheVariants.{OutOfMemory}
 use Rattle.lerc_decode.specs.Decoding.{Decoding, HasHeader}
 use Rattle.lerc_decode.specs.Reading.{WholeFront, GoesOnBehind}
 use Rattle.lerc_decode.specs.inside.Stages.{header_in}

@@ -3,7 +3,7 @@ use Rattle.std.specs.Prelude.{ℕ, ◌≡◌, ◌+◌, Bool, List, length}
 use Rattle.huff_codes.specs.Readers.{HaveRead, IsReader, bytes_of, codes_of, left_of}
 use Rattle.huff_codes.specs.Words.{word_faults}
 use Rattle.huff_codes.specs.declared.faults.CodeFault.{CodeFault}
-use Rattle.lerc_decode.specs.declared.words.Words.{Words}
+use Rattle.lerc_decode.specs.declared.blob.words.Words.{Words}
 
 -- what reading does not change: the codes, the bytes, and how many symbols there are
 pub record WordFrame : Type 0 where

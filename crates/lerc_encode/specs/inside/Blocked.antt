@@ -2,8 +2,10 @@
 use Rattle.std.specs.Prelude.{◌≡◌, ℕ, ◌*◌, ◌<◌, ◌≤◌, List, ℤ, length, take}
 use Rattle.raster_values.specs.Raster.{Pixels, IsRaster}
 use Rattle.raster_values.specs.Block.{block_values}
-use Rattle.raster_values.specs.Step.{IsTwiceError}
-use Rattle.lut_stuff.specs.Ranked.{Rises}
+use Rattle.raster_cells.specs.PixelType.{type_greatest}
+use Rattle.raster_cells.specs.Step.{IsTwiceError}
+use Rattle.micro_block.specs.declared.context.BlockCtx.{BlockCtx}
+use Rattle.lut_stuff.specs.Facts.{Rises}
 use Rattle.lerc_header.specs.declared.header.Header.{Header}
 use Rattle.micro_block.specs.ChosenBlock as micro
 use Rattle.micro_block.specs.ChosenBlock.{block_bytes, chosen_form}
@@ -24,6 +26,13 @@ pub record IsBlocked (h : Header) (r : Pixels) : Type 0 where
   pub side_above : 0 < h.side
   pub side_below : h.side ≤ 16
   pub step : IsTwiceError h.step
+
+-- what a block of a column depends on besides its values
+pub record IsContext (h : Header) (col : ℕ) (ctx : BlockCtx) : Type 0 where
+  pub kind : ctx.kind ≡ h.kind
+  pub column : ctx.col ≡ col
+  pub step : ctx.step ≡ h.step
+  pub top : ctx.top ≡ type_greatest h.kind
 
 -- coded block number k stands here
 pub record IsSpot (h : Header) (k : ℕ) (spot : Spot) : Type 0 where

@@ -1,10 +1,11 @@
 -- The form that is chosen for the values of an image, and how the image ends.
-use Rattle.std.specs.Prelude.{◌≡◌, ℕ, pos, ◌<◌, ◌≤◌, get_or, length, nat_eq, if◌then◌else◌, MatchOption, Option}
+use Rattle.std.specs.Prelude.{◌≡◌, ℕ, pos, ◌<◌, ◌≤◌, get_or, length, nat_eq, if◌then◌else◌}
+use Rattle.std.specs.Prelude.{MatchOption, Option}
 use Rattle.raster_values.specs.Raster.{Pixels, IsRaster, values_of}
 use Rattle.lerc_header.specs.declared.header.Header.{Header}
 use Rattle.lerc_header.specs.declared.header.Version.{Version}
 use Rattle.lerc_header.specs.declared.header.Version.TheVariants.{V3}
-use Rattle.raster_values.specs.Step.{IsTwiceError}
+use Rattle.raster_cells.specs.Step.{IsTwiceError}
 use Rattle.lerc_encode.specs.Heads.{header_of}
 use Rattle.micro_block.specs.ChosenBlock.{least_value}
 use Rattle.lerc_encode.specs.Ranges.{depth_values, greatest_value, has_equal_ranges}
@@ -13,11 +14,13 @@ use Rattle.lerc_encode.specs.inside.Blocked.{IsMeasured}
 use Rattle.lerc_encode.specs.Images as images
 use Rattle.lerc_encode.specs.Images.{CodedForm, chosen_coded_form, coded_form_bytes, ending}
 use Rattle.lerc_encode.specs.declared.forms.ValueForm.{ValueForm}
-use Rattle.lerc_encode.specs.declared.forms.ValueForm.TheVariants.{Sweep, SmallBlocks, LargeBlocks, Delta, Plain}
+use Rattle.lerc_encode.specs.declared.forms.ValueForm.TheVariants.{Sweep, SmallBlocks, LargeBlocks}
+use Rattle.lerc_encode.specs.declared.forms.ValueForm.TheVariants.{Delta, Plain}
 use Rattle.lerc_encode.specs.declared.blocks.Measured.{Measured}
-use Rattle.lerc_encode.specs.declared.choosing.Chosen.{Chosen}
+use Rattle.lerc_encode.specs.declared.forms.Chosen.{Chosen}
 use Rattle.lerc_encode.specs.declared.choosing.Ending.{Ending}
-use Rattle.lerc_encode.specs.declared.choosing.Ending.TheVariants.{Empty, Constant, Ranges as EqualRanges, Coded}
+use Rattle.lerc_encode.specs.declared.choosing.Ending.TheVariants.{Empty, Constant}
+use Rattle.lerc_encode.specs.declared.choosing.Ending.TheVariants.{Ranges as EqualRanges, Coded}
 use Rattle.lerc_encode.specs.declared.ranging.Ranges.{Ranges}
 
 -- the form of the definitions

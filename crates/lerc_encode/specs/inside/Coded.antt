@@ -1,6 +1,7 @@
 -- What is known of the symbols of values and their codes before they are written.
-use Rattle.std.specs.Prelude.{◌≡◌, ℕ, ◌*◌, ◌≤◌, Bool, true, false, ◌&&◌, List, length, Option, MatchOption}
-use Rattle.raster_values.specs.declared.kind.PixelType.TheVariants.{U8}
+use Rattle.std.specs.Prelude.{◌≡◌, ℕ, ◌*◌, ◌≤◌, Bool, true, false, ◌&&◌, List, length, Option}
+use Rattle.std.specs.Prelude.{MatchOption}
+use Rattle.raster_cells.specs.declared.kind.PixelType.TheVariants.{U8}
 use Rattle.raster_values.specs.Raster.{Pixels, valid_count}
 use Rattle.lerc_header.specs.declared.header.Version.{Version}
 use Rattle.delta_mode.specs.Deltas.{plain}

@@ -1,7 +1,7 @@
 -- What a header and its tops are for a raster whose blocks are written.
 use Rattle.std.specs.Prelude.{◌≡◌, ℕ, ◌<◌, ◌≤◌, ◌≤ℤ◌, true, false, length, get_or, Option}
 use Rattle.raster_values.specs.Raster.{Pixels, IsRaster}
-use Rattle.raster_values.specs.PixelType.{InRange}
+use Rattle.raster_cells.specs.PixelType.{InRange}
 use Rattle.raster_values.specs.Places.{SameShape}
 use Rattle.raster_values.specs.Flat.{marks_of, value_in}
 use Rattle.lerc_header.specs.declared.header.Header.{Header}

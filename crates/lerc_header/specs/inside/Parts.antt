@@ -1,11 +1,11 @@
 -- What the parts of the reader have found.
 use Rattle.std.specs.Prelude.{◌≡◌, ℕ, pos, ◌+◌, ◌*◌, ◌<◌, ◌≤◌, List}
-use Rattle.raster_values.specs.Raster.{IsShape}
+use Rattle.raster_cells.specs.Shapes.{IsShape}
 use Rattle.double_bits.specs.Halves.{HalfDouble}
 use Rattle.lerc_header.specs.declared.header.Version.{Version}
 use Rattle.lerc_header.specs.declared.reading.Shape.{Shape}
 use Rattle.lerc_header.specs.declared.reading.Counts.{Counts}
-use Rattle.raster_values.specs.Step.{IsTwiceError}
+use Rattle.raster_cells.specs.Step.{IsTwiceError}
 use Rattle.lerc_header.specs.Head.{i32_at, double_at, shift, head_length, depth_at}
 
 -- rows, columns and depth, which are a raster's

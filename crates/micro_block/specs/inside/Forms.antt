@@ -1,7 +1,7 @@
 -- The form that is chosen, by its place and with what is known of it.
 use Rattle.std.specs.Prelude.{◌≡◌, ℕ, ℤ, nat_eq, if◌then◌else◌, List, length}
-use Rattle.raster_values.specs.declared.kind.PixelType.{PixelType}
-use Rattle.raster_values.specs.PixelType.{InRange}
+use Rattle.raster_cells.specs.declared.kind.PixelType.{PixelType}
+use Rattle.raster_cells.specs.PixelType.{InRange}
 use Rattle.micro_block.specs.declared.choosing.BlockForm.{BlockForm}
 use Rattle.micro_block.specs.declared.choosing.BlockForm.TheVariants.{Zero, Constant, Raw, Simple}
 use Rattle.micro_block.specs.declared.choosing.BlockForm.TheVariants.{Table}

@@ -3,8 +3,8 @@ use Rattle.std.specs.Prelude.{◌≡◌, ℕ, ℤ, ◌+◌, ◌*◌, ◌^◌, �
 use Rattle.std.specs.Prelude.{unsigned_abs, List, [], ◌∷◌}
 use Rattle.std.specs.Prelude.{Option, Some, None, length, if◌then◌else◌}
 use Rattle.std.specs.Option.{option_map}
-use Rattle.raster_values.specs.declared.kind.PixelType.{PixelType}
-use Rattle.raster_values.specs.PixelType.{bytes_of}
+use Rattle.raster_cells.specs.declared.kind.PixelType.{PixelType}
+use Rattle.raster_cells.specs.PixelType.{bytes_of}
 use Rattle.bit_stuff.specs.Stuffed.{stuffed_size}
 use Rattle.bit_stuff.specs.Head.{head_size}
 use Rattle.bit_stuff.specs.Simple.{binary_digits, greatest_number}

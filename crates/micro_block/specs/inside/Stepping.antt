@@ -1,8 +1,8 @@
 -- Distances from the least value of a type, and how many steps lie between them.
 use Rattle.std.specs.Prelude.{◌≡◌, ℕ, ℤ, ◌+◌, ◌-◌, ◌*◌, ◌/◌, ◌^◌, ◌<◌, ◌≤◌, List, All, Contains}
 use Rattle.std.specs.Prelude.{length, map}
-use Rattle.raster_values.specs.declared.kind.PixelType.{PixelType}
-use Rattle.raster_values.specs.Distance.{IsDistance, value_above}
+use Rattle.raster_cells.specs.declared.kind.PixelType.{PixelType}
+use Rattle.raster_cells.specs.Distance.{IsDistance, value_above}
 use Rattle.bit_stuff.specs.Simple.{greatest_number}
 use Rattle.micro_block.specs.declared.stepping.Rule.{Rule}
 use Rattle.micro_block.specs.declared.stepping.Rule.TheVariants.{Subtract, Shift, Multiply, Divide}

@@ -1,9 +1,9 @@
 -- A block by its tag, and what the steps of reading it leave.
 use Rattle.std.specs.Prelude.{◌≡◌, ℕ, ℤ, pos, ◌+◌, ◌/◌, ◌%◌, ◌≤◌, List, [], ◌++◌, length, map}
 use Rattle.std.specs.Prelude.{replicate, take, drop}
-use Rattle.raster_values.specs.declared.kind.PixelType.{PixelType}
-use Rattle.raster_values.specs.PixelType.{InRange, Spells, bytes_of}
-use Rattle.raster_values.specs.Values.{AreValues}
+use Rattle.raster_cells.specs.declared.kind.PixelType.{PixelType}
+use Rattle.raster_cells.specs.PixelType.{InRange, Spells, bytes_of}
+use Rattle.raster_cells.specs.Values.{AreValues}
 use Rattle.lane_kernels.specs.Kernels.{IsStepSize}
 use Rattle.lut_stuff.specs.Lists.{IsListOf}
 use Rattle.micro_block.specs.declared.context.SteppedBlock.{SteppedBlock}

@@ -1,7 +1,7 @@
 -- The means of a band's numbers, and a raster that has them.
 use Rattle.std.specs.Prelude.{◌≡◌, ◌⊎◌, ℕ, ℤ, pos, true, ◌+◌, ◌*◌, ◌<◌, ◌≤◌, ◌*ℤ◌, ◌≤ℤ◌, List, length, get_or, None, is_some, nat_lt, if◌then◌else◌}
-use Rattle.raster_values.specs.declared.kind.PixelType.{PixelType}
-use Rattle.raster_values.specs.PixelType.{type_least, type_greatest}
+use Rattle.raster_cells.specs.declared.kind.PixelType.{PixelType}
+use Rattle.raster_cells.specs.PixelType.{type_least, type_greatest}
 use Rattle.raster_values.specs.Raster.{Pixels, IsRaster, blank}
 use Rattle.raster_values.specs.Places.{SameShape}
 use Rattle.raster_values.specs.Block.{SameMask}

@@ -1,6 +1,6 @@
 -- How the fields of a mosaic stand for it.
 use Rattle.std.specs.Prelude.{◌≡◌, ℕ, ◌*◌, ◌<◌, ◌≤◌, length, get_or}
-use Rattle.raster_values.specs.Raster.{IsShape}
+use Rattle.raster_cells.specs.Shapes.{IsShape}
 use Rattle.overview_tiles.specs.declared.mosaic.Mosaic.TheInside.{Inside}
 use Rattle.overview_tiles.specs.Sums.{AreSums, Kept, no_sums}
 use Rattle.overview_tiles.specs.Tiles.{Tiles}

@@ -10,19 +10,12 @@ use Rattle.tile_updates.specs.Updates.{AllPass, tile_bytes, updates_of}
 use Rattle.overview_tiles.specs.Tiles.{AreHalf, Tiles}
 use Rattle.overview_updates.specs.Overview.{AreQuarters, IsCoarse, first_places, has_quarter, place_of}
 use Rattle.overview_updates.specs.Refusals.{PlaceStops, ReadFails}
-use Rattle.overview_updates.specs.declared.asked.Asked.{Asked}
 use Rattle.overview_updates.specs.declared.places.Ending.{Ending}
 use Rattle.overview_updates.specs.declared.places.Ending.TheVariants.{More, Refused}
 use Rattle.overview_updates.specs.declared.places.Waiting.{Waiting}
 use Rattle.overview_updates.specs.declared.stop.OverviewStop.{OverviewStop}
 use Rattle.overview_updates.specs.declared.stop.OverviewStop.TheVariants.{Beyond, BadTile, Unlike, DepthNeedsV4, TileTooLarge, KeptTooMuch, Volume, OutOfMemory}
 use Rattle.overview_updates.specs.declared.updates.SoFar.{SoFar}
-
--- what an overview may be asked for with
-pub record IsLawful (asked : Asked) : Type 0 where
-  pub quarter : asked.quarter < 4
-  pub some : 1 ≤ asked.workers
-  pub few : asked.workers ≤ 64
 
 -- ---- one place
 

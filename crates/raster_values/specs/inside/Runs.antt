@@ -1,22 +1,8 @@
 -- Runs of pixels in the two vectors of a raster.
-use Rattle.std.specs.Prelude.{◌≡◌, ℕ, ℤ, pos, ◌+◌, ◌*◌, ◌<◌, ◌≤◌, Bool, true, false, List, [], ◌++◌, map, length, get_or, take, drop, All, Option, Some, None}
-use mir.Syntax.{w64}
-use mir.Val.{SFits}
-use Rattle.raster_values.specs.declared.kind.PixelType.{PixelType}
-use Rattle.raster_values.specs.PixelType.{InRange}
-use Rattle.std.specs.List.{filter, flat_map, range_with_len}
+use Rattle.std.specs.Prelude.{[], ℕ, ℤ, pos, ◌+◌, ◌*◌, Bool, List, map, get_or, ◌≡◌, Option, Some, None, ◌<◌, ◌≤◌, true, false, ◌++◌, length, take, drop}
+use Rattle.std.specs.List.{flat_map, range_with_len}
+use Rattle.raster_cells.specs.inside.Runs.{run_places}
 use Rattle.lane_kernels.specs.Kernels.{IsLeast, IsGreatest}
-use Rattle.raster_values.specs.Distance.{value_above}
-pub use Rattle.raster_values.specs.Words.{AreMarks}
-pub use Rattle.raster_values.specs.MarkRuns.{AreRuns}
-
--- each value is one of a signed number of 64 bits
-abbrev pub AreWords : List ℤ → Type 0
-AreWords values = All (SFits w64) values
-
--- the marked pixels among `count` from `from` on
-abbrev pub run_places : List Bool → ℕ → ℕ → List ℕ
-run_places marks from count = filter (λ k. get_or marks k false) (range_with_len from count)
 
 -- their values at a depth
 abbrev pub run_values : ℕ → ℕ → List Bool → List ℤ → ℕ → ℕ → List ℤ
@@ -32,32 +18,10 @@ abbrev pub rows_values : ℕ → ℕ → List Bool → List ℤ → ℕ → ℕ 
 rows_values depth d marks values cols row col high wide = flat_map
     (λ i. run_values depth d marks values (i * cols + col) wide) (range_with_len row high)
 
--- the values were put behind the first `at` of `old`, up to `end`, and nothing else was changed
-pub record Gathers {X : Type 0} (values old new : List X) (at end : ℕ) : Type 0 where
-  pub ends : end ≡ at + length values
-  pub front : take end new ≡ take at old ++ values
-  pub rest : drop end new ≡ drop end old
-
--- the values at a depth of all pixels of these rows
-abbrev pub whole_rows : ℕ → ℕ → List ℤ → ℕ → ℕ → ℕ → ℕ → ℕ → List ℤ
-whole_rows depth d values cols row col high wide = flat_map
-    (λ i. map (λ k. get_or values (k * depth + d) (pos 0)) (range_with_len (i * cols + col) wide))
-    (range_with_len row high)
-
--- the least and the greatest of the values are so far above the least of the type
-pub record AreEnds (kind : PixelType) (values : List ℤ) (near far : ℕ) : Type 0 where
-  pub least : IsLeast values (value_above kind near)
-  pub greatest : IsGreatest values (value_above kind far)
-
 -- a pair is the least and the greatest of the values, and there is none of no values
 abbrev pub IsRange : Option (ℤ × ℤ) → List ℤ → Type 0
 IsRange None values = values ≡ []
 IsRange (Some pair) values = IsLeast values pair.0 × IsGreatest values pair.1
-
--- values of a type stay values of it
-abbrev pub StayInRange : List ℤ → List ℤ → List ℤ → Type 0
-StayInRange input old new = (kind : PixelType) → All (InRange kind) input → All (InRange kind) old
-    → All (InRange kind) new
 
 -- the values at a depth of the marked pixels among `count` from `from` on were replaced, and no
 -- other value
@@ -82,3 +46,15 @@ pub record LeavesRows (depth d : ℕ) (marks : List Bool) (cols row col high wid
       → ((i : ℕ) → row ≤ i → i < row + high → i * cols + col ≤ k → k < i * cols + col + wide
       → get_or marks k false ≡ true → e ≡ d → ⊥)
       → get_or new (k * depth + e) (pos 0) ≡ get_or old (k * depth + e) (pos 0)
+
+-- the values were put behind the first `at` of `old`, up to `end`, and nothing else was changed
+pub record Gathers {X : Type 0} (values old new : List X) (at end : ℕ) : Type 0 where
+  pub ends : end ≡ at + length values
+  pub front : take end new ≡ take at old ++ values
+  pub rest : drop end new ≡ drop end old
+
+-- the values at a depth of all pixels of these rows
+abbrev pub whole_rows : ℕ → ℕ → List ℤ → ℕ → ℕ → ℕ → ℕ → ℕ → List ℤ
+whole_rows depth d values cols row col high wide = flat_map
+    (λ i. map (λ k. get_or values (k * depth + d) (pos 0)) (range_with_len (i * cols + col) wide))
+    (range_with_len row high)

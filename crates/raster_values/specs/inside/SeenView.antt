@@ -1,9 +1,10 @@
 -- How a caller's arrays stand for the pixels of a raster.
 use Rattle.std.specs.Prelude.{◌≡◌, ◌*◌, All, length}
-use Rattle.raster_values.specs.declared.raster.Raster.TheInside.{Inside}
-use Rattle.raster_values.specs.declared.seen.Seen.TheInside.{Inside as Arrays}
-use Rattle.raster_values.specs.PixelType.{InRange}
-use Rattle.raster_values.specs.Raster.{Pixels, IsShape}
+use Rattle.raster_cells.specs.PixelType.{InRange}
+use Rattle.raster_cells.specs.Shapes.{IsShape}
+use Rattle.raster_values.specs.declared.rasters.raster.Raster.TheInside.{Inside}
+use Rattle.raster_values.specs.declared.rasters.seen.Seen.TheInside.{Inside as Arrays}
+use Rattle.raster_values.specs.Raster.{Pixels}
 use Rattle.raster_values.specs.inside.View.{seen}
 
 -- the marks and the values as those of a raster, but that the values of invalid pixels are free

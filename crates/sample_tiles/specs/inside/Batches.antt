@@ -1,6 +1,6 @@
 -- Some tiles of a sample that are encoded at once.
 use Rattle.std.specs.Prelude.{◌≡◌, ℕ, ◌+◌, ◌*◌, ◌<◌, ◌≤◌, List, [], ◌∷◌, length, get_or}
-use Rattle.raster_values.specs.declared.kind.PixelType.TheVariants.{I16}
+use Rattle.raster_cells.specs.declared.kind.PixelType.TheVariants.{I16}
 use Rattle.raster_values.specs.Raster.{Pixels, IsRaster}
 use Rattle.lerc_header.specs.Written.{step_of}
 use Rattle.lerc_encode.specs.Encoded.{AreEncodedOnce}

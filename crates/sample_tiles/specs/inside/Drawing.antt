@@ -1,6 +1,6 @@
 -- A tile of which some first pixels are drawn.
 use Rattle.std.specs.Prelude.{◌≡◌, ℕ, ℤ, ◌<◌, ◌≤◌, List, [], ◌∷◌, length, get_or, Option, None, Some}
-use Rattle.raster_values.specs.declared.kind.PixelType.TheVariants.{I16}
+use Rattle.raster_cells.specs.declared.kind.PixelType.TheVariants.{I16}
 use Rattle.raster_values.specs.Raster.{Pixels}
 use Rattle.sample_tiles.specs.Drawn.{sample_pixel}
 

@@ -1,6 +1,6 @@
 -- The stops of grids in a stream.
-use Rattle.raster_values.specs.declared.reading.GridStop.{GridStop}
-use Rattle.raster_values.specs.declared.reading.GridStop.TheVariants.{Fault as GridFault, Source as GridSource, OutOfMemory as GridMemory}
+use Rattle.raster_grids.specs.declared.reading.GridStop.{GridStop}
+use Rattle.raster_grids.specs.declared.reading.GridStop.TheVariants.{Fault as GridFault, Source as GridSource, OutOfMemory as GridMemory}
 use Rattle.tile_stream.specs.declared.tile.TileReason.TheVariants.{Grid}
 use Rattle.tile_stream.specs.declared.tile.TileStop.{TileStop}
 use Rattle.tile_stream.specs.declared.tile.TileStop.TheVariants.{Fault, Source, OutOfMemory}

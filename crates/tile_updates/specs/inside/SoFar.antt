@@ -1,7 +1,7 @@
 -- What was made of the first tiles of an input, what waits behind them, and what follows.
 use Rattle.std.specs.Prelude.{◌≡◌, ℕ, ◌+◌, ◌*◌, ◌<◌, ◌≤◌, Bool, true, false, List, [], ◌∷◌, ◌++◌, length, All, Option}
 use Rattle.outside_io.specs.streams.Source.{IsAtEnd}
-use Rattle.raster_values.specs.ReadGrid.{TookBytes}
+use Rattle.raster_grids.specs.Taken.{TookBytes}
 use Rattle.lerc_header.specs.declared.header.Version.{Version}
 use Rattle.lerc_encode.specs.Encoded.{AreEncodedOnce, BandsNeedV4}
 use Rattle.tile_stream.specs.declared.tile.Tile.{Tile}

@@ -5,7 +5,7 @@ use Rattle.bundle_lines.proofs.Raised.{refused_gave, refused_length, refused_mar
 use Rattle.bundle_lines.proofs.builds.build_all.Goals as goal
 
 pub returns-in-Err-clause-images : goal.returns-in-Err-clause-images
-returns-in-Err-clause-images g c = λ told readable. keeps_still c.args.updates.now _ c.args.session.now _ c.requires.none (c.requires.ready told) readable
+returns-in-Err-clause-images g c = λ told readable. keeps_still c.args.updates.now _ c.args.session.now _ c.requires.none (c.requires.serving.ready told) readable
 
 pub returns-in-Ok-give_built-clause-images : goal.returns-in-Ok-give_built-clause-images
 returns-in-Ok-give_built-clause-images g c = λ told readable.
@@ -52,29 +52,23 @@ returns-in-Err-clause-kept g c = λ told.
 pub built_size-requires : goal.built_size-requires
 built_size-requires g c = c.requires.fit
 
-pub raise-requires-clause-running : goal.raise-requires-clause-running
-raise-requires-clause-running g c = c.requires.running
-
 pub raise-requires-clause-fit : goal.raise-requires-clause-fit
 raise-requires-clause-fit g c = c.requires.fit
 
-pub raise-requires-clause-ready : goal.raise-requires-clause-ready
-raise-requires-clause-ready g c = c.requires.ready
+pub raise-requires-clause-serving : goal.raise-requires-clause-serving
+raise-requires-clause-serving g c = c.requires.serving
 
 pub add_marks-requires : goal.add_marks-requires
 add_marks-requires g c = record { room = c.requires.room }
-
-pub returns-in-Err-raise-clause-volume_failed : goal.returns-in-Err-raise-clause-volume_failed
-returns-in-Err-raise-clause-volume_failed g c = c.in-Err-raise.ensures.failed
 
 pub returns-in-Err-raise-clause-later : goal.returns-in-Err-raise-clause-later
 returns-in-Err-raise-clause-later g c = c.raise.ensures.later
 
 pub returns-in-Err-raise-clause-told : goal.returns-in-Err-raise-clause-told
-returns-in-Err-raise-clause-told g c = c.raise.ensures.told
+returns-in-Err-raise-clause-told g c = c.in-Err-raise.ensures.told
 
 pub returns-in-Err-clause-ready : goal.returns-in-Err-clause-ready
-returns-in-Err-clause-ready g c = c.requires.ready
+returns-in-Err-clause-ready g c = c.requires.serving.ready
 
 pub returns-in-Err-raise-clause-ready : goal.returns-in-Err-raise-clause-ready
 returns-in-Err-raise-clause-ready g c = c.in-Err-raise.ensures.ready

@@ -10,7 +10,7 @@ use Rattle.bundle_lines.proofs.listing.spell_row.Goals as goal
 pub loop-col-init : goal.loop-col-init
 loop-col-init g c = record {
   lines = λ told. c.clear.ensures ∙ sym (row_none _ c.args.row);
-  short = (let e : length c.clear.new.self ≡ 0 = ap length c.clear.ensures in omega (arith, e));
+  short = (let e : length c.clear.new.self.items ≡ 0 = ap length c.clear.ensures in omega (arith, e));
   same = refl;
 }
 
@@ -22,9 +22,9 @@ loop-col-preserved g c =
     record {
       lines = λ told.
           let b = contents Bundle (g.V.Volume.history c.args.vol.now) in
-          c.add.ensures.bytes ∙ ap (λ l. l ++ c.as_slice.result.now) (inv.lines told)
+          c.add_line.ensures.bytes ∙ ap (λ l. l ++ c.as_slice.result.now) (inv.lines told)
           ∙ ap (λ l. row_lines b c.args.row c.loop-col.col ++ l) (c.as_slice.ensures ∙ c.slot_line.ensures.text ∙ ap (list_line at) (entry told))
           ∙ sym (row_next b c.args.row c.loop-col.col (c.loop-col.col + 1) (omega arith));
-      short = (let e : length c.as_slice.result.now ≡ length c.slot_line.result = ap length c.as_slice.ensures in omega (arith, e, c.add.ensures.longer, c.slot_line.ensures.short, inv.short));
+      short = (let e : length c.as_slice.result.now ≡ length c.slot_line.result = ap length c.as_slice.ensures in omega (arith, e, c.add_line.ensures.longer, c.slot_line.ensures.short, inv.short));
       same = c.entry_of-entry.ensures.same ∙ inv.same;
     }

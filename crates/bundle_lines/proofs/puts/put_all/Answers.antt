@@ -6,7 +6,7 @@ use Rattle.bundle_lines.proofs.puts.put_all.Goals as goal
 
 pub loop-done-init : goal.loop-done-init
 loop-done-init g c = record {
-  so_far = record { count = search rules; running = c.requires.running; told = refl; lines = Holds_none _; stands = λ told. stand_first _ _ _ _ c.requires.none (c.requires.ready told) };
+  so_far = record { count = search rules; running = c.requires.serving.running; told = refl; lines = Holds_none _; stands = λ told. stand_first _ _ _ _ c.requires.none (c.requires.serving.ready told) };
   within = search rules;
   room = search rules;
   output = refl;
@@ -22,14 +22,14 @@ loop-done-preserved g c =
     let rest : take (length us - k) (drop k us) ≡ drop k us = rest_all us k in
     let next = rw rest at c.in-Ok.ensures.next in
     let images = rw rest at c.put_some.ensures.images in
-    let still = so_still us k _ _ _ _ _ _ _ _ _ _ inv.so_far c.loop-done-test.true asked.told asked.during in
-    let fits = fits_still us k _ _ _ _ _ _ _ _ _ _ inv.so_far c.loop-done-test.true asked.told asked.during c.in-Ok.count next.3 in
+    let still = so_still us k _ _ _ _ _ _ _ _ _ _ inv.so_far c.loop-done-test.true asked.reads.same asked.reads.during in
+    let fits = fits_still us k _ _ _ _ _ _ _ _ _ _ inv.so_far c.loop-done-test.true asked.reads.same asked.reads.during c.in-Ok.count next.3 in
     record {
-      so_far = so_next us k c.in-Ok.count _ _ _ _ _ _ _ _ _ _ _ _ _ still c.loop-done-test.true next.0 next.2 fits images c.put_some.ensures.told (rw rest at c.in-Ok-put_some.ensures.turn);
+      so_far = so_next us k c.in-Ok.count _ _ _ _ _ _ _ _ _ _ _ _ _ still c.loop-done-test.true next.0 next.2 fits images c.put_some.ensures.told.same (rw rest at c.in-Ok-put_some.ensures.turn);
       within = search rules;
       room = search rules;
       output = uncaused _ _ _ (λ is. cc) c.in-Ok-put_some.ensures.output_failed ∙ inv.output;
-      volume = uncaused _ _ _ (λ is. cc) c.in-Ok-put_some.ensures.volume_failed ∙ uncaused _ _ _ (λ is. cc) c.in-Ok.ensures.failed ∙ inv.volume;
+      volume = uncaused _ _ _ (λ is. cc) c.in-Ok-put_some.ensures.told.counted ∙ uncaused _ _ _ (λ is. cc) c.in-Ok.ensures.reads.counted ∙ inv.volume;
     }
 
 pub returns-in-Err-clause-ended : goal.returns-in-Err-clause-ended
@@ -38,7 +38,7 @@ returns-in-Err-clause-ended g c =
     let k = c.loop-done.done in
     let asked = c.next_group.ensures in
     let rest : take (length us - k) (drop k us) ≡ drop k us = rest_all us k in
-    ended_before us k _ _ _ _ _ _ _ _ _ _ c.loop-done.invariant.so_far c.loop-done-test.true asked.told asked.during c.in-Err.stop (rw rest at c.in-Err.ensures.next)
+    ended_before us k _ _ _ _ _ _ _ _ _ _ c.loop-done.invariant.so_far c.loop-done-test.true asked.reads.same asked.reads.during c.in-Err.stop (rw rest at c.in-Err.ensures.next)
 
 pub returns-in-Err-put_some-clause-ended : goal.returns-in-Err-put_some-clause-ended
 returns-in-Err-put_some-clause-ended g c =
@@ -49,9 +49,9 @@ returns-in-Err-put_some-clause-ended g c =
     let rest : take (length us - k) (drop k us) ≡ drop k us = rest_all us k in
     let next = rw rest at c.in-Ok.ensures.next in
     let images = rw rest at c.put_some.ensures.images in
-    let still = so_still us k _ _ _ _ _ _ _ _ _ _ inv.so_far c.loop-done-test.true asked.told asked.during in
-    let fits = fits_still us k _ _ _ _ _ _ _ _ _ _ inv.so_far c.loop-done-test.true asked.told asked.during c.in-Ok.count next.3 in
-    ended_by us k c.in-Ok.count _ _ _ _ _ _ _ _ _ _ _ _ _ still c.loop-done-test.true next.0 next.2 fits images c.put_some.ensures.told c.in-Err-put_some.stop (rw rest at c.in-Err-put_some.ensures.turn)
+    let still = so_still us k _ _ _ _ _ _ _ _ _ _ inv.so_far c.loop-done-test.true asked.reads.same asked.reads.during in
+    let fits = fits_still us k _ _ _ _ _ _ _ _ _ _ inv.so_far c.loop-done-test.true asked.reads.same asked.reads.during c.in-Ok.count next.3 in
+    ended_by us k c.in-Ok.count _ _ _ _ _ _ _ _ _ _ _ _ _ still c.loop-done-test.true next.0 next.2 fits images c.put_some.ensures.told.same c.in-Err-put_some.stop (rw rest at c.in-Err-put_some.ensures.turn)
 
 pub returns-clause-ended : goal.returns-clause-ended
 returns-clause-ended g c =

@@ -10,7 +10,7 @@ returns-in-Err-clause-kept g c =
     let old = vol.history c.args.vol.now in
     let left = vol.history c.recover.new.vol in
     record {
-      told_same = c.recover.ensures.told;
+      told_same = c.recover.ensures.told.same;
       images = c.recover.ensures.images;
       bytes = c.recover.ensures.bytes;
       changes = λ told. inr (left, (record { answer = Err c.in-Err.fault; says = c.in-Err.ensures.says told; images = c.recover.ensures.images told; bytes = c.recover.ensures.bytes told; done = tt; leaves = tt; refused = c.in-Err.ensures.refused told }, started (λ d. d ≡ current left) left refl));
@@ -23,8 +23,8 @@ returns-clause-kept g c =
     let left = vol.history c.recover.new.vol in
     let new = vol.history c.open.new.vol in
     record {
-      told_same = c.open.ensures.told ∙ c.recover.ensures.told;
-      images = λ told. images_on old left new (c.recover.ensures.images told) (c.open.ensures.during (c.recover.ensures.told ∙ told));
-      bytes = λ told. bytes_on old left new (c.recover.ensures.bytes told) (c.open.ensures.during (c.recover.ensures.told ∙ told));
-      changes = λ told. inr (left, (record { answer = c.recover.result; says = c.recover.ensures.says told; images = c.recover.ensures.images told; bytes = c.recover.ensures.bytes told; done = c.recover.ensures.done told; leaves = c.recover.ensures.leaves told; refused = c.recover.ensures.refused told }, c.open.ensures.during (c.recover.ensures.told ∙ told)));
+      told_same = c.open.ensures.told.same ∙ c.recover.ensures.told.same;
+      images = λ told. images_on old left new (c.recover.ensures.images told) (c.open.ensures.during (c.recover.ensures.told.same ∙ told));
+      bytes = λ told. bytes_on old left new (c.recover.ensures.bytes told) (c.open.ensures.during (c.recover.ensures.told.same ∙ told));
+      changes = λ told. inr (left, (record { answer = c.recover.result; says = c.recover.ensures.says told; images = c.recover.ensures.images told; bytes = c.recover.ensures.bytes told; done = c.recover.ensures.done told; leaves = c.recover.ensures.leaves told; refused = c.recover.ensures.refused told }, c.open.ensures.during (c.recover.ensures.told.same ∙ told)));
     }

@@ -17,7 +17,7 @@ pub returns-in_err-prepare-clause-images : goal.returns-in_err-prepare-clause-im
 returns-in_err-prepare-clause-images g c = λ told.
     let old = g.V.Volume.history c.args.vol.now in
     let Pass = EachImage (λ map. map ≡ no_tiles) in
-    let bundle = (c.requires.quiet told).bundle ∙ ap settled (c.requires.empty told) in
+    let bundle = (c.requires.idle told).quiet.bundle ∙ ap settled (c.requires.empty told) in
     let preparing = during_map _ Pass _ _ (λ d. in_closed [] (λ map. map ≡ no_tiles) (current old) d (inl refl) tiles_empty bundle) (c.prepare.ensures.during told) in
     preparing
 
@@ -25,7 +25,7 @@ pub returns-in_err-arm-clause-images : goal.returns-in_err-arm-clause-images
 returns-in_err-arm-clause-images g c = λ told.
     let old = g.V.Volume.history c.args.vol.now in
     let Pass = EachImage (λ map. map ≡ no_tiles) in
-    let bundle = (c.requires.quiet told).bundle ∙ ap settled (c.requires.empty told) in
+    let bundle = (c.requires.idle told).quiet.bundle ∙ ap settled (c.requires.empty told) in
     let preparing = during_map _ Pass _ _ (λ d. in_closed [] (λ map. map ≡ no_tiles) (current old) d (inl refl) tiles_empty bundle) (c.prepare.ensures.during told) in
     let told_1 = c.prepare.ensures.told ∙ told in
     let bundle_1 = c.prepare.ensures.bundle told ∙ bundle in
@@ -70,7 +70,7 @@ pub returns-clause-images : goal.returns-clause-images
 returns-clause-images g c = λ told.
     let old = g.V.Volume.history c.args.vol.now in
     let Pass = EachImage (λ map. map ≡ no_tiles) in
-    let bundle = (c.requires.quiet told).bundle ∙ ap settled (c.requires.empty told) in
+    let bundle = (c.requires.idle told).quiet.bundle ∙ ap settled (c.requires.empty told) in
     let preparing = during_map _ Pass _ _ (λ d. in_closed [] (λ map. map ≡ no_tiles) (current old) d (inl refl) tiles_empty bundle) (c.prepare.ensures.during told) in
     let told_1 = c.prepare.ensures.told ∙ told in
     let bundle_1 = c.prepare.ensures.bundle told ∙ bundle in

@@ -19,7 +19,7 @@ returns-in_err-len-clause-images g c = λ told.
     let old = g.V.Volume.history c.args.vol.now in
     let map = table_map c.args.tiles.now c.args.table.now in
     let Pass : Disk → Type 0 = λ d. (current old).bundle.now ≡ [] → EachImage (EmptyOr map) d in
-    let start : Pass (current old) = λ is. still_good (EmptyOr map) (current old) (c.requires.quiet told) (c.requires.closed told) (inl (ap length is)) (inl (ap tiles is ∙ tiles_empty)) in
+    let start : Pass (current old) = λ is. still_good (EmptyOr map) (current old) (c.requires.idle told).quiet (c.requires.idle told).closed (inl (ap length is)) (inl (ap tiles is ∙ tiles_empty)) in
     let measuring = stays_on Pass _ _ _ _ (started Pass old start) c.len.ensures.time (c.len.ensures.disk told) in
     measuring
 
@@ -28,7 +28,7 @@ returns-clause-images g c = λ told.
     let old = g.V.Volume.history c.args.vol.now in
     let map = table_map c.args.tiles.now c.args.table.now in
     let Pass : Disk → Type 0 = λ d. (current old).bundle.now ≡ [] → EachImage (EmptyOr map) d in
-    let start : Pass (current old) = λ is. still_good (EmptyOr map) (current old) (c.requires.quiet told) (c.requires.closed told) (inl (ap length is)) (inl (ap tiles is ∙ tiles_empty)) in
+    let start : Pass (current old) = λ is. still_good (EmptyOr map) (current old) (c.requires.idle told).quiet (c.requires.idle told).closed (inl (ap length is)) (inl (ap tiles is ∙ tiles_empty)) in
     let measuring = stays_on Pass _ _ _ _ (started Pass old start) c.len.ensures.time (c.len.ensures.disk told) in
     during_join Pass _ _ _ measuring (during_map _ Pass _ _ (λ d each is. each) (c.build_empty.ensures.images (c.len.ensures.told ∙ told)))
 
@@ -42,7 +42,7 @@ returns-in_err-build_empty-clause-images g c = λ told.
     let old = g.V.Volume.history c.args.vol.now in
     let map = table_map c.args.tiles.now c.args.table.now in
     let Pass : Disk → Type 0 = λ d. (current old).bundle.now ≡ [] → EachImage (EmptyOr map) d in
-    let start : Pass (current old) = λ is. still_good (EmptyOr map) (current old) (c.requires.quiet told) (c.requires.closed told) (inl (ap length is)) (inl (ap tiles is ∙ tiles_empty)) in
+    let start : Pass (current old) = λ is. still_good (EmptyOr map) (current old) (c.requires.idle told).quiet (c.requires.idle told).closed (inl (ap length is)) (inl (ap tiles is ∙ tiles_empty)) in
     let measuring = stays_on Pass _ _ _ _ (started Pass old start) c.len.ensures.time (c.len.ensures.disk told) in
     during_join Pass _ _ _ measuring (during_map _ Pass _ _ (λ d each is. each) (c.build_empty.ensures.images (c.len.ensures.told ∙ told)))
 
@@ -51,7 +51,7 @@ returns-then-len-ne0-clause-images g c = λ told.
     let old = g.V.Volume.history c.args.vol.now in
     let map = table_map c.args.tiles.now c.args.table.now in
     let Pass : Disk → Type 0 = λ d. (current old).bundle.now ≡ [] → EachImage (EmptyOr map) d in
-    let start : Pass (current old) = λ is. still_good (EmptyOr map) (current old) (c.requires.quiet told) (c.requires.closed told) (inl (ap length is)) (inl (ap tiles is ∙ tiles_empty)) in
+    let start : Pass (current old) = λ is. still_good (EmptyOr map) (current old) (c.requires.idle told).quiet (c.requires.idle told).closed (inl (ap length is)) (inl (ap tiles is ∙ tiles_empty)) in
     let measuring = stays_on Pass _ _ _ _ (started Pass old start) c.len.ensures.time (c.len.ensures.disk told) in
     measuring
 
@@ -81,8 +81,8 @@ returns-then-len-ne0-clause-rest g c = λ told.
     (record {
       opens = c.requires.opens told;
       keeps = c.requires.keeps told;
-      quiet = c.requires.quiet told;
-      closed = c.requires.closed told;
+      quiet = (c.requires.idle told).quiet;
+      closed = (c.requires.idle told).closed;
     })
 
 pub build_empty-requires-clause-empty : goal.build_empty-requires-clause-empty

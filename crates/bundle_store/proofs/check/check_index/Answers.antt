@@ -45,6 +45,6 @@ loop-number-preserved g c =
           let still = during_end (λ d. d ≡ current old) old _ (inv.during told) in
           during_join (λ d. d ≡ current old) _ _ _ (inv.during told) (during_map _ (λ d. d ≡ current old) _ _ (λ d same. same ∙ still) (c.is_bad_entry.ensures.during (inv.told ∙ told)));
       calls = omega (arith, inv.calls, c.is_bad_entry.ensures.calls);
-      told = c.is_bad_entry.ensures.told ∙ inv.told;
-      counted = c.in_ok-bad.ensures.counted ∙ inv.counted;
+      told = c.is_bad_entry.ensures.told.same ∙ inv.told;
+      counted = c.in_ok-bad.ensures.told.counted ∙ inv.counted;
     }

@@ -41,8 +41,8 @@ commit-requires-clause-body g c =
     let us = c.args.updates.now in
     let size = entries_long us c.args.len in
     subst IsOfGroup (sym c.body_of_tiles-body.ensures.body) (record {
-      some = omega (arith, size, c.requires.some);
-      most = omega (arith, size, c.requires.most);
+      some = omega (arith, size, c.requires.group.some);
+      most = omega (arith, size, c.requires.group.most);
       new = entries_fit us c.args.len c.body_of_tiles-body.ensures.tiles c.requires.room;
       size_below = omega (arith, c.requires.room);
       header_size = c.body_of_tiles-body.ensures.header;

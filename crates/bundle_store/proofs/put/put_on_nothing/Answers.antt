@@ -21,7 +21,7 @@ returns-in_err-build_empty-clause-images g c = λ told.
 
 pub put_on_bundle-requires-clause-len : goal.put_on_bundle-requires-clause-len
 put_on_bundle-requires-clause-len g c = λ told.
-    let done = c.in_ok-build_empty.ensures.done (sym c.build_empty.ensures.told ∙ told) in
+    let done = c.in_ok-build_empty.ensures.done (sym c.build_empty.ensures.told.same ∙ told) in
     sym length-nothing ∙ sym (ap (λ (f : File). length f.now) done.bundle_is)
 
 pub returns-clause-images : goal.returns-clause-images
@@ -32,16 +32,16 @@ returns-clause-images g c = λ told.
     let next = current (g.V.Volume.history c.build_empty.new.vol) in
     let bundle : next.bundle.now ≡ layout no_tiles = ap (λ (f : File). f.now) done.bundle_is in
     let none : tiles next.bundle.now ≡ no_tiles = ap tiles bundle ∙ layout_tiles no_tiles nothing_fits in
-    let putting = during_map _ (EachImage Either) _ _ (λ d each. subst (λ (m : TileMap). EachImage (AllOrNone c.args.updates.now m) d) none (each (subst IsBundle (sym bundle) (layout_bundle no_tiles nothing_fits)))) (c.put_on_bundle.ensures.images (c.build_empty.ensures.told ∙ told)) in
+    let putting = during_map _ (EachImage Either) _ _ (λ d each. subst (λ (m : TileMap). EachImage (AllOrNone c.args.updates.now m) d) none (each (subst IsBundle (sym bundle) (layout_bundle no_tiles nothing_fits)))) (c.put_on_bundle.ensures.images (c.build_empty.ensures.told.same ∙ told)) in
     during_join (EachImage Either) _ _ _ building putting
 
 pub put_on_bundle-requires-clause-keeps : goal.put_on_bundle-requires-clause-keeps
 put_on_bundle-requires-clause-keeps g c = λ told.
-    let done = c.in_ok-build_empty.ensures.done (sym c.build_empty.ensures.told ∙ told) in
+    let done = c.in_ok-build_empty.ensures.done (sym c.build_empty.ensures.told.same ∙ told) in
     subst (Keeps c.build_empty.new.front) (sym (ap (λ (f : File). f.now) done.bundle_is)) c.in_ok-build_empty.ensures.keeps
 
 pub returns-clause-keeps : goal.returns-clause-keeps
 returns-clause-keeps g c = λ told.
     let done = c.in_ok-build_empty.ensures.done told in
     let bundle = ap (λ (f : File). f.now) done.bundle_is in
-    on_ok_weaker c.put_on_bundle.result (λ keeps. subst (λ (b : List ℕ). Keeps c.put_on_bundle.new.front (bundle_with_tiles b c.args.updates.now)) bundle keeps) (c.put_on_bundle.ensures.keeps (c.build_empty.ensures.told ∙ told))
+    on_ok_weaker c.put_on_bundle.result (λ keeps. subst (λ (b : List ℕ). Keeps c.put_on_bundle.new.front (bundle_with_tiles b c.args.updates.now)) bundle keeps) (c.put_on_bundle.ensures.keeps (c.build_empty.ensures.told.same ∙ told))

@@ -59,28 +59,28 @@ put_more us old next last r quiet closed tick same more during =
 
 pub returns-in_err-len-clause-images : goal.returns-in_err-len-clause-images
 returns-in_err-len-clause-images g c = λ told.
-    measured c.args.updates.now _ _ _ (c.requires.quiet told) (c.requires.closed told) c.len.ensures.time (c.len.ensures.disk told)
+    measured c.args.updates.now _ _ _ (c.requires.idle told).quiet (c.requires.idle told).closed c.len.ensures.time (c.len.ensures.disk told)
 
 pub returns-in_err-put_on_nothing-clause-images : goal.returns-in_err-put_on_nothing-clause-images
 returns-in_err-put_on_nothing-clause-images g c = λ told.
-    put_first c.args.updates.now _ _ _ _ (c.requires.quiet told) (c.requires.closed told) c.len.ensures.time (c.len.ensures.disk told)
+    put_first c.args.updates.now _ _ _ _ (c.requires.idle told).quiet (c.requires.idle told).closed c.len.ensures.time (c.len.ensures.disk told)
     (omega (arith, c.in_ok-len.ensures.answer told)) (c.put_on_nothing.ensures.images (c.len.ensures.told ∙ told))
 
 pub returns-in_ok-put_on_nothing-clause-images : goal.returns-in_ok-put_on_nothing-clause-images
 returns-in_ok-put_on_nothing-clause-images g c = λ told.
-    put_first c.args.updates.now _ _ _ _ (c.requires.quiet told) (c.requires.closed told) c.len.ensures.time (c.len.ensures.disk told)
+    put_first c.args.updates.now _ _ _ _ (c.requires.idle told).quiet (c.requires.idle told).closed c.len.ensures.time (c.len.ensures.disk told)
     (omega (arith, c.in_ok-len.ensures.answer told)) (c.put_on_nothing.ensures.images (c.len.ensures.told ∙ told))
 
 pub returns-in_err-put_on_bundle-clause-images : goal.returns-in_err-put_on_bundle-clause-images
 returns-in_err-put_on_bundle-clause-images g c = λ told.
-    put_more c.args.updates.now _ _ _ _ (c.requires.quiet told) (c.requires.closed told)
+    put_more c.args.updates.now _ _ _ _ (c.requires.idle told).quiet (c.requires.idle told).closed
     c.len.ensures.time (c.len.ensures.disk told)
     (λ zero. c.if-len-eq0.false (c.in_ok-len.ensures.answer told ∙ zero))
     (c.put_on_bundle.ensures.images (c.len.ensures.told ∙ told))
 
 pub returns-in_ok-put_on_bundle-clause-images : goal.returns-in_ok-put_on_bundle-clause-images
 returns-in_ok-put_on_bundle-clause-images g c = λ told.
-    put_more c.args.updates.now _ _ _ _ (c.requires.quiet told) (c.requires.closed told)
+    put_more c.args.updates.now _ _ _ _ (c.requires.idle told).quiet (c.requires.idle told).closed
     c.len.ensures.time (c.len.ensures.disk told)
     (λ zero. c.if-len-eq0.false (c.in_ok-len.ensures.answer told ∙ zero))
     (c.put_on_bundle.ensures.images (c.len.ensures.told ∙ told))
@@ -101,14 +101,14 @@ index_of_opens : (b : List ℕ) → Opens b → length b ≢ 0 → HasIndex b
 index_of_opens b opens more = elim opens [ inl zero ↦ absurd (more zero) | inr index ↦ index ]
 
 pub put_on_nothing-requires-clause-room : goal.put_on_nothing-requires-clause-room
-put_on_nothing-requires-clause-room g c = omega (arith, records_small c.args.updates.now c.requires.fit, c.requires.most)
+put_on_nothing-requires-clause-room g c = omega (arith, records_small c.args.updates.now c.requires.group.fit, c.requires.group.most)
 
 pub returns-in_ok-put_on_nothing-clause-done : goal.returns-in_ok-put_on_nothing-clause-done
 returns-in_ok-put_on_nothing-clause-done g c = λ told.
     let b = (current (g.V.Volume.history c.args.vol.now)).bundle.now in
     let us = c.args.updates.now in
     let zero : length b ≡ 0 = sym (c.in_ok-len.ensures.answer told) ∙ c.if-len-eq0.true in
-    subst (λ (l : List ℕ). HoldsClosed l (current (g.V.Volume.history c.put_on_nothing.new.vol))) (sym (puts_on_nothing b us zero c.requires.some c.in_ok-put_on_nothing.ensures.tiles))
+    subst (λ (l : List ℕ). HoldsClosed l (current (g.V.Volume.history c.put_on_nothing.new.vol))) (sym (puts_on_nothing b us zero c.requires.group.some c.in_ok-put_on_nothing.ensures.tiles))
     (c.in_ok-put_on_nothing.ensures.done (c.len.ensures.told ∙ told))
 
 pub returns-in_ok-put_on_bundle-clause-done : goal.returns-in_ok-put_on_bundle-clause-done
@@ -124,7 +124,7 @@ returns-in_ok-put_on_bundle-clause-done g c = λ told.
 pub returns-in_ok-put_on_nothing-clause-rest : goal.returns-in_ok-put_on_nothing-clause-rest
 returns-in_ok-put_on_nothing-clause-rest g c = λ told.
     let us = c.args.updates.now in
-    let room : length (layout no_tiles) + length (group_records us) ≤ 2 ^ 40 = omega (arith, length-nothing, records_small us c.requires.fit, c.requires.most) in
+    let room : length (layout no_tiles) + length (group_records us) ≤ 2 ^ 40 = omega (arith, length-nothing, records_small us c.requires.group.fit, c.requires.group.most) in
     let done = puts_replace us (layout no_tiles) (layout_bundle no_tiles nothing_fits) c.in_ok-put_on_nothing.ensures.tiles (room_all us (length (layout no_tiles)) room) in
     holds_rest (bundle_with_tiles (layout no_tiles) us) c.put_on_nothing.new.front (current (g.V.Volume.history c.put_on_nothing.new.vol))
     (inr done.0.index) (c.in_ok-put_on_nothing.ensures.keeps (c.len.ensures.told ∙ told)) (c.in_ok-put_on_nothing.ensures.done (c.len.ensures.told ∙ told))
@@ -143,4 +143,4 @@ returns-in_ok-put_on_bundle-clause-rest g c = λ told.
 
 pub returns-in_err-room_for-clause-images : goal.returns-in_err-room_for-clause-images
 returns-in_err-room_for-clause-images g c = λ told.
-    measured c.args.updates.now _ _ _ (c.requires.quiet told) (c.requires.closed told) c.len.ensures.time (c.len.ensures.disk told)
+    measured c.args.updates.now _ _ _ (c.requires.idle told).quiet (c.requires.idle told).closed c.len.ensures.time (c.len.ensures.disk told)

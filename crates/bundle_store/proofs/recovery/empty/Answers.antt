@@ -25,8 +25,8 @@ returns-clause-images g c = λ told.
     let done = c.in_ok-wipe.ensures.done told in
     let bundle = ap (λ (d : Disk). d.bundle) done in
     let journal = ap (λ (d : Disk). d.journal.now) done in
-    during_join Pass _ _ _ wiping (during_map _ Pass _ _ (λ d. in_emptied j (current (g.V.Volume.history c.wipe.new.vol)) d (c.requires.says told) bundle journal) (c.close_gate.ensures.during (c.wipe.ensures.told ∙ told)))
+    during_join Pass _ _ _ wiping (during_map _ Pass _ _ (λ d. in_emptied j (current (g.V.Volume.history c.wipe.new.vol)) d (c.requires.says told) bundle journal) (c.close_gate.ensures.during (c.wipe.ensures.told.same ∙ told)))
 
 pub returns-clause-bytes : goal.returns-clause-bytes
 returns-clause-bytes g c = λ told.
-    empty_midway (current (g.V.Volume.history c.args.vol.now)).bundle.now _ _ _ (c.wipe.ensures.bytes told) (ap (λ (d : Disk). d.bundle) (c.in_ok-wipe.ensures.done told)) (c.close_gate.ensures.during (c.wipe.ensures.told ∙ told))
+    empty_midway (current (g.V.Volume.history c.args.vol.now)).bundle.now _ _ _ (c.wipe.ensures.bytes told) (ap (λ (d : Disk). d.bundle) (c.in_ok-wipe.ensures.done told)) (c.close_gate.ensures.during (c.wipe.ensures.told.same ∙ told))

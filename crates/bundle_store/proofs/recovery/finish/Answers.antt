@@ -58,3 +58,12 @@ pub returns-in_ok-empty-in-Build-clause-bytes : goal.returns-in_ok-empty-in-Buil
 returns-in_ok-empty-in-Build-clause-bytes g c = λ told.
     midway_emptying c.in_ok-state.state _ _ _ (c.in-Open.is ∙ ap Open c.in-Build.is) (c.in_ok-state.ensures.says told) (c.requires.quiet told) (c.read_journal.ensures.during told)
     (c.empty.ensures.bytes (c.read_journal.ensures.told ∙ told))
+
+pub returns-in-Group-clause-images : goal.returns-in-Group-clause-images
+returns-in-Group-clause-images g c = λ told.
+    keeps_finishing _ _ _ (c.requires.quiet told) (c.read_journal.ensures.during told)
+    (c.finish_group-in-Group.ensures.images (c.read_journal.ensures.told ∙ told))
+
+pub returns-in-Group-clause-bytes : goal.returns-in-Group-clause-bytes
+returns-in-Group-clause-bytes g c = λ told.
+    midway_finishing _ _ _ (c.requires.quiet told) (c.read_journal.ensures.during told) (c.finish_group-in-Group.ensures.bytes (c.read_journal.ensures.told ∙ told))

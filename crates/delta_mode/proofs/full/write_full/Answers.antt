@@ -11,28 +11,28 @@ use Rattle.delta_mode.proofs.full.write_full.Goals as goal
 
 pub byte_piece-requires-clause-narrow : goal.byte_piece-requires-clause-narrow
 byte_piece-requires-clause-narrow g c =
-    let r = g.V.View.pixels c.args.raster.now in
+    let r = g.V.View.pixels c.args.plane.now.raster.now in
     let row = row_within r c.kind.ensures.sound in
     let few = pixels_few r c.kind.ensures.sound in
     omega (arith, row, few, c.cols-cols.ensures.value)
 
 pub byte_piece-requires-clause-few : goal.byte_piece-requires-clause-few
 byte_piece-requires-clause-few g c =
-    let r = g.V.View.pixels c.args.raster.now in
+    let r = g.V.View.pixels c.args.plane.now.raster.now in
     let few = pixels_few r c.kind.ensures.sound in
     omega (arith, few, c.requires.within)
 
 pub byte_piece-requires-clause-size : goal.byte_piece-requires-clause-size
 byte_piece-requires-clause-size g c =
-    let r = g.V.View.pixels c.args.raster.now in
-    let all : length c.cells-cells.result.now ≡ r.rows * r.cols * r.depth = c.cells-cells.ensures.size ∙ sym (one_each r.kind _ (r.rows * r.cols * r.depth) c.requires.kind refl) in
+    let r = g.V.View.pixels c.args.plane.now.raster.now in
+    let all : length c.cells-cells.result.now ≡ r.rows * r.cols * r.depth = c.cells-cells.ensures.size ∙ sym (one_each r.kind _ (r.rows * r.cols * r.depth) c.args.plane.now.byte refl) in
     let up : (c.args.place + length c.args.out.now) * r.depth ≤ r.rows * r.cols * r.depth = mul-le-mul_right r.depth c.requires.within in
     subst (λ n. (c.args.place + length c.args.out.now) * n ≤ length c.cells-cells.result.now) (sym c.depth-depth.ensures.value) (omega (arith, all, up))
 
 pub returns-clause-symbols : goal.returns-clause-symbols
 returns-clause-symbols g c =
-    let r = g.V.View.pixels c.args.raster.now in
-    let d = c.args.d in
+    let r = g.V.View.pixels c.args.plane.now.raster.now in
+    let d = c.args.plane.now.d in
     let place = c.args.place in
     let sound = c.kind.ensures.sound in
     let cells = c.cells-cells.result.now in
@@ -40,7 +40,7 @@ returns-clause-symbols g c =
     let room = c.byte_piece.ensures.room in
     let bias_is : c.added.result ≡ bias r.kind = c.added.ensures ∙ ap bias c.kind.ensures.value in
     ap (λ n. deltas_before r d (place + n)) (sym room)
-    ∙ full_piece r d place (cell r.depth d cells) out sound c.requires.kind c.requires.full (omega (arith, room, c.requires.within))
-    (cell_is r cells d (c.cells_are_values.ensures.placed r sound) c.requires.kind c.requires.depth c.cells-cells.ensures.bytes)
+    ∙ full_piece r d place (cell r.depth d cells) out sound c.args.plane.now.byte c.requires.full (omega (arith, room, c.requires.within))
+    (cell_is r cells d (c.cells_are_values.ensures.placed r sound) c.args.plane.now.byte c.args.plane.now.below c.cells-cells.ensures.bytes)
     (λ i lt. c.byte_piece.ensures.symbols i (omega (arith, lt, room))
     ∙ (λ t. wrapped (bias_is t) (cell (c.depth-depth.ensures.value t) d cells (place + i)) (cell_before (c.cols-cols.ensures.value t) (cell (c.depth-depth.ensures.value t) d cells) (place + i))))

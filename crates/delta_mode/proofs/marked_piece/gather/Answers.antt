@@ -4,10 +4,10 @@ use Rattle.std.proofs.lemmas.Grind.{take-set_at}
 use Rattle.std.proofs.lemmas.Int.{ints}
 use Rattle.std.proofs.lemmas.List.{append_assoc}
 use mir.Syntax.{w64}
-use Rattle.raster_values.specs.declared.kind.PixelType.{PixelType}
-use Rattle.raster_values.specs.Distance.{distance_of}
-use Rattle.raster_values.specs.PixelType.{InRange, type_least}
-use Rattle.raster_values.proofs.Distances.{difference_fits, difference_is}
+use Rattle.raster_cells.specs.declared.kind.PixelType.{PixelType}
+use Rattle.raster_cells.specs.Distance.{distance_of}
+use Rattle.raster_cells.specs.PixelType.{InRange, type_least}
+use Rattle.raster_cells.proofs.Distances.{difference_fits, difference_is}
 use Rattle.delta_mode.specs.Symbols.{IsByteType}
 use Rattle.delta_mode.specs.Deltas.{is_valid}
 use Rattle.delta_mode.proofs.Gathered.{distance_small, distances, numbers_long}
@@ -34,43 +34,43 @@ laid x m old out ds tail rest some is =
 
 pub overflow_sub-distances : goal.overflow_sub-distances
 overflow_sub-distances g c =
-    let r = g.V.View.pixels c.args.raster.now in
-    let fits = subst (InRange r.kind) (sym c.requires.last) (last_in_range r c.args.d c.args.place c.kind.ensures.sound) in
-    let least : InRange r.kind c.least.result = subst (InRange r.kind) (sym (c.least.ensures ∙ ap type_least c.kind.ensures.value)) (least_in_range r.kind c.requires.kind) in
-    let a = small_bits r.kind c.args.last c.requires.kind fits in
-    let b = small_bits r.kind c.least.result c.requires.kind least in
+    let r = g.V.View.pixels c.args.plane.now.raster.now in
+    let fits = subst (InRange r.kind) (sym c.requires.last) (last_in_range r c.args.plane.now.d c.args.place c.kind.ensures.sound) in
+    let least : InRange r.kind c.least.result = subst (InRange r.kind) (sym (c.least.ensures ∙ ap type_least c.kind.ensures.value)) (least_in_range r.kind c.args.plane.now.byte) in
+    let a = small_bits r.kind c.args.last c.args.plane.now.byte fits in
+    let b = small_bits r.kind c.least.result c.args.plane.now.byte least in
     omega (arith, ints, a.0, a.1, b.0, b.1)
 
 pub overflow_cast-distances : goal.overflow_cast-distances
 overflow_cast-distances g c =
-    let r = g.V.View.pixels c.args.raster.now in
-    let fits = subst (InRange r.kind) (sym c.requires.last) (last_in_range r c.args.d c.args.place c.kind.ensures.sound) in
+    let r = g.V.View.pixels c.args.plane.now.raster.now in
+    let fits = subst (InRange r.kind) (sym c.requires.last) (last_in_range r c.args.plane.now.d c.args.place c.kind.ensures.sound) in
     let e = difference_is r.kind c.args.last c.least.result fits (c.least.ensures ∙ ap type_least c.kind.ensures.value) in
     let h = difference_fits r.kind c.args.last fits _ e in
     (omega (arith, ints, h.0), omega (arith, ints, h.1))
 
 pub returns-clause-count : goal.returns-clause-count
-returns-clause-count g c = c.gather_from.ensures.count ∙ numbers_long (is_valid (g.V.View.pixels c.args.raster.now)) c.args.place c.args.count
+returns-clause-count g c = c.gather_from.ensures.count ∙ numbers_long (is_valid (g.V.View.pixels c.args.plane.now.raster.now)) c.args.place c.args.count
 
 pub returns-clause-last : goal.returns-clause-last
 returns-clause-last g c =
-    let r = g.V.View.pixels c.args.raster.now in
+    let r = g.V.View.pixels c.args.plane.now.raster.now in
     let old = c.args.distances.now in
     let x = unsigned_abs (first c.args.last c.least.result) in
-    let fits = subst (InRange r.kind) (sym c.requires.last) (last_in_range r c.args.d c.args.place c.kind.ensures.sound) in
+    let fits = subst (InRange r.kind) (sym c.requires.last) (last_in_range r c.args.plane.now.d c.args.place c.kind.ensures.sound) in
     let front = first_is r.kind c.args.last c.least.result fits (c.least.ensures ∙ ap type_least c.kind.ensures.value) ∙ ap (distance_of r.kind) c.requires.last in
     let room : 0 < length old = omega (arith, c.requires.room) in
-    has_last r c.args.d c.args.place c.args.count x _ _ front (laid x c.gather_from.result old c.gather_from.new.out (distances r c.args.d c.args.place c.args.count) _ _ room c.gather_from.ensures.distances)
+    has_last r c.args.plane.now.d c.args.place c.args.count x _ _ front (laid x c.gather_from.result old c.gather_from.new.out (distances r c.args.plane.now.d c.args.place c.args.count) _ _ room c.gather_from.ensures.distances)
 
 pub returns-clause-bytes : goal.returns-clause-bytes
 returns-clause-bytes g c = λ j le.
-    let r = g.V.View.pixels c.args.raster.now in
+    let r = g.V.View.pixels c.args.plane.now.raster.now in
     let old = c.args.distances.now in
     let x = unsigned_abs (first c.args.last c.least.result) in
     let sound = c.kind.ensures.sound in
-    let fits = subst (InRange r.kind) (sym c.requires.last) (last_in_range r c.args.d c.args.place sound) in
+    let fits = subst (InRange r.kind) (sym c.requires.last) (last_in_range r c.args.plane.now.d c.args.place sound) in
     let front = first_is r.kind c.args.last c.least.result fits (c.least.ensures ∙ ap type_least c.kind.ensures.value) in
-    let low : x < 256 = subst (λ n. n < 256) (sym front) (distance_small r.kind c.args.last c.requires.kind fits) in
+    let low : x < 256 = subst (λ n. n < 256) (sym front) (distance_small r.kind c.args.last c.args.plane.now.byte fits) in
     let room : 0 < length old = omega (arith, c.requires.room) in
     let count = c.gather_from.ensures.count ∙ numbers_long (is_valid r) c.args.place c.args.count in
-    last_bytes r c.args.d c.args.place c.args.count x _ _ sound c.requires.kind low (laid x c.gather_from.result old c.gather_from.new.out (distances r c.args.d c.args.place c.args.count) _ _ room c.gather_from.ensures.distances) j (omega (arith, le, count))
+    last_bytes r c.args.plane.now.d c.args.place c.args.count x _ _ sound c.args.plane.now.byte low (laid x c.gather_from.result old c.gather_from.new.out (distances r c.args.plane.now.d c.args.place c.args.count) _ _ room c.gather_from.ensures.distances) j (omega (arith, le, count))

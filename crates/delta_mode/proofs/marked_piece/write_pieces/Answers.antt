@@ -8,7 +8,7 @@ use Rattle.delta_mode.proofs.marked_piece.write_pieces.Goals as goal
 
 pub loop-at-init : goal.loop-at-init
 loop-at-init g c =
-    let r = g.V.View.pixels c.args.raster.now in
+    let r = g.V.View.pixels c.args.plane.now.raster.now in
     let within = c.requires.within in
     record {
       within = omega (arith, within);
@@ -18,12 +18,12 @@ loop-at-init g c =
       fits = omega arith;
       room = refl;
       distances = c.requires.distances;
-      symbols = sym (append-nil (deltas_before r c.args.d c.args.place));
+      symbols = sym (append-nil (deltas_before r c.args.plane.now.d c.args.place));
     }
 
 pub loop-at-preserved : goal.loop-at-preserved
 loop-at-preserved g c =
-    let r = g.V.View.pixels c.args.raster.now in
+    let r = g.V.View.pixels c.args.plane.now.raster.now in
     let inv = c.loop-at.invariant in
     let at = c.loop-at.at in
     let n = c.min-count.result in
@@ -42,7 +42,7 @@ loop-at-preserved g c =
     let sum = length-append (take filled old) piece in
     let front : length (take filled old) ≡ filled = length-take-le filled old inv.fits in
     let more : filled + (walk.count - c.loop-at.behind.count) ≡ walk.count - c.args.walk.count = omega (arith, w.some, inv.counted) in
-    let next : deltas_before r c.args.d (at + n) ≡ deltas_before r c.args.d at ++ take (walk.count - c.loop-at.behind.count) piece = w.symbols in
+    let next : deltas_before r c.args.plane.now.d (at + n) ≡ deltas_before r c.args.plane.now.d at ++ take (walk.count - c.loop-at.behind.count) piece = w.symbols in
     record {
       within = piece_within at n r.rows r.cols below short c.cols-cols.ensures.sound.shape.cols_above;
       kept = w.at;
@@ -51,14 +51,14 @@ loop-at-preserved g c =
       fits = omega (arith, w.few, inv.counted, sum, front, same, rest, least, few);
       room = omega (arith, sum, front, same, rest, inv.fits, inv.room);
       distances = w.distances ∙ inv.distances;
-      symbols = symbols_more r c.args.d c.args.place at n filled (walk.count - c.loop-at.behind.count) old piece (post_of filled (length old - filled) old) inv.fits
+      symbols = symbols_more r c.args.plane.now.d c.args.place at n filled (walk.count - c.loop-at.behind.count) old piece (post_of filled (length old - filled) old) inv.fits
           (omega (arith, w.few, same, rest, least, few)) inv.symbols next
-          ∙ ap (λ m. deltas_before r c.args.d c.args.place ++ take m (put_mid filled (length old - filled) old piece)) more;
+          ∙ ap (λ m. deltas_before r c.args.plane.now.d c.args.place ++ take m (put_mid filled (length old - filled) old piece)) more;
     }
 
 pub write_piece-behind-requires-clause-within : goal.write_piece-behind-requires-clause-within
 write_piece-behind-requires-clause-within g c =
-    let r = g.V.View.pixels c.args.raster.now in
+    let r = g.V.View.pixels c.args.plane.now.raster.now in
     let inv = c.loop-at.invariant in
     let at = c.loop-at.at in
     let n = c.min-count.result in

@@ -1,7 +1,7 @@
 use Rattle.std.proofs.Common.{◌≡◌, ℕ, pos, ◌+◌, ◌*◌, ◌<◌, length, get_or, true, refl, sym, ap, ◌∙◌, arith, subst}
 use Rattle.std.proofs.lemmas.List.{get_or_default}
-use Rattle.raster_values.specs.declared.kind.PixelType.{PixelType}
-use Rattle.raster_values.specs.PixelType.{InRange}
+use Rattle.raster_cells.specs.declared.kind.PixelType.{PixelType}
+use Rattle.raster_cells.specs.PixelType.{InRange}
 use Rattle.delta_mode.specs.Symbols.{symbol_of}
 use Rattle.delta_mode.specs.inside.Pieces.{rank, mark_at, value_of_place}
 use Rattle.delta_mode.proofs.Marks.{mask_itself, mask_through}
@@ -14,7 +14,7 @@ loop-d-init g c = record {
   room = c.requires.values;
   placed = λ i e lt below on. absurd (omega (arith, below));
   rest = λ k e lt below other. refl;
-  sound = c.requires.sound;
+  sound = c.kind-kind.ensures.sound;
   kept = refl;
 }
 
@@ -47,3 +47,8 @@ loop-d-preserved g c =
       sound = c.put_from.ensures.sound;
       kept = c.put_from.ensures.kept ∙ inv.kept;
     }
+
+pub returns-clause-frame : goal.returns-clause-frame
+returns-clause-frame g c =
+    let inv = c.loop-d.invariant in
+    record { raster = inv.sound; same = inv.same; kept = inv.kept }

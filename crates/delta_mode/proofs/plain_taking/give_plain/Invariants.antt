@@ -1,6 +1,7 @@
 use Rattle.std.proofs.Common.{◌≡◌, ℕ, ◌+◌, ◌*◌, ◌<◌, ◌≤◌, length, get_or, true}
 use Rattle.raster_values.specs.Block.{SameMask}
 use Rattle.raster_values.specs.Flat.{value_in}
+use Rattle.raster_values.specs.Raster.{IsRaster}
 use Rattle.delta_mode.specs.Symbols.{symbol_of}
 use Rattle.delta_mode.specs.inside.Pieces.{rank, mark_at}
 use Rattle.delta_mode.proofs.plain_taking.give_plain.Given as goal
@@ -14,6 +15,6 @@ invariant-loop-d g l = record {
       ≡ get_or l.symbols (rank (mark_at l.marks) i * (g.T.Target.pixels l.fn.raster).depth + e) 0;
   rest : (k e : ℕ) → k < (g.T.Target.pixels l.fn.raster).rows * (g.T.Target.pixels l.fn.raster).cols → e < (g.T.Target.pixels l.fn.raster).depth
       → (l.place ≤ k → k < l.place + length l.marks → ⊥) → value_in (g.T.Target.pixels l.raster) e k ≡ value_in (g.T.Target.pixels l.fn.raster) e k;
-  sound : g.T.Target.sound l.raster;
+  sound : IsRaster (g.T.Target.pixels l.raster);
   kept : g.T.Target.kept l.raster ≡ g.T.Target.kept l.fn.raster;
 }

@@ -1,5 +1,5 @@
 use Rattle.std.proofs.Common.{◌≡◌, ℕ, ℤ, pos, ◌-ℤ◌, ◌+◌, ◌*◌, ◌<◌, sym, ap, ◌∙◌, arith, length, get_or, set, subst, true, List}
-use Rattle.raster_values.specs.PixelType.{InRange}
+use Rattle.raster_cells.specs.PixelType.{InRange}
 use Rattle.delta_mode.specs.Symbols.{symbol_of}
 use Rattle.delta_mode.specs.inside.Pieces.{rank, mark_at, value_of_place}
 use Rattle.delta_mode.proofs.Marks.{zero_in_range}

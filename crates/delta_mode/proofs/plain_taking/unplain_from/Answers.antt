@@ -23,7 +23,7 @@ loop-place-init g c =
           ([], (subst (λ (xs : List ℕ). g.S.SymbolSource.has_given c.args.source.now xs) (sym (append-nil before)) has, (omega arith, placed_none r.kind r.depth (is_valid r) (value_in r) [])));
       ready = c.requires.ready;
       sources = refl;
-      sound = c.requires.sound;
+      sound = c.rows.ensures.sound;
       kept = refl;
     }
 
@@ -35,7 +35,7 @@ take_plain-requires-clause-left g c =
     let place = c.loop-place.place in
     let count = c.min-count.result in
     let size : c.rows.result * c.cols.result ≡ r.rows * r.cols = λ i. c.rows.ensures.value i * c.cols.ensures.value i in
-    let marks : is_valid s ≡ is_valid r = all_marks r s c.rows.ensures.sound (g.met.T.Target.raster _ inv.sound) inv.same in
+    let marks : is_valid s ≡ is_valid r = all_marks r s c.rows.ensures.sound inv.sound inv.same in
     let long : length (take count c.loop-place.marks) ≡ count = length-take-le count c.loop-place.marks (omega (arith, inv.wide, c.min-count.ensures, c.min-most.ensures)) in
     let end : place + count ≤ r.rows * r.cols = omega (arith, size, c.min-count.ensures, c.loop-place-test.true) in
     let room = plain_room r (place + count) c.rows.ensures.sound end in
@@ -52,7 +52,7 @@ loop-place-preserved g c =
     let place = c.loop-place.place in
     let count = c.min-count.result in
     let hr = c.rows.ensures.sound in
-    let hs = g.met.T.Target.raster _ inv.sound in
+    let hs = inv.sound in
     let size : c.rows.result * c.cols.result ≡ r.rows * r.cols = λ i. c.rows.ensures.value i * c.cols.ensures.value i in
     let marks : is_valid s ≡ is_valid r = all_marks r s hr hs inv.same in
     let depth : s.depth ≡ r.depth = sym inv.same.shape.depth in
@@ -75,7 +75,7 @@ loop-place-preserved g c =
           let rest = length-drop count c.loop-place.values in
           omega (arith, whole, rest, c.take_plain.auto.values, also, inv.also, wide);
       symbols = c.take_plain.auto.symbols ∙ inv.symbols;
-      same = mask_through r s t inv.same w.same;
+      same = mask_through r s t inv.same w.frame.same;
       left = omega (arith, left, inv.left);
       given = λ all has.
           let old = inv.given all has in
@@ -92,8 +92,23 @@ loop-place-preserved g c =
           );
       ready = w.ready;
       sources = w.sources ∙ inv.sources;
-      sound = w.sound;
-      kept = w.kept ∙ inv.kept;
+      sound = w.frame.raster;
+      kept = w.frame.kept ∙ inv.kept;
+    }
+
+pub returns-clause-frame : goal.returns-clause-frame
+returns-clause-frame g c =
+    let inv = c.loop-place.invariant in
+    record { raster = inv.sound; same = inv.same; kept = inv.kept }
+
+pub returns-in_err-take_plain-clause-frame : goal.returns-in_err-take_plain-clause-frame
+returns-in_err-take_plain-clause-frame g c =
+    let inv = c.loop-place.invariant in
+    let f = c.in_err-take_plain.ensures.frame in
+    record {
+      raster = f.raster;
+      same = mask_through (g.T.Target.pixels c.args.raster.now) (g.T.Target.pixels c.loop-place.raster) (g.T.Target.pixels c.take_plain.new.raster) inv.same f.same;
+      kept = f.kept ∙ inv.kept;
     }
 
 pub returns-clause-taken : goal.returns-clause-taken
@@ -103,7 +118,7 @@ returns-clause-taken g c before has =
     let inv = c.loop-place.invariant in
     let place = c.loop-place.place in
     let hr = c.rows.ensures.sound in
-    let hs = g.met.T.Target.raster _ inv.sound in
+    let hs = inv.sound in
     let size : c.rows.result * c.cols.result ≡ r.rows * r.cols = λ i. c.rows.ensures.value i * c.cols.ensures.value i in
     let end : place ≡ r.rows * r.cols = omega (arith, size, inv.within, c.loop-place-test.false) in
     let last : place ≡ s.rows * s.cols = end ∙ same_size r s inv.same in

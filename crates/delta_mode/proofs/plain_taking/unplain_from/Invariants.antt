@@ -1,6 +1,7 @@
 use Rattle.std.proofs.Common.{◌≡◌, ℕ, ◌≤◌, ◌-◌, ◌*◌, ◌+◌, ◌++◌, List, length}
 use Rattle.raster_values.specs.Block.{SameMask}
 use Rattle.raster_values.specs.Flat.{value_in}
+use Rattle.raster_values.specs.Raster.{IsRaster}
 use Rattle.delta_mode.specs.Deltas.{is_valid}
 use Rattle.delta_mode.specs.inside.Pieces.{rank}
 use Rattle.delta_mode.specs.inside.Plain.{ArePlaced}
@@ -20,7 +21,7 @@ invariant-loop-place g l = record {
       × ArePlaced (g.T.Target.pixels l.fn.raster).kind (g.T.Target.pixels l.fn.raster).depth (is_valid (g.T.Target.pixels l.fn.raster)) (value_in (g.T.Target.pixels l.raster)) 0 l.place front));
   ready : g.S.SymbolSource.sound l.source;
   sources : g.S.SymbolSource.kept l.source ≡ g.S.SymbolSource.kept l.fn.source;
-  sound : g.T.Target.sound l.raster;
+  sound : IsRaster (g.T.Target.pixels l.raster);
   kept : g.T.Target.kept l.raster ≡ g.T.Target.kept l.fn.raster;
 }
 

@@ -1,5 +1,5 @@
 use Rattle.std.proofs.Common.{◌≡◌, ℕ, pos, ◌+ℤ◌, ◌-ℤ◌, ◌<◌, length, get_or}
-use Rattle.raster_values.specs.PixelType.{InRange}
+use Rattle.raster_cells.specs.PixelType.{InRange}
 use Rattle.delta_mode.specs.Symbols.{bias, symbol_of}
 use Rattle.delta_mode.specs.inside.Pieces.{value_of_place}
 use Rattle.delta_mode.specs.inside.Runs.{value_before}

@@ -2,8 +2,8 @@ use Rattle.std.proofs.Common.{◌≡◌, ℕ, pos, ◌+◌, ◌-◌, ◌<◌, �
 use Rattle.std.proofs.lemmas.List.{get_or_default}
 use mir.Syntax.{w64}
 use mir.Val.{to_z, of_z}
-use Rattle.raster_values.specs.declared.kind.PixelType.{PixelType}
-use Rattle.raster_values.specs.PixelType.{InRange}
+use Rattle.raster_cells.specs.declared.kind.PixelType.{PixelType}
+use Rattle.raster_cells.specs.PixelType.{InRange}
 use Rattle.raster_values.specs.Flat.{value_in}
 use Rattle.delta_mode.specs.Symbols.{symbol_of}
 use Rattle.delta_mode.specs.Deltas.{is_valid, predictor}
@@ -92,3 +92,6 @@ returns-clause-coded g c front e =
     (λ i above lt.
     (λ t. symbol_of (sym ek t) (now i lt t -ℤ (now (i - 1) (omega (arith, lt)) ∙ sym (before_at (to_z w64 (of_z w64 c.predictor_at-predictor.result)) (value_of_place out) i above)) t))
     ∙ c.find_run.ensures.symbols i lt ∙ sym (behind front symbols c.args.walk.count i e) ∙ ap (λ m. get_or (front ++ symbols) (m + i) 0) c.requires.count)
+
+pub returns-clause-frame : goal.returns-clause-frame
+returns-clause-frame g c = record { raster = c.put_from.ensures.sound; same = c.put_from.ensures.put.same; kept = c.put_from.ensures.kept }

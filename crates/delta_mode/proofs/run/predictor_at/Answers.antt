@@ -1,5 +1,5 @@
 use Rattle.std.proofs.Common.{◌≡◌, ◌+◌, ◌-◌, pos, false, sym, ap, ◌∙◌, arith}
-use Rattle.raster_values.specs.PixelType.{InRange}
+use Rattle.raster_cells.specs.PixelType.{InRange}
 use Rattle.raster_values.specs.Flat.{value_in}
 use Rattle.delta_mode.specs.Deltas.{is_valid, predictor}
 use Rattle.delta_mode.specs.inside.Pieces.{predicted_by, mark_at, value_of_place}

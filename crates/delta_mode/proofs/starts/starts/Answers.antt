@@ -1,7 +1,7 @@
 use Rattle.delta_mode.proofs.StartBits.{free_off, free_on, held_off, held_on}
 use Rattle.std.proofs.Common.{ap, ◌∙◌}
 use Rattle.delta_mode.specs.inside.Pieces.{left_of}
-use Rattle.raster_values.specs.Words.{word_bit}
+use Rattle.raster_cells.specs.Words.{word_bit}
 use Rattle.delta_mode.proofs.starts.starts.Goals as goal
 
 pub returns-then-left-clause-on : goal.returns-then-left-clause-on

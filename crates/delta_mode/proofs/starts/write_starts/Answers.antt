@@ -3,7 +3,7 @@ use Rattle.std.specs.Int.{bit_at, trailing_zeros}
 use Rattle.std.proofs.lemmas.Nat.Bits.{bit_at-trailing_zeros}
 use Rattle.std.proofs.Math.Nat.{pow-le-pow_right}
 use mir.Syntax.{w32}
-use Rattle.raster_values.specs.Words.{word_bit}
+use Rattle.raster_cells.specs.Words.{word_bit}
 use Rattle.delta_mode.proofs.StartBits.{bit_within, fewer_bits, set_bit}
 use Rattle.delta_mode.proofs.StartPieces.{starts_less, symbols_set}
 use Rattle.delta_mode.proofs.starts.write_starts.Goals as goal
@@ -39,7 +39,7 @@ loop-rest-smaller g c =
 
 pub loop-rest-preserved : goal.loop-rest-preserved
 loop-rest-preserved g c =
-    let r = g.V.View.pixels c.args.raster.now in
+    let r = g.V.View.pixels c.args.plane.now.raster.now in
     let inv = c.loop-rest.invariant in
     let rest = c.loop-rest.rest in
     let b = trailing_zeros w32 rest in
@@ -50,5 +50,5 @@ loop-rest-preserved g c =
     record {
       room = w.room ∙ inv.room;
       starts = starts_less r c.args.place n rest b c.requires.few low h.1.0 inv.starts;
-      symbols = symbols_set r c.args.d c.args.place n rest b c.loop-rest.out c.write_start.new.out c.requires.few low (inv.starts.each (n - 1 - b) (omega (arith, low)) h.1.1).0 inv.symbols w.here w.others;
+      symbols = symbols_set r c.args.plane.now.d c.args.place n rest b c.loop-rest.out c.write_start.new.out c.requires.few low (inv.starts.each (n - 1 - b) (omega (arith, low)) h.1.1).0 inv.symbols w.here w.others;
     }

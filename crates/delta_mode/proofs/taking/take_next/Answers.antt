@@ -1,13 +1,17 @@
-use Rattle.std.proofs.Common.{◌≡◌, ℕ, ◌+◌, ◌-◌, List, [], ◌++◌, length, take, IfOk, sym, ap, ◌∙◌, arith, subst}
+use Rattle.std.proofs.Common.{◌≡◌, ℕ, ◌+◌, ◌-◌, List, [], ◌++◌, length, take, IfOk, refl, sym, ap, ◌∙◌, arith, subst}
 use Rattle.std.proofs.lemmas.List.{append-nil, length-take-le}
 use Rattle.std.proofs.lemmas.Result.{on_ok_weaker}
 use Rattle.raster_values.specs.Flat.{value_in}
 use Rattle.delta_mode.specs.Deltas.{is_valid}
 use Rattle.delta_mode.specs.inside.Pieces.{rank, IsAt, AreCoded}
+use Rattle.delta_mode.proofs.Marks.{mask_itself}
 use Rattle.delta_mode.proofs.NextRuns.{at_run, none_run, run_across, run_coded, run_on, run_rank}
 use Rattle.delta_mode.proofs.taking.take_next.Goals as goal
 
 -- ---- where there is no run
+
+pub returns-then-run-clause-frame : goal.returns-then-run-clause-frame
+returns-then-run-clause-frame g c = record { raster = c.requires.sound; same = mask_itself (g.T.Target.pixels c.args.raster.now); kept = refl }
 
 pub returns-then-run-clause-at : goal.returns-then-run-clause-at
 returns-then-run-clause-at g c =

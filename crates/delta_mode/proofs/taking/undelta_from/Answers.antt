@@ -27,7 +27,7 @@ loop-place-init g c =
       rest = λ k e lt below other. refl;
       ready = c.requires.ready;
       sources = refl;
-      sound = c.requires.sound;
+      sound = c.cols-cols.ensures.sound;
       kept = refl;
     }
 
@@ -69,7 +69,7 @@ take_next-requires-clause-at g c =
     let inv = c.loop-place.invariant in
     let walk = c.loop-place.walk in
     subst (λ (valid : ℕ → Bool). IsAt valid (value_in s c.args.d) c.loop-place.place walk.left walk.last walk.count)
-    (sym (all_marks (g.T.Target.pixels c.args.raster.now) s c.cols-cols.ensures.sound (g.met.T.Target.raster _ inv.sound) inv.same)) inv.at
+    (sym (all_marks (g.T.Target.pixels c.args.raster.now) s c.cols-cols.ensures.sound inv.sound inv.same)) inv.at
 
 pub take_next-requires-clause-left : goal.take_next-requires-clause-left
 take_next-requires-clause-left g c =
@@ -80,7 +80,7 @@ take_next-requires-clause-left g c =
     let within = row_within r c.loop-place.place c.min-most.result sound c.rows.ensures.value c.cols-cols.ensures.value (omega (arith, c.loop-place-test.true)) (omega (arith, c.min-most.ensures)) in
     let room = row_room r stop sound (omega (arith, within, c.next_run-run.ensures.within)) in
     subst (λ (valid : ℕ → Bool). rank valid stop ≤ c.loop-place.walk.count + g.S.SymbolSource.left c.loop-place.source)
-    (sym (all_marks r (g.T.Target.pixels c.loop-place.raster) sound (g.met.T.Target.raster _ inv.sound) inv.same)) (omega (arith, room, inv.left, c.requires.count))
+    (sym (all_marks r (g.T.Target.pixels c.loop-place.raster) sound inv.sound inv.same)) (omega (arith, room, inv.left, c.requires.count))
 
 pub loop-place-preserved : goal.loop-place-preserved
 loop-place-preserved g c =
@@ -95,7 +95,7 @@ loop-place-preserved g c =
     let walk = c.in_ok-walk.walk in
     let w = c.in_ok-walk.ensures in
     let hr = c.cols-cols.ensures.sound in
-    let hs = g.met.T.Target.raster _ inv.sound in
+    let hs = inv.sound in
     let row = row_within r place c.min-most.result hr c.rows.ensures.value c.cols-cols.ensures.value (omega (arith, c.loop-place-test.true)) (omega (arith, c.min-most.ensures)) in
     let within : stop ≤ r.rows * r.cols = omega (arith, row, c.next_run-run.ensures.within) in
     let forth : place ≤ stop = omega (arith, c.next_run-run.ensures.runs.first, c.next_run-run.ensures.runs.second) in
@@ -107,7 +107,7 @@ loop-place-preserved g c =
       within = within;
       values = c.take_next.auto.values ∙ inv.values;
       symbols = c.take_next.auto.symbols ∙ inv.symbols;
-      same = mask_through r s t inv.same w.same;
+      same = mask_through r s t inv.same w.frame.same;
       at = at;
       left = omega (arith, w.left, inv.left);
       given = λ all has.
@@ -130,8 +130,23 @@ loop-place-preserved g c =
           w.rest k e (omega (arith, lt, same_size r s inv.same)) (subst (λ n. e < n) inv.same.shape.depth below) (λ from to_ is. other is) ∙ inv.rest k e lt below other;
       ready = w.ready;
       sources = w.sources ∙ inv.sources;
-      sound = w.sound;
-      kept = w.kept ∙ inv.kept;
+      sound = w.frame.raster;
+      kept = w.frame.kept ∙ inv.kept;
+    }
+
+pub returns-clause-frame : goal.returns-clause-frame
+returns-clause-frame g c =
+    let inv = c.loop-place.invariant in
+    record { raster = inv.sound; same = inv.same; kept = inv.kept }
+
+pub returns-in_err-walk-clause-frame : goal.returns-in_err-walk-clause-frame
+returns-in_err-walk-clause-frame g c =
+    let inv = c.loop-place.invariant in
+    let f = c.in_err-walk.ensures.frame in
+    record {
+      raster = f.raster;
+      same = mask_through (g.T.Target.pixels c.args.raster.now) (g.T.Target.pixels c.loop-place.raster) (g.T.Target.pixels c.take_next.new.raster) inv.same f.same;
+      kept = f.kept ∙ inv.kept;
     }
 
 pub returns-clause-taken : goal.returns-clause-taken
@@ -141,7 +156,7 @@ returns-clause-taken g c before has =
     let inv = c.loop-place.invariant in
     let place = c.loop-place.place in
     let hr = c.cols-cols.ensures.sound in
-    let hs = g.met.T.Target.raster _ inv.sound in
+    let hs = inv.sound in
     let given = inv.given before has in
     let count = count_whole r place (length given.0) hr c.rows.ensures.value c.cols-cols.ensures.value inv.within (omega (arith, c.loop-place-test.false)) (given.1.1.0 ∙ inv.at.count_is) in (
       given.0,

@@ -1,6 +1,7 @@
 use Rattle.std.proofs.Common.{◌≡◌, ℕ, ◌≤◌, ◌<◌, ◌-◌, ◌*◌, ◌+◌, ◌++◌, List, length}
 use Rattle.raster_values.specs.Block.{SameMask}
 use Rattle.raster_values.specs.Flat.{value_in}
+use Rattle.raster_values.specs.Raster.{IsRaster}
 use Rattle.delta_mode.specs.Deltas.{is_valid}
 use Rattle.delta_mode.specs.inside.Pieces.{IsAt, AreCoded}
 use Rattle.delta_mode.proofs.taking.undelta_from.Given as goal
@@ -19,7 +20,7 @@ invariant-loop-place g l = record {
   rest : (k e : ℕ) → k < (g.T.Target.pixels l.fn.raster).rows * (g.T.Target.pixels l.fn.raster).cols → e < (g.T.Target.pixels l.fn.raster).depth → (e ≡ l.fn.d → ⊥) → value_in (g.T.Target.pixels l.raster) e k ≡ value_in (g.T.Target.pixels l.fn.raster) e k;
   ready : g.S.SymbolSource.sound l.source;
   sources : g.S.SymbolSource.kept l.source ≡ g.S.SymbolSource.kept l.fn.source;
-  sound : g.T.Target.sound l.raster;
+  sound : IsRaster (g.T.Target.pixels l.raster);
   kept : g.T.Target.kept l.raster ≡ g.T.Target.kept l.fn.raster;
 }
 

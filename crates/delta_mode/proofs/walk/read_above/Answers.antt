@@ -1,5 +1,5 @@
 use Rattle.std.proofs.Common.{pos, refl, sym, subst}
-use Rattle.raster_values.specs.PixelType.{InRange}
+use Rattle.raster_cells.specs.PixelType.{InRange}
 use Rattle.delta_mode.proofs.Marks.{each_in_range, value_in_range, zero_in_range}
 use Rattle.delta_mode.proofs.walk.read_above.Goals as goal
 

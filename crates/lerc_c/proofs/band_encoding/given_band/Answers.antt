@@ -1,5 +1,5 @@
 use Rattle.std.proofs.Common.{◌≡◌, ◌+◌, ◌*◌, ◌<◌, ◌≤◌, ℕ, List, length, sym, ap, ◌∙◌, subst}
-use Rattle.raster_values.specs.Raster.{IsShape}
+use Rattle.raster_cells.specs.Shapes.{IsShape}
 use Rattle.lerc_c.specs.Arrays.{GivesSizes, values_size, mask_array_size}
 use Rattle.lerc_c.specs.BandArrays.{mask_for, part_at}
 use Rattle.lerc_c.proofs.BandGiving.{room, mask_room, gives, area_few}

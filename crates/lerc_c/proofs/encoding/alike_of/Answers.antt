@@ -2,7 +2,7 @@ use Rattle.std.proofs.Common.{sym, ◌∙◌, subst}
 use Rattle.std.proofs.lemmas.Bool.{eqb-true}
 use mir.Syntax.{w64}
 use mir.Val.{to_z, of_z}
-use Rattle.raster_values.proofs.Views.{same_bits}
+use Rattle.raster_cells.proofs.ValueBits.{same_bits}
 use Rattle.lerc_c.specs.inside.Repeated.{IsOneValue}
 use Rattle.lerc_c.proofs.Repeating.{none_given, one_given}
 use Rattle.lerc_c.proofs.encoding.alike_of.Goals as goal

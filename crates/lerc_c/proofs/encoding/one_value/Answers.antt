@@ -1,5 +1,5 @@
 use Rattle.std.proofs.Common.{sym, subst}
-use Rattle.raster_values.proofs.Views.{same_bits}
+use Rattle.raster_cells.proofs.ValueBits.{same_bits}
 use Rattle.lerc_c.specs.inside.Repeated.{IsOneValue}
 use Rattle.lerc_c.proofs.Repeating.{one_is, told_drop}
 use Rattle.lerc_c.proofs.encoding.one_value.Goals as goal

@@ -12,7 +12,7 @@ use Rattle.lerc_encode.proofs.Spots.{bytes_there, first_spot, form_there, spot_w
 use Rattle.lerc_encode.proofs.blocks.write_blocks.Goals as goal
 
 pub loop-k-init : goal.loop-k-init
-loop-k-init g c = (refl, (refl, (first_spot c.args.h.now (g.V.View.pixels c.args.raster.now) c.requires.blocked _ refl refl refl, c.new-ranks.ensures.sound)))
+loop-k-init g c = (refl, (refl, first_spot c.args.h.now (g.V.View.pixels c.args.raster.now) c.requires.blocked _ refl refl refl))
 
 all_room : (h : Header) (r : Pixels) (n : ℕ) → n ≡ length (blocks_bytes h r) → n ≡ length (flat_map (coded_bytes h r) (range_with_len 0 (coded_blocks h)))
 unfolding blocks_bytes
@@ -28,14 +28,14 @@ is_marked-requires g c =
 pub write_at-at-requires-clause-within : goal.write_at-at-requires-clause-within
 write_at-at-requires-clause-within g c =
     let h = c.args.h.now in
-    spot_within h (g.V.View.pixels c.args.raster.now) c.requires.blocked c.loop-k.k (subst (λ n. c.loop-k.k < n) c.count-k-end.ensures.value c.loop-k-test.true) c.loop-k.spot c.loop-k.invariant.1.1.0
+    spot_within h (g.V.View.pixels c.args.raster.now) c.requires.blocked c.loop-k.k (subst (λ n. c.loop-k.k < n) c.count-k-end.ensures.value c.loop-k-test.true) c.loop-k.spot c.loop-k.invariant.1.1
 
 pub write_at-at-requires-clause-flag : goal.write_at-at-requires-clause-flag
 write_at-at-requires-clause-flag g c =
     let h = c.args.h.now in
     let k = c.loop-k.k in
     let low : k < coded_blocks h = subst (λ n. k < n) c.count-k-end.ensures.value c.loop-k-test.true in
-    let there = form_there h (g.V.View.pixels c.args.raster.now) k c.loop-k.spot c.loop-k.invariant.1.1.0 in
+    let there = form_there h (g.V.View.pixels c.args.raster.now) k c.loop-k.spot c.loop-k.invariant.1.1 in
     λ has. c.is_marked.ensures.1 (c.requires.tables.each k low (sym there ∙ has))
 
 pub write_at-at-requires-clause-alone : goal.write_at-at-requires-clause-alone
@@ -43,7 +43,7 @@ write_at-at-requires-clause-alone g c =
     let h = c.args.h.now in
     let k = c.loop-k.k in
     let low : k < coded_blocks h = subst (λ n. k < n) c.count-k-end.ensures.value c.loop-k-test.true in
-    let there = form_there h (g.V.View.pixels c.args.raster.now) k c.loop-k.spot c.loop-k.invariant.1.1.0 in
+    let there = form_there h (g.V.View.pixels c.args.raster.now) k c.loop-k.spot c.loop-k.invariant.1.1 in
     λ one set. there ∙ c.requires.tables.sound (c.are_single-alone.ensures.0 one) k low (c.is_marked.ensures.0 set)
 
 pub write_at-at-requires-clause-fits : goal.write_at-at-requires-clause-fits
@@ -53,7 +53,7 @@ write_at-at-requires-clause-fits g c =
     let f = coded_bytes h r in
     let k = c.loop-k.k in
     let low : k < coded_blocks h = subst (λ n. k < n) c.count-k-end.ensures.value c.loop-k-test.true in
-    let there = ap length (bytes_there h r k c.loop-k.spot c.loop-k.invariant.1.1.0) in
+    let there = ap length (bytes_there h r k c.loop-k.spot c.loop-k.invariant.1.1) in
     let part = part_fits f k (coded_blocks h) low in
     let room = all_room h r (length c.args.out.now) c.requires.room in
     let kept : length c.loop-k.out ≡ length c.args.out.now = c.loop-k.auto.out in
@@ -64,7 +64,7 @@ write_at-at-requires-clause-fits g c =
 pub next_spot-spot-requires-clause-within : goal.next_spot-spot-requires-clause-within
 next_spot-spot-requires-clause-within g c =
     let h = c.args.h.now in
-    spot_within h (g.V.View.pixels c.args.raster.now) c.requires.blocked c.loop-k.k (subst (λ n. c.loop-k.k < n) c.count-k-end.ensures.value c.loop-k-test.true) c.loop-k.spot c.loop-k.invariant.1.1.0
+    spot_within h (g.V.View.pixels c.args.raster.now) c.requires.blocked c.loop-k.k (subst (λ n. c.loop-k.k < n) c.count-k-end.ensures.value c.loop-k-test.true) c.loop-k.spot c.loop-k.invariant.1.1
 
 pub loop-k-preserved : goal.loop-k-preserved
 loop-k-preserved g c =
@@ -72,7 +72,7 @@ loop-k-preserved g c =
     let r = (g.V.View.pixels c.args.raster.now) in
     let f = coded_bytes h r in
     let k = c.loop-k.k in
-    let at = c.loop-k.invariant.1.1.0 in
+    let at = c.loop-k.invariant.1.1 in
     let joined = flat_map f (range_with_len 0 k) in
     let there = bytes_there h r k c.loop-k.spot at in
     let whole : flat_map f (range_with_len 0 (k + 1)) ≡ joined ++ bytes_at h r c.loop-k.spot = one_more f 0 k k (omega arith) ∙ ap (λ xs. joined ++ xs) (sym there) in
@@ -83,7 +83,7 @@ loop-k-preserved g c =
       omega (arith, sizes, long, count, so_far),
       (
         part_written joined c.loop-k.out c.args.out.now c.write_at-at.new.out (bytes_at h r c.loop-k.spot) (flat_map f (range_with_len 0 (k + 1))) c.loop-k.at c.write_at-at.result so_far c.loop-k.invariant.1.0 count c.write_at-at.ensures.bytes whole,
-        (c.next_spot-spot.ensures k at, c.write_at-at.ensures.ranks),
+        c.next_spot-spot.ensures k at,
       ),
     )
 

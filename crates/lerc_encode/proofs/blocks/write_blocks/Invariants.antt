@@ -1,6 +1,5 @@
 use Rattle.std.proofs.Common.{◌≡◌, ◌++◌, drop, length}
 use Rattle.std.specs.List.{flat_map, range_with_len}
-use Rattle.lut_stuff.specs.Ranked.{AreRanked}
 use Rattle.lerc_encode.specs.Images.{coded_bytes}
 use Rattle.lerc_encode.specs.inside.Blocked.{IsSpot}
 use Rattle.lerc_encode.proofs.blocks.write_blocks.Given as goal
@@ -9,4 +8,4 @@ abbrev pub invariant-loop-k : goal.invariant-loop-k
 invariant-loop-k g l =
     (l.at ≡ length (flat_map (coded_bytes l.h (g.V.View.pixels l.raster)) (range_with_len 0 l.k)))
     × ((l.out ≡ flat_map (coded_bytes l.h (g.V.View.pixels l.raster)) (range_with_len 0 l.k) ++ drop l.at l.initial.out)
-    × (IsSpot l.h l.k l.spot × AreRanked l.ranks))
+    × IsSpot l.h l.k l.spot)

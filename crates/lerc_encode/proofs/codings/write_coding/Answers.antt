@@ -20,22 +20,22 @@ parts_fit symbols lengths table room has is size e =
 
 pub write_code_table-requires : goal.write_code_table-requires
 write_code_table-requires g c =
-    let fit = parts_fit (symbols_of c.args.mode (g.V.View.pixels c.args.raster.now)) c.args.coding.now.lengths c.table_size.result (length c.args.out.now) c.requires.coding.has c.requires.coding.lengths_are c.table_size.ensures.size c.requires.room in
+    let fit = parts_fit (symbols_of c.args.mode (g.V.View.pixels c.args.bytes.now.raster.now)) c.args.coding.now.lengths c.table_size.result (length c.args.out.now) c.requires.coding.has c.requires.coding.lengths_are c.table_size.ensures.size c.requires.room in
     let least = c.min-table.ensures in
     let long : length (take c.min-table.result c.args.out.now) ≡ c.table_size.result = length-take-le c.min-table.result c.args.out.now (omega (arith, least)) ∙ omega (arith, least, fit) in
     subst (IsTableSize c.args.coding.now.lengths) (sym long) c.table_size.ensures.size
 
 pub write_words-requires-clause-coded : goal.write_words-requires-clause-coded
 write_words-requires-clause-coded g c =
-    let symbols = symbols_of c.args.mode (g.V.View.pixels c.args.raster.now) in
+    let symbols = symbols_of c.args.mode (g.V.View.pixels c.args.bytes.now.raster.now) in
     subst (λ (l : List ℕ). All (λ s. 0 < slice_index l s) symbols) (sym c.requires.coding.lengths_are)
-    (symbols_coded symbols (symbols_low c.args.mode (g.V.View.pixels c.args.raster.now) c.kind-kind.ensures.sound) c.requires.coding.has)
+    (symbols_coded symbols (symbols_low c.args.mode (g.V.View.pixels c.args.bytes.now.raster.now) c.kind-kind.ensures.sound) c.requires.coding.has)
 
 pub write_words-requires-clause-room : goal.write_words-requires-clause-room
 write_words-requires-clause-room g c =
     let out = c.args.out.now in
     let n = c.min-table.result in
-    let fit = parts_fit (symbols_of c.args.mode (g.V.View.pixels c.args.raster.now)) c.args.coding.now.lengths c.table_size.result (length out) c.requires.coding.has c.requires.coding.lengths_are c.table_size.ensures.size c.requires.room in
+    let fit = parts_fit (symbols_of c.args.mode (g.V.View.pixels c.args.bytes.now.raster.now)) c.args.coding.now.lengths c.table_size.result (length out) c.requires.coding.has c.requires.coding.lengths_are c.table_size.ensures.size c.requires.room in
     let least = c.min-table.ensures in
     let mid = c.write_code_table.new.out ++ drop n out in
     let kept : length c.write_code_table.new.out ≡ length (take n out) = c.write_code_table.auto.out in
@@ -47,7 +47,7 @@ write_words-requires-clause-room g c =
 
 pub returns : goal.returns
 returns g c =
-    let symbols = (symbols_of c.args.mode (g.V.View.pixels c.args.raster.now)) in
+    let symbols = (symbols_of c.args.mode (g.V.View.pixels c.args.bytes.now.raster.now)) in
     let out = c.args.out.now in
     let n = c.min-table.result in
     let table = c.write_code_table.new.out in

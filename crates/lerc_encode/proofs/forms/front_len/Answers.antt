@@ -1,5 +1,5 @@
 use Rattle.std.proofs.Common.{ap, sym, ◌∙◌, length}
-use Rattle.raster_values.specs.PixelType.{bytes_of}
+use Rattle.raster_cells.specs.PixelType.{bytes_of}
 use Rattle.lerc_encode.specs.Ranges.{lists_bytes}
 use Rattle.lerc_encode.proofs.Forming.{front_long}
 use Rattle.lerc_encode.proofs.forms.front_len.Goals as goal

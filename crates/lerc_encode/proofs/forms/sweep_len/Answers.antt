@@ -1,5 +1,5 @@
 use Rattle.std.proofs.Common.{◌∙◌, ap}
-use Rattle.raster_values.specs.PixelType.{bytes_of}
+use Rattle.raster_cells.specs.PixelType.{bytes_of}
 use Rattle.lerc_encode.proofs.Forming.{length_sweep}
 use Rattle.lerc_encode.proofs.forms.sweep_len.Goals as goal
 

@@ -1,7 +1,7 @@
 use Rattle.std.proofs.Common.{◌≡◌, ℕ, true, ap, sym, subst, ◌∙◌, length}
 use Rattle.std.specs.Prelude.{◌&&◌, nat_eq}
 use Rattle.std.proofs.lemmas.Bool.{and_parts, eqb-true}
-use Rattle.raster_values.specs.PixelType.{bytes_of}
+use Rattle.raster_cells.specs.PixelType.{bytes_of}
 use Rattle.delta_mode.specs.Symbols.{IsByteType}
 use Rattle.lerc_encode.specs.Codings.{have_codes}
 use Rattle.raster_values.specs.Raster.{Pixels}
@@ -17,7 +17,7 @@ use Rattle.lerc_encode.specs.declared.forms.ValueForm.{ValueForm}
 use Rattle.lerc_encode.proofs.Forming.{base_blocked, large_blocked, large_header, sweep_is, small_is, large_is}
 use Rattle.lerc_encode.specs.inside.Choosing.{IsChosen}
 use Rattle.lerc_encode.specs.inside.Coded.{AreThere}
-use Rattle.lerc_encode.specs.declared.choosing.Chosen.{Chosen}
+use Rattle.lerc_encode.specs.declared.forms.Chosen.{Chosen}
 use Rattle.lerc_encode.proofs.Candidates.{chosen_may, delta_is, measured_here, plain_is}
 use Rattle.lerc_encode.proofs.Standing.{MayBe}
 use Rattle.lerc_encode.proofs.SymbolSteps.{symbols_there}

@@ -1,7 +1,7 @@
 use Rattle.std.proofs.Common.{◌≡◌, ℕ, ◌*◌, ◌<◌, sym, ◌∙◌, length, subst, arith, to_z, of_z, w64}
-use Rattle.raster_values.specs.PixelType.{bytes_of}
+use Rattle.raster_cells.specs.PixelType.{bytes_of}
 use Rattle.raster_values.specs.Raster.{Pixels}
-use Rattle.raster_values.specs.declared.kind.PixelType.{PixelType}
+use Rattle.raster_cells.specs.declared.kind.PixelType.{PixelType}
 use Rattle.lerc_encode.specs.Ranges.{leasts, greatests}
 use Rattle.lerc_encode.proofs.Extremes.{at_leasts, at_greatests, depth_least_fits, depth_greatest_fits, length_leasts, length_greatests}
 use Rattle.lerc_encode.proofs.FirstRanges.{least_at, greatest_at}

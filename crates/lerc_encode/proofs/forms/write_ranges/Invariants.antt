@@ -1,6 +1,6 @@
 use Rattle.std.proofs.Common.{◌≡◌, ◌++◌, ◌*◌, take, drop}
-use Rattle.raster_values.specs.PixelType.{bytes_of}
-use Rattle.raster_values.specs.Grid.{values_bytes}
+use Rattle.raster_cells.specs.PixelType.{bytes_of}
+use Rattle.raster_cells.specs.Values.{values_bytes}
 use Rattle.lerc_encode.specs.Ranges.{greatests, leasts}
 use Rattle.lerc_encode.proofs.forms.write_ranges.Given as goal
 

@@ -2,7 +2,7 @@ use Rattle.std.proofs.Common.{◌≡◌, ap, ◌∙◌, length, length-drop, ref
 use Rattle.std.specs.Prelude.{set}
 use Rattle.std.proofs.lemmas.List.{take_rest}
 use Rattle.raster_values.specs.Raster.{valid_count}
-use Rattle.raster_values.specs.PixelType.{bytes_of}
+use Rattle.raster_cells.specs.PixelType.{bytes_of}
 use Rattle.lerc_encode.proofs.Forming.{length_sweep, behind_one, length_set}
 use Rattle.lerc_encode.proofs.forms.write_sweep.Goals as goal
 

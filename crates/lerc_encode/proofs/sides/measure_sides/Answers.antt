@@ -24,16 +24,13 @@ loop-k-init g c =
     let wide = side_blocked h w r c.requires.blocked c.requires.large in (
       first_spot w r wide _ refl refl refl,
       (
-        c.new-names.ensures.sound,
         (
-          (
-            subst (IsMore c.args.most 0 0) (sym small.size) (nothing_more c.args.most),
-            none_marked (IsInFirst h 0) h r c.args.most c.in_ok-eights.eights.size c.in_ok-eights.eights.tables small.room small.none (λ k seen. (let low = seen.1.0 in omega (arith, low))),
-          ),
-          (
-            subst (IsMore c.args.most 0 0) (sym large.size) (nothing_more c.args.most),
-            none_marked (λ i. i < 0) w r c.args.most c.in_ok-sixteens.sixteens.size c.in_ok-sixteens.sixteens.tables large.room large.none (λ k low. omega (arith, low)),
-          ),
+          subst (IsMore c.args.most 0 0) (sym small.size) (nothing_more c.args.most),
+          none_marked (IsInFirst h 0) h r c.args.most c.in_ok-eights.eights.size c.in_ok-eights.eights.tables small.room small.none (λ k seen. (let low = seen.1.0 in omega (arith, low))),
+        ),
+        (
+          subst (IsMore c.args.most 0 0) (sym large.size) (nothing_more c.args.most),
+          none_marked (λ i. i < 0) w r c.args.most c.in_ok-sixteens.sixteens.size c.in_ok-sixteens.sixteens.tables large.room large.none (λ k low. omega (arith, low)),
         ),
       ),
     )
@@ -42,10 +39,10 @@ pub tally_both-requires-clause-within : goal.tally_both-requires-clause-within
 tally_both-requires-clause-within g c = subst (λ (n : ℕ). c.loop-k.k < n) c.count-k-end.ensures.value c.loop-k-test.true
 
 pub tally_both-requires-clause-eights : goal.tally_both-requires-clause-eights
-tally_both-requires-clause-eights g c = c.loop-k.invariant.1.1.0.1.room
+tally_both-requires-clause-eights g c = c.loop-k.invariant.1.0.1.room
 
 pub tally_both-requires-clause-sixteens : goal.tally_both-requires-clause-sixteens
-tally_both-requires-clause-sixteens g c = c.loop-k.invariant.1.1.1.1.room
+tally_both-requires-clause-sixteens g c = c.loop-k.invariant.1.1.1.room
 
 pub next_spot-spot-requires-clause-blocked : goal.next_spot-spot-requires-clause-blocked
 next_spot-spot-requires-clause-blocked g c = side_blocked c.args.small.now c.args.large.now (g.V.View.pixels c.args.raster.now) c.requires.blocked c.requires.large
@@ -66,8 +63,8 @@ loop-k-preserved g c =
     let spot = c.loop-k.spot in
     let at = c.loop-k.invariant.0 in
     let there : IsSpot (record h { side = 16 }) k spot = subst (λ (x : Header). IsSpot x k spot) c.requires.large at in
-    let small = c.loop-k.invariant.1.1.0 in
-    let large = c.loop-k.invariant.1.1.1 in
+    let small = c.loop-k.invariant.1.0 in
+    let large = c.loop-k.invariant.1.1 in
     let done = c.tally_both.ensures in
     let a = c.loop-k.eights in
     let b = c.tally_both.new.eights in
@@ -75,18 +72,15 @@ loop-k-preserved g c =
     let y = c.tally_both.new.sixteens in (
       c.next_spot-spot.ensures k at,
       (
-        done.names,
         (
-          (
-            small_total h r most k spot a.size b.size there small.0 done.small_size,
-            more_marked (IsInFirst h k) (IsInFirst h (k + 1)) h r most (four_sizes h r spot) a.size b.size a.tables b.tables small.1 done.small_size done.small_tables
-                (λ le i low seen has. small_here h r c.requires.blocked k spot b.tables there (done.small_these le) i low seen has),
-          ),
-          (
-            large_total w r most k spot x.size y.size at large.0 done.large_size,
-            more_marked (λ i. i < k) (λ i. i < k + 1) w r most (length (bytes_at w r spot)) x.size y.size x.tables y.tables large.1 done.large_size done.large_tables
-                (λ le i low seen has. large_here w r k spot y.tables at (done.large_this le) i seen has),
-          ),
+          small_total h r most k spot a.size b.size there small.0 done.small_size,
+          more_marked (IsInFirst h k) (IsInFirst h (k + 1)) h r most (four_sizes h r spot) a.size b.size a.tables b.tables small.1 done.small_size done.small_tables
+              (λ le i low seen has. small_here h r c.requires.blocked k spot b.tables there (done.small_these le) i low seen has),
+        ),
+        (
+          large_total w r most k spot x.size y.size at large.0 done.large_size,
+          more_marked (λ i. i < k) (λ i. i < k + 1) w r most (length (bytes_at w r spot)) x.size y.size x.tables y.tables large.1 done.large_size done.large_tables
+              (λ le i low seen has. large_here w r k spot y.tables at (done.large_this le) i seen has),
         ),
       ),
     )
@@ -101,7 +95,7 @@ returns-then-sixteens-most-clause-small g c =
     let there : IsSpot (record h { side = 16 }) k spot = subst (λ (x : Header). IsSpot x k spot) c.requires.large c.loop-k.invariant.0 in
     let low : k < coded_blocks w = subst (λ (n : ℕ). k < n) c.count-k-end.ensures.value c.loop-k-test.true in
     small_over h w r c.args.most (k + 1) c.tally_both.new.eights.size c.requires.blocked c.requires.side c.requires.large (omega (arith, low))
-    (small_total h r c.args.most k spot c.loop-k.eights.size c.tally_both.new.eights.size there c.loop-k.invariant.1.1.0.0 c.tally_both.ensures.small_size) c.if-eights-most.true
+    (small_total h r c.args.most k spot c.loop-k.eights.size c.tally_both.new.eights.size there c.loop-k.invariant.1.0.0 c.tally_both.ensures.small_size) c.if-eights-most.true
 
 pub returns-then-sixteens-most-clause-large : goal.returns-then-sixteens-most-clause-large
 returns-then-sixteens-most-clause-large g c =
@@ -111,14 +105,14 @@ returns-then-sixteens-most-clause-large g c =
     let spot = c.loop-k.spot in
     let low : k < coded_blocks w = subst (λ (n : ℕ). k < n) c.count-k-end.ensures.value c.loop-k-test.true in
     large_over w r c.args.most k c.tally_both.new.sixteens.size low
-    (large_total w r c.args.most k spot c.loop-k.sixteens.size c.tally_both.new.sixteens.size c.loop-k.invariant.0 c.loop-k.invariant.1.1.1.0 c.tally_both.ensures.large_size) c.if-sixteens-most.true
+    (large_total w r c.args.most k spot c.loop-k.sixteens.size c.tally_both.new.sixteens.size c.loop-k.invariant.0 c.loop-k.invariant.1.1.0 c.tally_both.ensures.large_size) c.if-sixteens-most.true
 
 pub returns-clause-small : goal.returns-clause-small
 returns-clause-small g c =
     let all : c.loop-k.k ≡ coded_blocks c.args.large.now = (let e : c.loop-k.k ≡ c.count-k-end.result = omega arith in e) ∙ c.count-k-end.ensures.value in
-    small_done c.args.small.now c.args.large.now (g.V.View.pixels c.args.raster.now) c.args.most c.loop-k.k c.loop-k.eights.size c.loop-k.eights.tables c.requires.blocked c.requires.side c.requires.large all c.requires.most c.loop-k.invariant.1.1.0.0 c.loop-k.invariant.1.1.0.1 c.measured_of-small.result c.measured_of-small.ensures
+    small_done c.args.small.now c.args.large.now (g.V.View.pixels c.args.raster.now) c.args.most c.loop-k.k c.loop-k.eights.size c.loop-k.eights.tables c.requires.blocked c.requires.side c.requires.large all c.requires.most c.loop-k.invariant.1.0.0 c.loop-k.invariant.1.0.1 c.measured_of-small.result c.measured_of-small.ensures
 
 pub returns-clause-large : goal.returns-clause-large
 returns-clause-large g c =
     let all : c.loop-k.k ≡ coded_blocks c.args.large.now = (let e : c.loop-k.k ≡ c.count-k-end.result = omega arith in e) ∙ c.count-k-end.ensures.value in
-    large_done c.args.large.now (g.V.View.pixels c.args.raster.now) c.args.most c.loop-k.k c.loop-k.sixteens.size c.loop-k.sixteens.tables all c.requires.most c.loop-k.invariant.1.1.1.0 c.loop-k.invariant.1.1.1.1 c.measured_of-large.result c.measured_of-large.ensures
+    large_done c.args.large.now (g.V.View.pixels c.args.raster.now) c.args.most c.loop-k.k c.loop-k.sixteens.size c.loop-k.sixteens.tables all c.requires.most c.loop-k.invariant.1.1.0 c.loop-k.invariant.1.1.1 c.measured_of-large.result c.measured_of-large.ensures

@@ -1,6 +1,6 @@
 use Rattle.std.proofs.Common.{◌≡◌, ◌+◌, All, map, sym, ap, subst, take}
-use Rattle.raster_values.specs.PixelType.{InRange}
-use Rattle.raster_values.specs.Distance.{IsDistance, value_above}
+use Rattle.raster_cells.specs.PixelType.{InRange}
+use Rattle.raster_cells.specs.Distance.{IsDistance, value_above}
 use Rattle.lerc_header.specs.declared.header.Header.{Header}
 use Rattle.lerc_encode.specs.inside.Sides.{four_values}
 use Rattle.lerc_encode.proofs.SideWalks.{four_fit, other_values, side_blocked, spot_in_both}

@@ -1,6 +1,6 @@
 use Rattle.std.proofs.Common.{◌≡◌, All, sym, subst, arith}
-use Rattle.raster_values.specs.declared.kind.PixelType.{PixelType}
-use Rattle.raster_values.specs.PixelType.{InRange}
+use Rattle.raster_cells.specs.declared.kind.PixelType.{PixelType}
+use Rattle.raster_cells.specs.PixelType.{InRange}
 use Rattle.lerc_encode.specs.inside.Blocked.{values_at}
 use Rattle.lerc_encode.proofs.Blocking.{block_fits}
 use Rattle.lerc_encode.proofs.Quarters.{below_all, beside_all}

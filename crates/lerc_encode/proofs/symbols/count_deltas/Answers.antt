@@ -9,7 +9,7 @@ use Rattle.lerc_encode.proofs.symbols.count_deltas.Goals as goal
 
 pub loop-way-init : goal.loop-way-init
 loop-way-init g c =
-    let r = g.V.View.pixels c.args.raster.now in
+    let r = g.V.View.pixels c.args.bytes.now.raster.now in
     record {
       way = c.first_way-way.ensures.way r c.depth-depth.ensures.sound;
       counts = c.new-counter.ensures.counts ∙ ap (λ n. counts_of (take n (deltas_of_all r))) (sym c.first_way-way.ensures.none);
@@ -18,7 +18,7 @@ loop-way-init g c =
 
 pub add-requires : goal.add-requires
 add-requires g c =
-    let r = g.V.View.pixels c.args.raster.now in
+    let r = g.V.View.pixels c.args.bytes.now.raster.now in
     let next = c.next_deltas-next in
     let n = next.result.given - c.loop-way.way.given in
     let few = on_few r c.depth-depth.ensures.sound next.result next.ensures.way in
@@ -29,7 +29,7 @@ add-requires g c =
 
 pub loop-way-preserved : goal.loop-way-preserved
 loop-way-preserved g c =
-    let r = g.V.View.pixels c.args.raster.now in
+    let r = g.V.View.pixels c.args.bytes.now.raster.now in
     let next = c.next_deltas-next in
     let n = next.result.given - c.loop-way.way.given in
     let inv = c.loop-way.invariant in
@@ -43,14 +43,14 @@ loop-way-preserved g c =
 
 pub returns-clause-counts : goal.returns-clause-counts
 returns-clause-counts g c =
-    let r = g.V.View.pixels c.args.raster.now in
+    let r = g.V.View.pixels c.args.bytes.now.raster.now in
     let sound = c.depth-depth.ensures.sound in
     let value = c.depth-depth.ensures.value in
     c.counts.ensures ∙ c.loop-way.invariant.counts ∙ ap counts_of (all_given r sound c.loop-way.way c.loop-way.invariant.way (let past = c.loop-way-test.false in omega (arith, past, value)) ∙ all_is r)
 
 pub returns-clause-few : goal.returns-clause-few
 returns-clause-few g c =
-    let r = g.V.View.pixels c.args.raster.now in
+    let r = g.V.View.pixels c.args.bytes.now.raster.now in
     let sound = c.depth-depth.ensures.sound in
     let few = on_few r sound c.loop-way.way c.loop-way.invariant.way in
     let all = all_few r sound in

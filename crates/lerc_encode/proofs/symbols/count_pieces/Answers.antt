@@ -8,7 +8,7 @@ use Rattle.lerc_encode.proofs.symbols.count_pieces.Goals as goal
 
 pub loop-way-init : goal.loop-way-init
 loop-way-init g c =
-    let r = g.V.View.pixels c.args.raster.now in
+    let r = g.V.View.pixels c.args.bytes.now.raster.now in
     record {
       way = c.first_plain-way.ensures.way r;
       counts = c.new-counter.ensures.counts ∙ ap (λ n. counts_of (take n (plain r))) (sym c.first_plain-way.ensures.none);
@@ -17,7 +17,7 @@ loop-way-init g c =
 
 pub add-requires : goal.add-requires
 add-requires g c =
-    let r = g.V.View.pixels c.args.raster.now in
+    let r = g.V.View.pixels c.args.bytes.now.raster.now in
     let next = c.next_plain-next in
     let n = next.result.given - c.loop-way.way.given in
     let few = plain_few r c.rows.ensures.sound next.result next.ensures.way in
@@ -28,7 +28,7 @@ add-requires g c =
 
 pub loop-way-preserved : goal.loop-way-preserved
 loop-way-preserved g c =
-    let r = g.V.View.pixels c.args.raster.now in
+    let r = g.V.View.pixels c.args.bytes.now.raster.now in
     let next = c.next_plain-next in
     let n = next.result.given - c.loop-way.way.given in
     let inv = c.loop-way.invariant in
@@ -42,14 +42,14 @@ loop-way-preserved g c =
 
 pub returns-clause-counts : goal.returns-clause-counts
 returns-clause-counts g c =
-    let r = g.V.View.pixels c.args.raster.now in
+    let r = g.V.View.pixels c.args.bytes.now.raster.now in
     let sound = c.rows.ensures.sound in
     let size : c.rows.result * c.cols.result ≡ r.rows * r.cols = λ i. c.rows.ensures.value i * c.cols.ensures.value i in
     c.counts.ensures ∙ c.loop-way.invariant.counts ∙ ap counts_of (plain_given r sound c.loop-way.way c.loop-way.invariant.way (let past = c.loop-way-test.false in omega (arith, past, size)))
 
 pub returns-clause-few : goal.returns-clause-few
 returns-clause-few g c =
-    let r = g.V.View.pixels c.args.raster.now in
+    let r = g.V.View.pixels c.args.bytes.now.raster.now in
     let sound = c.rows.ensures.sound in
     let few = plain_few r sound c.loop-way.way c.loop-way.invariant.way in
     let all = all_few r sound in

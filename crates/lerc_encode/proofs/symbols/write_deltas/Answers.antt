@@ -10,7 +10,7 @@ use Rattle.lerc_encode.proofs.symbols.write_deltas.Goals as goal
 
 pub loop-way-init : goal.loop-way-init
 loop-way-init g c =
-    let r = g.V.View.pixels c.args.raster.now in
+    let r = g.V.View.pixels c.args.bytes.now.raster.now in
     record {
       way = c.first_way-way.ensures.way r c.depth-depth.ensures.sound;
       room_is = refl;
@@ -20,7 +20,7 @@ loop-way-init g c =
 
 pub write-requires : goal.write-requires
 write-requires g c =
-    let r = g.V.View.pixels c.args.raster.now in
+    let r = g.V.View.pixels c.args.bytes.now.raster.now in
     let all = deltas_of_all r in
     let next = c.next_deltas-next in
     let inv = c.loop-way.invariant in
@@ -29,7 +29,7 @@ write-requires g c =
 
 pub loop-way-preserved : goal.loop-way-preserved
 loop-way-preserved g c =
-    let r = g.V.View.pixels c.args.raster.now in
+    let r = g.V.View.pixels c.args.bytes.now.raster.now in
     let next = c.next_deltas-next in
     let inv = c.loop-way.invariant in
     record {
@@ -41,7 +41,7 @@ loop-way-preserved g c =
 
 pub end-requires : goal.end-requires
 end-requires g c =
-    let r = g.V.View.pixels c.args.raster.now in
+    let r = g.V.View.pixels c.args.bytes.now.raster.now in
     let inv = c.loop-way.invariant in
     let value = c.depth-depth.ensures.value in
     let all = all_given r c.depth-depth.ensures.sound c.loop-way.way inv.way (let past = c.loop-way-test.false in omega (arith, past, value)) ∙ all_is r in
@@ -49,7 +49,7 @@ end-requires g c =
 
 pub returns : goal.returns
 returns g c =
-    let r = g.V.View.pixels c.args.raster.now in
+    let r = g.V.View.pixels c.args.bytes.now.raster.now in
     let inv = c.loop-way.invariant in
     let value = c.depth-depth.ensures.value in
     let all = all_given r c.depth-depth.ensures.sound c.loop-way.way inv.way (let past = c.loop-way-test.false in omega (arith, past, value)) ∙ all_is r in

@@ -6,11 +6,11 @@ use Rattle.lerc_encode.proofs.symbols.write_deltas.Given as goal
 
 abbrev pub invariant-loop-way : goal.invariant-loop-way
 invariant-loop-way g l = record {
-  way : IsOn (g.V.View.pixels l.raster) l.way;
+  way : IsOn (g.V.View.pixels l.bytes.raster.now) l.way;
   room_is : length l.out ≡ length l.fn.out;
   codes_are : l.writer.codes ≡ canonical_codes l.lengths;
-  begun : AreBegun l.writer l.out (take l.way.given (deltas_of_all (g.V.View.pixels l.raster)));
+  begun : AreBegun l.writer l.out (take l.way.given (deltas_of_all (g.V.View.pixels l.bytes.raster.now)));
 }
 
 abbrev pub decreases-loop-way : goal.decreases-loop-way
-decreases-loop-way g l = left_over (g.V.View.pixels l.raster) l.way
+decreases-loop-way g l = left_over (g.V.View.pixels l.bytes.raster.now) l.way

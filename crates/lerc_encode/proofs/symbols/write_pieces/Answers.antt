@@ -9,7 +9,7 @@ use Rattle.lerc_encode.proofs.symbols.write_pieces.Goals as goal
 
 pub loop-way-init : goal.loop-way-init
 loop-way-init g c =
-    let r = g.V.View.pixels c.args.raster.now in
+    let r = g.V.View.pixels c.args.bytes.now.raster.now in
     record {
       way = c.first_plain-way.ensures.way r;
       room_is = refl;
@@ -19,7 +19,7 @@ loop-way-init g c =
 
 pub write-requires : goal.write-requires
 write-requires g c =
-    let r = g.V.View.pixels c.args.raster.now in
+    let r = g.V.View.pixels c.args.bytes.now.raster.now in
     let all = plain r in
     let next = c.next_plain-next in
     let inv = c.loop-way.invariant in
@@ -28,7 +28,7 @@ write-requires g c =
 
 pub loop-way-preserved : goal.loop-way-preserved
 loop-way-preserved g c =
-    let r = g.V.View.pixels c.args.raster.now in
+    let r = g.V.View.pixels c.args.bytes.now.raster.now in
     let next = c.next_plain-next in
     let inv = c.loop-way.invariant in
     record {
@@ -40,7 +40,7 @@ loop-way-preserved g c =
 
 pub end-requires : goal.end-requires
 end-requires g c =
-    let r = g.V.View.pixels c.args.raster.now in
+    let r = g.V.View.pixels c.args.bytes.now.raster.now in
     let inv = c.loop-way.invariant in
     let size : c.rows.result * c.cols.result ≡ r.rows * r.cols = λ i. c.rows.ensures.value i * c.cols.ensures.value i in
     let all = plain_given r c.rows.ensures.sound c.loop-way.way inv.way (let past = c.loop-way-test.false in omega (arith, past, size)) in
@@ -48,7 +48,7 @@ end-requires g c =
 
 pub returns : goal.returns
 returns g c =
-    let r = g.V.View.pixels c.args.raster.now in
+    let r = g.V.View.pixels c.args.bytes.now.raster.now in
     let inv = c.loop-way.invariant in
     let size : c.rows.result * c.cols.result ≡ r.rows * r.cols = λ i. c.rows.ensures.value i * c.cols.ensures.value i in
     let all = plain_given r c.rows.ensures.sound c.loop-way.way inv.way (let past = c.loop-way-test.false in omega (arith, past, size)) in

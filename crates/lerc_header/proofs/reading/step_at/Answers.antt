@@ -2,7 +2,7 @@ use Rattle.std.proofs.Common.{◌≡◌, ℕ, pos, ◌+◌, refl, sym, ap, ◌�
 use Rattle.std.specs.Prelude.{IfErr}
 use Rattle.double_bits.specs.Halves.{HalfDouble}
 use Rattle.lerc_header.specs.declared.fault.BlobFault.{BlobFault}
-use Rattle.raster_values.specs.Step.{IsTwiceError}
+use Rattle.raster_cells.specs.Step.{IsTwiceError}
 use Rattle.lerc_header.specs.Head.{double_at, shift}
 use Rattle.lerc_header.specs.inside.Tails.{step_faults}
 use Rattle.lerc_header.proofs.Exits.{none_of}

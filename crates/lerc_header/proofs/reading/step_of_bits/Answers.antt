@@ -4,7 +4,7 @@ use Rattle.std.proofs.lemmas.Int.{ints}
 use mir.Syntax.{w64}
 use mir.Val.{to_z, of_z}
 use Rattle.double_bits.specs.Halves.{HalfDouble}
-use Rattle.raster_values.specs.Step.{IsTwiceError}
+use Rattle.raster_cells.specs.Step.{IsTwiceError}
 use Rattle.lerc_header.proofs.Exits.{none_exit, none_of, some_exit, some_of, some_has}
 use Rattle.lerc_header.proofs.reading.step_of_bits.Goals as goal
 

@@ -1,7 +1,7 @@
 use Rattle.std.proofs.Common.{◌≡◌, ◌↔◌, ℤ, ◌*ℤ◌, pos, Option, Some, sym, subst}
 use mir.Syntax.{w64}
 use mir.Val.{to_z, of_z}
-use Rattle.raster_values.specs.PixelType.{InRange}
+use Rattle.raster_cells.specs.PixelType.{InRange}
 use Rattle.double_bits.specs.Halves.{HalfDouble}
 use Rattle.lerc_header.specs.Head.{double_at}
 use Rattle.lerc_header.proofs.Exits.{passed_exit, failed_exit, untested_exit, some_has}

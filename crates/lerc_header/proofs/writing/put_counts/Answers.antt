@@ -1,6 +1,6 @@
 use Rattle.std.proofs.Common.{◌++◌, ◌∙◌, subst}
 use Rattle.byteorder.specs.Endian.{little_bytes}
-use Rattle.raster_values.specs.PixelType.{code_of}
+use Rattle.raster_cells.specs.PixelType.{code_of}
 use Rattle.lerc_header.specs.inside.Laid.{AreLaid}
 use Rattle.lerc_header.proofs.LaidLemmas.{laid_join}
 use Rattle.lerc_header.proofs.writing.put_counts.Goals as goal

@@ -1,6 +1,6 @@
 use Rattle.std.proofs.Common.{arith}
 use Rattle.std.proofs.lemmas.List.{length-map}
-use Rattle.raster_values.specs.Distance.{value_above}
+use Rattle.raster_cells.specs.Distance.{value_above}
 use Rattle.micro_block.specs.inside.Stepping.{values_above}
 use Rattle.micro_block.proofs.Closed.{block_short}
 use Rattle.micro_block.proofs.choosing.block_size.Goals as goal

@@ -1,7 +1,7 @@
 use Rattle.std.proofs.Common.{◌≡◌, ℤ, ap, ◌∙◌}
 use mir.Syntax.{w64}
 use mir.Val.{to_z, of_z}
-use Rattle.raster_values.specs.Distance.{value_above}
+use Rattle.raster_cells.specs.Distance.{value_above}
 use Rattle.micro_block.specs.inside.Sizes.{closed_sizes}
 use Rattle.micro_block.proofs.Above.{above_in_range}
 use Rattle.micro_block.proofs.Closed.{fewest_is}

@@ -4,9 +4,9 @@ use Rattle.std.proofs.lemmas.Int.{ints, to_z-of_z}
 use Rattle.std.proofs.lemmas.List.Elements.{All-map}
 use Rattle.std.proofs.lemmas.Simd.{map-map}
 use mir.Syntax.{w64}
-use Rattle.raster_values.specs.declared.kind.PixelType.{PixelType}
-use Rattle.raster_values.specs.PixelType.{InRange, type_least}
-use Rattle.raster_values.proofs.Distances.{difference_fits}
+use Rattle.raster_cells.specs.declared.kind.PixelType.{PixelType}
+use Rattle.raster_cells.specs.PixelType.{InRange, type_least}
+use Rattle.raster_cells.proofs.Distances.{difference_fits}
 use Rattle.micro_block.specs.inside.Products.{AreUpTo}
 use Rattle.micro_block.proofs.distances.distances_of.Goals as goal
 

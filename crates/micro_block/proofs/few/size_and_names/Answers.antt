@@ -1,6 +1,6 @@
 use Rattle.std.proofs.Common.{◌∙◌, sym, arith}
 use Rattle.std.proofs.lemmas.List.{length-map}
-use Rattle.raster_values.specs.Distance.{value_above}
+use Rattle.raster_cells.specs.Distance.{value_above}
 use Rattle.micro_block.specs.inside.Forms.{IsChosen}
 use Rattle.micro_block.specs.inside.Stepping.{values_above}
 use Rattle.micro_block.proofs.Chosen.{chosen_found}

@@ -3,7 +3,7 @@ use Rattle.std.specs.Prelude.{replicate}
 use Rattle.std.proofs.lemmas.Int.{to_z-of_z}
 use mir.Syntax.{w64}
 use mir.Val.{of_z, to_z}
-use Rattle.raster_values.specs.PixelType.{type_greatest}
+use Rattle.raster_cells.specs.PixelType.{type_greatest}
 use Rattle.micro_block.proofs.BlockSteps.{all_alike_are, ones_fit, reread, reread_in}
 use Rattle.micro_block.proofs.reading.all_alike.Goals as goal
 

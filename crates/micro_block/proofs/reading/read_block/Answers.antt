@@ -18,4 +18,4 @@ returns-clause-fault c =
 
 pub returns-clause-in_range : goal.returns-clause-in_range
 returns-clause-in_range c =
-    read_in_range (frame_of c.args.ctx.now (length c.args.out.now)) c.args.bytes.now (λ (k : ℕ). k) (λ _. c.read_sums.new.out) c.read_sums.result (λ i. omega (arith, c.type_inv.bytes i)) c.requires.ctx.top c.read_sums.ensures
+    read_in_range (frame_of c.args.ctx.now (length c.args.out.now)) c.args.bytes.now (λ (k : ℕ). k) (λ _. c.read_sums.new.out) c.read_sums.result (λ i. omega (arith, c.type_inv.bytes i)) c.args.ctx.now.top_of_type c.read_sums.ensures

@@ -3,9 +3,9 @@ use Rattle.std.specs.Prelude.{unsigned_abs}
 use Rattle.std.proofs.lemmas.Int.{ints}
 use Rattle.std.proofs.lemmas.List.{take_rest}
 use Rattle.byteorder.specs.Endian.{little_number}
-use Rattle.raster_values.specs.PixelType.{bytes_of, type_least, value_of}
-use Rattle.raster_values.specs.Distance.{distance_of}
-use Rattle.raster_values.proofs.Distances.{difference_fits, difference_is}
+use Rattle.raster_cells.specs.PixelType.{bytes_of, type_least, value_of}
+use Rattle.raster_cells.specs.Distance.{distance_of}
+use Rattle.raster_cells.proofs.Distances.{difference_fits, difference_is}
 use Rattle.micro_block.proofs.BlockSteps.{one_more, raw_are}
 use Rattle.micro_block.proofs.reading.read_distances.Goals as goal
 

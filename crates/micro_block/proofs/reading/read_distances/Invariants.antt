@@ -1,7 +1,7 @@
 use Rattle.std.proofs.Common.{◌≡◌, ◌*◌, ◌<◌, ℕ, get_or, drop}
 use Rattle.byteorder.specs.Endian.{little_number}
-use Rattle.raster_values.specs.PixelType.{bytes_of, value_of}
-use Rattle.raster_values.specs.Distance.{distance_of}
+use Rattle.raster_cells.specs.PixelType.{bytes_of, value_of}
+use Rattle.raster_cells.specs.Distance.{distance_of}
 use Rattle.micro_block.proofs.reading.read_distances.Given as goal
 
 abbrev pub invariant-loop-i : goal.invariant-loop-i

@@ -1,5 +1,5 @@
 use Rattle.std.proofs.Common.{◌≡◌, ◌%◌, ◌/◌, ◌<◌, ◌+◌, ◌≤◌, ℕ, length, sym, subst, inr, arith}
-use Rattle.raster_values.specs.PixelType.{bytes_of}
+use Rattle.raster_cells.specs.PixelType.{bytes_of}
 use Rattle.micro_block.specs.declared.context.BlockReason.TheVariants as reasons
 use Rattle.micro_block.specs.Faults.{form_faults, offset_faults}
 use Rattle.micro_block.specs.Frame.{frame_of}

@@ -3,8 +3,8 @@ use Rattle.std.proofs.lemmas.Int.{to_z-of_z}
 use mir.Syntax.{w64}
 use mir.Val.{of_z, to_z}
 use Rattle.lane_kernels.specs.Kernels.{capped_sums}
-use Rattle.raster_values.specs.PixelType.{type_greatest, type_least}
-use Rattle.raster_values.specs.Values.{AreValues}
+use Rattle.raster_cells.specs.PixelType.{type_greatest, type_least}
+use Rattle.raster_cells.specs.Values.{AreValues}
 use Rattle.micro_block.proofs.BlockSteps.{raw_fit}
 use Rattle.micro_block.proofs.reading.read_raw.Goals as goal
 

@@ -22,5 +22,5 @@ returns-clause-fault c =
 pub returns-clause-in_range : goal.returns-clause-in_range
 returns-clause-in_range c =
     let f = frame_of c.args.ctx.now (length c.args.numbers.now) in
-    read_in_range f c.args.bytes.now (λ s. s.used) (λ s. stepped_values s c.read_form.new.numbers) c.read_form.result (λ i. omega (arith, c.type_inv.bytes i)) c.requires.ctx.top
+    read_in_range f c.args.bytes.now (λ s. s.used) (λ s. stepped_values s c.read_form.new.numbers) c.read_form.result (λ i. omega (arith, c.type_inv.bytes i)) c.args.ctx.now.top_of_type
     (steps_read f c.args.bytes.now c.read_form.new.numbers c.read_form.result c.read_form.ensures)

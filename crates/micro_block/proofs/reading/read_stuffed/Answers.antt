@@ -3,7 +3,7 @@ use Rattle.std.specs.Prelude.{Ok, Err, MatchResult}
 use Rattle.std.proofs.lemmas.List.{take_rest}
 use mir.Syntax.{w64}
 use mir.Val.{of_z, to_z}
-use Rattle.raster_values.specs.PixelType.{Spells, bytes_of}
+use Rattle.raster_cells.specs.PixelType.{Spells, bytes_of}
 use Rattle.micro_block.specs.Frame.{frame_of}
 use Rattle.micro_block.proofs.BlockSteps.{later, reread, reread_in, stuffed_told}
 use Rattle.micro_block.proofs.reading.read_stuffed.Goals as goal

@@ -4,7 +4,7 @@ use Rattle.std.proofs.lemmas.List.{take_rest}
 use mir.Syntax.{w64}
 use mir.Val.{SFits}
 use Rattle.byteorder.specs.Endian.{little_number}
-use Rattle.raster_values.specs.PixelType.{bytes_of, value_of}
+use Rattle.raster_cells.specs.PixelType.{bytes_of, value_of}
 use Rattle.micro_block.proofs.BlockSteps.{one_more, value_small, values_in_range}
 use Rattle.micro_block.proofs.reading.read_values.Goals as goal
 

@@ -1,6 +1,6 @@
 use Rattle.std.proofs.Common.{◌≡◌, ◌*◌, ◌<◌, ℕ, pos, get_or, drop}
 use Rattle.byteorder.specs.Endian.{little_number}
-use Rattle.raster_values.specs.PixelType.{bytes_of, value_of}
+use Rattle.raster_cells.specs.PixelType.{bytes_of, value_of}
 use Rattle.micro_block.proofs.reading.read_values.Given as goal
 
 abbrev pub invariant-loop-i : goal.invariant-loop-i

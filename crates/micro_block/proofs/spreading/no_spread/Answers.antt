@@ -2,10 +2,10 @@ use Rattle.std.proofs.Common.{◌≡◌, ℕ, ℤ, pos, ◌-ℤ◌, refl, sym, s
 use Rattle.std.specs.Prelude.{unsigned_abs}
 use mir.Syntax.{w64}
 use mir.Val.{of_z, to_z}
-use Rattle.raster_values.specs.declared.kind.PixelType.{PixelType}
-use Rattle.raster_values.specs.declared.kind.PixelType.TheVariants.{I8, U8, I16, U16, I32, U32}
-use Rattle.raster_values.specs.Distance.{IsDistance, value_above}
-use Rattle.raster_values.specs.PixelType.{type_least}
+use Rattle.raster_cells.specs.declared.kind.PixelType.{PixelType}
+use Rattle.raster_cells.specs.declared.kind.PixelType.TheVariants.{I8, U8, I16, U16, I32, U32}
+use Rattle.raster_cells.specs.Distance.{IsDistance, value_above}
+use Rattle.raster_cells.specs.PixelType.{type_least}
 use Rattle.micro_block.proofs.Above.{spread_none}
 use Rattle.micro_block.proofs.spreading.no_spread.Goals as goal
 

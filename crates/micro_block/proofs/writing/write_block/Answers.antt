@@ -49,7 +49,7 @@ returns-clause-stands c =
     let vs = c.args.values.now in
     let back = given_back ctx.kind vs c.distances_of.new.out c.distances_of.ensures c.requires.in_range in
     written_block ctx vs (drop c.write_distances.result c.args.out.now) c.write_distances.new.out c.write_distances.result
-    (writable ctx vs c.requires.ctx c.requires.few c.requires.in_range c.requires.capped)
+    (writable ctx vs c.requires.few c.requires.in_range c.requires.capped)
     (sym (c.write_distances.ensures.count ∙ ap (λ (us : List ℤ). length (block_bytes ctx.kind ctx.col ctx.step us)) back))
     (c.write_distances.ensures.bytes ∙ ap (λ (us : List ℤ). block_bytes ctx.kind ctx.col ctx.step us ++ drop c.write_distances.result c.args.out.now) back)
 
@@ -57,14 +57,14 @@ pub returns-clause-near : goal.returns-clause-near
 returns-clause-near c =
     let ctx = c.args.ctx.now in
     let vs = c.args.values.now in
-    kept_near (frame_of ctx (length vs)) vs (writable ctx vs c.requires.ctx c.requires.few c.requires.in_range c.requires.capped)
+    kept_near (frame_of ctx (length vs)) vs (writable ctx vs c.requires.few c.requires.in_range c.requires.capped)
 
 pub returns-clause-exact : goal.returns-clause-exact
 returns-clause-exact c one =
     let ctx = c.args.ctx.now in
     let vs = c.args.values.now in
     let back = given_back ctx.kind vs c.distances_of.new.out c.distances_of.ensures c.requires.in_range in
-    let w = writable ctx vs c.requires.ctx c.requires.few c.requires.in_range c.requires.capped in
+    let w = writable ctx vs c.requires.few c.requires.in_range c.requires.capped in
     subst (λ (ws : List ℤ). IsBlock (frame_of ctx (length vs)) (take c.write_distances.result c.write_distances.new.out) ws)
     (kept_exact (frame_of ctx (length vs)) vs w one)
     (written_block ctx vs (drop c.write_distances.result c.args.out.now) c.write_distances.new.out c.write_distances.result w

@@ -5,11 +5,11 @@ use Rattle.std.proofs.lemmas.List.{get_or-map, length-map}
 use borrow.Rule.Slice.PartMut.{put_mid}
 use mir.Syntax.{w64}
 use mir.Val.{of_z, to_z}
-use Rattle.raster_values.specs.declared.kind.PixelType.{PixelType}
-use Rattle.raster_values.specs.Distance.{IsDistance, value_above}
-use Rattle.raster_values.specs.PixelType.{InRange, bytes_of, value_bytes}
-use Rattle.raster_values.specs.Grid.{values_bytes}
-use Rattle.raster_values.proofs.Pack.{value_put}
+use Rattle.raster_cells.specs.declared.kind.PixelType.{PixelType}
+use Rattle.raster_cells.specs.Distance.{IsDistance, value_above}
+use Rattle.raster_cells.specs.PixelType.{InRange, bytes_of, value_bytes}
+use Rattle.raster_cells.specs.Values.{values_bytes}
+use Rattle.raster_cells.proofs.Pack.{value_put}
 use Rattle.micro_block.specs.inside.Stepping.{values_above}
 use Rattle.micro_block.proofs.Above.{above_in_range}
 use Rattle.micro_block.proofs.Range.{reread}

@@ -1,6 +1,6 @@
 use Rattle.std.proofs.Common.{◌≡◌, ◌++◌, ◌*◌, take, drop}
-use Rattle.raster_values.specs.PixelType.{bytes_of}
-use Rattle.raster_values.specs.Grid.{values_bytes}
+use Rattle.raster_cells.specs.PixelType.{bytes_of}
+use Rattle.raster_cells.specs.Values.{values_bytes}
 use Rattle.micro_block.specs.inside.Stepping.{values_above}
 use Rattle.micro_block.proofs.writing.write_each.Given as goal
 

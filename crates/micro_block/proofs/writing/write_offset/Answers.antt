@@ -2,8 +2,8 @@ use Rattle.std.proofs.Common.{◌≡◌, ◌+◌, ◌-◌, ◌++◌, ◌∷◌, 
 use Rattle.std.specs.Prelude.{set}
 use mir.Syntax.{w64}
 use mir.Val.{of_z, to_z}
-use Rattle.raster_values.specs.declared.kind.PixelType.{PixelType}
-use Rattle.raster_values.specs.PixelType.{bytes_of, value_bytes}
+use Rattle.raster_cells.specs.declared.kind.PixelType.{PixelType}
+use Rattle.raster_cells.specs.PixelType.{bytes_of, value_bytes}
 use Rattle.micro_block.specs.ChosenBlock.{narrowest, narrow_type, narrow_code, offset_bytes, tag_byte}
 use Rattle.micro_block.proofs.Range.{reread}
 use Rattle.micro_block.proofs.WriteSteps.{front_written}

@@ -2,9 +2,9 @@ use Rattle.std.proofs.Common.{◌≡◌, ◌+◌, ◌*◌, ℕ, ℤ, List, lengt
 use Rattle.std.proofs.lemmas.List.{length-map}
 use mir.Syntax.{w64}
 use mir.Val.{of_z, to_z}
-use Rattle.raster_values.specs.declared.kind.PixelType.{PixelType}
-use Rattle.raster_values.specs.Distance.{value_above}
-use Rattle.raster_values.specs.PixelType.{bytes_of}
+use Rattle.raster_cells.specs.declared.kind.PixelType.{PixelType}
+use Rattle.raster_cells.specs.Distance.{value_above}
+use Rattle.raster_cells.specs.PixelType.{bytes_of}
 use Rattle.micro_block.specs.declared.choosing.Chosen.{Chosen}
 use Rattle.micro_block.specs.ChosenBlock as chosen_block
 use Rattle.micro_block.specs.ChosenBlock.{least_value, narrow_type, written_form_bytes}

@@ -3,7 +3,7 @@ use Rattle.std.proofs.lemmas.List.{length-drop, length-take}
 use mir.Syntax.{w64}
 use mir.Val.{of_z, to_z}
 use Rattle.bit_stuff.specs.Simple.{simple_bytes}
-use Rattle.raster_values.specs.PixelType.{bytes_of}
+use Rattle.raster_cells.specs.PixelType.{bytes_of}
 use Rattle.micro_block.specs.ChosenBlock.{narrow_type, narrow_code, offset_bytes, tag_byte}
 use Rattle.micro_block.specs.inside.Stepping.{steps_above}
 use Rattle.micro_block.proofs.WriteSteps.{least_again, offset_len, rest_written, simple_above, simple_above_len}

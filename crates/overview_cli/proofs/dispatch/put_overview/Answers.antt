@@ -20,4 +20,4 @@ returns-clause-output g c =
 pub returns-clause-volume : goal.returns-clause-volume
 returns-clause-volume g c =
     rw c.put_end.ensures (put_all_volume _ _ g.W.Volume.told g.W.Volume.history g.W.Volume.faults c.args.to.now c.open_bundle.new.vol c.put_all.new.vol c.in-Ok.session c.args.updates.now c.put_all.new.marks.marks c.put_all.result
-    (λ is. absurd cc) c.in-Ok.ensures.volume c.in-Ok.ensures.opened c.put_all.ensures.volume_failed c.put_all.ensures.told (put_few c.args.updates.now _ c.put_all.result _ _ c.put_all.ensures.ended.gave) c.put_all.new.session c.put_all.ensures.ended.leaves)
+    (λ is. absurd cc) c.in-Ok.ensures.volume c.in-Ok.ensures.opened c.put_all.ensures.told.counted c.put_all.ensures.told.same (put_few c.args.updates.now _ c.put_all.result _ _ c.put_all.ensures.ended.gave) c.put_all.new.session c.put_all.ensures.ended.leaves)

@@ -20,7 +20,7 @@ returns-in-Err-read_overview-clause-takes g c =
 pub returns-in-Err-read_overview-clause-reading : goal.returns-in-Err-read_overview-clause-reading
 returns-in-Err-read_overview-clause-reading g c =
     rw c.overview_stop.ensures (reads_on _ _ _ g.V.Volume.told g.V.Volume.history g.V.Volume.faults c.args.from.now c.open_bundle.new.vol c.read_overview.new.vol (λ is. absurd cc) c.in-Ok.ensures.volume
-    (overview_cause c.in-Err-read_overview.stop _ _ c.in-Err-read_overview.ensures.volume) c.read_overview.ensures.told c.read_overview.ensures.during)
+    (overview_cause c.in-Err-read_overview.stop _ _ c.in-Err-read_overview.ensures.reads.counted) c.read_overview.ensures.reads.same c.read_overview.ensures.reads.during)
 
 pub returns-in-Ok-reserve-clause-takes : goal.returns-in-Ok-reserve-clause-takes
 returns-in-Ok-reserve-clause-takes g c =
@@ -30,9 +30,9 @@ returns-in-Ok-reserve-clause-takes g c =
 pub returns-in-Ok-reserve-clause-reading : goal.returns-in-Ok-reserve-clause-reading
 returns-in-Ok-reserve-clause-reading g c =
     reads_on _ _ _ g.V.Volume.told g.V.Volume.history g.V.Volume.faults c.args.from.now c.open_bundle.new.vol c.read_overview.new.vol (λ is. absurd cc) c.in-Ok.ensures.volume
-    (no_cause _ _ _ _ (λ is. cc) (λ is. cc) c.in-Ok-read_overview.ensures.volume) c.read_overview.ensures.told c.read_overview.ensures.during
+    (no_cause _ _ _ _ (λ is. cc) (λ is. cc) c.in-Ok-read_overview.ensures.reads.counted) c.read_overview.ensures.reads.same c.read_overview.ensures.reads.during
 
 pub returns-clause-reading : goal.returns-clause-reading
 returns-clause-reading g c =
     reads_on _ _ _ g.V.Volume.told g.V.Volume.history g.V.Volume.faults c.args.from.now c.open_bundle.new.vol c.read_overview.new.vol (λ is. absurd cc) c.in-Ok.ensures.volume
-    (no_cause _ _ _ _ (λ is. cc) (λ is. cc) c.in-Ok-read_overview.ensures.volume) c.read_overview.ensures.told c.read_overview.ensures.during
+    (no_cause _ _ _ _ (λ is. cc) (λ is. cc) c.in-Ok-read_overview.ensures.reads.counted) c.read_overview.ensures.reads.same c.read_overview.ensures.reads.during

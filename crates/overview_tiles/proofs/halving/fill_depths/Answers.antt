@@ -14,7 +14,7 @@ loop-d-preserved c =
     fills_more c.args.counts.now c.args.sums.now c.args.place c.args.count d c.means.new.out r0 c.loop-d.raster c.put_from.new.self
     c.depth-depth.ensures.sound.shape.cols_above (omega (arith, c.depth-depth.ensures.value)) c.requires.within size
     (λ i less. c.means.ensures.values i (omega (arith, less, size, c.means.auto.out)) ∙ (let e : mean_at c.depth-depth.result c.args.counts.now c.args.sums.now d (c.args.place + i) ≡ mean_at r0.depth c.args.counts.now c.args.sums.now d (c.args.place + i) = ap (λ n. mean_at n c.args.counts.now c.args.sums.now d (c.args.place + i)) c.depth-depth.ensures.value in e))
-    c.put_from.ensures c.loop-d.invariant
+    c.put_from.ensures.put c.loop-d.invariant
 
 pub returns : goal.returns
 returns c = fills_all c.args.counts.now c.args.sums.now c.args.place c.args.count c.loop-d.d c.args.raster.now c.loop-d.raster (omega (arith, c.depth-depth.ensures.value)) c.loop-d.invariant

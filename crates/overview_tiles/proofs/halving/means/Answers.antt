@@ -4,8 +4,8 @@ use Rattle.std.proofs.Math.ListN.{set}
 use Rattle.std.proofs.lemmas.Bool.{cases_eq}
 use Rattle.std.proofs.lemmas.Int.{to_z-of_z}
 use Rattle.std.proofs.lemmas.List.{get_or_default, get_or-set_same, get_or-set_other}
-use Rattle.raster_values.specs.PixelType.{InRange, type_least, type_greatest}
-use Rattle.raster_values.proofs.Views.{zero_in_range}
+use Rattle.raster_cells.specs.PixelType.{InRange, type_least, type_greatest}
+use Rattle.raster_cells.proofs.ValueBits.{zero_in_range}
 use Rattle.overview_tiles.specs.inside.Means.{mean_at}
 use Rattle.overview_tiles.proofs.Tiled.{sum_round}
 use Rattle.overview_tiles.proofs.Filling.{mean_round}

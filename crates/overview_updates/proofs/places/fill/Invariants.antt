@@ -7,7 +7,7 @@ use Rattle.overview_updates.proofs.places.fill.Given as goal
 
 abbrev pub invariant-loop-waiting : goal.invariant-loop-waiting
 invariant-loop-waiting g l =
-    AreWaiting (g.V.Volume.told l.fn.vol) (contents Bundle (g.V.Volume.history l.fn.vol)) l.asked.quarter l.asked.version l.place l.waiting
+    AreWaiting (g.V.Volume.told l.fn.vol) (contents Bundle (g.V.Volume.history l.fn.vol)) l.asked.quarter l.asked.coding.version l.place l.waiting
     × ((g.V.Volume.faults l.vol ≡ g.V.Volume.faults l.fn.vol) × ((g.V.Volume.told l.vol ≡ g.V.Volume.told l.fn.vol)
     × (IsTrue (g.V.Volume.told l.fn.vol) → Stays (g.V.Volume.history l.fn.vol) (g.V.Volume.history l.vol))))
 

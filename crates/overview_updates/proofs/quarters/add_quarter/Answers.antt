@@ -17,7 +17,7 @@ pub returns-in-Ok-None-clause-read : goal.returns-in-Ok-None-clause-read
 returns-in-Ok-None-clause-read g c told before first has =
     let bundle = contents Bundle (g.V.Volume.history c.args.vol.now) in
     let slot = quarter_slot c.args.row c.args.col c.args.quarter in
-    let read : IsQuarter (tiles bundle slot) None = subst (λ s. IsQuarter (tiles bundle s) None) c.slot_of-slot.ensures (subst (IsQuarter (tiles bundle c.slot_of-slot.result)) c.in-Ok-None.field-0-is (c.in-Ok-None.ensures.reads told)) in
+    let read : IsQuarter (tiles bundle slot) None = subst (λ s. IsQuarter (tiles bundle s) None) c.slot_of-slot.ensures (subst (IsQuarter (tiles bundle c.slot_of-slot.result)) c.in-Ok-None.field-0-is (c.in-Ok-None.ensures.quarter told)) in
     let whole = subst (LiesWhole bundle) c.slot_of-slot.ensures (c.in-Ok-None.ensures.whole told) in
     record { tiles = before; read = read_none bundle c.args.row c.args.col c.args.quarter before read whole first; has = has }
 
@@ -26,7 +26,7 @@ returns-in-Ok-clause-read g c told before first has =
     let bundle = contents Bundle (g.V.Volume.history c.args.vol.now) in
     let q = c.args.quarter in
     let tile = c.in-Ok-Some.tile in
-    let one : IsQuarter (tiles bundle c.slot_of-slot.result) (Some tile) = subst (IsQuarter (tiles bundle c.slot_of-slot.result)) c.in-Ok-Some.field-0-is (c.in-Ok-Some.ensures.reads told) in
+    let one : IsQuarter (tiles bundle c.slot_of-slot.result) (Some tile) = subst (IsQuarter (tiles bundle c.slot_of-slot.result)) c.in-Ok-Some.field-0-is (c.in-Ok-Some.ensures.quarter told) in
     let read : IsQuarter (tiles bundle (quarter_slot c.args.row c.args.col q)) (Some tile) = subst (λ s. IsQuarter (tiles bundle s) (Some tile)) c.slot_of-slot.ensures one in
     let whole = subst (LiesWhole bundle) c.slot_of-slot.ensures (c.in-Ok-Some.ensures.whole told) in
     record {
@@ -52,7 +52,7 @@ returns-clause-refused g c told before first has =
     let stop : OverviewStop = c.in-Err-lay_quarter.stop in
     let tile = c.in-Ok-Some.tile in
     let at : c.slot_of-slot.result ≡ slot = c.slot_of-slot.ensures in
-    let one : IsQuarter (tiles bundle c.slot_of-slot.result) (Some tile) = subst (IsQuarter (tiles bundle c.slot_of-slot.result)) c.in-Ok-Some.field-0-is (c.in-Ok-Some.ensures.reads told) in
+    let one : IsQuarter (tiles bundle c.slot_of-slot.result) (Some tile) = subst (IsQuarter (tiles bundle c.slot_of-slot.result)) c.in-Ok-Some.field-0-is (c.in-Ok-Some.ensures.quarter told) in
     let read : IsQuarter (tiles bundle slot) (Some tile) = subst (λ s. IsQuarter (tiles bundle s) (Some tile)) at one in
     ⊎_elim
     (λ (none : stop ≡ OutOfMemory).

@@ -16,7 +16,7 @@ returns-in-Err-add_quarter-clause-refused g c = λ tells.
     let row = c.args.row in
     let col = c.args.col in
     let none = none_so_far (g.V.Volume.told c.args.vol.now) (g.V.Volume.history c.args.vol.now) row col in
-    let one = more_so_far _ _ _ _ _ _ row col 0 None c.in-Ok.first none c.in-Ok.ensures.told c.in-Ok.ensures.during c.in-Ok.ensures.read in
+    let one = more_so_far _ _ _ _ _ _ row col 0 None c.in-Ok.first none c.in-Ok.ensures.reads.same c.in-Ok.ensures.reads.during c.in-Ok.ensures.read in
     says_on _ _ _ _ row col 1 c.in-Ok.first (λ (b : List ℕ). FourStops b row col c.in-Err-add_quarter.stop) one tells c.in-Err-add_quarter.ensures.refused
 
 pub returns-in-Err-add_quarter-2-clause-refused : goal.returns-in-Err-add_quarter-2-clause-refused
@@ -24,8 +24,8 @@ returns-in-Err-add_quarter-2-clause-refused g c = λ tells.
     let row = c.args.row in
     let col = c.args.col in
     let none = none_so_far (g.V.Volume.told c.args.vol.now) (g.V.Volume.history c.args.vol.now) row col in
-    let one = more_so_far _ _ _ _ _ _ row col 0 None c.in-Ok.first none c.in-Ok.ensures.told c.in-Ok.ensures.during c.in-Ok.ensures.read in
-    let two = more_so_far _ _ _ _ _ _ row col 1 c.in-Ok.first c.in-Ok-add_quarter.second one c.in-Ok-add_quarter.ensures.told c.in-Ok-add_quarter.ensures.during c.in-Ok-add_quarter.ensures.read in
+    let one = more_so_far _ _ _ _ _ _ row col 0 None c.in-Ok.first none c.in-Ok.ensures.reads.same c.in-Ok.ensures.reads.during c.in-Ok.ensures.read in
+    let two = more_so_far _ _ _ _ _ _ row col 1 c.in-Ok.first c.in-Ok-add_quarter.second one c.in-Ok-add_quarter.ensures.reads.same c.in-Ok-add_quarter.ensures.reads.during c.in-Ok-add_quarter.ensures.read in
     says_on _ _ _ _ row col 2 c.in-Ok-add_quarter.second (λ (b : List ℕ). FourStops b row col c.in-Err-add_quarter-2.stop) two tells c.in-Err-add_quarter-2.ensures.refused
 
 pub returns-clause-read : goal.returns-clause-read
@@ -33,9 +33,9 @@ returns-clause-read g c = λ tells.
     let row = c.args.row in
     let col = c.args.col in
     let none = none_so_far (g.V.Volume.told c.args.vol.now) (g.V.Volume.history c.args.vol.now) row col in
-    let one = more_so_far _ _ _ _ _ _ row col 0 None c.in-Ok.first none c.in-Ok.ensures.told c.in-Ok.ensures.during c.in-Ok.ensures.read in
-    let two = more_so_far _ _ _ _ _ _ row col 1 c.in-Ok.first c.in-Ok-add_quarter.second one c.in-Ok-add_quarter.ensures.told c.in-Ok-add_quarter.ensures.during c.in-Ok-add_quarter.ensures.read in
-    let three = more_so_far _ _ _ _ _ _ row col 2 c.in-Ok-add_quarter.second c.in-Ok-add_quarter-2.third two c.in-Ok-add_quarter-2.ensures.told c.in-Ok-add_quarter-2.ensures.during c.in-Ok-add_quarter-2.ensures.read in
+    let one = more_so_far _ _ _ _ _ _ row col 0 None c.in-Ok.first none c.in-Ok.ensures.reads.same c.in-Ok.ensures.reads.during c.in-Ok.ensures.read in
+    let two = more_so_far _ _ _ _ _ _ row col 1 c.in-Ok.first c.in-Ok-add_quarter.second one c.in-Ok-add_quarter.ensures.reads.same c.in-Ok-add_quarter.ensures.reads.during c.in-Ok-add_quarter.ensures.read in
+    let three = more_so_far _ _ _ _ _ _ row col 2 c.in-Ok-add_quarter.second c.in-Ok-add_quarter-2.third two c.in-Ok-add_quarter-2.ensures.reads.same c.in-Ok-add_quarter-2.ensures.reads.during c.in-Ok-add_quarter-2.ensures.read in
     says_on _ _ _ _ row col 3 c.in-Ok-add_quarter-2.third (λ (b : List ℕ). IfOk c.add_quarter-4.result (λ mosaic. IsRead b row col 4 mosaic)) three tells c.add_quarter-4.ensures.read
 
 pub returns-clause-refused : goal.returns-clause-refused
@@ -43,7 +43,7 @@ returns-clause-refused g c = λ tells.
     let row = c.args.row in
     let col = c.args.col in
     let none = none_so_far (g.V.Volume.told c.args.vol.now) (g.V.Volume.history c.args.vol.now) row col in
-    let one = more_so_far _ _ _ _ _ _ row col 0 None c.in-Ok.first none c.in-Ok.ensures.told c.in-Ok.ensures.during c.in-Ok.ensures.read in
-    let two = more_so_far _ _ _ _ _ _ row col 1 c.in-Ok.first c.in-Ok-add_quarter.second one c.in-Ok-add_quarter.ensures.told c.in-Ok-add_quarter.ensures.during c.in-Ok-add_quarter.ensures.read in
-    let three = more_so_far _ _ _ _ _ _ row col 2 c.in-Ok-add_quarter.second c.in-Ok-add_quarter-2.third two c.in-Ok-add_quarter-2.ensures.told c.in-Ok-add_quarter-2.ensures.during c.in-Ok-add_quarter-2.ensures.read in
+    let one = more_so_far _ _ _ _ _ _ row col 0 None c.in-Ok.first none c.in-Ok.ensures.reads.same c.in-Ok.ensures.reads.during c.in-Ok.ensures.read in
+    let two = more_so_far _ _ _ _ _ _ row col 1 c.in-Ok.first c.in-Ok-add_quarter.second one c.in-Ok-add_quarter.ensures.reads.same c.in-Ok-add_quarter.ensures.reads.during c.in-Ok-add_quarter.ensures.read in
+    let three = more_so_far _ _ _ _ _ _ row col 2 c.in-Ok-add_quarter.second c.in-Ok-add_quarter-2.third two c.in-Ok-add_quarter-2.ensures.reads.same c.in-Ok-add_quarter-2.ensures.reads.during c.in-Ok-add_quarter-2.ensures.read in
     says_on _ _ _ _ row col 3 c.in-Ok-add_quarter-2.third (λ (b : List ℕ). IfErr c.add_quarter-4.result (λ stop. FourStops b row col stop)) three tells c.add_quarter-4.ensures.refused

@@ -1,7 +1,7 @@
 use Rattle.std.proofs.Common.{Err, ap, subst, ◌∙◌}
 use Rattle.lerc_decode.specs.BandsStates.{IsBandsFinish}
-use Rattle.lerc_decode.specs.declared.bands.BandsStop.{BandsStop}
-use Rattle.lerc_decode.specs.declared.bands.BandsStop.TheVariants.{Fault}
+use Rattle.lerc_decode.specs.declared.streams.bands.BandsStop.{BandsStop}
+use Rattle.lerc_decode.specs.declared.streams.bands.BandsStop.TheVariants.{Fault}
 use Rattle.lerc_grammar.proofs.WholeBands.{bands_or_fault}
 use Rattle.sample_tiles.proofs.adding.decoded.Goals as goal
 

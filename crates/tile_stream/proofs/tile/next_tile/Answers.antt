@@ -1,6 +1,7 @@
 use Rattle.std.proofs.Common.{◌≡◌, ◌+◌, length, take, refl, sym, subst, arith}
 use Rattle.std.proofs.lemmas.List.{length-take-le}
-use Rattle.raster_values.proofs.Taken.{ended, took_front, took_more, took_some}
+use Rattle.raster_grids.proofs.Taken.{ended, took_front}
+use Rattle.raster_grids.proofs.TakenBytes.{took_more, took_some}
 use Rattle.tile_stream.specs.declared.tile.Tile.{Tile}
 use Rattle.tile_stream.specs.declared.tile.TileStop.{TileStop}
 use Rattle.tile_stream.specs.Tile.{IsToldStop}

@@ -14,8 +14,8 @@ use Rattle.tile_updates.proofs.encoding.encode_batch.Goals as goal
 
 pub returns-in-Err-add-clause-refused : goal.returns-in-Err-add-clause-refused
 returns-in-Err-add-clause-refused g c =
-    let v = c.args.version in
-    let step = c.args.step in
+    let v = c.args.coding.version in
+    let step = c.args.coding.step in
     let slots = c.batch.inside.slots.items in
     let bands = c.batch.inside.tiles.items in
     let i = c.loop-blob.i in
@@ -31,8 +31,8 @@ returns-in-Err-add-clause-refused g c =
 
 pub loop-blob-preserved : goal.loop-blob-preserved
 loop-blob-preserved g c =
-    let v = c.args.version in
-    let step = c.args.step in
+    let v = c.args.coding.version in
+    let step = c.args.coding.step in
     let slots = c.batch.inside.slots.items in
     let bands = c.batch.inside.tiles.items in
     let i = c.loop-blob.i in
@@ -53,8 +53,8 @@ loop-blob-preserved g c =
 
 pub returns-clause-added : goal.returns-clause-added
 returns-clause-added g c =
-    let v = c.args.version in
-    let step = c.args.step in
+    let v = c.args.coding.version in
+    let step = c.args.coding.step in
     let slots = c.batch.inside.slots.items in
     let bands = c.batch.inside.tiles.items in
     let inv = c.loop-blob.invariant in
@@ -67,8 +67,8 @@ returns-clause-added g c =
 
 pub returns-clause-passed : goal.returns-clause-passed
 returns-clause-passed g c =
-    let v = c.args.version in
-    let step = c.args.step in
+    let v = c.args.coding.version in
+    let step = c.args.coding.step in
     let slots = c.batch.inside.slots.items in
     let bands = c.batch.inside.tiles.items in
     let inv = c.loop-blob.invariant in
@@ -81,8 +81,8 @@ returns-clause-passed g c =
 
 pub returns-clause-encoded : goal.returns-clause-encoded
 returns-clause-encoded g c =
-    let v = c.args.version in
-    let step = c.args.step in
+    let v = c.args.coding.version in
+    let step = c.args.coding.step in
     let bands = c.batch.inside.tiles.items in
     let are = subst (All (λ (b : List Pixels). AreEncodedOnce (chosen_bands None b v step) b step)) c.as_slice.ensures.value c.in-Ok.ensures.encoded in
     subst (All (λ (t : Tile). AreEncodedOnce (tile_bytes v step t) t.bands step)) c.batch.view_is (all_of (λ (b : List Pixels). AreEncodedOnce (chosen_bands None b v step) b step) c.batch.inside.slots.items bands are)

@@ -6,5 +6,5 @@ use Rattle.tile_updates.proofs.encoding.encode_batch.Given as goal
 
 abbrev pub invariant-loop-blob : goal.invariant-loop-blob
 invariant-loop-blob g l =
-    (l.i ≡ length l.yielded) × ((l.yielded ++ l.blob-iterator.rest.items ≡ map (λ t. chosen_bands None t l.fn.version l.fn.step) l.tiles.items)
-    × AreAdded l.fn.version l.fn.step l.fn.list (tiles_of l.slots.items l.tiles.items) l.i l.list)
+    (l.i ≡ length l.yielded) × ((l.yielded ++ l.blob-iterator.rest.items ≡ map (λ t. chosen_bands None t l.fn.coding.version l.fn.coding.step) l.tiles.items)
+    × AreAdded l.fn.coding.version l.fn.coding.step l.fn.list (tiles_of l.slots.items l.tiles.items) l.i l.list)

@@ -10,20 +10,20 @@ use Rattle.tile_updates.proofs.Refusing.{refused_encoding, refused_reading}
 use Rattle.tile_updates.proofs.updates.add_batch.Goals as goal
 
 pub returns-in-Err-clause-refused : goal.returns-in-Err-clause-refused
-returns-in-Err-clause-refused g c = λ input s. c.in-Err.ensures.free c.args.step input
+returns-in-Err-clause-refused g c = λ input s. c.in-Err.ensures.free c.args.coding.now.step input
 
 pub returns-in-Err-encode_batch-clause-refused : goal.returns-in-Err-encode_batch-clause-refused
 returns-in-Err-encode_batch-clause-refused g c = λ input s.
     let f = c.in-Ok.ensures.ok in
     let room = f.few in
     let few : length c.args.done.now.list + length c.in-Ok.filled.0.batch ≤ 1048576 = omega (arith, room, c.len-room.ensures.value, c.requires.roomy.few) in
-    subst (TellsStop c.args.version c.args.step input) (sym c.stream_stop.ensures)
-    (refused_encoding c.args.version c.args.step input (g.S.Source.left c.args.src.now) f.mid c.args.done.now c.in-Ok.filled.0 c.in-Err-encode_batch.stop s f.waiting few c.in-Err-encode_batch.ensures.refused)
+    subst (TellsStop c.args.coding.now.version c.args.coding.now.step input) (sym c.stream_stop.ensures)
+    (refused_encoding c.args.coding.now.version c.args.coding.now.step input (g.S.Source.left c.args.src.now) f.mid c.args.done.now c.in-Ok.filled.0 c.in-Err-encode_batch.stop s f.waiting few c.in-Err-encode_batch.ensures.refused)
 
 pub returns-in-More-clause-ok : goal.returns-in-More-clause-ok
 returns-in-More-clause-ok g c = λ input s.
-    let v = c.args.version in
-    let step = c.args.step in
+    let v = c.args.coding.now.version in
+    let step = c.args.coding.now.step in
     let f = c.in-Ok.ensures.ok in
     let w = c.in-Ok.filled.0 in
     let new = g.S.Source.left c.fill.new.src in
@@ -36,8 +36,8 @@ returns-in-More-clause-ok g c = λ input s.
 
 pub returns-in-AtEnd-clause-ok : goal.returns-in-AtEnd-clause-ok
 returns-in-AtEnd-clause-ok g c = λ input s.
-    let v = c.args.version in
-    let step = c.args.step in
+    let v = c.args.coding.now.version in
+    let step = c.args.coding.now.step in
     let f = c.in-Ok.ensures.ok in
     let w = c.in-Ok.filled.0 in
     let new = g.S.Source.left c.fill.new.src in
@@ -50,8 +50,8 @@ returns-in-AtEnd-clause-ok g c = λ input s.
 
 pub returns-in-Refused-clause-refused : goal.returns-in-Refused-clause-refused
 returns-in-Refused-clause-refused g c = λ input s.
-    let v = c.args.version in
-    let step = c.args.step in
+    let v = c.args.coding.now.version in
+    let step = c.args.coding.now.step in
     let f = c.in-Ok.ensures.ok in
     let w = c.in-Ok.filled.0 in
     let new = g.S.Source.left c.fill.new.src in

@@ -6,8 +6,8 @@ use Rattle.tile_workers.proofs.workers.+encode_halves+fn-encode_halves-join+arg2
 
 pub returns-clause-encoded : goal.returns-clause-encoded
 returns-clause-encoded g t c =
-    let v = c.args.version in
-    let step = c.args.step in
+    let v = c.args.coding.version in
+    let step = c.args.coding.step in
     let front = c.split_at.result.0.now in
     let back = c.split_at.result.1.now in
     halves_encoded v step c.args.tiles.now front back c.share-middle.result c.split_at.ensures.front c.split_at.ensures.back

@@ -5,5 +5,5 @@ use Rattle.tile_workers.proofs.workers.encode_run.Given as goal
 
 abbrev pub invariant-loop-i : goal.invariant-loop-i
 invariant-loop-i g l =
-    (l.blobs.items ≡ map (λ t. chosen_bands None t l.version l.step) (take l.i l.tiles))
-    × All (IsEncodedSo l.version l.step) (take l.i l.tiles)
+    (l.blobs.items ≡ map (λ t. chosen_bands None t l.coding.0 l.coding.1.0) (take l.i l.tiles))
+    × All (IsEncodedSo l.coding.0 l.coding.1.0) (take l.i l.tiles)

@@ -3,8 +3,8 @@ use Rattle.std.proofs.lemmas.Int.{to_z-of_z}
 use Rattle.std.proofs.lemmas.Result.{on_err_weaker, on_ok_weaker}
 use Rattle.outside_io.proofs.StreamLemmas.Gives.{HoldsPrefix_front, HoldsPrefix_join, Holds_join}
 use Rattle.byteorder.specs.Endian.{little_bytes}
-use Rattle.raster_values.specs.Grid.{grid_of}
-use Rattle.raster_values.specs.PixelType.{complement_of}
+use Rattle.raster_grids.specs.Grid.{grid_of}
+use Rattle.raster_cells.specs.PixelType.{complement_of}
 use Rattle.ascii_grid.proofs.PageSteps.{fits, on_err}
 use Rattle.ascii_grid.proofs.lga.writing.give_last.Goals as goal
 

@@ -22,7 +22,7 @@ fill-requires-clause-size g c =
 
 pub write_records-requires-clause-end : goal.write_records-requires-clause-end
 write_records-requires-clause-end g c = λ told_1.
-    let told_0 = sym c.write.ensures.told ∙ told_1 in
+    let told_0 = sym c.write.ensures.told.same ∙ told_1 in
     let map = table_map c.args.tiles.now c.args.table.now in
     let old = current (g.V.Volume.history c.args.vol.now) in
     let one = current (g.V.Volume.history c.write.new.vol) in
@@ -36,7 +36,7 @@ write_records-requires-clause-end g c = λ told_1.
 
 pub returns-clause-bundle : goal.returns-clause-bundle
 returns-clause-bundle g c = λ told_0.
-    let told_1 = c.write.ensures.told ∙ told_0 in
+    let told_1 = c.write.ensures.told.same ∙ told_0 in
     let map = table_map c.args.tiles.now c.args.table.now in
     let are = c.requires.tiles in
     let old = current (g.V.Volume.history c.args.vol.now) in
@@ -52,7 +52,7 @@ returns-clause-bundle g c = λ told_0.
     let fronted : one.bundle.now ≡ fresh_header (greatest_size map 16384) (131136 + total) ++ entries map 16384 = front.bundle ∙ ap (λ (l : List ℕ). l ++ (head ++ words)) nothing ∙ (λ i. header i ++ c.fill.ensures.index i) in
     let whole : last.bundle.now ≡ layout map = recs.bundle ∙ ap (λ (l : List ℕ). l ++ records map 16384) fronted
     ∙ append_assoc (fresh_header (greatest_size map 16384) (131136 + total)) (entries map 16384) (records map 16384) ∙ sym (is_layout map are) in
-    on_ok_weaker c.sync.result (λ is. ap (λ (d : Disk). d.bundle) is ∙ ap settled whole) (c.sync.ensures.ok (c.write_records.ensures.told ∙ told_1))
+    on_ok_weaker c.sync.result (λ is. ap (λ (d : Disk). d.bundle) is ∙ ap settled whole) (c.sync.ensures.ok (c.write_records.ensures.told.same ∙ told_1))
 
 pub returns-in_err-write-clause-keeps : goal.returns-in_err-write-clause-keeps
 returns-in_err-write-clause-keeps g c =
@@ -68,11 +68,11 @@ returns-clause-keeps g c =
 
 pub returns-in_err-write_records-clause-during : goal.returns-in_err-write_records-clause-during
 returns-in_err-write_records-clause-during g c = λ told.
-    journal_on _ _ _ (c.write.ensures.during told) (c.write_records.ensures.during (c.write.ensures.told ∙ told))
+    journal_on _ _ _ (c.write.ensures.during told) (c.write_records.ensures.during (c.write.ensures.told.same ∙ told))
 
 pub returns-clause-during : goal.returns-clause-during
 returns-clause-during g c = λ told.
-    let told_1 = c.write.ensures.told ∙ told in
+    let told_1 = c.write.ensures.told.same ∙ told in
     let written = journal_on _ _ _ (c.write.ensures.during told) (c.write_records.ensures.during told_1) in
-    let syncing = c.sync.ensures.crash (c.write_records.ensures.told ∙ told_1) in
+    let syncing = c.sync.ensures.crash (c.write_records.ensures.told.same ∙ told_1) in
     journal_stays _ _ _ _ written c.sync.ensures.time syncing.other

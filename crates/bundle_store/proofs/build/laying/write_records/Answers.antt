@@ -44,6 +44,6 @@ loop-slot-preserved g c =
             bundle = now.bundle ∙ ap (λ (l : List ℕ). l ++ more) was.bundle ∙ append_assoc old.bundle.now (records map n) more ∙ ap (λ (l : List ℕ). old.bundle.now ++ l) (sym step);
           };
       during = λ told. during_join (KeepsJournal old) _ _ _ (inv.during told) (during_map _ (KeepsJournal old) _ _ (λ d keeps. record { journal = keeps.journal ∙ (inv.done told).journal }) (c.write_slot.ensures.during (inv.told ∙ told)));
-      told = c.write_slot.ensures.told ∙ inv.told;
-      counted = c.in_ok-at.ensures.counted ∙ inv.counted;
+      told = c.write_slot.ensures.told.same ∙ inv.told;
+      counted = c.in_ok-at.ensures.told.counted ∙ inv.counted;
     }

@@ -1,6 +1,6 @@
-use Rattle.std.proofs.Common.{◌≡◌, ◌⊎◌, inl, inr, refl, ℕ, List, sym, ap, ◌∙◌, ◌∷◌, drop}
+use Rattle.std.proofs.Common.{◌≡◌, ◌⊎◌, inl, inr, refl, ℕ, List, sym, ap, subst, ◌∙◌, ◌∷◌, drop}
 use Rattle.std.proofs.lemmas.Result.{IfOk-from_err, on_ok_weaker}
-use Rattle.outside_io.specs.volume.Disk.{Disk, File, settled}
+use Rattle.outside_io.specs.volume.Disk.{Disk, File, IsSettled, settled}
 use Rattle.outside_io.specs.volume.History.{current}
 use Rattle.outside_io.proofs.VolumeLemmas.Moments.{during_join, during_map}
 use Rattle.bundle_store.specs.GroupPuts.{with_entries}
@@ -18,7 +18,7 @@ returns-in_err-open_gate-clause-images g c = λ told.
     let j = (current old).journal.now in
     let Either : TileMap → Type 0 = λ map. (map ≡ tiles b) ⊎ (map ≡ tiles (with_entries c.args.header.now c.args.group.now b)) in
     let Pass : Disk → Type 0 = λ d. IsReadable b → AreUnderWay b j c.args.group.now c.args.header.now → EachImage Either d in
-    during_map _ Pass _ _ (λ d keeps is way. in_group_opening b j c.args.group.now c.args.header.now Either (current old) d (c.requires.whole told) way is (inl refl) (inr refl) (c.requires.bundle told) refl keeps) (c.open_gate.ensures.during told)
+    during_map _ Pass _ _ (λ d keeps is way. in_group_opening b j c.args.group.now c.args.header.now Either (current old) d (c.requires.whole told) way is (inl refl) (inr refl) (c.requires.quiet told).bundle refl keeps) (c.open_gate.ensures.during told)
 
 pub returns-clause-images : goal.returns-clause-images
 returns-clause-images g c = λ told.
@@ -29,7 +29,7 @@ returns-clause-images g c = λ told.
     let es = c.args.group.now in
     let Either : TileMap → Type 0 = λ map. (map ≡ tiles b) ⊎ (map ≡ tiles (with_entries h es b)) in
     let Pass : Disk → Type 0 = λ d. IsReadable b → AreUnderWay b j es h → EachImage Either d in
-    let opening = during_map _ Pass _ _ (λ d keeps is way. in_group_opening b j es h Either (current old) d (c.requires.whole told) way is (inl refl) (inr refl) (c.requires.bundle told) refl keeps) (c.open_gate.ensures.during told) in
+    let opening = during_map _ Pass _ _ (λ d keeps is way. in_group_opening b j es h Either (current old) d (c.requires.whole told) way is (inl refl) (inr refl) (c.requires.quiet told).bundle refl keeps) (c.open_gate.ensures.during told) in
     let told_1 = c.open_gate.ensures.told ∙ told in
     let done = c.in_ok-open_gate.ensures.done told in
     let next = current (g.V.Volume.history c.open_gate.new.vol) in
@@ -52,8 +52,12 @@ pub returns-in_err-open_gate-clause-done : goal.returns-in_err-open_gate-clause-
 returns-in_err-open_gate-clause-done g c = λ told.
     IfOk-from_err c.from_residual.result _ c.from_residual.ensures.0
 
-pub redo-requires-clause-journal : goal.redo-requires-clause-journal
-redo-requires-clause-journal g c = λ told_1.
+pub redo-requires-clause-quiet : goal.redo-requires-clause-quiet
+redo-requires-clause-quiet g c = λ told_1.
     let told = sym c.open_gate.ensures.told ∙ told_1 in
-    let now = ap (λ (d : Disk). d.journal) (c.in_ok-open_gate.ensures.done told) in
-    now ∙ ap (λ (f : File). settled f.now) (sym now)
+    let bundle = ap (λ (d : Disk). d.bundle) (c.in_ok-open_gate.ensures.done told) in
+    let journal = ap (λ (d : Disk). d.journal) (c.in_ok-open_gate.ensures.done told) in
+    record {
+      bundle = subst IsSettled (sym bundle) (c.requires.quiet told).bundle;
+      journal = journal ∙ ap (λ (f : File). settled f.now) (sym journal);
+    }

@@ -26,31 +26,31 @@ returns-in_err-stage-clause-images g c = λ told.
 
 pub apply_body-requires-clause-long : goal.apply_body-requires-clause-long
 apply_body-requires-clause-long g c = λ told_1.
-    let told = sym c.stage.ensures.told ∙ told_1 in
+    let told = sym c.stage.ensures.told.same ∙ told_1 in
     let b = (current (g.V.Volume.history c.args.vol.now)).bundle.now in
     let now = ap (λ (d : Disk). length d.bundle.now) (c.in_ok-stage.ensures.done told) in
     omega (arith, now, length-append b (group_records c.args.updates.now), c.requires.least told, c.requires.end told)
 
 pub apply_body-requires-clause-within : goal.apply_body-requires-clause-within
 apply_body-requires-clause-within g c = λ told_1.
-    let told = sym c.stage.ensures.told ∙ told_1 in
+    let told = sym c.stage.ensures.told.same ∙ told_1 in
     let b = (current (g.V.Volume.history c.args.vol.now)).bundle.now in
     let now = ap (λ (d : Disk). length d.bundle.now) (c.in_ok-stage.ensures.done told) in
     omega (arith, now, length-append b (group_records c.args.updates.now), c.requires.names, c.requires.end told)
 
 pub apply_body-requires-clause-holds : goal.apply_body-requires-clause-holds
 apply_body-requires-clause-holds g c = λ told_1.
-    ap (λ (d : Disk). d.journal.now) (c.in_ok-stage.ensures.done (sym c.stage.ensures.told ∙ told_1))
+    ap (λ (d : Disk). d.journal.now) (c.in_ok-stage.ensures.done (sym c.stage.ensures.told.same ∙ told_1))
 
-pub apply_body-requires-clause-bundle : goal.apply_body-requires-clause-bundle
-apply_body-requires-clause-bundle g c = λ told_1.
-    let now = ap (λ (d : Disk). d.bundle) (c.in_ok-stage.ensures.done (sym c.stage.ensures.told ∙ told_1)) in
-    now ∙ ap (λ (f : File). settled f.now) (sym now)
-
-pub apply_body-requires-clause-journal : goal.apply_body-requires-clause-journal
-apply_body-requires-clause-journal g c = λ told_1.
-    let now = ap (λ (d : Disk). d.journal) (c.in_ok-stage.ensures.done (sym c.stage.ensures.told ∙ told_1)) in
-    now ∙ ap (λ (f : File). settled f.now) (sym now)
+pub apply_body-requires-clause-quiet : goal.apply_body-requires-clause-quiet
+apply_body-requires-clause-quiet g c = λ told_1.
+    let done = c.in_ok-stage.ensures.done (sym c.stage.ensures.told.same ∙ told_1) in
+    let bundle = ap (λ (d : Disk). d.bundle) done in
+    let journal = ap (λ (d : Disk). d.journal) done in
+    record {
+      bundle = bundle ∙ ap (λ (f : File). settled f.now) (sym bundle);
+      journal = journal ∙ ap (λ (f : File). settled f.now) (sym journal);
+    }
 
 pub returns-clause-images : goal.returns-clause-images
 returns-clause-images g c = λ told.
@@ -66,13 +66,13 @@ returns-clause-images g c = λ told.
     let applying = during_map _ Pass _ _ (λ d each is readable. weaker Next Either d (λ map either. elim either [
       | inl same ↦ inl (same ∙ ap tiles bundle ∙ front_tiles b more is)
       | inr put ↦ inr (put ∙ ap (λ (l : List ℕ). tiles (with_body c.args.body.now l)) bundle)
-    ]) (each (subst IsReadable (sym bundle) (inr (front_bundle b more is))) (subst (λ (l : List ℕ). IsReadable (with_body c.args.body.now l)) (sym bundle) readable))) (c.apply_body.ensures.images (c.stage.ensures.told ∙ told)) in
+    ]) (each (subst IsReadable (sym bundle) (inr (front_bundle b more is))) (subst (λ (l : List ℕ). IsReadable (with_body c.args.body.now l)) (sym bundle) readable))) (c.apply_body.ensures.images (c.stage.ensures.told.same ∙ told)) in
     during_join Pass _ _ _ staging applying
 
 pub returns-clause-done : goal.returns-clause-done
 returns-clause-done g c = λ told.
     let Done : Disk → Disk = λ d. record { bundle = settled (with_body c.args.body.now d.bundle.now); journal = settled (0 ∷ body_bytes c.args.body.now) } in
-    on_ok_weaker c.apply_body.result (λ is. is ∙ ap Done (c.in_ok-stage.ensures.done told)) (c.apply_body.ensures.done (c.stage.ensures.told ∙ told))
+    on_ok_weaker c.apply_body.result (λ is. is ∙ ap Done (c.in_ok-stage.ensures.done told)) (c.apply_body.ensures.done (c.stage.ensures.told.same ∙ told))
 
 pub returns-in_err-stage-clause-done : goal.returns-in_err-stage-clause-done
 returns-in_err-stage-clause-done g c = λ told.

@@ -20,11 +20,11 @@ returns-in_err-write_all_over-clause-images g c = λ told.
     let b = (current old).bundle.now in
     let j = (current old).journal.now in
     let Pass : Disk → Type 0 = λ d. AreUnderWay b j c.args.group.now c.args.header.now → EachImage (λ map. map ≡ tiles (with_entries c.args.header.now c.args.group.now b)) d in
-    during_map _ Pass _ _ (λ d keeps way. in_all_over b j c.args.group.now c.args.header.now (current old) d (c.requires.opened told) way refl (c.requires.journal told) keeps) (c.write_all_over.ensures.during told)
+    during_map _ Pass _ _ (λ d keeps way. in_all_over b j c.args.group.now c.args.header.now (current old) d (c.requires.opened told) way refl (c.requires.quiet told).journal keeps) (c.write_all_over.ensures.during told)
 
 pub close_gate-requires-clause-whole : goal.close_gate-requires-clause-whole
 close_gate-requires-clause-whole g c = λ told_1.
-    let told = sym c.write_all_over.ensures.told ∙ told_1 in
+    let told = sym c.write_all_over.ensures.told.same ∙ told_1 in
     subst IsWhole (sym (ap (λ (d : Disk). length d.journal.now) (c.in_ok-write_all_over.ensures.done told))) (c.requires.opened told).whole
 
 pub returns-clause-images : goal.returns-clause-images
@@ -33,8 +33,8 @@ returns-clause-images g c = λ told.
     let b = (current old).bundle.now in
     let j = (current old).journal.now in
     let Pass : Disk → Type 0 = λ d. AreUnderWay b j c.args.group.now c.args.header.now → EachImage (λ map. map ≡ tiles (with_entries c.args.header.now c.args.group.now b)) d in
-    let writing = during_map _ Pass _ _ (λ d keeps way. in_all_over b j c.args.group.now c.args.header.now (current old) d (c.requires.opened told) way refl (c.requires.journal told) keeps) (c.write_all_over.ensures.during told) in
-    let told_1 = c.write_all_over.ensures.told ∙ told in
+    let writing = during_map _ Pass _ _ (λ d keeps way. in_all_over b j c.args.group.now c.args.header.now (current old) d (c.requires.opened told) way refl (c.requires.quiet told).journal keeps) (c.write_all_over.ensures.during told) in
+    let told_1 = c.write_all_over.ensures.told.same ∙ told in
     let done = c.in_ok-write_all_over.ensures.done told in
     let bundle = ap (λ (x : Disk). x.bundle) done in
     let journal = ap (λ (x : Disk). x.journal.now) done in
@@ -43,7 +43,7 @@ returns-clause-images g c = λ told.
 
 pub returns-clause-done : goal.returns-clause-done
 returns-clause-done g c = λ told.
-    subst (λ (d : Disk). OnOk c.close_gate.result (current (g.V.Volume.history c.close_gate.new.vol) ≡ change Journal (λ f. settled (0 ∷ drop 1 f.now)) d)) (c.in_ok-write_all_over.ensures.done told) (c.close_gate.ensures.done (c.write_all_over.ensures.told ∙ told))
+    subst (λ (d : Disk). OnOk c.close_gate.result (current (g.V.Volume.history c.close_gate.new.vol) ≡ change Journal (λ f. settled (0 ∷ drop 1 f.now)) d)) (c.in_ok-write_all_over.ensures.done told) (c.close_gate.ensures.done (c.write_all_over.ensures.told.same ∙ told))
 
 pub returns-in_err-write_all_over-clause-bytes : goal.returns-in_err-write_all_over-clause-bytes
 returns-in_err-write_all_over-clause-bytes g c = λ told. during_map _ _ _ _ (λ d keeps. keeps.bundle) (c.write_all_over.ensures.during told)
@@ -51,4 +51,4 @@ returns-in_err-write_all_over-clause-bytes g c = λ told. during_map _ _ _ _ (λ
 pub returns-clause-bytes : goal.returns-clause-bytes
 returns-clause-bytes g c = λ told.
     redo_midway c.args.header.now c.args.group.now _ _ _ _ c.requires.header (new_slots c.args.group.now c.requires.new) (c.requires.long told) (during_map _ _ _ _ (λ d keeps. keeps.bundle) (c.write_all_over.ensures.during told))
-    (ap (λ (d : Disk). d.bundle) (c.in_ok-write_all_over.ensures.done told)) (c.close_gate.ensures.during (c.write_all_over.ensures.told ∙ told))
+    (ap (λ (d : Disk). d.bundle) (c.in_ok-write_all_over.ensures.done told)) (c.close_gate.ensures.during (c.write_all_over.ensures.told.same ∙ told))

@@ -17,7 +17,7 @@ returns-in_err-append_records-clause-images g c = λ told.
     let old = g.V.Volume.history c.args.vol.now in
     let b = (current old).bundle.now in
     let Pass : Disk → Type 0 = λ d. IsBundle b → EachImage (λ map. map ≡ tiles b) d in
-    let appending = during_map _ Pass _ _ (λ d keeps is. in_append b (current old) d is refl (c.requires.journal told) (c.requires.closed told) keeps) (c.append_records.ensures.during told) in
+    let appending = during_map _ Pass _ _ (λ d keeps is. in_append b (current old) d is refl (c.requires.idle told).quiet.journal (c.requires.idle told).closed keeps) (c.append_records.ensures.during told) in
     appending
 
 pub returns-in_err-prepare-clause-images : goal.returns-in_err-prepare-clause-images
@@ -25,9 +25,9 @@ returns-in_err-prepare-clause-images g c = λ told.
     let old = g.V.Volume.history c.args.vol.now in
     let b = (current old).bundle.now in
     let Pass : Disk → Type 0 = λ d. IsBundle b → EachImage (λ map. map ≡ tiles b) d in
-    let appending = during_map _ Pass _ _ (λ d keeps is. in_append b (current old) d is refl (c.requires.journal told) (c.requires.closed told) keeps) (c.append_records.ensures.during told) in
+    let appending = during_map _ Pass _ _ (λ d keeps is. in_append b (current old) d is refl (c.requires.idle told).quiet.journal (c.requires.idle told).closed keeps) (c.append_records.ensures.during told) in
     let whole = b ++ group_records c.args.updates.now in
-    let told_1 = c.append_records.ensures.told ∙ told in
+    let told_1 = c.append_records.ensures.told.same ∙ told in
     let bundle_1 = ap (λ (x : Disk). x.bundle) (c.in_ok-append_records.ensures.done told) in
     let more = group_records c.args.updates.now in
     let preparing = during_join Pass _ _ _ appending (during_map _ Pass _ _ (λ d keeps is. in_closed whole (λ map. map ≡ tiles b) (current (g.V.Volume.history c.append_records.new.vol)) d (inr (front_bundle b more is)) (front_tiles b more is) bundle_1 keeps) (c.prepare.ensures.during told_1)) in
@@ -38,9 +38,9 @@ returns-clause-images g c = λ told.
     let old = g.V.Volume.history c.args.vol.now in
     let b = (current old).bundle.now in
     let Pass : Disk → Type 0 = λ d. IsBundle b → EachImage (λ map. map ≡ tiles b) d in
-    let appending = during_map _ Pass _ _ (λ d keeps is. in_append b (current old) d is refl (c.requires.journal told) (c.requires.closed told) keeps) (c.append_records.ensures.during told) in
+    let appending = during_map _ Pass _ _ (λ d keeps is. in_append b (current old) d is refl (c.requires.idle told).quiet.journal (c.requires.idle told).closed keeps) (c.append_records.ensures.during told) in
     let whole = b ++ group_records c.args.updates.now in
-    let told_1 = c.append_records.ensures.told ∙ told in
+    let told_1 = c.append_records.ensures.told.same ∙ told in
     let bundle_1 = ap (λ (x : Disk). x.bundle) (c.in_ok-append_records.ensures.done told) in
     let more = group_records c.args.updates.now in
     let preparing = during_join Pass _ _ _ appending (during_map _ Pass _ _ (λ d keeps is. in_closed whole (λ map. map ≡ tiles b) (current (g.V.Volume.history c.append_records.new.vol)) d (inr (front_bundle b more is)) (front_tiles b more is) bundle_1 keeps) (c.prepare.ensures.during told_1)) in
@@ -50,19 +50,19 @@ returns-clause-images g c = λ told.
 
 pub prepare-requires-clause-settled : goal.prepare-requires-clause-settled
 prepare-requires-clause-settled g c = λ told_1.
-    let told = sym c.append_records.ensures.told ∙ told_1 in
+    let told = sym c.append_records.ensures.told.same ∙ told_1 in
     let journal = ap (λ (d : Disk). d.journal) (c.in_ok-append_records.ensures.done told) in
-    subst IsSettled (sym journal) (c.requires.journal told)
+    subst IsSettled (sym journal) (c.requires.idle told).quiet.journal
 
 pub prepare-requires-clause-closed : goal.prepare-requires-clause-closed
 prepare-requires-clause-closed g c = λ told_1.
-    let told = sym c.append_records.ensures.told ∙ told_1 in
+    let told = sym c.append_records.ensures.told.same ∙ told_1 in
     let journal = ap (λ (d : Disk). d.journal) (c.in_ok-append_records.ensures.done told) in
-    subst (λ (f : File). ¬ IsOpen f.now) (sym journal) (c.requires.closed told)
+    subst (λ (f : File). ¬ IsOpen f.now) (sym journal) (c.requires.idle told).closed
 
 pub returns-clause-done : goal.returns-clause-done
 returns-clause-done g c = λ told.
-    let told_1 = c.append_records.ensures.told ∙ told in
+    let told_1 = c.append_records.ensures.told.same ∙ told in
     let appended = ap (λ (d : Disk). d.bundle) (c.in_ok-append_records.ensures.done told) in
     let journal = settled (0 ∷ body_bytes c.args.body.now) in
     let Armed : File → Disk = λ f. record { bundle = f; journal = journal } in

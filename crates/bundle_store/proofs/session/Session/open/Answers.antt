@@ -44,7 +44,7 @@ returns-clause-ok g c = λ told.
     let same : contents Bundle (g.V.Volume.history c.len.new.self) ≡ b = ap (λ (d : Disk). d.bundle.now) (c.len.ensures.disk told) in
     let header : c.in_ok-header.header ≡ take 64 b = c.in_ok-header.ensures.value (c.len.ensures.told ∙ told) ∙ ap (take 64) same in
     let long : 131136 ≤ length b = omega (arith, c.in_ok-len.ensures.answer told, c.if-len-lt-INDEX_END.false) in
-    let told_2 = c.read_header.ensures.told ∙ c.len.ensures.told ∙ told in
+    let told_2 = c.read_header.ensures.told.same ∙ c.len.ensures.told ∙ told in
     let same_2 : contents Bundle (g.V.Volume.history c.read_header.new.vol) ≡ b = ap (λ (d : Disk). d.bundle.now) (c.read_header.ensures.disk (c.len.ensures.told ∙ told)) ∙ same in
     record {
       opens = inr (opened_index b c.in_ok-header.header long header (sym c.fault_of.ensures.value ∙ c.in-None.is));

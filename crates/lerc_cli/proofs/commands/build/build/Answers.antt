@@ -53,5 +53,5 @@ returns-clause-volume g c = λ workers.
     let old = g.V.Volume.history c.args.vol.now in
     let of = subst (λ (us : List TileRec). UpdatesOf (Build c.args.version c.args.error workers) (given (g.S.Source.left c.args.src.now) (files_of (g.V.Volume.told c.args.vol.now) old)) us) (sym c.as_slice.ensures.value) c.in-Ok.ensures.updates in
     rw c.build_end.ensures (build_all_volume c.args.version c.args.error workers _ _ _ g.V.Volume.told g.V.Volume.history g.V.Volume.faults c.args.vol.now c.open_bundle.new.vol c.build_all.new.vol c.in-Ok-open_bundle.session c.as_slice.result.now
-    of (λ is. absurd cc) c.in-Ok-open_bundle.ensures.volume c.in-Ok-open_bundle.ensures.opened c.build_all.ensures.told c.build_all.ensures.later
-    c.build_all.new.marks.marks c.build_all.result c.build_all.ensures.marks c.build_all.ensures.reads c.build_all.ensures.images c.build_all.ensures.kept c.build_all.new.session c.build_all.ensures.ready c.build_all.ensures.volume_failed)
+    of (λ is. absurd cc) c.in-Ok-open_bundle.ensures.volume c.in-Ok-open_bundle.ensures.opened c.build_all.ensures.told.same c.build_all.ensures.later
+    c.build_all.new.marks.marks c.build_all.result c.build_all.ensures.marks c.build_all.ensures.reads c.build_all.ensures.images c.build_all.ensures.kept c.build_all.new.session c.build_all.ensures.ready c.build_all.ensures.told.counted)

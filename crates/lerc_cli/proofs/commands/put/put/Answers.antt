@@ -52,4 +52,4 @@ returns-clause-volume g c = λ workers.
     let old = g.V.Volume.history c.args.vol.now in
     let of = subst (λ (us : List TileRec). UpdatesOf (Put c.args.version c.args.error workers) (given (g.S.Source.left c.args.src.now) (files_of (g.V.Volume.told c.args.vol.now) old)) us) (sym c.as_slice.ensures.value) c.in-Ok.ensures.updates in
     rw c.put_end.ensures (put_all_volume c.args.version c.args.error workers _ _ _ g.V.Volume.told g.V.Volume.history g.V.Volume.faults c.args.vol.now c.open_bundle.new.vol c.put_all.new.vol c.in-Ok-open_bundle.session c.as_slice.result.now c.put_all.new.marks.marks c.put_all.result
-    of (λ is. absurd cc) c.in-Ok-open_bundle.ensures.volume c.in-Ok-open_bundle.ensures.opened c.put_all.ensures.volume_failed c.put_all.ensures.told c.put_all.new.session c.put_all.ensures.ended.leaves)
+    of (λ is. absurd cc) c.in-Ok-open_bundle.ensures.volume c.in-Ok-open_bundle.ensures.opened c.put_all.ensures.told.counted c.put_all.ensures.told.same c.put_all.new.session c.put_all.ensures.ended.leaves)

@@ -2,7 +2,7 @@ use Rattle.std.proofs.Common.{subst, ◌∙◌}
 use Rattle.std.proofs.lemmas.Result.{on_err_weaker}
 use Rattle.outside_io.specs.streams.Sink.{Holds, HoldsPrefix}
 use Rattle.outside_io.proofs.StreamLemmas.Gives.{HoldsPrefix_front, HoldsPrefix_join}
-use Rattle.raster_values.proofs.Pack.{on_err}
+use Rattle.raster_cells.proofs.Pack.{on_err}
 use Rattle.lerc_cli.specs.answers.Outline.{shape_lines, value_lines}
 use Rattle.lerc_cli.proofs.telling.outline.give_outline.Goals as goal
 

@@ -1,0 +1,10 @@
+use Rattle.raster_values.specs.Flat.{marks_of}
+use Rattle.lerc_decode.specs.inside.Blocks.{HasRead, block_number}
+use Rattle.lerc_decode.specs.inside.Body.{KeepsFrame}
+use Rattle.lerc_decode.proofs.blob.blocks.read_rows.Given as goal
+
+abbrev pub invariant-loop-a : goal.invariant-loop-a
+invariant-loop-a g l = record {
+  frame : KeepsFrame (g.T.Target.pixels l.fn.raster) (g.T.Target.pixels l.raster) (g.T.Target.kept l.fn.raster) (g.T.Target.kept l.raster);
+  read : HasRead l.header (marks_of (g.T.Target.pixels l.fn.raster)) l.tops l.rest (block_number l.header l.a 0 0) l.at (g.T.Target.pixels l.raster);
+}

@@ -1,0 +1,9 @@
+//! Blobs that come in pieces, one or all of a tile, and those of a source.
+
+pub(crate) mod bands;
+pub(crate) mod bands_source;
+pub(crate) mod decoder;
+pub(crate) mod from_source;
+pub(crate) mod front_blobs;
+pub(crate) mod kept;
+pub(crate) mod turns;

@@ -1,5 +1,0 @@
-use Rattle.raster_values.proofs.Taken.{on_err_some}
-use Rattle.raster_values.proofs.ahead.Ahead.fill.Goals as goal
-
-pub returns-in_err-n-clause-err : goal.returns-in_err-n-clause-err
-returns-in_err-n-clause-err g c = on_err_some c.from_residual.result _ _ _ c.in_err-n.ensures.err

@@ -1,9 +1,0 @@
-use Rattle.std.proofs.Common.{◌≡◌, ◌+◌, ◌*◌, ◌∙◌, ℕ, ap, arith}
-use Rattle.raster_values.proofs.cell_bytes.CellBytes.get_distances_as.Goals as goal
-
-pub returns-then-out-eq8 : goal.returns-then-out-eq8
-returns-then-out-eq8 c =
-    let none : c.args.d ≡ 0 = omega (arith, c.requires.depth, c.if-depth-eq1.true) in
-    let place : (k : ℕ) → k * c.args.depth + c.args.d ≡ k =
-    λ k. ap (λ n. k * n + c.args.d) c.if-depth-eq1.true ∙ omega (arith, none) in
-    simp (place, c.if-out-eq8.true) c.get_eight_as.ensures

@@ -1,7 +1,0 @@
-use Rattle.std.proofs.Common.{◌≡◌, ◌<◌, ◌+◌, ◌*◌, ℕ, get_or}
-use Rattle.std.specs.Prelude.{pos}
-use Rattle.raster_values.specs.Distance.{distance_of}
-use Rattle.raster_values.proofs.cell_bytes.CellBytes.get_steps_as.Given as goal
-
-abbrev pub invariant-loop-i : goal.invariant-loop-i
-invariant-loop-i l = (k : ℕ) → k < l.i → get_or l.out k 0 ≡ distance_of l.self.kind (get_or l.self.values ((l.first + k) * l.depth + l.d) (pos 0))

@@ -1,6 +1,0 @@
-use Rattle.std.proofs.Common.{arith}
-use Rattle.raster_values.proofs.MaskBytes.{spread_bit}
-use Rattle.raster_values.proofs.mask.spread.Goals as goal
-
-pub returns : goal.returns
-returns c = λ q below. spread_bit c.args.byte q (omega (arith, c.ranges.byte)) below

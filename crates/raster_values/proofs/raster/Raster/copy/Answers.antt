@@ -1,4 +1,0 @@
-use Rattle.raster_values.proofs.raster.Raster.copy.Goals as goal
-
-pub invariant_of-result : goal.invariant_of-result
-invariant_of-result c = rw (c.in_ok-copy.ensures, c.in_ok-copy-2.ensures) c.self.invariant

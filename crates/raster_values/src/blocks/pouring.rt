@@ -1,0 +1,194 @@
+//! Values put into the marked pixels of a window.
+
+ghost use Rattle.std.specs.Prelude.{◌≡◌, ℕ, ◌+◌, ◌*◌, ◌<◌, ◌≤◌, true, false, length, get_or, All};
+ghost use Rattle.raster_cells.specs.PixelType.{InRange};
+ghost use Rattle.raster_cells.specs.Words.{AreMarks};
+ghost use Rattle.raster_values.specs.inside.Runs.{PoursRun};
+ghost use Rattle.raster_cells.specs.inside.Runs.{run_places};
+ghost use Rattle.raster_cells.specs.inside.CellList.{AreOf, KeepsForm};
+ghost use Rattle.raster_values.specs.inside.Windows.{IsWithin, PoursRows, window_places};
+
+use crate::blocks::window::{Channel, Window};
+use raster_cells::{Given, Marked, PixelType, Valued, by_kind, put_marked_as, put_pixels_as};
+
+/// Gives the marked ones among `count` pixels from `from` on, whose marks are the bits of the word,
+/// the values that are given from number `at` on, and answers where these end. Each pixel is written,
+/// one that is not marked with what stands there, so that only places depend on marks, and no jump
+/// does.
+#[inline(always)]
+fn pour_mixed<M: Marked, V: Valued, G: Given>(
+    channel: &Channel<M>,
+    word: u32,
+    from: usize,
+    count: usize,
+    given: &G,
+    at: usize,
+    values: &mut V,
+) -> usize
+    requires values { AreOf channel.now.kind channel.now.depth (length (M.marks channel.now.marks.now)) (V.cells values.old) }
+    requires within { from + count ≤ length (M.marks channel.now.marks.now) }
+    requires in_range { All (InRange channel.now.kind) (G.listed given.now) }
+    requires room { at + length (run_places (M.marks channel.now.marks.now) from count) ≤ length (G.listed given.now) }
+    requires short { count ≤ 32 }
+    requires word { AreMarks (M.marks channel.now.marks.now) from count word }
+    ensures poured { PoursRun channel.now.depth channel.now.d (M.marks channel.now.marks.now) (G.listed given.now)
+        (V.cells values.old).values (V.cells values.new).values from count at result }
+    ensures form { KeepsForm (V.cells values.old) (V.cells values.new) }
+    ensures kept { V.kept values.new ≡ V.kept values.old }
+{
+    // for the proof: `len` ensures that there are no more values than a `usize` counts
+    let _ = given.len();
+    let mut n = at;
+    for i in 0..count {
+        let mark = (word >> (count - 1 - i)) % 2;
+        let value = given.at_as(channel.kind, n);
+        let place = (from + i) * channel.depth + channel.d;
+        put_marked_as(values, channel.kind, place, mark, value);
+        n += mark as usize;
+    }
+    n
+}
+
+/// Does what `pour_mixed` does, for at most 32 pixels of any marks.
+#[inline(always)]
+fn pour_word<M: Marked, V: Valued, G: Given>(
+    channel: &Channel<M>,
+    from: usize,
+    count: usize,
+    given: &G,
+    at: usize,
+    values: &mut V,
+) -> usize
+    requires some { 0 < count }
+    requires short { count ≤ 32 }
+    requires values { AreOf channel.now.kind channel.now.depth (length (M.marks channel.now.marks.now)) (V.cells values.old) }
+    requires within { from + count ≤ length (M.marks channel.now.marks.now) }
+    requires in_range { All (InRange channel.now.kind) (G.listed given.now) }
+    requires room { at + length (run_places (M.marks channel.now.marks.now) from count) ≤ length (G.listed given.now) }
+    ensures poured { PoursRun channel.now.depth channel.now.d (M.marks channel.now.marks.now) (G.listed given.now)
+        (V.cells values.old).values (V.cells values.new).values from count at result }
+    ensures form { KeepsForm (V.cells values.old) (V.cells values.new) }
+    ensures kept { V.kept values.new ≡ V.kept values.old }
+{
+    // for the proof: `len` ensures that there are no more values than a `usize` counts
+    let _ = given.len();
+    let word = channel.marks.word(from, count);
+    if word == 0 {
+        return at;
+    }
+    if word == u32::MAX >> (32 - count) {
+        let (kind, depth, d) = (channel.kind, channel.depth, channel.d);
+        put_pixels_as(values, kind, from, depth, d, given, at, count);
+        return at + count;
+    }
+    pour_mixed(channel, word, from, count, given, at, values)
+}
+
+/// Gives the marked pixels among `count` from `from` on, which are all of these where `all` says
+/// so, the values that are given from number `at` on, and answers where these end.
+#[inline(always)]
+fn pour_run<M: Marked, V: Valued, G: Given>(
+    channel: &Channel<M>,
+    from: usize,
+    count: usize,
+    all: bool,
+    given: &G,
+    at: usize,
+    values: &mut V,
+) -> usize
+    requires values { AreOf channel.now.kind channel.now.depth (length (M.marks channel.now.marks.now)) (V.cells values.old) }
+    requires within { from + count ≤ length (M.marks channel.now.marks.now) }
+    requires in_range { All (InRange channel.now.kind) (G.listed given.now) }
+    requires room { at + length (run_places (M.marks channel.now.marks.now) from count) ≤ length (G.listed given.now) }
+    requires all { all ≡ true → (k : ℕ) → from ≤ k → k < from + count
+        → get_or (M.marks channel.now.marks.now) k false ≡ true }
+    ensures poured { PoursRun channel.now.depth channel.now.d (M.marks channel.now.marks.now) (G.listed given.now)
+        (V.cells values.old).values (V.cells values.new).values from count at result }
+    ensures form { KeepsForm (V.cells values.old) (V.cells values.new) }
+    ensures kept { V.kept values.new ≡ V.kept values.old }
+{
+    // for the proof: `len` ensures that there are no more values than a `usize` counts
+    let _ = given.len();
+    if all {
+        let (kind, depth, d) = (channel.kind, channel.depth, channel.d);
+        put_pixels_as(values, kind, from, depth, d, given, at, count);
+        return at + count;
+    }
+    let end = from + count;
+    let mut n = at;
+    let mut k = from;
+    while k < end {
+        let more = (end - k).min(32);
+        n = pour_word(channel, k, more, given, n, values);
+        k += more;
+    }
+    n
+}
+
+/// Gives a window's marked pixels the values that are given. The type is known before.
+#[inline(always)]
+fn pour_rows_as<M: Marked, V: Valued, G: Given>(
+    channel: &Channel<M>,
+    window: Window,
+    given: &G,
+    values: &mut V,
+)
+    requires values { AreOf channel.now.kind channel.now.depth (length (M.marks channel.now.marks.now)) (V.cells values.old) }
+    requires within { IsWithin window (length (M.marks channel.now.marks.now)) }
+    requires in_range { All (InRange channel.now.kind) (G.listed given.now) }
+    requires count { length (G.listed given.now) ≡ length (window_places window (M.marks channel.now.marks.now)) }
+    ensures poured { PoursRows channel.now.depth channel.now.d (M.marks channel.now.marks.now) window (G.listed given.now)
+        (V.cells values.old) (V.cells values.new) }
+    ensures kept { V.kept values.new ≡ V.kept values.old }
+{
+    let all = given.len() == window.high * window.wide;
+    let mut n = 0;
+    for i in window.row..window.row + window.high {
+        let from = i * window.cols + window.col;
+        n = pour_run(channel, from, window.wide, all, given, n, values);
+    }
+}
+
+/// Does what `pour_rows` does, row by row.
+fn pour_each_row<M: Marked, V: Valued, G: Given>(
+    channel: &Channel<M>,
+    window: Window,
+    given: &G,
+    values: &mut V,
+)
+    requires values { AreOf channel.now.kind channel.now.depth (length (M.marks channel.now.marks.now)) (V.cells values.old) }
+    requires within { IsWithin window (length (M.marks channel.now.marks.now)) }
+    requires in_range { All (InRange channel.now.kind) (G.listed given.now) }
+    requires count { length (G.listed given.now) ≡ length (window_places window (M.marks channel.now.marks.now)) }
+    ensures poured { PoursRows channel.now.depth channel.now.d (M.marks channel.now.marks.now) window (G.listed given.now)
+        (V.cells values.old) (V.cells values.new) }
+    ensures kept { V.kept values.new ≡ V.kept values.old }
+{
+    let (marks, depth, d) = (channel.marks, channel.depth, channel.d);
+    by_kind!(channel.kind, kind => {
+        pour_rows_as(&Channel { marks, kind, depth, d }, window, given, values)
+    })
+}
+
+/// Gives a window's marked pixels the values that are given. Whole rows lie one behind another: they
+/// are one row.
+pub(crate) fn pour_rows<M: Marked, V: Valued, G: Given>(
+    channel: &Channel<M>,
+    window: Window,
+    given: &G,
+    values: &mut V,
+)
+    requires values { AreOf channel.now.kind channel.now.depth (length (M.marks channel.now.marks.now)) (V.cells values.old) }
+    requires within { IsWithin window (length (M.marks channel.now.marks.now)) }
+    requires in_range { All (InRange channel.now.kind) (G.listed given.now) }
+    requires count { length (G.listed given.now) ≡ length (window_places window (M.marks channel.now.marks.now)) }
+    ensures poured { PoursRows channel.now.depth channel.now.d (M.marks channel.now.marks.now) window (G.listed given.now)
+        (V.cells values.old) (V.cells values.new) }
+    ensures kept { V.kept values.new ≡ V.kept values.old }
+{
+    if window.wide == window.cols && window.high > 0 {
+        pour_each_row(channel, window.one_row(), given, values);
+    } else {
+        pour_each_row(channel, window, given, values);
+    }
+}

@@ -1,0 +1,7 @@
+//! Rasters: one that keeps its pixels, those in a caller's arrays, and the bands of a tile.
+
+pub(crate) mod bands;
+pub(crate) mod lent;
+pub(crate) mod lent_cells;
+pub(crate) mod raster;
+pub(crate) mod seen;
