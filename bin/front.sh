@@ -27,10 +27,12 @@ show_page() {
     fi
 }
 
-# Becomes a program: its name, its file, and its words.
+# Becomes a program: its name, its file, and its words. Where files may not grow so far (ulimit -f) a write of it fails, as
+# one to a pipe that nobody reads does, and no signal ends it before it has said so.
 become() {
     local name=$1 file=$2
     shift 2
+    trap '' XFSZ
     if is_watched && lacks_command "$name" "$@"; then
         "$file" "$@"
         end_with_hint $? "$name"

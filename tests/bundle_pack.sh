@@ -161,6 +161,10 @@ begins_as none none
 mkdir folder
 expect 'a folder in the place of a source' 5 nothing 'volume failed' plainly disk bundle_1 folder
 expect 'a source without a path' 5 nothing 'volume failed' plainly disk -
+expect 'a source whose path has no bytes' 5 nothing 'volume failed' plainly disk ''
+expect 'a target whose path has no bytes' 5 nothing 'volume failed' plainly '' bundle_1
+if [ -e .jnl ]; then holds=no; else holds=yes; fi
+count 'and no journal is made for it' "$holds"
 expect 'a path that is no text' 5 nothing 'volume failed' plainly disk "$(printf 'a\377')"
 leaves 'no target is made' none none
 expect 'a folder in the place of the target' 5 nothing 'volume failed' plainly folder bundle_1

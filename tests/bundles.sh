@@ -231,6 +231,7 @@ for words in recover list check 'get 0 0' 'get 0 0 raw'; do
     # shellcheck disable=SC2086
     {
         expect "$words: no bundle's path" 5 nothing "$no_volume" plainly - $words
+        expect "$words: a path of no bytes" 5 nothing "$no_volume" plainly '' $words
         expect "$words: a path that is no UTF-8" 5 nothing "$no_volume" plainly "$bad_text" $words
         expect "$words: a file in a folder's place" 5 nothing "$no_volume" plainly blob/disk $words
         rm -rf disk disk.jnl

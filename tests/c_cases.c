@@ -90,7 +90,7 @@ static void bands_come_back(const char *name, struct shape s, uint32_t masks) {
     size_t values_size = s.bands * values_of(s), masks_size = s.bands * mask_of(s);
     uint8_t *values = room(values_size), *back = room(values_size), *blobs = room(most);
     uint8_t *given = room(masks_size), *found = room(masks_size);
-    uint32_t bands = 0;
+    uint32_t bands = 0, headed = 0;
     struct futskheri_fault fault;
     fill(values, values_size);
     for (uint32_t b = 0; b < s.bands; b++)
@@ -103,7 +103,13 @@ static void bands_come_back(const char *name, struct shape s, uint32_t masks) {
     for (uint32_t b = 0; b < s.bands; b++)
         clear(s, given + b * mask_of(s), values + b * values_of(s));
     holds = holds && futskheri_count_bands(blobs, size, &bands, &fault) == FUTSKHERI_OK && bands == s.bands
+        && futskheri_bands_of_headers(blobs, size, &headed, &fault) == FUTSKHERI_OK && headed == s.bands
         && futskheri_decode_bands(blobs, size, bands, back, values_size, found, masks_size, &fault) == FUTSKHERI_OK
+        && memcmp(values, back, values_size) == 0 && memcmp(given, found, masks_size) == 0;
+    memset(back, 255, values_size);
+    memset(found, 255, masks_size);
+    holds = holds
+        && futskheri_decode_bands_over(blobs, size, bands, back, values_size, found, masks_size, &fault) == FUTSKHERI_OK
         && memcmp(values, back, values_size) == 0 && memcmp(given, found, masks_size) == 0;
     count(name, holds);
     free(values), free(back), free(blobs), free(given), free(found);
@@ -163,10 +169,137 @@ static void sizes_of_decode(void) {
     for (size_t n = 0; n <= sizeof back; n++)
         for (size_t m = 0; m <= sizeof mask; m++)
             if (n != 4 || m != 1)
-                holds = holds && futskheri_decode(blob, size, back, n, mask, m, &fault) == FUTSKHERI_BAD_SIZES;
+                holds = holds && futskheri_decode(blob, size, back, n, mask, m, &fault) == FUTSKHERI_BAD_SIZES
+                    && futskheri_decode_over(blob, size, back, n, mask, m, &fault) == FUTSKHERI_BAD_SIZES;
     for (size_t i = 0; i < sizeof back; i++)
         holds = holds && back[i] == 170 && mask[i % sizeof mask] == 170;
     count("arrays of other lengths", holds && fault.place == 9 && fault.reason == 9);
+}
+
+/* Whether decode_bands_over answers this and tells no fault. */
+static int over_is(uint32_t wanted, const uint8_t *tile, uint64_t size, uint32_t bands, uint8_t *values, size_t n,
+                   uint8_t *masks, size_t m) {
+    struct futskheri_fault fault = {9, 9, 9, 9};
+    return futskheri_decode_bands_over(tile, size, bands, values, n, masks, m, &fault) == wanted && fault.place == 9
+        && fault.reason == 9;
+}
+
+/* Two bands of one row of two pixels, the second with the mask of the first, into arrays: of other lengths, for other
+ * numbers of bands, cut at each length, and with a wrong value. */
+static void bands_over(void) {
+    uint8_t values[4] = {1, 0, 3, 0}, mask = 128, tile[512], back[64], masks[32];
+    uint64_t size = 0;
+    struct futskheri_head head;
+    struct futskheri_fault fault;
+    int holds = futskheri_encode_bands(FUTSKHERI_U8, 1, 2, 1, 2, 4, 0, values, 4, &mask, 1, tile, sizeof tile, &size)
+            == FUTSKHERI_OK
+        && futskheri_header(tile, size, &head, &fault) == FUTSKHERI_OK;
+    memset(back, 170, sizeof back);
+    memset(masks, 170, sizeof masks);
+    for (size_t n = 0; n <= 8; n++)
+        for (size_t m = 0; m <= 4; m++)
+            if (n != 4 || m != 2)
+                holds = holds && over_is(FUTSKHERI_BAD_SIZES, tile, size, 2, back, n, masks, m);
+    holds = holds && over_is(FUTSKHERI_BAD_SIZES, tile, size, 0, back, 0, masks, 0)
+        && over_is(FUTSKHERI_BAD_SIZES, tile, size, 17, back, 34, masks, 17)
+        && over_is(FUTSKHERI_BAD_SIZES, tile, 70, 2, back, 5, masks, 2);
+    for (size_t i = 0; i < sizeof back; i++)
+        holds = holds && back[i] == 170 && masks[i % sizeof masks] == 170;
+    count("bands over arrays of other lengths", holds);
+    holds = over_is(FUTSKHERI_BAD_SIZES, tile, size, 1, back, 2, masks, 1)
+        && over_is(FUTSKHERI_BAD_SIZES, tile, size, 3, back, 6, masks, 3);
+    count("more and fewer bands over arrays", holds);
+    holds = over_is(FUTSKHERI_OK, tile, size, 2, back, 4, masks, 2) && memcmp(values, back, 4) == 0 && masks[0] == 128
+        && masks[1] == 128 && over_is(FUTSKHERI_OK, tile, head.size, 1, back, 2, masks, 1);
+    count("bands over arrays, the mask of the band before", holds);
+    for (uint64_t n = 0; holds && n < size; n++) {
+        struct futskheri_fault one = {9, 9, 9, 9}, other = {9, 9, 9, 9};
+        uint32_t got = futskheri_decode_bands_over(tile, n, 2, back, 4, masks, 2, &one);
+        uint32_t wanted = futskheri_decode_bands(tile, n, 2, back, 4, masks, 2, &other);
+        holds = got == wanted && one.place == other.place && one.reason == other.reason;
+    }
+    count("bands over arrays, cut", holds);
+    tile[size - 1] ^= 1;
+    holds = holds && futskheri_decode_bands_over(tile, size, 2, back, 4, masks, 2, &fault) == FUTSKHERI_REFUSED
+        && fault.place == head.size + 10 && fault.reason == 15;
+    count("bands over arrays, a wrong value", holds);
+}
+
+/* Null pointers with the size 0: no mask, and a buffer that is not there yet. */
+static void null_pointers(void) {
+    uint8_t values[4] = {1, 2, 3, 4}, one = 9, mask = 0xb0, blob[512], same[512], back[4];
+    uint64_t wanted = 0, size = 0, again = 0;
+    struct futskheri_fault fault = {9, 9, 9, 9};
+    int holds = futskheri_encode(FUTSKHERI_U8, 2, 2, 1, 3, 0, values, 4, NULL, 0, NULL, 0, &wanted) == FUTSKHERI_NO_ROOM
+        && wanted > 0 && wanted <= sizeof blob
+        && futskheri_encode(FUTSKHERI_U8, 2, 2, 1, 3, 0, values, 4, NULL, 0, blob, wanted, &size) == FUTSKHERI_OK
+        && futskheri_encode(FUTSKHERI_U8, 2, 2, 1, 3, 0, values, 4, &one, 0, same, wanted, &again) == FUTSKHERI_OK
+        && size == wanted && again == wanted && memcmp(blob, same, wanted) == 0;
+    count("a blob without a mask, and its size", holds);
+    memset(back, 170, sizeof back);
+    holds = holds && futskheri_decode(blob, size, back, 4, NULL, 0, &fault) == FUTSKHERI_OK
+        && memcmp(values, back, 4) == 0;
+    memset(back, 170, sizeof back);
+    holds = holds && futskheri_decode(blob, size, back, 3, NULL, 0, &fault) == FUTSKHERI_BAD_SIZES
+        && futskheri_encode(FUTSKHERI_U8, 2, 2, 1, 3, 0, values, 4, &mask, 1, blob, sizeof blob, &size) == FUTSKHERI_OK
+        && futskheri_decode(blob, size, back, 4, NULL, 0, &fault) == FUTSKHERI_BAD_SIZES;
+    for (size_t i = 0; i < sizeof back; i++)
+        holds = holds && back[i] == 170;
+    count("a mask that is not wanted", holds && fault.place == 9);
+    holds = futskheri_encode_bands(FUTSKHERI_U8, 1, 2, 1, 2, 3, 0, values, 4, NULL, 0, NULL, 0, &wanted)
+            == FUTSKHERI_NO_ROOM
+        && wanted > 0 && wanted <= sizeof blob
+        && futskheri_encode_bands(FUTSKHERI_U8, 1, 2, 1, 2, 3, 0, values, 4, NULL, 0, blob, wanted, &size)
+            == FUTSKHERI_OK
+        && size == wanted;
+    memset(back, 170, sizeof back);
+    holds = holds && futskheri_decode_bands(blob, size, 3, back, 4, NULL, 0, &fault) == FUTSKHERI_BAD_SIZES
+        && futskheri_decode_bands(blob, size, 2, back, 3, NULL, 0, &fault) == FUTSKHERI_BAD_SIZES && back[0] == 170
+        && futskheri_decode_bands(blob, size, 2, back, 4, NULL, 0, &fault) == FUTSKHERI_OK
+        && memcmp(values, back, 4) == 0;
+    count("bands without masks, and their size", holds);
+    mask = 0x80;
+    memset(back, 170, sizeof back);
+    holds = futskheri_encode_bands(FUTSKHERI_U8, 1, 2, 1, 2, 3, 0, values, 4, &mask, 1, blob, sizeof blob, &size)
+            == FUTSKHERI_OK
+        && futskheri_decode_bands(blob, size, 2, back, 4, NULL, 0, &fault) == FUTSKHERI_BAD_SIZES && back[0] == 170;
+    count("masks that are not wanted", holds);
+}
+
+/* Whether the headers of the bytes say this: so many bands, or, where that is 0, this fault; nothing else is told. */
+static int headers_say(const uint8_t *tile, size_t size, uint32_t bands, uint64_t place, uint32_t reason) {
+    uint32_t found = 12345;
+    struct futskheri_fault fault = {9, 9, 9, 9};
+    uint32_t got = futskheri_bands_of_headers(tile, size, &found, &fault);
+    if (bands)
+        return got == FUTSKHERI_OK && found == bands && fault.place == 9 && fault.reason == 9;
+    return got == FUTSKHERI_REFUSED && found == 12345 && fault.place == place && fault.reason == reason;
+}
+
+/* A tile of two bands cut at each length; one whose values are not those of its checksum; and of 17 blobs. */
+static void headers_of_tiles(void) {
+    uint8_t values[4] = {1, 2, 3, 4}, tile[17 * 256];
+    uint64_t size = 0;
+    uint32_t bands;
+    struct futskheri_head head;
+    struct futskheri_fault fault;
+    int holds = futskheri_encode_bands(FUTSKHERI_U8, 1, 2, 1, 2, 4, 0, values, 4, NULL, 0, tile, sizeof tile, &size)
+            == FUTSKHERI_OK
+        && futskheri_header(tile, size, &head, &fault) == FUTSKHERI_OK && head.size < size && head.size <= 256;
+    for (uint64_t n = 0; holds && n <= size; n++)
+        holds = headers_say(tile, n, n == head.size ? 1 : n == size ? 2 : 0, n, 1);
+    count("headers of a tile that is cut", holds);
+    tile[size - 1] ^= 1;
+    holds = holds && headers_say(tile, size, 2, 0, 0)
+        && futskheri_count_bands(tile, size, &bands, &fault) == FUTSKHERI_REFUSED;
+    count("headers of a tile with a wrong value", holds);
+    tile[head.size] ^= 1;
+    count("a second key that is none", holds && headers_say(tile, size, 0, head.size, 2));
+    for (size_t k = 1; holds && k < 17; k++)
+        memcpy(tile + k * head.size, tile, head.size);
+    count("16 headers and 17",
+          holds && headers_say(tile, 16 * head.size, 16, 0, 0)
+              && headers_say(tile, 17 * head.size, 0, 16 * head.size, 31));
 }
 
 int main(void) {
@@ -183,6 +316,10 @@ int main(void) {
     bands_come_back("16 bands, 16 masks", (struct shape){FUTSKHERI_I32, 4, 20, 20, 1, 16}, 16);
     refusals_of_bands();
     sizes_of_decode();
+    bands_over();
+    null_pointers();
+    headers_of_tiles();
+    count("the header's version", strcmp(FUTSKHERI_VERSION, VERSION) == 0);
     printf("%d passed, %d failed\n", passed, failed);
     return failed != 0;
 }

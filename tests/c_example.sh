@@ -10,7 +10,9 @@ if ! command -v cc >/dev/null 2>&1; then
 fi
 begin
 library=$("$here/bin/build_c") || exit 1
-over() { cc -std=c99 -Wall -Wextra -Werror -I "$here/include" -o "$room/$1" "$2" "$library"; }
+over() {
+    cc -std=c99 -Wall -Wextra -Werror -DVERSION="\"$(cat "$here/VERSION")\"" -I "$here/include" -o "$room/$1" "$2" "$library"
+}
 for example in tile from_liblerc; do
     over "$example" "$here/examples/c/$example.c" || exit 1
     "$room/$example" >"$room/given" || exit 1

@@ -27,6 +27,7 @@ mkfifo never
 cat >stand_in <<'END_OF_PROGRAM'
 #!/usr/bin/env bash
 echo "begins $*" >>"$room/events"
+sed -n 's/^SigIgn:[^0-9a-f]*//p' "/proc/$$/status" >"$room/ignored"
 case $#:$* in 0:* | *x*) echo 'usage: WORDS' >&2; exit 1 ;; esac
 [ "${2-}" != put ] || cksum >/dev/null
 read -r -t "$(cat "$room/wait")" -u 9 none 9<>"$room/never"
@@ -58,6 +59,13 @@ holds() {
     if "$@"; then count "$name" yes; else count "$name" no; cat err events >&2 2>/dev/null; fi
 }
 runs() { : >events; "$@" >out 2>err; }
+# Whether the last stand-in had the 25th signal ignored, which is the lowest bit of the seventh digit from behind.
+ignores_25() {
+    case $(cat ignored) in
+    *[13579bdf]??????) return 0 ;;
+    *) return 1 ;;
+    esac
+}
 # Waits until a stand-in has begun, some ten seconds at most.
 await_events() {
     for tenth in $(seq 100); do
@@ -87,6 +95,7 @@ for folder in copy place; do
     echo 7 >status
     expect "$folder: its status, too" 7 given '' plainly - decode <nothing
     echo 0 >status
+    holds "$folder: a file that may not grow ends it by no signal, of which the 25th is that" ignores_25
     expect "$folder: no words, nobody looks on" 1 nothing 'usage: WORDS' plainly
     expect "$folder: a word that is no command, nobody looks on" 1 nothing 'usage: WORDS' plainly - xdecode
     FUTSKHERI_PROGRESS=1

@@ -86,6 +86,10 @@ expect 'a file that is no bundle' 7 nothing 'store: BadBundle at 100 found 100' 
 expect 'a folder that is not there has no tile' 7 nothing 'store: NoTile 0 0' plainly nowhere get 0 0 raw
 expect 'and none is made' 5 nothing 'volume failed' plainly nowhere put 3 0 0 0 <"$grid"
 expect 'a folder whose name is no UTF-8' 8 nothing 'shelf failed' plainly "$(printf 'a\377')" get 0 0 raw
+expect 'a put into a folder without a name' 8 nothing 'shelf failed' plainly '' put 3 0 0 0 <"$grid"
+expect 'a get from a folder without a name' 8 nothing 'shelf failed' plainly '' get 0 0 raw
+if [ -e R0000C0000.bundle ] || [ -e /R0000C0000.bundle ]; then holds=no; else holds=yes; fi
+count 'and no bundle is made for it' "$holds"
 expect 'a name needs no folder' 0 first '' plainly "$(printf 'a\377')" name 0 0
 
 # ---- What a stopped put left is made whole

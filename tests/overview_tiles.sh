@@ -311,7 +311,15 @@ expect 'a folder in the place of the second' 5 nothing "$no_volume" plainly from
 expect 'no path of the first' 5 nothing "$no_volume" plainly - disk overview 0 3 0 1
 expect 'no path of the second' 5 nothing "$no_volume" plainly from - overview 0 3 0 1
 expect 'a path that is no text' 5 nothing "$no_volume" plainly from "$(printf 'a\377')" overview 0 3 0 1
+expect 'a first path of no bytes' 5 nothing "$no_volume" plainly '' disk overview 0 3 0 1
+expect 'a second path of no bytes' 5 nothing "$no_volume" plainly from '' overview 0 3 0 1
+if [ -e .jnl ]; then holds=no; else holds=yes; fi
+count 'a path of no bytes, and no journal is made' "$holds"
 leaves 'no bundle is made' none none
+cp from fine
+expect 'one path for both' 5 nothing "$no_volume" plainly from from overview 0 3 0 1
+if cmp -s from fine; then holds=yes; else holds=no; fi
+count 'one path for both, and its bundle is as it was' "$holds"
 tile 0 0 eight >halves
 for way in output_full output_closed; do
     begins_as none none

@@ -17,6 +17,7 @@ begin
 . "$here/tests/large.sh"
 . "$here/tests/samples.sh"
 . "$here/tests/edges.sh"
+. "$here/tests/links.sh"
 . "$here/tests/gdal.sh"
 . "$here/tests/liblerc.sh"
 

@@ -117,6 +117,9 @@ failures_of() {
     expect "$1: no bundle's path" 5 nothing "$no_volume" plainly - "$1" 3 0 1 <one_tile
     expect "$1: no bundle's path, and a bad stream" 2 nothing 'refused: BadSlot at 1' \
         plainly - "$1" 3 0 1 <bad_row_stream
+    expect "$1: a path of no bytes" 5 nothing "$no_volume" plainly '' "$1" 3 0 1 <one_tile
+    if [ -e .jnl ]; then holds=no; else holds=yes; fi
+    count "$1: a path of no bytes, and no journal is made" "$holds"
     expect "$1: a folder that is not there" 5 nothing "$no_volume" plainly nowhere/disk "$1" 3 0 1 <one_tile
     rm -rf disk disk.jnl
     mkdir disk

@@ -2,7 +2,8 @@
 # Runs each test of the crate refusal_tests once for each growth of memory that it asks for, with that
 # one refused: tests/refuse.c is put before the C library. A run is right that passes, and one whose own
 # objects were refused their memory and that says so; anything else is wrong. It builds the tests by
-# 'rt test', or takes the built ones that it is given. It needs sh, the core utilities and cc; where
+# 'rt test', or takes the built ones that it is given. Each is run three times over: by which workers a growth is asked for,
+# and so which has which number, differs from run to run. It needs sh, the core utilities and cc; where
 # there is no cc, or the C library has no such names, it says so and passes. Its last line is
 # 'N passed, M failed'.
 set -u
@@ -38,11 +39,13 @@ refused() {
 "$tests" --list >all || exit 1
 sed -n 's/: test$//p' all >names
 while read -r name; do
-    number=1
-    while refused "$name" "$number"; do
-        number=$((number + 1))
+    for turn in 1 2 3; do
+        number=1
+        while refused "$name" "$number"; do
+            number=$((number + 1))
+        done
+        echo "$name, turn $turn: growths 1 to $((number - 1))"
     done
-    echo "$name: growths 1 to $((number - 1))"
 done <names
 
 tell && [ "$passed" -gt 0 ]

@@ -1,33 +1,31 @@
 -- What a command leaves of its source and its output, by how it ends, and what follows.
-use Rattle.std.proofs.Common.{◌≡◌, ◌≢◌, ◌⊎◌, ◌↔◌, ℕ, ◌≤◌, ◌<◌, List, [], ◌++◌, Option, Some, None, Result, Ok, Err, refl, sym, ap, subst, ◌∙◌, arith, inl, inr}
+use Rattle.std.proofs.Common.{◌≡◌, ◌⊎◌, ◌↔◌, ℕ, ◌≤◌, List, [], Option, Some, None, Result, Ok, Err, refl, sym, ap, subst, ◌∙◌, arith, inl, inr}
 use Rattle.std.specs.Prelude.{IfErr, IfSome}
-use Rattle.outside_io.specs.streams.Faults.{CountsFaults, FailedBetween, IsCause}
+use Rattle.outside_io.specs.streams.Faults.{FailedBetween}
 use Rattle.outside_io.specs.streams.Sink.{Holds, HoldsPrefix}
 use Rattle.outside_io.proofs.StreamLemmas.Gives.{Holds_none}
-use Rattle.first_fault.specs.Faults.{Faults}
 use Rattle.raster_cells.specs.declared.kind.PixelType.{PixelType}
+use Rattle.raster_values.specs.Raster.{IsRaster}
 use Rattle.program_ends.specs.Moves.{Change, SinkMove, SourceMove, sink_move}
 use Rattle.program_ends.specs.Stop.{Gained}
 use Rattle.program_ends.specs.declared.stop.Stop.{Stop}
 use Rattle.program_ends.specs.declared.stop.Stop.TheVariants.{Usage, Refused, Source, Output, Volume, OutOfMemory}
-use Rattle.ascii_grid.specs.declared.fault.AsciiFault.{AsciiFault}
-use Rattle.ascii_grid.specs.declared.fault.AsciiReason.{AsciiReason}
 use Rattle.ascii_grid.specs.declared.fault.AsciiStop.{AsciiStop}
 use Rattle.ascii_grid.specs.declared.fault.AsciiStop.TheVariants.{Fault, Source as SourceOf, OutOfMemory as MemoryOf}
 use Rattle.ascii_grid.specs.declared.grid.AsciiGrid.{AsciiGrid}
 use Rattle.ascii_grid.specs.Canon.{IsLawful, canon}
-use Rattle.ascii_grid.specs.Lga.{IsLga, lga_faults, lga_of}
+use Rattle.ascii_grid.specs.Lga.{IsLga, lga_of}
 use Rattle.ascii_grid.specs.Stopping.{CountsStop}
-use Rattle.ascii_grid.specs.Text.{AsciiFaults, AsciiRead, IsAscii}
+use Rattle.ascii_grid.specs.Text.{AsciiRead, IsAscii}
 use Rattle.ascii_grid.proofs.CanonSteps.{canon_is}
-use Rattle.ascii_grid.proofs.LgaLaws.{lga_has_no_fault, lga_is_lawful, one_lga}
+use Rattle.ascii_grid.proofs.LgaLaws.{lga_has_no_fault, lga_is_lawful, lga_stands, one_lga}
 use Rattle.ascii_grid.proofs.OneFault.{no_fault}
 use Rattle.ascii_grid.proofs.OneText.{one_grid}
 use Rattle.ascii_cli.specs.declared.refusal.Refusal.{Refusal}
 use Rattle.ascii_cli.specs.declared.words.Command.{Command}
 use Rattle.ascii_cli.specs.declared.words.Command.TheVariants.{Split, Join}
 use Rattle.ascii_cli.specs.Names.{End, GivesLineOf, status_at, stop_of}
-use Rattle.ascii_cli.specs.Run.{Answers, IsFirst, IsOutput, IsStopFor, OfOutput, OfSource, Reads, TellsFirst, first_fault, gives}
+use Rattle.ascii_cli.specs.Run.{Answers, IsStopFor, OfOutput, OfSource, Reads, SplitsToJoin, TellsFirst, first_fault, gives}
 use Rattle.ascii_cli.proofs.Ended.{ok_at, refused_at}
 
 -- ---- the output
@@ -74,19 +72,19 @@ text_refused (Err SourceOf) left kind h = tt
 text_refused (Err MemoryOf) left kind h = tt
 
 -- it has given all
-pub gave : (c : Command) (input : Option (List ℕ)) (g : AsciiGrid) (sink : SinkMove) → IsLawful g → Reads c input g → Holds sink.held.old sink.held.new (gives c g) → sink.faults.new ≡ sink.faults.old → OfOutput c input (Ok tt) sink
-gave c input g sink lawful reads holds count = record {
+pub gave : (c : Command) (input : Option (List ℕ)) (g : AsciiGrid) (sink : SinkMove) → IsLawful g → IsRaster g.raster → Reads c input g → Holds sink.held.old sink.held.new (gives c g) → sink.faults.new ≡ sink.faults.old → OfOutput c input (Ok tt) sink
+gave c input g sink lawful raster reads holds count = record {
   cause = record { counts = omega (arith, count); failed = λ e. absurd cc; rose = λ rose. absurd (omega (arith, count, rose)) };
-  gave = (gives c g, ((g, (lawful, (reads, refl))), holds));
+  gave = (gives c g, ((g, (lawful, (raster, (reads, refl)))), holds));
   idle = λ never. absurd never;
 }
 
 -- the output failed
-pub cut : (c : Command) (input : Option (List ℕ)) (g : AsciiGrid) (sink : SinkMove) → IsLawful g → Reads c input g → HoldsPrefix sink.held.old sink.held.new (gives c g) → (sink.faults.old ≤ sink.faults.new) × FailedBetween sink.faults.old sink.faults.new
+pub cut : (c : Command) (input : Option (List ℕ)) (g : AsciiGrid) (sink : SinkMove) → IsLawful g → IsRaster g.raster → Reads c input g → HoldsPrefix sink.held.old sink.held.new (gives c g) → (sink.faults.old ≤ sink.faults.new) × FailedBetween sink.faults.old sink.faults.new
     → OfOutput c input (Err Output) sink
-cut c input g sink lawful reads holds failed = record {
+cut c input g sink lawful raster reads holds failed = record {
   cause = record { counts = failed.0; failed = λ e. failed.1; rose = λ rose. refl };
-  gave = (gives c g, ((g, (lawful, (reads, refl))), holds));
+  gave = (gives c g, ((g, (lawful, (raster, (reads, refl)))), holds));
   idle = λ never. absurd never;
 }
 
@@ -106,12 +104,13 @@ pub never_usage : (c : Command) (input : Option (List ℕ)) (end : End) (sink : 
 never_usage c input end sink out is =
     let none : Answers c input (Err Usage) out.gave.0 = subst (λ (x : End). Answers c input x out.gave.0) is out.gave.1.0 in none
 
-pub well : (c : Command) (input : Option (List ℕ)) (end : End) (status : ℕ) (sink : SinkMove) → status ≡ status_at end → status ≡ 0 → OfOutput c input end sink → (g : AsciiGrid) × (Reads c input g × Holds sink.held.old sink.held.new (gives c g))
+pub well : (c : Command) (input : Option (List ℕ)) (end : End) (status : ℕ) (sink : SinkMove) → status ≡ status_at end → status ≡ 0 → OfOutput c input end sink → (g : AsciiGrid) × (Reads c input g × (Holds sink.held.old sink.held.new (gives c g) × (IsLawful g × IsRaster g.raster)))
 well c input end status sink is zero out =
     let same : end ≡ Ok tt = ok_at end (sym is ∙ zero) in
     let answers : Answers c input (Ok tt) out.gave.0 = subst (λ (x : End). Answers c input x out.gave.0) same out.gave.1.0 in
     let gained_ : Gained {R = Refusal} (Ok tt) sink.held out.gave.0 = subst (λ (x : End). Gained x sink.held out.gave.0) same out.gave.1.1 in
-    (answers.0, (answers.1.1.0, subst (λ (u : List ℕ). Holds sink.held.old sink.held.new u) answers.1.1.1 gained_))
+    let holds = subst (λ (u : List ℕ). Holds sink.held.old sink.held.new u) answers.1.1.1.1 gained_ in
+    (answers.0, (answers.1.1.1.0, (holds, (answers.1.0, answers.1.1.0))))
 
 pub refused : (c : Command) (input : List ℕ) (end : End) (status : ℕ) (sink err : SinkMove) → status ≡ status_at end → status ≡ 2 → OfOutput c (Some input) end sink → GivesLineOf end err → sink.same × TellsFirst (first_fault c input) err
 refused c input end status sink err is two out line =
@@ -141,12 +140,28 @@ pub text_gave : (kind : PixelType) (text : List ℕ) (g : AsciiGrid) (end : End)
     → Holds sink.held.old sink.held.new (lga_of g)
 text_gave kind text g end status sink is zero out stands =
     let w = well (Split kind) (Some text) end status sink is zero out in
-    subst (λ (x : AsciiGrid). Holds sink.held.old sink.held.new (lga_of x)) (one_grid text kind w.0 g w.1.0 stands) w.1.1
+    subst (λ (x : AsciiGrid). Holds sink.held.old sink.held.new (lga_of x)) (one_grid text kind w.0 g w.1.0 stands) w.1.1.0
 
 pub lga_gave : (bytes : List ℕ) (g : AsciiGrid) (end : End) (status : ℕ) (sink : SinkMove) → status ≡ status_at end → status ≡ 0 → OfOutput Join (Some bytes) end sink → IsLga bytes g
     → Holds sink.held.old sink.held.new (canon g) × IsAscii (canon g) g.raster.kind g
 lga_gave bytes g end status sink is zero out stands =
     let w = well Join (Some bytes) end status sink is zero out in (
-      subst (λ (x : AsciiGrid). Holds sink.held.old sink.held.new (canon x)) (one_lga bytes w.0 g w.1.0 stands) w.1.1,
+      subst (λ (x : AsciiGrid). Holds sink.held.old sink.held.new (canon x)) (one_lga bytes w.0 g w.1.0 stands) w.1.1.0,
       canon_is g (lga_is_lawful bytes g stands) stands.grid_is.raster,
     )
+
+pub split_joins : (kind : PixelType) (text : List ℕ) (end : End) (status : ℕ) (sink : SinkMove) → status ≡ status_at end → status ≡ 0 → OfOutput (Split kind) (Some text) end sink → SplitsToJoin kind text sink
+split_joins kind text end status sink is zero out =
+    let w = well (Split kind) (Some text) end status sink is zero out in
+    let lawful = w.1.1.1.0 in
+    let raster = w.1.1.1.1 in
+    let file = lga_stands w.0 lawful raster in
+    record {
+      grid = w.0;
+      read = w.1.0;
+      lawful = lawful;
+      gave = w.1.1.0;
+      file = file;
+      joins = λ output is_output. is_output.1.1.1.1 ∙ ap canon (one_lga (lga_of w.0) is_output.0 w.0 is_output.1.1.1.0 file);
+      again = subst (λ (k : PixelType). IsAscii (canon w.0) k w.0) w.1.0.kind_is (canon_is w.0 lawful raster);
+    }

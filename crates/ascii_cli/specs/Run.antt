@@ -3,9 +3,12 @@ use Rattle.std.specs.Prelude.{◌≡◌, ℕ, List, [], Option, None, Some, Ok, 
 use Rattle.first_fault.specs.Faults.{Faults}
 use Rattle.outside_io.specs.streams.Faults.{IsCause}
 use Rattle.outside_io.specs.program.Line.{GivesLine}
+use Rattle.outside_io.specs.streams.Sink.{Holds}
 use Rattle.program_ends.specs.Moves.{SinkMove, SourceMove}
 use Rattle.program_ends.specs.Stop.{Gained}
 use Rattle.program_ends.specs.declared.stop.Stop.TheVariants.{Usage, Refused, Source, Output, Volume, OutOfMemory}
+use Rattle.raster_cells.specs.declared.kind.PixelType.{PixelType}
+use Rattle.raster_values.specs.Raster.{IsRaster}
 use Rattle.ascii_grid.specs.declared.fault.AsciiFault.{AsciiFault}
 use Rattle.ascii_grid.specs.declared.fault.AsciiReason.{AsciiReason}
 use Rattle.ascii_grid.specs.declared.fault.AsciiStop.{AsciiStop}
@@ -47,10 +50,10 @@ IsStopFor c input (Fault f) = IsFirst c input f
 IsStopFor c input SourceOf = Unit {0}
 IsStopFor c input MemoryOf = Unit {0}
 
--- the output is that of the input's grid
+-- the output is that of the input's grid, which a text can say
 abbrev pub IsOutput : Command → Option (List ℕ) → List ℕ → Type 0
 IsOutput c input output =
-    (g : AsciiGrid) × (IsLawful g × (Reads c input g × (output ≡ gives c g)))
+    (g : AsciiGrid) × (IsLawful g × (IsRaster g.raster × (Reads c input g × (output ≡ gives c g))))
 
 -- what the output is to gain as a run ends so: where it failed, it gains a prefix of it
 abbrev pub Answers : Command → Option (List ℕ) → End → List ℕ → Type 0
@@ -107,3 +110,16 @@ abbrev pub TellsFirst : Faults AsciiReason → SinkMove → Type 0
 TellsFirst faults err = (fault : AsciiFault) × (faults fault.place fault.reason
     × GivesLine err.held.old err.held.new err.faults.old err.faults.new
     (line_of (Refused (record { fault = fault }))))
+
+-- ---- in the words of both commands
+
+-- The output has gained the file of the text's grid, which a text can say. What `join` gives of
+-- that file is the one text that is written of the grid, and this is again a text of it.
+pub record SplitsToJoin (kind : PixelType) (text : List ℕ) (out : SinkMove) : Type 0 where
+  pub grid : AsciiGrid
+  pub read : IsAscii text kind grid
+  pub lawful : IsLawful grid
+  pub gave : Holds out.held.old out.held.new (lga_of grid)
+  pub file : IsLga (lga_of grid) grid
+  pub joins : (output : List ℕ) → IsOutput Join (Some (lga_of grid)) output → output ≡ canon grid
+  pub again : IsAscii (canon grid) kind grid

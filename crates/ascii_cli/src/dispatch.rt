@@ -14,7 +14,7 @@ ghost use Rattle.ascii_grid.specs.Text.{AsciiFaults, IsAscii};
 ghost use Rattle.ascii_cli.specs.declared.words.Command.{Command};
 ghost use Rattle.ascii_cli.specs.Commands.{IsNoCommand, IsSpelled};
 ghost use Rattle.ascii_cli.specs.Names.{line_of};
-ghost use Rattle.ascii_cli.specs.Run.{OfOutput, OfRun, OfSource, TellsFirst};
+ghost use Rattle.ascii_cli.specs.Run.{OfOutput, OfRun, OfSource, SplitsToJoin, TellsFirst};
 
 use crate::perform::perform;
 use crate::refusal::Refusal;
@@ -98,6 +98,12 @@ pub fn run_ascii<S: Source, K: Sink, E: Sink>(
         → (text : List ℕ) → S.left src.old ≡ Some text → result ≡ 2
         → (out.new ≡ out.old) × TellsFirst (AsciiFaults kind text)
         (sink_move E.held E.faults err.old err.new) }
+
+    // What follows for `split` and then `join`: the second gives the one text that is written of
+    // the first one's grid.
+    ensures split_joins { (kind : PixelType) → IsSpelled (Command.Split kind) words.now
+        → (text : List ℕ) → S.left src.old ≡ Some text → result ≡ 0
+        → SplitsToJoin kind text (sink_move K.held K.faults out.old out.new) }
 
     // What follows for `join`, and that what it gives is a text of the grid.
     ensures join { IsSpelled Command.Join words.now

@@ -4,6 +4,7 @@ ghost use Rattle.std.specs.Prelude.{IfErr, IfOk, OnErr, OnOk};
 ghost use Rattle.outside_io.specs.streams.Faults.{CountsFaults};
 ghost use Rattle.outside_io.specs.streams.Sink.{Holds, HoldsPrefix};
 ghost use Rattle.program_ends.specs.Moves.{sink_move, source_move};
+ghost use Rattle.raster_values.specs.Raster.{IsRaster};
 ghost use Rattle.ascii_grid.specs.Canon.{IsLawful};
 ghost use Rattle.ascii_grid.specs.Stopping.{CountsStop};
 ghost use Rattle.ascii_cli.specs.Run.{IsStopFor, OfOutput, OfSource, Reads, gives};
@@ -39,7 +40,10 @@ fn write_output<K: Sink>(command: Command, grid: &AsciiGrid, out: &mut K) -> Res
     ensures err { OnErr result
         (HoldsPrefix (K.held out.old) (K.held out.new) (gives command grid.now)) }
     ensures counted { CountsFaults result (K.faults out.old) (K.faults out.new) }
+    ensures raster { IsRaster grid.now.raster }
 {
+    // for the proof: `kind` ensures that it is a raster
+    let _kind = grid.raster.kind();
     match command {
         Command::Split { .. } => lga_write(grid, out),
         Command::Join => ascii_write(grid, out),

@@ -26,7 +26,10 @@ pub fn serve<A: Arguments, S: Source, K: Sink, E: Sink>(
     err: &mut E,
 ) -> ExitCode
     ensures usage { (texts : List (List ℕ)) → A.texts args.now ≡ Some texts
-        → IsNoCommand (drop 1 texts) → (exit_status result ≡ 1) ⊎ (exit_status result ≡ 6) }
+        → IsNoCommand (drop 1 texts) → (exit_status result ≡ 1)
+        ⊎ IsUnread (exit_status result) (source_move S.left S.faults src.old src.new)
+        (sink_move K.held K.faults out.old out.new)
+        (sink_move E.held E.faults err.old err.new) }
     ensures unused { exit_status result ≡ 1 → (src.new ≡ src.old) × (out.new ≡ out.old)
         × GivesLine (E.held err.old) (E.held err.new) (E.faults err.old) (E.faults err.new)
         (line_of Stop.Usage) }

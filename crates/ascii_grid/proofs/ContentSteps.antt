@@ -1,5 +1,5 @@
 -- The grid of an `LGA1`, and what its raster may not have.
-use Rattle.std.proofs.Common.{◌≡◌, ◌≢◌, ℕ, ℤ, pos, suc, ◌+◌, ◌*◌, ◌/◌, ◌%◌, ◌<◌, ◌≤◌, Bool, true, false, List, [], ◌∷◌, ◌++◌, length, get_or, take, drop, All, Option, None, Some, IfSome, refl, sym, ap, ◌∙◌, subst, arith, inl, inr}
+use Rattle.std.proofs.Common.{◌≡◌, ℕ, ℤ, pos, ◌+◌, ◌*◌, ◌/◌, ◌%◌, ◌<◌, ◌≤◌, Bool, true, false, List, [], ◌∷◌, ◌++◌, length, get_or, take, drop, All, Option, None, Some, IfSome, refl, sym, ap, ◌∙◌, subst, inl, inr}
 use Rattle.std.specs.Prelude.{is_some, unwrap_or}
 use Rattle.std.specs.List.{count_by}
 use Rattle.std.proofs.Math.Nat.{div-add-mod'}
@@ -13,13 +13,12 @@ use Rattle.raster_grids.specs.declared.reading.GridStop.TheVariants.{Fault as Gr
 use Rattle.raster_cells.specs.PixelType.{bytes_of}
 use Rattle.raster_values.specs.Raster.{Pixels, pixel_at, valid_at, value_at}
 use Rattle.raster_grids.specs.ReadGrid.{IsGrid, IsToldFault, TookGrid, grid_faults}
-use Rattle.raster_grids.specs.Taken.{TookBytes}
 use Rattle.ascii_grid.specs.declared.fault.AsciiFault.{AsciiFault}
 use Rattle.ascii_grid.specs.declared.fault.AsciiReason.TheVariants.{Collision, DepthNot1, Leftover}
 use Rattle.ascii_grid.specs.declared.fault.AsciiStop.{AsciiStop}
-use Rattle.ascii_grid.specs.declared.fault.AsciiStop.TheVariants.{Fault, Source, OutOfMemory}
+use Rattle.ascii_grid.specs.declared.fault.AsciiStop.TheVariants.{Fault, Source}
 use Rattle.ascii_grid.specs.Canon.{IsApart}
-use Rattle.ascii_grid.specs.Lga.{FirstSame, collision, content_faults, grid_and_end_faults, raster_faults}
+use Rattle.ascii_grid.specs.Lga.{FirstSame, content_faults, grid_and_end_faults, raster_faults}
 use Rattle.ascii_grid.specs.inside.Fields.{Tells, grid_stop_of}
 use Rattle.ascii_grid.proofs.FieldSteps.{tells_as, tells_later}
 

@@ -10,7 +10,7 @@ use Rattle.ascii_grid.specs.declared.words.Key.TheVariants.{Cols, Rows, XCorner,
 use Rattle.ascii_grid.specs.declared.fault.AsciiReason.{AsciiReason}
 use Rattle.ascii_grid.specs.declared.fault.AsciiReason.TheVariants.{BadKey, Repeated, Missing, Leftover, TooLong, Truncated}
 use Rattle.ascii_grid.specs.declared.grid.AsciiGrid.{AsciiGrid}
-use Rattle.ascii_grid.specs.Tokens.{Spot, limit, seen, shown}
+use Rattle.ascii_grid.specs.Tokens.{TokenAt, limit, seen, shown}
 use Rattle.ascii_grid.specs.Endings.{ending}
 use Rattle.ascii_grid.specs.Head.{ArePairs, BeginsWithLetter, Has, HasAll, HeadFaults, IsInteger, IsKey, IsSize, IsValue, Pair, Says, SaysKey, SaysNumber, SaysText, SomePair, behind_key, flat, next_faults, quantity_of, value_faults}
 use Rattle.ascii_grid.specs.Text.{AreCells, AsciiFaults, IsAscii, IsCell, IsNodata, NumberFaults, cell_faults, next_number}
@@ -24,20 +24,20 @@ use Rattle.ascii_grid.proofs.Tests.{Tested, decided_cell, decided_value, test_ha
 -- ---- the head
 
 -- a pair more, or a token behind the pairs
-record More (ps : List Pair) (ts : List Spot) : Type 0 where
+record More (ps : List Pair) (ts : List TokenAt) : Type 0 where
   pair : Pair
-  rest : List Spot
+  rest : List TokenAt
   is : ts ≡ pair.word ∷ pair.value ∷ rest
   stands : NextPair ps pair
 
-record Ends (ps : List Pair) (ts : List Spot) : Type 0 where
-  first : Spot
-  rest : List Spot
+record Ends (ps : List Pair) (ts : List TokenAt) : Type 0 where
+  first : TokenAt
+  rest : List TokenAt
   is : ts ≡ first ∷ rest
   all : HasAll ps
   dark : ¬ BeginsWithLetter first.bytes
 
-behind_key_is : (last : Faults AsciiReason) → HasFault last → (ps : List Pair) (key : Key) (t : Spot) (us : List Spot) → BeginsWithLetter t.bytes → IsKey t.bytes key → ¬ Has ps key → More ps (t ∷ us) ⊎ HasFault (behind_key last ps key us)
+behind_key_is : (last : Faults AsciiReason) → HasFault last → (ps : List Pair) (key : Key) (t : TokenAt) (us : List TokenAt) → BeginsWithLetter t.bytes → IsKey t.bytes key → ¬ Has ps key → More ps (t ∷ us) ⊎ HasFault (behind_key last ps key us)
 behind_key_is last f ps key t [] letter named new = inr f
 behind_key_is last f ps key t (v ∷ vs) letter named new = by (decided_value ps key v)
   where
@@ -45,7 +45,7 @@ behind_key_is last f ps key t (v ∷ vs) letter named new = by (decided_value ps
     by (inl is) = inl (record { pair = record { word = t; key = key; value = v }; rest = vs; is = refl; stands = (letter, (named, (new, is))) })
     by (inr w) = inr w
 
-next_is : (last : Faults AsciiReason) → HasFault last → (ps : List Pair) (ts : List Spot) → (More ps ts ⊎ Ends ps ts) ⊎ HasFault (next_faults last ps ts)
+next_is : (last : Faults AsciiReason) → HasFault last → (ps : List Pair) (ts : List TokenAt) → (More ps ts ⊎ Ends ps ts) ⊎ HasFault (next_faults last ps ts)
 next_is last f ps [] = inr f
 next_is last f ps (t ∷ us) = by (test_letter t.bytes)
   where
@@ -70,24 +70,24 @@ next_is last f ps (t ∷ us) = by (test_letter t.bytes)
     by (inr dark) = plain dark (test_has_all ps)
 
 -- pairs that stand and are all there, and a token behind them
-record Whole (tokens : List Spot) : Type 0 where
+record Whole (tokens : List TokenAt) : Type 0 where
   pairs : List Pair
-  first : Spot
-  rest : List Spot
+  first : TokenAt
+  rest : List TokenAt
   joined : tokens ≡ flat pairs ++ first ∷ rest
   stand : ArePairs [] pairs
   all : HasAll pairs
   dark : ¬ BeginsWithLetter first.bytes
 
-head_is : (n : ℕ) (last : Faults AsciiReason) → HasFault last → (tokens ts : List Spot) (ps : List Pair) → length ts < n → ArePairs [] ps → tokens ≡ flat ps ++ ts → Whole tokens ⊎ HasFault (HeadFaults last tokens)
+head_is : (n : ℕ) (last : Faults AsciiReason) → HasFault last → (tokens ts : List TokenAt) (ps : List Pair) → length ts < n → ArePairs [] ps → tokens ≡ flat ps ++ ts → Whole tokens ⊎ HasFault (HeadFaults last tokens)
 head_is zero last f tokens ts ps few stand joined = absurd (let bad : ⊥ = omega (arith, few) in bad)
 head_is (suc n) last f tokens ts ps few stand joined = by (head_is n last f tokens) (next_is last f ps ts)
   where
-    by : ((us : List Spot) (qs : List Pair) → length us < n → ArePairs [] qs → tokens ≡ flat qs ++ us → Whole tokens ⊎ HasFault (HeadFaults last tokens)) → (More ps ts ⊎ Ends ps ts) ⊎ HasFault (next_faults last ps ts) → Whole tokens ⊎ HasFault (HeadFaults last tokens)
+    by : ((us : List TokenAt) (qs : List Pair) → length us < n → ArePairs [] qs → tokens ≡ flat qs ++ us → Whole tokens ⊎ HasFault (HeadFaults last tokens)) → (More ps ts ⊎ Ends ps ts) ⊎ HasFault (next_faults last ps ts) → Whole tokens ⊎ HasFault (HeadFaults last tokens)
     by go (inl (inl m)) =
         let size : length ts ≡ suc (suc (length m.rest)) = ap length m.is in
-        go m.rest (ps ++ m.pair ∷ []) (omega (arith, size, few)) (are_more [] ps m.pair stand m.stands) (joined_more tokens m.rest ps m.pair (joined ∙ ap (λ (l : List Spot). flat ps ++ l) m.is))
-    by go (inl (inr e)) = inl (record { pairs = ps; first = e.first; rest = e.rest; joined = joined ∙ ap (λ (l : List Spot). flat ps ++ l) e.is; stand = stand; all = e.all; dark = e.dark })
+        go m.rest (ps ++ m.pair ∷ []) (omega (arith, size, few)) (are_more [] ps m.pair stand m.stands) (joined_more tokens m.rest ps m.pair (joined ∙ ap (λ (l : List TokenAt). flat ps ++ l) m.is))
+    by go (inl (inr e)) = inl (record { pairs = ps; first = e.first; rest = e.rest; joined = joined ∙ ap (λ (l : List TokenAt). flat ps ++ l) e.is; stand = stand; all = e.all; dark = e.dark })
     by go (inr w) = inr (record { place = w.place; reason = w.reason; fault = record { before = ps; rest = ts; joined = joined; stand = stand; next = w.fault } })
 
 -- ---- what the pairs say
@@ -179,19 +179,19 @@ ending_has total = by (test_most total limit)
     by (inl short) = record { place = total; reason = Truncated; fault = inl (short, (refl, refl)) }
     by (inr over) = record { place = limit; reason = TooLong; fault = inr (over, (refl, refl)) }
 
-record All_ (total : ℕ) (kind : PixelType) (nodata : ℤ) (count : ℕ) (ts : List Spot) : Type 0 where
+record All_ (total : ℕ) (kind : PixelType) (nodata : ℤ) (count : ℕ) (ts : List TokenAt) : Type 0 where
   pixels : List (Option (List ℤ))
   are : AreCells kind nodata ts pixels
   many : length ts ≡ count
   short : total ≤ limit
 
-abbrev Numbers : ℕ → PixelType → ℤ → ℕ → List Spot → Type 0
+abbrev Numbers : ℕ → PixelType → ℤ → ℕ → List TokenAt → Type 0
 Numbers total kind nodata count tokens = All_ total kind nodata count tokens ⊎ HasFault (NumberFaults total kind nodata count tokens)
 
-push_cell : (kind : PixelType) (nodata : ℤ) (ts : List Spot) (ps : List (Option (List ℤ))) (t : Spot) (p : Option (List ℤ)) → AreCells kind nodata ts ps → IsCell kind nodata t.bytes p → AreCells kind nodata (ts ++ t ∷ []) (ps ++ p ∷ [])
+push_cell : (kind : PixelType) (nodata : ℤ) (ts : List TokenAt) (ps : List (Option (List ℤ))) (t : TokenAt) (p : Option (List ℤ)) → AreCells kind nodata ts ps → IsCell kind nodata t.bytes p → AreCells kind nodata (ts ++ t ∷ []) (ps ++ p ∷ [])
 push_cell kind nodata ts ps t p are is = cells_more kind nodata ts ps t p are is
 
-numbers_are : (total : ℕ) (kind : PixelType) (nodata : ℤ) (count : ℕ) (tokens before rest : List Spot) (pixels : List (Option (List ℤ))) → tokens ≡ before ++ rest → AreCells kind nodata before pixels → length before ≤ count → Numbers total kind nodata count tokens
+numbers_are : (total : ℕ) (kind : PixelType) (nodata : ℤ) (count : ℕ) (tokens before rest : List TokenAt) (pixels : List (Option (List ℤ))) → tokens ≡ before ++ rest → AreCells kind nodata before pixels → length before ≤ count → Numbers total kind nodata count tokens
 numbers_are total kind nodata count tokens before [] pixels joined are few = by (test_most count (length before)) (test_most total limit)
   where
     fault : (p : ℕ) (a : AsciiReason) → next_number total kind nodata count (length before) [] p a → HasFault (NumberFaults total kind nodata count tokens)
@@ -200,7 +200,7 @@ numbers_are total kind nodata count tokens before [] pixels joined are few = by 
     by : Tested (count ≤ length before) → Tested (total ≤ limit) → Numbers total kind nodata count tokens
     by (inl full) (inl short) = inl (record {
       pixels = pixels;
-      are = subst (λ (ts : List Spot). AreCells kind nodata ts pixels) (sym (joined ∙ append-nil before)) are;
+      are = subst (λ (ts : List TokenAt). AreCells kind nodata ts pixels) (sym (joined ∙ append-nil before)) are;
       many = ap length (joined ∙ append-nil before) ∙ omega (arith, full, few);
       short = short;
     })
@@ -258,7 +258,7 @@ made kind text w rows cols nodata says_rows says_cols says_nodata n =
 pub is_either : (kind : PixelType) (text : List ℕ) → ((g : AsciiGrid) × IsAscii text kind g) ⊎ HasFault (AsciiFaults kind text)
 is_either kind text = by (head_is (suc (length tokens)) (ending (length text)) (ending_has (length text)) tokens tokens [] (omega arith) tt refl)
   where
-    tokens : List Spot
+    tokens : List TokenAt
     tokens = map seen (shown (length text) (tokens_of 0 text))
 
     numbered : (w : Whole (map seen (shown (length text) (tokens_of 0 text)))) (rows cols : ℕ) (nodata : ℤ) → SaysNumber w.pairs 1 (pos rows) → SaysNumber w.pairs 0 (pos cols) → IsNodata w.pairs nodata

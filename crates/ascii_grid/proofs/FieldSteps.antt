@@ -1,16 +1,16 @@
 -- The fields of an `LGA1`, taken one behind the other.
-use Rattle.std.proofs.Common.{◌≡◌, ℕ, ℤ, suc, ◌+◌, ◌<◌, ◌≤◌, w64, Bool, List, [], ◌∷◌, ◌++◌, length, get_or, take, drop, All, Option, None, Some, IfSome, refl, sym, ap, ◌∙◌, subst, arith, inl, inr, append_assoc, length-append}
-use Rattle.std.specs.Prelude.{codes, unsigned_abs}
+use Rattle.std.proofs.Common.{◌≡◌, ℕ, ℤ, suc, ◌+◌, ◌<◌, ◌≤◌, w64, List, [], ◌∷◌, ◌++◌, length, take, drop, All, Option, None, Some, refl, sym, ap, ◌∙◌, subst, arith, inl, inr, append_assoc, length-append}
+use Rattle.std.specs.Prelude.{unsigned_abs}
 use Rattle.std.specs.Int.{cast_signed}
-use Rattle.std.proofs.lemmas.List.{append-nil, length-drop, length-take-le, take_at}
+use Rattle.std.proofs.lemmas.List.{length-drop, length-take-le, take_at}
 use Rattle.std.proofs.lemmas.Int.{ints}
 use Rattle.byteorder.specs.Endian.{little_number, twos_complement}
-use Rattle.first_fault.specs.Faults.{Faults, ends, in_order, moved, none, unless, wrong}
+use Rattle.first_fault.specs.Faults.{Faults, ends, in_order, moved, none, wrong}
 use Rattle.outside_io.specs.streams.Source.{IsAtEnd, TakesFront}
 use Rattle.raster_grids.specs.Taken.{TookBytes}
 use Rattle.ascii_grid.specs.declared.fault.AsciiFault.{AsciiFault}
 use Rattle.ascii_grid.specs.declared.fault.AsciiReason.{AsciiReason}
-use Rattle.ascii_grid.specs.declared.fault.AsciiReason.TheVariants.{BadFlags, BadMagic, BadNumber, BadText, Leftover, Truncated}
+use Rattle.ascii_grid.specs.declared.fault.AsciiReason.TheVariants.{BadNumber, BadText, Leftover, Truncated}
 use Rattle.ascii_grid.specs.declared.fault.AsciiStop.{AsciiStop}
 use Rattle.ascii_grid.specs.declared.fault.AsciiStop.TheVariants.{Fault, Source, OutOfMemory}
 use Rattle.ascii_grid.specs.Head.{IsText, IsTextByte}

@@ -3,7 +3,7 @@ use Rattle.std.proofs.Common.{◌≡◌, ◌↔◌, ℕ, ℤ, pos, ◌*◌, ◌<
 use Rattle.std.proofs.Math.Nat.{mul_comm}
 use Rattle.std.proofs.lemmas.List.{append-nil, length-map}
 use Rattle.std.specs.Char.{to_ascii_lowercase}
-use Rattle.ascii_grid.specs.Tokens.{Spot}
+use Rattle.ascii_grid.specs.Tokens.{TokenAt}
 use Rattle.ascii_grid.specs.declared.words.Key.{Key}
 use Rattle.ascii_grid.specs.declared.words.Key.TheVariants.{Cols, Rows, XCorner, XCenter, YCorner, YCenter, Cell, Nodata}
 use Rattle.ascii_grid.specs.declared.fault.AsciiReason.{AsciiReason}
@@ -57,7 +57,7 @@ size_stays None ps p q other gone = says_not ps p q other gone
 size_stays (Some n) ps p q other (says, (some, one)) =
     (push_left (λ x. (quantity_of x.key ≡ q) × IsInteger x.value.bytes (pos n)) ps p says, (some, λ m h. elim (push_cases (λ x. (quantity_of x.key ≡ q) × IsInteger x.value.bytes m) ps p h) [ inl a ↦ one m a | inr b ↦ absurd (other b.0) ]))
 
-pub text_stays : (o : Option Spot) (ps : List Pair) (p : Pair) (q : ℕ) → (quantity_of p.key ≡ q → ⊥) → KeepsText o ps q → KeepsText o (ps ++ p ∷ []) q
+pub text_stays : (o : Option TokenAt) (ps : List Pair) (p : Pair) (q : ℕ) → (quantity_of p.key ≡ q → ⊥) → KeepsText o ps q → KeepsText o (ps ++ p ∷ []) q
 text_stays None ps p q other gone = says_not ps p q other gone
 text_stays (Some t) ps p q other (says, is) = (push_left (λ x. (quantity_of x.key ≡ q) × (x.value.bytes ≡ t.bytes)) ps p says, is)
 
@@ -83,9 +83,9 @@ size_new n ps p q is gone number some = (
   ),
 )
 
-pub text_new : (t : Spot) (ps : List Pair) (p : Pair) (q : ℕ) → quantity_of p.key ≡ q → t ≡ p.value → IsText p.value.bytes → KeepsText (Some t) (ps ++ p ∷ []) q
+pub text_new : (t : TokenAt) (ps : List Pair) (p : Pair) (q : ℕ) → quantity_of p.key ≡ q → t ≡ p.value → IsText p.value.bytes → KeepsText (Some t) (ps ++ p ∷ []) q
 text_new t ps p q is same text =
-    (push_last (λ x. (quantity_of x.key ≡ q) × (x.value.bytes ≡ t.bytes)) ps p (is, ap (λ (s : Spot). s.bytes) (sym same)), subst (λ (s : Spot). IsText s.bytes) (sym same) text)
+    (push_last (λ x. (quantity_of x.key ≡ q) × (x.value.bytes ≡ t.bytes)) ps p (is, ap (λ (s : TokenAt). s.bytes) (sym same)), subst (λ (s : TokenAt). IsText s.bytes) (sym same) text)
 
 pub flag_true : (ps : List Pair) (p : Pair) (key : Key) → p.key ≡ key → IsTrue true ↔ SaysKey (ps ++ p ∷ []) key
 flag_true ps p key is = (λ t. push_last (λ x. x.key ≡ key) ps p is, λ s. refl)
@@ -99,7 +99,7 @@ pub size_none : (o : Option ℕ) (ps : List Pair) (q : ℕ) → is_some o ≡ fa
 size_none None ps q e keeps = keeps
 size_none (Some n) ps q e keeps = absurd (let bad : ⊥ = cc in bad)
 
-pub text_none : (o : Option Spot) (ps : List Pair) (q : ℕ) → is_some o ≡ false → KeepsText o ps q → ¬ Says ps q
+pub text_none : (o : Option TokenAt) (ps : List Pair) (q : ℕ) → is_some o ≡ false → KeepsText o ps q → ¬ Says ps q
 text_none None ps q e keeps = keeps
 text_none (Some n) ps q e keeps = absurd (let bad : ⊥ = cc in bad)
 
@@ -111,7 +111,7 @@ pub size_there : (o : Option ℕ) (ps : List Pair) (q : ℕ) → is_some o ≡ t
 size_there None ps q e keeps = absurd (let bad : ⊥ = cc in bad)
 size_there (Some n) ps q e keeps = number_says ps q (pos n) keeps.0
 
-pub text_there : (o : Option Spot) (ps : List Pair) (q : ℕ) → is_some o ≡ true → KeepsText o ps q → Says ps q
+pub text_there : (o : Option TokenAt) (ps : List Pair) (q : ℕ) → is_some o ≡ true → KeepsText o ps q → Says ps q
 text_there None ps q e keeps = absurd (let bad : ⊥ = cc in bad)
 text_there (Some t) ps q e keeps = text_says ps q t.bytes keeps.0
 
@@ -186,7 +186,7 @@ is_size (Some k) ps q bytes n keeps number some fits = record {
   within = λ m says. subst (λ (x : ℕ). n * x ≤ 16777216) (sym (pos_is m k (keeps.1.1 (pos m) says))) fits;
 }
 
-pub size_wrong : (o : Option ℕ) (ps : List Pair) (q : ℕ) (v : Spot) (reason : AsciiReason) → KeepsSize o ps q → SizeStops o v.bytes reason → size_faults ps q v v.place reason
+pub size_wrong : (o : Option ℕ) (ps : List Pair) (q : ℕ) (v : TokenAt) (reason : AsciiReason) → KeepsSize o ps q → SizeStops o v.bytes reason → size_faults ps q v v.place reason
 size_wrong o ps q v reason keeps (inl (is, never)) = inr ((λ (z, number). never z number), (refl, is))
 size_wrong o ps q v reason keeps (inr (inl (is, (z, (number, small))))) =
     inl ((z, number), inr ((λ (n, (number', some)). small n some (one_integer v.bytes z (pos n) number number')), (refl, is)))
@@ -248,7 +248,7 @@ rows_more h ps p n keeps is new number some fits = record {
         let turned : a * n ≤ 16777216 = omega (arith, less, mul_comm a n) in
         subst (λ (x : ℕ). a * x ≤ 16777216) eb turned
 
-pub x_more : (h : Head) (ps : List Pair) (p : Pair) (t : Spot) (b : Bool) → Keeps h ps → quantity_of p.key ≡ 2 → t ≡ p.value → IsText p.value.bytes → IsTrue b ↔ SaysKey (ps ++ p ∷ []) XCenter → Keeps (record h { x = Some t; x_centre = b }) (ps ++ p ∷ [])
+pub x_more : (h : Head) (ps : List Pair) (p : Pair) (t : TokenAt) (b : Bool) → Keeps h ps → quantity_of p.key ≡ 2 → t ≡ p.value → IsText p.value.bytes → IsTrue b ↔ SaysKey (ps ++ p ∷ []) XCenter → Keeps (record h { x = Some t; x_centre = b }) (ps ++ p ∷ [])
 x_more h ps p t b keeps is same text flag = record {
   cols = size_stays h.cols ps p 0 (apart p 2 0 is (λ e. omega (arith, e))) keeps.cols;
   rows = size_stays h.rows ps p 1 (apart p 2 1 is (λ e. omega (arith, e))) keeps.rows;
@@ -261,7 +261,7 @@ x_more h ps p t b keeps is same text flag = record {
   nodata = number_stays h.nodata ps p 5 (apart p 2 5 is (λ e. omega (arith, e))) keeps.nodata;
 }
 
-pub y_more : (h : Head) (ps : List Pair) (p : Pair) (t : Spot) (b : Bool) → Keeps h ps → quantity_of p.key ≡ 3 → t ≡ p.value → IsText p.value.bytes → IsTrue b ↔ SaysKey (ps ++ p ∷ []) YCenter → Keeps (record h { y = Some t; y_centre = b }) (ps ++ p ∷ [])
+pub y_more : (h : Head) (ps : List Pair) (p : Pair) (t : TokenAt) (b : Bool) → Keeps h ps → quantity_of p.key ≡ 3 → t ≡ p.value → IsText p.value.bytes → IsTrue b ↔ SaysKey (ps ++ p ∷ []) YCenter → Keeps (record h { y = Some t; y_centre = b }) (ps ++ p ∷ [])
 y_more h ps p t b keeps is same text flag = record {
   cols = size_stays h.cols ps p 0 (apart p 3 0 is (λ e. omega (arith, e))) keeps.cols;
   rows = size_stays h.rows ps p 1 (apart p 3 1 is (λ e. omega (arith, e))) keeps.rows;
@@ -274,7 +274,7 @@ y_more h ps p t b keeps is same text flag = record {
   nodata = number_stays h.nodata ps p 5 (apart p 3 5 is (λ e. omega (arith, e))) keeps.nodata;
 }
 
-pub cell_more : (h : Head) (ps : List Pair) (p : Pair) (t : Spot) → Keeps h ps → quantity_of p.key ≡ 4 → t ≡ p.value → IsText p.value.bytes → Keeps (record h { cell = Some t }) (ps ++ p ∷ [])
+pub cell_more : (h : Head) (ps : List Pair) (p : Pair) (t : TokenAt) → Keeps h ps → quantity_of p.key ≡ 4 → t ≡ p.value → IsText p.value.bytes → Keeps (record h { cell = Some t }) (ps ++ p ∷ [])
 cell_more h ps p t keeps is same text = record {
   cols = size_stays h.cols ps p 0 (apart p 4 0 is (λ e. omega (arith, e))) keeps.cols;
   rows = size_stays h.rows ps p 1 (apart p 4 1 is (λ e. omega (arith, e))) keeps.rows;
@@ -317,7 +317,7 @@ keeps_none = record {
 
 flat_more : (ps : List Pair) (p : Pair) → flat (ps ++ p ∷ []) ≡ flat ps ++ p.word ∷ p.value ∷ []
 flat_more [] p = refl
-flat_more (q ∷ ps) p = ap (λ (l : List Spot). q.word ∷ q.value ∷ l) (flat_more ps p)
+flat_more (q ∷ ps) p = ap (λ (l : List TokenAt). q.word ∷ q.value ∷ l) (flat_more ps p)
 
 -- the next pair stands behind the others
 abbrev pub NextPair : List Pair → Pair → Type 0
@@ -327,8 +327,8 @@ pub are_more : (before ps : List Pair) (p : Pair) → ArePairs before ps → Nex
 are_more before [] p are next = (subst (λ (l : List Pair). NextPair l p) (append-nil before) next, tt)
 are_more before (q ∷ ps) p are next = (are.0, are_more (before ++ q ∷ []) ps p are.1 (subst (λ (l : List Pair). NextPair l p) (sym (append_assoc before (q ∷ []) ps)) next))
 
-pub joined_more : (tokens rest : List Spot) (ps : List Pair) (p : Pair) → tokens ≡ flat ps ++ p.word ∷ p.value ∷ rest → tokens ≡ flat (ps ++ p ∷ []) ++ rest
-joined_more tokens rest ps p is = is ∙ sym (append_assoc (flat ps) (p.word ∷ p.value ∷ []) rest) ∙ sym (ap (λ (l : List Spot). l ++ rest) (flat_more ps p))
+pub joined_more : (tokens rest : List TokenAt) (ps : List Pair) (p : Pair) → tokens ≡ flat ps ++ p.word ∷ p.value ∷ rest → tokens ≡ flat (ps ++ p ∷ []) ++ rest
+joined_more tokens rest ps p is = is ∙ sym (append_assoc (flat ps) (p.word ∷ p.value ∷ []) rest) ∙ sym (ap (λ (l : List TokenAt). l ++ rest) (flat_more ps p))
 
 -- ---- short words
 

@@ -1,5 +1,5 @@
 -- Bytes are an `LGA1` of one grid, or they have one first fault.
-use Rattle.std.proofs.Common.{◌≡◌, ℕ, ℤ, suc, ◌+◌, ◌*◌, ◌^◌, ◌<◌, ◌≤◌, Bool, List, [], ◌∷◌, ◌++◌, length, get_or, All, Option, None, Some, refl, sym, ap, ◌∙◌, subst, arith, ◌⊎◌, inl, inr}
+use Rattle.std.proofs.Common.{◌≡◌, ℕ, ℤ, suc, ◌+◌, ◌*◌, ◌^◌, ◌<◌, List, [], ◌∷◌, ◌++◌, length, get_or, All, Option, None, Some, refl, sym, ap, ◌∙◌, subst, arith, ◌⊎◌, inl, inr}
 use Rattle.std.specs.Prelude.{codes, pos, negsuc, unsigned_abs, is_some}
 use Rattle.std.specs.List.{count_by}
 use Rattle.std.proofs.lemmas.Int.{ints}
@@ -7,23 +7,22 @@ use Rattle.std.proofs.lemmas.List.{append-nil}
 use Rattle.std.proofs.lemmas.List.Elements.{All-cons, All-head, All-nil, All-tail}
 use Rattle.byteorder.specs.Endian.{little_bytes, little_number, twos_complement}
 use Rattle.byteorder.specs.Numbers.{length-bytes_low_first, little_number-reads_back}
-use Rattle.first_fault.specs.Faults.{Faults, ends, in_order, none, unless, wrong}
+use Rattle.first_fault.specs.Faults.{ends, in_order, none, unless, wrong}
 use Rattle.first_fault.specs.Parts.{AreBytes, HasFault, IsEmpty, IsSingle}
-use Rattle.first_fault.proofs.Parts.{empty-ends, empty-in_order, passed, same_rest, single-choice, single-ends, single-in_order, single-none, single-unless, single-wrong}
+use Rattle.first_fault.proofs.Parts.{empty-ends, empty-in_order, passed, same_rest, single-choice, single-ends, single-in_order, single-none, single-unless}
 use Rattle.first_fault.proofs.Decided.{Joined, decided_in_order, decided_unless}
 use Rattle.raster_cells.specs.PixelType.{bytes_of, complement_of}
-use Rattle.raster_values.specs.Raster.{IsRaster, Pixels}
+use Rattle.raster_values.specs.Raster.{Pixels}
 use Rattle.raster_grids.specs.Grid.{grid_of}
 use Rattle.raster_grids.specs.ReadGrid.{IsGrid}
 use Rattle.raster_grids.proofs.GridLaws.{grids_are_parts, written_grid}
-use Rattle.ascii_grid.specs.declared.fault.AsciiReason.{AsciiReason}
 use Rattle.ascii_grid.specs.declared.fault.AsciiReason.TheVariants.{Collision, DepthNot1, Leftover}
 use Rattle.ascii_grid.specs.declared.grid.AsciiGrid.{AsciiGrid}
 use Rattle.ascii_grid.specs.declared.grid.Georef.{Georef}
 use Rattle.ascii_grid.specs.declared.lga.fields.Centres.{Centres}
 use Rattle.ascii_grid.specs.Canon.{IsApart, IsLawful}
 use Rattle.ascii_grid.specs.Laws.{IsEitherLga, LgaHasNoFault, LgaIsLawful, LgaStands, OneLga, OneLgaFault}
-use Rattle.ascii_grid.specs.Lga.{FirstSame, IsFlags, IsLga, IsMagic, IsNodataField, IsTextField, behind_cell, behind_flags, behind_magic, behind_x, behind_y, collision, content_faults, flag_faults, flags_of, grid_and_end_faults, lga_faults, lga_of, magic_faults, nodata_faults, nodata_in, raster_faults, text_field, text_field_faults}
+use Rattle.ascii_grid.specs.Lga.{FirstSame, IsFlags, IsLga, IsMagic, IsNodataField, IsTextField, behind_cell, behind_flags, behind_magic, behind_x, behind_y, collision, content_faults, flag_faults, flags_of, grid_and_end_faults, lga_faults, magic_faults, nodata_faults, raster_faults, text_field, text_field_faults}
 use Rattle.ascii_grid.proofs.Tests.{Tested, same_int, same_nat, this_wrong}
 use Rattle.ascii_grid.proofs.ContentSteps.{same_not_apart}
 use Rattle.ascii_grid.proofs.LgaParts.{flags_decided, flags_part, magic_decided, magic_part, nodata_decided, nodata_part, raster_decided, raster_part, text_decided, text_part}

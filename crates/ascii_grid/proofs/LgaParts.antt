@@ -1,13 +1,11 @@
 -- The fields of an `LGA1` are parts: each is read in one way, and stands or has one first fault.
 use Rattle.std.proofs.Common.{◌≡◌, ℕ, ℤ, zero, suc, ◌+◌, ◌<◌, ◌≤◌, Bool, true, false, List, [], ◌∷◌, ◌++◌, length, get_or, take, drop, All, refl, sym, ap, ◌∙◌, subst, arith, ◌⊎◌, inl, inr, length-append}
 use Rattle.std.specs.Prelude.{codes, unsigned_abs}
-use Rattle.std.proofs.lemmas.List.{append-nil, take-append-drop, take_at, length-take-le}
-use Rattle.first_fault.specs.Faults.{Faults, none, unless, wrong}
-use Rattle.first_fault.specs.Parts.{AreBytes, HasFault, InFront, IsDecided, IsPart, IsSingle}
-use Rattle.first_fault.proofs.Parts.{passed, same_rest, single-none, single-unless}
+use Rattle.std.proofs.lemmas.List.{take-append-drop, take_at, length-take-le}
+use Rattle.first_fault.specs.Faults.{none, unless, wrong}
+use Rattle.first_fault.specs.Parts.{HasFault, InFront, IsDecided, IsPart, IsSingle}
+use Rattle.first_fault.proofs.Parts.{passed, single-none, single-unless}
 use Rattle.first_fault.proofs.Decided.{decided_unless}
-use Rattle.raster_grids.specs.declared.reading.GridReason.{GridReason}
-use Rattle.raster_values.specs.Raster.{Pixels}
 use Rattle.raster_grids.specs.ReadGrid.{IsGrid, grid_faults}
 use Rattle.raster_grids.proofs.GridDecided.{grids_are_decided}
 use Rattle.raster_grids.proofs.GridLaws.{grids_are_parts}

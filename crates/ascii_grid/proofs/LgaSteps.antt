@@ -1,13 +1,11 @@
 -- A whole `LGA1`, field by field.
-use Rattle.std.proofs.Common.{◌≡◌, ℕ, ℤ, suc, ◌+◌, Bool, List, [], ◌∷◌, ◌++◌, length, All, Option, None, Some, IfSome, Ok, Err, refl, sym, ap, ◌∙◌, subst, arith, append_assoc}
+use Rattle.std.proofs.Common.{◌≡◌, ℕ, ℤ, suc, ◌+◌, List, ◌++◌, length, All, Option, None, Some, IfSome, Ok, Err, ap, ◌∙◌, subst, arith, append_assoc}
 use Rattle.std.specs.Prelude.{codes}
-use Rattle.raster_values.specs.Raster.{Pixels}
 use Rattle.raster_grids.specs.ReadGrid.{IsGrid}
 use Rattle.raster_grids.specs.Taken.{TookBytes}
 use Rattle.ascii_grid.specs.declared.fault.AsciiStop.{AsciiStop}
 use Rattle.ascii_grid.specs.declared.fault.AsciiStop.TheVariants.{Fault, Source, OutOfMemory}
 use Rattle.ascii_grid.specs.declared.grid.AsciiGrid.{AsciiGrid}
-use Rattle.ascii_grid.specs.declared.grid.Georef.{Georef}
 use Rattle.ascii_grid.specs.declared.lga.fields.Centres.{Centres}
 use Rattle.ascii_grid.specs.Canon.{IsApart, IsLawful}
 use Rattle.ascii_grid.specs.Lga.{IsFlags, IsLga, IsMagic, IsNodataField, IsTextField, LgaRead, behind_cell, behind_flags, behind_magic, behind_x, behind_y, flag_faults, grid_and_end_faults, lga_faults, magic_faults, nodata_faults, text_field_faults}

@@ -9,7 +9,7 @@ use Rattle.raster_cells.specs.declared.kind.PixelType.{PixelType}
 use Rattle.ascii_grid.specs.declared.words.Key.{Key}
 use Rattle.ascii_grid.specs.declared.words.Key.TheVariants.{Cols, Rows, XCorner, XCenter, YCorner, YCenter, Cell, Nodata}
 use Rattle.ascii_grid.specs.declared.grid.AsciiGrid.{AsciiGrid}
-use Rattle.ascii_grid.specs.Tokens.{AreTokens, IsBlank, Spot}
+use Rattle.ascii_grid.specs.Tokens.{AreTokens, IsBlank, TokenAt}
 use Rattle.ascii_grid.specs.Head.{AreDigits, ArePairs, BeginsWithLetter, IsInteger, IsKey, Pair, Says, SaysKey, SaysNumber, SaysText, SomePair, flat, name_of, quantity_of}
 use Rattle.ascii_grid.specs.Text.{AreCells, IsAscii, IsCell, IsNodata}
 use Rattle.ascii_grid.specs.inside.Reading.{tokens_of}
@@ -25,13 +25,13 @@ skip_gap p (b ∷ gap) rest blank =
     let place : suc p + length gap ≡ p + length (b ∷ gap) = omega arith in
     step_blank p b (gap ++ rest) (All-head IsBlank b gap blank) ∙ skip_gap (suc p) gap rest (All-tail IsBlank b gap blank) ∙ ap (λ (q : ℕ). tokens_of q rest) place
 
-pub tokens_are : (p : ℕ) (text : List ℕ) (ts : List Spot) → AreTokens p text ts → tokens_of p text ≡ ts
+pub tokens_are : (p : ℕ) (text : List ℕ) (ts : List TokenAt) → AreTokens p text ts → tokens_of p text ≡ ts
 tokens_are p text [] blank = ap (tokens_of p) (sym (append-nil text)) ∙ skip_gap p text [] blank
 tokens_are p text (t ∷ ts) (gap, rest, (joined, (blank, (place, (some, (dark, (ends, later))))))) =
     ap (tokens_of p) joined ∙ skip_gap p gap (t.bytes ++ rest) blank ∙ ap (λ (q : ℕ). tokens_of q (t.bytes ++ rest)) (sym place)
-    ∙ word_front t.place t.bytes rest some dark ends ∙ ap (λ (us : List Spot). t ∷ us) (tokens_are (t.place + length t.bytes) rest ts later)
+    ∙ word_front t.place t.bytes rest some dark ends ∙ ap (λ (us : List TokenAt). t ∷ us) (tokens_are (t.place + length t.bytes) rest ts later)
 
-pub one_tokens : (p : ℕ) (text : List ℕ) (ts us : List Spot) → AreTokens p text ts → AreTokens p text us → ts ≡ us
+pub one_tokens : (p : ℕ) (text : List ℕ) (ts us : List TokenAt) → AreTokens p text ts → AreTokens p text us → ts ≡ us
 one_tokens p text ts us a b = sym (tokens_are p text ts a) ∙ tokens_are p text us b
 
 -- ---- keywords
@@ -70,26 +70,26 @@ number_no_letter bytes z (n, inl a) letter = digit_no_letter bytes n a.0 letter
 number_no_letter bytes z (n, inr a) letter = let is : BeginsWithLetter (45 ∷ a.0) = subst BeginsWithLetter a.1.0 letter in omega (arith, is)
 
 -- what is behind the pairs begins with no letter
-abbrev pub IsBehind : List Spot → Type 0
+abbrev pub IsBehind : List TokenAt → Type 0
 IsBehind [] = Unit {0}
 IsBehind (t ∷ ts) = ¬ BeginsWithLetter t.bytes
 
-pub cells_behind : (kind : PixelType) (nodata : ℤ) (ts : List Spot) (ps : List (Option (List ℤ))) → AreCells kind nodata ts ps → IsBehind ts
+pub cells_behind : (kind : PixelType) (nodata : ℤ) (ts : List TokenAt) (ps : List (Option (List ℤ))) → AreCells kind nodata ts ps → IsBehind ts
 cells_behind kind nodata [] ps are = tt
 cells_behind kind nodata (t ∷ ts) [] are = absurd are
 cells_behind kind nodata (t ∷ ts) (p ∷ ps) are = number_no_letter t.bytes are.0.0 are.0.1.0
 
-pub heads_are : (t u : Spot) (ts us : List Spot) → ◌≡◌ {A = List Spot} (t ∷ ts) (u ∷ us) → (t ≡ u) × (ts ≡ us)
+pub heads_are : (t u : TokenAt) (ts us : List TokenAt) → ◌≡◌ {A = List TokenAt} (t ∷ ts) (u ∷ us) → (t ≡ u) × (ts ≡ us)
 heads_are t u ts us e = (cc, cc)
 
-pub pairs_are : (before ps qs : List Pair) (ts us : List Spot) → ArePairs before ps → ArePairs before qs → IsBehind ts → IsBehind us → flat ps ++ ts ≡ flat qs ++ us → (ps ≡ qs) × (ts ≡ us)
+pub pairs_are : (before ps qs : List Pair) (ts us : List TokenAt) → ArePairs before ps → ArePairs before qs → IsBehind ts → IsBehind us → flat ps ++ ts ≡ flat qs ++ us → (ps ≡ qs) × (ts ≡ us)
 pairs_are before [] [] ts us a b x y e = (refl, e)
 pairs_are before [] (q ∷ qs) ts us a b x y e = absurd (subst IsBehind e x b.0.0)
 pairs_are before (p ∷ ps) [] ts us a b x y e = absurd (subst IsBehind (sym e) y a.0.0)
 pairs_are before (p ∷ ps) (q ∷ qs) ts us a b x y e =
     let first = heads_are p.word q.word (p.value ∷ (flat ps ++ ts)) (q.value ∷ (flat qs ++ us)) e in
     let second = heads_are p.value q.value (flat ps ++ ts) (flat qs ++ us) first.1 in
-    let key : p.key ≡ q.key = one_key p.word.bytes p.key q.key a.0.1.0 (subst (λ (t : Spot). IsKey t.bytes q.key) (sym first.0) b.0.1.0) in
+    let key : p.key ≡ q.key = one_key p.word.bytes p.key q.key a.0.1.0 (subst (λ (t : TokenAt). IsKey t.bytes q.key) (sym first.0) b.0.1.0) in
     let same : p ≡ q = λ i. record { word = first.0 i; key = key i; value = second.0 i } in
     let later = pairs_are (before ++ p ∷ []) ps qs ts us a.1 (subst (λ (r : Pair). ArePairs (before ++ r ∷ []) qs) (sym same) b.1) x y second.1 in
     ((λ i. same i ∷ later.0 i), later.1)
@@ -144,7 +144,7 @@ one_cell kind nodata bytes p q (m, (a, inl x)) (n, (b, inr y)) = absurd (y.0 (on
 one_cell kind nodata bytes p q (m, (a, inr x)) (n, (b, inl y)) = absurd (x.0 (one_integer bytes m n a b ∙ y.0))
 one_cell kind nodata bytes p q (m, (a, inr x)) (n, (b, inr y)) = x.1.1 ∙ ap (λ (z : ℤ). Some (z ∷ [])) (one_integer bytes m n a b) ∙ sym y.1.1
 
-pub one_cells : (kind : PixelType) (nodata : ℤ) (ts : List Spot) (ps qs : List (Option (List ℤ))) → AreCells kind nodata ts ps → AreCells kind nodata ts qs → ps ≡ qs
+pub one_cells : (kind : PixelType) (nodata : ℤ) (ts : List TokenAt) (ps qs : List (Option (List ℤ))) → AreCells kind nodata ts ps → AreCells kind nodata ts qs → ps ≡ qs
 one_cells kind nodata [] [] [] a b = refl
 one_cells kind nodata [] (p ∷ ps) qs a b = absurd a
 one_cells kind nodata [] [] (q ∷ qs) a b = absurd b
@@ -173,7 +173,7 @@ one_grid text kind g h a b =
     let cols = pos_same g.raster.cols h.raster.cols (one_number a.pairs 0 (pos g.raster.cols) (pos h.raster.cols) a.stand a.cols (subst (λ (ps : List Pair). SaysNumber ps 0 (pos h.raster.cols)) back b.cols)) in
     let kinds = a.kind_is ∙ sym b.kind_is in
     let depths = a.depth ∙ sym b.depth in
-    let pixels = one_cells kind g.geo.nodata a.numbers g.raster.pixels h.raster.pixels a.cells (subst (λ (n : ℤ). AreCells kind n a.numbers h.raster.pixels) (sym nodata) (subst (λ (ts : List Spot). AreCells kind h.geo.nodata ts h.raster.pixels) (sym split.1) b.cells)) in
+    let pixels = one_cells kind g.geo.nodata a.numbers g.raster.pixels h.raster.pixels a.cells (subst (λ (n : ℤ). AreCells kind n a.numbers h.raster.pixels) (sym nodata) (subst (λ (ts : List TokenAt). AreCells kind h.geo.nodata ts h.raster.pixels) (sym split.1) b.cells)) in
     λ i. record {
       geo = record { x = x i; x_centre = x_centre i; y = y i; y_centre = y_centre i; cell = cell i; nodata = nodata i };
       raster = record { kind = kinds i; rows = rows i; cols = cols i; depth = depths i; pixels = pixels i };

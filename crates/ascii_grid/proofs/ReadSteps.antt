@@ -7,7 +7,7 @@ use Rattle.ascii_grid.specs.declared.fault.AsciiFault.{AsciiFault}
 use Rattle.ascii_grid.specs.declared.fault.AsciiStop.{AsciiStop}
 use Rattle.ascii_grid.specs.declared.fault.AsciiStop.TheVariants.{Fault, Source, OutOfMemory}
 use Rattle.ascii_grid.specs.declared.fault.AsciiReason.TheVariants.{Truncated}
-use Rattle.ascii_grid.specs.Tokens.{EndsToken, IsBlank, IsDark, Spot, limit, seen}
+use Rattle.ascii_grid.specs.Tokens.{EndsToken, IsBlank, IsDark, TokenAt, limit, seen}
 use Rattle.ascii_grid.specs.inside.Reading.{Ahead, Held, Left, TakesNext, begins_dark, tokens_of}
 use Rattle.ascii_grid.specs.Tokens.{decided_front, is_decided, shown}
 use Rattle.ascii_grid.specs.inside.Steps.{Demanded, NextTaken, Skipped, Skips, Takes, WordTaken}
@@ -118,11 +118,11 @@ word_some text [] bytes joined dark ends =
 word_some text (b ∷ word) bytes joined dark ends = omega arith
 
 -- all of a token that is short, or 33 bytes of one: it is shown
-token_shown : (total p : ℕ) (word more : List ℕ) (others : List Spot) → length word ≤ 33 → (length word < 33 → more ≡ []) → p + length word ≤ limit → (length word < 33 → limit < total → p + length word < limit) → (others' : List Spot)
+token_shown : (total p : ℕ) (word more : List ℕ) (others : List TokenAt) → length word ≤ 33 → (length word < 33 → more ≡ []) → p + length word ≤ limit → (length word < 33 → limit < total → p + length word < limit) → (others' : List TokenAt)
     × ((shown total (spot p (word ++ more) ∷ others) ≡ spot p (word ++ more) ∷ others') × (length word < 33 → others' ≡ shown total others))
 token_shown total p word more others few whole within ends = by (cases_lt limit total)
   where
-    by : (limit < total) ⊎ (total ≤ limit) → (others' : List Spot) × ((shown total (spot p (word ++ more) ∷ others) ≡ spot p (word ++ more) ∷ others') × (length word < 33 → others' ≡ shown total others))
+    by : (limit < total) ⊎ (total ≤ limit) → (others' : List TokenAt) × ((shown total (spot p (word ++ more) ∷ others) ≡ spot p (word ++ more) ∷ others') × (length word < 33 → others' ≡ shown total others))
     by (inr short) = (others, (shown_all total (spot p (word ++ more) ∷ others) short, λ less. sym (shown_all total others short)))
     by (inl long) =
         let decided : is_decided (spot p (word ++ more)) ≡ true = elim (cases_lt (length word) 33) [
@@ -141,30 +141,30 @@ shown_none total = by (nat_le total limit)
     by false = refl
 
 -- no token is left
-pub next_end : (old left : Option (List ℕ)) (w window : Held) (total : ℕ) (tokens : List Spot) → (before : Left old w total tokens) → (bytes : List ℕ) × Skips left window w.place before.bytes bytes false → TakesNext left window total tokens None
+pub next_end : (old left : Option (List ℕ)) (w window : Held) (total : ℕ) (tokens : List TokenAt) → (before : Left old w total tokens) → (bytes : List ℕ) × Skips left window w.place before.bytes bytes false → TakesNext left window total tokens None
 next_end old left w window total tokens before (bytes, skips) =
     let none : bytes ≡ [] = skips.ends refl in
     let same : tokens_of w.place before.bytes ≡ [] = sym skips.tokens ∙ ap (λ (u : List ℕ). tokens_of window.place u) none in
-    let empty : tokens ≡ [] = before.tokens_are ∙ ap (λ (ts : List Spot). map seen (shown total ts)) same ∙ ap (λ (ts : List Spot). map seen ts) (shown_none total) in
+    let empty : tokens ≡ [] = before.tokens_are ∙ ap (λ (ts : List TokenAt). map seen (shown total ts)) same ∙ ap (λ (ts : List TokenAt). map seen ts) (shown_none total) in
     let place : window.place ≡ total = omega (arith, skips.total, before.total_is, ap length none) in
-    subst (λ (ts : List Spot). TakesNext left window total ts None) (sym empty) ((omega (arith, skips.within, place), place))
+    subst (λ (ts : List TokenAt). TakesNext left window total ts None) (sym empty) ((omega (arith, skips.within, place), place))
 
 -- no token is decided
-pub next_over : (old left : Option (List ℕ)) (w window : Held) (total : ℕ) (tokens : List Spot) (e : AsciiStop) → (before : Left old w total tokens) → Skipped (Err e) left window w.place before.bytes → NextTaken (Err e) left window total tokens
+pub next_over : (old left : Option (List ℕ)) (w window : Held) (total : ℕ) (tokens : List TokenAt) (e : AsciiStop) → (before : Left old w total tokens) → Skipped (Err e) left window w.place before.bytes → NextTaken (Err e) left window total tokens
 next_over old left w window total tokens (Fault f) before (is, (over, none)) =
     let long : limit < total = omega (arith, over, before.total_is) in
-    (before.tokens_are ∙ ap (λ (ts : List Spot). map seen ts) (shown_front total (tokens_of w.place before.bytes) long ∙ none), (long, is))
+    (before.tokens_are ∙ ap (λ (ts : List TokenAt). map seen ts) (shown_front total (tokens_of w.place before.bytes) long ∙ none), (long, is))
 next_over old left w window total tokens Source before told = tt
 next_over old left w window total tokens OutOfMemory before told = told
 
-pub next_cut : (old mid left : Option (List ℕ)) (w v window : Held) (total : ℕ) (tokens : List Spot) (e : AsciiStop) (word : List ℕ) → (before : Left old w total tokens) → (skipped : (bytes : List ℕ) × Skips mid v w.place before.bytes bytes true) → WordTaken (Err e) left window v.place skipped.0 word
+pub next_cut : (old mid left : Option (List ℕ)) (w v window : Held) (total : ℕ) (tokens : List TokenAt) (e : AsciiStop) (word : List ℕ) → (before : Left old w total tokens) → (skipped : (bytes : List ℕ) × Skips mid v w.place before.bytes bytes true) → WordTaken (Err e) left window v.place skipped.0 word
     → NextTaken (Err e) left window total tokens
 next_cut old mid left w v window total tokens (Fault f) word before (bytes, skips) (behind, cut) =
     let size : length bytes ≡ length (word ++ behind) = ap length cut.joined in
     let long : limit < total = omega (arith, size, length-append word behind, cut.place, some_length behind cut.some, skips.total, before.total_is) in
     let none : decided_front (tokens_of v.place (word ++ behind)) ≡ [] = undecided v.place word behind cut.place cut.dark cut.few in
     let here : decided_front (tokens_of w.place before.bytes) ≡ [] = ap decided_front (sym skips.tokens) ∙ ap (λ (u : List ℕ). decided_front (tokens_of v.place u)) cut.joined ∙ none in
-    (before.tokens_are ∙ ap (λ (ts : List Spot). map seen ts) (shown_front total (tokens_of w.place before.bytes) long ∙ here), (long, cut.fault))
+    (before.tokens_are ∙ ap (λ (ts : List TokenAt). map seen ts) (shown_front total (tokens_of w.place before.bytes) long ∙ here), (long, cut.fault))
   where
     undecided : (p : ℕ) (word behind : List ℕ) → p + length word ≡ limit → All IsDark word → length word < 33 → decided_front (tokens_of p (word ++ behind)) ≡ []
     undecided p [] behind at dark few = none_decided behind p (omega (arith, at))
@@ -178,7 +178,7 @@ next_cut old mid left w v window total tokens OutOfMemory word before skipped to
 -- the token of which these bytes were taken
 record First (p : ℕ) (text word bytes : List ℕ) : Type 0 where
   more : List ℕ
-  others : List Spot
+  others : List TokenAt
   is : tokens_of p text ≡ spot p (word ++ more) ∷ others
   whole : length word < 33 → (more ≡ []) × (others ≡ tokens_of (p + length word) bytes)
 
@@ -209,7 +209,7 @@ seen_word p word more few whole = ap (spot p) (by (cases_lt (length word) 33))
     by (inr many) = take_at word more 33 (omega (arith, many, few))
 
 -- a token was taken
-pub next_word : (old mid left : Option (List ℕ)) (w v window : Held) (total : ℕ) (tokens : List Spot) (u : Spot) → (before : Left old w total tokens) → (skipped : (bytes : List ℕ) × Skips mid v w.place before.bytes bytes true)
+pub next_word : (old mid left : Option (List ℕ)) (w v window : Held) (total : ℕ) (tokens : List TokenAt) (u : TokenAt) → (before : Left old w total tokens) → (skipped : (bytes : List ℕ) × Skips mid v w.place before.bytes bytes true)
     → u.place ≡ v.place → (bytes : List ℕ) × Takes left window v.place skipped.0 u.bytes bytes → TakesNext left window total tokens (Some u)
 next_word old mid left w v window total tokens u before (text, skips) at (bytes, taken) =
     let word = u.bytes in
@@ -221,29 +221,29 @@ next_word old mid left w v window total tokens u before (text, skips) at (bytes,
     let shown_ = token_shown total v.place word first.more first.others taken.few (λ less. (first.whole less).0) (omega (arith, taken.place, taken.within)) early in
     let same : tokens_of w.place before.bytes ≡ spot v.place (word ++ first.more) ∷ first.others = sym skips.tokens ∙ first.is in
     let front : seen (spot v.place (word ++ first.more)) ≡ u = seen_word v.place word first.more taken.few (λ less. (first.whole less).0) ∙ ap (λ (q : ℕ). spot q word) (sym at) in
-    let is : tokens ≡ u ∷ map seen shown_.0 = before.tokens_are ∙ ap (λ (ts : List Spot). map seen (shown total ts)) same ∙ ap (λ (ts : List Spot). map seen ts) shown_.1.0 ∙ ap (λ (x : Spot). x ∷ map seen shown_.0) front in
-    subst (λ (ts : List Spot). TakesNext left window total ts (Some u)) (sym is) ((
+    let is : tokens ≡ u ∷ map seen shown_.0 = before.tokens_are ∙ ap (λ (ts : List TokenAt). map seen (shown total ts)) same ∙ ap (λ (ts : List TokenAt). map seen ts) shown_.1.0 ∙ ap (λ (x : TokenAt). x ∷ map seen shown_.0) front in
+    subst (λ (ts : List TokenAt). TakesNext left window total ts (Some u)) (sym is) ((
       refl,
       λ less. record {
         bytes = bytes;
         ahead = taken.ahead;
         total_is = sum;
-        tokens_are = ap (λ (ts : List Spot). map seen ts) (shown_.1.1 less ∙ ap (λ (ts : List Spot). shown total ts) ((first.whole less).1 ∙ ap (λ (q : ℕ). tokens_of q bytes) (sym taken.place)));
+        tokens_are = ap (λ (ts : List TokenAt). map seen ts) (shown_.1.1 less ∙ ap (λ (ts : List TokenAt). shown total ts) ((first.whole less).1 ∙ ap (λ (q : ℕ). tokens_of q bytes) (sym taken.place)));
       },
     ))
 
 -- ---- a token that is owed
 
-pub owed_stopped : (left : Option (List ℕ)) (window : Held) (total : ℕ) (tokens : List Spot) (e : AsciiStop) → NextTaken (Err e) left window total tokens → Demanded (Err e) left window total tokens
+pub owed_stopped : (left : Option (List ℕ)) (window : Held) (total : ℕ) (tokens : List TokenAt) (e : AsciiStop) → NextTaken (Err e) left window total tokens → Demanded (Err e) left window total tokens
 owed_stopped left window total tokens (Fault f) (none, (long, is)) =
     (none, inr ((λ short. let no : ⊥ = omega (arith, long, short) in no), (ap (λ (g : AsciiFault). g.place) is, ap (λ (g : AsciiFault). g.reason) is)))
 owed_stopped left window total tokens Source told = tt
 owed_stopped left window total tokens OutOfMemory told = told
 
-pub owed_taken : (left : Option (List ℕ)) (window : Held) (total : ℕ) (tokens : List Spot) (u : Spot) → TakesNext left window total tokens (Some u) → Demanded (Ok u) left window total tokens
+pub owed_taken : (left : Option (List ℕ)) (window : Held) (total : ℕ) (tokens : List TokenAt) (u : TokenAt) → TakesNext left window total tokens (Some u) → Demanded (Ok u) left window total tokens
 owed_taken left window total [] u told = absurd told
-owed_taken left window total (t ∷ ts) u (is, next) = (ts, (ap (λ (x : Spot). x ∷ ts) (sym is), next))
+owed_taken left window total (t ∷ ts) u (is, next) = (ts, (ap (λ (x : TokenAt). x ∷ ts) (sym is), next))
 
-pub owed_ended : (left : Option (List ℕ)) (window later : Held) (total place : ℕ) (tokens : List Spot) (e : AsciiStop) → TakesNext left window total tokens None → place ≡ window.place → e ≡ Fault (record { reason = Truncated; place = place }) → Demanded (Err e) left later total tokens
+pub owed_ended : (left : Option (List ℕ)) (window later : Held) (total place : ℕ) (tokens : List TokenAt) (e : AsciiStop) → TakesNext left window total tokens None → place ≡ window.place → e ≡ Fault (record { reason = Truncated; place = place }) → Demanded (Err e) left later total tokens
 owed_ended left window later total place [] e (short, at) same is = subst (λ (s : AsciiStop). Demanded (Err s) left later total []) (sym is) ((refl, inl (short, (same ∙ at, refl))))
 owed_ended left window later total place (t ∷ ts) e told same is = absurd told

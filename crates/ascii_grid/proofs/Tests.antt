@@ -16,7 +16,7 @@ use Rattle.ascii_grid.specs.declared.words.Key.{Key}
 use Rattle.ascii_grid.specs.declared.words.Key.TheVariants.{Cols, Rows, XCorner, XCenter, YCorner, YCenter, Cell, Nodata}
 use Rattle.ascii_grid.specs.declared.fault.AsciiReason.{AsciiReason}
 use Rattle.ascii_grid.specs.declared.fault.AsciiReason.TheVariants.{BadText, BadNumber, BadSize, TooLarge, OutOfRange}
-use Rattle.ascii_grid.specs.Tokens.{Spot}
+use Rattle.ascii_grid.specs.Tokens.{TokenAt}
 use Rattle.ascii_grid.specs.Head.{AreDigits, BeginsWithLetter, HasAll, IsInteger, IsKey, IsSize, IsText, IsTextByte, IsValue, Pair, Says, SaysNumber, SomePair, name_of, quantity_of, size_faults, text_faults, value_faults}
 use Rattle.ascii_grid.specs.Text.{IsCell, cell_faults}
 use Rattle.ascii_grid.proofs.DigitSteps.{one_integer}
@@ -233,16 +233,16 @@ test_size ps q bytes = by (test_above bytes)
 pub this_wrong : (why : AsciiReason) (at : ℕ) → HasFault (wrong why at)
 this_wrong why at = record { place = at; reason = why; fault = (refl, refl) }
 
-decided_size : (ps : List Pair) (q : ℕ) (v : Spot) → IsSize ps q v.bytes ⊎ HasFault (size_faults ps q v)
+decided_size : (ps : List Pair) (q : ℕ) (v : TokenAt) → IsSize ps q v.bytes ⊎ HasFault (size_faults ps q v)
 decided_size ps q v =
     decided_unless ((n : ℤ) × IsInteger v.bytes n) (wrong BadNumber v.place) (unless (Above v.bytes) (wrong BadSize v.place) (unless (IsSize ps q v.bytes) (wrong TooLarge v.place) none)) (test_integer v.bytes) (this_wrong BadNumber v.place)
     (λ a. decided_unless (Above v.bytes) (wrong BadSize v.place) (unless (IsSize ps q v.bytes) (wrong TooLarge v.place) none) (test_above v.bytes) (this_wrong BadSize v.place)
     (λ b. decided_unless (IsSize ps q v.bytes) (wrong TooLarge v.place) none (test_size ps q v.bytes) (this_wrong TooLarge v.place) (λ c. inl c)))
 
-decided_text : (v : Spot) → IsText v.bytes ⊎ HasFault (text_faults v)
+decided_text : (v : TokenAt) → IsText v.bytes ⊎ HasFault (text_faults v)
 decided_text v = decided_unless (IsText v.bytes) (wrong BadText v.place) none (test_text v.bytes) (this_wrong BadText v.place) (λ c. inl c)
 
-pub decided_value : (ps : List Pair) (key : Key) (v : Spot) → IsValue ps key v.bytes ⊎ HasFault (value_faults ps key v)
+pub decided_value : (ps : List Pair) (key : Key) (v : TokenAt) → IsValue ps key v.bytes ⊎ HasFault (value_faults ps key v)
 decided_value ps Cols v = decided_size ps 1 v
 decided_value ps Rows v = decided_size ps 0 v
 decided_value ps XCorner v = decided_text v
@@ -310,7 +310,7 @@ test_cell kind nodata bytes = by (test_integer bytes)
     by (inl z) = of z.0 z.1 (same_int z.0 nodata) (test_range kind z.0)
     by (inr none_) = inr (λ h. none_ (h.1.0, h.1.1.0))
 
-pub decided_cell : (kind : PixelType) (nodata : ℤ) (t : Spot) → ((p : Option (List ℤ)) × IsCell kind nodata t.bytes p) ⊎ HasFault (cell_faults kind nodata t)
+pub decided_cell : (kind : PixelType) (nodata : ℤ) (t : TokenAt) → ((p : Option (List ℤ)) × IsCell kind nodata t.bytes p) ⊎ HasFault (cell_faults kind nodata t)
 decided_cell kind nodata t =
     decided_unless ((n : ℤ) × IsInteger t.bytes n) (wrong BadNumber t.place) (unless ((p : Option (List ℤ)) × IsCell kind nodata t.bytes p) (wrong OutOfRange t.place) none) (test_integer t.bytes) (this_wrong BadNumber t.place)
     (λ a. decided_unless ((p : Option (List ℤ)) × IsCell kind nodata t.bytes p) (wrong OutOfRange t.place) none (test_cell kind nodata t.bytes) (this_wrong OutOfRange t.place) (λ c. inl c))

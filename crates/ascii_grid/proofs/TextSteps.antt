@@ -9,7 +9,7 @@ use Rattle.ascii_grid.specs.declared.fault.AsciiStop.{AsciiStop}
 use Rattle.ascii_grid.specs.declared.fault.AsciiStop.TheVariants.{Fault, Source, OutOfMemory}
 use Rattle.ascii_grid.specs.declared.grid.Georef.{Georef}
 use Rattle.ascii_grid.specs.declared.head.Head.{Head}
-use Rattle.ascii_grid.specs.Tokens.{AreTokens, EndsToken, IsBlank, IsDark, Spot, is_blank, seen, shown}
+use Rattle.ascii_grid.specs.Tokens.{AreTokens, EndsToken, IsBlank, IsDark, TokenAt, is_blank, seen, shown}
 use Rattle.ascii_grid.specs.Head.{ArePairs, Pair, SaysNumber, SaysText, flat}
 use Rattle.ascii_grid.specs.Text.{AreCells, AsciiRead, NumberFaults, IsGeo, IsNodata}
 use Rattle.ascii_grid.specs.inside.Cells.{CellsTaken}
@@ -21,13 +21,13 @@ use Rattle.ascii_grid.proofs.TokenLists.{shown_all, spot, step_blank, step_dark}
 
 -- ---- the tokens of a text are its tokens
 
-behind_blank : (p b : ℕ) (rest : List ℕ) (ts : List Spot) → IsBlank b → AreTokens (suc p) rest ts → AreTokens p (b ∷ rest) ts
+behind_blank : (p b : ℕ) (rest : List ℕ) (ts : List TokenAt) → IsBlank b → AreTokens (suc p) rest ts → AreTokens p (b ∷ rest) ts
 behind_blank p b rest [] is are = All-cons IsBlank b rest is are
 behind_blank p b rest (t ∷ ts) is (gap, back, (joined, (blanks, (place, more)))) =
     (b ∷ gap, back, (ap (λ (u : List ℕ). b ∷ u) joined, (All-cons IsBlank b gap is blanks, ((let e : t.place ≡ p + length (b ∷ gap) = omega (arith, place) in e), more))))
 
 -- a dark byte in front of a token that begins at once
-no_gap : (rest gap back : List ℕ) (t : Spot) → begins_dark rest ≡ true → rest ≡ gap ++ back → All IsBlank gap → gap ≡ []
+no_gap : (rest gap back : List ℕ) (t : TokenAt) → begins_dark rest ≡ true → rest ≡ gap ++ back → All IsBlank gap → gap ≡ []
 no_gap rest [] back t dark joined blanks = refl
 no_gap rest (g ∷ gap) back t dark joined blanks =
     let blank : IsBlank g = All-head IsBlank g gap blanks in
@@ -54,7 +54,7 @@ blank_is c r e = by (is_blank c) refl
         let clash : true ≡ false = sym other ∙ e in
         absurd (let bad : ⊥ = cc in bad)
 
-in_front : (p b : ℕ) (rest : List ℕ) (ts : List Spot) → IsDark b → (dark : Bool) → begins_dark rest ≡ dark → AreTokens (suc p) rest ts → AreTokens p (b ∷ rest) (led p b dark ts)
+in_front : (p b : ℕ) (rest : List ℕ) (ts : List TokenAt) → IsDark b → (dark : Bool) → begins_dark rest ≡ dark → AreTokens (suc p) rest ts → AreTokens p (b ∷ rest) (led p b dark ts)
 in_front p b rest ts is false starts are =
     ([], rest, (refl, (All-nil IsBlank, ((let e : p ≡ p + 0 = omega arith in e), ((let some : 0 < length (b ∷ []) = omega arith in some), (All-cons IsDark b [] is (All-nil IsDark), (ends rest starts, subst (λ (q : ℕ). AreTokens q rest ts) (let e : suc p ≡ p + 1 = omega arith in e) are)))))))
   where
@@ -98,20 +98,20 @@ are_tokens p (b ∷ rest) = by (are_tokens (suc p) rest) (is_blank b) refl
 
 -- ---- short tokens are looked at whole
 
-abbrev pub AreShort : List Spot → Type 0
+abbrev pub AreShort : List TokenAt → Type 0
 AreShort [] = Unit {0}
 AreShort (t ∷ ts) = (length t.bytes < 33) × AreShort ts
 
-unseen_one : (t u : Spot) → seen t ≡ u → length u.bytes < 33 → t ≡ u
+unseen_one : (t u : TokenAt) → seen t ≡ u → length u.bytes < 33 → t ≡ u
 unseen_one t u is few =
-    let size : length (take 33 t.bytes) < 33 = subst (λ (s : Spot). length s.bytes < 33) (sym is) few in
+    let size : length (take 33 t.bytes) < 33 = subst (λ (s : TokenAt). length s.bytes < 33) (sym is) few in
     let all : take 33 t.bytes ≡ t.bytes = take_all 33 t.bytes (omega (arith, size, length-take 33 t.bytes)) in
     (λ i. spot t.place (sym all i)) ∙ is
 
-front_is : (t u : Spot) (ts us : List Spot) → ◌≡◌ {A = List Spot} (t ∷ ts) (u ∷ us) → (t ≡ u) × (ts ≡ us)
+front_is : (t u : TokenAt) (ts us : List TokenAt) → ◌≡◌ {A = List TokenAt} (t ∷ ts) (u ∷ us) → (t ≡ u) × (ts ≡ us)
 front_is t u ts us e = (cc, cc)
 
-pub unseen : (all xs : List Spot) → map seen all ≡ xs → AreShort xs → all ≡ xs
+pub unseen : (all xs : List TokenAt) → map seen all ≡ xs → AreShort xs → all ≡ xs
 unseen [] [] is short = refl
 unseen [] (x ∷ xs) is short = absurd (let bad : ⊥ = cc in bad)
 unseen (t ∷ all) [] is short = absurd (let bad : ⊥ = cc in bad)
@@ -119,12 +119,12 @@ unseen (t ∷ all) (x ∷ xs) is (few, short) =
     let both = front_is (seen t) x (map seen all) xs is in
     λ i. unseen_one t x both.0 few i ∷ unseen all xs both.1 short i
 
-pub short_pairs : (before ps : List Pair) (rest : List Spot) → ArePairs before ps → AreShort rest → AreShort (flat ps ++ rest)
+pub short_pairs : (before ps : List Pair) (rest : List TokenAt) → ArePairs before ps → AreShort rest → AreShort (flat ps ++ rest)
 short_pairs before [] rest are short = short
 short_pairs before (p ∷ ps) rest (one, more) short =
     (key_few p.word.bytes p.key one.1.0, (value_few before p.key p.value.bytes one.1.1.1, short_pairs (before ++ p ∷ []) ps rest more short))
 
-pub short_cells : (kind : PixelType) (nodata : ℤ) (ts : List Spot) (ps : List (Option (List ℤ))) → AreCells kind nodata ts ps → AreShort ts
+pub short_cells : (kind : PixelType) (nodata : ℤ) (ts : List TokenAt) (ps : List (Option (List ℤ))) → AreCells kind nodata ts ps → AreShort ts
 short_cells kind nodata [] [] are = tt
 short_cells kind nodata [] (q ∷ ps) are = absurd are
 short_cells kind nodata (u ∷ ts) [] are = absurd are
@@ -132,9 +132,9 @@ short_cells kind nodata (u ∷ ts) (q ∷ ps) are = ((let few : length u.bytes <
 
 -- ---- what is made of a head
 
-pub text_said : (o : Option Spot) (ps : List Pair) (q : ℕ) (b : List ℕ) (t : Spot) → o ≡ Some t → KeepsText o ps q → b ≡ t.bytes → SaysText ps q b
+pub text_said : (o : Option TokenAt) (ps : List Pair) (q : ℕ) (b : List ℕ) (t : TokenAt) → o ≡ Some t → KeepsText o ps q → b ≡ t.bytes → SaysText ps q b
 text_said None ps q b t is keeps same = absurd (let bad : ⊥ = cc in bad)
-text_said (Some u) ps q b t is keeps same = subst (SaysText ps q) (ap (λ (s : Spot). s.bytes) (let e : u ≡ t = cc in e) ∙ sym same) keeps.0
+text_said (Some u) ps q b t is keeps same = subst (SaysText ps q) (ap (λ (s : TokenAt). s.bytes) (let e : u ≡ t = cc in e) ∙ sym same) keeps.0
 
 pub size_said : (o : Option ℕ) (ps : List Pair) (q n : ℕ) → o ≡ Some n → KeepsSize o ps q → SaysNumber ps q (pos n)
 size_said None ps q n is keeps = absurd (let bad : ⊥ = cc in bad)
@@ -154,7 +154,7 @@ text_left left w text is new = subst (λ (v : Held). Left left v (length text) (
   tokens_are = refl;
 })
 
-abbrev pub looked : List ℕ → List Spot
+abbrev pub looked : List ℕ → List TokenAt
 looked text = map seen (shown (length text) (tokens_of 0 text))
 
 pub head_stopped : (left : Option (List ℕ)) (w : Held) (text : List ℕ) (kind : PixelType) (e : AsciiStop) → HeadRead (Err e) left w (length text) (looked text) → AsciiRead (Err e) kind text
@@ -162,7 +162,7 @@ head_stopped left w text kind (Fault f) faults = record { all = tokens_of 0 text
 head_stopped left w text kind Source faults = tt
 head_stopped left w text kind OutOfMemory faults = tt
 
-pub cells_stopped : (left : Option (List ℕ)) (w : Held) (text : List ℕ) (kind : PixelType) (h : Head) (first : Spot) (nodata : ℤ) (old new : Pixels) (e : AsciiStop) → (behind : BehindHead h first left w (length text) (looked text)) → IsNodata behind.pairs nodata
+pub cells_stopped : (left : Option (List ℕ)) (w : Held) (text : List ℕ) (kind : PixelType) (h : Head) (first : TokenAt) (nodata : ℤ) (old new : Pixels) (e : AsciiStop) → (behind : BehindHead h first left w (length text) (looked text)) → IsNodata behind.pairs nodata
     → old.kind ≡ kind → h.rows ≡ Some old.rows → h.cols ≡ Some old.cols → CellsTaken (Err e) (length text) nodata (first ∷ behind.rest) old new → AsciiRead (Err e) kind text
 cells_stopped left w text kind h first nodata old new (Fault f) behind number same rows cols faults = record {
   all = tokens_of 0 text;
@@ -189,13 +189,13 @@ cells_stopped left w text kind h first nodata old new (Fault f) behind number sa
 cells_stopped left w text kind h first nodata old new Source behind number same rows cols faults = tt
 cells_stopped left w text kind h first nodata old new OutOfMemory behind number same rows cols faults = tt
 
-pub text_done : (left : Option (List ℕ)) (w : Held) (text : List ℕ) (kind : PixelType) (h : Head) (first : Spot) (geo : Georef) (old new : Pixels) → (behind : BehindHead h first left w (length text) (looked text)) → IsGeo behind.pairs geo
+pub text_done : (left : Option (List ℕ)) (w : Held) (text : List ℕ) (kind : PixelType) (h : Head) (first : TokenAt) (geo : Georef) (old new : Pixels) → (behind : BehindHead h first left w (length text) (looked text)) → IsGeo behind.pairs geo
     → old ≡ blank kind old.rows old.cols 1 → h.rows ≡ Some old.rows → h.cols ≡ Some old.cols → CellsTaken (Ok tt) (length text) geo.nodata (first ∷ behind.rest) old new → AsciiRead (Ok (record { geo = geo; raster = new })) kind text
 text_done left w text kind h first geo old new behind lies made rows cols (short, (count, (are, same))) =
     let kind_is : old.kind ≡ kind = ap (λ (r : Pixels). r.kind) made in
     let new_rows : old.rows ≡ new.rows = sym (ap (λ (r : Pixels). r.rows) same) in
     let new_cols : old.cols ≡ new.cols = sym (ap (λ (r : Pixels). r.cols) same) in
-    let all_seen : map seen (tokens_of 0 text) ≡ flat behind.pairs ++ first ∷ behind.rest = ap (λ (ts : List Spot). map seen ts) (sym (shown_all (length text) (tokens_of 0 text) short)) ∙ behind.joined in
+    let all_seen : map seen (tokens_of 0 text) ≡ flat behind.pairs ++ first ∷ behind.rest = ap (λ (ts : List TokenAt). map seen ts) (sym (shown_all (length text) (tokens_of 0 text) short)) ∙ behind.joined in
     record {
       tokens = tokens_of 0 text;
       pairs = behind.pairs;

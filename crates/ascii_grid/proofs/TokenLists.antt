@@ -3,7 +3,7 @@ use Rattle.std.proofs.Common.{◌≡◌, ℕ, suc, ◌+◌, ◌<◌, ◌≤◌, 
 use Rattle.std.specs.Prelude.{if◌then◌else◌, nat_lt, nat_le}
 use Rattle.std.proofs.lemmas.List.Elements.{All-head, All-tail}
 use Rattle.std.proofs.lemmas.Bool.{cases_lt}
-use Rattle.ascii_grid.specs.Tokens.{EndsToken, IsBlank, IsDark, Spot, is_blank, limit}
+use Rattle.ascii_grid.specs.Tokens.{EndsToken, IsBlank, IsDark, TokenAt, is_blank, limit}
 use Rattle.ascii_grid.specs.Tokens.{decided_front, is_decided, shown}
 use Rattle.ascii_grid.specs.inside.Reading.{begins_dark, led, tokens_of}
 
@@ -20,7 +20,7 @@ pub not_dark : (rest : List ℕ) → EndsToken rest → begins_dark rest ≡ fal
 not_dark [] ends = refl
 not_dark (b ∷ rest) ends = ap (λ (v : Bool). if v then false else true) ends
 
-abbrev pub spot : ℕ → List ℕ → Spot
+abbrev pub spot : ℕ → List ℕ → TokenAt
 spot p w = record { place = p; bytes = w }
 
 -- a whole token in front
@@ -37,21 +37,21 @@ word_front p (b ∷ c ∷ w) behind some dark ends =
     let later = word_front (suc p) (c ∷ w) behind (omega arith) rest ends in
     let place : suc p + length (c ∷ w) ≡ p + length (b ∷ c ∷ w) = omega arith in
     step_dark p b ((c ∷ w) ++ behind) one ∙ ap (λ (v : Bool). led p b v (tokens_of (suc p) ((c ∷ w) ++ behind))) (dark_first c (w ++ behind) two)
-    ∙ ap (λ (ts : List Spot). led p b true ts) later ∙ ap (λ (q : ℕ). spot p (b ∷ c ∷ w) ∷ tokens_of q behind) place
+    ∙ ap (λ (ts : List TokenAt). led p b true ts) later ∙ ap (λ (q : ℕ). spot p (b ∷ c ∷ w) ∷ tokens_of q behind) place
 
 -- the first bytes of a token in front
 pub record Longer (p : ℕ) (w behind : List ℕ) : Type 0 where
   pub more : List ℕ
-  pub others : List Spot
+  pub others : List TokenAt
   pub is : tokens_of p (w ++ behind) ≡ spot p (w ++ more) ∷ others
   pub some : begins_dark behind ≡ true → 0 < length more
 
-led_some : (p b : ℕ) (dark : Bool) (ts : List Spot) → (more : List ℕ) × ((others : List Spot) × ((led p b dark ts ≡ spot p (b ∷ more) ∷ others)))
+led_some : (p b : ℕ) (dark : Bool) (ts : List TokenAt) → (more : List ℕ) × ((others : List TokenAt) × ((led p b dark ts ≡ spot p (b ∷ more) ∷ others)))
 led_some p b false ts = ([], (ts, refl))
 led_some p b true [] = ([], ([], refl))
 led_some p b true (t ∷ ts) = (t.bytes, (ts, refl))
 
-pub first_some : (p b : ℕ) (rest : List ℕ) → IsDark b → (more : List ℕ) × ((others : List Spot) × ((tokens_of p (b ∷ rest) ≡ spot p (b ∷ more) ∷ others)))
+pub first_some : (p b : ℕ) (rest : List ℕ) → IsDark b → (more : List ℕ) × ((others : List TokenAt) × ((tokens_of p (b ∷ rest) ≡ spot p (b ∷ more) ∷ others)))
 first_some p b rest is =
     let made = led_some p b (begins_dark rest) (tokens_of (suc p) rest) in
     (made.0, (made.1.0, step_dark p b rest is ∙ made.1.1))
@@ -86,7 +86,7 @@ word_more p (b ∷ []) (c ∷ behind) some dark = by (is_blank c) refl
         record {
           more = c ∷ next.0;
           others = next.1.0;
-          is = step_dark p b (c ∷ behind) one ∙ ap (λ (v : Bool). led p b v (tokens_of (suc p) (c ∷ behind))) (dark_first c behind is) ∙ ap (λ (ts : List Spot). led p b true ts) next.1.1;
+          is = step_dark p b (c ∷ behind) one ∙ ap (λ (v : Bool). led p b v (tokens_of (suc p) (c ∷ behind))) (dark_first c behind is) ∙ ap (λ (ts : List TokenAt). led p b true ts) next.1.1;
           some = λ yes. omega arith;
         }
 word_more p (b ∷ c ∷ w) behind some dark =
@@ -98,29 +98,29 @@ word_more p (b ∷ c ∷ w) behind some dark =
       more = later.more;
       others = later.others;
       is = step_dark p b ((c ∷ w) ++ behind) one ∙ ap (λ (v : Bool). led p b v (tokens_of (suc p) ((c ∷ w) ++ behind))) (dark_first c (w ++ behind) two)
-          ∙ ap (λ (ts : List Spot). led p b true ts) later.is;
+          ∙ ap (λ (ts : List TokenAt). led p b true ts) later.is;
       some = later.some;
     }
 
 -- ---- what a text shows
 
-pub shown_all : (total : ℕ) (ts : List Spot) → total ≤ limit → shown total ts ≡ ts
+pub shown_all : (total : ℕ) (ts : List TokenAt) → total ≤ limit → shown total ts ≡ ts
 shown_all total ts within = ap (λ (v : Bool). if v then ts else decided_front ts) (let h : nat_le total limit ≡ true = search rules in h)
 
-pub shown_front : (total : ℕ) (ts : List Spot) → limit < total → shown total ts ≡ decided_front ts
+pub shown_front : (total : ℕ) (ts : List TokenAt) → limit < total → shown total ts ≡ decided_front ts
 shown_front total ts over = ap (λ (v : Bool). if v then ts else decided_front ts) (let h : nat_le total limit ≡ false = search rules in h)
 
-pub decided_more : (t : Spot) (ts : List Spot) → is_decided t ≡ true → decided_front (t ∷ ts) ≡ t ∷ decided_front ts
+pub decided_more : (t : TokenAt) (ts : List TokenAt) → is_decided t ≡ true → decided_front (t ∷ ts) ≡ t ∷ decided_front ts
 decided_more t ts is = ap (λ (v : Bool). if v then t ∷ decided_front ts else []) is
 
-pub decided_none : (t : Spot) (ts : List Spot) → is_decided t ≡ false → decided_front (t ∷ ts) ≡ []
+pub decided_none : (t : TokenAt) (ts : List TokenAt) → is_decided t ≡ false → decided_front (t ∷ ts) ≡ []
 decided_none t ts is = ap (λ (v : Bool). if v then t ∷ decided_front ts else []) is
 
 -- a token that is decided, or not
-pub is_decided_short : (t : Spot) → t.place + length t.bytes < limit → is_decided t ≡ true
+pub is_decided_short : (t : TokenAt) → t.place + length t.bytes < limit → is_decided t ≡ true
 is_decided_short t less = let h : nat_lt (t.place + length t.bytes) limit ≡ true = search rules in ap (λ (v : Bool). v || (nat_le 33 (length t.bytes) && nat_le (t.place + 33) limit)) h
 
-pub is_decided_long : (t : Spot) → 33 ≤ length t.bytes → t.place + 33 ≤ limit → is_decided t ≡ true
+pub is_decided_long : (t : TokenAt) → 33 ≤ length t.bytes → t.place + 33 ≤ limit → is_decided t ≡ true
 is_decided_long t many room = by (nat_lt (t.place + length t.bytes) limit)
   where
     one : nat_le 33 (length t.bytes) ≡ true
@@ -133,7 +133,7 @@ is_decided_long t many room = by (nat_lt (t.place + length t.bytes) limit)
     by true = refl
     by false = (λ i. one i && two i)
 
-pub is_decided_not : (t : Spot) → limit ≤ t.place + length t.bytes → (33 ≤ length t.bytes → limit < t.place + 33) → is_decided t ≡ false
+pub is_decided_not : (t : TokenAt) → limit ≤ t.place + length t.bytes → (33 ≤ length t.bytes → limit < t.place + 33) → is_decided t ≡ false
 is_decided_not t over few = first ∙ by (cases_lt (length t.bytes) 33)
   where
     before : nat_lt (t.place + length t.bytes) limit ≡ false

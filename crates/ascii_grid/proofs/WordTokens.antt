@@ -8,7 +8,7 @@ use Rattle.std.proofs.lemmas.Fmt.{decimal_is_IsNumeral, decimal_nonempty, length
 use Rattle.std.proofs.lemmas.Str.Parse.{digit_at}
 use Rattle.std.specs.Fmt.{signed_decimal}
 use Rattle.outside_io.specs.program.Word.{IsDigit}
-use Rattle.ascii_grid.specs.Tokens.{AreTokens, IsBlank, IsDark, Spot, is_blank}
+use Rattle.ascii_grid.specs.Tokens.{AreTokens, IsBlank, IsDark, TokenAt, is_blank}
 use Rattle.ascii_grid.specs.Head.{AreDigits, IsInteger, IsText, IsTextByte}
 use Rattle.ascii_grid.specs.Canon.{Word, end_of, spelled}
 use Rattle.ascii_grid.proofs.TokenLists.{spot}
@@ -81,7 +81,7 @@ abbrev pub AreWords : List Word → Type 0
 AreWords [] = Unit {0}
 AreWords (w ∷ ws) = IsWord w × AreWords ws
 
-abbrev pub spots : ℕ → List Word → List Spot
+abbrev pub spots : ℕ → List Word → List TokenAt
 spots p [] = []
 spots p (w ∷ ws) = spot p w.bytes ∷ spots (p + length w.bytes + 1) ws
 

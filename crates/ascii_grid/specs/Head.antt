@@ -4,7 +4,7 @@ use Rattle.std.specs.Char.{to_ascii_lowercase}
 use Rattle.std.specs.Str.Parse.{digits_value}
 use Rattle.outside_io.specs.program.Word.{IsDigit}
 use Rattle.first_fault.specs.Faults.{Faults, choice, none, unless, wrong}
-use Rattle.ascii_grid.specs.Tokens.{Spot}
+use Rattle.ascii_grid.specs.Tokens.{TokenAt}
 use Rattle.ascii_grid.specs.declared.words.Key.{Key}
 use Rattle.ascii_grid.specs.declared.words.Key.TheVariants.{Cols, Rows, XCorner, XCenter, YCorner, YCenter, Cell, Nodata}
 use Rattle.ascii_grid.specs.declared.fault.AsciiReason.{AsciiReason}
@@ -60,9 +60,9 @@ pub record IsText (bytes : List ℕ) : Type 0 where
 
 -- a keyword and its value
 pub record Pair : Type 0 where
-  pub word : Spot
+  pub word : TokenAt
   pub key : Key
-  pub value : Spot
+  pub value : TokenAt
 
 -- the number of the quantity of a key: a corner and a centre are two ways to say one
 abbrev pub quantity_of : Key → ℕ
@@ -127,23 +127,23 @@ ArePairs before (p ∷ ps) = (BeginsWithLetter p.word.bytes × (IsKey p.word.byt
     × ((¬ Has before p.key) × IsValue before p.key p.value.bytes))) × ArePairs (before ++ p ∷ []) ps
 
 -- their tokens
-abbrev pub flat : List Pair → List Spot
+abbrev pub flat : List Pair → List TokenAt
 flat [] = []
 flat (p ∷ ps) = p.word ∷ p.value ∷ flat ps
 
 -- ---- the first fault
 
 -- what may be wrong with a size
-abbrev pub size_faults : List Pair → ℕ → Spot → Faults AsciiReason
+abbrev pub size_faults : List Pair → ℕ → TokenAt → Faults AsciiReason
 size_faults ps other v =
     unless ((n : ℤ) × IsInteger v.bytes n) (wrong BadNumber v.place)
     (unless ((n : ℕ) × (IsInteger v.bytes (pos n) × (0 < n))) (wrong BadSize v.place)
     (unless (IsSize ps other v.bytes) (wrong TooLarge v.place) none))
 
-abbrev pub text_faults : Spot → Faults AsciiReason
+abbrev pub text_faults : TokenAt → Faults AsciiReason
 text_faults v = unless (IsText v.bytes) (wrong BadText v.place) none
 
-abbrev pub value_faults : List Pair → Key → Spot → Faults AsciiReason
+abbrev pub value_faults : List Pair → Key → TokenAt → Faults AsciiReason
 value_faults ps Cols v = size_faults ps 1 v
 value_faults ps Rows v = size_faults ps 0 v
 value_faults ps XCorner v = text_faults v
@@ -154,35 +154,36 @@ value_faults ps Cell v = text_faults v
 value_faults ps Nodata v = unless ((n : ℤ) × IsInteger v.bytes n) (wrong BadNumber v.place) none
 
 -- `last` is how the text ends where a token is owed
-abbrev pub behind_key : Faults AsciiReason → List Pair → Key → List Spot → Faults AsciiReason
+abbrev pub behind_key : Faults AsciiReason → List Pair → Key → List TokenAt → Faults AsciiReason
 behind_key last ps key [] = last
 behind_key last ps key (v ∷ vs) = value_faults ps key v
 
 -- a keyword that is there already, or the value behind it is wrong
-pub record KeyFault (last : Faults AsciiReason) (ps : List Pair) (t : Spot) (ts : List Spot)
+pub record KeyFault (last : Faults AsciiReason) (ps : List Pair) (t : TokenAt) (ts : List TokenAt)
     (place : ℕ) (reason : AsciiReason) : Type 0 where
   pub key : Key
   pub is : IsKey t.bytes key
-  pub fault : unless (¬ Has ps key) (wrong Repeated t.place) (behind_key last ps key ts) place reason
+  pub fault : unless (¬ Has ps key) (wrong Repeated t.place)
+      (behind_key last ps key ts) place reason
 
 -- a word that begins with a letter
-abbrev pub key_faults : Faults AsciiReason → List Pair → Spot → List Spot → Faults AsciiReason
+abbrev pub key_faults : Faults AsciiReason → List Pair → TokenAt → List TokenAt → Faults AsciiReason
 key_faults last ps t ts place reason =
     (((key : Key) → ¬ IsKey t.bytes key) × wrong BadKey t.place place reason)
     ⊎ KeyFault last ps t ts place reason
 
 -- what may be wrong behind some pairs
-abbrev pub next_faults : Faults AsciiReason → List Pair → List Spot → Faults AsciiReason
+abbrev pub next_faults : Faults AsciiReason → List Pair → List TokenAt → Faults AsciiReason
 next_faults last ps [] = last
 next_faults last ps (t ∷ ts) =
     choice (BeginsWithLetter t.bytes) (key_faults last ps t ts)
     (unless (HasAll ps) (wrong Missing t.place) none)
 
 -- the first pairs stand, and what is behind them is wrong
-pub record HeadFaults (last : Faults AsciiReason) (tokens : List Spot) (place : ℕ)
+pub record HeadFaults (last : Faults AsciiReason) (tokens : List TokenAt) (place : ℕ)
     (reason : AsciiReason) : Type 0 where
   pub before : List Pair
-  pub rest : List Spot
+  pub rest : List TokenAt
   pub joined : tokens ≡ flat before ++ rest
   pub stand : ArePairs [] before
   pub next : next_faults last before rest place reason

@@ -3,7 +3,7 @@ use Rattle.std.specs.Prelude.{◌≡◌, ◌⊎◌, ℕ, List}
 use Rattle.raster_values.specs.Raster.{IsRaster}
 use Rattle.ascii_grid.specs.declared.grid.AsciiGrid.{AsciiGrid}
 use Rattle.raster_cells.specs.declared.kind.PixelType.{PixelType}
-use Rattle.ascii_grid.specs.Tokens.{AreTokens, Spot}
+use Rattle.ascii_grid.specs.Tokens.{AreTokens, TokenAt}
 use Rattle.first_fault.specs.Parts.{AreBytes, HasFault, IsSingle}
 use Rattle.ascii_grid.specs.declared.fault.AsciiReason.{AsciiReason}
 use Rattle.ascii_grid.specs.Text.{AsciiFaults, IsAscii}
@@ -16,7 +16,7 @@ CanonStands = (g : AsciiGrid) → IsLawful g → IsRaster g.raster → IsAscii (
 
 -- A text has one list of tokens, and one grid at most.
 abbrev pub OneTokens : Type 0
-OneTokens = (from : ℕ) (text : List ℕ) (ts us : List Spot) → AreTokens from text ts →
+OneTokens = (from : ℕ) (text : List ℕ) (ts us : List TokenAt) → AreTokens from text ts →
     AreTokens from text us → ts ≡ us
 
 abbrev pub OneGrid : Type 0

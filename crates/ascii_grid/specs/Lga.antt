@@ -1,6 +1,6 @@
--- The file `LGA1`: a grid with the texts of where it lies, byte by byte; and the first fault of bytes
--- that are none.
-use Rattle.std.specs.Prelude.{◌≡◌, ◌⊎◌, ℕ, ℤ, pos, suc, ◌+◌, ◌*◌, ◌<◌, ◌≤◌, unsigned_abs, Bool, if◌then◌else◌, List, [], ◌∷◌, ◌++◌, codes, length, get_or, take, drop, All, Option, Some, is_some, Result, Ok, Err}
+-- The file `LGA1`: a grid with the texts of where it lies, byte by byte; and the first fault of
+-- bytes that are none.
+use Rattle.std.specs.Prelude.{◌≡◌, ◌⊎◌, ℕ, ℤ, pos, suc, ◌+◌, ◌*◌, ◌<◌, ◌≤◌, unsigned_abs, if◌then◌else◌, List, [], ◌∷◌, ◌++◌, codes, length, get_or, take, drop, All, Option, Some, is_some, Result, Ok, Err}
 use Rattle.std.specs.List.{count_by}
 use Rattle.byteorder.specs.Endian.{little_bytes, little_number, twos_complement}
 use Rattle.first_fault.specs.Faults.{Faults, ends, in_order, none, unless, wrong}

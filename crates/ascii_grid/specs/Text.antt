@@ -10,7 +10,7 @@ use Rattle.ascii_grid.specs.declared.fault.AsciiStop.{AsciiStop}
 use Rattle.ascii_grid.specs.declared.fault.AsciiStop.TheVariants.{Fault, Source, OutOfMemory}
 use Rattle.ascii_grid.specs.declared.grid.AsciiGrid.{AsciiGrid}
 use Rattle.ascii_grid.specs.declared.grid.Georef.{Georef}
-use Rattle.ascii_grid.specs.Tokens.{AreTokens, Spot, limit, seen, shown}
+use Rattle.ascii_grid.specs.Tokens.{AreTokens, TokenAt, limit, seen, shown}
 use Rattle.ascii_grid.specs.Endings.{ending, too_late}
 use Rattle.ascii_grid.specs.Head.{ArePairs, BeginsWithLetter, HasAll, HeadFaults, IsInteger, Pair, Says, SaysKey, SaysNumber, SaysText, flat}
 
@@ -35,7 +35,7 @@ IsCell kind nodata bytes p = (n : ℤ) × (IsInteger bytes n × (((n ≡ nodata)
     ⊎ ((n ≢ nodata) × (InRange kind n × (p ≡ Some (n ∷ []))))))
 
 -- one number for each pixel, row by row
-abbrev pub AreCells : PixelType → ℤ → List Spot → List (Option (List ℤ)) → Type 0
+abbrev pub AreCells : PixelType → ℤ → List TokenAt → List (Option (List ℤ)) → Type 0
 AreCells kind nodata [] [] = Unit {0}
 AreCells kind nodata [] (p ∷ ps) = ⊥
 AreCells kind nodata (t ∷ ts) [] = ⊥
@@ -45,9 +45,9 @@ AreCells kind nodata (t ∷ ts) (p ∷ ps) =
 -- The text is that of this grid: pairs of a keyword and its value, each quantity once and all but
 -- nodata there, and behind them a number for each pixel.
 pub record IsAscii (text : List ℕ) (kind : PixelType) (g : AsciiGrid) : Type 0 where
-  pub tokens : List Spot
+  pub tokens : List TokenAt
   pub pairs : List Pair
-  pub numbers : List Spot
+  pub numbers : List TokenAt
   pub short : length text ≤ limit
   pub cut : AreTokens 0 text tokens
   pub joined : tokens ≡ flat pairs ++ numbers
@@ -64,13 +64,13 @@ pub record IsAscii (text : List ℕ) (kind : PixelType) (g : AsciiGrid) : Type 0
 -- ---- the first fault
 
 -- what may be wrong with a number
-abbrev pub cell_faults : PixelType → ℤ → Spot → Faults AsciiReason
+abbrev pub cell_faults : PixelType → ℤ → TokenAt → Faults AsciiReason
 cell_faults kind nodata t =
     unless ((n : ℤ) × IsInteger t.bytes n) (wrong BadNumber t.place)
     (unless ((p : Option (List ℤ)) × IsCell kind nodata t.bytes p) (wrong OutOfRange t.place) none)
 
 -- what may be wrong behind so many numbers of `count`, in a text of `total` bytes
-abbrev pub next_number : ℕ → PixelType → ℤ → ℕ → ℕ → List Spot → Faults AsciiReason
+abbrev pub next_number : ℕ → PixelType → ℤ → ℕ → ℕ → List TokenAt → Faults AsciiReason
 next_number total kind nodata count done [] =
     unless (count ≤ done) (ending total) (too_late total)
 next_number total kind nodata count done (t ∷ ts) =
@@ -78,9 +78,9 @@ next_number total kind nodata count done (t ∷ ts) =
 
 -- the first numbers stand, and what is behind them is wrong
 pub record NumberFaults (total : ℕ) (kind : PixelType) (nodata : ℤ) (count : ℕ)
-    (tokens : List Spot) (place : ℕ) (reason : AsciiReason) : Type 0 where
-  pub before : List Spot
-  pub rest : List Spot
+    (tokens : List TokenAt) (place : ℕ) (reason : AsciiReason) : Type 0 where
+  pub before : List TokenAt
+  pub rest : List TokenAt
   pub pixels : List (Option (List ℤ))
   pub joined : tokens ≡ before ++ rest
   pub stand : AreCells kind nodata before pixels
@@ -88,11 +88,11 @@ pub record NumberFaults (total : ℕ) (kind : PixelType) (nodata : ℤ) (count :
   pub next : next_number total kind nodata count (length before) rest place reason
 
 -- the pairs stand, and what is behind them is wrong
-pub record CellFaults (total : ℕ) (kind : PixelType) (tokens : List Spot)
+pub record CellFaults (total : ℕ) (kind : PixelType) (tokens : List TokenAt)
     (place : ℕ) (reason : AsciiReason) : Type 0 where
   pub pairs : List Pair
-  pub first : Spot
-  pub rest : List Spot
+  pub first : TokenAt
+  pub rest : List TokenAt
   pub nodata : ℤ
   pub rows : ℕ
   pub cols : ℕ
@@ -109,8 +109,8 @@ pub record CellFaults (total : ℕ) (kind : PixelType) (tokens : List Spot)
 -- its first 33 bytes, and none that is not decided before the byte at the limit.
 pub record AsciiFaults (kind : PixelType) (text : List ℕ) (place : ℕ) (reason : AsciiReason) :
     Type 0 where
-  pub all : List Spot
-  pub tokens : List Spot
+  pub all : List TokenAt
+  pub tokens : List TokenAt
   pub cut : AreTokens 0 text all
   pub looked : tokens ≡ map seen (shown (length text) all)
   pub fault : HeadFaults (ending (length text)) tokens place reason

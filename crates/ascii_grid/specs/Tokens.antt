@@ -1,7 +1,7 @@
 -- A text as a list of tokens, each with its place.
 use Rattle.std.specs.Prelude.{◌≡◌, ℕ, ◌+◌, ◌<◌, Bool, true, false, ◌||◌, ◌&&◌, ◌==◌, nat_lt, nat_le, if◌then◌else◌, List, [], ◌∷◌, ◌++◌, length, take, All}
 
-pub record Spot : Type 0 where
+pub record TokenAt : Type 0 where
   pub place : ℕ
   pub bytes : List ℕ
 
@@ -21,7 +21,7 @@ EndsToken [] = Unit {0}
 EndsToken (byte ∷ rest) = IsBlank byte
 
 -- The tokens of a text of which the first byte is at this place: blanks, a token, and so on.
-abbrev pub AreTokens : ℕ → List ℕ → List Spot → Type 0
+abbrev pub AreTokens : ℕ → List ℕ → List TokenAt → Type 0
 AreTokens from text [] = All IsBlank text
 AreTokens from text (t ∷ ts) = (gap rest : List ℕ)
     × ((text ≡ gap ++ (t.bytes ++ rest)) × (All IsBlank gap × ((t.place ≡ from + length gap)
@@ -31,7 +31,7 @@ AreTokens from text (t ∷ ts) = (gap rest : List ℕ)
 -- ---- what is looked at of a text
 
 -- A token is looked at as its first 33 bytes: no keyword, text or number has so many.
-abbrev pub seen : Spot → Spot
+abbrev pub seen : TokenAt → TokenAt
 seen t = record { place = t.place; bytes = take 33 t.bytes }
 
 -- a text has at most so many bytes
@@ -40,15 +40,15 @@ limit = 1073741824
 
 -- The token is decided before the byte at the limit: it ends before it, or 33 of its bytes stand
 -- before it.
-abbrev pub is_decided : Spot → Bool
+abbrev pub is_decided : TokenAt → Bool
 is_decided t = nat_lt (t.place + length t.bytes) limit
     || (nat_le 33 (length t.bytes) && nat_le (t.place + 33) limit)
 
-abbrev pub decided_front : List Spot → List Spot
+abbrev pub decided_front : List TokenAt → List TokenAt
 decided_front [] = []
 decided_front (t ∷ ts) = if is_decided t then t ∷ decided_front ts else []
 
 -- of the tokens of a text of so many bytes those that are looked at: all, where it has no byte at
 -- the limit
-abbrev pub shown : ℕ → List Spot → List Spot
+abbrev pub shown : ℕ → List TokenAt → List TokenAt
 shown total ts = if nat_le total limit then ts else decided_front ts

@@ -1,3 +1,5 @@
+//! The one text of a grid is written.
+
 ghost use Rattle.std.specs.Prelude.{◌≡◌, ℕ, ◌+◌, ◌*◌, ◌<◌, ◌≤◌, ◌∷◌, ◌++◌, [], OnOk, OnErr, length, get_or, pos, None, FitsSigned, decimal};
 ghost use Rattle.std.specs.Int.{w64};
 ghost use Rattle.std.specs.Fmt.{signed_decimal};
@@ -5,7 +7,7 @@ ghost use Rattle.outside_io.specs.streams.Faults.{CountsFaults};
 ghost use Rattle.outside_io.specs.streams.Sink.{Holds, HoldsPrefix};
 ghost use Rattle.ascii_grid.specs.Head.{name_of};
 ghost use Rattle.ascii_grid.specs.Canon.{IsLawful, canon, end_of, head_words, line, number_of, number_words, x_key, y_key};
-ghost use Rattle.ascii_grid.specs.inside.Pages.{Breaks, Waits};
+ghost use Rattle.ascii_grid.specs.inside.Pages.{Adds};
 
 use crate::grid::AsciiGrid;
 use crate::page::Page;
@@ -46,11 +48,8 @@ fn y_name(centre: bool) -> Key
 /// Adds a line of a keyword and a text.
 fn text_line<K: Sink>(page: &mut Page, sink: &mut K, key: Key, value: &[u8]) -> Result<(), Failed>
     requires { length value.now ≤ 40 }
-    ensures ok { OnOk result (Waits (K.held sink.old) (K.held sink.new) page.old page.new
-        (line key value.now)) }
-    ensures err { OnErr result (Breaks (K.held sink.old) (K.held sink.new) page.old
-        (line key value.now)) }
-    ensures counted { CountsFaults result (K.faults sink.old) (K.faults sink.new) }
+    ensures adds { Adds K.held K.faults result sink.old sink.new page.old page.new
+        (line key value.now) }
 {
     page.word(sink, name(key), b' ')?;
     page.word(sink, value, b'\n')
@@ -58,11 +57,8 @@ fn text_line<K: Sink>(page: &mut Page, sink: &mut K, key: Key, value: &[u8]) -> 
 
 /// Adds a line of a keyword and a number.
 fn number_line<K: Sink>(page: &mut Page, sink: &mut K, key: Key, value: i64) -> Result<(), Failed>
-    ensures ok { OnOk result (Waits (K.held sink.old) (K.held sink.new) page.old page.new
-        (line key (signed_decimal value))) }
-    ensures err { OnErr result (Breaks (K.held sink.old) (K.held sink.new) page.old
-        (line key (signed_decimal value))) }
-    ensures counted { CountsFaults result (K.faults sink.old) (K.faults sink.new) }
+    ensures adds { Adds K.held K.faults result sink.old sink.new page.old page.new
+        (line key (signed_decimal value)) }
 {
     page.word(sink, name(key), b' ')?;
     page.number(sink, value, b'\n')
@@ -70,11 +66,8 @@ fn number_line<K: Sink>(page: &mut Page, sink: &mut K, key: Key, value: i64) -> 
 
 /// Adds a line of a keyword and a size.
 fn size_line<K: Sink>(page: &mut Page, sink: &mut K, key: Key, size: u32) -> Result<(), Failed>
-    ensures ok { OnOk result (Waits (K.held sink.old) (K.held sink.new) page.old page.new
-        (line key (decimal size))) }
-    ensures err { OnErr result (Breaks (K.held sink.old) (K.held sink.new) page.old
-        (line key (decimal size))) }
-    ensures counted { CountsFaults result (K.faults sink.old) (K.faults sink.new) }
+    ensures adds { Adds K.held K.faults result sink.old sink.new page.old page.new
+        (line key (decimal size)) }
 {
     number_line(page, sink, key, i64::from(size))
 }
@@ -82,11 +75,8 @@ fn size_line<K: Sink>(page: &mut Page, sink: &mut K, key: Key, size: u32) -> Res
 /// Adds the six lines of the head.
 fn write_head<K: Sink>(grid: &AsciiGrid, page: &mut Page, sink: &mut K) -> Result<(), Failed>
     requires { IsLawful grid.now }
-    ensures ok { OnOk result (Waits (K.held sink.old) (K.held sink.new) page.old page.new
-        (head_words grid.now)) }
-    ensures err { OnErr result (Breaks (K.held sink.old) (K.held sink.new) page.old
-        (head_words grid.now)) }
-    ensures counted { CountsFaults result (K.faults sink.old) (K.faults sink.new) }
+    ensures adds { Adds K.held K.faults result sink.old sink.new page.old page.new
+        (head_words grid.now) }
 {
     let geo = &grid.geo;
     size_line(page, sink, Key::Cols, grid.raster.cols())?;
@@ -128,11 +118,8 @@ fn end(cols: u32, k: u32) -> u8
 /// Adds the number of each pixel.
 fn write_numbers<K: Sink>(grid: &AsciiGrid, page: &mut Page, sink: &mut K) -> Result<(), Failed>
     requires { grid.now.raster.depth ≡ 1 }
-    ensures ok { OnOk result (Waits (K.held sink.old) (K.held sink.new) page.old page.new
-        (number_words grid.now.geo.nodata grid.now.raster.cols 0 grid.now.raster.pixels)) }
-    ensures err { OnErr result (Breaks (K.held sink.old) (K.held sink.new) page.old
-        (number_words grid.now.geo.nodata grid.now.raster.cols 0 grid.now.raster.pixels)) }
-    ensures counted { CountsFaults result (K.faults sink.old) (K.faults sink.new) }
+    ensures adds { Adds K.held K.faults result sink.old sink.new page.old page.new
+        (number_words grid.now.geo.nodata grid.now.raster.cols 0 grid.now.raster.pixels) }
 {
     let cols = grid.raster.cols();
     let count = grid.raster.rows() * cols;

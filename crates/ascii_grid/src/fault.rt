@@ -1,3 +1,5 @@
+//! Why bytes are no ASCII grid, or no `LGA1`, and at which place.
+
 ghost use Rattle.std.specs.Prelude.{◌≡◌};
 
 use outside_io::Failed;

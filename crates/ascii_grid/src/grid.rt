@@ -1,3 +1,5 @@
+//! ASCII grids: a raster, and where it lies.
+
 use outside_io::Bytes;
 use raster_values::Raster;
 

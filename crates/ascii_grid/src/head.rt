@@ -1,5 +1,7 @@
+//! The head of an ASCII grid: pairs of a keyword and a value.
+
 ghost use Rattle.std.specs.Prelude.{◌≡◌, ◌↔◌, ◌++◌, ◌∷◌, ◌*◌, ◌<◌, ◌≤◌, [], ℕ, ℤ, pos, List, IfOk, IfErr, IfSome, IfNone, OnOk, IsTrue, false};
-ghost use Rattle.ascii_grid.specs.Tokens.{Spot};
+ghost use Rattle.ascii_grid.specs.Tokens.{TokenAt};
 ghost use Rattle.ascii_grid.specs.Head.{HasAll, IsInteger, IsText, IsValue, Pair, Says, text_faults, value_faults};
 ghost use Rattle.ascii_grid.specs.inside.Heads.{HeadRead, IsFair, Keeps, SizeStops, has_five, has_key, missing};
 ghost use Rattle.ascii_grid.specs.inside.Reading.{Left};
@@ -56,7 +58,7 @@ impl Head {
 }
 
 /// The number as a size, which is above 0.
-fn positive(number: i64) -> Option<u64>
+fn size_from(number: i64) -> Option<u64>
     ensures some { IfSome result (λ n. (number ≡ pos n) × (0 < n)) }
     ensures none { IfNone result ((n : ℕ) → 0 < n → number ≡ pos n → ⊥) }
 {
@@ -76,7 +78,7 @@ fn size_of(bytes: &[u8], other: Option<u64>) -> Result<u64, AsciiReason>
     let Some(number) = integer_of(bytes) else {
         return Err(AsciiReason::BadNumber);
     };
-    let Some(size) = positive(number) else {
+    let Some(size) = size_from(number) else {
         return Err(AsciiReason::BadSize);
     };
     if let Some(other) = other {
@@ -102,9 +104,10 @@ fn text_of(value: Token) -> Result<Token, AsciiReason>
 /// Takes the value of a key of which the quantity was not there.
 fn take_value(head: &mut Head, key: Key, value: Token) -> Result<(), AsciiReason>
     requires new { has_key head.old key ≡ false }
-    ensures kept { (ps : List Pair) (word : Spot) → Keeps head.old ps → OnOk result
+    ensures kept { (ps : List Pair) (word : TokenAt) → Keeps head.old ps → OnOk result
         (Keeps head.new (ps ++ record { word = word; key = key; value = value } ∷ [])) }
-    ensures stands { (ps : List Pair) → Keeps head.old ps → OnOk result (IsValue ps key value.bytes) }
+    ensures stands { (ps : List Pair) → Keeps head.old ps
+        → OnOk result (IsValue ps key value.bytes) }
     ensures err { (ps : List Pair) → Keeps head.old ps → IfErr result
         (λ reason. value_faults ps key value value.place reason) }
     ensures fewer { OnOk result (missing head.new < missing head.old) }
@@ -143,7 +146,8 @@ pub(crate) fn read_head<S: Source>(
     src: &mut S,
     window: &mut Window,
 ) -> Result<(Head, Token), AsciiStop>
-    ensures read { (total : ℕ) (tokens : List Spot) → Left (S.left src.old) window.old total tokens
+    ensures read { (total : ℕ) (tokens : List TokenAt)
+        → Left (S.left src.old) window.old total tokens
         → HeadRead result (S.left src.new) window.new total tokens }
     ensures fair { IfOk result (λ r. IsFair r.0 × IsTrue (has_five r.0)) }
     ensures counted { CountsStop result (S.faults src.old) (S.faults src.new) }

@@ -1,7 +1,9 @@
+//! The numbers of a grid are read into a raster.
+
 ghost use Rattle.std.specs.Prelude.{◌≡◌, ◌*◌, ◌<◌, ◌≤◌, ◌∷◌, ◌++◌, ℕ, ℤ, List, [], length, MatchBool, OnOk, All};
 ghost use Rattle.raster_cells.specs.PixelType.{InRange};
 ghost use Rattle.raster_values.specs.Raster.{blank};
-ghost use Rattle.ascii_grid.specs.Tokens.{Spot};
+ghost use Rattle.ascii_grid.specs.Tokens.{TokenAt};
 ghost use Rattle.ascii_grid.specs.Canon.{IsApart};
 ghost use Rattle.ascii_grid.specs.inside.Cells.{Begun, CellTaken, CellsTaken};
 ghost use Rattle.ascii_grid.specs.inside.Reading.{Left};
@@ -57,7 +59,7 @@ pub(crate) fn read_cells<S: Source>(
     first: Token,
 ) -> Result<(), AsciiStop>
     requires { raster.old ≡ blank raster.old.kind raster.old.rows raster.old.cols 1 }
-    ensures read { (total : ℕ) (rest : List Spot)
+    ensures read { (total : ℕ) (rest : List TokenAt)
         → (length first.bytes < 33 → Left (S.left src.old) window.old total rest)
         → CellsTaken result total nodata (first ∷ rest) raster.old raster.new }
     ensures apart { OnOk result (All (IsApart nodata) raster.new.pixels) }

@@ -1,9 +1,11 @@
+//! Bytes that wait to be given to a sink, a page of them at once.
+
 ghost use Rattle.std.specs.Prelude.{◌≡◌, ◌+◌, ◌<◌, ◌≤◌, ◌∷◌, ◌++◌, [], OnOk, OnErr, length, FitsSigned};
 ghost use Rattle.std.specs.Int.{w64};
 ghost use Rattle.std.specs.Fmt.{signed_decimal};
 ghost use Rattle.outside_io.specs.streams.Faults.{CountsFaults};
 ghost use Rattle.outside_io.specs.streams.Sink.{Holds, HoldsPrefix};
-ghost use Rattle.ascii_grid.specs.inside.Pages.{Breaks, Waits};
+ghost use Rattle.ascii_grid.specs.inside.Pages.{Adds, Gives, Waits};
 
 use outside_io::{Failed, Sink, give_all};
 use std::marker::Model;
@@ -71,10 +73,8 @@ impl Page {
 
     /// Gives the bytes that wait.
     pub(crate) fn give<K: Sink>(&mut self, sink: &mut K) -> Result<(), Failed>
-        ensures given { OnOk result (Holds (K.held sink.old) (K.held sink.new) self.old) }
+        ensures gives { Gives K.held K.faults result sink.old sink.new self.old }
         ensures none { OnOk result (self.new ≡ []) }
-        ensures err { OnErr result (HoldsPrefix (K.held sink.old) (K.held sink.new) self.old) }
-        ensures counted { CountsFaults result (K.faults sink.old) (K.faults sink.new) }
     {
         give_all(sink, &self.bytes[..self.len])?;
         self.len = 0;
@@ -105,11 +105,8 @@ impl Page {
         behind: u8,
     ) -> Result<(), Failed>
         requires { length word.now ≤ 40 }
-        ensures ok { OnOk result (Waits (K.held sink.old) (K.held sink.new) self.old self.new
-            (record { bytes = word.now; behind = behind } ∷ [])) }
-        ensures err { OnErr result (Breaks (K.held sink.old) (K.held sink.new) self.old
-            (record { bytes = word.now; behind = behind } ∷ [])) }
-        ensures counted { CountsFaults result (K.faults sink.old) (K.faults sink.new) }
+        ensures adds { Adds K.held K.faults result sink.old sink.new self.old self.new
+            (record { bytes = word.now; behind = behind } ∷ []) }
     {
         self.make_room(sink, word.len() + 1)?;
         self.put(word);
@@ -125,11 +122,8 @@ impl Page {
         number: i64,
         behind: u8,
     ) -> Result<(), Failed>
-        ensures ok { OnOk result (Waits (K.held sink.old) (K.held sink.new) self.old self.new
-            (record { bytes = signed_decimal number; behind = behind } ∷ [])) }
-        ensures err { OnErr result (Breaks (K.held sink.old) (K.held sink.new) self.old
-            (record { bytes = signed_decimal number; behind = behind } ∷ [])) }
-        ensures counted { CountsFaults result (K.faults sink.old) (K.faults sink.new) }
+        ensures adds { Adds K.held K.faults result sink.old sink.new self.old self.new
+            (record { bytes = signed_decimal number; behind = behind } ∷ []) }
     {
         let mut digits = itoa::Buffer::new();
         self.word(sink, digits.format(number).as_bytes(), behind)

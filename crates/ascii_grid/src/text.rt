@@ -1,3 +1,5 @@
+//! The text of an ASCII grid is read, head and numbers.
+
 ghost use Rattle.std.specs.Prelude.{◌≡◌, ℕ, pos, List, IfOk, IfErr, IfSome, Some, None, FitsSigned, IsTrue, ◌<◌, unsigned_abs};
 ghost use Rattle.std.specs.Int.{w64};
 ghost use Rattle.raster_values.specs.Raster.{blank};
@@ -17,7 +19,8 @@ use outside_io::{Bytes, Source};
 use raster_values::{PixelType, Raster};
 use std::alloc::Global;
 
-pub(crate) fn held(alloc: Global, bytes: &[u8]) -> Result<Bytes, AsciiStop>
+/// A copy of the bytes.
+pub(crate) fn copy_bytes(alloc: Global, bytes: &[u8]) -> Result<Bytes, AsciiStop>
     ensures ok { IfOk result (λ copy. copy ≡ bytes.now) }
     ensures err { IfErr result (λ e. e ≡ AsciiStop.OutOfMemory) }
 {
@@ -28,15 +31,15 @@ pub(crate) fn held(alloc: Global, bytes: &[u8]) -> Result<Bytes, AsciiStop>
 }
 
 /// A copy of the text of a head that has all.
-fn copied(alloc: Global, text: &Option<Token>) -> Result<Bytes, AsciiStop>
+fn copy_text(alloc: Global, text: &Option<Token>) -> Result<Bytes, AsciiStop>
     ensures ok { (ps : List Pair) (q : ℕ) → KeepsText text.now ps q → Says ps q
         → IfOk result (λ copy. SaysText ps q copy) }
     ensures copy { IfSome text.now (λ t. IfOk result (λ copy. copy ≡ t.bytes)) }
     ensures err { IfErr result (λ e. e ≡ AsciiStop.OutOfMemory) }
 {
     match text {
-        Some(token) => held(alloc, token.bytes()),
-        None => held(alloc, b""),
+        Some(token) => copy_bytes(alloc, token.bytes()),
+        None => copy_bytes(alloc, b""),
     }
 }
 
@@ -62,9 +65,9 @@ fn georef(alloc: Global, head: &Head) -> Result<Georef, AsciiStop>
         → IfOk result (λ geo. IsLawfulGeo geo) }
     ensures err { IfErr result (λ e. e ≡ AsciiStop.OutOfMemory) }
 {
-    let x = copied(alloc, &head.x)?;
-    let y = copied(alloc, &head.y)?;
-    let cell = copied(alloc, &head.cell)?;
+    let x = copy_text(alloc, &head.x)?;
+    let y = copy_text(alloc, &head.y)?;
+    let cell = copy_text(alloc, &head.cell)?;
     Ok(Georef {
         x,
         x_centre: head.x_centre,

@@ -1,8 +1,10 @@
+//! Tokens: the words of a text between blanks.
+
 ghost use Rattle.std.specs.Prelude.{◌≡◌, ◌↔◌, ℕ, ◌+◌, ◌<◌, ◌≤◌, ◌∷◌, ◌++◌, [], List, IsTrue, IfOk, IfErr, OnOk, length, true};
 ghost use Rattle.ascii_grid.specs.inside.Reading.{Ahead, Left};
 ghost use Rattle.ascii_grid.specs.inside.Steps.{Demanded, NextTaken, Skipped, WordTaken};
 ghost use Rattle.ascii_grid.specs.Stopping.{CountsStop};
-ghost use Rattle.ascii_grid.specs.Tokens.{Spot, is_blank, limit};
+ghost use Rattle.ascii_grid.specs.Tokens.{TokenAt, is_blank, limit};
 
 use crate::fault::{AsciiReason, AsciiStop, stop};
 use crate::window::Window;
@@ -22,9 +24,9 @@ pub(crate) struct Token {
 
 impl Model for Token {
     ghost use Rattle.std.specs.Prelude.{take, ◌≤◌};
-    ghost use Rattle.ascii_grid.specs.Tokens.{Spot};
+    ghost use Rattle.ascii_grid.specs.Tokens.{TokenAt};
 
-    ghost Value = { Spot };
+    ghost Value = { TokenAt };
 
     ghost view = { λ t. record { place = t.place; bytes = take t.len t.bytes } };
 
@@ -71,7 +73,8 @@ impl Token {
     #[inline]
     fn push(&mut self, byte: u8)
         requires { length self.old.bytes < 33 }
-        ensures { self.new ≡ record { place = self.old.place; bytes = self.old.bytes ++ byte ∷ [] } }
+        ensures { self.new
+            ≡ record { place = self.old.place; bytes = self.old.bytes ++ byte ∷ [] } }
     {
         self.bytes[self.len] = byte;
         self.len += 1;
@@ -134,7 +137,8 @@ pub(crate) fn next_token<S: Source>(
     src: &mut S,
     window: &mut Window,
 ) -> Result<Option<Token>, AsciiStop>
-    ensures next { (total : ℕ) (tokens : List Spot) → Left (S.left src.old) window.old total tokens
+    ensures next { (total : ℕ) (tokens : List TokenAt)
+        → Left (S.left src.old) window.old total tokens
         → NextTaken result (S.left src.new) window.new total tokens }
     ensures counted { CountsStop result (S.faults src.old) (S.faults src.new) }
 {
@@ -148,7 +152,8 @@ pub(crate) fn next_token<S: Source>(
 
 /// The next token, where the text owes one.
 pub(crate) fn demand<S: Source>(src: &mut S, window: &mut Window) -> Result<Token, AsciiStop>
-    ensures next { (total : ℕ) (tokens : List Spot) → Left (S.left src.old) window.old total tokens
+    ensures next { (total : ℕ) (tokens : List TokenAt)
+        → Left (S.left src.old) window.old total tokens
         → Demanded result (S.left src.new) window.new total tokens }
     ensures counted { CountsStop result (S.faults src.old) (S.faults src.new) }
 {

@@ -1,3 +1,5 @@
+//! A window over a source: its bytes one by one, with their places.
+
 ghost use Rattle.std.specs.Prelude.{◌≡◌, ℕ, ◌+◌, ◌<◌, ◌≤◌, ◌∷◌, ◌++◌, [], List, Option, IfOk, IfErr, IfSome, IfNone, OnOk, Some, None, Ok, length};
 ghost use Rattle.ascii_grid.specs.inside.Reading.{Ahead};
 ghost use Rattle.ascii_grid.specs.Stopping.{CountsStop};

@@ -1,3 +1,5 @@
+//! Keywords and numbers by their texts.
+
 ghost use Rattle.std.specs.Prelude.{◌≡◌, ◌↔◌, ◌≤◌, ◌<◌, ◌∷◌, drop, MatchBool, IfSome, ℕ, ℤ, List, Some, IsTrue, All, length, neg_ℤ, pos, FitsSigned};
 ghost use Rattle.std.specs.Int.{w64};
 ghost use Rattle.std.specs.Str.Parse.{digits_value};
@@ -131,16 +133,18 @@ fn begins_with_minus(bytes: &[u8]) -> bool
     }
 }
 
+/// The number itself, with a sign.
 #[inline]
-fn above(n: u64) -> i64
+fn signed_of(n: u64) -> i64
     requires { n < 10000000000 }
     ensures { result ≡ pos n }
 {
     n as i64
 }
 
+/// The number below 0 that is as far from it.
 #[inline]
-fn below(n: u64) -> i64
+fn negative_of(n: u64) -> i64
     requires { n < 10000000000 }
     ensures { result ≡ neg_ℤ (pos n) }
 {
@@ -155,12 +159,12 @@ pub(crate) fn integer_of(bytes: &[u8]) -> Option<i64>
 {
     if begins_with_minus(bytes) {
         match natural_of(&bytes[1..]) {
-            Some(n) => Some(below(n)),
+            Some(n) => Some(negative_of(n)),
             None => None,
         }
     } else {
         match natural_of(bytes) {
-            Some(n) => Some(above(n)),
+            Some(n) => Some(signed_of(n)),
             None => None,
         }
     }

@@ -33,4 +33,5 @@ width_of values = binary_digits (greatest_number values)
 -- the bytes that are chosen for a list in the simple form
 unfoldable pub simple_bytes : List ℕ → List ℕ
 simple_bytes values =
-    list_head_bytes (width_of values) false (length values) ++ stuffed_bytes (width_of values) values
+    list_head_bytes (width_of values) false (length values)
+    ++ stuffed_bytes (width_of values) values

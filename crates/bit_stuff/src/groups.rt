@@ -1,4 +1,4 @@
-// Writing numbers by eights, which are whole bytes.
+//! Writing numbers by eights, which are whole bytes.
 
 ghost use Rattle.std.specs.Prelude.{◌≡◌, ◌+◌, ◌*◌, ◌^◌, ◌<◌, ◌≤◌, length, take, All};
 ghost use Rattle.bit_stuff.specs.Stuffed.{number_of_bytes, number_of_values, stuffed_size};

@@ -1,4 +1,4 @@
-// The head of a list.
+//! The head of a list.
 
 ghost use Rattle.std.specs.Prelude.{◌≡◌, ◌+◌, ◌*◌, ◌≤◌, ◌↔◌, ◌++◌, ℕ};
 ghost use Rattle.std.specs.Prelude.{IfErr, MatchResult, length, drop};
@@ -70,7 +70,7 @@ fn count_in(bytes: &[u8], code: u8) -> u32
 }
 
 /// The answer to a head with this fault.
-fn refused(reason: ListReason, at: usize) -> Result<(ListHead, usize), ListFault>
+fn refuse(reason: ListReason, at: usize) -> Result<(ListHead, usize), ListFault>
     ensures { result ≡ Err (record { reason = reason; at = at }) }
 {
     Err(ListFault { reason, at })
@@ -83,25 +83,25 @@ fn head_of(bytes: &[u8], want: u32) -> Result<(ListHead, usize), ListFault>
         (λ f. (f.at ≤ length bytes.now) × list_head_faults want bytes.now f.at f.reason) }
 {
     if bytes.is_empty() {
-        return refused(ListReason::Cut, 0);
+        return refuse(ListReason::Cut, 0);
     }
     let first = bytes[0];
     let code = first / 64;
     let width = u32::from(first % 32);
     let table = first / 32 % 2 == 1;
     if code == 3 {
-        return refused(ListReason::BadHead, 0);
+        return refuse(ListReason::BadHead, 0);
     }
     if table && width == 0 {
-        return refused(ListReason::BadTable, 0);
+        return refuse(ListReason::BadTable, 0);
     }
     let used = 1 + count_len(code);
     if bytes.len() < used {
-        return refused(ListReason::Cut, 1);
+        return refuse(ListReason::Cut, 1);
     }
     let count = count_in(&bytes[1..], code);
     if count != want {
-        return refused(ListReason::BadCount, 1);
+        return refuse(ListReason::BadCount, 1);
     }
     Ok((
         ListHead {

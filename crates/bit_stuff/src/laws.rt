@@ -1,5 +1,5 @@
-// Laws of the definitions, for the crates above. Each function does nothing: its contract is the
-// law.
+//! Laws of the definitions, for the crates above. Each function does nothing: its contract is the
+//! law.
 
 ghost use Rattle.std.specs.Prelude.{◌≡◌, ◌^◌, ◌<◌, ◌≤◌, ℕ, List, All, length, slice_index};
 ghost use Rattle.first_fault.specs.Parts.{IsDecided, IsPart};

@@ -1,4 +1,4 @@
-// Writing stuffed numbers.
+//! Writing stuffed numbers.
 
 ghost use Rattle.std.specs.Prelude.{◌≡◌, ◌+◌, ◌*◌, ◌/◌, ◌%◌, ◌^◌, ◌<◌, ◌≤◌, length, All};
 ghost use Rattle.bit_stuff.specs.Stuffed.{IsStuffed, HasClearSpareBits, number_of_bytes, stuffed_bytes, stuffed_size};
@@ -18,7 +18,7 @@ struct Buffer {
 
 /// Takes one number of `width` bits into the buffer.
 #[inline(always)]
-fn taken(buffer: Buffer, value: u32, width: u32) -> Buffer
+fn take_in(buffer: Buffer, value: u32, width: u32) -> Buffer
     requires buffer { IsBuffer buffer 32 }
     requires width { width ≤ 31 }
     requires value { value < 2 ^ width }
@@ -36,7 +36,7 @@ fn taken(buffer: Buffer, value: u32, width: u32) -> Buffer
 
 /// Writes four bytes out of the buffer where it holds as many.
 #[inline(always)]
-fn spilled(buffer: Buffer, out: &mut [u8]) -> Buffer
+fn spill(buffer: Buffer, out: &mut [u8]) -> Buffer
     requires buffer { IsBuffer buffer 63 }
     requires room { bits_of_buffer buffer ≤ 8 * length out.old }
     ensures buffer { IsBuffer result 32 }
@@ -84,7 +84,7 @@ pub fn stuff(values: &[u32], width: u32, out: &mut [u8])
         at: width as usize * eights,
     };
     for i in 8 * eights..values.len() {
-        buffer = spilled(taken(buffer, values[i], width), out);
+        buffer = spill(take_in(buffer, values[i], width), out);
     }
     write_last(buffer, out);
 }

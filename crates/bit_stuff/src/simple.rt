@@ -1,4 +1,4 @@
-// Lists in the simple form.
+//! Lists in the simple form.
 
 ghost use Rattle.std.specs.Prelude.{◌≡◌, ◌+◌, ◌^◌, ◌<◌, ◌≤◌, ℕ, length, All};
 ghost use Rattle.bit_stuff.specs.Simple.{IsSimpleList, binary_digits};
@@ -9,7 +9,7 @@ use crate::packing::stuff;
 use crate::unpacking::stuffed_len;
 
 /// The greatest of the values, or 0 where there is none.
-fn greatest(values: &[u32]) -> u32
+fn greatest_of(values: &[u32]) -> u32
     ensures { result ≡ greatest_number values.now }
 {
     let mut most = 0;
@@ -36,7 +36,7 @@ pub fn list_width(values: &[u32]) -> u32
     ensures holds { All (λ v. v < 2 ^ result) values.now }
     ensures least { (k : ℕ) → All (λ v. v < 2 ^ k) values.now → result ≤ k }
 {
-    digit_count(greatest(values))
+    digit_count(greatest_of(values))
 }
 
 /// How many bytes `write_simple` takes for the values.

@@ -1,4 +1,4 @@
-// Reading stuffed numbers.
+//! Reading stuffed numbers.
 
 ghost use Rattle.std.specs.Prelude.{◌≡◌, ◌+◌, ◌*◌, ◌/◌, ◌%◌, ◌^◌, ◌<◌, ◌≤◌, ℕ, length, slice_index, take, All};
 ghost use Rattle.bit_stuff.specs.Stuffed.{IsLeastHolding, IsStuffed, field_at, number_of_bytes, stuffed_size};

@@ -6,7 +6,7 @@ ghost use Rattle.raster_cells.specs.Shapes.{IsShape};
 
 use crate::fixtures::kind_at;
 use case_rows::{CaseStop, Row};
-use raster_values::{PixelType, Raster, Seen, is_shape};
+use raster_values::{PixelType, Raster, RasterRef, is_shape};
 use std::alloc::Global;
 
 /// A raster's type and shape, a bit for each pixel or no byte where each is valid, and the bytes of
@@ -31,8 +31,8 @@ fn size_of_kind(kind: PixelType) -> usize
     kind.bytes()
 }
 
-/// The arrays of a row: the type is its first word, the shape stands from the third one on, the mask
-/// and the values from the seventh.
+/// The arrays of a row: the type is its first word, the shape stands from the third one on, the
+/// mask and the values from the seventh.
 pub(crate) fn arrays_in(row: &Row) -> Result<Arrays<'_>, CaseStop> {
     let kind = kind_at(row, 0)?;
     let (rows, cols, depth) = (row.number(2)?, row.number(3)?, row.number(4)?);
@@ -56,29 +56,29 @@ pub(crate) fn arrays_in(row: &Row) -> Result<Arrays<'_>, CaseStop> {
 
 impl<'r> Arrays<'r> {
     /// The raster, read where it lies.
-    pub fn seen(&self) -> Result<Seen<'r, 'r>, CaseStop> {
+    pub fn view(&self) -> Result<RasterRef<'r, 'r>, CaseStop> {
         let (kind, rows, cols, depth) = (self.kind, self.rows, self.cols, self.depth);
         if self.mask.is_empty() {
-            return Ok(Seen::whole(kind, rows, cols, depth, self.cells));
+            return Ok(RasterRef::whole(kind, rows, cols, depth, self.cells));
         }
         if self.mask.len() != (rows as usize * cols as usize).div_ceil(8) {
             return Err(CaseStop::BadRow);
         }
-        Ok(Seen::over(kind, rows, cols, depth, self.mask, self.cells))
+        Ok(RasterRef::over(kind, rows, cols, depth, self.mask, self.cells))
     }
 
     /// The raster with arrays of its own.
     pub fn raster(&self, alloc: Global) -> Result<Raster, CaseStop> {
         if self.mask.is_empty() {
-            return self.full(alloc);
+            return self.whole_raster(alloc);
         }
-        let mut raster = self.marked(alloc)?;
+        let mut raster = self.masked_raster(alloc)?;
         self.give_cells(&mut raster)?;
         Ok(raster)
     }
 
     /// A raster of which each pixel is valid and has its values.
-    fn full(&self, alloc: Global) -> Result<Raster, CaseStop> {
+    fn whole_raster(&self, alloc: Global) -> Result<Raster, CaseStop> {
         let (rows, cols, depth) = (self.rows, self.cols, self.depth);
         match Raster::from_cells(alloc, self.kind, rows, cols, depth, self.cells) {
             Ok(raster) => Ok(raster),
@@ -87,7 +87,7 @@ impl<'r> Arrays<'r> {
     }
 
     /// A raster with the mask. Its values are 0.
-    fn marked(&self, alloc: Global) -> Result<Raster, CaseStop> {
+    fn masked_raster(&self, alloc: Global) -> Result<Raster, CaseStop> {
         let blank = Raster::new(alloc, self.kind, self.rows, self.cols, self.depth);
         let Ok(mut raster) = blank else {
             return Err(CaseStop::BadRow);

@@ -4,39 +4,26 @@
 ghost use Rattle.std.specs.Prelude.{◌≡◌, ◌*◌, IfSome};
 
 use crate::alike;
+use crate::answers::{Read, read_of, tell_answer};
 use crate::arrays::{Arrays, arrays_in};
-use crate::fixtures::{kind_at, version_at};
-use crate::reading::{self, Read, answer_of, read_of, tell_answer};
+use crate::fixtures::{blob_of, kind_at, tell_laid, version_at};
+use crate::reading::{self, answer_of};
 use case_rows::{CaseStop, Row, Told};
-use lerc_encode::{EncodeFault, LayFault, encode, encode_over, encode_view, encode_view_over};
+use lerc_encode::{EncodeFault, LayFault, encode_view, encode_view_over};
 use lerc_header::{Step, Version};
 use raster_values::{Raster, ShapeFault, is_shape};
 use std::alloc::Global;
 
-/// The blob that is chosen for a raster, or why there is none.
-pub(crate) fn blob_of(
-    alloc: Global,
-    raster: &Raster,
-    version: Version,
-    step: Step,
-) -> Result<Result<Vec<u8>, EncodeFault>, CaseStop> {
-    match encode(alloc, raster, version, step) {
-        Ok(blob) => Ok(Ok(blob.into_vec())),
-        Err(EncodeFault::OutOfMemory) => Err(CaseStop::OutOfMemory),
-        Err(fault) => Ok(Err(fault)),
-    }
-}
-
 /// The answer where the blob of the raster in the arrays is laid over these bytes.
-fn laid_over(
+fn lay_over(
     alloc: Global,
     arrays: &Arrays<'_>,
     version: Version,
     step: Step,
     room: &mut [u8],
 ) -> Result<Result<usize, LayFault>, CaseStop> {
-    let seen = arrays.seen()?;
-    Ok(encode_view_over(alloc, &seen, version, step, room))
+    let view = arrays.view()?;
+    Ok(encode_view_over(alloc, &view, version, step, room))
 }
 
 /// Whether the blob of the raster in the arrays is this one.
@@ -47,8 +34,8 @@ fn has_blob(
     step: Step,
     blob: &[u8],
 ) -> Result<bool, CaseStop> {
-    let seen = arrays.seen()?;
-    match encode_view(alloc, &seen, version, step) {
+    let view = arrays.view()?;
+    match encode_view(alloc, &view, version, step) {
         Ok(found) => Ok(found.as_slice() == blob),
         Err(_) => Ok(false),
     }
@@ -65,7 +52,7 @@ fn is_laid(
     let nines = [9u8; 4];
     let wanted = [blob, &nines].concat(alloc)?;
     let mut room = vec![in alloc; 9u8; wanted.len()]?;
-    let laid = laid_over(alloc, arrays, version, step, &mut room)?;
+    let laid = lay_over(alloc, arrays, version, step, &mut room)?;
     Ok(matches!(&laid, Ok(size) if *size == blob.len()) && room == wanted)
 }
 
@@ -131,7 +118,7 @@ fn tell_shape(alloc: Global, row: &Row, told: &mut Told) -> Result<(), CaseStop>
 
 /// Tells the blob of a raster: once, if it is the same for the raster in arrays; and what it is
 /// decoded to, if that is not the raster.
-fn both(alloc: Global, row: &Row, told: &mut Told) -> Result<(), CaseStop> {
+fn tell_both(alloc: Global, row: &Row, told: &mut Told) -> Result<(), CaseStop> {
     if !is_shape(row.number(2)?, row.number(3)?, row.number(4)?) {
         return tell_shape(alloc, row, told);
     }
@@ -150,22 +137,14 @@ fn both(alloc: Global, row: &Row, told: &mut Told) -> Result<(), CaseStop> {
     tell_kept(alloc, &blob, read_of(alloc, &raster)?, error, told)
 }
 
-/// Tells how many bytes were laid, or why none were.
-pub(crate) fn tell_laid(laid: Result<usize, LayFault>, told: &mut Told) -> Result<(), CaseStop> {
-    match laid {
-        Ok(size) => told.word(size),
-        Err(fault) => told.fact(fault),
-    }
-}
-
 /// Tells the answer where the same blob is laid over these bytes, what they are then, and whether
 /// the raster in arrays has another blob than they begin with.
-fn lay(alloc: Global, row: &Row, told: &mut Told) -> Result<(), CaseStop> {
+fn tell_lay(alloc: Global, row: &Row, told: &mut Told) -> Result<(), CaseStop> {
     let (version, step) = (version_at(row, 1)?, Step::of(row.number(5)?));
     let arrays = arrays_in(row)?;
     let raster = arrays.raster(alloc)?;
     let mut room = row.bytes(8)?.to_vec(alloc)?;
-    let laid = encode_over(alloc, &raster, version, step, &mut room);
+    let laid = encode_view_over(alloc, &raster, version, step, &mut room);
     if let Ok(size) = &laid {
         let Some(blob) = room.get(..*size) else {
             return Err(CaseStop::BadRow);
@@ -179,7 +158,7 @@ fn lay(alloc: Global, row: &Row, told: &mut Told) -> Result<(), CaseStop> {
 }
 
 /// Tells the texts of the faults of encoders and of shapes.
-fn texts(told: &mut Told) -> Result<(), CaseStop> {
+fn tell_texts(told: &mut Told) -> Result<(), CaseStop> {
     told.word(EncodeFault::DepthNeedsV4)?;
     told.word(EncodeFault::OutOfMemory)?;
     told.word(ShapeFault::BadSize)?;
@@ -190,10 +169,10 @@ fn texts(told: &mut Told) -> Result<(), CaseStop> {
 /// `both`, `lay` and `texts`, and `alike` of rasters whose pixels are all alike.
 pub(crate) fn call(alloc: Global, row: &Row, told: &mut Told) -> Result<(), CaseStop> {
     match row.call.as_slice() {
-        b"both" => both(alloc, row, told),
-        b"lay" => lay(alloc, row, told),
+        b"both" => tell_both(alloc, row, told),
+        b"lay" => tell_lay(alloc, row, told),
         b"alike" => alike::tell_alike(alloc, row, told),
-        b"texts" => texts(told),
+        b"texts" => tell_texts(told),
         _ => reading::call(alloc, row, told),
     }
 }

@@ -1,7 +1,7 @@
 //! What a decoder takes and wants, and what sources give.
 
+use crate::answers::{read_of, tell_read};
 use crate::fixtures::{source_of, tell_fault, tell_left};
-use crate::reading::{read_of, tell_read};
 use case_rows::{CaseStop, Row, Told};
 use lerc_decode::{Decoder, FedState, FromFault, decode_from, decode_sized};
 use outside_io::MemSource;
@@ -10,16 +10,16 @@ use std::alloc::Global;
 /// `pieces` of a blob, and a `source` of it, of which the `size` is told, too.
 pub(crate) fn call(alloc: Global, row: &Row, told: &mut Told) -> Result<(), CaseStop> {
     match row.call.as_slice() {
-        b"pieces" => pieces(alloc, row, told),
-        b"source" => from_source(alloc, row, told),
-        b"sized" => sized(alloc, row, told),
+        b"pieces" => tell_pieces(alloc, row, told),
+        b"source" => tell_source(alloc, row, told),
+        b"sized" => tell_sized(alloc, row, told),
         _ => Err(CaseStop::BadRow),
     }
 }
 
 /// Tells how many of the bytes a decoder takes in pieces of so many, what it says then, and how
 /// many bytes it wants before each piece and then.
-fn pieces(alloc: Global, row: &Row, told: &mut Told) -> Result<(), CaseStop> {
+fn tell_pieces(alloc: Global, row: &Row, told: &mut Told) -> Result<(), CaseStop> {
     let piece = row.number::<usize>(0)?;
     if piece == 0 {
         return Err(CaseStop::BadRow);
@@ -55,7 +55,7 @@ fn tell_stop(stop: FromFault, told: &mut Told) -> Result<(), CaseStop> {
 }
 
 /// Tells what the blob is that a source gives, and what is left in it.
-fn from_source(alloc: Global, row: &Row, told: &mut Told) -> Result<(), CaseStop> {
+fn tell_source(alloc: Global, row: &Row, told: &mut Told) -> Result<(), CaseStop> {
     let mut source = source_in(alloc, row)?;
     match decode_from(alloc, &mut source) {
         Ok(raster) => {
@@ -67,7 +67,7 @@ fn from_source(alloc: Global, row: &Row, told: &mut Told) -> Result<(), CaseStop
 }
 
 /// The same, with how many bytes the blob has in front.
-fn sized(alloc: Global, row: &Row, told: &mut Told) -> Result<(), CaseStop> {
+fn tell_sized(alloc: Global, row: &Row, told: &mut Told) -> Result<(), CaseStop> {
     let mut source = source_in(alloc, row)?;
     match decode_sized(alloc, &mut source) {
         Ok(decoded) => {

@@ -1,7 +1,9 @@
-//! What several calls begin and end with: sources, the rasters and bands of grids, and their grids.
+//! What several calls begin and end with: sources, the rasters and bands of grids, and their grids,
+//! and the blob of a raster.
 
 use case_rows::{CaseStop, Row, Told};
-use lerc_header::{BlobFault, Version};
+use lerc_encode::{EncodeFault, LayFault, encode_view};
+use lerc_header::{BlobFault, Step, Version};
 use outside_io::{Bytes, MemSink, MemSource, take_all};
 use raster_grids::{
     GridStop, bands_read, bands_size, bands_write, grid_read, grid_size, grid_write,
@@ -77,6 +79,28 @@ pub(crate) fn bands_grid_of(alloc: Global, bands: &Bands) -> Result<Vec<u8>, Cas
     match bands_write(bands, &mut sink) {
         Ok(()) if sink.held().len() as u64 == size => Ok(sink.held().to_vec(alloc)?),
         _ => Err(CaseStop::BadRow),
+    }
+}
+
+/// The blob that is chosen for a raster, or why there is none.
+pub(crate) fn blob_of(
+    alloc: Global,
+    raster: &Raster,
+    version: Version,
+    step: Step,
+) -> Result<Result<Vec<u8>, EncodeFault>, CaseStop> {
+    match encode_view(alloc, raster, version, step) {
+        Ok(blob) => Ok(Ok(blob.into_vec())),
+        Err(EncodeFault::OutOfMemory) => Err(CaseStop::OutOfMemory),
+        Err(fault) => Ok(Err(fault)),
+    }
+}
+
+/// Tells how many bytes were laid, or why none were.
+pub(crate) fn tell_laid(laid: Result<usize, LayFault>, told: &mut Told) -> Result<(), CaseStop> {
+    match laid {
+        Ok(size) => told.word(size),
+        Err(fault) => told.fact(fault),
     }
 }
 

@@ -19,7 +19,7 @@ pub(crate) fn call(
 ) -> Result<(), CaseStop> {
     match row.call.as_slice() {
         b"read" => read(alloc, are_bands, row, told),
-        b"cuts" => cuts(alloc, are_bands, row, told),
+        b"cuts" => tell_cuts(alloc, are_bands, row, told),
         b"source" => from_source(alloc, are_bands, row, told),
         b"sink" => to_sink(alloc, are_bands, row, told),
         b"at" => band_at(alloc, row, told),
@@ -89,7 +89,7 @@ fn read(alloc: Global, are_bands: bool, row: &Row, told: &mut Told) -> Result<()
 
 /// Tells at how many of the shorter lengths the bytes from a place on are truncated at that length,
 /// in pieces of seven.
-fn cuts(alloc: Global, are_bands: bool, row: &Row, told: &mut Told) -> Result<(), CaseStop> {
+fn tell_cuts(alloc: Global, are_bands: bool, row: &Row, told: &mut Told) -> Result<(), CaseStop> {
     let (at, bytes) = (row.number::<u64>(0)?, row.bytes(1)?);
     let mut count = 0u32;
     for length in 0..bytes.len() {

@@ -8,7 +8,7 @@ use lerc_header::{BlobFault, BlobReason, Step, checksum, read_header, write_head
 pub(crate) fn call(row: &Row, told: &mut Told) -> Result<(), CaseStop> {
     match row.call.as_slice() {
         b"read" => read(row.bytes(0)?, told),
-        b"cuts" => cuts(row.bytes(0)?, told),
+        b"cuts" => tell_cuts(row.bytes(0)?, told),
         b"write" => write(row.bytes(0)?, told),
         b"sum" => told.bytes(&checksum(row.bytes(0)?).to_be_bytes()),
         b"step" => told.word(Step::of(row.number::<u32>(0)?).get()),
@@ -25,7 +25,7 @@ fn read(bytes: &[u8], told: &mut Told) -> Result<(), CaseStop> {
 }
 
 /// Tells at how many of the shorter lengths the bytes are truncated at that length.
-fn cuts(bytes: &[u8], told: &mut Told) -> Result<(), CaseStop> {
+fn tell_cuts(bytes: &[u8], told: &mut Told) -> Result<(), CaseStop> {
     let mut count = 0u32;
     for length in 0..bytes.len() {
         let cut = BlobFault {

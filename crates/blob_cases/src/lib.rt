@@ -6,6 +6,7 @@
 #![tactic(auto)]
 
 mod alike;
+mod answers;
 mod arrays;
 mod calls;
 mod encoding;

@@ -1,6 +1,6 @@
 //! Blobs decoded into a caller's arrays, which hold other bytes before.
 
-use crate::reading::Answer;
+use crate::answers::Answer;
 use case_rows::{CaseStop, Row, Told};
 use lerc_decode::{OverFault, decode_over};
 use lerc_header::read_header;

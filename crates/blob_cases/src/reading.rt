@@ -1,65 +1,18 @@
 //! Blobs that are decoded: in pieces of any length and into a caller's arrays, behind another
 //! blob, cut at each length, and in outline.
 
+use crate::answers::{Answer, read_of, tell_answer};
 use crate::fixtures::tell_fault;
 use crate::over;
 use case_rows::{CaseStop, Row, Told};
 use lerc_decode::{DecodeFault, Decoder};
 use lerc_grammar::outline;
 use lerc_header::{BlobFault, BlobReason};
-use raster_values::{PixelType, Raster};
+use raster_values::Raster;
 use std::alloc::Global;
 
-/// What a blob is: a type, a shape, the mask and the bytes of the values of all pixels.
-#[derive(PartialEq, Drop)]
-pub(crate) struct Read {
-    pub(crate) kind: PixelType,
-    pub(crate) rows: u32,
-    pub(crate) cols: u32,
-    pub(crate) depth: u32,
-    pub(crate) mask: Vec<u8>,
-    pub(crate) cells: Vec<u8>,
-}
-
-/// What a blob is, or what is wrong with it first.
-pub(crate) type Answer = Result<Read, BlobFault>;
-
-/// What a raster is.
-pub(crate) fn read_of(alloc: Global, raster: &Raster) -> Result<Read, CaseStop> {
-    let (rows, cols) = (raster.rows(), raster.cols());
-    let pixels = rows as usize * cols as usize;
-    let mut mask = vec![in alloc; 1u8; (pixels + 7) / 8]?;
-    raster.mask_bytes(&mut mask);
-    Ok(Read {
-        kind: raster.kind(),
-        rows,
-        cols,
-        depth: raster.depth(),
-        mask,
-        cells: raster.cells().to_vec(alloc)?,
-    })
-}
-
-/// Tells what a raster is.
-pub(crate) fn tell_read(read: &Read, told: &mut Told) -> Result<(), CaseStop> {
-    told.fact(read.kind)?;
-    told.word(read.rows)?;
-    told.word(read.cols)?;
-    told.word(read.depth)?;
-    told.bytes(&read.mask)?;
-    told.bytes(&read.cells)
-}
-
-/// Tells what a blob is, or the reason and the place of the fault.
-pub(crate) fn tell_answer(answer: &Answer, told: &mut Told) -> Result<(), CaseStop> {
-    match answer {
-        Ok(read) => tell_read(read, told),
-        Err(fault) => tell_fault(*fault, told),
-    }
-}
-
 /// What a decoder answers that was fed these bytes in pieces of so many, behind that raster.
-fn fed_in(
+fn feed_in(
     alloc: Global,
     before: Option<&Raster>,
     bytes: &[u8],
@@ -94,7 +47,7 @@ fn answer_in(
     } else {
         piece
     };
-    match fed_in(alloc, before, bytes, piece)? {
+    match feed_in(alloc, before, bytes, piece)? {
         Ok(raster) => Ok(Ok(read_of(alloc, &raster)?)),
         Err(fault) => Ok(Err(fault)),
     }
@@ -102,7 +55,7 @@ fn answer_in(
 
 /// What the bytes are at once. Tells what they are in pieces of 1 and of 7, if that is something
 /// else.
-fn fed_whole(
+fn feed_whole(
     alloc: Global,
     before: Option<&Raster>,
     bytes: &[u8],
@@ -121,7 +74,7 @@ fn fed_whole(
 
 /// The same, and tells whether the bytes fill arrays with something else.
 pub(crate) fn answer_of(alloc: Global, bytes: &[u8], told: &mut Told) -> Result<Answer, CaseStop> {
-    let first = fed_whole(alloc, None, bytes, told)?;
+    let first = feed_whole(alloc, None, bytes, told)?;
     if !over::agree(alloc, bytes, &first)? {
         told.word("arrays")?;
     }
@@ -129,13 +82,13 @@ pub(crate) fn answer_of(alloc: Global, bytes: &[u8], told: &mut Told) -> Result<
 }
 
 /// Tells what a blob is, behind the raster of another one where there is a second word.
-fn reads(alloc: Global, row: &Row, told: &mut Told) -> Result<(), CaseStop> {
+fn tell_reads(alloc: Global, row: &Row, told: &mut Told) -> Result<(), CaseStop> {
     let bytes = row.bytes(0)?;
     let answer = if row.given.len() == 1 {
         answer_of(alloc, bytes, told)?
     } else {
-        match fed_in(alloc, None, row.bytes(1)?, 64)? {
-            Ok(before) => fed_whole(alloc, Some(&before), bytes, told)?,
+        match feed_in(alloc, None, row.bytes(1)?, 64)? {
+            Ok(before) => feed_whole(alloc, Some(&before), bytes, told)?,
             Err(_) => return Err(CaseStop::BadRow),
         }
     };
@@ -144,7 +97,7 @@ fn reads(alloc: Global, row: &Row, told: &mut Told) -> Result<(), CaseStop> {
 
 /// Tells at how many of the shorter lengths the blob is truncated at that length, in pieces of any
 /// length and for arrays.
-fn cuts(alloc: Global, bytes: &[u8], told: &mut Told) -> Result<(), CaseStop> {
+fn tell_cuts(alloc: Global, bytes: &[u8], told: &mut Told) -> Result<(), CaseStop> {
     let mut count = 0u32;
     for length in 0..bytes.len() {
         let cut = BlobFault {
@@ -179,8 +132,8 @@ fn tell_outline(row: &Row, told: &mut Told) -> Result<(), CaseStop> {
 /// `reads`, `cuts`, `over` and `outline`.
 pub(crate) fn call(alloc: Global, row: &Row, told: &mut Told) -> Result<(), CaseStop> {
     match row.call.as_slice() {
-        b"reads" => reads(alloc, row, told),
-        b"cuts" => cuts(alloc, row.bytes(0)?, told),
+        b"reads" => tell_reads(alloc, row, told),
+        b"cuts" => tell_cuts(alloc, row.bytes(0)?, told),
         b"over" => over::tell(alloc, row, told),
         b"outline" => tell_outline(row, told),
         _ => Err(CaseStop::BadRow),

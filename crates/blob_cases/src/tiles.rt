@@ -17,8 +17,8 @@ use std::alloc::Global;
 pub(crate) fn call(alloc: Global, row: &Row, told: &mut Told) -> Result<(), CaseStop> {
     match row.call.as_slice() {
         b"read" => read(alloc, row.bytes(0)?, told),
-        b"cuts" => cuts(alloc, row.bytes(0)?, told),
-        b"decided" => told.fact(decided(alloc, row.bytes(0)?)),
+        b"cuts" => tell_cuts(alloc, row.bytes(0)?, told),
+        b"decided" => told.fact(deciding_byte(alloc, row.bytes(0)?)),
         b"keep" => keep(alloc, row, told),
         b"encode" => encode(alloc, row, told),
         _ => Err(CaseStop::BadRow),
@@ -38,7 +38,7 @@ fn tile_of(alloc: Global, read: Result<Bands, BandsStop>) -> Result<Tile, CaseSt
 }
 
 /// What a decoder of bands answers that was fed these bytes in pieces of so many.
-fn fed_in(alloc: Global, bytes: &[u8], piece: usize) -> Result<Tile, CaseStop> {
+fn feed_in(alloc: Global, bytes: &[u8], piece: usize) -> Result<Tile, CaseStop> {
     if piece == 0 {
         return Err(CaseStop::BadRow);
     }
@@ -50,7 +50,7 @@ fn fed_in(alloc: Global, bytes: &[u8], piece: usize) -> Result<Tile, CaseStop> {
 }
 
 /// What is answered of a source that gives at most so many bytes a call.
-fn given_in(alloc: Global, bytes: &[u8], piece: usize) -> Result<Tile, CaseStop> {
+fn read_in(alloc: Global, bytes: &[u8], piece: usize) -> Result<Tile, CaseStop> {
     let mut source = source_of(alloc, bytes, piece, b"")?;
     match decode_bands_from(alloc, &mut source) {
         Ok(bands) => tile_of(alloc, Ok(bands)),
@@ -65,8 +65,8 @@ fn answers(alloc: Global, bytes: &[u8]) -> Result<Vec<Tile>, CaseStop> {
     let mut list = Vec::new(alloc);
     list.push(tile_of(alloc, decode_bands(alloc, bytes))?)?;
     for piece in [1, 7, 1000] {
-        list.push(fed_in(alloc, bytes, piece)?)?;
-        list.push(given_in(alloc, bytes, piece)?)?;
+        list.push(feed_in(alloc, bytes, piece)?)?;
+        list.push(read_in(alloc, bytes, piece)?)?;
     }
     Ok(list)
 }
@@ -98,7 +98,7 @@ fn read(alloc: Global, bytes: &[u8], told: &mut Told) -> Result<(), CaseStop> {
 }
 
 /// Tells at how many of the shorter lengths each answer is that the tile is truncated there.
-fn cuts(alloc: Global, bytes: &[u8], told: &mut Told) -> Result<(), CaseStop> {
+fn tell_cuts(alloc: Global, bytes: &[u8], told: &mut Told) -> Result<(), CaseStop> {
     let mut count = 0u32;
     for length in 0..bytes.len() {
         let cut = Err(BandsFault {
@@ -114,7 +114,7 @@ fn cuts(alloc: Global, bytes: &[u8], told: &mut Told) -> Result<(), CaseStop> {
 }
 
 /// Which of the bytes decides a fault, fed one by one and counted from 0.
-fn decided(alloc: Global, bytes: &[u8]) -> Option<usize> {
+fn deciding_byte(alloc: Global, bytes: &[u8]) -> Option<usize> {
     let mut decoder = BandsDecoder::new(alloc);
     for (at, part) in bytes.chunks(1).enumerate() {
         let fed = decoder.feed(part);

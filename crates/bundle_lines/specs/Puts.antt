@@ -1,6 +1,6 @@
--- Puts one after the other, in groups: what the bundle reads as, whether there is room, which groups
--- they are, what a crash leaves at each moment, by the marks of those that were acknowledged, and how
--- they end.
+-- Puts one after the other, in groups: what the bundle reads as, whether there is room, which
+-- groups they are, what a crash leaves at each moment, by the marks of those that were
+-- acknowledged, and how they end.
 use Rattle.std.specs.Prelude.{◌≡◌, ◌⊎◌, ℕ, ◌+◌, ◌^◌, ◌<◌, ◌≤◌, nat_le, List, [], ◌∷◌, ◌++◌, length, take, replicate, slice_index, Option, Bool, true, IsTrue, IsErrOf, Ok, Err}
 use Rattle.std.specs.List.{count_by}
 use Rattle.outside_io.specs.declared.volume.VolFile.TheVariants.{Bundle}

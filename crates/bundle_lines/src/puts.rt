@@ -1,3 +1,5 @@
+//! Tiles are put in groups, with a line for each.
+
 ghost use Rattle.std.specs.Prelude.{◌≡◌, ◌+◌, ◌<◌, ◌≤◌, [], length, IsTrue, OnOk, OnErr, Err};
 ghost use Rattle.outside_io.specs.declared.volume.VolFile.TheVariants.{Bundle};
 ghost use Rattle.outside_io.specs.streams.Faults.{CountsFaults, IsCause};
@@ -18,7 +20,7 @@ use crate::builds::add_marks;
 use crate::lines::give_put;
 use crate::stop::PutStop;
 use bundle_index::INDEX_END;
-use bundle_store::{Session, StoreFault, TileRec, fitting};
+use bundle_store::{Session, StoreFault, TileRec, count_fitting};
 use outside_io::{Failed, Marks, Sink, Volume};
 
 /// The greatest number of tiles that are put at once.
@@ -37,7 +39,7 @@ fn first_fitting(len: u64, updates: &[TileRec]) -> usize
     ensures { IsFitting len updates.now result }
 {
     let most = updates.len().min(MOST);
-    fitting(first_place(len), updates, most)
+    count_fitting(first_place(len), updates, most)
 }
 
 /// How many of the first tiles are put at once: as many as there is room for, of 64 at most.

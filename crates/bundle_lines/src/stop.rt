@@ -1,3 +1,5 @@
+//! Why puts end before the last.
+
 /// Why puts end before the last.
 #[derive(Clone, Copy, Debug, PartialEq, Eq)]
 pub enum PutStop {

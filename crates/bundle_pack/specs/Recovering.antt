@@ -18,8 +18,8 @@ pub record Recovers (old new : History) : Type 0 where
       (contents Bundle new))
   pub refused : OnBadJournal answer (current new ≡ synced_disk (current old))
 
--- Neither file changes at all; or both change by one call of `recover`, and from its end on they are
--- at each moment as it left them.
+-- Neither file changes at all; or both change by one call of `recover`, and from its end on they
+-- are at each moment as it left them.
 abbrev pub ChangesByRecovery : History → History → Type 0
 ChangesByRecovery old new = During (λ d. d ≡ current old) old new
     ⊎ ((left : History) × (Recovers old left × During (λ d. d ≡ current left) left new))

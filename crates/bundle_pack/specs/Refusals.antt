@@ -37,7 +37,8 @@ NamesMore _ = ⊥
 abbrev pub PackFails : ℕ → PackFault → Type 0
 PackFails count OutOfMemory = Unit {0}
 PackFails count (Source at None fault) = (at < count) × OpeningFails fault
-PackFails count (Source at (Some slot) fault) = (at < count) × ((slot < slot_count) × NamesMore fault)
+PackFails count (Source at (Some slot) fault) = (at < count)
+    × ((slot < slot_count) × NamesMore fault)
 PackFails count (KeptTooMuch len) = most_bytes < len
 PackFails count (Target (store.NotEmpty len)) = 0 < len
 PackFails count (Target fault) = OpeningFails fault

@@ -136,7 +136,8 @@ abbrev pub KeepsOrPacks : List TileMap → TileMap → History → History → T
 KeepsOrPacks maps start old new = During (EachImage (λ map. (map ≡ start)
     ⊎ ((start ≡ no_tiles) × (map ≡ merged maps)))) old new
 
--- each source whose files are sound, and of which nothing is pending, keeps its tiles at each moment
+-- each source whose files are sound, and of which nothing is pending, keeps its tiles at each
+-- moment
 abbrev pub EachKeepsStart : {V : Type 0} → (V → Bool) → (V → History) → List V → List V → Type 0
 EachKeepsStart told history old new = Each (λ i v w. (start : TileMap)
     → IsReady (told v) (history v) start → KeepsStart start (history v) (history w)) old new

@@ -17,8 +17,8 @@ pub record Each {V : Type 0} (P : ℕ → V → V → Type 0) (old new : List V)
   pub each : (i : ℕ) (v w : V) → slice_get old i ≡ Some v → slice_get new i ≡ Some w → P i v w
 
 -- At each moment each image stands for a map that an image at the start stood for, and has a bundle
--- of the start, or one that a recovery makes of it; and the files change by a recovery alone. All this
--- holds where the volume fails, too.
+-- of the start, or one that a recovery makes of it; and the files change by a recovery alone. All
+-- this holds where the volume fails, too.
 pub record RecoversAlone {V : Type 0} (told : V → Bool) (history : V → History) (old new : V) :
     Type 0 where
   pub told_same : told new ≡ told old

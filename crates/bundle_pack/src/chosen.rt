@@ -16,7 +16,7 @@ pub(crate) struct Choice {
 }
 
 /// The entry that counts in the slot, if one has a size: the last of those.
-pub(crate) fn chosen(sessions: &[Session], slot: Slot) -> Option<Choice>
+pub(crate) fn choice_at(sessions: &[Session], slot: Slot) -> Option<Choice>
     ensures within { IfSome result (λ c. c.at < length sessions.now) }
     ensures small { IfSome result (λ c. c.size < 16777216) }
     ensures is { (bundles : List (List ℕ)) → AreServed sessions.now bundles →
@@ -43,7 +43,7 @@ fn size_at(sessions: &[Session], number: u16) -> u32
     let Some(slot) = Slot::of_number(number) else {
         return 0;
     };
-    match chosen(sessions, slot) {
+    match choice_at(sessions, slot) {
         Some(choice) => choice.size,
         None => 0,
     }

@@ -11,7 +11,7 @@ ghost use Rattle.bundle_pack.specs.Sources.{DeviceAt, Each, IsServing};
 ghost use Rattle.bundle_pack.specs.inside.Collecting.{GetSays, IsGetFault, IsStill, ReadFails, TakesTile, TileSays, TilesSay};
 
 use crate::PackFault;
-use crate::chosen::chosen;
+use crate::chosen::choice_at;
 use crate::fault::tile_fault;
 use bundle_index::{SLOT_COUNT, Slot};
 use bundle_store::{Session, StoreFault, TileRec};
@@ -64,7 +64,7 @@ fn take_tile<V: Volume>(
     let Some(slot) = Slot::of_number(number) else {
         return Ok(());
     };
-    let Some(choice) = chosen(sessions, slot) else {
+    let Some(choice) = choice_at(sessions, slot) else {
         return Ok(());
     };
     let at = choice.at;

@@ -121,7 +121,8 @@ pub fn run_pack<K: Sink, E: Sink, V: Volume, W: Volume>(
         → EndsWith answer result (sink_move K.held K.faults out.old out.new)
         (sink_move E.held E.faults err.old err.new) }
 
-    // Of sources whose files stand for these tiles: status 0 says that the target holds them merged.
+    // Of sources whose files stand for these tiles: status 0 says that the target holds them
+    // merged.
     ensures packed { IsAsked words.now (length from.old) → All (λ v. IsTrue (V.told v)) from.old
         → IsTrue (W.told to.old) → (maps : List TileMap)
         → StandFor (all_files V.history from.old) maps → result ≡ 0
@@ -139,8 +140,9 @@ pub fn run_pack<K: Sink, E: Sink, V: Volume, W: Volume>(
         → OpensAs (files_in (W.history to.old)) [] → result ≢ 4 → result ≢ 5
         → (result ≡ 0) ⊎ (result ≡ 6) }
 
-    // At each moment, whatever the answer: a source keeps its tiles, and its bytes where no put of it
-    // is under way, and the target those of the start, or, from none, these or all that is packed.
+    // At each moment, whatever the answer: a source keeps its tiles, and its bytes where no put of
+    // it is under way, and the target those of the start, or, from none, these or all that is
+    // packed.
     ensures sources_keep { IsAsked words.now (length from.old)
         → EachKeepsStart V.told V.history from.old from.new }
     ensures sources_stay { IsAsked words.now (length from.old)
@@ -151,8 +153,8 @@ pub fn run_pack<K: Sink, E: Sink, V: Volume, W: Volume>(
         → IsReady (W.told to.old) (W.history to.old) start
         → KeepsOrPacks maps start (W.history to.old) (W.history to.new) }
 
-    // Where the run refuses, or memory is refused, the target stays unpacked: it keeps its tiles, and
-    // its bytes where no put of it is under way.
+    // Where the run refuses, or memory is refused, the target stays unpacked: it keeps its tiles,
+    // and its bytes where no put of it is under way.
     ensures target_unpacked { IsAsked words.now (length from.old) → (start : TileMap)
         → IsReady (W.told to.old) (W.history to.old) start → (result ≡ 6) ⊎ (result ≡ 7)
         → KeepsStart start (W.history to.old) (W.history to.new) }

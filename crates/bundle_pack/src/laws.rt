@@ -1,5 +1,5 @@
-// A law of the definitions, for the crates above. The function does nothing: its contract is the
-// law.
+//! A law of the definitions, for the crates above. The function does nothing: its contract is the
+//! law.
 
 ghost use Rattle.std.specs.Prelude.{◌≡◌, List, Result};
 ghost use Rattle.opened_bundle.specs.Files.{Files};

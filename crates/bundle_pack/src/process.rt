@@ -43,7 +43,10 @@ pub fn serve<A: Arguments, K: Sink, E: Sink, V: Volume, W: Volume>(
 ) -> ExitCode
     ensures usage { (texts : List (List ℕ)) → A.texts args.now ≡ Some texts
         → (¬ IsAsked (asked_by texts) (length from.old))
-        → (exit_status result ≡ 1) ⊎ (exit_status result ≡ 6) }
+        → (exit_status result ≡ 1) ⊎ IsUnread (from.new ≡ from.old) (exit_status result)
+        (volume_move W.told W.history W.faults to.old to.new)
+        (sink_move K.held K.faults out.old out.new)
+        (sink_move E.held E.faults err.old err.new) }
     ensures unused { exit_status result ≡ 1
         → (out.new ≡ out.old) × (from.new ≡ from.old) × (to.new ≡ to.old)
         × GivesLine (E.held err.old) (E.held err.new) (E.faults err.old) (E.faults err.new)

@@ -9,18 +9,18 @@ use outside_io::Word;
 pub const USAGE: &[u8] = b"usage: TARGET SOURCE, with 1 to 8 sources";
 
 /// Whether this is the word `pack`.
-fn is_pack(word: &Word) -> bool
+fn is_pack_word(word: &Word) -> bool
     ensures { IsTrue result ↔ (word.now ≡ codes "pack") }
 {
     word.as_slice() == b"pack".as_slice()
 }
 
 /// Whether the words are that one word.
-fn are_pack(words: &[Word]) -> bool
+fn say_pack(words: &[Word]) -> bool
     ensures { IsTrue result ↔ (words.now ≡ codes "pack" ∷ []) }
 {
     match words {
-        [word] => is_pack(word),
+        [word] => is_pack_word(word),
         _ => false,
     }
 }
@@ -37,5 +37,5 @@ fn are_few(sources: usize) -> bool
 pub(crate) fn asks_to_pack(words: &[Word], sources: usize) -> bool
     ensures { IsTrue result ↔ IsAsked words.now sources }
 {
-    are_pack(words) && are_few(sources)
+    say_pack(words) && are_few(sources)
 }

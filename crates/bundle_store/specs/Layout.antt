@@ -42,5 +42,6 @@ greatest_size map (suc slot) = max (greatest_size map slot) (size_of (map slot))
 
 -- the fresh header, the index, and the records by slot without gaps
 unfoldable pub layout : TileMap → List ℕ
-layout map = fresh_header (greatest_size map slot_count) (index_end + length (records map slot_count)) ++
+layout map = fresh_header (greatest_size map slot_count)
+    (index_end + length (records map slot_count)) ++
     (entries map slot_count ++ records map slot_count)

@@ -74,14 +74,14 @@ pub record IsPutInPart (bundle journal now : List ℕ) : Type 0 where
   pub size : length now ≡ length bundle
   pub all : with_body applies.body now ≡ with_body applies.body bundle
 
--- What a recovery of these files makes of the bundle before it ends: nothing, or one whose tiles are
--- put in part, or an empty one where it was being built.
+-- What a recovery of these files makes of the bundle before it ends: nothing, or one whose tiles
+-- are put in part, or an empty one where it was being built.
 abbrev pub IsMidway : List ℕ → List ℕ → List ℕ → Type 0
 IsMidway bundle journal now = (now ≡ bundle) ⊎ (IsPutInPart bundle journal now
     ⊎ (IsOpen journal × (SaysBuild journal × (now ≡ []))))
 
--- What a crash may leave of the bundle is what it might leave of it on this disk, or what a recovery
--- makes of it as it is read there.
+-- What a crash may leave of the bundle is what it might leave of it on this disk, or what a
+-- recovery makes of it as it is read there.
 abbrev pub EachBundleMidway : Disk → Disk → Type 0
 EachBundleMidway old now = (b : List ℕ) → IsImage now.bundle b →
     IsImage old.bundle b ⊎ IsMidway old.bundle.now old.journal.now b
@@ -100,8 +100,8 @@ OnBadJournal (Err (BadJournal place found)) P = P
 OnBadJournal _ P = Unit {0}
 
 -- The kept numbers of a refusal of a recovery fail the test of their place, over whatever volume.
--- That the bundle is shorter than the length found at 16 or 24 is said only where the volume tells its
--- contents.
+-- That the bundle is shorter than the length found at 16 or 24 is said only where the volume tells
+-- its contents.
 abbrev pub RecoverFails : StoreFault → Type 0
 RecoverFails Device = Unit {0}
 RecoverFails (BadJournal place found) = IsWrongAt place found ⊎ ((place ≡ 16) ⊎ (place ≡ 24))

@@ -1,4 +1,5 @@
 pub mod Checking
+pub mod Finishing
 pub mod Grouped
 pub mod Listed
 pub mod Parts

@@ -1,24 +1,26 @@
+//! A bundle is built in the place of an empty one, under an open journal.
+
 ghost use Rattle.std.specs.Prelude.{◌≡◌, ◌<◌, [], length, IsTrue, IsErrOf, IfErr, OnOk};
 ghost use Rattle.outside_io.specs.declared.volume.VolFile.TheVariants.{Bundle};
 ghost use Rattle.outside_io.specs.streams.Faults.{CountsFaults};
 ghost use Rattle.outside_io.specs.volume.History.{During, contents, current};
 ghost use Rattle.bundle_store.specs.inside.Parts.{IsAtRest, IsBegun, IsIdle};
-ghost use Rattle.bundle_store.specs.inside.Table.{HasRoom, IsTable, table_map};
+ghost use Rattle.bundle_store.specs.inside.Table.{HasRoom, NumbersTiles, table_map};
 ghost use Rattle.bundle_store.specs.Build.{EachFits};
 ghost use Rattle.bundle_store.specs.Causes.{CountsDevice, OnRefusal, UnlessDevice};
 ghost use Rattle.bundle_store.specs.Session.{BuildFails, KeepsLength};
 ghost use Rattle.bundle_store.specs.Images.{EachImage, EmptyOr, HoldsClosed};
 ghost use Rattle.bundle_store.specs.Kept.{Keeps};
 ghost use Rattle.bundle_store.specs.Layout.{layout};
-ghost use Rattle.bundle_store.specs.Tiles.{AreTiles, Opens, no_tiles};
-ghost use Rattle.bundle_store.specs.Told.{Told};
+ghost use Rattle.bundle_store.specs.Tiles.{Opens, no_tiles};
+ghost use Rattle.bundle_store.specs.Told.{Changes};
 
 pub(crate) mod laying;
 pub(crate) mod size;
 
 use crate::front::Front;
 use crate::{StoreFault, TileRec};
-use laying::lay_out;
+use laying::write_layout;
 use outside_io::{Failed, VolFile, Volume};
 use side_journal::{Body, arm, close_gate, open_gate, prepare};
 
@@ -30,9 +32,8 @@ fn begin<V: Volume>(vol: &mut V) -> Result<(), Failed>
         ≡ (current (V.history vol.old)).bundle }
     ensures journal { IsTrue (V.told vol.old) →
         OnOk result (IsBegun (current (V.history vol.new))) }
-    ensures images { IsTrue (V.told vol.old) → During (EachImage (λ map. map ≡ no_tiles))
-        (V.history vol.old) (V.history vol.new) }
-    ensures told { Told V.told V.faults (CountsFaults result) vol.old vol.new }
+    ensures changes { Changes V.told V.history V.faults (CountsFaults result)
+        (λ _. EachImage (λ map. map ≡ no_tiles)) vol.old vol.new }
 {
     prepare(vol)?;
     arm(vol, &Body::Build)?;
@@ -49,21 +50,18 @@ pub(crate) fn build_empty<V: Volume>(
     front: &mut Front,
 ) -> Result<(), Failed>
     requires buffer { HasRoom tiles.now (length buffer.old) }
-    requires table { IsTable tiles.now table.now }
-    requires tiles { AreTiles (table_map tiles.now table.now) }
+    requires table { NumbersTiles tiles.now table.now }
     requires empty { IsTrue (V.told vol.old) → contents Bundle (V.history vol.old) ≡ [] }
     requires idle { IsTrue (V.told vol.old) → IsIdle (current (V.history vol.old)) }
     ensures done { IsTrue (V.told vol.old) →
         OnOk result (HoldsClosed (layout (table_map tiles.now table.now))
         (current (V.history vol.new))) }
     ensures keeps { OnOk result (Keeps front.new (layout (table_map tiles.now table.now))) }
-    ensures images { IsTrue (V.told vol.old) →
-        During (EachImage (EmptyOr (table_map tiles.now table.now))) (V.history vol.old)
-        (V.history vol.new) }
-    ensures told { Told V.told V.faults (CountsFaults result) vol.old vol.new }
+    ensures changes { Changes V.told V.history V.faults (CountsFaults result)
+        (λ _. EachImage (EmptyOr (table_map tiles.now table.now))) vol.old vol.new }
 {
     begin(vol)?;
-    lay_out(vol, tiles, table, buffer, front)?;
+    write_layout(vol, tiles, table, buffer, front)?;
     close_gate(vol)
 }
 
@@ -76,13 +74,9 @@ pub(crate) fn build_on<V: Volume>(
     front: &mut Front,
 ) -> Result<(), StoreFault>
     requires buffer { HasRoom tiles.now (length buffer.old) }
-    requires table { IsTable tiles.now table.now }
-    requires tiles { AreTiles (table_map tiles.now table.now) }
+    requires table { NumbersTiles tiles.now table.now }
     requires fits { EachFits tiles.now }
-    requires opens { IsTrue (V.told vol.old) → Opens (contents Bundle (V.history vol.old)) }
-    requires keeps { IsTrue (V.told vol.old) → Keeps front.old (contents Bundle
-        (V.history vol.old)) }
-    requires idle { IsTrue (V.told vol.old) → IsIdle (current (V.history vol.old)) }
+    requires rest { IsTrue (V.told vol.old) → IsAtRest front.old (current (V.history vol.old)) }
     ensures done { IsTrue (V.told vol.old) →
         OnOk result (HoldsClosed (layout (table_map tiles.now table.now))
         (current (V.history vol.new))) }
@@ -99,11 +93,9 @@ pub(crate) fn build_on<V: Volume>(
         (IsAtRest front.new (current (V.history vol.new))) }
     ensures running { ¬ IsErrOf result StoreFault.Stopped }
     ensures ample { ¬ IsErrOf result StoreFault.OutOfMemory }
-    ensures images { IsTrue (V.told vol.old) → During (λ d. contents Bundle (V.history vol.old)
-        ≡ []
-        → EachImage (EmptyOr (table_map tiles.now table.now)) d) (V.history vol.old)
-        (V.history vol.new) }
-    ensures told { Told V.told V.faults (CountsDevice result) vol.old vol.new }
+    ensures changes { Changes V.told V.history V.faults (CountsDevice result)
+        (λ old d. old.bundle.now ≡ []
+        → EachImage (EmptyOr (table_map tiles.now table.now)) d) vol.old vol.new }
 {
     let len = vol.len(VolFile::Bundle)?;
     if len != 0 {

@@ -1,15 +1,15 @@
 //! The check of a bundle: each entry, and the number in front of each tile.
 
-ghost use Rattle.std.specs.Prelude.{◌≡◌, ◌+◌, ◌^◌, ◌<◌, ◌≤◌, ◌==◌, None, length, IsTrue, IfOk};
+ghost use Rattle.std.specs.Prelude.{◌≡◌, ◌+◌, ◌^◌, ◌<◌, ◌≤◌, ◌==◌, if◌then◌else◌, None, length, IsTrue, IfOk};
 ghost use Rattle.outside_io.specs.declared.volume.VolFile.TheVariants.{Bundle};
 ghost use Rattle.outside_io.specs.streams.Faults.{CountsFaults};
-ghost use Rattle.outside_io.specs.volume.History.{During, contents, current};
+ghost use Rattle.outside_io.specs.volume.History.{contents};
 ghost use Rattle.bundle_index.specs.Entry.{IsEntry};
 ghost use Rattle.bundle_index.specs.Sizes.{slot_count};
 ghost use Rattle.bundle_store.specs.Check.{Reports, is_bad};
 ghost use Rattle.bundle_store.specs.Kept.{Keeps};
 ghost use Rattle.bundle_store.specs.inside.Checking.{IsSmall, NextReport};
-ghost use Rattle.bundle_store.specs.Told.{Told};
+ghost use Rattle.bundle_store.specs.Told.{OnlyReads};
 
 use crate::front::Front;
 use bundle_index::{Entry, INDEX_END, SLOT_COUNT, Slot};
@@ -38,10 +38,10 @@ fn is_bad_entry<V: Volume>(vol: &mut V, entry: Entry, len: u64) -> Result<bool, 
     requires len { IsTrue (V.told vol.old) → len ≡ length (contents Bundle (V.history vol.old)) }
     ensures value { IsTrue (V.told vol.old) →
         IfOk result (λ b. b ≡ is_bad (contents Bundle (V.history vol.old)) entry) }
-    ensures during { IsTrue (V.told vol.old) → During (λ d. d ≡ current (V.history vol.old))
-        (V.history vol.old) (V.history vol.new) }
     ensures calls { (V.history vol.new).moment ≤ (V.history vol.old).moment + 1 }
-    ensures told { Told V.told V.faults (CountsFaults result) vol.old vol.new }
+    ensures needed { (V.history vol.new).moment
+        ≤ (V.history vol.old).moment + (if entry.size == 0 then 0 else 1) }
+    ensures reads { OnlyReads V.told V.history V.faults (CountsFaults result) vol.old vol.new }
 {
     if entry.size == 0 {
         return Ok(false);
@@ -89,10 +89,10 @@ pub(crate) fn check_index<V: Volume>(
     requires len { IsTrue (V.told vol.old) → len ≡ length (contents Bundle (V.history vol.old)) }
     ensures report { IsTrue (V.told vol.old) →
         IfOk result (λ r. Reports (contents Bundle (V.history vol.old)) slot_count r) }
-    ensures during { IsTrue (V.told vol.old) → During (λ d. d ≡ current (V.history vol.old))
-        (V.history vol.old) (V.history vol.new) }
     ensures calls { (V.history vol.new).moment ≤ (V.history vol.old).moment + slot_count }
-    ensures told { Told V.told V.faults (CountsFaults result) vol.old vol.new }
+    ensures needed { IfOk result (λ r.
+        (V.history vol.new).moment ≤ (V.history vol.old).moment + r.tiles) }
+    ensures reads { OnlyReads V.told V.history V.faults (CountsFaults result) vol.old vol.new }
 {
     let mut all = CheckReport {
         tiles: 0,
@@ -101,7 +101,7 @@ pub(crate) fn check_index<V: Volume>(
         first_bad: None,
     };
     for number in 0..SLOT_COUNT {
-        let entry = front.numbered(number);
+        let entry = front.entry_of_number(number);
         let bad = is_bad_entry(vol, entry, len)?;
         all = with_slot(&all, number, entry.size, bad);
     }

@@ -1,3 +1,5 @@
+//! Why a call of the store refuses.
+
 use bundle_index::Entry;
 use outside_io::Failed;
 use std::alloc::AllocError;

@@ -4,18 +4,17 @@ ghost use Rattle.std.specs.Prelude.{◌≡◌, ◌*◌, ◌<◌, ◌≤◌, ◌+
 ghost use Rattle.outside_io.specs.declared.volume.VolFile.TheVariants.{Bundle};
 ghost use Rattle.outside_io.specs.volume.Disk.{laid};
 ghost use Rattle.outside_io.specs.streams.Faults.{CountsFaults};
-ghost use Rattle.outside_io.specs.volume.History.{During, Ticks, contents, current};
+ghost use Rattle.outside_io.specs.volume.History.{Ticks, contents, current};
 ghost use Rattle.bundle_index.specs.Entry.{IsEntry, entry_at, entry_bytes};
 ghost use Rattle.bundle_index.specs.Sizes.{index_end, slot_count};
 ghost use Rattle.bundle_store.specs.Kept.{Keeps};
 ghost use Rattle.bundle_store.specs.Layout.{entries};
-ghost use Rattle.bundle_store.specs.Tiles.{AreTiles};
 ghost use Rattle.bundle_store.specs.inside.Parts.{Extends, KeepsJournal};
-ghost use Rattle.bundle_store.specs.inside.Table.{IsTable, table_map};
-ghost use Rattle.bundle_store.specs.Told.{Told};
+ghost use Rattle.bundle_store.specs.inside.Table.{NumbersTiles, table_map};
+ghost use Rattle.bundle_store.specs.Told.{Changes, Told};
 
 use crate::TileRec;
-use crate::spelling::{lay, spelled};
+use crate::spelling::{lay, spell_entry};
 use crate::table::spell_index;
 use bundle_index::{BundleHeader, Entry, Slot};
 use byteorder::{ByteOrder, LittleEndian};
@@ -88,7 +87,7 @@ impl Front {
     }
 
     /// The entry of the slot that has this number.
-    pub(crate) fn numbered(&self, number: u16) -> Entry
+    pub(crate) fn entry_of_number(&self, number: u16) -> Entry
         requires { number < slot_count }
         ensures value { (bundle : List ℕ) → Keeps self.now bundle →
             result ≡ entry_at bundle number }
@@ -104,7 +103,7 @@ impl Front {
         ensures fits { IsEntry result }
         ensures slot { slot < slot_count }
     {
-        self.numbered(slot.number())
+        self.entry_of_number(slot.number())
     }
 
     /// Takes another header, and an entry in the place of the slot's.
@@ -116,14 +115,13 @@ impl Front {
     {
         self.header = *header;
         let place = 8 * slot.number() as usize;
-        lay(self.index.as_mut_slice(), place, &spelled(entry));
+        lay(self.index.as_mut_slice(), place, &spell_entry(entry));
     }
 
     /// Takes the header and the index of a new bundle of the tiles that the table numbers.
     pub(crate) fn fill(&mut self, header: BundleHeader, tiles: &[TileRec], table: &[Option<usize>])
         requires size { length header ≡ 64 }
-        requires table { IsTable tiles.now table.now }
-        requires tiles { AreTiles (table_map tiles.now table.now) }
+        requires table { NumbersTiles tiles.now table.now }
         ensures header { self.new.header ≡ header }
         ensures index { self.new.index ≡ entries (table_map tiles.now table.now) slot_count }
     {
@@ -136,9 +134,8 @@ impl Front {
         requires { IsTrue (V.told vol.old) → contents Bundle (V.history vol.old) ≡ [] }
         ensures done { IsTrue (V.told vol.old) → OnOk result (Extends (current (V.history vol.old))
             (current (V.history vol.new)) (self.now.header ++ self.now.index)) }
-        ensures during { IsTrue (V.told vol.old) → During (KeepsJournal (current
-            (V.history vol.old))) (V.history vol.old) (V.history vol.new) }
-        ensures told { Told V.told V.faults (CountsFaults result) vol.old vol.new }
+        ensures changes { Changes V.told V.history V.faults (CountsFaults result)
+            KeepsJournal vol.old vol.new }
     {
         let header = self.header.bytes();
         vol.write(VolFile::Bundle, 0, &header)?;

@@ -1,3 +1,5 @@
+//! Laws of images, of layouts, of puts and of recoveries.
+
 // Laws of the definitions, for the crates above. Each function does nothing: its contract is the
 // law.
 
@@ -79,7 +81,8 @@ pub fn lists_of_tiles_join()
 
 /// A bundle that opens and has no bad entry is readable.
 pub fn bundles_without_bad_entries_are_readable()
-    ensures { (bundle : List ℕ) → Opens bundle → bad_count bundle slot_count ≡ 0 → IsReadable bundle }
+    ensures { (bundle : List ℕ) → Opens bundle → bad_count bundle slot_count ≡ 0
+        → IsReadable bundle }
 {}
 
 /// The tiles of a readable bundle are all there.

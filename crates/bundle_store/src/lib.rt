@@ -30,7 +30,7 @@ pub use laws::{
     recoveries_have_one_answer, recoveries_leave_one_bundle, the_bundle_of_no_tiles_is_fresh,
 };
 pub use recovery::{Recovery, recover};
-pub use room::{GREATEST_LENGTH, fitting};
+pub use room::{GREATEST_LENGTH, count_fitting};
 pub use session::Session;
 pub use tile_rec::TileRec;
 pub use updates::GREATEST_TILE;

@@ -14,10 +14,10 @@ ghost use Rattle.bundle_store.specs.Images.{EachImage, HoldsClosed};
 ghost use Rattle.bundle_store.specs.Kept.{Keeps};
 ghost use Rattle.bundle_store.specs.Layout.{layout};
 ghost use Rattle.bundle_store.specs.Session.{GroupFails};
-ghost use Rattle.bundle_store.specs.Tiles.{IsBundle, IsReadable, Opens, no_tiles, tiles};
+ghost use Rattle.bundle_store.specs.Tiles.{IsBundle, IsReadable, no_tiles, tiles};
 ghost use Rattle.bundle_store.specs.inside.Grouped.{AreForOnePut, IsFullOf};
 ghost use Rattle.bundle_store.specs.inside.Parts.{IsAtRest, IsIdle};
-ghost use Rattle.bundle_store.specs.Told.{Told};
+ghost use Rattle.bundle_store.specs.Told.{Changes};
 
 mod append;
 mod overlay;
@@ -105,11 +105,9 @@ fn put_on_bundle<V: Volume>(
     ensures keeps { IsTrue (V.told vol.old) → OnOk result (Keeps front.new (bundle_with_tiles
         (contents Bundle (V.history vol.old)) updates.now)) }
     ensures tiles { AreTilesIn updates.now }
-    ensures images { IsTrue (V.told vol.old) →
-        During (λ d. IsBundle (contents Bundle (V.history vol.old))
-        → EachImage (AllOrNone updates.now (tiles (contents Bundle (V.history vol.old)))) d)
-        (V.history vol.old) (V.history vol.new) }
-    ensures told { Told V.told V.faults (CountsFaults result) vol.old vol.new }
+    ensures changes { Changes V.told V.history V.faults (CountsFaults result)
+        (λ old d. IsBundle old.bundle.now
+        → EachImage (AllOrNone updates.now (tiles old.bundle.now)) d) vol.old vol.new }
 {
     let body = body_of_tiles(front, len, updates);
     commit(vol, len, updates, &body)
@@ -131,10 +129,8 @@ fn put_on_nothing<V: Volume>(
     ensures keeps { IsTrue (V.told vol.old) →
         OnOk result (Keeps front.new (bundle_with_tiles (layout no_tiles) updates.now)) }
     ensures tiles { OnOk result (AreTilesIn updates.now) }
-    ensures images { IsTrue (V.told vol.old) →
-        During (EachImage (AllOrNone updates.now no_tiles)) (V.history vol.old)
-        (V.history vol.new) }
-    ensures told { Told V.told V.faults (CountsFaults result) vol.old vol.new }
+    ensures changes { Changes V.told V.history V.faults (CountsFaults result)
+        (λ _. EachImage (AllOrNone updates.now no_tiles)) vol.old vol.new }
 {
     build_empty(vol, &[], &[], &mut [], front)?;
     put_on_bundle(vol, INDEX_END, front, updates)
@@ -163,10 +159,7 @@ pub(crate) fn put_tiles<V: Volume>(
     updates: &Updates,
 ) -> Result<(), StoreFault>
     requires group { AreForOnePut updates.now }
-    requires opens { IsTrue (V.told vol.old) → Opens (contents Bundle (V.history vol.old)) }
-    requires keeps { IsTrue (V.told vol.old) → Keeps front.old (contents Bundle
-        (V.history vol.old)) }
-    requires idle { IsTrue (V.told vol.old) → IsIdle (current (V.history vol.old)) }
+    requires rest { IsTrue (V.told vol.old) → IsAtRest front.old (current (V.history vol.old)) }
     ensures done { IsTrue (V.told vol.old) →
         OnOk result (HoldsClosed (bundle_after_puts (contents Bundle
         (V.history vol.old)) updates.now) (current (V.history vol.new))) }
@@ -180,11 +173,9 @@ pub(crate) fn put_tiles<V: Volume>(
         (IsAtRest front.new (current (V.history vol.new))) }
     ensures answers { IfErr result (λ f. GroupFails updates.now f) }
     ensures running { ¬ IsErrOf result StoreFault.Stopped }
-    ensures images { IsTrue (V.told vol.old) →
-        During (λ d. IsReadable (contents Bundle (V.history vol.old))
-        → EachImage (AllOrNone updates.now (tiles (contents Bundle (V.history vol.old)))) d)
-        (V.history vol.old) (V.history vol.new) }
-    ensures told { Told V.told V.faults (CountsDevice result) vol.old vol.new }
+    ensures changes { Changes V.told V.history V.faults (CountsDevice result)
+        (λ old d. IsReadable old.bundle.now
+        → EachImage (AllOrNone updates.now (tiles old.bundle.now)) d) vol.old vol.new }
 {
     let len = vol.len(VolFile::Bundle)?;
     room_for(len, updates)?;

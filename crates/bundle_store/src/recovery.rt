@@ -1,3 +1,5 @@
+//! What a crash left is made whole by the journal.
+
 ghost use Rattle.std.specs.Prelude.{◌≡◌, ◌⊎◌, ◌∷◌, [], drop, length, IsTrue, IfErr, IfOk, OnOk};
 ghost use Rattle.outside_io.specs.declared.volume.VolFile.TheVariants.{Bundle, Journal};
 ghost use Rattle.outside_io.specs.volume.Disk.{IsQuiet, settled};
@@ -11,7 +13,8 @@ ghost use Rattle.bundle_store.specs.inside.Parts.{EachKeeps, EachMidway, EachWho
 ghost use Rattle.bundle_store.specs.Images.{EachImage};
 ghost use Rattle.bundle_store.specs.Recover.{EachBundleMidway, EachStandsForOneOf, IsRecovered, Leaves, OnBadJournal, RecoverFails, RecoverySays, synced_disk};
 ghost use Rattle.bundle_store.specs.Tiles.{no_tiles};
-ghost use Rattle.bundle_store.specs.Told.{Told};
+ghost use Rattle.bundle_store.specs.Told.{Changes, Told};
+ghost use Rattle.bundle_store.specs.inside.Finishing.{Finishes};
 
 mod syncs;
 
@@ -42,11 +45,10 @@ fn empty<V: Volume>(vol: &mut V) -> Result<(), Failed>
       bundle = settled [];
       journal = settled (0 ∷ drop 1 (contents Journal (V.history vol.old)));
     }) }
-    ensures images { IsTrue (V.told vol.old) → During (EachImage (λ map. map ≡ no_tiles))
-        (V.history vol.old) (V.history vol.new) }
     ensures bytes { IsTrue (V.told vol.old) → During (EachWholeOrNone (contents Bundle
         (V.history vol.old))) (V.history vol.old) (V.history vol.new) }
-    ensures told { Told V.told V.faults (CountsFaults result) vol.old vol.new }
+    ensures changes { Changes V.told V.history V.faults (CountsFaults result)
+        (λ _. EachImage (λ map. map ≡ no_tiles)) vol.old vol.new }
 {
     wipe(vol)?;
     close_gate(vol)
@@ -68,24 +70,12 @@ fn finish_group<V: Volume>(
     requires opened { IsTrue (V.told vol.old) → IsOpen (contents Journal (V.history vol.old)) }
     requires says { IsTrue (V.told vol.old) →
         SaysThese (contents Journal (V.history vol.old)) group.now header.now size place }
-    ensures says { IsTrue (V.told vol.old) → RecoverySays (contents Bundle (V.history vol.old))
-        (contents Journal (V.history vol.old)) result }
-    ensures images { IsTrue (V.told vol.old) →
-        During (EachKeeps (contents Bundle (V.history vol.old)) (contents Journal
-        (V.history vol.old))) (V.history vol.old) (V.history vol.new) }
     ensures bytes { IsTrue (V.told vol.old) →
         During (EachMidway (contents Bundle (V.history vol.old)) (contents Journal
         (V.history vol.old))) (V.history vol.old) (V.history vol.new) }
-    ensures done { IsTrue (V.told vol.old) →
-        OnOk result (IsRecovered (contents Bundle (V.history vol.old)) (contents Journal
-        (V.history vol.old)) (current (V.history vol.new))) }
-    ensures leaves { IsTrue (V.told vol.old) → IfOk result (λ r. Leaves (contents Bundle
-        (V.history vol.old)) (contents Journal (V.history vol.old)) r
-        (contents Bundle (V.history vol.new))) }
-    ensures answers { IfErr result (λ f. RecoverFails f) }
-    ensures refused { IsTrue (V.told vol.old) → OnBadJournal result (current (V.history vol.new)
-        ≡ current (V.history vol.old)) }
-    ensures told { Told V.told V.faults (CountsDevice result) vol.old vol.new }
+    ensures finishes { Finishes V.told V.history result vol.old vol.new }
+    ensures changes { Changes V.told V.history V.faults (CountsDevice result)
+        (λ old. EachKeeps old.bundle.now old.journal.now) vol.old vol.new }
 {
     if vol.len(VolFile::Bundle)? < size {
         return Err(StoreFault::BadJournal { place, found: size });
@@ -97,24 +87,12 @@ fn finish_group<V: Volume>(
 /// Does what the journal says, nothing being pending.
 fn finish<V: Volume>(vol: &mut V) -> Result<Recovery, StoreFault>
     requires quiet { IsTrue (V.told vol.old) → IsQuiet (current (V.history vol.old)) }
-    ensures says { IsTrue (V.told vol.old) → RecoverySays (contents Bundle (V.history vol.old))
-        (contents Journal (V.history vol.old)) result }
-    ensures images { IsTrue (V.told vol.old) →
-        During (EachKeeps (contents Bundle (V.history vol.old)) (contents Journal
-        (V.history vol.old))) (V.history vol.old) (V.history vol.new) }
     ensures bytes { IsTrue (V.told vol.old) →
         During (EachMidway (contents Bundle (V.history vol.old)) (contents Journal
         (V.history vol.old))) (V.history vol.old) (V.history vol.new) }
-    ensures done { IsTrue (V.told vol.old) →
-        OnOk result (IsRecovered (contents Bundle (V.history vol.old)) (contents Journal
-        (V.history vol.old)) (current (V.history vol.new))) }
-    ensures leaves { IsTrue (V.told vol.old) → IfOk result (λ r. Leaves (contents Bundle
-        (V.history vol.old)) (contents Journal (V.history vol.old)) r
-        (contents Bundle (V.history vol.new))) }
-    ensures answers { IfErr result (λ f. RecoverFails f) }
-    ensures refused { IsTrue (V.told vol.old) → OnBadJournal result (current (V.history vol.new)
-        ≡ current (V.history vol.old)) }
-    ensures told { Told V.told V.faults (CountsDevice result) vol.old vol.new }
+    ensures finishes { Finishes V.told V.history result vol.old vol.new }
+    ensures changes { Changes V.told V.history V.faults (CountsDevice result)
+        (λ old. EachKeeps old.bundle.now old.journal.now) vol.old vol.new }
 {
     let state = read_journal(vol)?;
     match &state {

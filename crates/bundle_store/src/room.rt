@@ -34,7 +34,7 @@ pub(crate) fn fitting_tiles(len: u64, tiles: &Updates, most: usize) -> (usize, u
 }
 
 /// How many of the first `most` tiles there is room for behind `len` bytes, one behind the other.
-pub fn fitting(len: u64, tiles: &[TileRec], most: usize) -> usize
+pub fn count_fitting(len: u64, tiles: &[TileRec], most: usize) -> usize
     requires fit { EachFits tiles.now }
     requires most { most ≤ length tiles.now }
     ensures { IsFitting len tiles.now most result }

@@ -1,3 +1,5 @@
+//! Sessions: an open bundle, and the calls on it.
+
 ghost use Rattle.std.specs.Prelude.{◌≡◌, ◌↔◌, ◌⊎◌, ◌+◌, ◌^◌, ◌<◌, ◌≤◌, ℕ, List, [], false, true, None, Some, length, IsTrue, IsErrOf, IfOk, IfErr, OnOk};
 ghost use Rattle.outside_io.specs.declared.volume.VolFile.TheVariants.{Bundle};
 ghost use Rattle.outside_io.specs.volume.History.{During, contents, current};
@@ -129,6 +131,8 @@ impl Session {
         ensures during { IsTrue (V.told vol.old) → During (λ d. d ≡ current (V.history vol.old))
             (V.history vol.old) (V.history vol.new) }
         ensures calls { (V.history vol.new).moment ≤ (V.history vol.old).moment + 1 + slot_count }
+        ensures needed { IfOk result (λ r.
+            (V.history vol.new).moment ≤ (V.history vol.old).moment + 1 + r.tiles) }
         ensures idle { self.now.stopped ≡ true → vol.new ≡ vol.old }
         ensures told { Told V.told V.faults (CountsDevice result) vol.old vol.new }
     {

@@ -15,7 +15,7 @@ pub(crate) fn lay(out: &mut [u8], at: usize, bytes: &[u8])
 }
 
 /// The bytes of an entry.
-pub(crate) fn spelled(entry: Entry) -> [u8; 8]
+pub(crate) fn spell_entry(entry: Entry) -> [u8; 8]
     requires { IsEntry entry }
     ensures { result ≡ entry_bytes entry }
 {

@@ -7,8 +7,7 @@ ghost use Rattle.bundle_index.specs.Sizes.{slot_count};
 ghost use Rattle.bundle_store.specs.Build.{EachFits, last_tiles};
 ghost use Rattle.bundle_store.specs.Built.{filled};
 ghost use Rattle.bundle_store.specs.Layout.{entries, greatest_size, records, size_of};
-ghost use Rattle.bundle_store.specs.Tiles.{AreTiles};
-ghost use Rattle.bundle_store.specs.inside.Table.{HasRoom, IsTable, entry_of_size, table_map};
+ghost use Rattle.bundle_store.specs.inside.Table.{HasRoom, IsTable, NumbersTiles, entry_of_size, table_map};
 
 use crate::TileRec;
 use bundle_index::{Entry, INDEX_END, SLOT_COUNT};
@@ -89,8 +88,7 @@ fn entry_for(len: usize, before: u64) -> Entry
 
 /// The greatest size of a tile, and how many bytes the records have.
 pub(crate) fn measure(tiles: &[TileRec], table: &[Option<usize>]) -> (u32, u64)
-    requires table { IsTable tiles.now table.now }
-    requires tiles { AreTiles (table_map tiles.now table.now) }
+    requires table { NumbersTiles tiles.now table.now }
     ensures greatest { result.0 ≡ greatest_size (table_map tiles.now table.now) slot_count }
     ensures total { result.1 ≡ length (records (table_map tiles.now table.now) slot_count) }
     ensures room { result.1 < 2 ^ 39 }
@@ -107,8 +105,7 @@ pub(crate) fn measure(tiles: &[TileRec], table: &[Option<usize>]) -> (u32, u64)
 
 /// How many of the slots have a tile.
 pub(crate) fn count_tiles(tiles: &[TileRec], table: &[Option<usize>]) -> u32
-    requires table { IsTable tiles.now table.now }
-    requires tiles { AreTiles (table_map tiles.now table.now) }
+    requires table { NumbersTiles tiles.now table.now }
     ensures { result ≡ filled (table_map tiles.now table.now) slot_count }
 {
     let mut count = 0;
@@ -122,8 +119,7 @@ pub(crate) fn count_tiles(tiles: &[TileRec], table: &[Option<usize>]) -> u32
 
 /// The index of the tiles that the table numbers.
 pub(crate) fn spell_index(tiles: &[TileRec], table: &[Option<usize>], index: &mut [u8])
-    requires table { IsTable tiles.now table.now }
-    requires tiles { AreTiles (table_map tiles.now table.now) }
+    requires table { NumbersTiles tiles.now table.now }
     requires long { length index.old ≡ 131072 }
     ensures { index.new ≡ entries (table_map tiles.now table.now) slot_count }
 {

@@ -2,7 +2,8 @@
 //! what it is given, and behind `->` what has to come out; whoever calls says what came out, and a
 //! table is run row by row. It stands on `hex` alone.
 //!
-//! What the layer above uses: `row_of_line` reads a line of a table, and `Told` keeps what came out.
+//! What the layer above uses: `row_of_line` reads a line of a table, and `Told` keeps what came
+//! out.
 #![tactic(auto)]
 
 mod bytes;

@@ -26,7 +26,7 @@ fn words_of(alloc: Global, line: &[u8]) -> Result<Vec<Vec<u8>>, AllocError> {
 }
 
 /// A row that calls what the word names, and has no other word yet.
-fn begun(alloc: Global, word: &[u8]) -> Result<Row, CaseStop> {
+fn new_row(alloc: Global, word: &[u8]) -> Result<Row, CaseStop> {
     match parts_of(alloc, word, b'.')?.as_slice() {
         [group, call] => Ok(Row {
             group: group.to_vec(alloc)?,
@@ -40,7 +40,7 @@ fn begun(alloc: Global, word: &[u8]) -> Result<Row, CaseStop> {
 
 /// A row of the call that the first word names and of what the others stand for.
 fn row_of(alloc: Global, names: &Names, first: &[u8], others: &[Vec<u8>]) -> Result<Row, CaseStop> {
-    let mut row = begun(alloc, first)?;
+    let mut row = new_row(alloc, first)?;
     let mut is_behind = false;
     for word in others {
         if word.as_slice() == b"->".as_slice() {

@@ -21,9 +21,9 @@ fn print_ran(rt: &(impl Print + AllocGlobal), name: &str, ran: Ran) -> io::Resul
     Ok(())
 }
 
-/// Runs the table of a file, over volumes of its own, and prints its line: how many cases it has, or
-/// the first one that differs and what it told. Fails where the file cannot be read, the line cannot
-/// be printed or memory is refused.
+/// Runs the table of a file, over volumes of its own, and prints its line: how many cases it has,
+/// or the first one that differs and what it told. Fails where the file cannot be read, the line
+/// cannot be printed or memory is refused.
 pub fn run_file(
     rt: &(impl Files + Print + AllocGlobal + Threads + Sync),
     name: &str,

@@ -1,8 +1,8 @@
 //! Commands that encode two tiles at once, which a gate shows.
 
-use crate::runs::left_through;
+use crate::runs::run_through;
 use crate::same::same;
-use crate::volumes::{empty, joined};
+use crate::volumes::{empty_volume, join_parts};
 use meeting_gate::Meeting;
 use std::process::Abort;
 use std::thread::Threads;
@@ -20,13 +20,13 @@ fn meet(
     output: &[u8],
 ) {
     let alloc = rt.alloc();
-    let input = joined(rt, parts);
-    let mut vol = empty(rt);
-    let gate = Meeting::new();
-    let left = left_through(rt, alloc, words, &input, &mut vol, &gate).expect(rt, "memory");
+    let input = join_parts(rt, parts);
+    let mut vol = empty_volume(rt);
+    let gate = Meeting::of_two();
+    let left = run_through(rt, alloc, words, &input, &mut vol, &gate).expect(rt, "memory");
     let found = (left.status, left.out.held(), left.err.held());
     same(rt, "what is given", found, (0, output, b"".as_slice()));
-    same(rt, "the workers met", gate.both_met(), true);
+    same(rt, "the workers met", gate.all_met(), true);
 }
 
 #[test]

@@ -34,27 +34,8 @@ fn sink_of(alloc: Global) -> Result<MemSink, AllocError> {
     MemSink::new(alloc, 100, Bytes::of(alloc, &[])?, 1000)
 }
 
-/// What a run over these streams leaves.
-fn ran<R: Threads + Sync, V: Volume, G: Gate>(
-    rt: &R,
-    alloc: Global,
-    words: &[Word],
-    mut src: MemSource,
-    mut out: MemSink,
-    mut err: MemSink,
-    vol: &mut V,
-    gate: &G,
-) -> Left {
-    let report = run(rt, alloc, words, &mut src, &mut out, &mut err, vol, gate);
-    Left {
-        status: report.status,
-        out,
-        err,
-    }
-}
-
 /// What a run over a volume and a gate leaves.
-pub(crate) fn left_through<R: Threads + Sync, V: Volume, G: Gate>(
+pub(crate) fn run_through<R: Threads + Sync, V: Volume, G: Gate>(
     rt: &R,
     alloc: Global,
     words: &[&str],
@@ -63,7 +44,12 @@ pub(crate) fn left_through<R: Threads + Sync, V: Volume, G: Gate>(
     gate: &G,
 ) -> Result<Left, AllocError> {
     let words = words_of(alloc, words)?;
-    let src = source_of(alloc, input)?;
-    let (out, err) = (sink_of(alloc)?, sink_of(alloc)?);
-    Ok(ran(rt, alloc, &words, src, out, err, vol, gate))
+    let mut src = source_of(alloc, input)?;
+    let (mut out, mut err) = (sink_of(alloc)?, sink_of(alloc)?);
+    let report = run(rt, alloc, &words, &mut src, &mut out, &mut err, vol, gate);
+    Ok(Left {
+        status: report.status,
+        out,
+        err,
+    })
 }

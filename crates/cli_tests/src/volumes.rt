@@ -5,7 +5,7 @@ use std::process::Abort;
 use std::thread::Threads;
 
 /// Two files of no bytes.
-pub(crate) fn empty(rt: &(impl Abort + AllocGlobal + Threads + Sync)) -> MemVolume {
+pub(crate) fn empty_volume(rt: &(impl Abort + AllocGlobal + Threads + Sync)) -> MemVolume {
     let bundle = Start::new(0, Vec::new(rt.alloc()));
     let journal = Start::new(0, Vec::new(rt.alloc()));
     let failing = Vec::new(rt.alloc());
@@ -13,6 +13,9 @@ pub(crate) fn empty(rt: &(impl Abort + AllocGlobal + Threads + Sync)) -> MemVolu
 }
 
 /// The bytes of these parts, one behind the other.
-pub(crate) fn joined(rt: &(impl Abort + AllocGlobal + Threads + Sync), parts: &[&[u8]]) -> Vec<u8> {
+pub(crate) fn join_parts(
+    rt: &(impl Abort + AllocGlobal + Threads + Sync),
+    parts: &[&[u8]],
+) -> Vec<u8> {
     parts.concat(rt.alloc()).expect(rt, "memory")
 }

@@ -1,3 +1,5 @@
+//! Words that are a pixel type.
+
 ghost use Rattle.std.specs.Prelude.{◌≡◌, ◌↔◌, ◌≤◌, Some, length};
 ghost use Rattle.raster_cells.specs.declared.kind.PixelType.{PixelType};
 ghost use Rattle.command_words.specs.Words.{type_name};

@@ -12,6 +12,6 @@ mod slot;
 mod version;
 
 pub use kind::{kind_named, type_word};
-pub use number::{error_of, has_text, up_to, within, workers_of};
+pub use number::{error_of, has_text, number_up_to, number_within, workers_of};
 pub use slot::slot_of;
 pub use version::version_of;

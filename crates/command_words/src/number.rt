@@ -13,7 +13,7 @@ pub fn has_text(word: &Word, text: &[u8]) -> bool
 }
 
 /// The number that the word stands for, where it is within these limits.
-pub fn within(word: &Word, least: u64, greatest: u64) -> Option<u64>
+pub fn number_within(word: &Word, least: u64, greatest: u64) -> Option<u64>
     ensures { (n : ℕ) → (result ≡ Some n) ↔ IsWithin word.now n least greatest }
 {
     match word.number() {
@@ -23,10 +23,10 @@ pub fn within(word: &Word, least: u64, greatest: u64) -> Option<u64>
 }
 
 /// The number that the word stands for, where it is at most this one.
-pub fn up_to(word: &Word, greatest: u32) -> Option<u32>
+pub fn number_up_to(word: &Word, greatest: u32) -> Option<u32>
     ensures { (n : ℕ) → (result ≡ Some n) ↔ IsWithin word.now n 0 greatest }
 {
-    match within(word, 0, greatest.into()) {
+    match number_within(word, 0, greatest.into()) {
         Some(n) => Some(n as u32),
         None => None,
     }
@@ -36,7 +36,7 @@ pub fn up_to(word: &Word, greatest: u32) -> Option<u32>
 pub fn error_of(word: &Word) -> Option<u32>
     ensures { (error : ℕ) → (result ≡ Some error) ↔ IsWithin word.now error 0 4294967295 }
 {
-    up_to(word, u32::MAX)
+    number_up_to(word, u32::MAX)
 }
 
 /// How many workers there may be.
@@ -46,7 +46,7 @@ const MOST_WORKERS: u64 = 64;
 pub fn workers_of(word: &Word) -> Option<u32>
     ensures { (workers : ℕ) → (result ≡ Some workers) ↔ IsWithin word.now workers 1 64 }
 {
-    match within(word, 1, MOST_WORKERS) {
+    match number_within(word, 1, MOST_WORKERS) {
         Some(workers) => Some(workers as u32),
         None => None,
     }

@@ -1,7 +1,9 @@
+//! Words that are a slot.
+
 ghost use Rattle.std.specs.Prelude.{◌≡◌, ◌↔◌, ℕ, Some};
 ghost use Rattle.command_words.specs.Words.{AreSlotWords, IsWithin};
 
-use crate::number::within;
+use crate::number::number_within;
 use bundle_index::Slot;
 use outside_io::Word;
 
@@ -12,7 +14,7 @@ const LAST: u64 = 127;
 fn row_or_col_of(word: &Word) -> Option<u8>
     ensures { (n : ℕ) → (result ≡ Some n) ↔ IsWithin word.now n 0 127 }
 {
-    match within(word, 0, LAST) {
+    match number_within(word, 0, LAST) {
         Some(n) => Some(n as u8),
         None => None,
     }

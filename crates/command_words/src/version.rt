@@ -1,3 +1,5 @@
+//! Words that are a version.
+
 ghost use Rattle.std.specs.Prelude.{◌≡◌, ◌↔◌, Some};
 ghost use Rattle.lerc_header.specs.declared.header.Version.{Version};
 ghost use Rattle.command_words.specs.Words.{IsVersionWord};

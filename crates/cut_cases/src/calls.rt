@@ -2,7 +2,7 @@
 
 use crate::crashes::crashes;
 use crate::cuts::{cuts, files};
-use crate::works::done;
+use crate::works::tell_work;
 use crate::{level_rows, line_rows, pack_rows, store_rows};
 use case_rows::{Calls, CaseStop, Row, Told};
 use std::alloc::Global;
@@ -11,11 +11,11 @@ use volume_rows::Volumes;
 
 /// Calls what the row names and tells what came out. `BadRow` where nothing has that name.
 ///
-/// The groups are `volume`, `store`, `lines`, `pack`, `level` and `cut`, over volumes that rows have
-/// made. What a call is given, and what it tells, stands with its function. Those of `cut` are given
-/// a work, as `works` names them; what a bundle holds is told as a line of each of its tiles, by
-/// slot: the row, the column and the record, which is the number in front of the tile and its bytes.
-/// The images of a moment are as last synced, as read, torn with 0, and torn with 255.
+/// The groups are `volume`, `store`, `lines`, `pack`, `level` and `cut`, over volumes that rows
+/// have made. What a call is given, and what it tells, stands with its function. Those of `cut` are
+/// given a work, as `works` names them; what a bundle holds is told as a line of each of its tiles,
+/// by slot: the row, the column and the record, which is the number in front of the tile and its
+/// bytes. The images of a moment are as last synced, as read, torn with 0, and torn with 255.
 pub fn cut_call<R: Threads + Sync>(
     rt: &R,
     alloc: Global,
@@ -43,7 +43,7 @@ fn cut<R: Threads + Sync>(
     told: &mut Told,
 ) -> Result<(), CaseStop> {
     match row.call.as_slice() {
-        b"work" => done(rt, alloc, volumes, row, told),
+        b"work" => tell_work(rt, alloc, volumes, row, told),
         b"stops" | b"fails" => cuts(rt, alloc, volumes, row, told),
         b"phase" | b"recoveries" => crashes(rt, alloc, volumes, row, told),
         b"files" => files(rt, alloc, volumes, row, told),

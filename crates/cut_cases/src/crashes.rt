@@ -1,8 +1,9 @@
 //! What crashes leave, and what comes of works on it, which themselves may crash.
 
-use crate::held::{Files, PICKS, all_held, files_of, held_at};
-use crate::outcomes::{Outcomes, joined};
-use crate::works::{named_work, perform};
+use crate::held::{Files, PICKS, content_at, content_of_all, files_of};
+use crate::outcomes::{Outcomes, join_texts};
+use crate::work_words::named_work;
+use crate::works::perform;
 use case_rows::{CaseStop, Row, Told};
 use outside_io::{MemVolume, Pick, Volume};
 use std::alloc::Global;
@@ -61,10 +62,10 @@ fn over_moments(alloc: Global, vol: &MemVolume, answer: &[u8]) -> Result<Vec<u8>
     let mut outcomes = Outcomes::new(alloc);
     for moment in 0..vol.moment() {
         for pick in PICKS {
-            outcomes.add(held_at(alloc, vol, moment, pick)?)?;
+            outcomes.add(content_at(alloc, vol, moment, pick)?)?;
         }
     }
-    outcomes.end(all_held(alloc, vol)?)?;
+    outcomes.end(content_of_all(alloc, vol)?)?;
     outcomes.text(alloc, answer)
 }
 
@@ -86,7 +87,7 @@ fn new_text<R: Threads + Sync>(
 ) -> Result<Vec<u8>, CaseStop> {
     let (vol, answer) = perform(rt, alloc, volumes, crashed, work)?;
     if is_as_before(alloc, &vol, files)? {
-        joined(alloc, &answer, &all_held(alloc, &vol)?)
+        join_texts(alloc, &answer, &content_of_all(alloc, &vol)?)
     } else {
         over_moments(alloc, &vol, &answer)
     }

@@ -1,8 +1,9 @@
 //! Works that are cut off at each of their calls.
 
-use crate::held::{PICKS, all_held, files_of, held_at};
-use crate::outcomes::{Outcomes, joined};
-use crate::works::{has_failed, named_work, perform};
+use crate::held::{PICKS, content_at, content_of_all, files_of};
+use crate::outcomes::{Outcomes, join_texts};
+use crate::work_words::named_work;
+use crate::works::{has_failed, perform};
 use case_rows::{CaseStop, Row, Told};
 use outside_io::{MemVolume, Pick, Volume};
 use std::alloc::Global;
@@ -58,17 +59,17 @@ fn cut_off<R: Threads + Sync>(
     perform(rt, alloc, volumes, vol, &cutting.work)
 }
 
-/// What the images of now hold. A call that fails changes nothing, so what images of earlier moments
-/// hold is what those of earlier calls do, which are cut off in their turn.
+/// What the images of now hold. A call that fails changes nothing, so what images of earlier
+/// moments hold is what those of earlier calls do, which are cut off in their turn.
 fn add_left(alloc: Global, vol: &MemVolume, outcomes: &mut Outcomes) -> Result<(), CaseStop> {
     for pick in PICKS {
-        outcomes.add(held_at(alloc, vol, vol.moment(), pick)?)?;
+        outcomes.add(content_at(alloc, vol, vol.moment(), pick)?)?;
     }
     Ok(())
 }
 
 /// What comes of the work where it is done again.
-fn again<R: Threads + Sync>(
+fn do_again<R: Threads + Sync>(
     rt: &R,
     alloc: Global,
     volumes: &mut Volumes,
@@ -76,8 +77,8 @@ fn again<R: Threads + Sync>(
     work: &Row,
 ) -> Result<Vec<u8>, CaseStop> {
     let (vol, answer) = perform(rt, alloc, volumes, vol, work)?;
-    let held = held_at(alloc, &vol, vol.moment(), Pick::Newest)?;
-    joined(alloc, b"again", &joined(alloc, &answer, &held)?)
+    let held = content_at(alloc, &vol, vol.moment(), Pick::Newest)?;
+    join_texts(alloc, b"again", &join_texts(alloc, &answer, &held)?)
 }
 
 /// What a work leaves that was cut off.
@@ -92,7 +93,7 @@ fn add_cut<R: Threads + Sync>(
     if cutting.is_stop {
         return Ok(());
     }
-    let text = again(rt, alloc, volumes, vol, &cutting.work)?;
+    let text = do_again(rt, alloc, volumes, vol, &cutting.work)?;
     cutting.outcomes.add(text)
 }
 
@@ -103,13 +104,13 @@ fn tell_end(
     answer: &[u8],
     told: &mut Told,
 ) -> Result<(), CaseStop> {
-    told.bytes(&joined(alloc, answer, &all_held(alloc, vol)?)?)
+    told.bytes(&join_texts(alloc, answer, &content_of_all(alloc, vol)?)?)
 }
 
-/// `stops NAME WORK ..` and `fails NAME WORK ..`: the work on copies of a volume that stop at each of
-/// its calls, or of which each fails alone. Tells how many calls the whole work makes, what images
-/// hold that cut ones leave, where one call failed what comes of the work done again, and last what
-/// comes out of the whole work and what all its images hold.
+/// `stops NAME WORK ..` and `fails NAME WORK ..`: the work on copies of a volume that stop at each
+/// of its calls, or of which each fails alone. Tells how many calls the whole work makes, what
+/// images hold that cut ones leave, where one call failed what comes of the work done again, and
+/// last what comes out of the whole work and what all its images hold.
 pub(crate) fn cuts<R: Threads + Sync>(
     rt: &R,
     alloc: Global,

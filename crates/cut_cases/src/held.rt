@@ -1,6 +1,6 @@
 //! What a bundle holds once it is recovered, as a text.
 
-use crate::sessions::{Ended, recovered, text_of};
+use crate::sessions::{Ended, recover_session, text_of};
 use bundle_index::{Entry, Slot};
 use bundle_store::Session;
 use case_rows::CaseStop;
@@ -46,8 +46,8 @@ fn entries_of(alloc: Global, session: &Session) -> Result<Vec<(Slot, Entry)>, Ca
 }
 
 /// What a volume holds once it is recovered: a line for each tile, or the fault.
-fn held(alloc: Global, vol: &mut MemVolume) -> Result<Vec<u8>, CaseStop> {
-    let session = match recovered(alloc, vol) {
+fn content_of(alloc: Global, vol: &mut MemVolume) -> Result<Vec<u8>, CaseStop> {
+    let session = match recover_session(alloc, vol) {
         Ok(session) => session,
         Err(fault) => return text_of(alloc, Err(Ended::Fault(fault))),
     };
@@ -59,20 +59,20 @@ fn held(alloc: Global, vol: &mut MemVolume) -> Result<Vec<u8>, CaseStop> {
 }
 
 /// What one image of a moment holds.
-pub(crate) fn held_at(
+pub(crate) fn content_at(
     alloc: Global,
     vol: &MemVolume,
     moment: u64,
     pick: Pick,
 ) -> Result<Vec<u8>, CaseStop> {
-    held(alloc, &mut image(alloc, vol, moment, pick)?)
+    content_of(alloc, &mut image(alloc, vol, moment, pick)?)
 }
 
 /// What each of the four images of now holds where all hold the same; else that they differ.
-pub(crate) fn all_held(alloc: Global, vol: &MemVolume) -> Result<Vec<u8>, CaseStop> {
-    let first = held_at(alloc, vol, vol.moment(), Pick::Newest)?;
+pub(crate) fn content_of_all(alloc: Global, vol: &MemVolume) -> Result<Vec<u8>, CaseStop> {
+    let first = content_at(alloc, vol, vol.moment(), Pick::Newest)?;
     for pick in PICKS {
-        if held_at(alloc, vol, vol.moment(), pick)? != first {
+        if content_at(alloc, vol, vol.moment(), pick)? != first {
             return Ok(Vec::from_slice(alloc, b"images differ")?);
         }
     }

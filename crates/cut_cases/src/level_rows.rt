@@ -4,7 +4,7 @@ ghost use Rattle.std.specs.Prelude.{◌≡◌, None, IfOk, OnOk};
 ghost use Rattle.level_cache.specs.Memory.{IsSpare};
 ghost use Rattle.level_cache.specs.Shelf.{IsOut};
 
-use crate::programs::{Left, never, sink, words_of};
+use crate::programs::{Left, no_failing, sink, words_of};
 use case_rows::{CaseStop, Row, Told};
 use level_cache::{Base, MemShelf, Place, Shelf};
 use level_cli::run_level;
@@ -39,7 +39,7 @@ fn no_bytes(alloc: Global) -> Start
 }
 
 /// A volume of no bytes.
-fn spare(alloc: Global) -> Result<MemVolume, AllocError>
+fn spare_volume(alloc: Global) -> Result<MemVolume, AllocError>
     ensures { IfOk result IsSpare }
 {
     let bundle = no_bytes(alloc);
@@ -93,8 +93,8 @@ fn shelf_of(
     ensures { IfOk result (λ s. s.out ≡ None) }
 {
     let mut volumes = Vec::new(alloc);
-    volumes.push(spare(alloc)?)?;
-    volumes.push(spare(alloc)?)?;
+    volumes.push(spare_volume(alloc)?)?;
+    volumes.push(spare_volume(alloc)?)?;
     let mut shelf = MemShelf::new(alloc, volumes, failing)?;
     lay(&mut shelf, places.0, vol)?;
     lay(&mut shelf, places.1, other)?;
@@ -116,7 +116,7 @@ fn run(alloc: Global, asked: Asked<'_>, shelf: &mut MemShelf) -> Result<Left, Ca
 }
 
 /// The volume of the first base, taken out, and whether that of the second was called.
-fn taken(shelf: &mut MemShelf, places: (Base, Base)) -> Result<(MemVolume, bool), CaseStop>
+fn take_back(shelf: &mut MemShelf, places: (Base, Base)) -> Result<(MemVolume, bool), CaseStop>
     requires { shelf.old.out ≡ None }
 {
     let Ok(other) = shelf.take(places.1) else {
@@ -152,7 +152,7 @@ fn run_over(
 ) -> Result<(MemVolume, Left), CaseStop> {
     let mut shelf = shelf_of(alloc, failing, places_of(place)?, vol, other)?;
     let left = run(alloc, asked, &mut shelf)?;
-    let (vol, is_called) = taken(&mut shelf, places_of(place)?)?;
+    let (vol, is_called) = take_back(&mut shelf, places_of(place)?)?;
     if is_called {
         return Err(CaseStop::BadRow);
     }
@@ -161,12 +161,12 @@ fn run_over(
 
 /// A copy of that volume.
 fn copy_of(alloc: Global, volumes: &mut Volumes, name: &[u8]) -> Result<MemVolume, CaseStop> {
-    copy(alloc, volumes.volume(name)?, never(alloc))
+    copy(alloc, volumes.volume(name)?, no_failing(alloc))
 }
 
 /// `level PLACE OTHER WORDS INPUT`: a run over a level with the volume. The place is `lower` or
 /// `upper`.
-pub(crate) fn over(
+pub(crate) fn run_level_work(
     alloc: Global,
     volumes: &mut Volumes,
     vol: MemVolume,

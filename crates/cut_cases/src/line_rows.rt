@@ -2,7 +2,7 @@
 
 ghost use Rattle.std.specs.Prelude.{◌≡◌, ◌≤◌, [], IfOk, length};
 
-use crate::sessions::{Ended, opened, recovered};
+use crate::sessions::{Ended, open_session, recover_session};
 use crate::tiles::{are_fit, tiles_of};
 use bundle_index::Slot;
 use bundle_lines::{build_all, give_built, give_recovery, give_report, list_all, put_all};
@@ -72,7 +72,7 @@ fn put_lines(
         return Err(Ended::Case(CaseStop::BadRow));
     }
     let mut marks = marks_for(alloc, tiles)?;
-    let mut session = recovered(alloc, vol)?;
+    let mut session = recover_session(alloc, vol)?;
     let end = put_all(&mut session, vol, out, &mut marks, tiles);
     let answer = format!(in alloc; "{end:?}")?;
     Ok(Worked { answer, marks })
@@ -89,7 +89,7 @@ fn build_lines(
         return Err(Ended::Case(CaseStop::BadRow));
     }
     let mut marks = marks_for(alloc, tiles)?;
-    let mut session = recovered(alloc, vol)?;
+    let mut session = recover_session(alloc, vol)?;
     let end = build_all(alloc, &mut session, vol, out, &mut marks, tiles);
     let answer = format!(in alloc; "{end:?}")?;
     Ok(Worked { answer, marks })
@@ -116,7 +116,7 @@ fn work(alloc: Global, volumes: &mut Volumes, row: &Row, told: &mut Told) -> Res
 
 /// Lists a bundle. Whether the listing was given whole.
 fn list_lines(alloc: Global, vol: &mut MemVolume, out: &mut MemSink) -> Result<bool, Ended> {
-    let session = opened(alloc, vol)?;
+    let session = open_session(alloc, vol)?;
     Ok(list_all(&session, vol, out).is_ok())
 }
 
@@ -142,12 +142,12 @@ fn list(alloc: Global, volumes: &mut Volumes, row: &Row, told: &mut Told) -> Res
 }
 
 /// `built TILES LEN`: the line of a build.
-fn built(row: &Row, out: &mut MemSink) -> Result<bool, CaseStop> {
+fn give_built_line(row: &Row, out: &mut MemSink) -> Result<bool, CaseStop> {
     Ok(give_built(row.number(0)?, row.number(1)?, out).is_ok())
 }
 
 /// `recovery FOUND`: the line of a recovery.
-fn recovery(row: &Row, out: &mut MemSink) -> Result<bool, CaseStop> {
+fn give_recovery_line(row: &Row, out: &mut MemSink) -> Result<bool, CaseStop> {
     let found = match row.bytes(0)? {
         b"Closed" => Recovery::Closed,
         b"Applied" => Recovery::Applied,
@@ -158,7 +158,7 @@ fn recovery(row: &Row, out: &mut MemSink) -> Result<bool, CaseStop> {
 }
 
 /// `report TILES BYTES BAD ROW COL`: the lines of a check.
-fn report(row: &Row, out: &mut MemSink) -> Result<bool, CaseStop> {
+fn give_report_line(row: &Row, out: &mut MemSink) -> Result<bool, CaseStop> {
     let report = CheckReport {
         tiles: row.number(0)?,
         bytes: row.number(1)?,
@@ -172,9 +172,9 @@ fn report(row: &Row, out: &mut MemSink) -> Result<bool, CaseStop> {
 fn line(alloc: Global, row: &Row, told: &mut Told) -> Result<(), CaseStop> {
     let mut out = output(alloc, 1000)?;
     let is_given = match row.call.as_slice() {
-        b"built" => built(row, &mut out)?,
-        b"recovery" => recovery(row, &mut out)?,
-        _ => report(row, &mut out)?,
+        b"built" => give_built_line(row, &mut out)?,
+        b"recovery" => give_recovery_line(row, &mut out)?,
+        _ => give_report_line(row, &mut out)?,
     };
     told.word(is_given)?;
     told.bytes(out.held())

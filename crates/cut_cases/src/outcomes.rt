@@ -52,7 +52,7 @@ impl Outcomes {
 }
 
 /// Two texts with a blank between them.
-pub(crate) fn joined(alloc: Global, first: &[u8], second: &[u8]) -> Result<Vec<u8>, CaseStop> {
+pub(crate) fn join_texts(alloc: Global, first: &[u8], second: &[u8]) -> Result<Vec<u8>, CaseStop> {
     let mut text = first.to_vec(alloc)?;
     text.push(b' ')?;
     text.extend_from_slice(second)?;

@@ -1,6 +1,6 @@
 //! Packing.
 
-use crate::programs::{Left, never, sink, words_of};
+use crate::programs::{Left, no_failing, sink, words_of};
 use bundle_pack::{pack, run_pack};
 use case_rows::{CaseStop, Row, Told};
 use outside_io::{MemVolume, NoVolume, Volume};
@@ -26,7 +26,7 @@ fn run<W: Volume>(
 }
 
 /// One volume as a list.
-fn one(alloc: Global, vol: MemVolume) -> Result<Vec<MemVolume>, CaseStop> {
+fn list_of_one(alloc: Global, vol: MemVolume) -> Result<Vec<MemVolume>, CaseStop> {
     let mut list = Vec::new(alloc);
     list.push(vol)?;
     Ok(list)
@@ -87,7 +87,11 @@ fn run_without(
 }
 
 /// What packing itself answers, as it is printed for those who look for faults.
-fn packed(alloc: Global, from: &mut [MemVolume], to: &mut MemVolume) -> Result<Vec<u8>, CaseStop> {
+fn answer_of_pack(
+    alloc: Global,
+    from: &mut [MemVolume],
+    to: &mut MemVolume,
+) -> Result<Vec<u8>, CaseStop> {
     if from.is_empty() || from.len() > 8 {
         return Err(CaseStop::BadRow);
     }
@@ -104,29 +108,29 @@ fn pack_named(
 ) -> Result<(), CaseStop> {
     let mut to = volumes.take(row.bytes(0)?)?;
     let mut from = take_all(alloc, volumes, row.bytes(1)?)?;
-    let answer = packed(alloc, &mut from, &mut to)?;
+    let answer = answer_of_pack(alloc, &mut from, &mut to)?;
     volumes.keep(row.bytes(0)?, to)?;
     keep_all(volumes, row.bytes(1)?, from)?;
     told.bytes(&answer)
 }
 
 /// `pack_into SOURCE`: a packing of a copy of that source into the volume.
-pub(crate) fn into(
+pub(crate) fn pack_into(
     alloc: Global,
     volumes: &mut Volumes,
     work: &Row,
     vol: &mut MemVolume,
 ) -> Result<Vec<u8>, CaseStop> {
-    let source = copy(alloc, volumes.volume(work.bytes(0)?)?, never(alloc))?;
-    let mut from = one(alloc, source)?;
+    let source = copy(alloc, volumes.volume(work.bytes(0)?)?, no_failing(alloc))?;
+    let mut from = list_of_one(alloc, source)?;
     run(alloc, b"pack", &[], &mut from, vol)?.text(alloc)
 }
 
 /// `pack_from`: a packing of the volume into an empty target. It is told where one that failed has
 /// called the target.
-pub(crate) fn from(alloc: Global, vol: MemVolume) -> Result<(MemVolume, Vec<u8>), CaseStop> {
-    let mut to = volume(alloc, 0, &[], &[], never(alloc))?;
-    let mut from = one(alloc, vol)?;
+pub(crate) fn pack_from(alloc: Global, vol: MemVolume) -> Result<(MemVolume, Vec<u8>), CaseStop> {
+    let mut to = volume(alloc, 0, &[], &[], no_failing(alloc))?;
+    let mut from = list_of_one(alloc, vol)?;
     let left = run(alloc, b"pack", &[], &mut from, &mut to)?;
     let mut text = left.text(alloc)?;
     if left.status > 0 && to.moment() > 0 {

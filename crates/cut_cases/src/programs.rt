@@ -1,6 +1,6 @@
 //! Runs of programs: their words, their output and what they leave.
 
-use crate::outcomes::joined;
+use crate::outcomes::join_texts;
 use case_rows::{CaseStop, Told};
 use outside_io::{Bytes, MemSink, Word};
 use std::alloc::Global;
@@ -28,14 +28,14 @@ impl Left {
     /// The same as one text.
     pub(crate) fn text(&self, alloc: Global) -> Result<Vec<u8>, CaseStop> {
         let status = format!(in alloc; "{}", self.status)?;
-        let mut text = joined(alloc, status.as_bytes(), self.out.held())?;
+        let mut text = join_texts(alloc, status.as_bytes(), self.out.held())?;
         text.extend_from_slice(self.err.held())?;
         Ok(text)
     }
 }
 
 /// No call of a volume fails.
-pub(crate) fn never(alloc: Global) -> Failing {
+pub(crate) fn no_failing(alloc: Global) -> Failing {
     Failing {
         calls: Vec::new(alloc),
         stop: None,

@@ -1,7 +1,7 @@
 //! Runs of `lerc_cli` over a volume, and of `overview_cli` over two.
 
-use crate::outcomes::joined;
-use crate::programs::{Left, never, sink, words_of};
+use crate::outcomes::join_texts;
+use crate::programs::{Left, no_failing, sink, words_of};
 use case_rows::{CaseStop, Row};
 use lerc_cli::run;
 use outside_io::{Bytes, MemSource, MemVolume, Volume, Word};
@@ -28,12 +28,12 @@ impl Marked {
     /// The number of marks, the status, the output and the line of errors.
     fn text(&self, alloc: Global) -> Result<Vec<u8>, CaseStop> {
         let marks = format!(in alloc; "{}", self.marks)?;
-        joined(alloc, marks.as_bytes(), &self.left.text(alloc)?)
+        join_texts(alloc, marks.as_bytes(), &self.left.text(alloc)?)
     }
 }
 
 /// What a run of `lerc_cli` over these leaves.
-fn ran<R: Threads + Sync, V: Volume>(
+fn run_lerc<R: Threads + Sync, V: Volume>(
     rt: &R,
     alloc: Global,
     words: &[Word],
@@ -49,7 +49,7 @@ fn ran<R: Threads + Sync, V: Volume>(
 }
 
 /// What a run of `overview_cli` over these leaves.
-fn overviewed<R: Threads + Sync, V: Volume, W: Volume>(
+fn make_overview<R: Threads + Sync, V: Volume, W: Volume>(
     rt: &R,
     alloc: Global,
     words: &[u8],
@@ -66,7 +66,7 @@ fn overviewed<R: Threads + Sync, V: Volume, W: Volume>(
 }
 
 /// `run WORDS INPUT`: a run of `lerc_cli` over the volume.
-pub(crate) fn over<R: Threads + Sync>(
+pub(crate) fn run_work<R: Threads + Sync>(
     rt: &R,
     alloc: Global,
     work: &Row,
@@ -75,31 +75,31 @@ pub(crate) fn over<R: Threads + Sync>(
     let words = words_of(alloc, work.bytes(0)?)?;
     let input = Bytes::of(alloc, work.bytes(1)?)?;
     let src = MemSource::new(input, IN_PIECE, Bytes::of(alloc, &[])?);
-    ran(rt, alloc, &words, src, vol)?.text(alloc)
+    run_lerc(rt, alloc, &words, src, vol)?.text(alloc)
 }
 
 /// `overview_into FROM WORDS`: an overview of a copy of that volume into the volume.
-pub(crate) fn into<R: Threads + Sync>(
+pub(crate) fn overview_into<R: Threads + Sync>(
     rt: &R,
     alloc: Global,
     volumes: &mut Volumes,
     work: &Row,
     vol: &mut MemVolume,
 ) -> Result<Vec<u8>, CaseStop> {
-    let mut from = copy(alloc, volumes.volume(work.bytes(0)?)?, never(alloc))?;
-    overviewed(rt, alloc, work.bytes(1)?, &mut from, vol)?.text(alloc)
+    let mut from = copy(alloc, volumes.volume(work.bytes(0)?)?, no_failing(alloc))?;
+    make_overview(rt, alloc, work.bytes(1)?, &mut from, vol)?.text(alloc)
 }
 
 /// `overview_from WORDS`: an overview of the volume into an empty one. It is told where one that
 /// failed has called the empty one.
-pub(crate) fn from<R: Threads + Sync>(
+pub(crate) fn overview_from<R: Threads + Sync>(
     rt: &R,
     alloc: Global,
     work: &Row,
     vol: &mut MemVolume,
 ) -> Result<Vec<u8>, CaseStop> {
-    let mut to = volume(alloc, 0, &[], &[], never(alloc))?;
-    let marked = overviewed(rt, alloc, work.bytes(0)?, vol, &mut to)?;
+    let mut to = volume(alloc, 0, &[], &[], no_failing(alloc))?;
+    let marked = make_overview(rt, alloc, work.bytes(0)?, vol, &mut to)?;
     let mut text = marked.text(alloc)?;
     if marked.left.status > 0 && to.moment() > 0 {
         text.extend_from_slice(b"the second bundle was called")?;

@@ -51,7 +51,7 @@ pub(crate) fn text_of(alloc: Global, answer: Result<Vec<u8>, Ended>) -> Result<V
 }
 
 /// A session on the volume as it stands.
-pub(crate) fn opened<V: Volume>(alloc: Global, vol: &mut V) -> Result<Session, StoreFault>
+pub(crate) fn open_session<V: Volume>(alloc: Global, vol: &mut V) -> Result<Session, StoreFault>
     ensures running { IfOk result (λ s. s.stopped ≡ false) }
     ensures serves { IsTrue (V.told vol.new) →
         IfOk result (λ s. Serves s (contents Bundle (V.history vol.new))) }
@@ -60,7 +60,7 @@ pub(crate) fn opened<V: Volume>(alloc: Global, vol: &mut V) -> Result<Session, S
 }
 
 /// A session on the volume, once it is recovered.
-pub(crate) fn recovered<V: Volume>(alloc: Global, vol: &mut V) -> Result<Session, StoreFault>
+pub(crate) fn recover_session<V: Volume>(alloc: Global, vol: &mut V) -> Result<Session, StoreFault>
     ensures running { IfOk result (λ s. s.stopped ≡ false) }
     ensures ready { IsTrue (V.told vol.new) →
         IfOk result (λ s. IsReadyToPut s (current (V.history vol.new))) }

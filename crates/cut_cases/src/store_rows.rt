@@ -3,9 +3,9 @@
 
 ghost use Rattle.std.specs.Prelude.{◌≡◌, true};
 
-use crate::sessions::{Ended, opened, recovered, text_of};
+use crate::sessions::{Ended, open_session, recover_session, text_of};
 use crate::tiles::{are_fit, slot_of, tiles_of};
-use crate::works::work_of;
+use crate::work_words::work_of;
 use bundle_index::{Entry, Slot};
 use bundle_store::{Session, StoreFault, TileRec, built_size, recover};
 use case_rows::{CaseStop, Row, Told};
@@ -13,8 +13,8 @@ use outside_io::{Bytes, MemVolume, Volume};
 use std::alloc::Global;
 use volume_rows::Volumes;
 
-/// That a work was done.
-fn done(alloc: Global) -> Result<Vec<u8>, Ended> {
+/// The word for a work that was done.
+fn ok_word(alloc: Global) -> Result<Vec<u8>, Ended> {
     Ok(Vec::from_slice(alloc, b"Ok")?)
 }
 
@@ -23,9 +23,9 @@ fn put(alloc: Global, vol: &mut MemVolume, tiles: &[TileRec]) -> Result<Vec<u8>,
     let [tile] = tiles else {
         return Err(Ended::Case(CaseStop::BadRow));
     };
-    let mut session = recovered(alloc, vol)?;
+    let mut session = recover_session(alloc, vol)?;
     session.put_blob(vol, tile.slot, tile.bytes.as_slice())?;
-    done(alloc)
+    ok_word(alloc)
 }
 
 /// `group NAME ROW COL BYTES ..`, once the volume is recovered.
@@ -33,34 +33,34 @@ fn group(alloc: Global, vol: &mut MemVolume, tiles: &[TileRec]) -> Result<Vec<u8
     if tiles.is_empty() || tiles.len() > 64 {
         return Err(Ended::Case(CaseStop::BadRow));
     }
-    let mut session = recovered(alloc, vol)?;
+    let mut session = recover_session(alloc, vol)?;
     session.put_group(vol, tiles)?;
-    done(alloc)
+    ok_word(alloc)
 }
 
 /// `build NAME ROW COL BYTES ..`, once the volume is recovered.
 fn build(alloc: Global, vol: &mut MemVolume, tiles: &[TileRec]) -> Result<Vec<u8>, Ended> {
-    let mut session = recovered(alloc, vol)?;
+    let mut session = recover_session(alloc, vol)?;
     session.build(vol, tiles)?;
-    done(alloc)
+    ok_word(alloc)
 }
 
 /// The bytes of a slot's tile.
-fn got(alloc: Global, vol: &mut MemVolume, slot: Slot) -> Result<Vec<u8>, Ended> {
-    let session = opened(alloc, vol)?;
+fn get(alloc: Global, vol: &mut MemVolume, slot: Slot) -> Result<Vec<u8>, Ended> {
+    let session = open_session(alloc, vol)?;
     Ok(session.get(vol, slot)?.into_vec())
 }
 
 /// `entry NAME ROW COL`: the offset and the size.
 fn entry(alloc: Global, vol: &mut MemVolume, slot: Slot) -> Result<Vec<u8>, Ended> {
-    let session = opened(alloc, vol)?;
+    let session = open_session(alloc, vol)?;
     let Entry { offset, size } = session.entry(vol, slot)?;
     Ok(format!(in alloc; "{offset} {size}")?.into_bytes())
 }
 
 /// `check NAME`: the tiles, their bytes, the bad entries, and the slot of the first of these.
 fn check(alloc: Global, vol: &mut MemVolume) -> Result<Vec<u8>, Ended> {
-    let session = opened(alloc, vol)?;
+    let session = open_session(alloc, vol)?;
     let report = session.check(vol)?;
     let first = report.first_bad.map(|slot| slot.number());
     let (tiles, bytes, bad) = (report.tiles, report.bytes, report.bad);
@@ -69,7 +69,7 @@ fn check(alloc: Global, vol: &mut MemVolume) -> Result<Vec<u8>, Ended> {
 
 /// `length NAME`.
 fn length(alloc: Global, vol: &mut MemVolume) -> Result<Vec<u8>, Ended> {
-    let session = opened(alloc, vol)?;
+    let session = open_session(alloc, vol)?;
     let len = session.length(vol)?;
     Ok(format!(in alloc; "{len}")?.into_bytes())
 }
@@ -87,7 +87,7 @@ fn answer_of(alloc: Global, vol: &mut MemVolume, work: &Row) -> Result<Vec<u8>, 
         b"group" => group(alloc, vol, &tiles_of(alloc, work, 0)?),
         b"build" => build(alloc, vol, &tiles_of(alloc, work, 0)?),
         b"recover" => recovery(alloc, vol),
-        b"get" => got(alloc, vol, slot_of(work, 0)?),
+        b"get" => get(alloc, vol, slot_of(work, 0)?),
         b"entry" => entry(alloc, vol, slot_of(work, 0)?),
         b"check" => check(alloc, vol),
         b"length" => length(alloc, vol),
@@ -119,7 +119,7 @@ fn look_again(
     other: Slot,
     told: &mut Told,
 ) -> Result<(), Ended> {
-    let mut session = recovered(alloc, vol)?;
+    let mut session = recover_session(alloc, vol)?;
     session.put_blob(vol, tile.slot, tile.bytes.as_slice())?;
     let moment = vol.moment();
     let entry = session.entry(vol, tile.slot)?;
@@ -130,9 +130,14 @@ fn look_again(
     Ok(())
 }
 
-/// `kept NAME ROW COL OTHER_ROW OTHER_COL BYTES`: puts a tile, and tells what its session has of its
-/// slot and of another one then, and whether that took no call of the volume.
-fn kept(alloc: Global, volumes: &mut Volumes, row: &Row, told: &mut Told) -> Result<(), CaseStop> {
+/// `kept NAME ROW COL OTHER_ROW OTHER_COL BYTES`: puts a tile, and tells what its session has of
+/// its slot and of another one then, and whether that took no call of the volume.
+fn tell_kept(
+    alloc: Global,
+    volumes: &mut Volumes,
+    row: &Row,
+    told: &mut Told,
+) -> Result<(), CaseStop> {
     let (slot, other) = (slot_of(row, 1)?, slot_of(row, 3)?);
     let bytes = Bytes::of(alloc, row.bytes(5)?)?;
     let vol = volumes.volume(row.bytes(0)?)?;
@@ -157,13 +162,13 @@ fn faults_of(session: &mut Session, vol: &mut MemVolume, slot: Slot) -> [Option<
 }
 
 /// The faults of a session that a put into the slot stops.
-fn stopped_by_put(
+fn stop_by_put(
     alloc: Global,
     vol: &mut MemVolume,
     slot: Slot,
     bytes: &[u8],
 ) -> Result<[Option<StoreFault>; 6], Ended> {
-    let mut session = recovered(alloc, vol)?;
+    let mut session = recover_session(alloc, vol)?;
     match session.put_blob(vol, slot, bytes) {
         Err(StoreFault::Device) => Ok(faults_of(&mut session, vol, slot)),
         _ => Err(Ended::Case(CaseStop::BadRow)),
@@ -172,7 +177,7 @@ fn stopped_by_put(
 
 /// `stopped NAME ROW COL BYTES`: a put that a failing volume ends, and the faults of each call of
 /// its session behind it.
-fn stopped(
+fn tell_stopped(
     alloc: Global,
     volumes: &mut Volumes,
     row: &Row,
@@ -180,7 +185,7 @@ fn stopped(
 ) -> Result<(), CaseStop> {
     let slot = slot_of(row, 1)?;
     let vol = volumes.volume(row.bytes(0)?)?;
-    match stopped_by_put(alloc, vol, slot, row.bytes(3)?) {
+    match stop_by_put(alloc, vol, slot, row.bytes(3)?) {
         Ok(faults) => told.fact(faults),
         Err(_) => Err(CaseStop::BadRow),
     }
@@ -194,8 +199,8 @@ pub(crate) fn call(
 ) -> Result<(), CaseStop> {
     match row.call.as_slice() {
         b"size" => size(alloc, row, told),
-        b"kept" => kept(alloc, volumes, row, told),
-        b"stopped" => stopped(alloc, volumes, row, told),
+        b"kept" => tell_kept(alloc, volumes, row, told),
+        b"stopped" => tell_stopped(alloc, volumes, row, told),
         name => {
             let given = row.given.get(1..).unwrap_or(&[]);
             let named = work_of(alloc, name, given)?;

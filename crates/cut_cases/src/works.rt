@@ -1,34 +1,13 @@
-//! Works on one volume, as rows name them: those of a session, packings and overviews of it and into
-//! it, and runs over it or over a level that it is in.
+//! Works on one volume, as rows name them: those of a session, packings and overviews of it and
+//! into it, and runs over it or over a level that it is in.
 
+use crate::work_words::named_work;
 use crate::{level_rows, pack_rows, run_rows, store_rows};
 use case_rows::{CaseStop, Row, Told};
 use outside_io::MemVolume;
 use std::alloc::Global;
 use std::thread::Threads;
 use volume_rows::Volumes;
-
-/// A work as a row of its own: its name, and what it is given.
-pub(crate) fn work_of(alloc: Global, name: &[u8], given: &[Vec<u8>]) -> Result<Row, CaseStop> {
-    let mut words = Vec::new(alloc);
-    for word in given {
-        words.push(word.to_vec(alloc)?)?;
-    }
-    Ok(Row {
-        group: Vec::new(alloc),
-        call: name.to_vec(alloc)?,
-        given: words,
-        wanted: Vec::new(alloc),
-    })
-}
-
-/// The work that the words of a row from one on name.
-pub(crate) fn named_work(alloc: Global, row: &Row, at: usize) -> Result<Row, CaseStop> {
-    match row.given.get(at..) {
-        Some([name, given @ ..]) => work_of(alloc, name, given),
-        _ => Err(CaseStop::BadRow),
-    }
-}
 
 /// Does the work, and answers the volume and what came out.
 pub(crate) fn perform<R: Threads + Sync>(
@@ -39,19 +18,19 @@ pub(crate) fn perform<R: Threads + Sync>(
     work: &Row,
 ) -> Result<(MemVolume, Vec<u8>), CaseStop> {
     let text = match work.call.as_slice() {
-        b"pack_into" => pack_rows::into(alloc, volumes, work, &mut vol)?,
-        b"pack_from" => return pack_rows::from(alloc, vol),
-        b"level" => return level_rows::over(alloc, volumes, vol, work),
-        b"run" => run_rows::over(rt, alloc, work, &mut vol)?,
-        b"overview_into" => run_rows::into(rt, alloc, volumes, work, &mut vol)?,
-        b"overview_from" => run_rows::from(rt, alloc, work, &mut vol)?,
+        b"pack_into" => pack_rows::pack_into(alloc, volumes, work, &mut vol)?,
+        b"pack_from" => return pack_rows::pack_from(alloc, vol),
+        b"level" => return level_rows::run_level_work(alloc, volumes, vol, work),
+        b"run" => run_rows::run_work(rt, alloc, work, &mut vol)?,
+        b"overview_into" => run_rows::overview_into(rt, alloc, volumes, work, &mut vol)?,
+        b"overview_from" => run_rows::overview_from(rt, alloc, work, &mut vol)?,
         _ => store_rows::work(alloc, &mut vol, work)?,
     };
     Ok((vol, text))
 }
 
 /// `work NAME WORK ..`: the work on the volume, and what came out.
-pub(crate) fn done<R: Threads + Sync>(
+pub(crate) fn tell_work<R: Threads + Sync>(
     rt: &R,
     alloc: Global,
     volumes: &mut Volumes,

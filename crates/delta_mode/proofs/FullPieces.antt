@@ -9,7 +9,7 @@ use Rattle.raster_values.specs.Raster.{Pixels, IsRaster, valid_count}
 use Rattle.raster_values.specs.Flat.{value_in}
 use Rattle.delta_mode.specs.Symbols.{IsByteType, bias}
 use Rattle.delta_mode.specs.Deltas.{delta, deltas, is_valid, predictor}
-use Rattle.delta_mode.specs.Ways.{deltas_before}
+use Rattle.delta_mode.specs.EncodeStates.{deltas_before}
 use Rattle.delta_mode.specs.inside.Bytewise.{byte_of, wrapped}
 use Rattle.delta_mode.specs.inside.Pieces.{rank, IsFilled}
 use Rattle.delta_mode.specs.inside.Strided.{cell_before}
@@ -17,7 +17,7 @@ use Rattle.delta_mode.proofs.Bytewise.{rank_at, rank_full, rank_most, wrapped_sy
 use Rattle.delta_mode.proofs.Marks.{value_in_range, zero_in_range}
 use Rattle.delta_mode.proofs.Predictors.{predictor_has}
 use Rattle.delta_mode.proofs.Strided.{before_is, placed}
-use Rattle.delta_mode.proofs.Ways.{from_front, length-deltas, length-from, piece_first}
+use Rattle.delta_mode.proofs.EncodeStates.{from_front, length-deltas, length-from, piece_first}
 use Rattle.delta_mode.proofs.WholeDepth.{rank_all}
 
 -- a pixel's byte at a depth is there

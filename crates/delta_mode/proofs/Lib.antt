@@ -13,7 +13,7 @@ mod Strided
 mod EvenPieces
 mod Runs
 mod PlainTaking
-pub mod Ways
+pub mod EncodeStates
 mod Gathered
 mod StartBits
 mod NextRuns

@@ -12,8 +12,8 @@ use Rattle.raster_values.specs.Flat.{value_in}
 use Rattle.raster_values.proofs.Deep.{raster_deep}
 use Rattle.delta_mode.specs.Symbols.{symbol_of}
 use Rattle.delta_mode.specs.Deltas.{is_valid, plain}
-use Rattle.delta_mode.specs.PlainWays.{IsOnPlain, plain_before}
-use Rattle.delta_mode.specs.declared.giving_plain.PlainWay.{PlainWay}
+use Rattle.delta_mode.specs.PlainStates.{IsOnPlain, plain_before}
+use Rattle.delta_mode.specs.declared.giving_plain.PlainState.{PlainState}
 use Rattle.delta_mode.specs.inside.Pieces.{rank}
 use Rattle.delta_mode.proofs.Pieces.{rank_below, rank_grows, rank_off, rank_on}
 use Rattle.delta_mode.proofs.WholeDepth.{rank_all}
@@ -155,15 +155,15 @@ place_fits depth q n d size low lt room =
     let open_ : (q + 1) * depth ≡ q * depth + depth = omega arith in
     omega (arith, up, open_, low, room)
 
--- ---- the way
+-- ---- the state
 
-pub plain_on : (r : Pixels) (w : PlainWay) → w.place ≡ 0 → w.given ≡ 0 → IsOnPlain r w
+pub plain_on : (r : Pixels) (w : PlainState) → w.place ≡ 0 → w.given ≡ 0 → IsOnPlain r w
 plain_on r w place given = record {
   place = omega (arith, place);
   given = (let none : rank (is_valid r) w.place * r.depth ≡ 0 * r.depth = ap (λ k. rank (is_valid r) k * r.depth) place in let z : 0 * r.depth ≡ 0 = omega arith in omega (arith, given, none, z));
 }
 
-pub plain_symbols : (r : Pixels) → IsRaster r → (old new : PlainWay) (count valid : ℕ) (out : List ℕ) → IsOnPlain r old → old.place + count ≤ r.rows * r.cols → rank (is_valid r) (old.place + count) ≡ rank (is_valid r) old.place + valid
+pub plain_symbols : (r : Pixels) → IsRaster r → (old new : PlainState) (count valid : ℕ) (out : List ℕ) → IsOnPlain r old → old.place + count ≤ r.rows * r.cols → rank (is_valid r) (old.place + count) ≡ rank (is_valid r) old.place + valid
     → plain_before r (old.place + count) ≡ plain_before r old.place ++ take (valid * r.depth) out → new.given ≡ old.given + valid * r.depth → take new.given (plain r) ≡ take old.given (plain r) ++ take (new.given - old.given) out
 plain_symbols r sound old new count valid out h within ranks piece e =
     let open_ : (rank (is_valid r) old.place + valid) * r.depth ≡ rank (is_valid r) old.place * r.depth + valid * r.depth = omega arith in
@@ -173,7 +173,7 @@ plain_symbols r sound old new count valid out h within ranks piece e =
     ∙ ap (λ (xs : List ℕ). xs ++ take (valid * r.depth) out) (sym (ap (λ n. take n (plain r)) h.given ∙ plain_first r sound old.place h.place))
     ∙ ap (λ n. take old.given (plain r) ++ take n out) more
 
-pub plain_next : (r : Pixels) (old new : PlainWay) (count valid : ℕ) → IsOnPlain r old → old.place + count ≤ r.rows * r.cols → rank (is_valid r) (old.place + count) ≡ rank (is_valid r) old.place + valid
+pub plain_next : (r : Pixels) (old new : PlainState) (count valid : ℕ) → IsOnPlain r old → old.place + count ≤ r.rows * r.cols → rank (is_valid r) (old.place + count) ≡ rank (is_valid r) old.place + valid
     → new.place ≡ old.place + count → new.given ≡ old.given + valid * r.depth → IsOnPlain r new
 plain_next r old new count valid h within ranks place e = record {
   place = omega (arith, place, within);
@@ -184,7 +184,7 @@ plain_next r old new count valid h within ranks place e = record {
       sum ∙ ap (λ n. n * r.depth) (sym ranks ∙ ap (rank (is_valid r)) (sym place));
 }
 
-pub plain_few : (r : Pixels) → IsRaster r → (w : PlainWay) → IsOnPlain r w → w.given ≤ valid_count r * r.depth
+pub plain_few : (r : Pixels) → IsRaster r → (w : PlainState) → IsOnPlain r w → w.given ≤ valid_count r * r.depth
 plain_few r sound w h =
     let grows = rank_grows (is_valid r) w.place (r.rows * r.cols) h.place in
     let all = rank_all r sound in
@@ -192,7 +192,7 @@ plain_few r sound w h =
     let given = h.given in
     omega (arith, given, up)
 
-pub plain_given : (r : Pixels) → IsRaster r → (w : PlainWay) → IsOnPlain r w → r.rows * r.cols ≤ w.place → take w.given (plain r) ≡ plain r
+pub plain_given : (r : Pixels) → IsRaster r → (w : PlainState) → IsOnPlain r w → r.rows * r.cols ≤ w.place → take w.given (plain r) ≡ plain r
 plain_given r sound w h past =
     let place = h.place in
     let places = sound.places in

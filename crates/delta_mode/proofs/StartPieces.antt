@@ -16,7 +16,7 @@ use Rattle.raster_values.specs.Raster.{Pixels, IsRaster}
 use Rattle.raster_cells.specs.Words.{word_bit, AreMarks}
 use Rattle.delta_mode.specs.Symbols.{IsByteType, bias, symbol_of}
 use Rattle.delta_mode.specs.Deltas.{delta, has_left, has_upper, is_valid, last_value, predictor}
-use Rattle.delta_mode.specs.Ways.{deltas_before}
+use Rattle.delta_mode.specs.EncodeStates.{deltas_before}
 use Rattle.delta_mode.specs.inside.Pieces.{rank, left_of}
 use Rattle.delta_mode.specs.inside.Starts.{between, mark_of, AreStarts, HasLast, HasSymbols}
 use Rattle.delta_mode.proofs.EvenPieces.{kept_predictor}
@@ -27,7 +27,7 @@ use Rattle.delta_mode.proofs.Numbers.{by_byte, symbol-is}
 use Rattle.delta_mode.proofs.Pieces.{rank_below, rank_off, rank_on, rank_split}
 use Rattle.delta_mode.proofs.Predictors.{last_has, last-suc, predictor_has}
 use Rattle.delta_mode.proofs.StartBits.{bit_gone, bit_stays, clear_bit, fewer_bits, without, word_marks}
-use Rattle.delta_mode.proofs.Ways.{piece_first}
+use Rattle.delta_mode.proofs.EncodeStates.{piece_first}
 
 -- ---- symbols by distances
 

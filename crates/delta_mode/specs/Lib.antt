@@ -4,7 +4,7 @@ pub use Rattle.raster_values.specs.Block
 pub mod Symbols
 pub mod Deltas
 pub mod Frames
-pub mod Ways
-pub mod PlainWays
+pub mod EncodeStates
+pub mod PlainStates
 pub mod Laws
 pub mod inside

@@ -1,20 +1,20 @@
-//! The symbols of pixels one behind the other of a raster of bytes of which every pixel is valid: of
-//! its bytes as they lie.
+//! The symbols of pixels one behind the other of a raster of bytes of which every pixel is valid:
+//! of its bytes as they lie.
 
 ghost use Rattle.std.specs.Prelude.{◌≡◌, ℕ, ◌+◌, ◌-◌, ◌*◌, ◌%◌, ◌^◌, ◌<◌, ◌≤◌, ◌++◌, length};
 ghost use Rattle.std.specs.Prelude.{get_or};
 ghost use Rattle.raster_values.specs.Raster.{valid_count};
 ghost use Rattle.delta_mode.specs.Symbols.{bias};
-ghost use Rattle.delta_mode.specs.Ways.{deltas_before};
+ghost use Rattle.delta_mode.specs.EncodeStates.{deltas_before};
 ghost use Rattle.delta_mode.specs.inside.Bytewise.{wrapped};
-ghost use Rattle.delta_mode.specs.inside.Strided.{cell, cell_above, cell_before};
+ghost use Rattle.delta_mode.specs.inside.Strided.{HaveCells, cell, cell_above, cell_before};
 
 use super::byte_plane::BytePlane;
 use raster_access::View;
 use raster_values::{PixelType, cells_are_values};
 
 /// What is added to a byte of the type.
-pub(super) fn added(kind: PixelType) -> u8
+pub(super) fn bias_of(kind: PixelType) -> u8
     ensures { result ≡ bias kind }
 {
     match kind {
@@ -33,8 +33,8 @@ fn cell_of(cells: &[u8], depth: usize, d: usize, k: usize) -> u8
 }
 
 /// The symbol of each pixel from number `place` on, but the first ones, by the byte of the pixel
-/// before it. Each symbol is made of two bytes that are read for it, so that many are made at once of
-/// bytes that lie one behind the other.
+/// before it. Each symbol is made of two bytes that are read for it, so that many are made at once
+/// of bytes that lie one behind the other.
 #[inline(always)]
 fn read_differences(
     bias: u8,
@@ -45,11 +45,8 @@ fn read_differences(
     from: usize,
     out: &mut [u8],
 )
-    requires depth { d < depth }
     requires some { 0 < place + from }
-    requires size { (place + length out.old) * depth ≤ length cells.now }
-    requires few { place + length out.old ≤ 2 ^ 24 }
-    ensures room { length out.new ≡ length out.old }
+    requires cells { HaveCells depth d cells.now place (length out.old) }
     ensures symbols { (i : ℕ) → from ≤ i → i < length out.old → get_or out.new i 0
         ≡ wrapped bias (cell depth d cells.now (place + i))
         (cell depth d cells.now (place + i - 1)) }
@@ -74,11 +71,8 @@ fn carried_differences(
     from: usize,
     out: &mut [u8],
 )
-    requires depth { d < depth }
     requires some { 0 < place + from }
-    requires size { (place + length out.old) * depth ≤ length cells.now }
-    requires few { place + length out.old ≤ 2 ^ 24 }
-    ensures room { length out.new ≡ length out.old }
+    requires cells { HaveCells depth d cells.now place (length out.old) }
     ensures symbols { (i : ℕ) → from ≤ i → i < length out.old → get_or out.new i 0
         ≡ wrapped bias (cell depth d cells.now (place + i))
         (cell depth d cells.now (place + i - 1)) }
@@ -105,11 +99,8 @@ fn differences(
     from: usize,
     out: &mut [u8],
 )
-    requires depth { d < depth }
     requires some { 0 < place + from }
-    requires size { (place + length out.old) * depth ≤ length cells.now }
-    requires few { place + length out.old ≤ 2 ^ 24 }
-    ensures room { length out.new ≡ length out.old }
+    requires cells { HaveCells depth d cells.now place (length out.old) }
     ensures symbols { (i : ℕ) → from ≤ i → i < length out.old → get_or out.new i 0
         ≡ wrapped bias (cell depth d cells.now (place + i))
         (cell depth d cells.now (place + i - 1)) }
@@ -153,10 +144,7 @@ fn first_column(
 )
     requires cols { 0 < cols }
     requires narrow { cols ≤ 2 ^ 24 }
-    requires depth { d < depth }
-    requires size { (place + length out.old) * depth ≤ length cells.now }
-    requires few { place + length out.old ≤ 2 ^ 24 }
-    ensures room { length out.new ≡ length out.old }
+    requires cells { HaveCells depth d cells.now place (length out.old) }
     ensures symbols { (i : ℕ) → i < length out.old → (place + i) % cols ≡ 0 → get_or out.new i 0
         ≡ wrapped bias (cell depth d cells.now (place + i))
         (cell_above cols (cell depth d cells.now) (place + i)) }
@@ -191,10 +179,7 @@ fn byte_piece(
 )
     requires cols { 0 < cols }
     requires narrow { cols ≤ 2 ^ 24 }
-    requires depth { d < depth }
-    requires size { (place + length out.old) * depth ≤ length cells.now }
-    requires few { place + length out.old ≤ 2 ^ 24 }
-    ensures room { length out.new ≡ length out.old }
+    requires cells { HaveCells depth d cells.now place (length out.old) }
     ensures symbols { (i : ℕ) → i < length out.old → get_or out.new i 0
         ≡ wrapped bias (cell depth d cells.now (place + i))
         (cell_before cols (cell depth d cells.now) (place + i)) }
@@ -209,7 +194,6 @@ pub(super) fn write_full<V: View>(plane: &BytePlane<V>, place: usize, out: &mut 
         ≡ (V.pixels plane.now.raster.now).rows * (V.pixels plane.now.raster.now).cols }
     requires within { place + length out.old
         ≤ (V.pixels plane.now.raster.now).rows * (V.pixels plane.now.raster.now).cols }
-    ensures room { length out.new ≡ length out.old }
     ensures symbols { deltas_before (V.pixels plane.now.raster.now) plane.now.d (place
         + length out.old)
         ≡ deltas_before (V.pixels plane.now.raster.now) plane.now.d place ++ out.new }
@@ -219,7 +203,7 @@ pub(super) fn write_full<V: View>(plane: &BytePlane<V>, place: usize, out: &mut 
     let depth = plane.raster.depth() as usize;
     let cols = plane.raster.cols() as usize;
     byte_piece(
-        added(plane.raster.kind()),
+        bias_of(plane.raster.kind()),
         cols,
         depth,
         plane.d as usize,

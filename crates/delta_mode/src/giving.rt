@@ -3,7 +3,7 @@
 ghost use Rattle.std.specs.Prelude.{◌≡◌, ◌+◌, ◌-◌, ◌*◌, ◌^◌, ◌<◌, ◌≤◌, ◌++◌, length, take};
 ghost use Rattle.raster_values.specs.Raster.{Pixels, IsRaster, valid_count};
 ghost use Rattle.delta_mode.specs.Symbols.{IsByteType};
-ghost use Rattle.delta_mode.specs.Ways.{IsOn, deltas_of_all, left_over};
+ghost use Rattle.delta_mode.specs.EncodeStates.{IsBeforeEnd, IsOn, LeadsOn, deltas_of_all, left_over};
 ghost use Rattle.delta_mode.specs.inside.Steps.{IsDeeper, IsFurther};
 
 use super::byte_plane::BytePlane;
@@ -15,7 +15,7 @@ use raster_access::View;
 
 /// How far the symbols of the differences have been given, one depth behind the other.
 #[derive(Clone, Copy)]
-pub struct Way {
+pub struct EncodeState {
     /// The depth of the next symbol; as many as the raster has, where none is left.
     pub d: u32,
     // The number of the next pixel, and what is kept in front of it.
@@ -26,11 +26,11 @@ pub struct Way {
 }
 
 /// In front of all symbols.
-pub fn first_way() -> Way
-    ensures way { (r : Pixels) → IsRaster r → IsOn r result }
+pub fn first_state() -> EncodeState
+    ensures state { (r : Pixels) → IsRaster r → IsOn r result }
     ensures none { result.given ≡ 0 }
 {
-    Way {
+    EncodeState {
         d: 0,
         place: 0,
         walk: start(),
@@ -39,25 +39,25 @@ pub fn first_way() -> Way
 }
 
 /// So many pixels on, of as many as a depth has, and as many symbols.
-fn advanced(way: Way, pixels: usize, count: usize, given: usize, walk: Walk) -> Way
-    requires within { way.place + count ≤ pixels }
-    requires depth { way.d < 65536 }
-    requires few { way.given + given ≤ 2 ^ 24 }
-    ensures given { result.given ≡ way.given + given }
-    ensures further { way.place + count < pixels → IsFurther way result count walk }
-    ensures deeper { way.place + count ≡ pixels → IsDeeper way result }
+fn advance(state: EncodeState, pixels: usize, count: usize, given: usize, walk: Walk) -> EncodeState
+    requires within { state.place + count ≤ pixels }
+    requires depth { state.d < 65536 }
+    requires few { state.given + given ≤ 2 ^ 24 }
+    ensures given { result.given ≡ state.given + given }
+    ensures further { state.place + count < pixels → IsFurther state result count walk }
+    ensures deeper { state.place + count ≡ pixels → IsDeeper state result }
 {
-    let given = way.given + given;
-    if way.place + count < pixels {
-        return Way {
-            d: way.d,
-            place: way.place + count,
+    let given = state.given + given;
+    if state.place + count < pixels {
+        return EncodeState {
+            d: state.d,
+            place: state.place + count,
             walk,
             given,
         };
     }
-    Way {
-        d: way.d + 1,
+    EncodeState {
+        d: state.d + 1,
         place: 0,
         walk: start(),
         given,
@@ -65,70 +65,54 @@ fn advanced(way: Way, pixels: usize, count: usize, given: usize, walk: Walk) -> 
 }
 
 /// Gives symbols of a raster of which every pixel is valid.
-fn next_full<V: View>(raster: &V, way: Way, out: &mut [u8]) -> Way
-    requires kind { IsByteType (V.pixels raster.now).kind }
+fn next_full<V: View>(raster: &V, state: EncodeState, out: &mut [u8]) -> EncodeState
+    requires before { IsBeforeEnd (V.pixels raster.now) state }
     requires full { valid_count (V.pixels raster.now)
         ≡ (V.pixels raster.now).rows * (V.pixels raster.now).cols }
-    requires way { IsOn (V.pixels raster.now) way }
-    requires more { way.d < (V.pixels raster.now).depth }
     requires room { 0 < length out.old }
-    ensures way { IsOn (V.pixels raster.now) result }
-    ensures some { way.given ≤ result.given }
-    ensures few { result.given ≤ way.given + length out.old }
-    ensures symbols { take result.given (deltas_of_all (V.pixels raster.now))
-        ≡ take way.given (deltas_of_all (V.pixels raster.now))
-        ++ take (result.given - way.given) out.new }
-    ensures later { left_over (V.pixels raster.now) result < left_over (V.pixels raster.now) way }
+    ensures { LeadsOn (V.pixels raster.now) state result out.old out.new }
 {
     let pixels = raster.rows() as usize * raster.cols() as usize;
-    let count = out.len().min(pixels - way.place);
-    let plane = BytePlane { raster, d: way.d };
-    write_full(&plane, way.place, &mut out[..count]);
-    advanced(way, pixels, count, count, way.walk)
+    let count = out.len().min(pixels - state.place);
+    let plane = BytePlane { raster, d: state.d };
+    write_full(&plane, state.place, &mut out[..count]);
+    advance(state, pixels, count, count, state.walk)
 }
 
 /// Gives symbols of a raster of which some pixel is not valid.
-fn next_marked<V: View>(raster: &V, way: Way, out: &mut [u8]) -> Way
-    requires kind { IsByteType (V.pixels raster.now).kind }
-    requires way { IsOn (V.pixels raster.now) way }
+fn next_marked<V: View>(raster: &V, state: EncodeState, out: &mut [u8]) -> EncodeState
+    requires before { IsBeforeEnd (V.pixels raster.now) state }
     requires some { valid_count (V.pixels raster.now)
         ≡ (V.pixels raster.now).rows * (V.pixels raster.now).cols → ⊥ }
-    requires more { way.d < (V.pixels raster.now).depth }
     requires room { 0 < length out.old }
-    ensures way { IsOn (V.pixels raster.now) result }
-    ensures some { way.given ≤ result.given }
-    ensures few { result.given ≤ way.given + length out.old }
-    ensures symbols { take result.given (deltas_of_all (V.pixels raster.now))
-        ≡ take way.given (deltas_of_all (V.pixels raster.now))
-        ++ take (result.given - way.given) out.new }
-    ensures later { left_over (V.pixels raster.now) result < left_over (V.pixels raster.now) way }
+    ensures { LeadsOn (V.pixels raster.now) state result out.old out.new }
 {
     let pixels = raster.rows() as usize * raster.cols() as usize;
     let least = PIECE.min(out.len());
-    let plane = BytePlane { raster, d: way.d };
-    let (walk, count) = write_marked(&plane, way.place, way.walk, least, out);
-    advanced(way, pixels, count, walk.count - way.walk.count, walk)
+    let plane = BytePlane { raster, d: state.d };
+    let (walk, count) = write_marked(&plane, state.place, state.walk, least, out);
+    advance(state, pixels, count, walk.count - state.walk.count, walk)
 }
 
 /// Puts the next symbols of the differences of a raster of bytes in front of `out`: row by row, one
-/// depth behind the other, as many as the way has behind this than before. Where pixels are not
+/// depth behind the other, as many as the state has behind this than before. Where pixels are not
 /// valid these may be none.
-pub fn next_deltas<V: View>(raster: &V, way: Way, out: &mut [u8]) -> Way
+pub fn next_deltas<V: View>(raster: &V, state: EncodeState, out: &mut [u8]) -> EncodeState
     requires kind { IsByteType (V.pixels raster.now).kind }
-    requires way { IsOn (V.pixels raster.now) way }
-    requires more { way.d < (V.pixels raster.now).depth }
+    requires state { IsOn (V.pixels raster.now) state }
+    requires more { state.d < (V.pixels raster.now).depth }
     requires room { 0 < length out.old }
-    ensures way { IsOn (V.pixels raster.now) result }
-    ensures some { way.given ≤ result.given }
-    ensures few { result.given ≤ way.given + length out.old }
+    ensures state { IsOn (V.pixels raster.now) result }
+    ensures some { state.given ≤ result.given }
+    ensures few { result.given ≤ state.given + length out.old }
     ensures symbols { take result.given (deltas_of_all (V.pixels raster.now))
-        ≡ take way.given (deltas_of_all (V.pixels raster.now))
-        ++ take (result.given - way.given) out.new }
-    ensures later { left_over (V.pixels raster.now) result < left_over (V.pixels raster.now) way }
+        ≡ take state.given (deltas_of_all (V.pixels raster.now))
+        ++ take (result.given - state.given) out.new }
+    ensures later { left_over (V.pixels raster.now) result < left_over (V.pixels raster.now) state }
 {
     if is_full(raster) {
-        next_full(raster, way, out)
+        next_full(raster, state, out)
     } else {
-        next_marked(raster, way, out)
+        next_marked(raster, state, out)
     }
 }

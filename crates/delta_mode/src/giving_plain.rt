@@ -5,7 +5,7 @@ ghost use Rattle.std.specs.Prelude.{take};
 ghost use Rattle.raster_values.specs.Raster.{Pixels, valid_count};
 ghost use Rattle.delta_mode.specs.Symbols.{IsByteType};
 ghost use Rattle.delta_mode.specs.Deltas.{is_valid, plain};
-ghost use Rattle.delta_mode.specs.PlainWays.{IsOnPlain, plain_before};
+ghost use Rattle.delta_mode.specs.PlainStates.{IsOnPlain, plain_before};
 ghost use Rattle.delta_mode.specs.inside.Pieces.{rank};
 
 use raster_access::View;
@@ -15,7 +15,7 @@ const PIECE: usize = 1024;
 
 /// How far the plain symbols have been given.
 #[derive(Clone, Copy)]
-pub struct PlainWay {
+pub struct PlainState {
     /// The number of the next pixel; as many as the raster has, where none is left.
     pub place: usize,
     /// How many symbols have been given.
@@ -23,11 +23,11 @@ pub struct PlainWay {
 }
 
 /// In front of all symbols.
-pub fn first_plain() -> PlainWay
-    ensures way { (r : Pixels) → IsOnPlain r result }
+pub fn first_plain() -> PlainState
+    ensures state { (r : Pixels) → IsOnPlain r result }
     ensures none { result.given ≡ 0 }
 {
-    PlainWay { place: 0, given: 0 }
+    PlainState { place: 0, given: 0 }
 }
 
 /// Puts the symbols of a depth to their places: the first one to number `d`, and each other one as
@@ -37,7 +37,6 @@ fn spread(symbols: &[u32], depth: usize, d: usize, out: &mut [u8])
     requires bytes { (i : ℕ) → get_or symbols.now i 0 < 256 }
     requires depth { d < depth }
     requires room { length symbols.now * depth ≤ length out.old }
-    ensures room { length out.new ≡ length out.old }
     ensures symbols { (i : ℕ) → i < length symbols.now → get_or out.new (i * depth + d) 0
         ≡ get_or symbols.now i 0 }
     ensures others { (q e : ℕ) → e < depth → (e ≡ d → ⊥)
@@ -53,7 +52,6 @@ fn scatter(symbols: &[u32], depth: usize, d: usize, out: &mut [u8])
     requires bytes { (i : ℕ) → get_or symbols.now i 0 < 256 }
     requires depth { d < depth }
     requires room { length symbols.now * depth ≤ length out.old }
-    ensures room { length out.new ≡ length out.old }
     ensures symbols { (i : ℕ) → i < length symbols.now → get_or out.new (i * depth + d) 0
         ≡ get_or symbols.now i 0 }
     ensures others { (q e : ℕ) → e < depth → (e ≡ d → ⊥)
@@ -98,44 +96,51 @@ fn write_plain<V: View>(
 }
 
 /// Does what `next_plain` does, with this buffer.
-fn write_next<V: View>(raster: &V, way: PlainWay, gathered: &mut [u32], out: &mut [u8]) -> PlainWay
+fn write_next<V: View>(
+    raster: &V,
+    state: PlainState,
+    gathered: &mut [u32],
+    out: &mut [u8],
+) -> PlainState
     requires kind { IsByteType (V.pixels raster.now).kind }
-    requires way { IsOnPlain (V.pixels raster.now) way }
-    requires more { way.place < (V.pixels raster.now).rows * (V.pixels raster.now).cols }
+    requires state { IsOnPlain (V.pixels raster.now) state }
+    requires more { state.place < (V.pixels raster.now).rows * (V.pixels raster.now).cols }
     requires gathered { length gathered.old ≡ 1024 }
     requires room { (V.pixels raster.now).depth ≤ length out.old }
-    ensures way { IsOnPlain (V.pixels raster.now) result }
-    ensures some { way.given ≤ result.given }
-    ensures few { result.given ≤ way.given + length out.old }
+    ensures state { IsOnPlain (V.pixels raster.now) result }
+    ensures some { state.given ≤ result.given }
+    ensures few { result.given ≤ state.given + length out.old }
     ensures symbols { take result.given (plain (V.pixels raster.now))
-        ≡ take way.given (plain (V.pixels raster.now)) ++ take (result.given - way.given) out.new }
-    ensures later { way.place < result.place }
+        ≡ take state.given (plain (V.pixels raster.now))
+        ++ take (result.given - state.given) out.new }
+    ensures later { state.place < result.place }
 {
     let pixels = raster.rows() as usize * raster.cols() as usize;
     let depth = raster.depth() as usize;
-    let count = PIECE.min(out.len() / depth).min(pixels - way.place);
-    let valid = write_plain(raster, way.place, count, gathered, out);
-    PlainWay {
-        place: way.place + count,
-        given: way.given + valid * depth,
+    let count = PIECE.min(out.len() / depth).min(pixels - state.place);
+    let valid = write_plain(raster, state.place, count, gathered, out);
+    PlainState {
+        place: state.place + count,
+        given: state.given + valid * depth,
     }
 }
 
-/// Puts the next plain symbols of a raster of bytes in front of `out`, which has room for a pixel's:
-/// pixel by pixel and depth innermost, as many as the way has behind this than before. Where pixels
-/// are not valid these may be none.
-pub fn next_plain<V: View>(raster: &V, way: PlainWay, out: &mut [u8]) -> PlainWay
+/// Puts the next plain symbols of a raster of bytes in front of `out`, which has room for a
+/// pixel's: pixel by pixel and depth innermost, as many as the state has behind this than before.
+/// Where pixels are not valid these may be none.
+pub fn next_plain<V: View>(raster: &V, state: PlainState, out: &mut [u8]) -> PlainState
     requires kind { IsByteType (V.pixels raster.now).kind }
-    requires way { IsOnPlain (V.pixels raster.now) way }
-    requires more { way.place < (V.pixels raster.now).rows * (V.pixels raster.now).cols }
+    requires state { IsOnPlain (V.pixels raster.now) state }
+    requires more { state.place < (V.pixels raster.now).rows * (V.pixels raster.now).cols }
     requires room { (V.pixels raster.now).depth ≤ length out.old }
-    ensures way { IsOnPlain (V.pixels raster.now) result }
-    ensures some { way.given ≤ result.given }
-    ensures few { result.given ≤ way.given + length out.old }
+    ensures state { IsOnPlain (V.pixels raster.now) result }
+    ensures some { state.given ≤ result.given }
+    ensures few { result.given ≤ state.given + length out.old }
     ensures symbols { take result.given (plain (V.pixels raster.now))
-        ≡ take way.given (plain (V.pixels raster.now)) ++ take (result.given - way.given) out.new }
-    ensures later { way.place < result.place }
+        ≡ take state.given (plain (V.pixels raster.now))
+        ++ take (result.given - state.given) out.new }
+    ensures later { state.place < result.place }
 {
     let mut gathered = [0; PIECE];
-    write_next(raster, way, &mut gathered, out)
+    write_next(raster, state, &mut gathered, out)
 }

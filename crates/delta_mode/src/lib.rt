@@ -21,8 +21,8 @@ mod taking;
 mod walk;
 
 pub use depth::deltas_of;
-pub use giving::{Way, first_way, next_deltas};
-pub use giving_plain::{PlainWay, first_plain, next_plain};
+pub use giving::{EncodeState, first_state, next_deltas};
+pub use giving_plain::{PlainState, first_plain, next_plain};
 pub use laws::{symbols_have_a_raster, symbols_have_one_depth, symbols_have_one_raster};
 pub use plain::plain_of;
 pub use plain_taking::{unplain, unplain_from};

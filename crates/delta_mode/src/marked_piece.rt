@@ -5,12 +5,12 @@ ghost use Rattle.std.specs.Prelude.{◌≡◌, ℕ, ◌+◌, ◌-◌, ◌*◌, �
 ghost use Rattle.std.specs.Prelude.{length, get_or, take};
 ghost use Rattle.raster_values.specs.Flat.{value_in};
 ghost use Rattle.delta_mode.specs.Deltas.{is_valid, last_value};
-ghost use Rattle.delta_mode.specs.Ways.{deltas_before};
+ghost use Rattle.delta_mode.specs.EncodeStates.{deltas_before};
 ghost use Rattle.delta_mode.specs.inside.Pieces.{rank, IsAt, IsFilled};
 ghost use Rattle.delta_mode.specs.inside.Starts.{mark_of, HasLast};
 
 use super::byte_plane::BytePlane;
-use super::full::added;
+use super::full::bias_of;
 use super::starts::{differences, starts, write_starts};
 use super::walk::Walk;
 use raster_access::View;
@@ -33,7 +33,6 @@ fn gather<V: View>(
         ≡ last_value (is_valid (V.pixels plane.now.raster.now))
         (value_in (V.pixels plane.now.raster.now) plane.now.d) place }
     requires room { count < length distances.old }
-    ensures room { length distances.new ≡ length distances.old }
     ensures count { result ≡ rank (mark_of (V.pixels plane.now.raster.now) place) count }
     ensures few { result ≤ count }
     ensures last { HasLast (V.pixels plane.now.raster.now) plane.now.d place count distances.new }
@@ -45,8 +44,8 @@ fn gather<V: View>(
         .gather_from(place, count, plane.d, &mut distances[1..])
 }
 
-/// Whether the pixel to the left is valid, by whether the one before is: in the first column there is
-/// none.
+/// Whether the pixel to the left is valid, by whether the one before is: in the first column there
+/// is none.
 fn left_in(col: usize, before: bool) -> bool
     ensures { result ≡ (nat_lt 0 col && before) }
 {
@@ -83,11 +82,9 @@ fn write_piece<V: View>(
     ensures symbols { deltas_before (V.pixels plane.now.raster.now) plane.now.d (place + count)
         ≡ deltas_before (V.pixels plane.now.raster.now) plane.now.d place
         ++ take (result.count - walk.count) out.new }
-    ensures room { length out.new ≡ length out.old }
-    ensures distances { length distances.new ≡ length distances.old }
 {
     let kind = plane.raster.kind();
-    let bias = u32::from(added(kind));
+    let bias = u32::from(bias_of(kind));
     let valid = gather(plane, place, count, walk.last, distances);
     differences(bias, distances, valid, out);
     let marks = plane.raster.mark_word(place, count);
@@ -128,7 +125,6 @@ fn write_pieces<V: View>(
     ensures symbols { deltas_before (V.pixels plane.now.raster.now) plane.now.d (place + result.1)
         ≡ deltas_before (V.pixels plane.now.raster.now) plane.now.d place
         ++ take (result.0.count - walk.count) out.new }
-    ensures room { length out.new ≡ length out.old }
     ensures full { IsFilled ((V.pixels plane.now.raster.now).rows *
         (V.pixels plane.now.raster.now).cols)
         (place + result.1) least (result.0.count - walk.count) (length out.old) }
@@ -175,7 +171,6 @@ pub(super) fn write_marked<V: View>(
     ensures symbols { deltas_before (V.pixels plane.now.raster.now) plane.now.d (place + result.1)
         ≡ deltas_before (V.pixels plane.now.raster.now) plane.now.d place
         ++ take (result.0.count - walk.count) out.new }
-    ensures room { length out.new ≡ length out.old }
     ensures full { IsFilled ((V.pixels plane.now.raster.now).rows *
         (V.pixels plane.now.raster.now).cols)
         (place + result.1) least (result.0.count - walk.count) (length out.old) }

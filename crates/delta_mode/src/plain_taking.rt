@@ -5,14 +5,14 @@ ghost use Rattle.std.specs.Prelude.{IfErr, OnOk};
 ghost use Rattle.raster_cells.specs.PixelType.{InRange};
 ghost use Rattle.raster_values.specs.Raster.{valid_count};
 ghost use Rattle.raster_values.specs.Flat.{value_in};
-ghost use Rattle.delta_mode.specs.Frames.{KeepsMask};
+ghost use Rattle.delta_mode.specs.Frames.{KeepsMask, LeavesSource};
 ghost use Rattle.delta_mode.specs.Symbols.{IsByteType, symbol_of};
 ghost use Rattle.delta_mode.specs.Deltas.{TakesPlain, is_valid};
 ghost use Rattle.delta_mode.specs.inside.Pieces.{rank, mark_at, value_of_place};
 ghost use Rattle.delta_mode.specs.inside.Plain.{ArePlaced};
 
-use super::full::added;
-use super::run::lowered;
+use super::full::bias_of;
+use super::run::value_above_least;
 use super::source::{ListSymbols, SymbolSource};
 use raster_access::Target;
 use raster_values::PixelType;
@@ -43,17 +43,16 @@ fn spread(kind: PixelType, depth: usize, d: usize, marks: &[bool], symbols: &[u8
     requires room { length out.old ≡ length marks.now }
     requires symbols { rank (mark_at marks.now) (length marks.now) * depth ≤ length symbols.now }
     requires few { length symbols.now ≤ 65536 }
-    ensures room { length out.new ≡ length out.old }
     ensures in_range { (i : ℕ) → InRange kind (value_of_place out.new i) }
     ensures symbols { (i : ℕ) → i < length marks.now → mark_at marks.now i ≡ true
         → symbol_of kind (value_of_place out.new i)
         ≡ get_or symbols.now (rank (mark_at marks.now) i * depth + d) 0 }
 {
-    let added = added(kind);
+    let added = bias_of(kind);
     let mut at = d;
     for i in 0..marks.len() {
         if marks[i] {
-            out[i] = lowered(added, symbols[at]);
+            out[i] = value_above_least(added, symbols[at]);
             at += depth;
         } else {
             out[i] = 0;
@@ -135,9 +134,8 @@ fn take_plain<S: SymbolSource, T: Target>(
         → e < (T.pixels raster.old).depth
         → (place ≤ k → k < place + length marks.old → ⊥)
         → value_in (T.pixels raster.new) e k ≡ value_in (T.pixels raster.old) e k }
-    ensures ready { S.sound source.new }
-    ensures sources { S.kept source.new ≡ S.kept source.old }
-    ensures stop { IfErr result (λ f. S.stops (S.kept source.old) f) }
+    ensures source { LeavesSource (S.sound source.new) (S.kept source.old) (S.kept source.new)
+        S.stops result }
     ensures frame { KeepsMask (T.pixels raster.old) (T.pixels raster.new)
         (T.kept raster.old) (T.kept raster.new) }
 {
@@ -148,9 +146,9 @@ fn take_plain<S: SymbolSource, T: Target>(
     Ok(())
 }
 
-/// Gives the valid pixels of a raster of bytes the values that the symbols of a source say, in plain
-/// mode: pixel by pixel and depth innermost, taken in pieces. All else stays. Where the source stops,
-/// the values are any.
+/// Gives the valid pixels of a raster of bytes the values that the symbols of a source say, in
+/// plain mode: pixel by pixel and depth innermost, taken in pieces. All else stays. Where the
+/// source stops, the values are any.
 pub fn unplain_from<S: SymbolSource, T: Target>(
     source: &mut S,
     raster: &mut T,

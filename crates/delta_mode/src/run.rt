@@ -1,5 +1,5 @@
-//! Pieces of a row of which every pixel is valid, and their values from symbols: each but the first has
-//! the one before it as its predictor, so that no mark is looked at.
+//! Pieces of a row of which every pixel is valid, and their values from symbols: each but the first
+//! has the one before it as its predictor, so that no mark is looked at.
 
 ghost use Rattle.std.specs.Prelude.{◌≡◌, ℕ, pos, ◌+◌, ◌*◌, ◌%◌, ◌<◌, ◌≤◌, ◌++◌, ◌+ℤ◌, ◌-ℤ◌, ◌≤ℤ◌};
 ghost use Rattle.std.specs.Prelude.{true, List, length, get_or};
@@ -11,13 +11,13 @@ ghost use Rattle.delta_mode.specs.Deltas.{has_left, is_valid, last_value, predic
 ghost use Rattle.delta_mode.specs.inside.Pieces.{rank, IsAt, AreCoded, value_of_place};
 ghost use Rattle.delta_mode.specs.inside.Runs.{value_before};
 
-use super::full::added;
-use super::walk::{Walk, predicted, read_above};
+use super::full::bias_of;
+use super::walk::{Walk, predict, read_above};
 use raster_access::Target;
 use raster_values::PixelType;
 
 /// How far a value is above the type's least, by what is added to it.
-fn lifted(added: u8, value: i64) -> u8
+fn byte_above_least(added: u8, value: i64) -> u8
     requires low { pos 0 ≤ℤ (value +ℤ pos added) }
     requires high { (value +ℤ pos added) ≤ℤ pos 255 }
     ensures { pos result ≡ value +ℤ pos added }
@@ -27,7 +27,7 @@ fn lifted(added: u8, value: i64) -> u8
 
 /// The value that is so far above the type's least.
 #[inline(always)]
-pub(super) fn lowered(added: u8, byte: u8) -> i64
+pub(super) fn value_above_least(added: u8, byte: u8) -> i64
     ensures value { result ≡ pos byte -ℤ pos added }
     ensures byte { byte < 256 }
 {
@@ -49,17 +49,16 @@ fn find_run(kind: PixelType, predictor: i64, symbols: &[u8], out: &mut [i64])
     requires kind { IsByteType kind }
     requires predictor { InRange kind predictor }
     requires room { length out.old ≡ length symbols.now }
-    ensures room { length out.new ≡ length out.old }
     ensures in_range { (i : ℕ) → InRange kind (value_of_place out.new i) }
     ensures symbols { (i : ℕ) → i < length symbols.now → symbol_of kind
         (value_of_place out.new i -ℤ value_before predictor (value_of_place out.new) i)
         ≡ get_or symbols.now i 0 }
 {
-    let added = added(kind);
-    let mut byte = lifted(added, predictor);
+    let added = bias_of(kind);
+    let mut byte = byte_above_least(added, predictor);
     for i in 0..symbols.len() {
         byte = next_byte(added, byte, symbols[i]);
-        out[i] = lowered(added, byte);
+        out[i] = value_above_least(added, byte);
     }
 }
 
@@ -83,7 +82,7 @@ fn predictor_at<T: Target>(raster: &T, d: u32, place: usize, walk: Walk) -> i64
     let mut up = [false; 1];
     let mut above = [0; 1];
     read_above(raster, d, place, &mut up, &mut above);
-    predicted(false, up[0], above[0], walk.last)
+    predict(false, up[0], above[0], walk.last)
 }
 
 /// Gives the pixels of a piece of a row, from number `place` on, which are all valid, the values

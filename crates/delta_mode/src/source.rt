@@ -31,7 +31,6 @@ pub trait SymbolSource {
         requires sound { sound self.old }
         requires left { length out.old ≤ left self.old }
         ensures sound { sound self.new }
-        ensures room { length out.new ≡ length out.old }
         ensures given { (before : List ℕ) → has_given self.old before
             → OnOk result (has_given self.new (before ++ out.new)) }
         ensures left { OnOk result (left self.new + length out.old ≡ left self.old) }

@@ -11,7 +11,7 @@ ghost use Rattle.delta_mode.specs.inside.Pieces.{rank, left_of};
 ghost use Rattle.delta_mode.specs.inside.Starts.{between, mark_of, AreStarts, HasLast, HasSymbols};
 
 use super::byte_plane::BytePlane;
-use super::full::added;
+use super::full::bias_of;
 use raster_access::View;
 
 /// The symbol of a value less another one, by how far each is above the type's least.
@@ -31,7 +31,6 @@ pub(super) fn differences(bias: u32, distances: &[u32], count: usize, out: &mut 
     requires count { count < length distances.now }
     requires bytes { (j : ℕ) → j ≤ count → get_or distances.now j 0 < 256 }
     requires room { count ≤ length out.old }
-    ensures room { length out.new ≡ length out.old }
     ensures symbols { (j : ℕ) → j < count → get_or out.new j 0
         ≡ between bias (get_or distances.now (j + 1) 0) (get_or distances.now j 0) }
 {
@@ -109,7 +108,6 @@ fn write_start<V: View>(
     requires long { rank (mark_of (V.pixels plane.now.raster.now) place) count
         < length distances.now }
     requires room { rank (mark_of (V.pixels plane.now.raster.now) place) count ≤ length out.old }
-    ensures room { length out.new ≡ length out.old }
     ensures here { get_or out.new (rank (mark_of (V.pixels plane.now.raster.now) place)
         (count - 1 - bit)) 0
         ≡ delta (V.pixels plane.now.raster.now).kind (V.pixels plane.now.raster.now).cols
@@ -120,7 +118,7 @@ fn write_start<V: View>(
         → j ≢ rank (mark_of (V.pixels plane.now.raster.now) place) (count - 1 - bit)
         → get_or out.new j 0 ≡ get_or out.old j 0 }
 {
-    let bias = u32::from(added(plane.raster.kind()));
+    let bias = u32::from(bias_of(plane.raster.kind()));
     let before = (marks >> bit).count_ones() as usize - 1;
     let at = place + (count - 1 - bit as usize);
     let predictor = predictor_above(plane, at, distances[before]);
@@ -148,7 +146,6 @@ pub(super) fn write_starts<V: View>(
     requires room { rank (mark_of (V.pixels plane.now.raster.now) place) count ≤ length out.old }
     requires symbols { HasSymbols (V.pixels plane.now.raster.now) plane.now.d place count starts
         out.old }
-    ensures room { length out.new ≡ length out.old }
     ensures symbols { HasSymbols (V.pixels plane.now.raster.now) plane.now.d place count 0 out.new }
 {
     let mut rest = starts;

@@ -20,9 +20,20 @@ pub(super) struct Walk {
     pub(super) count: usize,
 }
 
+/// How far a depth is walked.
+#[derive(Clone, Copy)]
+pub(super) struct DepthWalk {
+    /// The depth.
+    pub(super) d: u32,
+    /// The number of the next pixel.
+    pub(super) place: usize,
+    /// What is kept in front of it.
+    pub(super) walk: Walk,
+}
+
 /// The predictor of a pixel: the value to the left where that is valid, which is then the last one,
 /// else the one above where that is valid, else the last one.
-pub(super) fn predicted(left: bool, up: bool, above: i64, last: i64) -> i64
+pub(super) fn predict(left: bool, up: bool, above: i64, last: i64) -> i64
     ensures { result ≡ predicted_by left up above last }
 {
     if !left && up { above } else { last }
@@ -52,9 +63,9 @@ pub(super) fn enter(walk: Walk, place: usize, cols: usize) -> Walk
     Walk { left, ..walk }
 }
 
-/// What is kept in front of pixel number `start`, where from number `place` on no pixel before it is
-/// valid.
-pub(super) fn passed(walk: Walk, place: usize, start: usize) -> Walk
+/// What is kept in front of pixel number `start`, where from number `place` on no pixel before it
+/// is valid.
+pub(super) fn pass_to(walk: Walk, place: usize, start: usize) -> Walk
     ensures left { result.left ≡ (nat_eq start place && walk.left) }
     ensures last { result.last ≡ walk.last }
     ensures count { result.count ≡ walk.count }
@@ -77,8 +88,6 @@ pub(super) fn read_above<T: Target>(
     requires within { place + length up.old
         ≤ (T.pixels raster.now).rows * (T.pixels raster.now).cols }
     requires room { length above.old ≡ length up.old }
-    ensures up_room { length up.new ≡ length up.old }
-    ensures above_room { length above.new ≡ length above.old }
     ensures up { (i : ℕ) → i < length up.old → mark_at up.new i
         ≡ has_upper (T.pixels raster.now).cols (is_valid (T.pixels raster.now)) (place + i) }
     ensures above { (i : ℕ) → i < length up.old → mark_at up.new i ≡ true

@@ -1,5 +1,5 @@
 -- What is read, what is made of it, and how that ends.
-use Rattle.std.proofs.Common.{◌≡◌, ℕ, ◌<◌, ◌≤◌, Bool, true, false, List, [], ◌∷◌, ◌++◌, length, take, drop, append_assoc, Option, Some, None, Result, Ok, Err, refl, sym, ap, subst, ◌∙◌, arith}
+use Rattle.std.proofs.Common.{◌≡◌, ℕ, ◌<◌, ◌≤◌, Bool, true, false, List, [], ◌∷◌, ◌++◌, length, take, drop, append_assoc, Option, Some, None, Result, Ok, Err, sym, ap, subst, ◌∙◌, arith}
 use Rattle.std.specs.Prelude.{IfErr, IfOk, IfSome}
 use Rattle.std.proofs.lemmas.List.{append-nil, take-append-drop}
 use Rattle.outside_io.specs.declared.streams.failed.Failed.{Failed}
@@ -22,7 +22,7 @@ use Rattle.grid_blobs.specs.declared.stop.InputReason.{InputReason}
 use Rattle.grid_blobs.specs.declared.stop.InputReason.TheVariants.{Grid, Leftover, DepthNeedsV4}
 use Rattle.grid_blobs.specs.declared.stop.InputStop.{InputStop}
 use Rattle.grid_blobs.specs.declared.stop.InputStop.TheVariants.{Fault, Source, OutOfMemory}
-use Rattle.grid_blobs.specs.Blobs.{AreBlobsOf, AreChosen}
+use Rattle.grid_blobs.specs.Blobs.{AreBlobsOf}
 use Rattle.grid_blobs.specs.Stops.{IsFirstFault, IsStopOf, OfDepths, SaysOfAny, grid_stop_of}
 use Rattle.grid_blobs.specs.inside.Reads.{MakesBlobs, ReadsGrid}
 

@@ -16,8 +16,8 @@ pub record AreChosen (version : Version) (error : ℕ) (bands : List Pixels) (bl
   pub declared : DeclareEach blobs bands version (step_of error)
   pub once : AreEncodedOnce blobs bands (step_of error)
 
--- The blobs are those of the bands of a grid, which the whole input is where it is told. The version
--- has a place for them.
+-- The blobs are those of the bands of a grid, which the whole input is where it is told. The
+-- version has a place for them.
 pub record AreBlobsOf (version : Version) (error : ℕ) (input : Option (List ℕ)) (blobs : List ℕ)
     : Type 0 where
   pub bands : List Pixels

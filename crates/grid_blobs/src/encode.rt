@@ -20,7 +20,7 @@ use raster_values::Bands;
 use std::alloc::Global;
 
 /// That a byte stands behind the grid.
-fn leftover(place: u64) -> InputStop
+fn leftover_stop(place: u64) -> InputStop
     ensures { result ≡ InputStop.Fault (record { reason = InputReason.Leftover; place = place }) }
 {
     InputStop::Fault(InputFault {
@@ -44,7 +44,7 @@ fn read_grid<S: Source>(alloc: Global, src: &mut S) -> Result<Bands, InputStop>
     };
     match has_more(src) {
         Ok(false) => Ok(bands),
-        Ok(true) => Err(leftover(bands_size(&bands))),
+        Ok(true) => Err(leftover_stop(bands_size(&bands))),
         Err(_) => Err(InputStop::Source),
     }
 }

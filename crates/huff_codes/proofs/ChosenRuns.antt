@@ -5,6 +5,7 @@ use Rattle.huff_codes.specs.Codes.{AreLengths}
 use Rattle.huff_codes.specs.declared.tables.table.SymbolRange.{SymbolRange}
 use Rattle.huff_codes.specs.Written.{HoldsUsed, IsShortestRun}
 use Rattle.huff_codes.specs.inside.Cutting.{place_in}
+use Rattle.huff_codes.specs.inside.Gaps.{IsGapBefore}
 use Rattle.huff_codes.proofs.Cutting.{symbol_place}
 use Rattle.huff_codes.proofs.Made.{some_length}
 
@@ -40,12 +41,74 @@ least_from lengths first gap count le used holds = elim (cases_lt count 256) [
   | inr more ↦ omega (arith, more)
 ]
 
-pub some_from : (lengths : List ℕ) (first count : ℕ) → AreLengths lengths → HoldsUsed lengths first count → 1 ≤ count
-some_from lengths first count h holds =
+-- ---- the gap before a symbol
+
+before_first : (g : ℕ) → g ≤ 255 → (0 + 255 - g) % 256 ≡ 255 - g
+before_first g le = omega (arith, le)
+
+pub gap_found : (lengths : List ℕ) (gap : ℕ) → gap ≤ 255 → ((g : ℕ) → g < gap → slice_index lengths (255 - g) ≡ 0) → 0 < slice_index lengths (255 - gap) → IsGapBefore lengths 0 gap
+gap_found lengths gap le none_ used = record {
+  unused = λ g lt. ap (slice_index lengths) (before_first g (omega (arith, lt, le))) ∙ none_ g lt;
+  used = subst (λ (n : ℕ). 0 < n) (sym (ap (slice_index lengths) (before_first gap le))) used;
+}
+
+-- where no later symbol has a length, the first one has
+first_used : (lengths : List ℕ) → ((g : ℕ) → g < 255 → slice_index lengths (255 - g) ≡ 0) → (s : ℕ) → s < 256 → 0 < slice_index lengths s → 0 < slice_index lengths 0
+first_used lengths none_ s lt used = elim (cases_lt 0 s) [
+  | inl later ↦
+      let e : 255 - (255 - s) ≡ s = omega (arith, lt) in
+      let zero_ : slice_index lengths s ≡ 0 = ap (slice_index lengths) (sym e) ∙ none_ (255 - s) (omega (arith, later)) in
+      absurd (omega (arith, zero_, used))
+  | inr none ↦ (let e : s ≡ 0 = omega (arith, none) in subst (λ (k : ℕ). 0 < slice_index lengths k) e used)
+]
+
+pub gap_whole : (lengths : List ℕ) → AreLengths lengths → ((g : ℕ) → g < 255 → slice_index lengths (255 - g) ≡ 0) → IsGapBefore lengths 0 255
+gap_whole lengths h none_ =
     let used = some_length lengths h in
-    let at = holds used.0 used.1.0 used.1.1 in
-    let lt = at.1.0 in
-    omega (arith, lt)
+    let e : 0 ≡ 255 - 255 = omega arith in
+    gap_found lengths 255 (omega arith) none_ (subst (λ (k : ℕ). 0 < slice_index lengths k) e (first_used lengths none_ used.0 used.1.0 used.1.1))
+
+-- behind a symbol that has a length
+pub gap_closed : (lengths : List ℕ) (s : ℕ) → s < 256 → 0 < slice_index lengths s → IsGapBefore lengths (s + 1) 0
+gap_closed lengths s lt used =
+    let e : s ≡ (s + 1 + 255 - 0) % 256 = omega (arith, lt) in record {
+      unused = λ g below. absurd (omega (arith, below));
+      used = subst (λ (k : ℕ). 0 < slice_index lengths k) e used;
+    }
+
+-- before a symbol that has none, the gap does not go all the way round
+pub gap_short : (lengths : List ℕ) (s gap : ℕ) → s < 256 → gap ≤ 255 → IsGapBefore lengths s gap → slice_index lengths s ≡ 0 → gap < 255
+gap_short lengths s gap lt le h none = elim (cases_lt gap 255) [
+  | inl less ↦ less
+  | inr full ↦
+      let e : (s + 255 - gap) % 256 ≡ s = omega (arith, lt, full, le) in
+      let used = h.used in
+      let zero_ : slice_index lengths ((s + 255 - gap) % 256) ≡ 0 = ap (slice_index lengths) e ∙ none in
+      absurd (omega (arith, zero_, used))
+]
+
+pub gap_grown : (lengths : List ℕ) (s gap : ℕ) → s < 256 → gap ≤ 255 → IsGapBefore lengths s gap → slice_index lengths s ≡ 0 → IsGapBefore lengths (s + 1) (gap + 1)
+gap_grown lengths s gap lt le h none = record {
+  unused = λ g below. elim (cases_lt 0 g) [
+    | inl later ↦
+        let back : s + 1 + 255 - g ≡ s + 255 - (g - 1) = omega (arith, later, below, le) in
+        ap (λ (n : ℕ). slice_index lengths (n % 256)) back ∙ h.unused (g - 1) (omega (arith, below, later))
+    | inr first ↦
+        let here : (s + 1 + 255 - g) % 256 ≡ s = omega (arith, first, lt) in
+        ap (slice_index lengths) here ∙ none
+  ];
+  used =
+      let short = gap_short lengths s gap lt le h none in
+      let back : s + 255 - gap ≡ s + 1 + 255 - (gap + 1) = omega (arith, short) in
+      subst (λ (n : ℕ). 0 < slice_index lengths (n % 256)) back h.used;
+}
+
+-- what is left without the gap is the shortest range that begins at the symbol
+pub gap_holds : (lengths : List ℕ) (s gap : ℕ) → s < 256 → gap ≤ 255 → IsGapBefore lengths s gap → HoldsUsed lengths s (256 - gap)
+gap_holds lengths s gap lt le h = holds_from lengths s gap lt le h.unused
+
+pub gap_least : (lengths : List ℕ) (s gap : ℕ) → gap ≤ 255 → IsGapBefore lengths s gap → (count : ℕ) → HoldsUsed lengths s count → 256 - gap ≤ count
+gap_least lengths s gap le h count holds = least_from lengths s gap count le h.used holds
 
 -- ---- the run is one
 
@@ -83,6 +146,11 @@ best_first lengths count some within holds least = record {
   where
     zero_is : (f : ℕ) → f < 1 → f ≡ 0
     zero_is f lt = omega (arith, lt)
+
+-- the range that begins at the first symbol
+pub best_begun : (lengths : List ℕ) (gap : ℕ) → gap ≤ 255 → IsGapBefore lengths 0 gap → IsBestBelow lengths (record { first = 0; count = 256 - gap }) 1
+best_begun lengths gap le h =
+    best_first lengths (256 - gap) (omega (arith, le)) (omega arith) (gap_holds lengths 0 gap (omega arith) le h) (gap_least lengths 0 gap le h)
 
 pub best_new : (lengths : List ℕ) (best : SymbolRange) (n count : ℕ) → IsBestBelow lengths best n → count < best.count → 0 < count → HoldsUsed lengths n count → ((k : ℕ) → HoldsUsed lengths n k → count ≤ k)
     → IsBestBelow lengths (record { first = n; count = count }) (n + 1)

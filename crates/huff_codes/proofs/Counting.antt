@@ -9,11 +9,11 @@ use Rattle.huff_codes.specs.Bits.{bits_of}
 use Rattle.huff_codes.specs.Tree.{Tree, share, is_before, used_below, after_joins}
 use Rattle.huff_codes.specs.Codes.{is_earlier, start_of, canonical_code}
 use Rattle.huff_codes.specs.Laws.{StandInOrder, JoinsTakeTheLeast, code_number, ComesNext, CanonicalCodesCountUp}
-use Rattle.huff_codes.specs.inside.Forests.{Each}
+use Rattle.huff_codes.specs.inside.Forests.{Each, InOrder}
 use Rattle.huff_codes.proofs.BitLists.{take-bits}
 use Rattle.huff_codes.proofs.Kraft.{sum-zero, sum-suc, sum-none, share-pos}
 use Rattle.huff_codes.proofs.Canonical.{IsEarlier, earlier_from, earlier_to, earlier_cases, before_of, start-is, before-in, before-out}
-use Rattle.huff_codes.proofs.Least.{InOrder, order_used, order_joined}
+use Rattle.huff_codes.proofs.Least.{order_used, order_joined}
 use Rattle.huff_codes.proofs.Order.{IsNextTo, value_next}
 
 -- ---- joins

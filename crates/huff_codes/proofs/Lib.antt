@@ -9,7 +9,8 @@ mod WordLaws
 mod Sides
 mod Made
 mod Putting
-mod Homes
+mod Joining
+mod Depths
 pub mod Uses
 mod Spans
 mod Order

@@ -1,11 +1,11 @@
 -- Symbols found by the first eleven bits, and the window of 64 bits that these are taken from.
-use Rattle.std.proofs.Common.{◌≡◌, ℕ, ◌+◌, ◌-◌, ◌*◌, ◌/◌, ◌%◌, ◌^◌, ◌<◌, ◌≤◌, Bool, List, [], ◌∷◌, ◌++◌, length, get_or, take, drop, slice_set, sym, ap, ◌∙◌, subst, inl, inr, arith}
+use Rattle.std.proofs.Common.{◌≡◌, ℕ, ◌+◌, ◌-◌, ◌*◌, ◌/◌, ◌%◌, ◌^◌, ◌<◌, ◌≤◌, Bool, List, [], ◌∷◌, ◌++◌, length, get_or, take, drop, slice_set, refl, sym, ap, ◌∙◌, subst, inl, inr, arith}
 use Rattle.std.specs.Prelude.{All}
 use Rattle.std.proofs.lemmas.Bool.{cases_eq}
-use Rattle.std.proofs.lemmas.List.{length-append, length-set, length-take-le, length-drop, take-take, take-append-drop, take-append-le, drop-append-le, drop-take, drop-drop, drop_at, append_assoc, append-nil, take_more_set, get_or-set_same, get_or-set_other}
+use Rattle.std.proofs.lemmas.List.{length-append, length-set, length-take-le, length-drop, take-take, take-append-drop, take_all, take-append-le, drop-append-le, drop-take, drop-drop, drop_at, append_assoc, append-nil, take_more_set, get_or-set_same, get_or-set_other}
 use Rattle.std.proofs.lemmas.List.Elements.{All-nil, All-push, All-append}
 use Rattle.std.proofs.Math.Seq.{take-append-add}
-use Rattle.std.proofs.lemmas.Nat.{pow-add, pow_pos, shr_high, shr_below, shr_split, mod_low, field_of}
+use Rattle.std.proofs.lemmas.Nat.{pow-add, pow_pos, shr_high, shr_below, shr_split, mod_low, mod_below, mod-pow-add, field_of}
 use Rattle.byteorder.specs.Endian.{little_number}
 use Rattle.huff_codes.specs.Bits.{bits_of, word_bits, BeginsWith}
 use Rattle.huff_codes.specs.Codes.{code_at, HasCode}
@@ -63,6 +63,97 @@ window_seen bytes rest bit a b long is first second lt =
           ∙ take-append-le 33 (drop skip (bits_of 64 v)) more (omega (arith, length-drop skip (bits_of 64 v), length-bits 64 v))
           ∙ ap (take 33) (sym (shifted 64 skip v (omega arith)))
           ∙ take-take 33 (64 - skip) (bits_of 64 w) low;
+    }
+
+-- ---- a window of three words
+
+-- a number shifted up in 64 bits, and one that fits below it
+shift_both : (x s q : ℕ) → s ≤ 64 → q < 2 ^ s → (x * 2 ^ s + q) % 2 ^ 64 ≡ (x % 2 ^ (64 - s)) * 2 ^ s + q
+shift_both x s q le lt =
+    let sum : (64 - s) + s ≡ 64 = omega (arith, le) in
+    ap (λ (k : ℕ). (x * 2 ^ s + q) % 2 ^ k) (sym sum) ∙ mod-pow-add (x * 2 ^ s + q) (64 - s) s
+    ∙ (λ i. (shr_high x s q lt i % 2 ^ (64 - s)) * 2 ^ s + mod_low x s q lt i)
+
+shift_low : (x s q : ℕ) → s ≤ 64 → q < 2 ^ s → (x * 2 ^ s + q) % 2 ^ 64 ≡ x * 2 ^ s % 2 ^ 64 + q
+shift_low x s q le lt =
+    let none : x * 2 ^ s ≡ x * 2 ^ s + 0 = omega arith in
+    let alone : x * 2 ^ s % 2 ^ 64 ≡ (x % 2 ^ (64 - s)) * 2 ^ s + 0 = ap (λ (y : ℕ). y % 2 ^ 64) none ∙ shift_both x s 0 le (pow_pos s) in
+    let back : (x % 2 ^ (64 - s)) * 2 ^ s + q ≡ x * 2 ^ s % 2 ^ 64 + q = ap (λ (y : ℕ). y + q) (sym (alone ∙ (let e : (x % 2 ^ (64 - s)) * 2 ^ s + 0 ≡ (x % 2 ^ (64 - s)) * 2 ^ s = omega arith in e))) in
+    shift_both x s q le lt ∙ back
+
+-- the first bits of the third word
+third_low : (s c : ℕ) → s ≤ 32 → c < 2 ^ 32 → c / 2 ^ (32 - s) < 2 ^ s
+third_low s c le lt = (let sum : s + (32 - s) ≡ 32 = omega (arith, le) in shr_below c s (32 - s) (rw sum lt))
+
+pub wide_fits : (x s c : ℕ) → s < 32 → c < 2 ^ 32 → x * 2 ^ s % 2 ^ 64 + c / 2 ^ (32 - s) < 2 ^ 64
+wide_fits x s c below lt =
+    let q = c / 2 ^ (32 - s) in
+    let is : (x * 2 ^ s + q) % 2 ^ 64 ≡ x * 2 ^ s % 2 ^ 64 + q = shift_low x s q (omega (arith, below)) (third_low s c (omega (arith, below)) lt) in
+    subst (λ (n : ℕ). n < 2 ^ 64) is (mod_below (x * 2 ^ s + q) (2 ^ 64) (pow_pos 64))
+
+-- the 64 bits from a place on, of 96
+wide_top : (x s c : ℕ) → s < 32 → (x * 2 ^ 32 + c) / 2 ^ (32 - s) ≡ x * 2 ^ s + c / 2 ^ (32 - s)
+wide_top x s c below =
+    let t = 32 - s in
+    let q = c / 2 ^ t in
+    let sum : 32 ≡ s + t = omega (arith, below) in
+    let pow : x * 2 ^ 32 ≡ x * 2 ^ s * 2 ^ t = ap (λ (k : ℕ). x * 2 ^ k) sum ∙ ap (λ (y : ℕ). x * y) (pow-add 2 s t) ∙ times_through x (2 ^ s) (2 ^ t) in
+    let split : x * 2 ^ 32 + c ≡ (x * 2 ^ s + q) * 2 ^ t + c % 2 ^ t =
+    ap (λ (y : ℕ). y + c) pow ∙ ap (λ (y : ℕ). x * 2 ^ s * 2 ^ t + y) (sym (shr_split c t)) ∙ join_times (x * 2 ^ s) q (2 ^ t) (c % 2 ^ t) in
+    ap (λ (y : ℕ). y / 2 ^ t) split ∙ shr_high (x * 2 ^ s + q) t (c % 2 ^ t) (mod_below c (2 ^ t) (pow_pos t))
+  where
+    times_through : (a b m : ℕ) → a * (b * m) ≡ a * b * m
+    times_through a b m = grind arith
+
+    join_times : (a b m r : ℕ) → a * m + (b * m + r) ≡ (a + b) * m + r
+    join_times a b m r = grind arith
+
+wide_bits : (x skip c w : ℕ) → skip < 32 → c < 2 ^ 32 → w ≡ x * 2 ^ skip % 2 ^ 64 + c / 2 ^ (32 - skip) → take 64 (drop skip (bits_of 96 (x * 2 ^ 32 + c))) ≡ bits_of 64 w
+wide_bits x skip c w below lt is =
+    let v = x * 2 ^ 32 + c in
+    let sum : skip + (96 - skip) ≡ 96 = omega (arith, below) in
+    let less : (96 - skip) - 64 ≡ 32 - skip = omega (arith, below) in
+    let q = c / 2 ^ (32 - skip) in
+    let number : v / 2 ^ (32 - skip) % 2 ^ 64 ≡ w =
+    ap (λ (y : ℕ). y % 2 ^ 64) (wide_top x skip c below) ∙ shift_low x skip q (omega (arith, below)) (third_low skip c (omega (arith, below)) lt) ∙ sym is in
+    ap (take 64) (ap (λ (k : ℕ). drop skip (bits_of k v)) (sym sum) ∙ drop-bits skip (96 - skip) v)
+    ∙ take-bits 64 (96 - skip) v (omega (arith, below))
+    ∙ ap (λ (k : ℕ). bits_of 64 (v / 2 ^ k)) less
+    ∙ sym (bits-low 64 64 (v / 2 ^ (32 - skip)) (omega arith))
+    ∙ ap (bits_of 64) number
+
+-- three words, as they are seen from a bit of the first on
+pub wide_seen : (bytes rest : List ℕ) (bit a b c : ℕ) → bit / 32 * 4 + 12 ≤ length bytes → rest ≡ take (length bytes - bit / 32 * 4) (drop (bit / 32 * 4) bytes)
+    → a ≡ little_number 4 rest → b ≡ little_number 4 (drop 4 rest) → c ≡ little_number 4 (drop 8 rest) → b < 2 ^ 32 → c < 2 ^ 32
+    → IsSeen 64 ((a * 2 ^ 32 + b) * 2 ^ (bit % 32) % 2 ^ 64 + c / 2 ^ (32 - bit % 32)) (drop bit (word_bits bytes))
+wide_seen bytes rest bit a b c long is first second third b_lt c_lt =
+    let skip = bit % 32 in
+    let below : skip < 32 = omega arith in
+    let x = a * 2 ^ 32 + b in
+    let v = x * 2 ^ 32 + c in
+    let w = x * 2 ^ skip % 2 ^ 64 + c / 2 ^ (32 - skip) in
+    let size : 12 ≤ length rest = omega (arith, ap length is, length-take-le (length bytes - bit / 32 * 4) (drop (bit / 32 * 4) bytes) (omega (arith, length-drop (bit / 32 * 4) bytes))) in
+    let eight : drop 4 (drop 4 rest) ≡ drop 8 rest = drop-drop 4 4 rest in
+    let more = word_bits (drop 4 (drop 8 rest)) in
+    let one : word_bits rest ≡ bits_of 32 a ++ word_bits (drop 4 rest) = word_first rest (omega (arith, size)) ∙ ap (λ (y : ℕ). bits_of 32 y ++ word_bits (drop 4 rest)) (sym first) in
+    let two : word_bits (drop 4 rest) ≡ bits_of 32 b ++ word_bits (drop 8 rest) =
+    word_first (drop 4 rest) (omega (arith, size, length-drop 4 rest)) ∙ ap (λ (y : ℕ). bits_of 32 y ++ word_bits (drop 4 (drop 4 rest))) (sym second)
+    ∙ ap (λ (xs : List ℕ). bits_of 32 b ++ word_bits xs) eight in
+    let three : word_bits (drop 8 rest) ≡ bits_of 32 c ++ more =
+    word_first (drop 8 rest) (omega (arith, size, length-drop 8 rest)) ∙ ap (λ (y : ℕ). bits_of 32 y ++ more) (sym third) in
+    let front : word_bits rest ≡ bits_of 64 x ++ word_bits (drop 8 rest) =
+    one ∙ ap (λ (bs : List Bool). bits_of 32 a ++ bs) two ∙ sym (append_assoc (bits_of 32 a) (bits_of 32 b) (word_bits (drop 8 rest)))
+    ∙ ap (λ (bs : List Bool). bs ++ word_bits (drop 8 rest)) (bits-append 32 32 a b b_lt) in
+    let all : word_bits rest ≡ bits_of 96 v ++ more =
+    front ∙ ap (λ (bs : List Bool). bits_of 64 x ++ bs) three ∙ sym (append_assoc (bits_of 64 x) (bits_of 32 c) more)
+    ∙ ap (λ (bs : List Bool). bs ++ more) (bits-append 64 32 x c c_lt) in
+    let within : bit ≤ 32 * (length bytes / 4) = omega (arith, long) in
+    record {
+      low = omega arith;
+      same = ap (take 64) (sym (words_from bytes rest bit within is) ∙ ap (drop skip) all ∙ drop-append-le skip (bits_of 96 v) more (omega (arith, below, length-bits 96 v)))
+          ∙ take-append-le 64 (drop skip (bits_of 96 v)) more (omega (arith, below, length-drop skip (bits_of 96 v), length-bits 96 v))
+          ∙ wide_bits x skip c w below c_lt refl
+          ∙ sym (take_all 64 (bits_of 64 w) (omega (arith, length-bits 64 w)));
     }
 
 pub seen_less : (n m word : ℕ) (left : List Bool) → n ≤ m → IsSeen m word left → IsSeen n word left

@@ -1,12 +1,12 @@
 -- Where codes begin, on the way through the symbols.
 use Rattle.std.proofs.Common.{◌≡◌, ◌≢◌, ℕ, ◌+◌, ◌^◌, ◌<◌, ◌≤◌, ◌&&◌, ◌||◌, nat_eq, nat_lt, Bool, true, false, cond, List, slice_index, refl, sym, ap, ◌∙◌, inl, inr, arith}
-use Rattle.std.proofs.lemmas.Bool.{cases_Bool, cases_lt, eq-eqb, ne_eqb, ltb-false, lt-ltb, le-ltb, and_right}
+use Rattle.std.proofs.lemmas.Bool.{cases_Bool, cases_lt, eq-eqb, ne_eqb, ltb-false, le-ltb, and_right}
 use Rattle.std.proofs.lemmas.Bool.Decides.{nat_tests}
 use Rattle.huff_codes.specs.Sums.{sum_below}
 use Rattle.huff_codes.specs.Tree.{share}
 use Rattle.huff_codes.specs.Codes.{AreLengths, is_earlier, start_of}
-use Rattle.huff_codes.specs.inside.Places.{is_counted, counted_share, place_of}
-use Rattle.huff_codes.proofs.Kraft.{sum-more, sum-same, sum-add, sum-one, sum-none, share-zero}
+use Rattle.huff_codes.specs.inside.Places.{is_counted, counted_share, length_share, length_shares, place_of}
+use Rattle.huff_codes.proofs.Kraft.{sum-same, sum-add, sum-one, sum-none, share-zero}
 use Rattle.huff_codes.proofs.Canonical.{start_fits}
 
 pub place_is_start : (lengths : List ℕ) (s : ℕ) → place_of lengths s (slice_index lengths s) ≡ start_of lengths s
@@ -98,15 +98,41 @@ start-lt lengths s h lt = elim (cases_lt 0 (slice_index lengths s)) [
   | inr none ↦ omega (arith, start_none lengths s (omega arith))
 ]
 
--- one step of the sum of shorter codes
-pub shorter_more : (lengths : List ℕ) (l i : ℕ) → slice_index lengths i < l → sum_below (i + 1) (counted_share lengths 0 l) ≡ sum_below i (counted_share lengths 0 l) + share (slice_index lengths i)
-shorter_more lengths l i h =
-    let t : nat_lt (slice_index lengths i) l ≡ true = lt-ltb (slice_index lengths i) l h in
-    let v : counted_share lengths 0 l i ≡ share (slice_index lengths i) = counted_first lengths l i ∙ ap (λ (b : Bool). cond b (share (slice_index lengths i)) 0) t in
-    omega (arith, sum-more i (counted_share lengths 0 l), v)
+-- ---- the first place of each length, by what the codes of each length take
 
-pub shorter_same : (lengths : List ℕ) (l i : ℕ) → l ≤ slice_index lengths i → sum_below (i + 1) (counted_share lengths 0 l) ≡ sum_below i (counted_share lengths 0 l)
-shorter_same lengths l i h =
-    let t : nat_lt (slice_index lengths i) l ≡ false = le-ltb (slice_index lengths i) l h in
-    let v : counted_share lengths 0 l i ≡ 0 = counted_first lengths l i ∙ ap (λ (b : Bool). cond b (share (slice_index lengths i)) 0) t in
-    omega (arith, sum-more i (counted_share lengths 0 l), v)
+pub length_share-same : (lengths : List ℕ) (l t : ℕ) → slice_index lengths t ≡ l → length_share lengths l t ≡ share (slice_index lengths t)
+unfolding length_share
+length_share-same lengths l t e = rw (eq-eqb (slice_index lengths t) l e) refl
+
+pub length_share-other : (lengths : List ℕ) (l t : ℕ) → slice_index lengths t ≢ l → length_share lengths l t ≡ 0
+unfolding length_share
+length_share-other lengths l t ne = rw (ne_eqb (slice_index lengths t) l ne) refl
+
+pub length_shares-is : (lengths : List ℕ) (l : ℕ) → length_shares lengths l ≡ sum_below 256 (length_share lengths l)
+unfolding length_shares
+length_shares-is lengths l = refl
+
+-- no code is shorter than 0
+none_shorter : (x v : ℕ) → cond (nat_lt x 0) v 0 ≡ 0
+none_shorter x v = (let none : nat_lt x 0 ≡ false = le-ltb x 0 (omega arith) in rw none refl)
+
+pub place_first : (lengths : List ℕ) → place_of lengths 0 0 ≡ 0
+place_first lengths =
+    place-is lengths 0 0 ∙ sum-none 256 (counted_share lengths 0 0) (λ t below. counted_first lengths 0 t ∙ none_shorter (slice_index lengths t) (share (slice_index lengths t)))
+
+shorter_numbers : (x l v : ℕ) → cond (nat_lt x (l + 1)) v 0 ≡ cond (nat_lt x l) v 0 + cond (nat_eq x l) v 0
+shorter_numbers x l v = grind (arith, nat_tests)
+
+-- a code is shorter than l + 1 where it is shorter than l, or has this length
+shorter_next : (lengths : List ℕ) (l t : ℕ) → counted_share lengths 0 (l + 1) t ≡ counted_share lengths 0 l t + length_share lengths l t
+unfolding length_share
+shorter_next lengths l t =
+    counted_first lengths (l + 1) t ∙ shorter_numbers (slice_index lengths t) l (share (slice_index lengths t))
+    ∙ ap (λ (n : ℕ). n + cond (nat_eq (slice_index lengths t) l) (share (slice_index lengths t)) 0) (sym (counted_first lengths l t))
+
+-- the codes of the next length begin behind those of this one
+pub place_next : (lengths : List ℕ) (l : ℕ) → place_of lengths 0 (l + 1) ≡ place_of lengths 0 l + length_shares lengths l
+place_next lengths l =
+    let both : sum_below 256 (counted_share lengths 0 (l + 1)) ≡ sum_below 256 (λ t. counted_share lengths 0 l t + length_share lengths l t) =
+    sum-same 256 (counted_share lengths 0 (l + 1)) (λ t. counted_share lengths 0 l t + length_share lengths l t) (λ t below. shorter_next lengths l t) in
+    omega (arith, place-is lengths 0 (l + 1), place-is lengths 0 l, both, sum-add 256 (counted_share lengths 0 l) (length_share lengths l), length_shares-is lengths l)

@@ -18,7 +18,8 @@ pub record AreBegun (w : Writing) (bytes symbols : List ℕ) : Type 0 where
   pub within : w.place ≤ length bytes
   pub same : joined_codes w.codes symbols ≡ word_bits (take w.place bytes) ++ w.waiting
 
--- the words of what is written so far and of these symbols, and the further word, fit into the bytes
+-- the words of what is written so far and of these symbols, and the further word, fit into the
+-- bytes
 abbrev pub HasRoom : Writing → List ℕ → List ℕ → Type 0
 HasRoom w bytes symbols = (before : List ℕ)
     × (AreBegun w bytes before × (written_size w.codes (before ++ symbols) ≤ length bytes))

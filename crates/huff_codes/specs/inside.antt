@@ -3,6 +3,7 @@ pub mod Spans
 pub mod Stored
 pub mod Reading
 pub mod Places
+pub mod Gaps
 pub mod Nodes
 pub mod Forests
 pub mod Cutting

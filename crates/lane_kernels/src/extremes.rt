@@ -18,8 +18,8 @@ pub fn range(values: &[i64]) -> Option<(i64, i64)>
     Some((least_from(least, rest), greatest_from(greatest, rest)))
 }
 
-/// The least and the greatest of a number and of whole eights of values: in each of eight lanes those
-/// of every eighth value, and of the lanes at the end.
+/// The least and the greatest of a number and of whole eights of values: in each of eight lanes
+/// those of every eighth value, and of the lanes at the end.
 fn ends_of_eights(first: i64, values: &[i64]) -> (i64, i64)
     requires eights { length values.now % 8 ≡ 0 }
     ensures least { result.0 ≡ fold int_min first values.now }

@@ -7,8 +7,8 @@ ghost use Rattle.lane_kernels.specs.inside.Lanes.{AreLanes};
 
 use std::simd::i64x8;
 
-/// The first eight values as lanes. They are read one by one, since of a number that is read so it is
-/// known that it has 64 bits.
+/// The first eight values as lanes. They are read one by one, since of a number that is read so it
+/// is known that it has 64 bits.
 #[inline(always)]
 pub(crate) fn eight_of(values: &[i64]) -> i64x8
     requires room { 8 ≤ length values.now }

@@ -1,6 +1,6 @@
 -- Bands laid into arrays, one behind the other.
-use Rattle.std.proofs.Common.{◌≡◌, ℕ, ◌+◌, ◌*◌, ◌<◌, ◌≤◌, zero, suc, List, [], ◌∷◌, ◌++◌, length, take, drop, Option, None, Some, refl, sym, ap, ◌∙◌, subst, arith, append_assoc, length-append}
-use Rattle.std.specs.Prelude.{All, IfSome, slice_get}
+use Rattle.std.proofs.Common.{◌≡◌, ℕ, ◌+◌, ◌*◌, zero, suc, List, [], ◌∷◌, ◌++◌, length, take, drop, Option, Some, refl, sym, ap, ◌∙◌, subst, arith, append_assoc}
+use Rattle.std.specs.Prelude.{IfSome, slice_get}
 use Rattle.std.specs.List.{flat_map}
 use Rattle.std.proofs.lemmas.List.{append-nil, take_at, drop_at, drop-drop, take_more}
 use Rattle.std.proofs.lemmas.List.Concat.{flat_map-cons}
@@ -10,7 +10,7 @@ use Rattle.std.proofs.Math.Nat.{add-mul}
 use Rattle.raster_values.specs.Raster.{Pixels}
 use Rattle.raster_values.specs.Places.{SameShape}
 use Rattle.raster_values.specs.Order.{IsMaskOf}
-use Rattle.raster_values.specs.Bands.{IsLike, AreBands}
+use Rattle.raster_values.specs.Bands.{AreBands}
 use Rattle.lerc_c.specs.Arrays.{values_size, mask_array_size}
 use Rattle.lerc_c.specs.BandArrays.{AreMasks, HaveBandSizes, cells_of}
 
@@ -48,6 +48,16 @@ pub sizes_of : (bands : List Pixels) (first : Pixels) (n values masks : ℕ) →
 sizes_of [] first n values masks start h = absurd h
 sizes_of (s ∷ more) first n values masks start h =
     subst (λ (o : Option Pixels). IfSome o (λ f. (values ≡ n * values_size f.kind f.rows f.cols f.depth) × (masks ≡ n * mask_array_size f.rows f.cols))) start (h.1.0, h.1.1)
+
+pub same_count : (bands : List Pixels) (n values masks : ℕ) → HaveBandSizes bands n values masks → n ≡ length bands
+same_count [] n values masks h = absurd h
+same_count (s ∷ more) n values masks h = h.0
+
+-- arrays of masks that bands ask for have one length
+pub masks_once : (bands : List Pixels) (first : Pixels) (n values masks other : ℕ) → slice_get bands 0 ≡ Some first → other ≡ length bands * mask_array_size first.rows first.cols → HaveBandSizes bands n values masks → HaveBandSizes bands n values other
+masks_once bands first n values masks other start is h =
+    let same : masks ≡ other = (sizes_of bands first n values masks start h).1 ∙ ap (λ k. k * mask_array_size first.rows first.cols) (same_count bands n values masks h) ∙ sym is in
+    subst (λ k. HaveBandSizes bands n values k) same h
 
 pub same_values_size : (r s : Pixels) → SameShape r s → values_size r.kind r.rows r.cols r.depth ≡ values_size s.kind s.rows s.cols s.depth
 same_values_size r s e = λ i. values_size (e.kind i) (e.rows i) (e.cols i) (e.depth i)

@@ -3,4 +3,6 @@ mod Giving
 mod Repeating
 mod BandGiving
 mod BandLaying
+mod BandHolding
+mod HeadedTiles
 mod ReasonNames

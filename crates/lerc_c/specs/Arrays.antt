@@ -1,8 +1,9 @@
 -- Rasters as arrays of their values and of the bytes of their masks.
-use Rattle.std.specs.Prelude.{◌≡◌, ℕ, ◌+◌, ◌*◌, ◌/◌, ◌<◌, ◌≤◌, Bool, true, List, length, get_or, drop, ◌++◌, is_some, None, nat_eq, if◌then◌else◌}
+use Rattle.std.specs.Prelude.{◌≡◌, ℕ, ◌+◌, ◌*◌, ◌/◌, ◌<◌, ◌≤◌, ◌⊎◌, Bool, true, List, length, get_or}
+use Rattle.std.specs.Prelude.{drop, ◌++◌, is_some, None, nat_eq, if◌then◌else◌}
 use Rattle.raster_cells.specs.declared.kind.PixelType.{PixelType}
 use Rattle.raster_cells.specs.PixelType.{bytes_of, code_of, Spells}
-use Rattle.raster_values.specs.Raster.{Pixels, IsRaster}
+use Rattle.raster_values.specs.Raster.{Pixels, IsRaster, valid_count}
 use Rattle.raster_cells.specs.Shapes.{HasZero, IsTooLarge}
 use Rattle.raster_cells.specs.Values.{values_bytes}
 use Rattle.raster_values.specs.Flat.{all_values, value_in}
@@ -28,6 +29,16 @@ pub record HaveSizes (r : Pixels) (values mask : ℕ) : Type 0 where
   pub values_is : values ≡ values_size r.kind r.rows r.cols r.depth
   pub mask_is : mask ≡ mask_array_size r.rows r.cols
 
+-- every pixel is valid
+abbrev pub IsFull : Pixels → Type 0
+IsFull r = valid_count r ≡ r.rows * r.cols
+
+-- and there is no array of a mask, which then says nothing that is not known
+pub record NeedsNoMask (r : Pixels) (values mask : ℕ) : Type 0 where
+  pub none : mask ≡ 0
+  pub full : IsFull r
+  pub values_is : values ≡ values_size r.kind r.rows r.cols r.depth
+
 -- ---- a blob in
 
 -- some first bytes are a blob, and the arrays have the values of its raster, 0 where a pixel is
@@ -39,12 +50,29 @@ pub record AreDecoded (bytes values mask : List ℕ) : Type 0 where
   pub values_are : values ≡ values_bytes raster.kind (all_values raster)
   pub mask_is : IsMaskOf raster mask
 
--- some first bytes are a blob, and the arrays are not as long as its raster asks for
+-- some first bytes are a blob every pixel of which is valid, the array of values has those of its
+-- raster, and there is no array of a mask
+pub record AreWholeDecoded (bytes values : List ℕ) (mask : ℕ) : Type 0 where
+  pub raster : Pixels
+  pub size : ℕ
+  pub done : IsDone bytes raster size
+  pub none : mask ≡ 0
+  pub full : IsFull raster
+  pub values_are : values ≡ values_bytes raster.kind (all_values raster)
+
+-- the one or the other
+abbrev pub AreDecodedInto : List ℕ → List ℕ → List ℕ → Type 0
+AreDecodedInto bytes values mask =
+    AreDecoded bytes values mask ⊎ AreWholeDecoded bytes values (length mask)
+
+-- some first bytes are a blob, and the arrays are not as long as its raster asks for, with a mask
+-- or without one
 pub record IsMisfit (bytes : List ℕ) (values mask : ℕ) : Type 0 where
   pub raster : Pixels
   pub size : ℕ
   pub done : IsDone bytes raster size
   pub other : ¬ HaveSizes raster values mask
+  pub needed : ¬ NeedsNoMask raster values mask
 
 -- ---- a blob out
 

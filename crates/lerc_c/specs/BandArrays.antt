@@ -1,19 +1,20 @@
 -- Bands as arrays that lie band behind band.
-use Rattle.std.specs.Prelude.{◌≡◌, ℕ, ◌*◌, ◌<◌, ◌≤◌, ◌⊎◌, List, [], ◌∷◌, ◌++◌, suc, length, take, drop, nat_lt, if◌then◌else◌}
+use Rattle.std.specs.Prelude.{◌≡◌, ℕ, ◌*◌, ◌<◌, ◌≤◌, ◌⊎◌, List, [], ◌∷◌, ◌++◌, suc, length, take}
+use Rattle.std.specs.Prelude.{All, drop, nat_lt, if◌then◌else◌}
 use Rattle.raster_cells.specs.declared.kind.PixelType.{PixelType}
 use Rattle.raster_values.specs.Raster.{Pixels}
 use Rattle.raster_cells.specs.Shapes.{HasZero, IsTooLarge}
 use Rattle.raster_values.specs.Bands.{AreBands}
 use Rattle.lerc_header.specs.declared.header.Version.{Version}
 use Rattle.lerc_encode.specs.Choice.{chosen_bands}
-use Rattle.lerc_encode.specs.Encoded.{AreEncodedOnce}
+use Rattle.lerc_encode.specs.Encoded.{AreEncodedOnce, BandsNeedV4}
 use Rattle.std.specs.Prelude.{None}
 use Rattle.std.specs.List.{flat_map}
 use Rattle.raster_cells.specs.Values.{values_bytes}
 use Rattle.raster_values.specs.Flat.{all_values}
 use Rattle.raster_values.specs.Order.{IsMaskOf}
 use Rattle.lerc_grammar.specs.Bands.{BandsBlob}
-use Rattle.lerc_c.specs.Arrays.{IsGiven, values_size, mask_array_size}
+use Rattle.lerc_c.specs.Arrays.{IsFull, IsGiven, values_size, mask_array_size}
 
 -- part number i of an array whose parts have this size
 abbrev pub part_at : ℕ → ℕ → List ℕ → List ℕ
@@ -54,12 +55,15 @@ pub record AreAllowed (rows cols depth n : ℕ) : Type 0 where
   pub few : n ≤ 16
   pub together : n * (rows * cols * depth) ≤ 16777216
 
--- the blobs of the bands that the arrays are have so many bytes: they are those that are chosen for
--- the bands, and of exactly one list of bands, each near the given one
+-- the blobs of the bands that the arrays are, which have a place in the version, have so many
+-- bytes: they are those that are chosen for the bands, and of exactly one list of bands, each near
+-- the given one
 pub record HaveBlobs (kind : PixelType) (rows cols depth n : ℕ) (values masks : List ℕ)
     (version : Version) (step size : ℕ) (blobs : List ℕ) : Type 0 where
   pub bands : List Pixels
+  pub sizes : GiveBandSizes kind rows cols depth n (length values) (length masks)
   pub given : AreGiven kind rows cols depth n values masks bands
+  pub fits : ¬ BandsNeedV4 version bands
   pub chosen : blobs ≡ chosen_bands None bands version step
   pub once : AreEncodedOnce blobs bands step
   pub size_is : size ≡ length blobs
@@ -105,8 +109,33 @@ pub record AreBandsDecoded (bytes : List ℕ) (n : ℕ) (values masks : List ℕ
   pub values_are : values ≡ flat_map cells_of bands
   pub masks_are : AreMasks masks bands
 
--- the bytes are the blobs of bands, of another number than is asked for or for other arrays
+-- every pixel of each band is valid, there is no array of masks, and that of values is as long as
+-- so many bands ask for
+pub record NeedNoMasks (bands : List Pixels) (n values masks : ℕ) : Type 0 where
+  pub none : masks ≡ 0
+  pub full : All IsFull bands
+  pub fit : (size : ℕ) × HaveBandSizes bands n values size
+
+-- the bytes are the blobs of so many bands every pixel of which is valid, the array of values has
+-- theirs, and there is no array of masks
+pub record AreWholeBandsDecoded (bytes : List ℕ) (n : ℕ) (values : List ℕ) (masks : ℕ) :
+    Type 0 where
+  pub bands : List Pixels
+  pub blobs : BandsBlob bytes bands
+  pub count : length bands ≡ n
+  pub none : masks ≡ 0
+  pub full : All IsFull bands
+  pub values_are : values ≡ flat_map cells_of bands
+
+-- the one or the other
+abbrev pub AreBandsDecodedInto : List ℕ → ℕ → List ℕ → List ℕ → Type 0
+AreBandsDecodedInto bytes n values masks =
+    AreBandsDecoded bytes n values masks ⊎ AreWholeBandsDecoded bytes n values (length masks)
+
+-- the bytes are the blobs of bands, of another number than is asked for or for other arrays, with
+-- masks or without
 pub record AreBandsMisfit (bytes : List ℕ) (n values masks : ℕ) : Type 0 where
   pub bands : List Pixels
   pub blobs : BandsBlob bytes bands
   pub other : ¬ HaveBandSizes bands n values masks
+  pub needed : ¬ NeedNoMasks bands n values masks

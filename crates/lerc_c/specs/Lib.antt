@@ -3,5 +3,6 @@ pub use Rattle.reason_names.specs.Names as ReasonNames
 pub mod Told
 pub mod Arrays
 pub mod BandArrays
+pub mod HeadedBands
 pub mod Names
 pub mod inside

@@ -4,7 +4,19 @@ use Rattle.raster_cells.specs.PixelType.{code_of}
 use Rattle.lerc_header.specs.declared.header.Header.{Header}
 use Rattle.lerc_header.specs.Head.{version_number}
 use Rattle.lerc_header.specs.declared.fault.BlobReason.{BlobReason}
-use Rattle.lerc_header.specs.declared.fault.BlobReason.TheVariants.{Truncated, BadKey, BadVersion, BadRows, BadCols, BadDepth, TooLarge, BadCount, BadBlockSize, BadBlobSize, FloatPixels, BadType, BadError, BadRange, BadChecksum, BadMaskLength, BadRun, BadMaskCount, MaskMissing, BadSweep, BadMode, BadBlockTag, BadOffsetCode, BadListHead, BadListCount, BadTable, BadIndex, BadCodeTable, NoCode, PastEnd, Leftover}
+use Rattle.lerc_header.specs.declared.fault.BlobReason.TheVariants.{Truncated, BadKey, BadVersion}
+use Rattle.lerc_header.specs.declared.fault.BlobReason.TheVariants.{BadRows, BadCols, BadDepth}
+use Rattle.lerc_header.specs.declared.fault.BlobReason.TheVariants.{TooLarge, BadCount}
+use Rattle.lerc_header.specs.declared.fault.BlobReason.TheVariants.{BadBlockSize, BadBlobSize}
+use Rattle.lerc_header.specs.declared.fault.BlobReason.TheVariants.{FloatPixels, BadType, BadError}
+use Rattle.lerc_header.specs.declared.fault.BlobReason.TheVariants.{BadRange, BadChecksum}
+use Rattle.lerc_header.specs.declared.fault.BlobReason.TheVariants.{BadMaskLength, BadRun}
+use Rattle.lerc_header.specs.declared.fault.BlobReason.TheVariants.{BadMaskCount, MaskMissing}
+use Rattle.lerc_header.specs.declared.fault.BlobReason.TheVariants.{BadSweep, BadMode, BadBlockTag}
+use Rattle.lerc_header.specs.declared.fault.BlobReason.TheVariants.{BadOffsetCode, BadListHead}
+use Rattle.lerc_header.specs.declared.fault.BlobReason.TheVariants.{BadListCount, BadTable}
+use Rattle.lerc_header.specs.declared.fault.BlobReason.TheVariants.{BadIndex, BadCodeTable, NoCode}
+use Rattle.lerc_header.specs.declared.fault.BlobReason.TheVariants.{PastEnd, Leftover}
 use Rattle.lerc_grammar.specs.Verdict.{FirstFault, IsMore}
 use Rattle.lerc_grammar.specs.declared.bands.BandReason.{BandReason}
 use Rattle.lerc_grammar.specs.declared.bands.BandReason.TheVariants.{Blob as OfBlob, BadBand}

@@ -1,16 +1,19 @@
 //! Tiles of bands decoded into arrays.
 
-ghost use Rattle.std.specs.Prelude.{◌≡◌, ◌+◌, ◌*◌, ◌<◌, ◌≤◌, ◌↔◌, ◌++◌, ℕ, List, IfOk, IfErr, OnOk, OnErr, IsTrue, length, take, drop};
+ghost use Rattle.std.specs.Prelude.{◌≡◌, ◌+◌, ◌*◌, ◌<◌, ◌≤◌, ◌↔◌, ◌++◌, ℕ, List, IfOk, IfErr, OnOk};
+ghost use Rattle.std.specs.Prelude.{All, OnErr, IsTrue, length, take, drop};
 ghost use Rattle.std.specs.List.{flat_map};
 ghost use Rattle.raster_values.specs.Raster.{Pixels};
 ghost use Rattle.raster_values.specs.Order.{IsMaskOf};
 ghost use Rattle.lerc_grammar.specs.Bands.{BandsBlob, BandsFaultAt};
 ghost use Rattle.lerc_decode.specs.Decoding.{HasHeader};
-ghost use Rattle.lerc_c.specs.Arrays.{mask_array_size};
-ghost use Rattle.lerc_c.specs.BandArrays.{AreBandsDecoded, AreMasks, HaveBandSizes, cells_of};
+ghost use Rattle.lerc_c.specs.Arrays.{IsFull, mask_array_size};
+ghost use Rattle.lerc_c.specs.BandArrays.{AreBandsDecodedInto, AreMasks, HaveBandSizes};
+ghost use Rattle.lerc_c.specs.BandArrays.{NeedNoMasks, cells_of};
 ghost use Rattle.lerc_c.specs.inside.Stops.{IsBandsArrayStop, IsCountStop};
 
 use crate::band_encoding::{band_size, mask_size};
+use crate::decoding::is_full;
 use lerc_decode::{BandsStop, decode_bands};
 use lerc_grammar::BandsFault;
 use raster_values::{Bands, Raster};
@@ -69,23 +72,76 @@ fn lay_mask(raster: &Raster, masks: &mut [u8], at: usize, size: usize)
     raster.mask_bytes(place);
 }
 
+/// Whether every pixel of each band is valid.
+fn are_full(bands: &Bands) -> bool
+    ensures { IsTrue result ↔ All IsFull bands.now }
+{
+    for i in 0..bands.len() {
+        let band = bands.at(i);
+        if !is_full(band) {
+            return false;
+        }
+    }
+    true
+}
+
+/// Whether so many bands are asked for, and an array of values of this length holds theirs.
+fn have_values_size(bands: &Bands, count: u32, values: usize) -> bool
+    ensures { IsTrue result ↔ ((size : ℕ) × HaveBandSizes bands.now count values size) }
+{
+    let n = bands.len();
+    let first = bands.at(0);
+    let mask = mask_size(first.rows(), first.cols());
+    have_band_sizes(bands, count, values, n * mask)
+}
+
+/// Whether so many bands are asked for, every pixel of which is valid, there is no array of masks,
+/// and one of values of this length holds theirs.
+fn need_no_masks(bands: &Bands, count: u32, values: usize, masks: usize) -> bool
+    ensures { IsTrue result ↔ NeedNoMasks bands.now count values masks }
+{
+    masks == 0 && have_values_size(bands, count, values) && are_full(bands)
+}
+
+/// Writes the values of the bands of a tile into an array.
+fn write_values(bands: &Bands, values: &mut [u8])
+    requires { (size : ℕ)
+        × HaveBandSizes bands.now (length bands.now) (length values.old) size }
+    ensures { values.new ≡ flat_map cells_of bands.now }
+{
+    let first = bands.at(0);
+    let size = band_size(first.kind(), first.rows(), first.cols(), first.depth());
+    for i in 0..bands.len() {
+        let band = bands.at(i);
+        lay(values, i * size, band.cells());
+    }
+}
+
+/// Writes the masks of the bands of a tile into an array.
+fn write_masks(bands: &Bands, masks: &mut [u8])
+    requires { (size : ℕ) × HaveBandSizes bands.now (length bands.now) size (length masks.old) }
+    ensures { AreMasks masks.new bands.now }
+{
+    let first = bands.at(0);
+    let mask = mask_size(first.rows(), first.cols());
+    for i in 0..bands.len() {
+        let band = bands.at(i);
+        lay_mask(band, masks, i * mask, mask);
+    }
+}
+
 /// Writes the bands of a tile into arrays.
 fn write_bands(bands: &Bands, values: &mut [u8], masks: &mut [u8])
     requires { HaveBandSizes bands.now (length bands.now) (length values.old) (length masks.old) }
     ensures values { values.new ≡ flat_map cells_of bands.now }
     ensures masks { AreMasks masks.new bands.now }
 {
-    let first = bands.at(0);
-    let size = band_size(first.kind(), first.rows(), first.cols(), first.depth());
-    let mask = mask_size(first.rows(), first.cols());
-    for i in 0..bands.len() {
-        let band = bands.at(i);
-        lay(values, i * size, band.cells());
-        lay_mask(band, masks, i * mask, mask);
-    }
+    write_values(bands, values);
+    write_masks(bands, masks);
 }
 
-/// Decodes the tile that all the bytes are into arrays, which stay as they are where it fails.
+/// Decodes the tile that all the bytes are into arrays, which stay as they are where it fails. No
+/// array of masks is asked for where every pixel of each band is valid.
 pub(crate) fn decode_bands_into(
     alloc: Global,
     blob: &[u8],
@@ -93,7 +149,7 @@ pub(crate) fn decode_bands_into(
     values: &mut [u8],
     masks: &mut [u8],
 ) -> Result<(), BandsDecodeStop>
-    ensures ok { OnOk result (AreBandsDecoded blob.now count values.new masks.new) }
+    ensures ok { OnOk result (AreBandsDecodedInto blob.now count values.new masks.new) }
     ensures stop { IfErr result (λ stop. IsBandsArrayStop
         blob.now count (length values.old) (length masks.old) stop) }
     ensures kept { OnErr result ((values.new ≡ values.old) × (masks.new ≡ masks.old)) }
@@ -103,6 +159,10 @@ pub(crate) fn decode_bands_into(
         Err(BandsStop::Fault(fault)) => return Err(BandsDecodeStop::Refused(fault)),
         Err(BandsStop::OutOfMemory) => return Err(BandsDecodeStop::OutOfMemory),
     };
+    if need_no_masks(&bands, count, values.len(), masks.len()) {
+        write_values(&bands, values);
+        return Ok(());
+    }
     if !have_band_sizes(&bands, count, values.len(), masks.len()) {
         return Err(BandsDecodeStop::Sizes);
     }

@@ -1,12 +1,16 @@
 //! Arrays of bands encoded into blobs.
 
-ghost use Rattle.std.specs.Prelude.{◌≡◌, ◌+◌, ◌*◌, ◌<◌, ◌≤◌, ◌⊎◌, ◌↔◌, IfOk, IfErr, IfSome, OnOk, OnErr, IsTrue, length};
+ghost use Rattle.std.specs.Prelude.{◌≡◌, ◌+◌, ◌*◌, ◌<◌, ◌≤◌, ◌⊎◌, ◌↔◌, length};
+ghost use Rattle.std.specs.Prelude.{IfOk, IfErr, IfSome, OnOk, OnErr, IsTrue};
 ghost use Rattle.raster_cells.specs.Shapes.{IsShape};
 ghost use Rattle.lerc_header.specs.Written.{step_of};
 ghost use Rattle.lerc_c.specs.Arrays.{GivesSizes, IsGiven, values_size, mask_array_size};
-ghost use Rattle.lerc_c.specs.BandArrays.{AreAllowed, AreGiven, AreEncodedInto, GiveBandSizes, mask_for, part_at};
+ghost use Rattle.lerc_c.specs.BandArrays.{AreAllowed, AreEncodedInto, GiveBandSizes, mask_for};
+ghost use Rattle.lerc_c.specs.BandArrays.{part_at};
+ghost use Rattle.lerc_c.specs.inside.Given.{AreGivenBy};
 ghost use Rattle.lerc_c.specs.inside.Stops.{AreFit, IsBandsArgumentStop, IsBandsEncodeStop};
 
+use crate::arrays::{BandArrays, FitArrays, FitBandArrays, RasterArrays};
 use crate::band_rasters::raster_given;
 use crate::encoding::EncodeStop;
 use lerc_encode::{EncodeFault, encode_bands};
@@ -51,24 +55,19 @@ pub(crate) fn mask_size(rows: u32, cols: u32) -> usize
     (rows as usize * cols as usize).div_ceil(8)
 }
 
-/// Whether arrays of these lengths give the values and the masks of so many bands of this shape.
-fn give_band_sizes(
-    kind: PixelType,
-    rows: u32,
-    cols: u32,
-    depth: u32,
-    count: u32,
-    values: usize,
-    masks: usize,
-) -> bool
-    requires shape { IsShape rows cols depth }
-    requires few { count ≤ 16 }
-    ensures { IsTrue result ↔ GiveBandSizes kind rows cols depth count values masks }
+/// Whether arrays are as long as the values and the masks of so many bands of this shape.
+fn give_band_sizes(arrays: BandArrays) -> bool
+    requires shape { IsShape arrays.rows arrays.cols arrays.depth }
+    requires few { arrays.count ≤ 16 }
+    ensures { IsTrue result ↔ GiveBandSizes arrays.entry.kind arrays.entry.rows arrays.entry.cols
+        arrays.entry.depth arrays.entry.count (length arrays.entry.values.now)
+        (length arrays.entry.masks.now) }
 {
-    let pixels = rows as usize * cols as usize;
-    let size = pixels * depth as usize * kind.bytes();
+    let pixels = arrays.rows as usize * arrays.cols as usize;
+    let size = pixels * arrays.depth as usize * arrays.kind.bytes();
     let mask = pixels.div_ceil(8);
-    let count = count as usize;
+    let count = arrays.count as usize;
+    let (values, masks) = (arrays.values.len(), arrays.masks.len());
     values == count * size && (masks == 0 || masks == mask || masks == count * mask)
 }
 
@@ -81,22 +80,17 @@ fn are_small(rows: u32, cols: u32, depth: u32, count: u32) -> bool
     count <= GREATEST_BANDS && count as u64 * values <= GREATEST_VALUES
 }
 
-/// Whether there are so many bands of the shape, arrays of these lengths give them, and the version
-/// has a place for them.
-fn test_bands(
-    kind: PixelType,
-    rows: u32,
-    cols: u32,
-    depth: u32,
-    count: u32,
-    version: Version,
-    values: usize,
-    masks: usize,
-) -> Result<(), EncodeStop>
-    ensures ok { OnOk result (AreFit kind rows cols depth count version values masks) }
-    ensures stop { IfErr result (λ stop.
-        IsBandsArgumentStop kind rows cols depth count version values masks stop) }
+/// Whether there are so many bands of the shape, the arrays give them, and the version has a place
+/// for them.
+fn test_bands(arrays: BandArrays, version: Version) -> Result<(), EncodeStop>
+    ensures ok { OnOk result (AreFit arrays.entry.kind arrays.entry.rows arrays.entry.cols
+        arrays.entry.depth arrays.entry.count version (length arrays.entry.values.now)
+        (length arrays.entry.masks.now)) }
+    ensures stop { IfErr result (λ stop. IsBandsArgumentStop arrays.entry.kind arrays.entry.rows
+        arrays.entry.cols arrays.entry.depth arrays.entry.count version
+        (length arrays.entry.values.now) (length arrays.entry.masks.now) stop) }
 {
+    let (rows, cols, depth, count) = (arrays.rows, arrays.cols, arrays.depth, arrays.count);
     if rows == 0 || cols == 0 || depth == 0 || count == 0 {
         return Err(EncodeStop::BadShape);
     }
@@ -106,7 +100,7 @@ fn test_bands(
     if !are_small(rows, cols, depth, count) {
         return Err(EncodeStop::TooLarge);
     }
-    if !give_band_sizes(kind, rows, cols, depth, count, values, masks) {
+    if !give_band_sizes(arrays) {
         return Err(EncodeStop::BadSizes);
     }
     if needs_v4(version, depth) {
@@ -116,54 +110,53 @@ fn test_bands(
 }
 
 /// Band number i of the arrays. None where memory is refused.
-fn given_band(
-    alloc: Global,
-    kind: PixelType,
-    rows: u32,
-    cols: u32,
-    depth: u32,
-    count: u32,
-    values: &[u8],
-    masks: &[u8],
-    i: usize,
-) -> Option<Raster>
-    requires shape { IsShape rows cols depth }
-    requires few { count ≤ 16 }
-    requires sizes { GiveBandSizes kind rows cols depth count
-        (length values.now) (length masks.now) }
-    requires within { i < count }
-    ensures { IfSome result (λ r. IsGiven kind rows cols depth
-        (part_at (values_size kind rows cols depth) i values.now)
-        (mask_for (mask_array_size rows cols) i masks.now) r) }
+fn given_band(alloc: Global, fit: FitBandArrays, i: usize) -> Option<Raster>
+    requires within { i < fit.arrays.count }
+    requires sizes { GiveBandSizes fit.arrays.kind fit.arrays.rows fit.arrays.cols
+        fit.arrays.depth fit.arrays.count (length fit.arrays.values.now)
+        (length fit.arrays.masks.now) }
+    ensures { IfSome result (λ r. IsGiven fit.entry.arrays.kind fit.entry.arrays.rows
+        fit.entry.arrays.cols fit.entry.arrays.depth
+        (part_at (values_size fit.entry.arrays.kind fit.entry.arrays.rows fit.entry.arrays.cols
+        fit.entry.arrays.depth) i fit.entry.arrays.values.now)
+        (mask_for (mask_array_size fit.entry.arrays.rows fit.entry.arrays.cols) i
+        fit.entry.arrays.masks.now) r) }
 {
+    let BandArrays {
+        kind,
+        rows,
+        cols,
+        depth,
+        values,
+        masks,
+        ..
+    } = fit.arrays;
     let mask = mask_of(masks, mask_size(rows, cols), i);
     let values = part(values, band_size(kind, rows, cols, depth), i);
-    raster_given(alloc, kind, rows, cols, depth, values, mask)
+    let arrays = RasterArrays {
+        kind,
+        rows,
+        cols,
+        depth,
+        values,
+        mask,
+    };
+    let band = FitArrays { arrays };
+    raster_given(alloc, band)
 }
 
 /// The bands that the arrays are. None where memory is refused.
-fn given_bands(
-    alloc: Global,
-    kind: PixelType,
-    rows: u32,
-    cols: u32,
-    depth: u32,
-    count: u32,
-    values: &[u8],
-    masks: &[u8],
-) -> Option<Bands>
-    requires allowed { AreAllowed rows cols depth count }
-    requires shape { IsShape rows cols depth }
-    requires sizes { GiveBandSizes kind rows cols depth count
-        (length values.now) (length masks.now) }
-    ensures { IfSome result (λ bands.
-        AreGiven kind rows cols depth count values.now masks.now bands) }
+fn given_bands(alloc: Global, fit: FitBandArrays) -> Option<Bands>
+    requires sizes { GiveBandSizes fit.arrays.kind fit.arrays.rows fit.arrays.cols
+        fit.arrays.depth fit.arrays.count (length fit.arrays.values.now)
+        (length fit.arrays.masks.now) }
+    ensures { IfSome result (λ bands. AreGivenBy fit.entry.arrays bands) }
 {
-    let first = given_band(alloc, kind, rows, cols, depth, count, values, masks, 0)?;
+    let first = given_band(alloc, fit, 0)?;
     let mut bands = Bands::of(alloc, first).ok()?;
-    while bands.len() < count as usize {
+    while bands.len() < fit.arrays.count as usize {
         let i = bands.len();
-        let band = given_band(alloc, kind, rows, cols, depth, count, values, masks, i)?;
+        let band = given_band(alloc, fit, i)?;
         match bands.push(band) {
             Ok(()) => {}
             Err(_) => return None,
@@ -176,34 +169,22 @@ fn given_bands(
 /// `out` stays as it is where it fails.
 pub(crate) fn encode_bands_into(
     alloc: Global,
-    kind: PixelType,
-    rows: u32,
-    cols: u32,
-    depth: u32,
-    count: u32,
-    values: &[u8],
-    masks: &[u8],
+    arrays: BandArrays,
     version: Version,
     error: u32,
     out: &mut [u8],
 ) -> Result<usize, EncodeStop>
-    ensures ok { IfOk result (λ size. AreEncodedInto kind rows cols depth count
-        values.now masks.now version (step_of error) size out.old out.new) }
-    ensures stop { IfErr result (λ stop. IsBandsEncodeStop kind rows cols depth count
-        values.now masks.now version (step_of error) (length out.old) stop) }
+    ensures ok { IfOk result (λ size. AreEncodedInto arrays.entry.kind arrays.entry.rows
+        arrays.entry.cols arrays.entry.depth arrays.entry.count arrays.entry.values.now
+        arrays.entry.masks.now version (step_of error) size out.old out.new) }
+    ensures stop { IfErr result (λ stop. IsBandsEncodeStop arrays.entry.kind arrays.entry.rows
+        arrays.entry.cols arrays.entry.depth arrays.entry.count arrays.entry.values.now
+        arrays.entry.masks.now version (step_of error) (length out.old) stop) }
     ensures kept { OnErr result (out.new ≡ out.old) }
 {
-    test_bands(
-        kind,
-        rows,
-        cols,
-        depth,
-        count,
-        version,
-        values.len(),
-        masks.len(),
-    )?;
-    let Some(bands) = given_bands(alloc, kind, rows, cols, depth, count, values, masks) else {
+    test_bands(arrays, version)?;
+    let fit = FitBandArrays { arrays };
+    let Some(bands) = given_bands(alloc, fit) else {
         return Err(EncodeStop::OutOfMemory);
     };
     let blobs = match encode_bands(alloc, &bands, version, Step::of(error)) {

@@ -1,12 +1,13 @@
 //! Rasters made of arrays, for bands.
 
 ghost use Rattle.std.specs.Prelude.{◌≡◌, [], IfSome, length};
-ghost use Rattle.raster_values.specs.Raster.{IsRaster, blank};
-ghost use Rattle.raster_values.specs.Flat.{PutsAll};
-ghost use Rattle.lerc_c.specs.Arrays.{GivesSizes, IsGiven, values_size, mask_array_size};
+ghost use Rattle.raster_values.specs.Raster.{blank};
+ghost use Rattle.lerc_c.specs.Arrays.{GivesSizes, IsGiven, mask_array_size};
+ghost use Rattle.lerc_c.specs.inside.Given.{IsGivenBy};
 ghost use Rattle.lerc_c.specs.inside.Marked.{IsMarked};
 
-use raster_values::{PixelType, Raster};
+use crate::arrays::FitArrays;
+use raster_values::Raster;
 use std::alloc::Global;
 
 /// Makes the pixels valid whose bits are 1.
@@ -21,16 +22,6 @@ fn mark_bits(raster: &mut Raster, mask: &[u8])
     raster.mark_from_bits(mask);
 }
 
-/// Gives the valid pixels their values.
-fn put(raster: &mut Raster, values: &[u8])
-    requires { length values.now ≡ values_size
-        raster.old.kind raster.old.rows raster.old.cols raster.old.depth }
-    ensures put { PutsAll raster.old raster.new values.now }
-    ensures sound { IsRaster raster.new }
-{
-    raster.put_cells(values);
-}
-
 /// Makes a raster with no valid pixel the raster that the arrays are.
 fn fill(raster: &mut Raster, values: &[u8], mask: &[u8])
     requires blank { raster.old
@@ -42,61 +33,38 @@ fn fill(raster: &mut Raster, values: &[u8], mask: &[u8])
         values.now mask.now raster.new }
 {
     mark_bits(raster, mask);
-    put(raster, values);
+    raster.put_cells(values);
 }
 
 /// The raster that the arrays are, where there is a mask. None where memory is refused.
-fn masked(
-    alloc: Global,
-    kind: PixelType,
-    rows: u32,
-    cols: u32,
-    depth: u32,
-    values: &[u8],
-    mask: &[u8],
-) -> Option<Raster>
-    requires some { length mask.now ≡ 0 → ⊥ }
-    requires sizes { GivesSizes kind rows cols depth (length values.now) (length mask.now) }
-    ensures { IfSome result (λ r. IsGiven kind rows cols depth values.now mask.now r) }
+fn masked_raster(alloc: Global, fit: FitArrays) -> Option<Raster>
+    requires { length fit.arrays.mask.now ≡ 0 → ⊥ }
+    ensures { IfSome result (λ r. IsGivenBy fit.entry.arrays r) }
 {
-    let mut raster = Raster::new(alloc, kind, rows, cols, depth).ok()?;
-    fill(&mut raster, values, mask);
+    let a = fit.arrays;
+    let mut raster = Raster::new(alloc, a.kind, a.rows, a.cols, a.depth).ok()?;
+    fill(&mut raster, a.values, a.mask);
     Some(raster)
 }
 
 /// The raster with these values of which every pixel is valid. None where memory is refused.
-fn whole(
-    alloc: Global,
-    kind: PixelType,
-    rows: u32,
-    cols: u32,
-    depth: u32,
-    values: &[u8],
-) -> Option<Raster>
-    requires { length values.now ≡ values_size kind rows cols depth }
-    ensures { IfSome result (λ r. IsGiven kind rows cols depth values.now [] r) }
+fn whole_raster(alloc: Global, fit: FitArrays) -> Option<Raster>
+    ensures { IfSome result (λ r. IsGiven fit.entry.arrays.kind fit.entry.arrays.rows
+        fit.entry.arrays.cols fit.entry.arrays.depth fit.entry.arrays.values.now [] r) }
 {
-    match Raster::from_cells(alloc, kind, rows, cols, depth, values) {
+    let a = fit.arrays;
+    match Raster::from_cells(alloc, a.kind, a.rows, a.cols, a.depth, a.values) {
         Ok(raster) => Some(raster),
         Err(_) => None,
     }
 }
 
 /// The raster that the arrays are. None where memory is refused.
-pub(crate) fn raster_given(
-    alloc: Global,
-    kind: PixelType,
-    rows: u32,
-    cols: u32,
-    depth: u32,
-    values: &[u8],
-    mask: &[u8],
-) -> Option<Raster>
-    requires { GivesSizes kind rows cols depth (length values.now) (length mask.now) }
-    ensures { IfSome result (λ r. IsGiven kind rows cols depth values.now mask.now r) }
+pub(crate) fn raster_given(alloc: Global, fit: FitArrays) -> Option<Raster>
+    ensures { IfSome result (λ r. IsGivenBy fit.entry.arrays r) }
 {
-    if mask.is_empty() {
-        return whole(alloc, kind, rows, cols, depth, values);
+    if fit.arrays.mask.is_empty() {
+        return whole_raster(alloc, fit);
     }
-    masked(alloc, kind, rows, cols, depth, values, mask)
+    masked_raster(alloc, fit)
 }

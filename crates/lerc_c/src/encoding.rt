@@ -1,18 +1,22 @@
 //! Arrays encoded into a blob.
 
-ghost use Rattle.std.specs.Prelude.{◌≡◌, ℕ, ◌-◌, ◌<◌, ◌≤◌, ◌↔◌, drop, get_or, take, IfOk, IfErr, IfSome, OnOk, OnErr, IsTrue, length};
+ghost use Rattle.std.specs.Prelude.{◌≡◌, ℕ, ◌-◌, ◌<◌, ◌≤◌, ◌↔◌, drop, get_or, take, length};
+ghost use Rattle.std.specs.Prelude.{IfOk, IfErr, IfSome, OnOk, OnErr, IsTrue};
 ghost use Rattle.raster_cells.specs.Shapes.{IsShape};
 ghost use Rattle.lerc_header.specs.Head.{version_number};
 ghost use Rattle.lerc_header.specs.Written.{step_of};
-ghost use Rattle.lerc_c.specs.Arrays.{GivesSizes, IsGiven, IsEncoded};
-ghost use Rattle.lerc_c.specs.inside.Stops.{IsArgumentStop, IsFit, IsWriteStop, IsWritten, IsEncodeStop};
+ghost use Rattle.lerc_c.specs.Arrays.{GivesSizes, IsEncoded};
+ghost use Rattle.lerc_c.specs.inside.Given.{IsGivenBy};
+ghost use Rattle.lerc_c.specs.inside.Stops.{IsArgumentStop, IsFit, IsWriteStop, IsWritten};
+ghost use Rattle.lerc_c.specs.inside.Stops.{IsEncodeStop};
 ghost use Rattle.lerc_c.specs.inside.Repeated.{IsOneValue};
-ghost use Rattle.lerc_encode.specs.AllAlike.{alike};
-ghost use Rattle.raster_cells.specs.PixelType.{InRange, bytes_of, code_of};
+ghost use Rattle.lerc_encode.specs.AllAlike.{alike_pixels};
+ghost use Rattle.raster_cells.specs.PixelType.{bytes_of, code_of};
 
-use lerc_encode::{LayFault, encode_alike_over, encode_view_over};
+use crate::arrays::{FitArrays, RasterArrays};
+use lerc_encode::{AlikeRaster, LayFault, encode_alike_over, encode_view_over};
 use lerc_header::{Step, Version, kind_of, needs_v4};
-use raster_values::{PixelType, Seen, is_shape};
+use raster_values::{PixelType, RasterRef, is_shape};
 use std::alloc::Global;
 
 /// Why no blob was written.
@@ -45,69 +49,58 @@ pub(crate) fn version_numbered(number: u32) -> Option<Version>
     Version::of_number(i64::from(number))
 }
 
-/// Whether arrays of these lengths give the values and the mask of a raster of this shape.
-fn give_sizes(kind: PixelType, rows: u32, cols: u32, depth: u32, values: usize, mask: usize) -> bool
-    requires { IsShape rows cols depth }
-    ensures { IsTrue result ↔ GivesSizes kind rows cols depth values mask }
+/// Whether arrays are as long as the values and the mask of a raster of this shape.
+fn give_sizes(arrays: RasterArrays) -> bool
+    requires { IsShape arrays.rows arrays.cols arrays.depth }
+    ensures { IsTrue result ↔ GivesSizes arrays.entry.kind arrays.entry.rows arrays.entry.cols
+        arrays.entry.depth (length arrays.entry.values.now) (length arrays.entry.mask.now) }
 {
-    let pixels = rows as usize * cols as usize;
-    let size = pixels * depth as usize * kind.bytes();
+    let pixels = arrays.rows as usize * arrays.cols as usize;
+    let size = pixels * arrays.depth as usize * arrays.kind.bytes();
+    let (values, mask) = (arrays.values.len(), arrays.mask.len());
     values == size && (mask == 0 || mask == pixels.div_ceil(8))
 }
 
-/// Whether there are rasters of the shape, arrays of these lengths give one, and the version has a
-/// place for it.
-fn test_arguments(
-    kind: PixelType,
-    rows: u32,
-    cols: u32,
-    depth: u32,
-    version: Version,
-    values: usize,
-    mask: usize,
-) -> Result<(), EncodeStop>
-    ensures ok { OnOk result (IsFit kind rows cols depth version values mask) }
-    ensures stop { IfErr result (λ stop.
-        IsArgumentStop kind rows cols depth version values mask stop) }
+/// Whether there are rasters of the shape, the arrays give one, and the version has a place for it.
+fn test_arguments(arrays: RasterArrays, version: Version) -> Result<(), EncodeStop>
+    ensures ok { OnOk result (IsFit arrays.entry.kind arrays.entry.rows arrays.entry.cols
+        arrays.entry.depth version
+        (length arrays.entry.values.now) (length arrays.entry.mask.now)) }
+    ensures stop { IfErr result (λ stop. IsArgumentStop arrays.entry.kind arrays.entry.rows
+        arrays.entry.cols arrays.entry.depth version (length arrays.entry.values.now)
+        (length arrays.entry.mask.now) stop) }
 {
-    if rows == 0 || cols == 0 || depth == 0 {
+    if arrays.rows == 0 || arrays.cols == 0 || arrays.depth == 0 {
         return Err(EncodeStop::BadShape);
     }
-    if !is_shape(rows, cols, depth) {
+    if !is_shape(arrays.rows, arrays.cols, arrays.depth) {
         return Err(EncodeStop::TooLarge);
     }
-    if !give_sizes(kind, rows, cols, depth, values, mask) {
+    if !give_sizes(arrays) {
         return Err(EncodeStop::BadSizes);
     }
-    if needs_v4(version, depth) {
+    if needs_v4(version, arrays.depth) {
         return Err(EncodeStop::DepthNeedsV4);
     }
     Ok(())
 }
 
 /// The raster that the arrays are, which is read where it lies.
-fn given<'a>(
-    kind: PixelType,
-    rows: u32,
-    cols: u32,
-    depth: u32,
-    values: &'a [u8],
-    mask: &'a [u8],
-) -> Seen<'a, 'a>
-    requires shape { IsShape rows cols depth }
-    requires sizes { GivesSizes kind rows cols depth (length values.now) (length mask.now) }
-    ensures { IsGiven kind rows cols depth values.now mask.now result }
+fn view_of<'a>(fit: FitArrays<'a>) -> RasterRef<'a, 'a>
+    ensures { IsGivenBy fit.entry.arrays result }
 {
+    let RasterArrays {
+        kind,
+        rows,
+        cols,
+        depth,
+        values,
+        mask,
+    } = fit.arrays;
     if mask.is_empty() {
-        return Seen::whole(kind, rows, cols, depth, values);
+        return RasterRef::whole(kind, rows, cols, depth, values);
     }
-    Seen::over(kind, rows, cols, depth, mask, values)
-}
-
-/// What pixels that are all alike are: of one value at each depth, or invalid.
-#[derive(Clone, Copy)]
-struct Alike {
-    value: Option<i64>,
+    RasterRef::over(kind, rows, cols, depth, mask, values)
 }
 
 /// Whether as many bytes are the same.
@@ -148,26 +141,35 @@ fn one_value(kind: PixelType, values: &[u8]) -> Option<i64>
 
 /// What the pixels are, where they are found to be all alike: nothing is read beyond the first
 /// difference. They are not where the mask has a bit behind the last pixel, which says nothing.
-fn alike_of(
-    kind: PixelType,
-    rows: u32,
-    cols: u32,
-    depth: u32,
-    values: &[u8],
-    mask: &[u8],
-) -> Option<Alike>
-    requires shape { IsShape rows cols depth }
-    requires sizes { GivesSizes kind rows cols depth (length values.now) (length mask.now) }
-    ensures given { IfSome result (λ found.
-        IsGiven kind rows cols depth values.now mask.now (alike kind rows cols depth found.value)) }
-    ensures in_range { IfSome result (λ found. IfSome found.value (InRange kind)) }
+fn alike_of(fit: FitArrays) -> Option<AlikeRaster>
+    ensures { IfSome result (λ r. IsGivenBy fit.entry.arrays (alike_pixels r)) }
 {
+    let RasterArrays {
+        kind,
+        rows,
+        cols,
+        depth,
+        values,
+        mask,
+    } = fit.arrays;
     if mask.is_empty() {
         let value = one_value(kind, values)?;
-        return Some(Alike { value: Some(value) });
+        return Some(AlikeRaster {
+            kind,
+            rows,
+            cols,
+            depth,
+            value: Some(value),
+        });
     }
     if are_zero(mask) {
-        Some(Alike { value: None })
+        Some(AlikeRaster {
+            kind,
+            rows,
+            cols,
+            depth,
+            value: None,
+        })
     } else {
         None
     }
@@ -176,7 +178,7 @@ fn alike_of(
 /// Lays the blob of a raster over the front of `out`, and answers how many bytes it has.
 fn write_blob(
     alloc: Global,
-    raster: &Seen,
+    raster: &RasterRef,
     version: Version,
     step: Step,
     out: &mut [u8],
@@ -196,24 +198,18 @@ fn write_blob(
 
 /// Does what `write_blob` does, for a raster whose pixels are all alike.
 fn write_alike(
-    kind: PixelType,
-    rows: u32,
-    cols: u32,
-    depth: u32,
-    found: Alike,
+    raster: AlikeRaster,
     version: Version,
     step: Step,
     out: &mut [u8],
 ) -> Result<usize, EncodeStop>
-    requires shape { IsShape rows cols depth }
-    requires in_range { IfSome found.value (InRange kind) }
     ensures ok { IfOk result (λ size.
-        IsWritten (alike kind rows cols depth found.value) version step size out.old out.new) }
+        IsWritten (alike_pixels raster) version step size out.old out.new) }
     ensures stop { IfErr result (λ stop.
-        IsWriteStop (alike kind rows cols depth found.value) version step (length out.old) stop) }
+        IsWriteStop (alike_pixels raster) version step (length out.old) stop) }
     ensures kept { OnErr result (out.new ≡ out.old) }
 {
-    match encode_alike_over(kind, rows, cols, depth, found.value, version, step, out) {
+    match encode_alike_over(raster, version, step, out) {
         Ok(laid) => Ok(laid),
         Err(LayFault::DepthNeedsV4) => Err(EncodeStop::DepthNeedsV4),
         Err(LayFault::NoRoom(size)) => Err(EncodeStop::NoRoom(size)),
@@ -225,35 +221,24 @@ fn write_alike(
 /// `out` stays as it is where it fails.
 pub(crate) fn encode_into(
     alloc: Global,
-    kind: PixelType,
-    rows: u32,
-    cols: u32,
-    depth: u32,
-    values: &[u8],
-    mask: &[u8],
+    arrays: RasterArrays,
     version: Version,
     error: u32,
     out: &mut [u8],
 ) -> Result<usize, EncodeStop>
-    ensures ok { IfOk result (λ size. IsEncoded kind rows cols depth values.now mask.now
-        version (step_of error) size out.old out.new) }
-    ensures stop { IfErr result (λ stop. IsEncodeStop kind rows cols depth values.now mask.now
-        version (step_of error) (length out.old) stop) }
+    ensures ok { IfOk result (λ size. IsEncoded arrays.entry.kind arrays.entry.rows
+        arrays.entry.cols arrays.entry.depth arrays.entry.values.now arrays.entry.mask.now version
+        (step_of error) size out.old out.new) }
+    ensures stop { IfErr result (λ stop. IsEncodeStop arrays.entry.kind arrays.entry.rows
+        arrays.entry.cols arrays.entry.depth arrays.entry.values.now arrays.entry.mask.now version
+        (step_of error) (length out.old) stop) }
     ensures kept { OnErr result (out.new ≡ out.old) }
 {
-    test_arguments(kind, rows, cols, depth, version, values.len(), mask.len())?;
-    if let Some(found) = alike_of(kind, rows, cols, depth, values, mask) {
-        return write_alike(
-            kind,
-            rows,
-            cols,
-            depth,
-            found,
-            version,
-            Step::of(error),
-            out,
-        );
+    test_arguments(arrays, version)?;
+    let fit = FitArrays { arrays };
+    if let Some(raster) = alike_of(fit) {
+        return write_alike(raster, version, Step::of(error), out);
     }
-    let raster = given(kind, rows, cols, depth, values, mask);
+    let raster = view_of(fit);
     write_blob(alloc, &raster, version, Step::of(error), out)
 }

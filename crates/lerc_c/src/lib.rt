@@ -1,22 +1,25 @@
 //! The C interface: blobs looked at, decoded into arrays, and made of arrays.
 //!
-//! It stands on `lerc_encode`, `lerc_decode`, `reason_names` and the layers below. Each export calls
-//! the library and states its clauses again, over numbers and arrays; include/futskheri.h says them
-//! to C.
+//! It stands on `lerc_encode`, `lerc_decode`, `reason_names` and the layers below. Each export
+//! calls the library and states its clauses again, over numbers and arrays; include/futskheri.h
+//! says them to C.
 #![tactic(auto)]
 
+mod arrays;
 mod band_decoding;
 mod band_encoding;
 mod band_rasters;
 mod decoding;
 mod encoding;
+mod header_counting;
 mod naming;
 mod sizes;
 #[cfg(test)]
 mod tests;
 mod told;
 
-ghost use Rattle.std.specs.Prelude.{◌≡◌, ◌≢◌, ℕ, ◌*◌, ◌<◌, ◌≤◌, ◌⊎◌, ◌↔◌, ◌++◌, List, drop, length, min, take};
+ghost use Rattle.std.specs.Prelude.{◌≡◌, ◌≢◌, ℕ, ◌*◌, ◌<◌, ◌≤◌, ◌⊎◌, ◌↔◌, ◌++◌, List, drop, length};
+ghost use Rattle.std.specs.Prelude.{min, take};
 ghost use Rattle.raster_cells.specs.Shapes.{HasZero, IsShape, IsTooLarge};
 ghost use Rattle.raster_values.specs.Raster.{Pixels};
 ghost use Rattle.lerc_grammar.specs.Bands.{BandsBlob};
@@ -32,17 +35,26 @@ ghost use Rattle.lerc_header.specs.HeadFaults.{header_faults};
 ghost use Rattle.lerc_header.specs.Written.{step_of};
 ghost use Rattle.lerc_decode.specs.Decoding.{HasHeader};
 ghost use Rattle.lerc_decode.specs.Over.{AskOtherRoom};
-ghost use Rattle.lerc_c.specs.Told.{reason_number, TellsBandsRefusal, TellsFault, TellsHead, TellsRefusal};
-ghost use Rattle.lerc_c.specs.Arrays.{AreNamed, IsAllowed, GivesSizes, AreDecoded, IsEncoded, IsMisfit, IsTooLong, WithKind, WithVersion};
-ghost use Rattle.lerc_c.specs.BandArrays.{AreAllowed, AreBandsDecoded, AreBandsMisfit, AreEncodedInto, AreTooLong, GiveBandSizes};
+ghost use Rattle.lerc_decode.specs.OverBands.{AreOtherBands, AskOtherBandsRoom};
+ghost use Rattle.lerc_c.specs.Told.{reason_number, TellsBandsRefusal, TellsFault, TellsHead};
+ghost use Rattle.lerc_c.specs.Told.{TellsRefusal};
+ghost use Rattle.lerc_c.specs.Arrays.{AreDecoded, AreDecodedInto, AreNamed, GivesSizes};
+ghost use Rattle.lerc_c.specs.Arrays.{IsAllowed, IsEncoded};
+ghost use Rattle.lerc_c.specs.Arrays.{IsMisfit, IsTooLong, WithKind, WithVersion};
+ghost use Rattle.lerc_c.specs.BandArrays.{AreAllowed, AreBandsDecoded, AreBandsDecodedInto};
+ghost use Rattle.lerc_c.specs.BandArrays.{AreBandsMisfit};
+ghost use Rattle.lerc_c.specs.BandArrays.{AreEncodedInto, AreTooLong, GiveBandSizes};
+ghost use Rattle.lerc_c.specs.HeadedBands.{AreHeaded, TellsUnheaded};
 ghost use Rattle.reason_names.specs.Names.{blob_name_of};
 ghost use Rattle.lerc_c.specs.Names.{name_at};
 
+use arrays::{BandArrays, RasterArrays};
 use band_decoding::{BandsDecodeStop, count_of, decode_bands_into};
 use band_encoding::encode_bands_into;
 use decoding::{DecodeStop, decode_into};
 use encoding::{EncodeStop, encode_into, kind_numbered, version_numbered};
-use lerc_decode::{OverFault, decode_over};
+use header_counting::count_headers;
+use lerc_decode::{BandsOverFault, OverFault, decode_bands_over, decode_over};
 use lerc_encode::blobs_are_small;
 use lerc_header::read_header;
 use naming::name_of;
@@ -95,7 +107,8 @@ pub extern "C" fn futskheri_header(blob: &[u8], head: &mut Head, fault: &mut Fau
     }
 }
 
-/// Decodes the blob with which the bytes begin, into arrays of all values and of the mask.
+/// Decodes the blob with which the bytes begin, into arrays of all values and of the mask. Where
+/// every pixel is valid the mask may have no bytes.
 ///
 /// 0: the arrays have the raster. 1: `fault` has the blob's first fault. 2: memory was refused,
 /// behind a whole header. 3: an array is not as long as the raster asks for. Where it is not 0 the
@@ -109,7 +122,7 @@ pub extern "C" fn futskheri_decode(
     fault: &mut Fault,
 ) -> u32
     ensures status { result ≤ 3 }
-    ensures ok { result ≡ 0 → AreDecoded blob.now values.new mask.new }
+    ensures ok { result ≡ 0 → AreDecodedInto blob.now values.new mask.new }
     ensures refused { result ≡ 1 → TellsRefusal blob.now fault.new }
     ensures memory { result ≡ 2 → HasHeader blob.now }
     ensures sizes { result ≡ 3 → IsMisfit blob.now (length values.old) (length mask.old) }
@@ -127,12 +140,12 @@ pub extern "C" fn futskheri_decode(
     }
 }
 
-/// Decodes the blob with which the bytes begin, into arrays of all values and of the mask, where the
-/// values lie at once: none is copied.
+/// Decodes the blob with which the bytes begin, into arrays of all values and of the mask, where
+/// the values lie at once: none is copied.
 ///
 /// 0: the arrays have the raster. 1: `fault` has the blob's first fault. 3: an array is not as long
-/// as the header asks for, which is tested before what follows the header. It takes no memory, so it
-/// is never 2. Where it is not 0 the arrays may hold anything.
+/// as the header asks for, which is tested before what follows the header. It takes no memory, so
+/// it is never 2. Where it is 3 the arrays stay as they were, where it is 1 they may hold anything.
 #[unsafe(no_mangle)]
 pub extern "C" fn futskheri_decode_over(
     blob: &[u8],
@@ -145,6 +158,7 @@ pub extern "C" fn futskheri_decode_over(
     ensures refused { result ≡ 1 → TellsRefusal blob.now fault.new }
     ensures memory { result ≢ 2 }
     ensures sizes { (result ≡ 3) ↔ AskOtherRoom blob.now (length values.old) (length mask.old) }
+    ensures kept { result ≡ 3 → (values.new ≡ values.old) × (mask.new ≡ mask.old) }
     ensures no_fault { result ≢ 1 → fault.new ≡ fault.old }
 {
     match decode_over(blob, values, mask) {
@@ -203,7 +217,8 @@ pub extern "C" fn futskheri_encode(
     ensures no_room { result ≡ 9 → WithKind kind (λ k. WithVersion version (λ v. IsTooLong
         k rows cols depth values.now mask.now v (step_of error) size.new (length out.old))) }
     ensures bad_kind { result ≡ 4 → (k : PixelType) → kind ≢ code_of k }
-    ensures bad_version { result ≡ 5 → WithKind kind (λ _. (v : Version) → version ≢ version_number v) }
+    ensures bad_version { result ≡ 5
+        → WithKind kind (λ _. (v : Version) → version ≢ version_number v) }
     ensures bad_shape { result ≡ 6 → HasZero rows cols depth }
     ensures too_large { result ≡ 7 → ¬ HasZero rows cols depth × IsTooLarge rows cols depth }
     ensures sizes { result ≡ 3 → IsAllowed rows cols depth × WithKind kind (λ k.
@@ -224,9 +239,15 @@ pub extern "C" fn futskheri_encode(
     let Some(version) = version_numbered(version) else {
         return BAD_VERSION;
     };
-    match encode_into(
-        alloc, kind, rows, cols, depth, values, mask, version, error, out,
-    ) {
+    let arrays = RasterArrays {
+        kind,
+        rows,
+        cols,
+        depth,
+        values,
+        mask,
+    };
+    match encode_into(alloc, arrays, version, error, out) {
         Ok(written) => {
             *size = written as u64;
             OK
@@ -275,8 +296,38 @@ pub extern "C" fn futskheri_count_bands(
     }
 }
 
+/// Counts the blobs of the tile that all the bytes are, by their headers alone: nothing else of
+/// them is looked at, and no memory is taken.
+///
+/// 0: `bands` is how many parts the bytes are, each as long as the header says with which it
+/// begins: of a tile its bands. 1: `fault` says where there is no such part, and the bytes are no
+/// tile. What is not named stays.
+#[unsafe(no_mangle)]
+pub extern "C" fn futskheri_bands_of_headers(blob: &[u8], bands: &mut u32, fault: &mut Fault) -> u32
+    ensures status { result ≤ 1 }
+    ensures ok { result ≡ 0 → AreHeaded blob.now bands.new }
+    ensures some { result ≡ 0 → 1 ≤ bands.new }
+    ensures few { result ≡ 0 → bands.new ≤ 16 }
+    ensures tile { (rasters : List Pixels) → BandsBlob blob.now rasters
+        → (result ≡ 0) × (bands.new ≡ length rasters) }
+    ensures refused { result ≡ 1 → TellsUnheaded blob.now fault.new }
+    ensures kept { result ≢ 0 → bands.new ≡ bands.old }
+    ensures no_fault { result ≢ 1 → fault.new ≡ fault.old }
+{
+    match count_headers(blob) {
+        Ok(count) => {
+            *bands = count;
+            OK
+        }
+        Err(found) => {
+            *fault = fault_of(found);
+            REFUSED
+        }
+    }
+}
+
 /// Decodes the tile that all the bytes are, of so many bands, into arrays of all values and of the
-/// masks, band behind band.
+/// masks, band behind band. Where every pixel of each band is valid the masks may have no bytes.
 ///
 /// 0: the arrays have the bands. 1: `fault` has what is wrong first. 2: memory was refused, behind
 /// a whole header. 3: there are more or fewer bands, or an array is not as long as they ask for.
@@ -291,7 +342,7 @@ pub extern "C" fn futskheri_decode_bands(
     fault: &mut Fault,
 ) -> u32
     ensures status { result ≤ 3 }
-    ensures ok { result ≡ 0 → AreBandsDecoded blob.now bands values.new masks.new }
+    ensures ok { result ≡ 0 → AreBandsDecodedInto blob.now bands values.new masks.new }
     ensures refused { result ≡ 1 → TellsBandsRefusal blob.now fault.new }
     ensures memory { result ≡ 2 → HasHeader blob.now }
     ensures sizes { result ≡ 3 → AreBandsMisfit
@@ -307,6 +358,44 @@ pub extern "C" fn futskheri_decode_bands(
         }
         Err(BandsDecodeStop::OutOfMemory) => NO_MEMORY,
         Err(BandsDecodeStop::Sizes) => BAD_SIZES,
+    }
+}
+
+/// Decodes the tile that all the bytes are, of so many bands, into arrays of all values and of the
+/// masks, band behind band, where the values lie at once: none is copied.
+///
+/// 0: the arrays have the bands. 1: `fault` has what is wrong first. 3: a tile may not have so many
+/// bands as its first one, or an array is not as long as they ask for, which is tested before what
+/// follows the first header; the arrays stay as they were then. Or it is 3 since there are more or
+/// fewer bands. It takes no memory, so it is never 2. Where it is neither 0 nor 3 by the first
+/// header they may hold anything.
+#[unsafe(no_mangle)]
+pub extern "C" fn futskheri_decode_bands_over(
+    blob: &[u8],
+    bands: u32,
+    values: &mut [u8],
+    masks: &mut [u8],
+    fault: &mut Fault,
+) -> u32
+    ensures status { result ≤ 3 }
+    ensures ok { result ≡ 0 → AreBandsDecoded blob.now bands values.new masks.new }
+    ensures refused { result ≡ 1 → TellsBandsRefusal blob.now fault.new }
+    ensures memory { result ≢ 2 }
+    ensures sizes { result ≡ 3 →
+        AskOtherBandsRoom blob.now bands (length values.old) (length masks.old)
+        ⊎ AreOtherBands blob.now bands }
+    ensures asked { AskOtherBandsRoom blob.now bands (length values.old) (length masks.old)
+        → (result ≡ 3) × ((values.new ≡ values.old) × (masks.new ≡ masks.old)) }
+    ensures no_fault { result ≢ 1 → fault.new ≡ fault.old }
+{
+    match decode_bands_over(blob, bands, values, masks) {
+        Ok(()) => OK,
+        Err(BandsOverFault::Tile(found)) => {
+            *fault = fault_of_bands(found);
+            REFUSED
+        }
+        Err(BandsOverFault::Sizes) => BAD_SIZES,
+        Err(BandsOverFault::Count) => BAD_SIZES,
     }
 }
 
@@ -339,14 +428,20 @@ pub extern "C" fn futskheri_encode_bands(
         k rows cols depth bands values.now masks.now v (step_of error) size.new
         (length out.old))) }
     ensures bad_kind { result ≡ 4 → (k : PixelType) → kind ≢ code_of k }
-    ensures bad_version { result ≡ 5 → WithKind kind (λ _. (v : Version) → version ≢ version_number v) }
+    ensures bad_version { result ≡ 5
+        → WithKind kind (λ _. (v : Version) → version ≢ version_number v) }
     ensures bad_shape { result ≡ 6 → HasZero rows cols depth ⊎ (bands ≡ 0) }
-    ensures too_large { result ≡ 7 → IsTooLarge rows cols depth
-        ⊎ ((16 < bands) ⊎ (16777216 < bands * (rows * cols * depth))) }
+    ensures too_large { result ≡ 7 → ¬ HasZero rows cols depth × ((0 < bands) × (IsTooLarge
+        rows cols depth ⊎ ((16 < bands) ⊎ (16777216 < bands * (rows * cols * depth))))) }
     ensures sizes { result ≡ 3 → AreAllowed rows cols depth bands × WithKind kind (λ k.
         ¬ GiveBandSizes k rows cols depth bands (length values.now) (length masks.now)) }
-    ensures deep { result ≡ 8 → AreAllowed rows cols depth bands × (1 < depth) }
-    ensures memory { result ≡ 2 → AreAllowed rows cols depth bands }
+    ensures deep { result ≡ 8 → AreAllowed rows cols depth bands × (WithKind kind (λ k.
+        GiveBandSizes k rows cols depth bands (length values.now) (length masks.now))
+        × ((version ≡ 3) × (1 < depth))) }
+    ensures memory { result ≡ 2 → AreAllowed rows cols depth bands × (WithKind kind (λ k.
+        GiveBandSizes k rows cols depth bands (length values.now) (length masks.now))
+        × (version ≡ 3 → depth ≡ 1)) }
+    ensures named { result ≢ 4 → result ≢ 5 → AreNamed kind version }
     ensures kept { result ≢ 0 → out.new ≡ out.old }
     ensures size_kept { result ≢ 0 → result ≢ 9 → size.new ≡ size.old }
 {
@@ -356,9 +451,16 @@ pub extern "C" fn futskheri_encode_bands(
     let Some(version) = version_numbered(version) else {
         return BAD_VERSION;
     };
-    match encode_bands_into(
-        alloc, kind, rows, cols, depth, bands, values, masks, version, error, out,
-    ) {
+    let arrays = BandArrays {
+        kind,
+        rows,
+        cols,
+        depth,
+        count: bands,
+        values,
+        masks,
+    };
+    match encode_bands_into(alloc, arrays, version, error, out) {
         Ok(written) => {
             *size = written as u64;
             OK

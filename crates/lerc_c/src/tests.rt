@@ -2,9 +2,9 @@
 
 use crate::told::{Fault, Head};
 use crate::{
-    futskheri_count_bands, futskheri_decode, futskheri_decode_bands, futskheri_decode_over,
-    futskheri_encode, futskheri_encode_bands, futskheri_greatest_size, futskheri_header,
-    futskheri_reason_name,
+    futskheri_bands_of_headers, futskheri_count_bands, futskheri_decode, futskheri_decode_bands,
+    futskheri_decode_bands_over, futskheri_decode_over, futskheri_encode, futskheri_encode_bands,
+    futskheri_greatest_size, futskheri_header, futskheri_reason_name,
 };
 use std::alloc::Global;
 use std::process::Abort;
@@ -23,20 +23,31 @@ fn same_bytes(rt: &impl Abort, at: &str, found: &[u8], wanted: &[u8]) {
 /// The rows, the columns and the depths of a raster.
 type Shape = (u32, u32, u32);
 
-/// The status where arrays are encoded without an error, and the size that is told.
-fn encode(
-    alloc: Global,
+/// What a blob is made of: the number of a type, a shape, the values and the mask.
+#[derive(Clone, Copy)]
+struct Given<'a> {
     kind: u32,
     shape: Shape,
-    version: u32,
-    values: &[u8],
-    mask: &[u8],
-    blob: &mut [u8],
-) -> (u32, u64) {
-    let (rows, cols, depth) = shape;
+    values: &'a [u8],
+    mask: &'a [u8],
+}
+
+/// The status where arrays are encoded without an error, and the size that is told.
+fn encode(alloc: Global, given: Given, version: u32, blob: &mut [u8]) -> (u32, u64) {
+    let (rows, cols, depth) = given.shape;
     let mut size = 0;
     let status = futskheri_encode(
-        alloc, kind, rows, cols, depth, version, 0, values, mask, blob, &mut size,
+        alloc,
+        given.kind,
+        rows,
+        cols,
+        depth,
+        version,
+        0,
+        given.values,
+        given.mask,
+        blob,
+        &mut size,
     );
     (status, size)
 }
@@ -92,15 +103,13 @@ fn gives_back(rt: &impl Abort, alloc: Global, blob: &[u8], values: &[u8], mask: 
 fn comes_back(
     rt: &impl Abort,
     alloc: Global,
-    kind: u32,
-    shape: Shape,
+    given: Given,
     version: u32,
     is_short: bool,
-    given: (&[u8], &[u8]),
     back: (&[u8], &[u8]),
 ) {
     let mut blob = [0; 200];
-    let (status, size) = encode(alloc, kind, shape, version, given.0, given.1, &mut blob);
+    let (status, size) = encode(alloc, given, version, &mut blob);
     same(rt, "encoded", u64::from(status), 0);
     let found = size == least_size(version);
     same(rt, "short", u64::from(found), u64::from(is_short));
@@ -108,23 +117,15 @@ fn comes_back(
 }
 
 /// The arrays come back by both versions, where there is one depth, and else by version 4.
-fn come_back(
-    rt: &impl Abort,
-    alloc: Global,
-    kind: u32,
-    shape: Shape,
-    is_short: bool,
-    given: (&[u8], &[u8]),
-    back: (&[u8], &[u8]),
-) {
-    comes_back(rt, alloc, kind, shape, 4, is_short, given, back);
-    if shape.2 == 1 {
-        comes_back(rt, alloc, kind, shape, 3, is_short, given, back);
+fn come_back(rt: &impl Abort, alloc: Global, given: Given, is_short: bool, back: (&[u8], &[u8])) {
+    comes_back(rt, alloc, given, 4, is_short, back);
+    if given.shape.2 == 1 {
+        comes_back(rt, alloc, given, 3, is_short, back);
     }
 }
 
-/// The number of a type, a shape, whether the pixels are all alike, the values, of which every pixel is
-/// valid, and the mask that comes back.
+/// The number of a type, a shape, whether the pixels are all alike, the values, of which every
+/// pixel is valid, and the mask that comes back.
 const WHOLE: &[(u32, Shape, bool, &[u8], &[u8])] = &[
     // One value.
     (0, (4, 2, 1), true, &[0x80; 8], b"\xff"),
@@ -190,13 +191,18 @@ const WHOLE: &[(u32, Shape, bool, &[u8], &[u8])] = &[
 #[test]
 fn values_come_back(rt: HostRuntime) {
     for (kind, shape, is_short, values, mask) in WHOLE {
-        let (given, back) = ((*values, b"".as_slice()), (*values, *mask));
-        come_back(&rt, rt.alloc(), *kind, *shape, *is_short, given, back);
+        let given = Given {
+            kind: *kind,
+            shape: *shape,
+            values,
+            mask: b"",
+        };
+        come_back(&rt, rt.alloc(), given, *is_short, (*values, *mask));
     }
 }
 
-/// The number of a type, a shape, whether the valid pixels are all alike, the values and the mask, and
-/// those that come back.
+/// The number of a type, a shape, whether the valid pixels are all alike, the values and the mask,
+/// and those that come back.
 const MASKED: &[(u32, Shape, bool, &[u8], &[u8], &[u8], &[u8])] = &[
     // A mask of no pixel, and one of the last alone.
     (
@@ -250,8 +256,13 @@ const MASKED: &[(u32, Shape, bool, &[u8], &[u8], &[u8], &[u8])] = &[
 #[test]
 fn masked_values_come_back(rt: HostRuntime) {
     for (kind, shape, is_short, values, mask, back, back_mask) in MASKED {
-        let (given, back) = ((*values, *mask), (*back, *back_mask));
-        come_back(&rt, rt.alloc(), *kind, *shape, *is_short, given, back);
+        let given = Given {
+            kind: *kind,
+            shape: *shape,
+            values,
+            mask,
+        };
+        come_back(&rt, rt.alloc(), given, *is_short, (*back, *back_mask));
     }
 }
 
@@ -264,13 +275,19 @@ const SEVEN: [u8; 70] =
 
 /// One value 7, with this mask, has that blob, which has no room in a byte less.
 fn is_seven(rt: &impl Abort, alloc: Global, mask: &[u8]) {
+    let given = Given {
+        kind: 1,
+        shape: (1, 1, 1),
+        values: b"\x07",
+        mask,
+    };
     let mut blob = [5; 70];
-    let (status, size) = encode(alloc, 1, (1, 1, 1), 3, b"\x07", mask, &mut blob);
+    let (status, size) = encode(alloc, given, 3, &mut blob);
     same(rt, "encoded", u64::from(status), 0);
     same(rt, "size", size, 66);
     same_bytes(rt, "blob, and what stands behind it", &blob, &SEVEN);
     let mut short = [5; 65];
-    let (status, size) = encode(alloc, 1, (1, 1, 1), 3, b"\x07", mask, &mut short);
+    let (status, size) = encode(alloc, given, 3, &mut short);
     same(rt, "no room", u64::from(status), 9);
     same(rt, "wanted", size, 66);
     same_bytes(rt, "what is left", &short, &[5; 65]);
@@ -285,21 +302,16 @@ fn one_value_has_the_blob_that_was_worked_by_hand(rt: HostRuntime) {
 
 /// The arrays have one blob, whether these values stand there or those, which are others at invalid
 /// pixels alone.
-fn have_one_blob(
-    rt: &impl Abort,
-    alloc: Global,
-    kind: u32,
-    shape: Shape,
-    version: u32,
-    mask: &[u8],
-    values: &[u8],
-    others: &[u8],
-) {
+fn have_one_blob(rt: &impl Abort, alloc: Global, given: Given, version: u32, others: &[u8]) {
     let mut blob = [5; 200];
-    let (status, size) = encode(alloc, kind, shape, version, values, mask, &mut blob);
+    let (status, size) = encode(alloc, given, version, &mut blob);
     same(rt, "encoded", u64::from(status), 0);
     let mut again = [5; 200];
-    let (status, size_again) = encode(alloc, kind, shape, version, others, mask, &mut again);
+    let other = Given {
+        values: others,
+        ..given
+    };
+    let (status, size_again) = encode(alloc, other, version, &mut again);
     same(rt, "encoded with others", u64::from(status), 0);
     same(rt, "size", size_again, size);
     same_bytes(rt, "blob", &again, &blob);
@@ -355,23 +367,20 @@ fn bytes_at_invalid_pixels_are_not_read(rt: HostRuntime) {
     for (kind, shape, mask, values, others) in OTHERS {
         for version in [3, 4] {
             if version == 4 || shape.2 == 1 {
-                have_one_blob(
-                    &rt,
-                    rt.alloc(),
-                    *kind,
-                    *shape,
-                    version,
-                    mask,
+                let given = Given {
+                    kind: *kind,
+                    shape: *shape,
                     values,
-                    others,
-                );
+                    mask,
+                };
+                have_one_blob(&rt, rt.alloc(), given, version, others);
             }
         }
     }
 }
 
-/// Arrays of other lengths than a blob of four values asks for are told, and the fault of a blob that
-/// is cut.
+/// Arrays of other lengths than a blob of four values asks for are told, and the fault of a blob
+/// that is cut.
 fn expect_faults(rt: &impl Abort, blob: &[u8; 200]) {
     let (status, ..) = decode_over(blob, &mut [7; 5], &mut [7]);
     same(rt, "a value too many", u64::from(status), 3);
@@ -382,22 +391,54 @@ fn expect_faults(rt: &impl Abort, blob: &[u8; 200]) {
 }
 
 /// Two rows and columns, of which the third pixel is not valid: the blob is not longer than what is
-/// said of its shape; it has no room in three bytes; and arrays of other lengths, and a blob that is
-/// cut, are told.
+/// said of its shape; it has no room in three bytes; and arrays of other lengths, and a blob that
+/// is cut, are told.
 #[test]
 fn a_raster_out_and_in(rt: HostRuntime) {
     let alloc = rt.alloc();
-    let (shape, values, mask) = ((2, 2, 1), &[1, 2, 9, 200], b"\xdf");
+    let given = Given {
+        kind: 1,
+        shape: (2, 2, 1),
+        values: &[1, 2, 9, 200],
+        mask: b"\xdf",
+    };
     let (mut blob, mut short) = ([0; 200], [5; 3]);
-    let (status, size) = encode(alloc, 1, shape, 4, values, mask, &mut blob);
+    let (status, size) = encode(alloc, given, 4, &mut blob);
     same(&rt, "encoded", u64::from(status), 0);
     let is_small = size <= futskheri_greatest_size(1, 2, 2, 1);
     same(&rt, "not above the greatest size", u64::from(is_small), 1);
-    let (status, wanted) = encode(alloc, 1, shape, 4, values, mask, &mut short);
+    let (status, wanted) = encode(alloc, given, 4, &mut short);
     same(&rt, "no room", u64::from(status), 9);
     same(&rt, "wanted", wanted, size);
     same_bytes(&rt, "the three bytes", &short, &[5; 3]);
     expect_faults(&rt, &blob);
+}
+
+/// The status where the blob of four values with this mask is decoded without one, and the values
+/// that stand there then.
+fn decode_values(rt: &impl Abort, alloc: Global, mask: &[u8]) -> (u32, [u8; 4]) {
+    let given = Given {
+        kind: 1,
+        shape: (2, 2, 1),
+        values: &[1, 2, 9, 200],
+        mask,
+    };
+    let mut blob = [0; 200];
+    let (status, _) = encode(alloc, given, 4, &mut blob);
+    same(rt, "encoded", u64::from(status), 0);
+    let mut values = [7; 4];
+    let (status, ..) = decode(alloc, &blob, &mut values, &mut []);
+    (status, values)
+}
+
+#[test]
+fn no_mask_is_wanted_where_every_pixel_is_valid(rt: HostRuntime) {
+    let (status, values) = decode_values(&rt, rt.alloc(), b"");
+    same(&rt, "every pixel is valid", u64::from(status), 0);
+    same_bytes(&rt, "values", &values, &[1, 2, 9, 200]);
+    let (status, values) = decode_values(&rt, rt.alloc(), b"\xdf");
+    same(&rt, "one is not", u64::from(status), 3);
+    same_bytes(&rt, "what is left", &values, &[7; 4]);
 }
 
 /// More than 65,535 pixels, and more than 4,096 rows.
@@ -411,15 +452,13 @@ fn a_large_raster_out_and_in(rt: HostRuntime) {
         values.push((state >> 24) as u8).expect(&rt, "memory");
     }
     let mut blob = vec![in alloc; 0; 200_000].expect(&rt, "memory");
-    let (status, _) = encode(
-        alloc,
-        1,
-        (5000, 20, 1),
-        4,
-        &values,
-        b"",
-        blob.as_mut_slice(),
-    );
+    let given = Given {
+        kind: 1,
+        shape: (5000, 20, 1),
+        values: &values,
+        mask: b"",
+    };
+    let (status, _) = encode(alloc, given, 4, blob.as_mut_slice());
     same(&rt, "encoded", u64::from(status), 0);
     let mut back = vec![in alloc; 7; 100_000].expect(&rt, "memory");
     let mut mask = vec![in alloc; 0; 12_500].expect(&rt, "memory");
@@ -476,46 +515,130 @@ fn names_of_reasons(rt: HostRuntime) {
     expect_name(&rt, 31, b"BadVersion..", 8, b"Leftoveron..");
 }
 
-/// The status where two bands of two columns of u8, of which the second pixel is not valid, are
-/// encoded with one mask for both, and the size that is told.
-fn encode_two(alloc: Global, blobs: &mut [u8]) -> (u32, u64) {
-    let values = [1, 9, 200, 9];
+/// Two bands of one row of u8: their columns and depths, their values and masks, and those that
+/// come back.
+#[derive(Clone, Copy)]
+struct TwoBands<'a> {
+    cols: u32,
+    depth: u32,
+    values: &'a [u8],
+    masks: &'a [u8],
+    back: &'a [u8],
+    back_masks: &'a [u8],
+}
+
+/// The status where two bands are encoded without an error, and the size that is told.
+fn encode_two(alloc: Global, bands: TwoBands, version: u32, blobs: &mut [u8]) -> (u32, u64) {
     let mut size = 0;
     let status = futskheri_encode_bands(
-        alloc, 1, 1, 2, 1, 2, 3, 0, &values, b"\x80", blobs, &mut size,
+        alloc,
+        1,
+        1,
+        bands.cols,
+        bands.depth,
+        2,
+        version,
+        0,
+        bands.values,
+        bands.masks,
+        blobs,
+        &mut size,
     );
     (status, size)
 }
 
-/// The tile has two blobs.
+/// The tile has two blobs, also as its headers say, and is told where it is cut.
 fn expect_two(rt: &impl Abort, alloc: Global, tile: &[u8]) {
+    assert!(rt; !tile.is_empty());
     let mut bands = 0;
     let mut fault = NO_FAULT;
     let status = futskheri_count_bands(alloc, tile, &mut bands, &mut fault);
     same(rt, "counted", u64::from(status), 0);
     same(rt, "bands", u64::from(bands), 2);
+    bands = 0;
+    let status = futskheri_bands_of_headers(tile, &mut bands, &mut fault);
+    same(rt, "counted by headers", u64::from(status), 0);
+    same(rt, "bands of headers", u64::from(bands), 2);
+    let cut = tile.len() - 1;
+    let status = futskheri_bands_of_headers(&tile[..cut], &mut bands, &mut fault);
+    same(rt, "cut", u64::from(status), 1);
+    same(rt, "place of the cut", fault.place, cut as u64);
+    same(rt, "reason of the cut", u64::from(fault.reason), 1);
 }
 
 /// The tile has these bands.
-fn expect_bands(rt: &impl Abort, alloc: Global, tile: &[u8]) {
+fn expect_bands(rt: &impl Abort, alloc: Global, tile: &[u8], bands: TwoBands) {
     let mut values = [7; 4];
     let mut masks = [7; 2];
     let mut fault = NO_FAULT;
     let status = futskheri_decode_bands(alloc, tile, 2, &mut values, &mut masks, &mut fault);
     same(rt, "decoded", u64::from(status), 0);
-    same_bytes(rt, "values", &values, &[1, 0, 200, 0]);
-    same_bytes(rt, "masks", &masks, &[0x80, 0x80]);
+    same_bytes(rt, "values", &values, bands.back);
+    same_bytes(rt, "masks", &masks, bands.back_masks);
     let status = futskheri_decode_bands(alloc, tile, 3, &mut values, &mut masks, &mut fault);
     same(rt, "three are asked for", u64::from(status), 3);
+    let status = futskheri_decode_bands(alloc, tile, 2, &mut values, &mut [], &mut fault);
+    let wanted = if bands.masks.is_empty() { 0 } else { 3 };
+    same(rt, "without masks", u64::from(status), wanted);
 }
+
+/// The same, laid into the arrays at once.
+fn expect_bands_over(rt: &impl Abort, tile: &[u8], bands: TwoBands) {
+    let mut values = [7; 4];
+    let mut masks = [7; 2];
+    let mut fault = NO_FAULT;
+    let status = futskheri_decode_bands_over(tile, 2, &mut values, &mut masks, &mut fault);
+    same(rt, "decoded over", u64::from(status), 0);
+    same_bytes(rt, "values over", &values, bands.back);
+    same_bytes(rt, "masks over", &masks, bands.back_masks);
+    let status = futskheri_decode_bands_over(tile, 2, &mut values, &mut [], &mut fault);
+    same(rt, "over without masks", u64::from(status), 3);
+}
+
+/// The two bands come back by the version.
+fn two_come_back(rt: &impl Abort, alloc: Global, bands: TwoBands, version: u32) {
+    let mut blobs = [0; 400];
+    let (status, size) = encode_two(alloc, bands, version, &mut blobs);
+    same(rt, "encoded", u64::from(status), 0);
+    assert!(rt; size <= 400);
+    let tile = &blobs[..size as usize];
+    expect_two(rt, alloc, tile);
+    expect_bands(rt, alloc, tile, bands);
+    expect_bands_over(rt, tile, bands);
+}
+
+/// Two columns, of which the second is not valid, with one mask for both bands.
+const COLUMNS: TwoBands<'static> = TwoBands {
+    cols: 2,
+    depth: 1,
+    values: b"\x01\x09\xc8\x09",
+    masks: b"\x80",
+    back: b"\x01\x00\xc8\x00",
+    back_masks: b"\x80\x80",
+};
+
+/// Two depths of one pixel, with no mask.
+const DEPTHS: TwoBands<'static> = TwoBands {
+    cols: 1,
+    depth: 2,
+    values: b"\x01\x02\xc8\x64",
+    masks: b"",
+    back: b"\x01\x02\xc8\x64",
+    back_masks: b"\x80\x80",
+};
 
 #[test]
 fn bands_out_and_in(rt: HostRuntime) {
-    let mut blobs = [0; 300];
-    let (status, size) = encode_two(rt.alloc(), &mut blobs);
-    same(&rt, "encoded", u64::from(status), 0);
-    assert!(&rt; size <= 300);
-    let tile = &blobs[..size as usize];
-    expect_two(&rt, rt.alloc(), tile);
-    expect_bands(&rt, rt.alloc(), tile);
+    two_come_back(&rt, rt.alloc(), COLUMNS, 3);
+    two_come_back(&rt, rt.alloc(), COLUMNS, 4);
+}
+
+#[test]
+fn bands_of_two_depths_out_and_in(rt: HostRuntime) {
+    two_come_back(&rt, rt.alloc(), DEPTHS, 4);
+    let mut blobs = [5; 400];
+    let (status, size) = encode_two(rt.alloc(), DEPTHS, 3, &mut blobs);
+    same(&rt, "version 3", u64::from(status), 8);
+    same(&rt, "size", size, 0);
+    same_bytes(&rt, "what is left", &blobs, &[5; 400]);
 }

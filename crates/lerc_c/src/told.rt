@@ -2,7 +2,8 @@
 
 ghost use Rattle.std.specs.Prelude.{◌≡◌};
 ghost use Rattle.raster_cells.specs.PixelType.{code_of};
-ghost use Rattle.lerc_c.specs.Told.{TellsFault, TellsBandsFault, TellsHead, found_of, reason_number, stated_of};
+ghost use Rattle.lerc_c.specs.Told.{TellsFault, TellsBandsFault, TellsHead, found_of};
+ghost use Rattle.lerc_c.specs.Told.{reason_number, stated_of};
 
 use lerc_grammar::{BandReason, BandsFault};
 use lerc_header::{BlobFault, BlobReason, Header};
@@ -105,7 +106,7 @@ fn number_of_reason(reason: BlobReason) -> u32
 }
 
 /// What the blob says, where two numbers do not agree.
-fn stated(reason: BlobReason) -> u32
+fn number_stated(reason: BlobReason) -> u32
     ensures { result ≡ stated_of reason }
 {
     match reason {
@@ -116,7 +117,7 @@ fn stated(reason: BlobReason) -> u32
 }
 
 /// What was found, where two numbers do not agree.
-fn found(reason: BlobReason) -> u32
+fn number_found(reason: BlobReason) -> u32
     ensures { result ≡ found_of reason }
 {
     match reason {
@@ -133,8 +134,8 @@ pub(crate) fn fault_of(fault: BlobFault) -> Fault
     Fault {
         place: fault.place,
         reason: number_of_reason(fault.reason),
-        stated: stated(fault.reason),
-        found: found(fault.reason),
+        stated: number_stated(fault.reason),
+        found: number_found(fault.reason),
     }
 }
 

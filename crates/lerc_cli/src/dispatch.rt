@@ -15,14 +15,14 @@ ghost use Rattle.program_ends.specs.declared.stop.Stop.{Stop};
 ghost use Rattle.opened_bundle.specs.Files.{files_of};
 ghost use Rattle.opened_bundle.specs.Left.{IsShut};
 ghost use Rattle.lerc_cli.specs.answers.Names.{End, line_of, status_at, status_of};
-ghost use Rattle.lerc_cli.specs.answers.Table.{IsAllTold, IsOutput};
+ghost use Rattle.lerc_cli.specs.answers.Table.{Answers, IsAllTold, IsOutput};
 ghost use Rattle.lerc_cli.specs.crashes.Kept.{KeepsUpdates};
 ghost use Rattle.lerc_cli.specs.declared.refusal.Refusal.{Refusal};
 ghost use Rattle.lerc_cli.specs.declared.words.Command.{Command};
 ghost use Rattle.lerc_cli.specs.inputs.Given.{given};
 ghost use Rattle.lerc_cli.specs.inputs.Refused.{IsBandsBlob};
 ghost use Rattle.lerc_cli.specs.inside.Spelling.{IsLawful};
-ghost use Rattle.lerc_cli.specs.run.InWords.{Builds, GivesBlobs, GivesGrid, GivesGridPrefix, GivesLines, IsGridFor, TellsFault, ToldHead};
+ghost use Rattle.lerc_cli.specs.run.InWords.{Builds, GivesBlobs, GivesGrid, GivesGridPrefix, GivesLines, GivesSums, IsGridFor, TellsFault, ToldHead};
 ghost use Rattle.lerc_cli.specs.run.Run.{OfSource, OfOutput, OfVolume, OfRun};
 ghost use Rattle.lerc_cli.specs.words.Commands.{IsSpelled, IsNoCommand, calls_volume};
 
@@ -34,24 +34,23 @@ use crate::commands::get::{get, get_raw};
 use crate::commands::info::info;
 use crate::commands::put::put;
 use crate::commands::sample::sample;
+use crate::inputs::encoding::Encoding;
 use crate::refusal::Refusal;
 use crate::words::{Command, USAGE, command_of};
 use outside_io::{Marks, Report, Sink, Source, Volume, Word};
 use program_ends::{Stop, ended_status};
 use std::alloc::Global;
 use std::thread::Threads;
-use tile_workers::Gate;
+use tile_workers::{Gate, Machine};
 
 /// Does the command.
 fn perform<R: Threads + Sync, S: Source, K: Sink, V: Volume, G: Gate>(
-    rt: &R,
-    alloc: Global,
+    machine: &Machine<'_, R, G>,
     command: Command,
     src: &mut S,
     out: &mut K,
     vol: &mut V,
     marks: &mut Marks,
-    gate: &G,
 ) -> Result<(), Stop<Refusal>>
     requires none { marks.old.marks ≡ [] }
     requires lawful { IsLawful command }
@@ -67,7 +66,11 @@ fn perform<R: Threads + Sync, S: Source, K: Sink, V: Volume, G: Gate>(
         → OnOk result
         (GivesBlobs version error (S.left src.old)
         (record { old = K.held out.old; new = K.held out.new })) }
+    ensures sums { (start count : ℕ) → command ≡ Command.Sample start count
+        → OnOk result (GivesSums start count
+        (record { old = K.held out.old; new = K.held out.new })) }
 {
+    let alloc = machine.alloc;
     match command {
         Command::Encode { version, error } => encode(alloc, version, error, src, out),
         Command::Decode => decode(alloc, src, out),
@@ -76,35 +79,43 @@ fn perform<R: Threads + Sync, S: Source, K: Sink, V: Volume, G: Gate>(
             version,
             error,
             workers,
-        } => build(
-            rt, alloc, version, error, workers, src, out, vol, marks, gate,
-        ),
+        } => {
+            let encoding = Encoding {
+                version,
+                error,
+                workers,
+            };
+            build(machine, encoding, src, out, vol, marks)
+        }
         Command::Put {
             version,
             error,
             workers,
-        } => put(
-            rt, alloc, version, error, workers, src, out, vol, marks, gate,
-        ),
+        } => {
+            let encoding = Encoding {
+                version,
+                error,
+                workers,
+            };
+            put(machine, encoding, src, out, vol, marks)
+        }
         Command::Get { slot } => get(alloc, slot, out, vol),
         Command::GetRaw { slot } => get_raw(alloc, slot, out, vol),
         Command::List => list(alloc, out, vol),
         Command::Check => check(alloc, out, vol),
         Command::Recover => recover(out, vol),
-        Command::Sample { start, count } => sample(rt, alloc, start, count, out, gate),
+        Command::Sample { start, count } => sample(machine, start, count, out),
     }
 }
 
 /// Does what the words say.
 fn act<R: Threads + Sync, S: Source, K: Sink, V: Volume, G: Gate>(
-    rt: &R,
-    alloc: Global,
+    machine: &Machine<'_, R, G>,
     words: &[Word],
     src: &mut S,
     out: &mut K,
     vol: &mut V,
     marks: &mut Marks,
-    gate: &G,
 ) -> Result<(), Stop<Refusal>>
     requires { marks.old.marks ≡ [] }
     ensures usage { (result ≡ Err Stop.Usage) ↔ IsNoCommand words.now }
@@ -117,7 +128,8 @@ fn act<R: Threads + Sync, S: Source, K: Sink, V: Volume, G: Gate>(
         (K.faults out.old) (K.faults out.new) }
     ensures volume_cause { IsCause (result ≡ Err Stop.Volume)
         (V.faults vol.old) (V.faults vol.new) }
-    ensures source { (c : Command) → IsSpelled c words.now → OfSource c result (source_move S.left S.faults src.old src.new) }
+    ensures source { (c : Command) → IsSpelled c words.now
+        → OfSource c result (source_move S.left S.faults src.old src.new) }
     ensures output { (c : Command) → IsSpelled c words.now → OfOutput c
         (given (S.left src.old) (files_of (V.told vol.old) (V.history vol.old)))
         (length marks.new.marks) result (sink_move K.held K.faults out.old out.new) }
@@ -129,9 +141,12 @@ fn act<R: Threads + Sync, S: Source, K: Sink, V: Volume, G: Gate>(
         → IsSpelled (Command.Encode version error) words.now → OnOk result
         (GivesBlobs version error (S.left src.old)
         (record { old = K.held out.old; new = K.held out.new })) }
+    ensures sums { (start count : ℕ) → IsSpelled (Command.Sample start count) words.now
+        → OnOk result (GivesSums start count
+        (record { old = K.held out.old; new = K.held out.new })) }
 {
     match command_of(words) {
-        Some(command) => perform(rt, alloc, command, src, out, vol, marks, gate),
+        Some(command) => perform(machine, command, src, out, vol, marks),
         None => Err(Stop::Usage),
     }
 }
@@ -139,12 +154,12 @@ fn act<R: Threads + Sync, S: Source, K: Sink, V: Volume, G: Gate>(
 /// Does all that the program does: finds the command of the words, does it, and answers the status
 /// that the program ends with.
 ///
-/// `encode` reads one grid of one to 16 bands, and gives the blobs that are chosen for them, one for
-/// each; it refuses more than one depth in version 3. `decode` and `info` read the whole blobs of
-/// bands; then `decode` gives their grid, and `info` the lines of what each says of itself, fourteen
-/// for each. `build` and `put` read tiles; `build` makes a bundle of each slot's last one in the
-/// place of an empty bundle, and `put` puts the blobs of each into its slot. `get`, `list` and
-/// `check` tell of the bundle, and `recover` of what a crash had left; these, `build` and `put`
+/// `encode` reads one grid of one to 16 bands, and gives the blobs that are chosen for them, one
+/// for each; it refuses more than one depth in version 3. `decode` and `info` read the whole blobs
+/// of bands; then `decode` gives their grid, and `info` the lines of what each says of itself,
+/// fourteen for each. `build` and `put` read tiles; `build` makes a bundle of each slot's last one
+/// in the place of an empty bundle, and `put` puts the blobs of each into its slot. `get`, `list`
+/// and `check` tell of the bundle, and `recover` of what a crash had left; these, `build` and `put`
 /// first make that whole. `sample` draws tiles, encodes and decodes them, and gives the lines of
 /// what they come to.
 ///
@@ -205,10 +220,24 @@ pub fn run<R: Threads + Sync, S: Source, K: Sink, E: Sink, V: Volume, G: Gate>(
         → result.status ≢ 3 → result.status ≢ 4 → result.status ≢ 5 → result.status ≢ 6
         → (result.status ≡ 0) × Holds (K.held out.old) (K.held out.new) output }
 
+    // And where it is refused, it ends with that refusal, unless the same happens. So each refusal
+    // comes exactly where it is the first.
+    ensures refused_exactly { (c : Command) → IsSpelled c words.now
+        → IsAllTold c (given (S.left src.old) (files_of (V.told vol.old) (V.history vol.old)))
+        → (n : ℕ) (refusal : Refusal) (output : List ℕ)
+        → Answers c
+        (given (S.left src.old) (files_of (V.told vol.old) (V.history vol.old))) n
+        (Err (Stop.Refused refusal)) output
+        → result.status ≢ 3 → result.status ≢ 4 → result.status ≢ 5 → result.status ≢ 6
+        → (result.status ≡ status_of (Stop.Refused refusal))
+        × Holds (K.held out.old) (K.held out.new) output
+        × GivesLine (E.held err.old) (E.held err.new) (E.faults err.old) (E.faults err.new)
+        (line_of (Stop.Refused refusal)) }
+
     // At each moment of the run each image that a crash may leave is sound. It stands for the tiles
     // that stood as the run began; for `put`, with the first few of its updates done, those that
-    // have a mark by then, or also the next group of up to 64, whole; for `build`, with all done, or
-    // with none as long as none has a mark.
+    // have a mark by then, or also the next group of up to 64, whole; for `build`, with all done,
+    // or with none as long as none has a mark.
     ensures kept { (c : Command) → IsSpelled c words.now
         → (end : End) × ((result.status ≡ status_at end)
         × KeepsUpdates c
@@ -232,7 +261,8 @@ pub fn run<R: Threads + Sync, S: Source, K: Sink, E: Sink, V: Volume, G: Gate>(
     // What follows for `encode`.
     ensures encoded { (version : Version) (error : ℕ)
         → IsSpelled (Command.Encode version error) words.now → result.status ≡ 0
-        → GivesBlobs version error (S.left src.old) (record { old = K.held out.old; new = K.held out.new })
+        → GivesBlobs version error (S.left src.old)
+        (record { old = K.held out.old; new = K.held out.new })
         × IsAtEnd (S.left src.new) }
     ensures encoded_exactly { (version : Version) (error : ℕ)
         → IsSpelled (Command.Encode version error) words.now
@@ -276,9 +306,15 @@ pub fn run<R: Threads + Sync, S: Source, K: Sink, E: Sink, V: Volume, G: Gate>(
         × IsAtEnd (S.left src.new) }
     ensures not_informed { IsSpelled Command.Info words.now
         → result.status ≢ 0 → result.status ≢ 4 → out.new ≡ out.old }
+
+    // What follows for `sample`: the worst pixel is at most 1 from its decoded one.
+    ensures sampled { (start count : ℕ) → IsSpelled (Command.Sample start count) words.now
+        → result.status ≡ 0 → GivesSums start count
+        (record { old = K.held out.old; new = K.held out.new }) }
 {
+    let machine = Machine { rt, alloc, gate };
     let mut marks = Marks::new(alloc);
-    let ended = act(rt, alloc, words, src, out, vol, &mut marks, gate);
+    let ended = act(&machine, words, src, out, vol, &mut marks);
     let status = ended_status(USAGE, &ended, err);
     Report { status, marks }
 }

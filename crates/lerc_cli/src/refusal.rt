@@ -3,10 +3,8 @@
 ghost use Rattle.std.specs.Prelude.{◌≡◌};
 ghost use Rattle.lerc_cli.specs.inside.Opening.{of_store};
 
-use crate::telling::refusals::{fault_line, stream_line};
 use lerc_header::BlobReason;
 use opened_bundle::StoreRefusal;
-use outside_io::Line;
 use program_ends::Stop;
 use raster_grids::GridReason;
 
@@ -56,30 +54,6 @@ pub enum Refusal {
     Store(StoreRefusal),
     /// The input has tiles that the store does not take.
     Stream(StreamRefusal),
-}
-
-impl program_ends::Refusal for Refusal {
-    ghost use Rattle.lerc_cli.specs.answers.Names.{refusal_status, refusal_text};
-
-    ghost status = { refusal_status };
-
-    ghost text = { refusal_text };
-
-    fn status(&self) -> u8 {
-        match self {
-            Refusal::Input(_) => 2,
-            Refusal::Store(_) => 7,
-            Refusal::Stream(_) => 7,
-        }
-    }
-
-    fn text(&self) -> Line {
-        match self {
-            Refusal::Input(fault) => fault_line(*fault),
-            Refusal::Store(refusal) => program_ends::Refusal::text(refusal),
-            Refusal::Stream(refusal) => stream_line(*refusal),
-        }
-    }
 }
 
 /// A stop of the opened bundle, as one of the program.

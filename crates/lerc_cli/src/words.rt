@@ -6,7 +6,7 @@ ghost use Rattle.lerc_cli.specs.inside.Spelling.{IsBuild, IsEncode, IsGet, IsGet
 ghost use Rattle.lerc_cli.specs.words.Commands.{IsSpelled};
 
 use bundle_index::Slot;
-use command_words::{error_of, has_text, slot_of, up_to, version_of, workers_of};
+use command_words::{error_of, has_text, number_up_to, slot_of, version_of, workers_of};
 use lerc_header::Version;
 use outside_io::Word;
 use sample_tiles::MOST_TILES;
@@ -57,8 +57,8 @@ pub enum Command {
     Check,
     /// Makes whole what a crash left, and gives the line of what that was.
     Recover,
-    /// Draws so many tiles, encodes and decodes them, and gives the lines of what they come to. They
-    /// are drawn from the start on.
+    /// Draws so many tiles, encodes and decodes them, and gives the lines of what they come to.
+    /// They are drawn from the start on.
     Sample {
         start: u32,
         count: u32,
@@ -124,8 +124,8 @@ fn get_raw_of(row: &Word, col: &Word) -> Option<Command>
 fn sample_of(start: &Word, count: &Word) -> Option<Command>
     ensures { (c : Command) → (result ≡ Some c) ↔ IsSample start.now count.now c }
 {
-    let start = up_to(start, u32::MAX)?;
-    let count = up_to(count, MOST_TILES)?;
+    let start = number_up_to(start, u32::MAX)?;
+    let count = number_up_to(count, MOST_TILES)?;
     Some(Command::Sample { start, count })
 }
 

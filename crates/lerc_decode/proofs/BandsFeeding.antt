@@ -15,7 +15,7 @@ use Rattle.lerc_decode.specs.Reading.{WholeFront, BandsStage, InBlob, Behind, Wr
 use Rattle.lerc_decode.specs.inside.BandsFeeding.{Reads, ReadsAt, HasRead, reached, room_at, room_of}
 use Rattle.lerc_decode.proofs.BlobTurns.{missing_some}
 use Rattle.lerc_decode.proofs.FirstBlobs.{header_more}
-use Rattle.lerc_decode.proofs.Tiles.{blobs_few}
+use Rattle.lerc_grammar.proofs.BlobPlaces.{blobs_few}
 
 -- ---- how many bytes are taken
 

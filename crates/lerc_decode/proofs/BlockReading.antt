@@ -8,7 +8,7 @@ use Rattle.first_fault.specs.Faults.{Faults, wrong, unless, moved, in_order, end
 use Rattle.first_fault.proofs.Decided.{numbered_push}
 use Rattle.raster_values.specs.Raster.{InShape, Pixels}
 use Rattle.raster_cells.specs.Shapes.{IsShape}
-use Rattle.raster_values.specs.Block.{InBlock, PoursBlock, block_count, block_values}
+use Rattle.raster_values.specs.Block.{InBlock, ScattersBlock, block_count, block_values}
 use Rattle.raster_values.specs.Flat.{marks_of, valid_numbers, value_in}
 use Rattle.raster_values.proofs.BlockLaws.{has_count, leaves_others, of_mask, partition}
 use Rattle.raster_cells.proofs.Every.{every_range, same_map}
@@ -25,10 +25,10 @@ use Rattle.std.proofs.Math.Nat.{mul-le-mul_left, mul-le-mul_right}
 use Rattle.lerc_header.specs.declared.fault.BlobReason.TheVariants.{BadBlockSize, Leftover}
 use Rattle.lerc_grammar.proofs.BlockRasters.{begins_within}
 use Rattle.lerc_grammar.proofs.OneBlocks.{mask_by_marks, number_below, number_col, number_depth, number_row}
-use Rattle.lerc_decode.specs.declared.blob.tops.Tops.{Tops}
+use Rattle.lerc_decode.specs.declared.blob.maxima.Maxima.{Maxima}
 use Rattle.lerc_decode.specs.inside.Blocks.{HasBlocks, HasRead, IsBlockHead, IsSquare, block_number}
 use Rattle.lerc_decode.specs.inside.Body.{HasHeadShape, KeepsMarks}
-use Rattle.lerc_decode.specs.inside.Tops.{top_in}
+use Rattle.lerc_decode.specs.inside.Maxima.{top_in}
 
 -- ---- the frame
 
@@ -45,11 +45,11 @@ count_is h r a b d shape across low =
     sym (has_count r row col h.side d) ∙ ap length (block_numbered r row col h.side d) ∙ length-map (valid_numbers r row col h.side) (value_in r d)
     ∙ (λ i. length (numbers_in (sym shape.rows i) (sym shape.cols i) (marks_of r) (sym (number_row h a b d across low) i) (sym (number_col h a b d across low) i) h.side))
 
-pub frame_is : (h : Header) (r : Pixels) (tops : Tops) (top : ℤ) (a b d n : ℕ) → HasHeadShape h r → b < blocks_across h → d < h.depth → top ≡ top_in h tops d → n ≡ block_count r (a * h.side) (b * h.side) h.side
-    → record { kind = h.kind; col = b * h.side; step = h.step; top = top; count = n } ≡ block_frame h (marks_of r) (top_in h tops) (block_number h a b d)
+pub frame_is : (h : Header) (r : Pixels) (maxima : Maxima) (top : ℤ) (a b d n : ℕ) → HasHeadShape h r → b < blocks_across h → d < h.depth → top ≡ top_in h maxima d → n ≡ block_count r (a * h.side) (b * h.side) h.side
+    → record { kind = h.kind; col = b * h.side; step = h.step; top = top; count = n } ≡ block_frame h (marks_of r) (top_in h maxima) (block_number h a b d)
 unfolding block_frame
-frame_is h r tops top a b d n shape across low top_is count =
-    let top_there : top ≡ top_in h tops (block_depth h (block_number h a b d)) = top_is ∙ ap (top_in h tops) (sym (number_depth h a b d low)) in
+frame_is h r maxima top a b d n shape across low top_is count =
+    let top_there : top ≡ top_in h maxima (block_depth h (block_number h a b d)) = top_is ∙ ap (top_in h maxima) (sym (number_depth h a b d low)) in
     let count_there : n ≡ count_in_block h (marks_of r) (block_number h a b d) = count ∙ count_is h r a b d shape across low in
     λ i. record { kind = h.kind; col = sym (number_col h a b d across low) i; step = h.step; top = top_there i; count = count_there i }
 
@@ -74,30 +74,30 @@ apart h a b d j i l some less there here same =
     let is : j ≡ block_number h a b d = sym (whole_number h j) ∙ (λ t. block_number h (rows t) (cols t) (same t)) in
     omega (arith, less, is)
 
-earlier : (h : Header) (old new : Pixels) (values : List ℤ) (a b d : ℕ) → IsBlockHead h → HasHeadShape h old → PoursBlock old new (a * h.side) (b * h.side) h.side d values
+earlier : (h : Header) (old new : Pixels) (values : List ℤ) (a b d : ℕ) → IsBlockHead h → HasHeadShape h old → ScattersBlock old new (a * h.side) (b * h.side) h.side d values
     → map (coded_values h new) (range_with_len 0 (block_number h a b d)) ≡ map (coded_values h old) (range_with_len 0 (block_number h a b d))
-earlier h old new values a b d head shape pours =
+earlier h old new values a b d head shape scatters =
     same_map (coded_values h new) (coded_values h old) (range_with_len 0 (block_number h a b d))
     (every_range (λ j. coded_values h new j ≡ coded_values h old j) 0 (block_number h a b d) (λ j from below.
-    leaves_others old new (a * h.side) (b * h.side) h.side d values (block_row h j) (block_col h j) h.side (block_depth h j) pours
+    leaves_others old new (a * h.side) (b * h.side) h.side d values (block_row h j) (block_col h j) h.side (block_depth h j) scatters
     (omega (arith, mod_below j h.depth (omega (arith, head.shape.depth_above)), shape.depth))
     (λ i l there here same. apart h a b d j i l head.side_above (omega (arith, below)) there here same)))
 
-pub one_read : (h : Header) (old new : Pixels) (tops : Tops) (values : List ℤ) (rest : List ℕ) (top : ℤ) (a b d at used n : ℕ) → IsBlockHead h → IsSquare h a b → d < h.depth → HasHeadShape h old
-    → top ≡ top_in h tops d → n ≡ block_count old (a * h.side) (b * h.side) h.side → HasRead h (marks_of old) tops rest (block_number h a b d) at old
+pub one_read : (h : Header) (old new : Pixels) (maxima : Maxima) (values : List ℤ) (rest : List ℕ) (top : ℤ) (a b d at used n : ℕ) → IsBlockHead h → IsSquare h a b → d < h.depth → HasHeadShape h old
+    → top ≡ top_in h maxima d → n ≡ block_count old (a * h.side) (b * h.side) h.side → HasRead h (marks_of old) maxima rest (block_number h a b d) at old
     → (used ≤ length (take (length rest - at) (drop at rest))) × IsBlock (record { kind = h.kind; col = b * h.side; step = h.step; top = top; count = n }) (take used (take (length rest - at) (drop at rest))) values
-    → PoursBlock old new (a * h.side) (b * h.side) h.side d values → HasRead h (marks_of old) tops rest (block_number h a b d + 1) (at + used) new
-one_read h old new tops values rest top a b d at used n head square low shape top_is count read block pours =
+    → ScattersBlock old new (a * h.side) (b * h.side) h.side d values → HasRead h (marks_of old) maxima rest (block_number h a b d + 1) (at + used) new
+one_read h old new maxima values rest top a b d at used n head square low shape top_is count read block scatters =
     let k = block_number h a b d in
-    let part : ℕ → List ℕ → List ℤ → Type 0 = λ j. IsBlock (block_frame h (marks_of old) (top_in h tops) j) in
+    let part : ℕ → List ℕ → List ℤ → Type 0 = λ j. IsBlock (block_frame h (marks_of old) (top_in h maxima) j) in
     let back : take (length rest - at) (drop at rest) ≡ drop at rest = take_rest rest at in
-    let stands : IsBlock (block_frame h (marks_of old) (top_in h tops) k) (take used (drop at rest)) values =
-    subst (λ (f : Frame). IsBlock f (take used (drop at rest)) values) (frame_is h old tops top a b d n shape square.across low top_is count)
+    let stands : IsBlock (block_frame h (marks_of old) (top_in h maxima) k) (take used (drop at rest)) values =
+    subst (λ (f : Frame). IsBlock f (take used (drop at rest)) values) (frame_is h old maxima top a b d n shape square.across low top_is count)
     (subst (λ (u : List ℕ). IsBlock (record { kind = h.kind; col = b * h.side; step = h.step; top = top; count = n }) (take used u) values) back block.1) in
     let here : coded_values h new k ≡ values =
-    (λ i. block_values new (number_row h a b d square.across low i) (number_col h a b d square.across low i) h.side (number_depth h a b d low i)) ∙ pours.block in
+    (λ i. block_values new (number_row h a b d square.across low i) (number_col h a b d square.across low i) h.side (number_depth h a b d low i)) ∙ scatters.block in
     let all : map (coded_values h new) (range_with_len 0 (k + 1)) ≡ map (coded_values h old) (range_with_len 0 k) ++ values ∷ [] =
-    map-range_with_len_more (coded_values h new) 0 k k (omega arith) ∙ (λ i. earlier h old new values a b d head shape pours i ++ here i ∷ []) in
+    map-range_with_len_more (coded_values h new) 0 k k (omega arith) ∙ (λ i. earlier h old new values a b d head shape scatters i ++ here i ∷ []) in
     record {
       within = omega (arith, read.within, block.0, ap length back, length-drop at rest);
       stand = subst (Numbered part 0 (take (at + used) rest)) (sym all)
@@ -105,16 +105,16 @@ one_read h old new tops values rest top a b d at used n head square low shape to
           (numbered_push part 0 k (take at rest) (take used (drop at rest)) (map (coded_values h old) (range_with_len 0 k)) values (omega (arith, length-map-range_with_len (coded_values h old) 0 k)) read.stand stands));
     }
 
-pub one_fault : (h : Header) (old : Pixels) (tops : Tops) (rest : List ℕ) (top : ℤ) (a b d at n : ℕ) (f : BlockFault) → IsSquare h a b → d < h.depth → HasHeadShape h old
-    → top ≡ top_in h tops d → n ≡ block_count old (a * h.side) (b * h.side) h.side → HasRead h (marks_of old) tops rest (block_number h a b d) at old
+pub one_fault : (h : Header) (old : Pixels) (maxima : Maxima) (rest : List ℕ) (top : ℤ) (a b d at n : ℕ) (f : BlockFault) → IsSquare h a b → d < h.depth → HasHeadShape h old
+    → top ≡ top_in h maxima d → n ≡ block_count old (a * h.side) (b * h.side) h.side → HasRead h (marks_of old) maxima rest (block_number h a b d) at old
     → block_faults (record { kind = h.kind; col = b * h.side; step = h.step; top = top; count = n }) (take (length rest - at) (drop at rest)) f.at f.reason
-    → first_block_faults h (marks_of old) (top_in h tops) rest (at + f.at) (block_reason f.reason)
-one_fault h old tops rest top a b d at n f square low shape top_is count read fault =
+    → first_block_faults h (marks_of old) (top_in h maxima) rest (at + f.at) (block_reason f.reason)
+one_fault h old maxima rest top a b d at n f square low shape top_is count read fault =
     let k = block_number h a b d in
     let before = map (coded_values h old) (range_with_len 0 k) in
     let long : k ≡ length before = sym (length-map-range_with_len (coded_values h old) 0 k) in
-    let there : block_faults (block_frame h (marks_of old) (top_in h tops) k) (drop at rest) f.at f.reason =
-    subst (λ (x : Frame). block_faults x (drop at rest) f.at f.reason) (frame_is h old tops top a b d n shape square.across low top_is count)
+    let there : block_faults (block_frame h (marks_of old) (top_in h maxima) k) (drop at rest) f.at f.reason =
+    subst (λ (x : Frame). block_faults x (drop at rest) f.at f.reason) (frame_is h old maxima top a b d n shape square.across low top_is count)
     (subst (λ (u : List ℕ). block_faults (record { kind = h.kind; col = b * h.side; step = h.step; top = top; count = n }) u f.at f.reason) (take_rest rest at) fault) in
     let below = number_below h a b d square.down square.across low in
     record {
@@ -124,7 +124,7 @@ one_fault h old tops rest top a b d at n f square low shape top_is count read fa
       fewer = omega (arith, below, long);
       joined = sym (take-append-drop at rest);
       stand = read.stand;
-      next = (f.at, (ap (λ m. m + f.at) (sym (length-take-le at rest read.within)), (f.reason, (subst (λ m. block_faults (block_frame h (marks_of old) (top_in h tops) m) (drop at rest) f.at f.reason) long there, refl))));
+      next = (f.at, (ap (λ m. m + f.at) (sym (length-take-le at rest read.within)), (f.reason, (subst (λ m. block_faults (block_frame h (marks_of old) (top_in h maxima) m) (drop at rest) f.at f.reason) long there, refl))));
     }
 
 -- ---- blocks and marks
@@ -157,22 +157,22 @@ square_within h r a b head square shape =
 
 -- ---- all blocks
 
-pub all_read : (h : Header) (marks : List Bool) (tops : Tops) (rest : List ℕ) (at : ℕ) (r : Pixels) → HasRead h marks tops rest (block_number h (blocks_down h) 0 0) at r → AreBlocks h marks (top_in h tops) (take at rest) (all_blocks h r)
-all_read h marks tops rest at r read =
+pub all_read : (h : Header) (marks : List Bool) (maxima : Maxima) (rest : List ℕ) (at : ℕ) (r : Pixels) → HasRead h marks maxima rest (block_number h (blocks_down h) 0 0) at r → AreBlocks h marks (top_in h maxima) (take at rest) (all_blocks h r)
+all_read h marks maxima rest at r read =
     let n : block_number h (blocks_down h) 0 0 ≡ coded_blocks h = omega arith in (
       length-map-range_with_len (coded_values h r) 0 (coded_blocks h),
-      subst (λ k. Numbered (λ j. IsBlock (block_frame h marks (top_in h tops) j)) 0 (take at rest) (map (coded_values h r) (range_with_len 0 k))) n read.stand,
+      subst (λ k. Numbered (λ j. IsBlock (block_frame h marks (top_in h maxima) j)) 0 (take at rest) (map (coded_values h r) (range_with_len 0 k))) n read.stand,
     )
 
-pub all_stand : (h : Header) (marks : List Bool) (tops : Tops) (rest : List ℕ) (at : ℕ) (r : Pixels) → h.side ≤ 32 → length rest ≤ at → HasRead h marks tops rest (block_number h (blocks_down h) 0 0) at r → HasBlocks h marks tops rest r
-all_stand h marks tops rest at r low whole read = record {
+pub all_stand : (h : Header) (marks : List Bool) (maxima : Maxima) (rest : List ℕ) (at : ℕ) (r : Pixels) → h.side ≤ 32 → length rest ≤ at → HasRead h marks maxima rest (block_number h (blocks_down h) 0 0) at r → HasBlocks h marks maxima rest r
+all_stand h marks maxima rest at r low whole read = record {
   side = low;
-  stand = subst (λ (u : List ℕ). AreBlocks h marks (top_in h tops) u (all_blocks h r)) (take_all at rest (omega (arith, whole, read.within))) (all_read h marks tops rest at r read);
+  stand = subst (λ (u : List ℕ). AreBlocks h marks (top_in h maxima) u (all_blocks h r)) (take_all at rest (omega (arith, whole, read.within))) (all_read h marks maxima rest at r read);
 }
 
-pub bytes_behind_blocks : (h : Header) (marks : List Bool) (tops : Tops) (rest : List ℕ) (place at : ℕ) (r : Pixels) → h.side ≤ 32 → at < length rest → HasRead h marks tops rest (block_number h (blocks_down h) 0 0) at r
-    → moved place (blocks_faults h marks (top_in h tops) rest) (place + at) Leftover
-bytes_behind_blocks h marks tops rest place at r low more read = (
+pub bytes_behind_blocks : (h : Header) (marks : List Bool) (maxima : Maxima) (rest : List ℕ) (place at : ℕ) (r : Pixels) → h.side ≤ 32 → at < length rest → HasRead h marks maxima rest (block_number h (blocks_down h) 0 0) at r
+    → moved place (blocks_faults h marks (top_in h maxima) rest) (place + at) Leftover
+bytes_behind_blocks h marks maxima rest place at r low more read = (
   at,
   (
     refl,
@@ -183,14 +183,14 @@ bytes_behind_blocks h marks tops rest place at r low more read = (
         rest = drop at rest;
         value = all_blocks h r;
         joined = sym (take-append-drop at rest);
-        stands = all_read h marks tops rest at r read;
+        stands = all_read h marks maxima rest at r read;
         later = (0, ((let t : at ≡ length (take at rest) + 0 = omega (arith, length-take-le at rest read.within) in t), inr ((λ e. absurd (omega (arith, ap length e, length-drop at rest, more))), (refl, refl))));
       }),
     ),
   ),
 )
 
--- ---- other words for the same tops
+-- ---- other words for the same maxima
 
 frames_same : (h : Header) (marks : List Bool) (f g : ℕ → ℤ) (k : ℕ) → f (block_depth h k) ≡ g (block_depth h k) → block_frame h marks f k ≡ block_frame h marks g k
 unfolding block_frame
@@ -215,6 +215,6 @@ faults_same h marks f g bytes p r some same w =
     (all_frames h marks f g some same) w
 
 -- what was read counts for the marks before the calls, which are the same
-pub read_then : (h : Header) (first last new : Pixels) (tops : Tops) (rest : List ℕ) (k n at : ℕ) → KeepsMarks first last → k ≡ n → HasRead h (marks_of last) tops rest k at new → HasRead h (marks_of first) tops rest n at new
-read_then h first last new tops rest k n at keeps is read =
-    subst (λ (marks : List Bool). HasRead h marks tops rest n at new) (sym keeps.marks) (subst (λ (j : ℕ). HasRead h (marks_of last) tops rest j at new) is read)
+pub read_then : (h : Header) (first last new : Pixels) (maxima : Maxima) (rest : List ℕ) (k n at : ℕ) → KeepsMarks first last → k ≡ n → HasRead h (marks_of last) maxima rest k at new → HasRead h (marks_of first) maxima rest n at new
+read_then h first last new maxima rest k n at keeps is read =
+    subst (λ (marks : List Bool). HasRead h marks maxima rest n at new) (sym keeps.marks) (subst (λ (j : ℕ). HasRead h (marks_of last) maxima rest j at new) is read)

@@ -42,9 +42,9 @@ use Rattle.huff_codes.specs.Table.{IsCoding}
 use Rattle.lerc_grammar.specs.Codes.{codes_faults}
 use Rattle.lerc_grammar.proofs.CodedOnce.{least_mode}
 use Rattle.lerc_decode.specs.inside.Codes.{HasDeltas, HasPlain}
-use Rattle.lerc_decode.specs.declared.blob.tops.Tops.{Tops}
+use Rattle.lerc_decode.specs.declared.blob.maxima.Maxima.{Maxima}
 use Rattle.lerc_decode.specs.inside.Blocks.{HasBlocks}
-use Rattle.lerc_decode.specs.inside.Tops.{AreTopsOf, HasBoth, top_in}
+use Rattle.lerc_decode.specs.inside.Maxima.{AreMaximaOf, HasBoth, top_in}
 use Rattle.lerc_decode.proofs.BlockReading.{blocks_same, faults_same}
 use Rattle.lerc_decode.specs.inside.Body.{IsFaultIn, IsStopOf, HasHeadShape, IsFilledWith, IsMarkedBy, IsMarkedFor, IsMaskFormFor, IsSwept, KeepsMarks, marks_for}
 
@@ -356,24 +356,24 @@ sweep_fault h blob mask marks at t p reason (q, (e, w)) =
 
 -- ---- blocks
 
-pub image_blocks : (h : Header) (blob : List ℕ) (mask : MaskForm) (at : ℕ) (old r : Pixels) (tops : Tops) (t : CodedThere h blob mask (Blocks at) at) → 0 < h.depth → KeepsMarks old r
-    → AreTopsOf h (image_of h blob mask) tops → HasBlocks h (marks_of old) tops (take (length blob - at) (drop at blob)) r → IsImage h (image_of h blob mask) r
-image_blocks h blob mask at old r tops t some keeps are b =
+pub image_blocks : (h : Header) (blob : List ℕ) (mask : MaskForm) (at : ℕ) (old r : Pixels) (maxima : Maxima) (t : CodedThere h blob mask (Blocks at) at) → 0 < h.depth → KeepsMarks old r
+    → AreMaximaOf h (image_of h blob mask) maxima → HasBlocks h (marks_of old) maxima (take (length blob - at) (drop at blob)) r → IsImage h (image_of h blob mask) r
+image_blocks h blob mask at old r maxima t some keeps are b =
     let values = behind_place h blob mask (Blocks at) at t in
     image_coded h blob mask (Blocks at) at r t
     (blocks t.tells.0 t.values (ap (λ (u : List ℕ). u ++ t.values) t.tells.1.1) t.tells.1.0 b.side
     (subst (λ (ms : List Bool). AreBlocks h ms (top_of h t.front) t.values (all_blocks h r)) keeps.marks
-    (blocks_same h (marks_of old) (top_in h tops) (top_of h t.front) t.values (all_blocks h r) some (are.each t.front (t.tell ++ t.values) t.lists)
-    (subst (λ (u : List ℕ). AreBlocks h (marks_of old) (top_in h tops) u (all_blocks h r)) values b.stand))))
+    (blocks_same h (marks_of old) (top_in h maxima) (top_of h t.front) t.values (all_blocks h r) some (are.each t.front (t.tell ++ t.values) t.lists)
+    (subst (λ (u : List ℕ). AreBlocks h (marks_of old) (top_in h maxima) u (all_blocks h r)) values b.stand))))
 
-pub blocks_fault : (h : Header) (blob : List ℕ) (mask : MaskForm) (marks : List Bool) (at : ℕ) (tops : Tops) (t : CodedThere h blob mask (Blocks at) at) → 0 < h.depth
-    → AreTopsOf h (image_of h blob mask) tops → (p : ℕ) (reason : BlobReason) → moved at (blocks_faults h marks (top_in h tops) (take (length blob - at) (drop at blob))) p reason
+pub blocks_fault : (h : Header) (blob : List ℕ) (mask : MaskForm) (marks : List Bool) (at : ℕ) (maxima : Maxima) (t : CodedThere h blob mask (Blocks at) at) → 0 < h.depth
+    → AreMaximaOf h (image_of h blob mask) maxima → (p : ℕ) (reason : BlobReason) → moved at (blocks_faults h marks (top_in h maxima) (take (length blob - at) (drop at blob))) p reason
     → moved (image_place h mask) (image_faults h marks (image_of h blob mask)) p reason
-blocks_fault h blob mask marks at tops t some are p reason (q, (e, w)) =
+blocks_fault h blob mask marks at maxima t some are p reason (q, (e, w)) =
     let values = behind_place h blob mask (Blocks at) at t in
     let mode = t.tells.0 in
     let there : blocks_faults h marks (top_of h t.front) t.values q reason =
-    faults_same h marks (top_in h tops) (top_of h t.front) t.values q reason some (are.each t.front (t.tell ++ t.values) t.lists) (subst (λ (u : List ℕ). blocks_faults h marks (top_in h tops) u q reason) values w) in
+    faults_same h marks (top_in h maxima) (top_of h t.front) t.values q reason some (are.each t.front (t.tell ++ t.values) t.lists) (subst (λ (u : List ℕ). blocks_faults h marks (top_in h maxima) u q reason) values w) in
     coded_fault h blob mask (Blocks at) marks at q p reason t e
     (subst (λ (u : List ℕ). coded_faults (value_faults h marks t.front) h (u ++ t.values) (length u + q) reason) (sym t.tells.1.1)
     (subst (λ (n : ℕ). coded_faults (value_faults h marks t.front) h (0 ∷ (mode ++ t.values)) n reason) (let s : 1 + (length mode + q) ≡ suc (length mode) + q = omega arith in s)

@@ -6,7 +6,7 @@ use Rattle.first_fault.specs.Faults.{moved}
 use Rattle.raster_cells.specs.declared.kind.PixelType.{PixelType}
 use Rattle.raster_cells.specs.PixelType.{bytes_of}
 use Rattle.raster_cells.specs.Values.{AreValues}
-use Rattle.raster_values.specs.Order.{PoursBytes}
+use Rattle.raster_values.specs.Order.{ScattersBytes}
 use Rattle.raster_cells.proofs.Spelled.{same_count}
 use Rattle.lerc_header.specs.declared.header.Header.{Header}
 use Rattle.lerc_header.specs.declared.fault.BlobReason.TheVariants.{Leftover}
@@ -60,7 +60,7 @@ sweep_size h r size need shape valid is low high =
 pub marked_count : (r s : Pixels) (valid : ℕ) → KeepsMarks r s → count_of (marks_of r) ≡ valid → valid_count s ≡ valid
 marked_count r s valid keeps e = counted s.pixels ∙ ap count_of (sym keeps.marks) ∙ e
 
-pub swept : (h : Header) (old new : Pixels) (bytes : List ℕ) (need : ℕ) → HasHeadShape h old → PoursBytes old new bytes → need ≡ value_count h * bytes_of h.kind → length bytes ≡ need → IsSwept h bytes new
+pub swept : (h : Header) (old new : Pixels) (bytes : List ℕ) (need : ℕ) → HasHeadShape h old → ScattersBytes old new bytes → need ≡ value_count h * bytes_of h.kind → length bytes ≡ need → IsSwept h bytes new
 swept h old new bytes need shape p is size =
-    let stands : AreValues h.kind bytes (values_of new.pixels) = subst (λ (k : PixelType). AreValues k bytes (values_of new.pixels)) (sym shape.kind) p.poured in
+    let stands : AreValues h.kind bytes (values_of new.pixels) = subst (λ (k : PixelType). AreValues k bytes (values_of new.pixels)) (sym shape.kind) p.scattered in
     record { stands = stands; count = same_count h.kind (length (values_of new.pixels)) (value_count h) (sym stands.size ∙ size ∙ is) }

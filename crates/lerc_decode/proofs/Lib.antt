@@ -2,7 +2,9 @@ mod Marks
 mod Filling
 mod Bodies
 mod CallersArrays
-mod Befores
+mod OverBands
+mod OverWalk
+mod PreviousMasks
 mod Fields
 mod Steps
 mod BandsFeeding
@@ -14,5 +16,4 @@ mod Tiles
 mod TopLists
 mod BlobTurns
 mod BlockReading
-mod CodePlaces
 mod Symbols

@@ -16,7 +16,8 @@ use Rattle.lerc_decode.specs.Reading.{WholeFront, Behind, IsFrontOf, IsAt}
 use Rattle.lerc_decode.specs.inside.BandsStages.{stage_in, IsRaised}
 use Rattle.lerc_decode.specs.inside.Turns.{with_blob, IsNext}
 use Rattle.lerc_decode.proofs.BlobTurns.{header_before}
-use Rattle.lerc_decode.proofs.Tiles.{front_next, blobs_few, some_bands}
+use Rattle.lerc_grammar.proofs.BlobPlaces.{bands_fault_within, blobs_few}
+use Rattle.lerc_decode.proofs.Tiles.{front_next}
 
 -- ---- a blob is whole
 
@@ -40,14 +41,20 @@ ends_no_room taken bytes f next e is n =
 
 -- ---- it is wrong
 
+-- its place has a number
+pub refused_few : (taken bytes : List ℕ) (f : WholeFront) (next : Next) (fault : BandsFault) → next ≡ Refused fault → IsFrontOf bytes f → IsNext taken f.bands bytes next → f.place + fault.place < 2 ^ 64
+refused_few taken bytes f next fault is front n =
+    let there = subst (IsNext taken f.bands bytes) is n in
+    let low = bands_fault_within taken (length bytes + fault.place) fault.reason there.0.0 in
+    omega (arith, front.0, low.1)
+
 pub refused_at : (taken bytes : List ℕ) (f : WholeFront) (next : Next) (fault : BandsFault) (p : BandsProgress) → next ≡ Refused fault → IsRaised fault f.place p → IsFrontOf bytes f → IsNext taken f.bands bytes next → IsAt taken f (stage_in p)
 refused_at taken bytes f next fault p is raised front n = by p raised (subst (IsNext taken f.bands bytes) is n)
   where
     by : (p : BandsProgress) → IsRaised fault f.place p → IsNext taken f.bands bytes (Refused fault) → IsAt taken f (stage_in p)
     by (AtFault g) same there =
         subst (λ (x : BandsFault). FirstBandsFault taken x.place x.reason × IsLeastFault taken) (sym same) (subst (λ (k : ℕ). FirstBandsFault taken (k + fault.place) fault.reason × IsLeastFault taken) front.0 there.0)
-    by AtNone some there =
-        subst HasHeader (sym there.1.1.joined) (header_before None f.bands bytes there.1.0 there.1.1.stand (some_bands None bytes f.bands there.1.1.stand (omega (arith, some, front.0))))
+    by AtNone same there = absurd same
     by (Inside d) same there = absurd same
     by (AtKey have) same there = absurd same
 

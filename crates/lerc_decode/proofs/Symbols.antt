@@ -17,7 +17,6 @@ use Rattle.lerc_header.specs.declared.fault.BlobReason.{BlobReason}
 use Rattle.lerc_header.specs.declared.fault.BlobReason.TheVariants.{Leftover}
 use Rattle.lerc_grammar.specs.Reasons.{code_reason}
 use Rattle.lerc_grammar.specs.Codes.{codes_faults, symbols_of}
-use Rattle.lerc_decode.specs.inside.Body.{KeepsMarks}
 use Rattle.lerc_decode.specs.inside.Codes.{words_faults}
 
 -- ---- words

@@ -1,5 +1,5 @@
 -- A decoder of bands at each of its stages.
-use Rattle.std.proofs.Common.{◌≡◌, ℕ, ◌+◌, ◌*◌, ◌<◌, ◌≤◌, zero, suc, List, [], ◌∷◌, ◌++◌, length, get_or, take, codes, Option, None, Some, Result, Ok, Err, refl, sym, ap, ◌∙◌, subst, arith, ◌⊎◌, inl, inr}
+use Rattle.std.proofs.Common.{◌≡◌, ℕ, ◌+◌, ◌<◌, zero, suc, List, [], ◌∷◌, ◌++◌, length, get_or, take, codes, Option, None, Some, Result, Ok, Err, refl, sym, ap, ◌∙◌, subst, arith, ◌⊎◌, inl, inr}
 use Rattle.std.specs.Prelude.{IfOk}
 use Rattle.std.specs.List.{slice_get}
 use Rattle.std.proofs.lemmas.List.{append_assoc, append-nil, length-append, length-take-le, take_all, take_more}
@@ -11,7 +11,7 @@ use Rattle.lerc_grammar.specs.declared.bands.BandReason.TheVariants.{Blob as OfB
 use Rattle.lerc_grammar.specs.Mask.{Previous, previous_of}
 use Rattle.lerc_grammar.specs.Blob.{BlobAfter}
 use Rattle.lerc_grammar.specs.Verdict.{FirstFaultAfter, of_key, of_field, of_blob}
-use Rattle.lerc_grammar.specs.Bands.{BlobsAfter, BandsBlob, BandsFaultAt, FirstBandsFault, IsLeastFault, IsNoBlob, last_after, Decoded, Refused as RefusedOf}
+use Rattle.lerc_grammar.specs.Bands.{BandsBlob, BandsFaultAt, FirstBandsFault, IsLeastFault, IsNoBlob, last_after, Decoded, Refused as RefusedOf}
 use Rattle.lerc_grammar.specs.BandsReading.{IsInside, IsBetween}
 use Rattle.lerc_grammar.proofs.Verdicts.{done_head}
 use Rattle.lerc_grammar.proofs.BandsOnce.{one_bands_verdict}
@@ -43,21 +43,6 @@ kept_next (Some blobs) bytes blob bands r (joined, are) is =
 
 pub front_next : (f : WholeFront) (bytes blob : List ℕ) (r : Pixels) → IsFrontOf bytes f → BlobAfter (last_after None f.bands) blob r → IsFrontOf (bytes ++ blob) (with_blob f r blob)
 front_next f bytes blob r (long, kept) is = (length-append bytes blob ∙ ap (λ n. n + length blob) long, kept_next f.kept bytes blob f.bands r kept is)
-
--- ---- how many bytes there may be
-
-pub blob_few : (before : Option Previous) (blob : List ℕ) (r : Pixels) → BlobAfter before blob r → length blob ≤ 134217728
-blob_few before blob r (sound, (h, (p, j))) = omega (arith, j.head_of.size, j.head_stands.size_below)
-
-pub blobs_few : (before : Option Previous) (bytes : List ℕ) (bands : List Pixels) → BlobsAfter before bytes bands → length bytes ≤ length bands * 134217728
-blobs_few before bytes [] none_ = omega (arith, ap length none_)
-blobs_few before bytes (r ∷ more) (front, (rest, (joined, (blob, others)))) =
-    omega (arith, ap length joined, length-append front rest, blob_few before front r blob, blobs_few (Some (previous_of r)) rest more others)
-
--- bytes in front are those of a blob
-pub some_bands : (before : Option Previous) (bytes : List ℕ) (bands : List Pixels) → BlobsAfter before bytes bands → 0 < length bytes → 0 < length bands
-some_bands before bytes [] none_ some = absurd (omega (arith, some, ap length none_))
-some_bands before bytes (r ∷ more) blobs some = omega arith
 
 -- ---- at the start
 

@@ -1,4 +1,4 @@
--- The tops of the depths, from the lists.
+-- The maxima of the depths, from the lists.
 use Rattle.std.proofs.Common.{◌≡◌, ℕ, ℤ, pos, ◌+◌, ◌-◌, ◌*◌, ◌<◌, Bool, List, ◌++◌, length, get_or, take, drop, Option, Some, None, refl, sym, ap, ◌∙◌, arith, inl, inr}
 use Rattle.std.specs.Prelude.{if◌then◌else◌}
 use Rattle.std.proofs.lemmas.Bool.{eq-eqb, ne_eqb}
@@ -11,8 +11,8 @@ use Rattle.lerc_header.specs.declared.header.Version.{Version}
 use Rattle.lerc_header.specs.declared.header.Version.TheVariants.{V3, V4}
 use Rattle.lerc_grammar.specs.Image.{Ends, IsFront, top_of}
 use Rattle.lerc_grammar.specs.Outline.{HasLists}
-use Rattle.lerc_decode.specs.declared.blob.tops.Tops.TheVariants.{One}
-use Rattle.lerc_decode.specs.inside.Tops.{AreTopsOf, IsOneTop, top_in}
+use Rattle.lerc_decode.specs.declared.blob.maxima.Maxima.TheVariants.{One}
+use Rattle.lerc_decode.specs.inside.Maxima.{AreMaximaOf, IsOneTop, top_in}
 
 -- ---- one top for all depths
 
@@ -28,10 +28,10 @@ its_top : (h : Header) (lists : List ℕ) (front : Option Ends) (d : ℕ) → Is
 its_top h lists front d (inl v) f = v3_top h h.version lists front d v f
 its_top h lists front d (inr one) f = depth_top h front d one
 
-pub one_top : (h : Header) (bytes : List ℕ) → IsOneTop h → InRange h.kind h.greatest → AreTopsOf h bytes One
+pub one_top : (h : Header) (bytes : List ℕ) → IsOneTop h → InRange h.kind h.greatest → AreMaximaOf h bytes One
 unfolding top_in
 one_top h bytes is high = record {
-  tops_are = high;
+  maxima_are = high;
   each = λ front behind l d low. sym (its_top h l.lists front d is l.stand);
 }
 
@@ -71,8 +71,8 @@ pub which_version : (v : Version) → ¬ (v ≡ V3) → v ≡ V4
 which_version V3 other = absurd (other refl)
 which_version V4 other = refl
 
-pub listed_tops : (h : Header) (bytes : List ℕ) (size : ℕ) → ¬ IsOneTop h → size ≡ h.depth * bytes_of h.kind → (front : Option Ends) (behind : List ℕ) → HasLists h bytes front behind
+pub listed_maxima : (h : Header) (bytes : List ℕ) (size : ℕ) → ¬ IsOneTop h → size ≡ h.depth * bytes_of h.kind → (front : Option Ends) (behind : List ℕ) → HasLists h bytes front behind
     → (d : ℕ) → d < h.depth → value_at h.kind (take size (drop size bytes)) d ≡ top_of h front d
-listed_tops h bytes size several size_is front behind l d low =
+listed_maxima h bytes size several size_is front behind l d low =
     ap (λ (u : List ℕ). value_at h.kind (take size (drop size u)) d) l.joined
     ∙ listed_top h h.version l.lists behind front d size (which_version h.version (λ v. several (inl v))) (λ one. several (inr one)) l.stand size_is low

@@ -6,4 +6,5 @@ pub mod Reading
 pub mod BandsStates
 pub mod BandsSource
 pub mod Over
+pub mod OverBands
 pub mod inside

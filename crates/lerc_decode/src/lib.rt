@@ -8,9 +8,12 @@
 
 mod blob;
 mod over;
+mod over_bands;
+mod over_next;
 mod streams;
 
 pub use over::{OverFault, decode_over};
+pub use over_bands::{BandsOverFault, decode_bands_over};
 pub use streams::bands::{BandsDecoder, BandsFed, BandsState, BandsStop, decode_bands};
 pub use streams::bands_source::{BandsFromFault, decode_bands_from, keep_bands_from};
 pub use streams::decoder::{DecodeFault, Decoder, Fed, FedState};

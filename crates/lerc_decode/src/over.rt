@@ -4,7 +4,7 @@ ghost use Rattle.std.specs.Prelude.{◌≡◌, ◌≤◌, ◌<◌, ◌*◌, ◌-
 ghost use Rattle.std.specs.Prelude.{None, OnOk, drop, get_or, length, take};
 ghost use Rattle.raster_values.specs.Flat.{all_values};
 ghost use Rattle.raster_cells.specs.Values.{values_bytes};
-ghost use Rattle.raster_values.specs.Lent.{array_of, bytes_in, lent_pixels};
+ghost use Rattle.raster_values.specs.RasterMut.{array_of, bytes_in, lent_pixels};
 ghost use Rattle.raster_cells.specs.Masks.{marks_in};
 ghost use Rattle.raster_cells.specs.Shapes.{IsShape};
 ghost use Rattle.raster_values.specs.Raster.{Pixels};
@@ -16,16 +16,16 @@ ghost use Rattle.lerc_grammar.specs.Mask.{IsMaskAfter};
 ghost use Rattle.lerc_grammar.specs.Outline.{IsMaskForm, image_place};
 ghost use Rattle.lerc_decode.specs.Over.{AskOtherRoom, HaveRoom, HoldRaster, IsDecodedOver};
 ghost use Rattle.lerc_decode.specs.Over.{IsFaultOf, IsOverStop};
-ghost use Rattle.lerc_decode.specs.inside.Body.{IsFaultIn, IsMarkedFor, IsPouredOver, KeepsMarks};
+ghost use Rattle.lerc_decode.specs.inside.Body.{IsFaultIn, IsMarkedFor, IsScatteredOver, KeepsMarks};
 
-use crate::blob::before::Before;
 use crate::blob::body::{image_of, mask_form};
 use crate::blob::front::{header_at, version_at};
 use crate::blob::masks::mask_bits;
+use crate::blob::previous_mask::PreviousMask;
 use crate::blob::summed::SummedBlob;
 use lerc_grammar::MaskForm;
 use lerc_header::{BlobFault, BlobReason, Header, Version};
-use raster_values::Lent;
+use raster_values::RasterMut;
 
 /// Why no blob was decoded into a caller's arrays.
 #[derive(Clone, Copy, Debug, PartialEq, Eq)]
@@ -37,7 +37,7 @@ pub enum OverFault {
 }
 
 /// The bytes end too early.
-fn cut(blob: &[u8]) -> BlobFault
+pub(crate) fn cut_fault(blob: &[u8]) -> BlobFault
     ensures { result ≡ record { reason = BlobReason.Truncated; place = length blob.now } }
 {
     BlobFault {
@@ -57,19 +57,19 @@ fn header_behind(blob: &[u8], version: Version) -> Result<Header, BlobFault>
 {
     let size = version.head_length();
     if blob.len() < size {
-        return Err(cut(blob));
+        return Err(cut_fault(blob));
     }
     header_at(version, &blob[..size])
 }
 
 /// The header with which the bytes begin.
-fn front_header(blob: &[u8]) -> Result<Header, BlobFault>
+pub(crate) fn front_header(blob: &[u8]) -> Result<Header, BlobFault>
     ensures ok { IfOk result (λ h. HeadAt blob.now h) }
     ensures fault { IfErr result (λ f. IsFaultOf blob.now f) }
     ensures none { IfErr result (λ f. (h : Header) → ¬ HeadAt blob.now h) }
 {
     if blob.len() < 10 {
-        return Err(cut(blob));
+        return Err(cut_fault(blob));
     }
     match version_at(blob) {
         Ok(version) => header_behind(blob, version),
@@ -88,7 +88,7 @@ fn have_room(header: &Header, values: usize, mask: usize) -> bool
 }
 
 /// Gives the raster in the caller's arrays the values that the image says.
-fn fill_lent(blob: &SummedBlob, form: &MaskForm, lent: &mut Lent) -> Result<(), BlobFault>
+fn fill_lent(blob: &SummedBlob, form: &MaskForm, lent: &mut RasterMut) -> Result<(), BlobFault>
     requires form { IsMaskForm blob.now.header blob.now.bytes.now form.now }
     requires marked { IsMarkedFor None blob.now.header blob.now.bytes.now form.now
         (lent_pixels lent.old) }
@@ -104,7 +104,7 @@ fn fill_lent(blob: &SummedBlob, form: &MaskForm, lent: &mut Lent) -> Result<(), 
 }
 
 /// Reads the image into the array of values, behind a mask that stands.
-fn pour_over(
+fn scatter_over(
     blob: &SummedBlob,
     form: &MaskForm,
     mask: &[u8],
@@ -118,12 +118,13 @@ fn pour_over(
         (drop (head_length blob.now.header.version) blob.now.bytes.now))
         (marks_in (blob.now.header.rows * blob.now.header.cols) mask.now) }
     ensures bytes { (k : ℕ) → get_or mask.now k 0 < 256 }
-    ensures ok { OnOk result (IsPouredOver blob.now.header blob.now.bytes.now mask.now values.new) }
+    ensures ok { OnOk result
+        (IsScatteredOver blob.now.header blob.now.bytes.now mask.now values.new) }
     ensures fault { IfErr result
         (λ fault. IsFaultIn (blob_faults None blob.now.header blob.now.bytes.now) fault) }
 {
     let header = &blob.header;
-    let mut lent = Lent::over(
+    let mut lent = RasterMut::over(
         header.kind,
         header.rows,
         header.cols,
@@ -143,10 +144,10 @@ fn summed_over(blob: &SummedBlob, values: &mut [u8], mask: &mut [u8]) -> Result<
     ensures fault { IfErr result
         (λ fault. IsFaultIn (blob_faults None blob.now.header blob.now.bytes.now) fault) }
 {
-    let before: Option<Before> = None;
+    let before: Option<PreviousMask> = None;
     let form = mask_form(blob, &before)?;
     mask_bits(blob, &form, &before, mask)?;
-    pour_over(blob, &form, mask, values)
+    scatter_over(blob, &form, mask, values)
 }
 
 /// The same, where it is not known that the checksum stands.
@@ -169,19 +170,22 @@ fn body_over(
     }
 }
 
-/// Decodes the blob with which the bytes begin into a caller's arrays, and answers how many bytes it
-/// has: the bytes of all values, row by row and the depths innermost, in the bytes of the type,
+/// Decodes the blob with which the bytes begin into a caller's arrays, and answers how many bytes
+/// it has: the bytes of all values, row by row and the depths innermost, in the bytes of the type,
 /// little-endian and 0 where a pixel is invalid, and a bit for each pixel, row by row and the
-/// highest of each byte first, the bits behind the last pixel 0. How long they have to be the header
-/// says, which is asked first.
+/// highest of each byte first, the bits behind the last pixel 0. How long they have to be the
+/// header says, which is asked first.
 ///
-/// No memory is taken. Where there is no blob, and but for `Sizes`, the arrays hold anything.
+/// No memory is taken. Where the answer is `Sizes` the arrays stay as they were; where there is no
+/// blob they hold anything.
 pub fn decode_over(blob: &[u8], values: &mut [u8], mask: &mut [u8]) -> Result<usize, OverFault>
     ensures ok { IfOk result (λ size. IsDecodedOver blob.now size values.new mask.new) }
     ensures stop { IfErr result (λ stop.
         IsOverStop blob.now (length values.old) (length mask.old) stop) }
     ensures sizes { IsErrOf result OverFault.Sizes
         ↔ AskOtherRoom blob.now (length values.old) (length mask.old) }
+    ensures kept { IsErrOf result OverFault.Sizes
+        → (values.new ≡ values.old) × (mask.new ≡ mask.old) }
 {
     let header = match front_header(blob) {
         Ok(header) => header,
@@ -192,7 +196,7 @@ pub fn decode_over(blob: &[u8], values: &mut [u8], mask: &mut [u8]) -> Result<us
     }
     let size = header.size as usize;
     if blob.len() < size {
-        return Err(OverFault::Blob(cut(blob)));
+        return Err(OverFault::Blob(cut_fault(blob)));
     }
     match body_over(&blob[..size], &header, values, mask) {
         Ok(()) => Ok(size),

@@ -25,7 +25,7 @@ use Rattle.micro_block.specs.ChosenBlock.{least_value}
 use Rattle.lerc_encode.specs.AllAlike.{alike}
 use Rattle.lerc_encode.specs.Choice.{chosen_blob, chosen_with, header_with, mask_and_image}
 use Rattle.lerc_encode.specs.Heads.{header_of}
-use Rattle.lerc_encode.specs.Images.{ending, image_bytes, side_at, constant, empty}
+use Rattle.lerc_encode.specs.Images.{tail, image_bytes, side_at, constant, empty}
 use Rattle.lerc_encode.specs.Masks.{mask_part, mask_runs_of}
 use Rattle.lerc_encode.specs.Ranges.{greatest_value, is_constant, is_empty}
 use Rattle.lerc_encode.proofs.Extremes.{all_least_fits, all_greatest_fits}
@@ -138,10 +138,10 @@ no_runs kind rows cols depth (Some value) shape h =
     alike_runs (marks_of (alike kind rows cols depth (Some value))) (sym (alike_is (alike kind rows cols depth (Some value)) (alike_sound kind rows cols depth (Some value) shape h) n (all_count kind rows cols depth value)) ∙ all)
 
 no_image : (kind : PixelType) (rows cols depth : ℕ) (value : Option ℤ) (version : Version) (step : ℕ) → IsShape rows cols depth
-    → (side_at (ending (alike kind rows cols depth value) version step) ≡ 8) × (image_bytes (alike kind rows cols depth value) version step (ending (alike kind rows cols depth value) version step) ≡ [])
+    → (side_at (tail (alike kind rows cols depth value) version step) ≡ 8) × (image_bytes (alike kind rows cols depth value) version step (tail (alike kind rows cols depth value) version step) ≡ [])
 no_image kind rows cols depth None version step shape =
     let r = alike kind rows cols depth None in
-    let e : ending r version step ≡ empty = ends_empty r version step (eq-eqb (valid_count r) 0 (sym (none_count kind rows cols depth))) in
+    let e : tail r version step ≡ empty = ends_empty r version step (eq-eqb (valid_count r) 0 (sym (none_count kind rows cols depth))) in
     (ap side_at e, ap (image_bytes r version step) e)
 no_image kind rows cols depth (Some value) version step shape =
     let r = alike kind rows cols depth (Some value) in
@@ -149,7 +149,7 @@ no_image kind rows cols depth (Some value) version step shape =
     let count = all_count kind rows cols depth value in
     let more : is_empty r ≡ false = (let above : 0 < valid_count r = omega (arith, some, count) in grind (arith, nat_tests, above)) in
     let one : is_constant r ≡ true = (Decides-int_eq (least_value (values_of r.pixels)) (greatest_value (values_of r.pixels))).1 (sym (one_least kind rows cols depth value shape) ∙ one_greatest kind rows cols depth value shape) in
-    let e : ending r version step ≡ constant = ends_constant r version step more one in
+    let e : tail r version step ≡ constant = ends_constant r version step more one in
     (ap side_at e, ap (image_bytes r version step) e)
 
 pub alike_behind : (kind : PixelType) (rows cols depth : ℕ) (value : Option ℤ) (version : Version) (step : ℕ) → IsShape rows cols depth → mask_part [] ≡ mask_and_image [] (alike kind rows cols depth value) version step
@@ -176,7 +176,7 @@ alike_head kind rows cols depth value version step shape h valid size level coun
   where
     by : (value : Option ℤ) → IsShape rows cols depth → IfSome value (InRange kind) → valid ≡ valid_count (alike kind rows cols depth value)
         → level ≡ least_value (values_of (alike kind rows cols depth value).pixels) → level ≡ greatest_value (values_of (alike kind rows cols depth value).pixels)
-        → 8 ≡ side_at (ending (alike kind rows cols depth value) version step) → size ≡ head_length version + length (mask_and_image [] (alike kind rows cols depth value) version step)
+        → 8 ≡ side_at (tail (alike kind rows cols depth value) version step) → size ≡ head_length version + length (mask_and_image [] (alike kind rows cols depth value) version step)
         → ◌≡◌ {A = Header} (record { version = version; checksum = 0; rows = rows; cols = cols; depth = depth; valid = valid; side = 8; size = size; kind = kind; step = step; least = to_z w64 (of_z w64 level); greatest = to_z w64 (of_z w64 level) })
         (header_with [] (alike kind rows cols depth value) version step 0)
     by None shape h count least greatest side size_is =

@@ -28,7 +28,7 @@ use Rattle.lerc_encode.specs.Heads.{header_of}
 use Rattle.lerc_encode.specs.Ranges.{lists_bytes, greatests, has_equal_ranges, is_constant, is_empty, leasts}
 use Rattle.lerc_grammar.specs.Mask.{Previous}
 use Rattle.lerc_encode.specs.Masks.{are_alike, mask_part, mask_runs_of, packed, runs_after, runs_unless, takes_mask}
-use Rattle.lerc_encode.specs.Images.{CodedForm, sweep, blocks_8, blocks_16, delta, plain, empty, constant, ranges, coded, all_deltas, blocks_bytes, chosen_coded_form, ending, coded_form_bytes, has_mode, image_bytes, is_v4, mode_bytes}
+use Rattle.lerc_encode.specs.Images.{CodedForm, sweep, blocks_8, blocks_16, delta, plain, empty, constant, ranges, coded, all_deltas, blocks_bytes, chosen_coded_form, tail, coded_form_bytes, has_mode, image_bytes, is_v4, mode_bytes}
 use Rattle.lerc_encode.specs.Choice.{mask_and_image, checksum_of, header_with}
 use Rattle.lerc_encode.proofs.Packing.{packed_below}
 use Rattle.lerc_encode.proofs.TableBytes.{used_of}
@@ -124,8 +124,8 @@ form_below r version step delta may =
 form_below r version step plain may =
     (omega arith, (omega arith, coding_below (plain_symbols r) (and_parts (has_mode r step && is_v4 version) (have_codes (plain_symbols r)) may).1))
 
-image_below : (r : Pixels) (version : Version) (step : ℕ) → AreBelow (image_bytes r version step (ending r version step))
-unfolding ending
+image_below : (r : Pixels) (version : Version) (step : ℕ) → AreBelow (image_bytes r version step (tail r version step))
+unfolding tail
 image_below r version step = by (is_empty r) (is_constant r) (is_v4 version && has_equal_ranges r)
   where
     by : (b d c : Bool) → AreBelow (image_bytes r version step (if b then empty else (if d then constant else (if c then ranges else coded (chosen_coded_form r version step)))))
@@ -138,7 +138,7 @@ image_below r version step = by (is_empty r) (is_constant r) (is_v4 version && h
 behind_below : (runs : List ℕ) → AreBelow runs → (r : Pixels) (version : Version) (step : ℕ) → AreBelow (mask_and_image runs r version step)
 unfolding mask_and_image
 behind_below runs below r version step =
-    joined (mask_part runs) (image_bytes r version step (ending r version step)) (mask_below runs below) (image_below r version step)
+    joined (mask_part runs) (image_bytes r version step (tail r version step)) (mask_below runs below) (image_below r version step)
 
 -- ---- the header
 

@@ -29,7 +29,7 @@ use Rattle.lerc_grammar.proofs.Blobs.{one_raster}
 use Rattle.lerc_encode.specs.Ranges.{greatest_value, lists_bytes, has_equal_ranges, is_constant, is_empty}
 use Rattle.lerc_encode.specs.Masks.{mask_part}
 use Rattle.lerc_encode.specs.Heads.{header_of}
-use Rattle.lerc_encode.specs.Images.{CodedForm, sweep, blocks_8, blocks_16, delta, plain, is_v4, Ending, empty, constant, ranges, coded, side_at, image_bytes, coded_form_bytes, coded_forms, chosen_coded_form, ending}
+use Rattle.lerc_encode.specs.Images.{CodedForm, sweep, blocks_8, blocks_16, delta, plain, is_v4, Tail, empty, constant, ranges, coded, side_at, image_bytes, coded_form_bytes, coded_forms, chosen_coded_form, tail}
 use Rattle.lerc_encode.specs.Choice.{mask_and_image, header_with, checksum_of, chosen_with}
 use Rattle.lerc_encode.specs.Encoded.{Declares, IsEncodedAfter}
 use Rattle.lerc_encode.specs.inside.Asked.{IsAsked}
@@ -38,7 +38,7 @@ use Rattle.lerc_encode.proofs.Extremes.{in_order, no_values, all_least_fits, all
 use Rattle.lerc_encode.proofs.Packing.{count_marks}
 use Rattle.lerc_encode.proofs.Forming.{length_front, length_sweep}
 use Rattle.lerc_encode.proofs.Candidates.{chosen_may}
-use Rattle.lerc_encode.proofs.Endings.{ImageStands, empty_stands, constant_stands, ranges_stands, coded_stands}
+use Rattle.lerc_encode.proofs.Tails.{ImageStands, empty_stands, constant_stands, ranges_stands, coded_stands}
 
 -- ---- the length of the image
 
@@ -75,13 +75,13 @@ front_few r is V4 =
     let b = by_four r.depth 65536 (bytes_of r.kind) is.shape.depth_below (few_bytes r.kind) in
     omega (arith, size, b)
 
--- what the ending is
-record Ends (r : Pixels) (version : Version) (step size sum : ℕ) (e : Ending) : Type 0 where
+-- what the tail is
+record Ends (r : Pixels) (version : Version) (step size sum : ℕ) (e : Tail) : Type 0 where
   few : length (image_bytes r version step e) ≤ 67633153
   stands : ImageStands r version step size sum e
 
-chosen_ends : (r : Pixels) → IsRaster r → (version : Version) (step size sum : ℕ) → 0 < step → Ends r version step size sum (ending r version step)
-unfolding ending
+chosen_ends : (r : Pixels) → IsRaster r → (version : Version) (step size sum : ℕ) → 0 < step → Ends r version step size sum (tail r version step)
+unfolding tail
 chosen_ends r is version step size sum some = by (is_empty r) refl (is_constant r) refl (is_v4 version && has_equal_ranges r) refl
   where
     by : (b : Bool) → is_empty r ≡ b → (d : Bool) → is_constant r ≡ d → (c : Bool) → (is_v4 version && has_equal_ranges r) ≡ c → Ends r version step size sum (if b then empty else (if d then constant else (if c then ranges else coded (chosen_coded_form r version step))))
@@ -106,7 +106,7 @@ unfolding mask_and_image mask_part
 length_behind runs low r is version step some =
     let image = (chosen_ends r is version step 0 0 some).few in
     let front : length (little_bytes 4 (length runs) ++ runs) ≡ 4 + length runs = length-append (little_bytes 4 (length runs)) runs in
-    let joined = length-append (little_bytes 4 (length runs) ++ runs) (image_bytes r version step (ending r version step)) in
+    let joined = length-append (little_bytes 4 (length runs) ++ runs) (image_bytes r version step (tail r version step)) in
     (omega (arith, front, joined), omega (arith, image, low, front, joined))
 
 version_of : (runs : List ℕ) (r : Pixels) (version : Version) (step sum : ℕ) → head_length (header_with runs r version step sum).version ≡ head_length version
@@ -129,7 +129,7 @@ few runs low r version step asked =
     let head = head_few version in
     omega (arith, size, behind, head)
 
-side_few : (e : Ending) → (0 < side_at e) × (side_at e ≤ 16)
+side_few : (e : Tail) → (0 < side_at e) × (side_at e ≤ 16)
 side_few empty = (omega arith, omega arith)
 side_few constant = (omega arith, omega arith)
 side_few ranges = (omega arith, omega arith)
@@ -149,7 +149,7 @@ ends_of r is = by (valid_count r) refl
 pub is_header : (runs : List ℕ) → length runs ≤ 6291458 → (r : Pixels) (version : Version) (step : ℕ) → IsAsked r version step → (sum : ℕ) → sum < 2 ^ 32 → IsHeader (header_with runs r version step sum)
 unfolding header_with header_of
 is_header runs low r version step asked sum sum_low =
-    let side = side_few (ending r version step) in
+    let side = side_few (tail r version step) in
     let side_low = side.1 in
     let behind = length_behind runs low r asked.sound version step asked.step_allowed.above in
     let least = behind.0 in
@@ -233,7 +233,7 @@ fields_are : (runs : List ℕ) (r : Pixels) (version : Version) (step : ℕ) →
 unfolding header_with header_of
 fields_are runs r version step = record { kind = refl; rows = refl; cols = refl; depth = refl; valid = refl; size = refl; checksum = refl }
 
-joined_of : (runs : List ℕ) (r : Pixels) (version : Version) (step : ℕ) → chosen_with runs r version step ≡ head_bytes (sealed_header runs r version step) ++ (mask_part runs ++ image_bytes r version step (ending r version step))
+joined_of : (runs : List ℕ) (r : Pixels) (version : Version) (step : ℕ) → chosen_with runs r version step ≡ head_bytes (sealed_header runs r version step) ++ (mask_part runs ++ image_bytes r version step (tail r version step))
 unfolding chosen_with mask_and_image
 joined_of runs r version step = refl
 
@@ -255,11 +255,11 @@ abbrev parts : List ℕ → Pixels → Version → ℕ → BlobParts
 parts runs r version step = record {
   head = head_bytes (sealed_header runs r version step);
   mask = mask_part runs;
-  image = image_bytes r version step (ending r version step);
+  image = image_bytes r version step (tail r version step);
 }
 
-image_of : (runs : List ℕ) (r s : Pixels) (version : Version) (step : ℕ) → IsImage (header_of r version step (side_at (ending r version step)) (head_length version + length (mask_and_image runs r version step)) (checksum_of runs r version step)) (image_bytes r version step (ending r version step)) s
-    → IsImage (sealed_header runs r version step) (image_bytes r version step (ending r version step)) s
+image_of : (runs : List ℕ) (r s : Pixels) (version : Version) (step : ℕ) → IsImage (header_of r version step (side_at (tail r version step)) (head_length version + length (mask_and_image runs r version step)) (checksum_of runs r version step)) (image_bytes r version step (tail r version step)) s
+    → IsImage (sealed_header runs r version step) (image_bytes r version step (tail r version step)) s
 unfolding header_with
 image_of runs r s version step image = image
 
@@ -277,7 +277,7 @@ head_is runs r s version step near =
     }
 
 join : (before : Option Previous) (runs : List ℕ) → length runs ≤ 6291458 → (r : Pixels) (version : Version) (step : ℕ) (s : Pixels) → IsAsked r version step → HasRuns before runs r → checksum_of runs r version step < 2 ^ 32
-    → (ends : ImageStands r version step (head_length version + length (mask_and_image runs r version step)) (checksum_of runs r version step) (ending r version step)) → s ≡ ends.raster
+    → (ends : ImageStands r version step (head_length version + length (mask_and_image runs r version step)) (checksum_of runs r version step) (tail r version step)) → s ≡ ends.raster
     → IsJoinAfter before (chosen_with runs r version step) s (sealed_header runs r version step) (parts runs r version step)
 join before runs low r version step s asked has sum_fits ends e =
     let near = subst (λ (x : Pixels). IsBeside r x step) (sym e) ends.near in
@@ -287,7 +287,7 @@ join before runs low r version step s asked has sum_fits ends e =
       head_stands = head_there runs low r version step asked sum_fits;
       head_of = head_is runs r s version step near;
       mask_of = mask_there before runs r s version step has near;
-      image_of = image_of runs r s version step (subst (λ (x : Pixels). IsImage (header_of r version step (side_at (ending r version step)) (head_length version + length (mask_and_image runs r version step)) (checksum_of runs r version step)) (image_bytes r version step (ending r version step)) x) (sym e) ends.image);
+      image_of = image_of runs r s version step (subst (λ (x : Pixels). IsImage (header_of r version step (side_at (tail r version step)) (head_length version + length (mask_and_image runs r version step)) (checksum_of runs r version step)) (image_bytes r version step (tail r version step)) x) (sym e) ends.image);
     }
 
 pub encoded_once : (before : Option Previous) (runs : List ℕ) → length runs ≤ 6291458 → (r : Pixels) (version : Version) (step : ℕ) → IsAsked r version step → HasRuns before runs r → checksum_of runs r version step < 2 ^ 32

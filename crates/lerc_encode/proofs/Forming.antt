@@ -26,7 +26,7 @@ use Rattle.raster_cells.proofs.ValueBits.{same_bits}
 use Rattle.lerc_encode.specs.Heads.{header_of}
 use Rattle.lerc_encode.specs.Ranges.{greatest_value, leasts, greatests, lists_bytes, has_equal_ranges, is_constant, is_empty}
 use Rattle.lerc_encode.specs.Images as images
-use Rattle.lerc_encode.specs.Images.{blocks_bytes, mode_bytes, coded_form_bytes, chosen_coded_form, ending, is_v4}
+use Rattle.lerc_encode.specs.Images.{blocks_bytes, mode_bytes, coded_form_bytes, chosen_coded_form, tail, is_v4}
 use Rattle.lerc_encode.specs.inside.Blocked.{IsBlocked}
 use Rattle.lerc_encode.specs.inside.Choosing.{IsBase}
 use Rattle.lerc_encode.proofs.Extremes.{all_least_fits, all_greatest_fits, length_values, length_leasts, length_greatests}
@@ -191,25 +191,25 @@ constant_is h r b =
     (λ i. nat_eq (of_z w64 (least i)) (of_z w64 (greatest i)))
     ∙ same_test r.kind (least_value (values_of r.pixels)) (greatest_value (values_of r.pixels)) (all_least_fits r b.sound) (all_greatest_fits r b.sound)
 
--- ---- the ending
+-- ---- the tail
 
-pub ends_empty : (r : Pixels) (version : Version) (step : ℕ) → is_empty r ≡ true → ending r version step ≡ images.empty
-unfolding ending
+pub ends_empty : (r : Pixels) (version : Version) (step : ℕ) → is_empty r ≡ true → tail r version step ≡ images.empty
+unfolding tail
 ends_empty r version step e =
     ap (λ (b : Bool). if b then images.empty else (if is_constant r then images.constant else (if is_v4 version && has_equal_ranges r then images.ranges else images.coded (chosen_coded_form r version step)))) e
 
-pub ends_constant : (r : Pixels) (version : Version) (step : ℕ) → is_empty r ≡ false → is_constant r ≡ true → ending r version step ≡ images.constant
-unfolding ending
+pub ends_constant : (r : Pixels) (version : Version) (step : ℕ) → is_empty r ≡ false → is_constant r ≡ true → tail r version step ≡ images.constant
+unfolding tail
 ends_constant r version step e d =
     (λ t. if e t then images.empty else (if d t then images.constant else (if is_v4 version && has_equal_ranges r then images.ranges else images.coded (chosen_coded_form r version step))))
 
-pub ends_ranges : (r : Pixels) (version : Version) (step : ℕ) → is_empty r ≡ false → is_constant r ≡ false → (is_v4 version && has_equal_ranges r) ≡ true → ending r version step ≡ images.ranges
-unfolding ending
+pub ends_ranges : (r : Pixels) (version : Version) (step : ℕ) → is_empty r ≡ false → is_constant r ≡ false → (is_v4 version && has_equal_ranges r) ≡ true → tail r version step ≡ images.ranges
+unfolding tail
 ends_ranges r version step e d f = (λ t. if e t then images.empty else (if d t then images.constant else (if f t then images.ranges else images.coded (chosen_coded_form r version step))))
 
 pub ends_coded : (r : Pixels) (version : Version) (step : ℕ) → is_empty r ≡ false → is_constant r ≡ false → (is_v4 version && has_equal_ranges r) ≡ false
-    → ending r version step ≡ images.coded (chosen_coded_form r version step)
-unfolding ending
+    → tail r version step ≡ images.coded (chosen_coded_form r version step)
+unfolding tail
 ends_coded r version step e d f = (λ t. if e t then images.empty else (if d t then images.constant else (if f t then images.ranges else images.coded (chosen_coded_form r version step))))
 
 pub length_set : (xs : List ℕ) (i v : ℕ) → length (set xs i v) ≡ length xs

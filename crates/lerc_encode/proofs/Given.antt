@@ -1,7 +1,7 @@
 -- Symbols that are counted and written piece by piece.
-use Rattle.std.proofs.Common.{◌≡◌, ℕ, ◌+◌, ◌*◌, ◌/◌, ◌<◌, ◌≤◌, Bool, List, ◌++◌, take, refl, sym, ap, ◌∙◌, arith}
+use Rattle.std.proofs.Common.{◌≡◌, ℕ, ◌+◌, ◌≤◌, Bool, List, ◌++◌, take, refl, sym, ap, ◌∙◌, arith}
 use Rattle.raster_values.specs.Raster.{Pixels, IsRaster}
-use Rattle.delta_mode.specs.Ways.{deltas_of_all}
+use Rattle.delta_mode.specs.EncodeStates.{deltas_of_all}
 use Rattle.delta_mode.specs.Deltas.{plain}
 use Rattle.delta_mode.proofs.Existence.{plain_low}
 use Rattle.first_fault.specs.Parts.{AreBytes}

@@ -190,7 +190,7 @@ writable h front r s k =
           (λ v m. let at = member_of h front r s k v m in subst (InRange h.kind) (sym at.1.1) (subst (λ (t : PixelType). InRange t (value_in r (block_depth h k) at.0)) (sym s.kind_is) (value_fits r s.sound at.0 (block_depth h k) at.1.0.there at.1.0.valid d_low)));
       below = λ i low.
           let at = member_of h front r s k (get_or (coded_values h r k) i (pos 0)) (at_index (pos 0) (coded_values h r k) i low) in
-          subst (λ (v : ℤ). v ≤ℤ top_of h front (block_depth h k)) (sym at.1.1) (s.tops at.0 (block_depth h k) at.1.0.there at.1.0.valid d_low);
+          subst (λ (v : ℤ). v ≤ℤ top_of h front (block_depth h k)) (sym at.1.1) (s.maxima at.0 (block_depth h k) at.1.0.there at.1.0.valid d_low);
     }
 
 -- what is kept of a value of block k
@@ -264,7 +264,7 @@ is_kept h front r s p d there valid low =
     let top : kept_in h front r k v ≤ℤ top_of h front (block_depth h k) = subst (λ (u : ℤ). kept_in h front r k u ≤ℤ top_of h front (block_depth h k)) e b.1 in
     let top_is : kept_in h front r k v ≤ℤ top_of h front d = subst (λ e. kept_in h front r k v ≤ℤ top_of h front e) (depth_at h front r s p d low) top in
     let least_fits : InRange r.kind (micro.least_value values) = subst (λ (t : PixelType). InRange t (micro.least_value values)) s.kind_is (least_in_range h.kind values w.in_range) in
-    let top_fits = s.tops_in_range d low in
+    let top_fits = s.maxima_in_range d low in
     record {
       near = subst (λ (u : ℤ). IsNear h.step u (kept_in h front r k u)) e (kept_near (block_frame h (marks_of r) (top_of h front) k) values w m.0 m.1.0);
       fits = (omega (arith, ints, least, least_fits.0), omega (arith, ints, top_is, top_fits.1));

@@ -20,7 +20,7 @@ use Rattle.raster_cells.proofs.ValueBits.{same_bits}
 use Rattle.lerc_encode.specs.Ranges.{greatest_value}
 use Rattle.lerc_encode.specs.Masks.{mask_part}
 use Rattle.lerc_encode.specs.Heads.{header_of}
-use Rattle.lerc_encode.specs.Images.{ending, image_bytes, side_at}
+use Rattle.lerc_encode.specs.Images.{tail, image_bytes, side_at}
 use Rattle.lerc_encode.specs.Choice.{mask_and_image, header_with, checksum_of, chosen_with}
 use Rattle.lerc_encode.specs.inside.Asked.{IsAsked}
 use Rattle.lerc_encode.specs.inside.Choosing.{IsBase}
@@ -43,7 +43,7 @@ base_of r version step asked rows cols depth valid kind least greatest e1 e2 e3 
     }
 
 -- and with its side and size
-pub laid_out : (runs : List ℕ) (b : Header) (r : Pixels) → IsBase b r → (side size : ℕ) → side ≡ side_at (ending r b.version b.step) → size ≡ head_length b.version + length (mask_and_image runs r b.version b.step)
+pub laid_out : (runs : List ℕ) (b : Header) (r : Pixels) → IsBase b r → (side size : ℕ) → side ≡ side_at (tail r b.version b.step) → size ≡ head_length b.version + length (mask_and_image runs r b.version b.step)
     → ◌≡◌ {A = Header} (record { version = b.version; checksum = b.checksum; rows = b.rows; cols = b.cols; depth = b.depth; valid = b.valid; side = side; size = size; kind = b.kind; step = b.step; least = to_z w64 (of_z w64 b.least); greatest = to_z w64 (of_z w64 b.greatest) })
     (header_with runs r b.version b.step 0)
 unfolding header_with header_of
@@ -70,16 +70,16 @@ pub length_part : (runs : List ℕ) → length (mask_part runs) ≡ 4 + length r
 unfolding mask_part
 length_part runs = length-append (little_bytes 4 (length runs)) runs
 
-pub behind_length : (runs : List ℕ) (r : Pixels) (version : Version) (step size image : ℕ) → size ≡ length runs → image ≡ length (image_bytes r version step (ending r version step))
+pub behind_length : (runs : List ℕ) (r : Pixels) (version : Version) (step size image : ℕ) → size ≡ length runs → image ≡ length (image_bytes r version step (tail r version step))
     → 4 + size + image ≡ length (mask_and_image runs r version step)
 unfolding mask_and_image
 behind_length runs r version step size image e f =
     let part = length_part runs in
-    let joined = length-append (mask_part runs) (image_bytes r version step (ending r version step)) in
+    let joined = length-append (mask_part runs) (image_bytes r version step (tail r version step)) in
     omega (arith, e, f, part, joined)
 
 -- a mask, and an image behind it
-pub behind_written : (runs : List ℕ) (r : Pixels) (version : Version) (step front : ℕ) (first second rest : List ℕ) → length first ≡ front → first ≡ mask_part runs → second ≡ image_bytes r version step (ending r version step)
+pub behind_written : (runs : List ℕ) (r : Pixels) (version : Version) (step front : ℕ) (first second rest : List ℕ) → length first ≡ front → first ≡ mask_part runs → second ≡ image_bytes r version step (tail r version step)
     → put_mid front (length (first ++ rest) - front) (first ++ rest) second ≡ mask_and_image runs r version step
 unfolding mask_and_image
 behind_written runs r version step front first second rest long a b =

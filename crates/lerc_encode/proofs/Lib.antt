@@ -4,7 +4,7 @@ mod Extremes
 mod FirstRanges
 mod Blocking
 mod Flagging
-mod Spots
+mod BlocksAt
 mod Quarters
 mod Squares
 mod Quartered
@@ -22,7 +22,7 @@ mod SymbolSteps
 mod Given
 mod Standing
 mod Candidates
-mod Endings
+mod Tails
 mod Encoded
 mod TakenMasks
 mod Sums

@@ -18,7 +18,7 @@ own_plan r version step p is = record {
   ranges = is.ranges;
   runs = is.runs;
   few = is.few;
-  ending = rw (is.version_is, is.step_is) is.ending;
+  tail = rw (is.version_is, is.step_is) is.tail;
 }
 
 pub own_asked : (r : Pixels) (version : Version) (step : ℕ) (p : Plan) → IsPlan r version step p → IsAsked r version step → IsAsked r p.base.version p.base.step

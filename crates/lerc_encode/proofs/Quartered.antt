@@ -13,11 +13,11 @@ use Rattle.raster_values.specs.Raster.{Pixels}
 use Rattle.lerc_header.specs.declared.header.Header.{Header}
 use Rattle.lerc_grammar.specs.Blocks.{block_col, block_depth, block_row, blocks_across, blocks_down, coded_blocks}
 use Rattle.lerc_encode.specs.Images.{blocks_bytes, coded_bytes}
-use Rattle.lerc_encode.specs.declared.blocks.Spot.{Spot}
-use Rattle.lerc_encode.specs.inside.Blocked.{IsBlocked, IsSpot, IsWithin, bytes_at}
+use Rattle.lerc_encode.specs.declared.blocks.BlockAt.{BlockAt}
+use Rattle.lerc_encode.specs.inside.Blocked.{IsBlocked, IsBlockAt, IsWithin, bytes_at}
 use Rattle.lerc_encode.specs.inside.Sides.{four_sizes, number_at, size_at}
 use Rattle.lerc_encode.proofs.Runs.{two_runs}
-use Rattle.lerc_encode.proofs.Spots.{bytes_there}
+use Rattle.lerc_encode.proofs.BlocksAt.{bytes_there}
 use Rattle.lerc_encode.proofs.Squares.{pair, square, squares_numbered}
 
 -- ---- the number of a spot
@@ -49,7 +49,7 @@ below_blocks x n side some low =
     let e = le-div (x / side + 1) (n + side - 1) side some (omega (arith, whole, up, low, some)) in
     omega (arith, e)
 
-pub spot_numbered : (h : Header) (spot : Spot) → 0 < h.side → IsWithin h spot → spot.row % h.side ≡ 0 → spot.col % h.side ≡ 0 → IsSpot h (number_at h spot) spot × (number_at h spot < coded_blocks h)
+pub spot_numbered : (h : Header) (spot : BlockAt) → 0 < h.side → IsWithin h spot → spot.row % h.side ≡ 0 → spot.col % h.side ≡ 0 → IsBlockAt h (number_at h spot) spot × (number_at h spot < coded_blocks h)
 spot_numbered h spot some within row col =
     let a = spot.row / h.side in
     let b = spot.col / h.side in
@@ -67,7 +67,7 @@ spot_numbered h spot some within row col =
     )
 
 -- a spot has one number
-pub spot_number : (h : Header) (k : ℕ) (spot : Spot) → 0 < h.side → IsSpot h k spot → k ≡ number_at h spot
+pub spot_number : (h : Header) (k : ℕ) (spot : BlockAt) → 0 < h.side → IsBlockAt h k spot → k ≡ number_at h spot
 spot_number h k spot some at =
     let block : k / h.depth / blocks_across h * blocks_across h + k / h.depth % blocks_across h ≡ k / h.depth = div-add-mod' (k / h.depth) (blocks_across h) in
     let all : k / h.depth * h.depth + k % h.depth ≡ k = div-add-mod' k h.depth in
@@ -79,7 +79,7 @@ spot_number h k spot some at =
 
 -- ---- sizes
 
-abbrev pub spot_of : Header → ℕ → Spot
+abbrev pub spot_of : Header → ℕ → BlockAt
 spot_of h k = record { row = block_row h k; col = block_col h k; d = block_depth h k }
 
 -- of the first n blocks of side 16
@@ -135,10 +135,10 @@ cell_is h r side a b d row col low top left =
     ∙ ap (λ (t : Bool). if t && nat_lt b (blocks_across h) then length (bytes_at h r spot) else 0) rows
     ∙ ap (λ (t : Bool). if nat_lt row h.rows && t then length (bytes_at h r spot) else 0) cols
   where
-    spot : Spot
+    spot : BlockAt
     spot = record { row = row; col = col; d = d }
 
-    at : nat_lt b (blocks_across h) ≡ true → IsSpot h ((a * blocks_across h + b) * h.depth + d) spot
+    at : nat_lt b (blocks_across h) ≡ true → IsBlockAt h ((a * blocks_across h + b) * h.depth + d) spot
     at wide =
         let is = parts (blocks_across h) h.depth a b d (is_below b (blocks_across h) wide) low in
         record {
@@ -331,7 +331,7 @@ in_one h r is side k low = (
     within = row_less (a / 2 * wide + b / 2) (k % h.depth) h.depth ((h.rows + 16 - 1) / 16 * wide) (row_less (a / 2) (b / 2) wide ((h.rows + 16 - 1) / 16) low_a low_b) (mod_below k h.depth deep)
 
 -- where it stands
-pub quarter_spot : (h : Header) (m k : ℕ) (spot : Spot) → IsSpot (record h { side = 16 }) m spot → (q : IsQuarter h m k) → IsSpot h k (record { row = spot.row + q.i * 8; col = spot.col + q.j * 8; d = spot.d })
+pub quarter_spot : (h : Header) (m k : ℕ) (spot : BlockAt) → IsBlockAt (record h { side = 16 }) m spot → (q : IsQuarter h m k) → IsBlockAt h k (record { row = spot.row + q.i * 8; col = spot.col + q.j * 8; d = spot.d })
 quarter_spot h m k spot at q = record {
   row = ap (λ (n : ℕ). n + q.i * 8) at.row ∙ sym q.row;
   col = ap (λ (n : ℕ). n + q.j * 8) at.col ∙ sym q.col;

@@ -15,7 +15,7 @@ use Rattle.raster_cells.specs.declared.kind.PixelType.{PixelType}
 use Rattle.raster_cells.specs.Distance.{IsDistance, value_above}
 use Rattle.raster_values.specs.Raster.{Pixels}
 use Rattle.lerc_header.specs.declared.header.Header.{Header}
-use Rattle.lerc_encode.specs.declared.blocks.Spot.{Spot}
+use Rattle.lerc_encode.specs.declared.blocks.BlockAt.{BlockAt}
 use Rattle.lerc_encode.specs.inside.Blocked.{HasTable}
 use Rattle.lerc_encode.specs.declared.flags.Flags.{Flags}
 use Rattle.lerc_encode.specs.inside.Flags.{IsFlagged, IsMarked, room_of}
@@ -84,7 +84,7 @@ one_flag h r k old new told room group this others is = record {
     sound_by one i set (inr other) = inl ((others i (λ e. other (apart old.group i one e))).0 set)
 
 -- what is set stays so
-pub flag_stays : (h : Header) (r : Pixels) (spot : Spot) (old new : Flags) → AreMore h r old new → IsFlaggedAt h r spot old → IsFlaggedAt h r spot new
+pub flag_stays : (h : Header) (r : Pixels) (spot : BlockAt) (old new : Flags) → AreMore h r old new → IsFlaggedAt h r spot old → IsFlaggedAt h r spot new
 flag_stays h r spot old new more is = λ within has. more.kept _ (is within has)
 
 -- ---- values

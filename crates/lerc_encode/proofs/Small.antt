@@ -12,7 +12,7 @@ use Rattle.lerc_encode.specs.Ranges.{lists_bytes, has_equal_ranges, is_constant,
 use Rattle.lerc_grammar.specs.Mask.{Previous}
 use Rattle.lerc_encode.specs.Masks.{packed, are_alike, mask_runs_of, mask_part, runs_after}
 use Rattle.mask_runs.specs.Chosen.{chosen_runs}
-use Rattle.lerc_encode.specs.Images.{sweep, is_v4, empty, constant, ranges, coded, image_bytes, coded_form_bytes, chosen_coded_form, ending}
+use Rattle.lerc_encode.specs.Images.{sweep, is_v4, empty, constant, ranges, coded, image_bytes, coded_form_bytes, chosen_coded_form, tail}
 use Rattle.lerc_encode.specs.Choice.{chosen_after, chosen_blob, mask_and_image}
 use Rattle.lerc_encode.specs.Sizes.{BlobsAreSmall, greatest_size}
 use Rattle.lerc_encode.proofs.Packing.{long_marks, length_packed, runs_small}
@@ -31,8 +31,8 @@ sweep_small r is version step =
     let few : valid_count r * r.depth * bytes_of r.kind ≤ r.rows * r.cols * r.depth * bytes_of r.kind = mul-le-mul_right (bytes_of r.kind) (mul-le-mul_right r.depth (valid_few r is)) in
     omega (arith, size, few)
 
-image_small : (r : Pixels) → IsRaster r → (version : Version) (step : ℕ) → length (image_bytes r version step (ending r version step)) ≤ 2 * (r.depth * bytes_of r.kind) + (1 + r.rows * r.cols * r.depth * bytes_of r.kind)
-unfolding ending
+image_small : (r : Pixels) → IsRaster r → (version : Version) (step : ℕ) → length (image_bytes r version step (tail r version step)) ≤ 2 * (r.depth * bytes_of r.kind) + (1 + r.rows * r.cols * r.depth * bytes_of r.kind)
+unfolding tail
 image_small r is version step = by (is_empty r) (is_constant r) (is_v4 version && has_equal_ranges r)
   where
     by : (b d c : Bool) → length (image_bytes r version step (if b then empty else (if d then constant else (if c then ranges else coded (chosen_coded_form r version step))))) ≤ 2 * (r.depth * bytes_of r.kind) + (1 + r.rows * r.cols * r.depth * bytes_of r.kind)
@@ -67,7 +67,7 @@ after_small before r version step is =
     let size = length_choice written r version step in
     let head = head_few version in
     let front : length (little_bytes 4 (length written) ++ written) ≡ 4 + length written = length-append (little_bytes 4 (length written)) written in
-    let joined = length-append (little_bytes 4 (length written) ++ written) (image_bytes r version step (ending r version step)) in
+    let joined = length-append (little_bytes 4 (length written) ++ written) (image_bytes r version step (tail r version step)) in
     omega (arith, image, most, less, size, head, front, joined)
 
 pub small : BlobsAreSmall

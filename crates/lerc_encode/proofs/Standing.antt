@@ -66,7 +66,7 @@ mode_stands : (kind : PixelType) (step : ℕ) (b : Bool) → test kind step ≡ 
 mode_stands kind step true h = inl (small_true kind step h, refl)
 mode_stands kind step false h = inr (small_false kind step h, refl)
 
--- ---- the tops
+-- ---- the maxima
 
 top_above : (r : Pixels) → IsRaster r → (version : Version) (step side size sum : ℕ) → (p d : ℕ) → p < length r.pixels → get_or (marks_of r) p false ≡ true → d < r.depth
     → value_in r d p ≤ℤ top_of (header_of r version step side size sum) (front_of r version) d
@@ -99,8 +99,8 @@ suits r is version step side size sum some above below =
       side = above;
       side_below = below;
       step = some;
-      tops = top_above r is version step side size sum;
-      tops_in_range = top_fits r is version step side size sum;
+      maxima = top_above r is version step side size sum;
+      maxima_in_range = top_fits r is version step side size sum;
     }
 
 -- ---- each form stands

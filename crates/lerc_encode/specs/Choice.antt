@@ -9,7 +9,7 @@ use Rattle.lerc_header.specs.Written.{head_bytes}
 use Rattle.lerc_header.specs.Checksum.{sum_of}
 use Rattle.lerc_grammar.specs.Mask.{Previous, previous_of}
 use Rattle.lerc_encode.specs.Heads.{header_of}
-use Rattle.lerc_encode.specs.Images.{ending, image_bytes, side_at}
+use Rattle.lerc_encode.specs.Images.{tail, image_bytes, side_at}
 use Rattle.lerc_encode.specs.Masks.{mask_part, mask_runs_of, runs_after}
 
 -- ---- with these runs of its mask
@@ -17,12 +17,12 @@ use Rattle.lerc_encode.specs.Masks.{mask_part, mask_runs_of, runs_after}
 -- the mask and the image
 unfoldable pub mask_and_image : List ℕ → Pixels → Version → ℕ → List ℕ
 mask_and_image runs r version step =
-    mask_part runs ++ image_bytes r version step (ending r version step)
+    mask_part runs ++ image_bytes r version step (tail r version step)
 
 -- the header with a checksum
 unfoldable pub header_with : List ℕ → Pixels → Version → ℕ → ℕ → Header
 header_with runs r version step checksum =
-    header_of r version step (side_at (ending r version step))
+    header_of r version step (side_at (tail r version step))
     (head_length version + length (mask_and_image runs r version step)) checksum
 
 -- the checksum of the bytes behind it, which say nothing of it

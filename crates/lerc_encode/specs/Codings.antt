@@ -32,7 +32,8 @@ word_in_front bits = take 32 (bits ++ replicate 32 false)
 -- so many 32-bit little-endian words, with these bits in front, each word's highest bit first
 unfoldable pub filled_words : ℕ → List Bool → List ℕ
 filled_words zero bits = []
-filled_words (suc n) bits = little_bytes 4 (bits_number (word_in_front bits)) ++ filled_words n (drop 32 bits)
+filled_words (suc n) bits =
+    little_bytes 4 (bits_number (word_in_front bits)) ++ filled_words n (drop 32 bits)
 
 -- ---- the code table
 

@@ -82,33 +82,36 @@ coded_forms r version step =
 -- the first of those with the fewest bytes
 unfoldable pub chosen_coded_form : Pixels → Version → ℕ → CodedForm
 chosen_coded_form r version step =
-    unwrap_or (first_least (λ form. length (coded_form_bytes r version step form)) (coded_forms r version step))
+    unwrap_or
+    (first_least (λ form. length (coded_form_bytes r version step form))
+    (coded_forms r version step))
     sweep
 
--- ---- how the image ends: before the lists, behind them, or with the values in a form; these are the
--- images of the format, the last one those with coded values
+-- ---- how the image ends: before the lists, behind them, or with the values in a form; these are
+-- the images of the format, the last one those with coded values
 
-pub data Ending : Type 0 where
-  empty : Ending
-  constant : Ending
-  ranges : Ending
-  coded : CodedForm → Ending
+pub data Tail : Type 0 where
+  empty : Tail
+  constant : Tail
+  ranges : Tail
+  coded : CodedForm → Tail
 
-unfoldable pub ending : Pixels → Version → ℕ → Ending
-ending r version step =
+unfoldable pub tail : Pixels → Version → ℕ → Tail
+tail r version step =
     if is_empty r then empty
     else (if is_constant r then constant
     else (if is_v4 version && has_equal_ranges r then ranges
     else coded (chosen_coded_form r version step)))
 
-abbrev pub side_at : Ending → ℕ
+abbrev pub side_at : Tail → ℕ
 side_at empty = 8
 side_at constant = 8
 side_at ranges = 8
 side_at (coded form) = side_of form
 
-abbrev pub image_bytes : Pixels → Version → ℕ → Ending → List ℕ
+abbrev pub image_bytes : Pixels → Version → ℕ → Tail → List ℕ
 image_bytes r version step empty = []
 image_bytes r version step constant = []
 image_bytes r version step ranges = lists_bytes r version
-image_bytes r version step (coded form) = lists_bytes r version ++ coded_form_bytes r version step form
+image_bytes r version step (coded form) =
+    lists_bytes r version ++ coded_form_bytes r version step form

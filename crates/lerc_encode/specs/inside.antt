@@ -3,7 +3,9 @@ pub mod Asked
 pub mod Fronts
 pub mod Flags
 pub mod Blocked
+pub mod BlockedProps
 pub mod Sides
+pub mod Tallies
 pub mod Coded
 pub mod Choosing
 pub mod Suits

@@ -78,10 +78,10 @@ fn blobs_of(
 /// The blobs of bands, one behind the other, in this version and with this step between values that
 /// they can tell.
 ///
-/// Each is the blob of its raster, as `encode` gives it, with one exception: where its valid pixels
-/// are those of the band before it, and some are valid and some are not, its mask has no runs. They
-/// are the blobs of exactly one list of bands, whose values are within half a step of the given ones,
-/// and are these at step 1. Together they have at most 2^27 bytes.
+/// Each is the blob of its raster, as `encode_view` gives it, with one exception: where its valid
+/// pixels are those of the band before it, and some are valid and some are not, its mask has no
+/// runs. They are the blobs of exactly one list of bands, whose values are within half a step of
+/// the given ones, and are these at step 1. Together they have at most 2^27 bytes.
 pub fn encode_bands(
     alloc: Global,
     bands: &Bands,

@@ -14,14 +14,13 @@ ghost use Rattle.lerc_encode.specs.inside.Choosing.{AreRanges, IsBase};
 ghost use Rattle.lerc_encode.specs.inside.Layout.{IsPlan, IsPlanOf, IsSealed, planned_behind};
 ghost use Rattle.lerc_encode.specs.inside.Layout.{planned_blob, planned_runs};
 
-use crate::choosing::{Ending, ending_of};
+use crate::choosing::{Tail, tail_of};
 use crate::images::{image_len, side_of, write_image};
 use crate::masks::{runs_size, write_mask};
 use crate::ranging::{Ranges, ranges_of};
 use lerc_header::{Header, Step, Version, needs_v4, sum_behind, write_header};
 use outside_io::Bytes;
 use raster_access::View;
-use raster_values::Raster;
 use std::alloc::{AllocError, Global};
 use thiserror::Error;
 
@@ -57,7 +56,7 @@ pub(crate) struct Plan {
     taken: bool,
     runs: usize,
     /// How the image ends.
-    ending: Ending,
+    tail: Tail,
 }
 
 /// The header as far as it is known before the blob is laid out.
@@ -100,13 +99,13 @@ pub(crate) fn plan_of<V: View>(
     let ranges = ranges_of(raster);
     let base = base_header(raster, version, step, &ranges);
     let runs = runs_size(raster, taken);
-    let ending = ending_of(alloc, &base, &ranges, raster)?;
+    let tail = tail_of(alloc, &base, &ranges, raster)?;
     Ok(Plan {
         base,
         ranges,
         taken,
         runs,
-        ending,
+        tail,
     })
 }
 
@@ -116,7 +115,7 @@ fn behind_len<V: View>(plan: &Plan, raster: &V) -> usize
     ensures value { result ≡ length (planned_behind plan.now (V.pixels raster.now)) }
     ensures few { result ≤ 73924615 }
 {
-    4 + plan.runs + image_len(&plan.ending, &plan.base, raster)
+    4 + plan.runs + image_len(&plan.tail, &plan.base, raster)
 }
 
 /// How many bytes the blob has.
@@ -137,7 +136,7 @@ fn write_behind<V: View>(plan: &Plan, raster: &V, out: &mut [u8])
     let front = (4 + plan.runs).min(out.len());
     write_mask(raster, plan.taken, plan.runs, &mut out[..front]);
     write_image(
-        &plan.ending,
+        &plan.tail,
         &plan.base,
         &plan.ranges,
         raster,
@@ -154,7 +153,7 @@ fn header_of<V: View>(plan: &Plan, raster: &V, size: usize) -> Header
         (V.pixels raster.now) plan.now.base.version plan.now.base.step 0 }
 {
     Header {
-        side: side_of(&plan.ending, &plan.base, raster),
+        side: side_of(&plan.tail, &plan.base, raster),
         size: size as u32,
         ..plan.base
     }
@@ -261,23 +260,6 @@ pub fn encode_view<V: View>(
     Ok(Bytes::from_vec(blob))
 }
 
-/// The blob of a raster that keeps its values itself: the same.
-pub fn encode(
-    alloc: Global,
-    raster: &Raster,
-    version: Version,
-    step: Step,
-) -> Result<Bytes, EncodeFault>
-    ensures depth { IsErrOf result EncodeFault.DepthNeedsV4
-        ↔ ((version ≡ V3) × (1 < raster.now.depth)) }
-    ensures chosen { IfOk result (λ blob. blob ≡ chosen_blob raster.now version step) }
-    ensures few { IfOk result (λ blob. length blob ≤ 134217728) }
-    ensures decodes { IfOk result (λ blob. IsEncodedOnce blob raster.now step) }
-    ensures declares { IfOk result (λ blob. Declares blob version step) }
-{
-    encode_view(alloc, raster, version, step)
-}
-
 /// Why the blob of a raster was not laid over a buffer.
 #[derive(Debug, Drop)]
 pub enum LayFault {
@@ -299,8 +281,8 @@ impl From<AllocError> for LayFault {
     }
 }
 
-/// Lays the blob of a raster, which is that of `encode_view`, over the front of `out`, and answers how
-/// many bytes it has. What stands behind it stays, and all of `out` where there is a fault.
+/// Lays the blob of a raster, which is that of `encode_view`, over the front of `out`, and answers
+/// how many bytes it has. What stands behind it stays, and all of `out` where there is a fault.
 pub fn encode_view_over<V: View>(
     alloc: Global,
     raster: &V,
@@ -312,7 +294,8 @@ pub fn encode_view_over<V: View>(
         ↔ ((version ≡ V3) × (1 < (V.pixels raster.now).depth)) }
     ensures room { (n : ℕ) → IsErrOf result (LayFault.NoRoom n)
         → (n ≡ length (chosen_blob (V.pixels raster.now) version step)) × ((length out.old < n)
-        × IsEncodedOnce (chosen_blob (V.pixels raster.now) version step) (V.pixels raster.now) step) }
+        × IsEncodedOnce (chosen_blob (V.pixels raster.now) version step) (V.pixels raster.now)
+        step) }
     ensures few { IfOk result (λ n. n ≤ 134217728) }
     ensures kept { OnErr result (out.new ≡ out.old) }
     ensures size { IfOk result (λ n. n ≡ length (chosen_blob (V.pixels raster.now) version step)) }
@@ -333,29 +316,4 @@ pub fn encode_view_over<V: View>(
     }
     fill(&plan, raster, &mut out[..size]);
     Ok(size)
-}
-
-/// Lays the blob of a raster that keeps its values itself: the same.
-pub fn encode_over(
-    alloc: Global,
-    raster: &Raster,
-    version: Version,
-    step: Step,
-    out: &mut [u8],
-) -> Result<usize, LayFault>
-    ensures depth { IsErrOf result LayFault.DepthNeedsV4
-        ↔ ((version ≡ V3) × (1 < raster.now.depth)) }
-    ensures room { (n : ℕ) → IsErrOf result (LayFault.NoRoom n)
-        → (n ≡ length (chosen_blob raster.now version step)) × ((length out.old < n)
-        × IsEncodedOnce (chosen_blob raster.now version step) raster.now step) }
-    ensures few { IfOk result (λ n. n ≤ 134217728) }
-    ensures kept { OnErr result (out.new ≡ out.old) }
-    ensures size { IfOk result (λ n. n ≡ length (chosen_blob raster.now version step)) }
-    ensures laid { IfOk result (λ n. out.new
-        ≡ chosen_blob raster.now version step ++ drop n out.old) }
-    ensures decodes { OnOk result (IsEncodedOnce (chosen_blob raster.now version step) raster.now
-        step) }
-    ensures declares { OnOk result (Declares (chosen_blob raster.now version step) version step) }
-{
-    encode_view_over(alloc, raster, version, step, out)
 }

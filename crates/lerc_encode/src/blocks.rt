@@ -1,18 +1,19 @@
 //! The chosen blocks of a raster: how many bytes they take, which have a table, and their bytes.
 
 ghost use Rattle.std.specs.Prelude.{◌≡◌, ℕ, ◌+◌, ◌*◌, ◌<◌, ◌≤◌, ◌≤ℤ◌, ◌↔◌, ◌++◌, All, drop, length};
-ghost use Rattle.std.specs.Prelude.{map, take, IsTrue};
+ghost use Rattle.std.specs.Prelude.{map, take, Contains, IsTrue};
 ghost use Rattle.lut_stuff.specs.Facts.{Rises};
+ghost use Rattle.lut_stuff.specs.Names.{named_values};
 ghost use Rattle.micro_block.specs.ChosenBlock as micro;
 ghost use Rattle.micro_block.specs.ChosenBlock.{chosen_form};
 ghost use Rattle.raster_cells.specs.Distance.{IsDistance, value_above};
 ghost use Rattle.lerc_grammar.specs.Blocks.{blocks_across, coded_blocks};
 ghost use Rattle.lerc_encode.specs.Images.{blocks_bytes};
-ghost use Rattle.lerc_encode.specs.inside.Blocked.{AreFlags, HasTableAt, IsBlocked, IsContext};
-ghost use Rattle.lerc_encode.specs.inside.Blocked.{IsSpot, IsWithin, bytes_at, values_at};
+ghost use Rattle.lerc_encode.specs.inside.Blocked.{AreFlags, HasTableAt, IsContext};
+ghost use Rattle.lerc_encode.specs.inside.Blocked.{IsBlockAt, IsWithin, bytes_at, values_at};
 
+use crate::block_view::BlockView;
 use crate::flags::{Flags, are_single, is_marked};
-use lerc_header::Header;
 use lut_stuff::{Names, Ranks};
 use micro_block::{BlockCtx, block_size, write_ranked};
 use raster_access::View;
@@ -22,14 +23,14 @@ pub(crate) const MOST: usize = 256;
 
 /// Where a coded block stands: its first row and column, and its depth.
 #[derive(Clone, Copy)]
-pub(crate) struct Spot {
+pub(crate) struct BlockAt {
     pub(crate) row: u32,
     pub(crate) col: u32,
     pub(crate) d: u32,
 }
 
 /// Where the first block stands.
-pub(crate) const FIRST: Spot = Spot {
+pub(crate) const FIRST: BlockAt = BlockAt {
     row: 0,
     col: 0,
     d: 0,
@@ -65,46 +66,47 @@ pub(crate) struct Measured {
 }
 
 /// How many blocks stand side by side.
-pub(crate) fn across<V: View>(h: &Header, raster: &V) -> usize
-    requires { IsBlocked h.now (V.pixels raster.now) }
-    ensures value { result ≡ blocks_across h.now }
-    ensures within { result ≤ h.now.cols }
+pub(crate) fn across<V: View>(blocks: &BlockView<V>) -> usize
+    ensures value { result ≡ blocks_across blocks.now.header.now }
+    ensures within { result ≤ blocks.now.header.now.cols }
     ensures some { 0 < result }
 {
+    let h = blocks.header;
     let (cols, side) = (h.cols as usize, h.side as usize);
     (cols + side - 1) / side
 }
 
 /// How many blocks are coded.
-pub(crate) fn count<V: View>(h: &Header, raster: &V) -> usize
-    requires { IsBlocked h.now (V.pixels raster.now) }
-    ensures value { result ≡ coded_blocks h.now }
+pub(crate) fn count<V: View>(blocks: &BlockView<V>) -> usize
+    ensures value { result ≡ coded_blocks blocks.now.header.now }
     ensures few { result ≤ 16777216 }
 {
+    let h = blocks.header;
     let (rows, side) = (h.rows as usize, h.side as usize);
-    (rows + side - 1) / side * across(h, raster) * h.depth as usize
+    (rows + side - 1) / side * across(blocks) * h.depth as usize
 }
 
 /// Where the block behind this one stands: at the next depth, else to the right, else at the left
 /// end of the next row of blocks.
-pub(crate) fn next_spot<V: View>(h: &Header, raster: &V, spot: Spot) -> Spot
-    requires blocked { IsBlocked h.now (V.pixels raster.now) }
-    requires within { IsWithin h.now spot }
-    ensures { (k : ℕ) → IsSpot h.now k spot → IsSpot h.now (k + 1) result }
+pub(crate) fn next_block<V: View>(blocks: &BlockView<V>, spot: BlockAt) -> BlockAt
+    requires within { IsWithin blocks.now.header.now spot }
+    ensures { (k : ℕ) → IsBlockAt blocks.now.header.now k spot
+        → IsBlockAt blocks.now.header.now (k + 1) result }
 {
+    let h = blocks.header;
     let d = spot.d + 1;
     if d < h.depth {
-        return Spot { d, ..spot };
+        return BlockAt { d, ..spot };
     }
     let col = spot.col + h.side;
     if col < h.cols {
-        return Spot {
+        return BlockAt {
             row: spot.row,
             col,
             d: 0,
         };
     }
-    Spot {
+    BlockAt {
         row: spot.row + h.side,
         col: 0,
         d: 0,
@@ -112,10 +114,10 @@ pub(crate) fn next_spot<V: View>(h: &Header, raster: &V, spot: Spot) -> Spot
 }
 
 /// What a block depends on besides its values. Its bytes do not depend on the top.
-pub(crate) fn context<V: View>(h: &Header, raster: &V, col: u32) -> BlockCtx
-    requires { IsBlocked h.now (V.pixels raster.now) }
-    ensures { IsContext h.now col result }
+pub(crate) fn context<V: View>(blocks: &BlockView<V>, col: u32) -> BlockCtx
+    ensures { IsContext blocks.now.header.now col result }
 {
+    let h = blocks.header;
     BlockCtx {
         kind: h.kind,
         col,
@@ -126,60 +128,73 @@ pub(crate) fn context<V: View>(h: &Header, raster: &V, col: u32) -> BlockCtx
 
 /// Puts the values of the block at a spot in front of `distances`, as how far each is above the
 /// least of its type, and answers how many these are.
-pub(crate) fn gather<V: View>(h: &Header, raster: &V, spot: Spot, distances: &mut [u32]) -> usize
-    requires blocked { IsBlocked h.now (V.pixels raster.now) }
-    requires within { IsWithin h.now spot }
-    requires room { h.now.side * h.now.side ≤ length distances.old }
-    ensures few { result ≤ h.now.side * h.now.side }
-    ensures fit { All (IsDistance h.now.kind) (take result distances.new) }
-    ensures are { map (value_above h.now.kind) (take result distances.new)
-        ≡ values_at h.now (V.pixels raster.now) spot }
+pub(crate) fn gather<V: View>(blocks: &BlockView<V>, spot: BlockAt, distances: &mut [u32]) -> usize
+    requires within { IsWithin blocks.now.header.now spot }
+    requires room { blocks.now.header.now.side * blocks.now.header.now.side ≤ length distances.old }
+    ensures few { result ≤ blocks.now.header.now.side * blocks.now.header.now.side }
+    ensures fit { All (IsDistance blocks.now.header.now.kind) (take result distances.new) }
+    ensures are { map (value_above blocks.now.header.now.kind) (take result distances.new)
+        ≡ values_at blocks.now.header.now (V.pixels blocks.now.raster.now) spot }
 {
-    raster.gather_distances(spot.row, spot.col, h.side, spot.d, distances)
+    let side = blocks.header.side;
+    blocks
+        .raster
+        .gather_distances(spot.row, spot.col, side, spot.d, distances)
+}
+
+/// What is known of a block's table before its values are looked at.
+#[derive(Clone, Copy)]
+struct TableFlag {
+    /// Whether the flag of its group is set: a block of that has a table.
+    is_set: bool,
+    /// Whether its group has no other block.
+    is_alone: bool,
 }
 
 /// Whether a block of values has a table. Where the flag of its group is set that is found again,
 /// unless the group has no other block.
-fn has_table(flag: bool, alone: bool, distances: &[u32], ctx: &BlockCtx) -> bool
+fn has_table(flag: TableFlag, distances: &[u32], ctx: &BlockCtx) -> bool
     requires few { length distances.now ≤ 256 }
     requires in_range { All (IsDistance ctx.now.kind) distances.now }
     requires capped { All (λ v. v ≤ℤ ctx.now.top) (map (value_above ctx.now.kind) distances.now) }
     requires flag { let values = map (value_above ctx.now.kind) distances.now in
-        (chosen_form ctx.now.kind ctx.now.col ctx.now.step values ≡ micro.table) → IsTrue flag }
+        (chosen_form ctx.now.kind ctx.now.col ctx.now.step values ≡ micro.table)
+        → IsTrue flag.is_set }
     requires alone { let values = map (value_above ctx.now.kind) distances.now in
-        IsTrue alone → IsTrue flag → chosen_form ctx.now.kind ctx.now.col ctx.now.step values
-        ≡ micro.table }
+        IsTrue flag.is_alone → IsTrue flag.is_set
+        → chosen_form ctx.now.kind ctx.now.col ctx.now.step values ≡ micro.table }
     ensures { let values = map (value_above ctx.now.kind) distances.now in
         IsTrue result ↔ (chosen_form ctx.now.kind ctx.now.col ctx.now.step values ≡ micro.table) }
 {
-    flag && (alone || block_size(distances, ctx).has_table)
+    flag.is_set && (flag.is_alone || block_size(distances, ctx).has_table)
 }
 
-/// Writes the block at a spot over the front of `out`, and answers how many bytes it takes. It is told
-/// whether the flag of its group is set, and whether it is alone in that.
+/// Writes the block at a spot over the front of `out`, and answers how many bytes it takes.
 fn write_at<V: View>(
-    h: &Header,
-    raster: &V,
-    spot: Spot,
-    flag: bool,
-    alone: bool,
+    blocks: &BlockView<V>,
+    spot: BlockAt,
+    flag: TableFlag,
     ranks: &mut Ranks,
     distances: &mut [u32],
     out: &mut [u8],
 ) -> usize
-    requires blocked { IsBlocked h.now (V.pixels raster.now) }
-    requires within { IsWithin h.now spot }
+    requires within { IsWithin blocks.now.header.now spot }
     requires room { length distances.old ≡ 256 }
-    requires flag { HasTableAt h.now (V.pixels raster.now) spot → IsTrue flag }
-    requires alone { IsTrue alone → IsTrue flag → HasTableAt h.now (V.pixels raster.now) spot }
-    requires fits { length (bytes_at h.now (V.pixels raster.now) spot) ≤ length out.old }
-    ensures count { result ≡ length (bytes_at h.now (V.pixels raster.now) spot) }
-    ensures bytes { out.new ≡ bytes_at h.now (V.pixels raster.now) spot
-        ++ drop (length (bytes_at h.now (V.pixels raster.now) spot)) out.old }
+    requires flag { HasTableAt blocks.now.header.now (V.pixels blocks.now.raster.now) spot
+        → IsTrue flag.is_set }
+    requires alone { IsTrue flag.is_alone → IsTrue flag.is_set
+        → HasTableAt blocks.now.header.now (V.pixels blocks.now.raster.now) spot }
+    requires fits { length (bytes_at blocks.now.header.now (V.pixels blocks.now.raster.now) spot)
+        ≤ length out.old }
+    ensures count { result
+        ≡ length (bytes_at blocks.now.header.now (V.pixels blocks.now.raster.now) spot) }
+    ensures bytes { out.new ≡ bytes_at blocks.now.header.now (V.pixels blocks.now.raster.now) spot
+        ++ drop (length (bytes_at blocks.now.header.now (V.pixels blocks.now.raster.now) spot))
+        out.old }
 {
-    let n = gather(h, raster, spot, distances);
-    let ctx = context(h, raster, spot.col);
-    let has_table = has_table(flag, alone, &distances[..n], &ctx);
+    let n = gather(blocks, spot, distances);
+    let ctx = context(blocks, spot.col);
+    let has_table = has_table(flag, &distances[..n], &ctx);
     write_ranked(&distances[..n], &ctx, has_table, ranks, out)
 }
 
@@ -187,6 +202,9 @@ fn write_at<V: View>(
 pub(crate) fn sorted_values(names: &Names) -> Sorted
     ensures rises { Rises (take result.count result.values) }
     ensures few { result.count ≤ 256 }
+    ensures none { IsTrue names.now.spent → result.count ≡ 0 }
+    ensures members { ¬ IsTrue names.now.spent → (v : ℕ)
+        → Contains (take result.count result.values) v ↔ Contains (named_values names.now) v }
 {
     let mut values = [0; MOST];
     if names.is_spent() {
@@ -200,35 +218,35 @@ pub(crate) fn sorted_values(names: &Names) -> Sorted
 /// Writes all blocks into `out`, which has as many bytes as they take. The lists of tables of these
 /// values are found by their ranks.
 pub(crate) fn write_blocks<V: View>(
-    h: &Header,
-    raster: &V,
+    blocks: &BlockView<V>,
     tables: &Flags,
     values: &[u32],
     out: &mut [u8],
 )
-    requires blocked { IsBlocked h.now (V.pixels raster.now) }
-    requires tables { AreFlags h.now (V.pixels raster.now) (coded_blocks h.now) tables.now }
+    requires tables { AreFlags blocks.now.header.now (V.pixels blocks.now.raster.now)
+        (coded_blocks blocks.now.header.now) tables.now }
     requires rises { Rises values.now }
     requires few { length values.now ≤ 256 }
-    requires room { length out.old ≡ length (blocks_bytes h.now (V.pixels raster.now)) }
-    ensures { out.new ≡ blocks_bytes h.now (V.pixels raster.now) }
+    requires room { length out.old
+        ≡ length (blocks_bytes blocks.now.header.now (V.pixels blocks.now.raster.now)) }
+    ensures { out.new ≡ blocks_bytes blocks.now.header.now (V.pixels blocks.now.raster.now) }
 {
-    let alone = are_single(tables);
+    let is_alone = are_single(tables);
     let mut ranks = Ranks::new(values);
     let mut distances = [0; MOST];
     let mut spot = FIRST;
     let mut at = 0;
-    for k in 0..count(h, raster) {
+    for k in 0..count(blocks) {
+        let is_set = is_marked(tables, k);
+        let flag = TableFlag { is_set, is_alone };
         at += write_at(
-            h,
-            raster,
+            blocks,
             spot,
-            is_marked(tables, k),
-            alone,
+            flag,
             &mut ranks,
             &mut distances,
             &mut out[at..],
         );
-        spot = next_spot(h, raster, spot);
+        spot = next_block(blocks, spot);
     }
 }

@@ -4,8 +4,9 @@ ghost use Rattle.std.specs.Prelude.{◌≡◌, ◌≤◌, ◌&&◌, ◌⊎◌, I
 ghost use Rattle.lerc_encode.specs.Images.{is_v4};
 ghost use Rattle.lerc_encode.specs.Ranges as ranges;
 ghost use Rattle.lerc_encode.specs.inside.Choosing as inside;
-ghost use Rattle.lerc_encode.specs.inside.Choosing.{AreRanges, IsBase, IsChosen, IsEnding};
+ghost use Rattle.lerc_encode.specs.inside.Choosing.{AreRanges, IsBase, IsChosen, IsTail};
 
+use crate::block_view::BothSides;
 use crate::codings::{coded_form_len, codings_of};
 use crate::forms::{Chosen, ValueForm, block_form_len, sweep_len, with_large};
 use crate::ranging::Ranges;
@@ -17,7 +18,7 @@ use std::alloc::{AllocError, Global};
 
 /// How an image ends.
 #[derive(Drop)]
-pub(crate) enum Ending {
+pub(crate) enum Tail {
     /// Before the lists: no pixel is valid.
     Empty,
     /// Before the lists: all values are one.
@@ -62,7 +63,13 @@ fn choose<V: View>(alloc: Global, base: &Header, raster: &V) -> Result<Chosen, A
     let plains = coded_form_len(&codings.plains);
     let most = least_known(sweep, deltas, plains);
     let large_base = with_large(base);
-    let sides = measure_sides(alloc, base, &large_base, raster, most)?;
+    let both = BothSides {
+        small: base,
+        large: &large_base,
+        raster,
+        most,
+    };
+    let sides = measure_sides(alloc, &both)?;
     let sizes = [
         Some(sweep),
         block_form_len(base, raster, &sides.small),
@@ -108,24 +115,24 @@ fn ends_behind_lists<V: View>(version: Version, found: &Ranges, raster: &V) -> b
 }
 
 /// How the image of a raster ends.
-pub(crate) fn ending_of<V: View>(
+pub(crate) fn tail_of<V: View>(
     alloc: Global,
     base: &Header,
     found: &Ranges,
     raster: &V,
-) -> Result<Ending, AllocError>
+) -> Result<Tail, AllocError>
     requires base { IsBase base.now (V.pixels raster.now) }
     requires ranges { AreRanges (V.pixels raster.now) found.now }
-    ensures { IfOk result (IsEnding (V.pixels raster.now) base.now.version base.now.step) }
+    ensures { IfOk result (IsTail (V.pixels raster.now) base.now.version base.now.step) }
 {
     if is_empty(base, raster) {
-        return Ok(Ending::Empty);
+        return Ok(Tail::Empty);
     }
     if is_constant(base, raster) {
-        return Ok(Ending::Constant);
+        return Ok(Tail::Constant);
     }
     if ends_behind_lists(base.version, found, raster) {
-        return Ok(Ending::Ranges);
+        return Ok(Tail::Ranges);
     }
-    Ok(Ending::Coded(choose(alloc, base, raster)?))
+    Ok(Tail::Coded(choose(alloc, base, raster)?))
 }

@@ -10,9 +10,10 @@ ghost use Rattle.lerc_grammar.specs.Blocks.{coded_blocks};
 ghost use Rattle.lut_stuff.specs.Facts.{Rises};
 ghost use Rattle.lerc_encode.specs.Images.{blocks_bytes, coded_form_bytes, mode_bytes};
 ghost use Rattle.lerc_encode.specs.Ranges.{greatests, leasts, lists_bytes};
-ghost use Rattle.lerc_encode.specs.inside.Blocked.{AreFlags, IsBlocked, IsMeasured};
+ghost use Rattle.lerc_encode.specs.inside.Blocked.{AreFlags, IsMeasured};
 ghost use Rattle.lerc_encode.specs.inside.Choosing.{AreRanges, IsBase, IsChosen, named};
 
+use crate::block_view::BlockView;
 use crate::blocks::{Measured, write_blocks};
 use crate::codings::{Codings, has_mode, write_coded_form};
 use crate::flags::Flags;
@@ -97,38 +98,40 @@ fn write_sweep<V: View>(raster: &V, out: &mut [u8])
 
 /// Writes the form of blocks, of which some in the groups that are told have tables, some of these
 /// values.
-fn write_measured<V: View>(h: &Header, raster: &V, tables: &Flags, values: &[u32], out: &mut [u8])
-    requires blocked { IsBlocked h.now (V.pixels raster.now) }
-    requires tables { AreFlags h.now (V.pixels raster.now) (coded_blocks h.now) tables.now }
+fn write_measured<V: View>(blocks: &BlockView<V>, tables: &Flags, values: &[u32], out: &mut [u8])
+    requires tables { AreFlags blocks.now.header.now (V.pixels blocks.now.raster.now)
+        (coded_blocks blocks.now.header.now) tables.now }
     requires rises { Rises values.now }
     requires few { length values.now ≤ 256 }
     requires room { length out.old
-        ≡ length (0 ∷ (mode_bytes (V.pixels raster.now) h.now.step
-        ++ blocks_bytes h.now (V.pixels raster.now))) }
-    ensures { out.new ≡ 0 ∷ (mode_bytes (V.pixels raster.now) h.now.step
-        ++ blocks_bytes h.now (V.pixels raster.now)) }
+        ≡ length (0 ∷ (mode_bytes (V.pixels blocks.now.raster.now) blocks.now.header.now.step
+        ++ blocks_bytes blocks.now.header.now (V.pixels blocks.now.raster.now))) }
+    ensures { out.new ≡ 0 ∷ (mode_bytes (V.pixels blocks.now.raster.now)
+        blocks.now.header.now.step
+        ++ blocks_bytes blocks.now.header.now (V.pixels blocks.now.raster.now)) }
 {
     out[0] = 0;
-    if has_mode(raster, h.step) {
+    if has_mode(blocks.raster, blocks.header.step) {
         out[1] = 0;
-        write_blocks(h, raster, tables, values, &mut out[2..]);
+        write_blocks(blocks, tables, values, &mut out[2..]);
     } else {
-        write_blocks(h, raster, tables, values, &mut out[1..]);
+        write_blocks(blocks, tables, values, &mut out[1..]);
     }
 }
 
 /// Writes the form of blocks, which were measured.
-fn write_block_form<V: View>(h: &Header, raster: &V, found: &Option<Measured>, out: &mut [u8])
-    requires blocked { IsBlocked h.now (V.pixels raster.now) }
-    requires measured { MatchOption found.now ⊥ (IsMeasured h.now (V.pixels raster.now)) }
+fn write_block_form<V: View>(blocks: &BlockView<V>, found: &Option<Measured>, out: &mut [u8])
+    requires measured { MatchOption found.now ⊥
+        (IsMeasured blocks.now.header.now (V.pixels blocks.now.raster.now)) }
     requires room { length out.old
-        ≡ length (0 ∷ (mode_bytes (V.pixels raster.now) h.now.step
-        ++ blocks_bytes h.now (V.pixels raster.now))) }
-    ensures { out.new ≡ 0 ∷ (mode_bytes (V.pixels raster.now) h.now.step
-        ++ blocks_bytes h.now (V.pixels raster.now)) }
+        ≡ length (0 ∷ (mode_bytes (V.pixels blocks.now.raster.now) blocks.now.header.now.step
+        ++ blocks_bytes blocks.now.header.now (V.pixels blocks.now.raster.now))) }
+    ensures { out.new ≡ 0 ∷ (mode_bytes (V.pixels blocks.now.raster.now)
+        blocks.now.header.now.step
+        ++ blocks_bytes blocks.now.header.now (V.pixels blocks.now.raster.now)) }
 {
     if let Some(measured) = found {
-        write_measured(h, raster, &measured.tables, measured.values.as_slice(), out);
+        write_measured(blocks, &measured.tables, measured.values.as_slice(), out);
     }
 }
 
@@ -144,9 +147,20 @@ pub(crate) fn write_form<V: View>(chosen: &Chosen, base: &Header, raster: &V, ou
 {
     match chosen.form {
         ValueForm::Sweep => write_sweep(raster, out),
-        ValueForm::SmallBlocks => write_block_form(base, raster, &chosen.small, out),
+        ValueForm::SmallBlocks => {
+            let small = BlockView {
+                header: base,
+                raster,
+            };
+            write_block_form(&small, &chosen.small, out);
+        }
         ValueForm::LargeBlocks => {
-            write_block_form(&with_large(base), raster, &chosen.large, out)
+            let header = with_large(base);
+            let large = BlockView {
+                header: &header,
+                raster,
+            };
+            write_block_form(&large, &chosen.large, out);
         }
         ValueForm::Delta => {
             write_coded_form(SymbolMode::Deltas, &chosen.codings.deltas, raster, out)

@@ -30,8 +30,8 @@ pub fn choices_decode()
     ensures declare { ChoicesDeclare }
 {}
 
-/// A law: the chosen blobs of bands are those of exactly one list of bands, each near the given one,
-/// and declare their version and step.
+/// A law: the chosen blobs of bands are those of exactly one list of bands, each near the given
+/// one, and declare their version and step.
 pub fn bands_decode()
     ensures bands { BandsDecode }
     ensures declare { BandsDeclare }

@@ -7,8 +7,10 @@
 #![tactic(auto)]
 
 mod alike;
+mod alike_raster;
 mod bands;
 mod blob;
+mod block_view;
 mod blocks;
 mod byte_view;
 mod choosing;
@@ -23,8 +25,9 @@ mod sides;
 mod symbols;
 
 pub use alike::encode_alike_over;
+pub use alike_raster::AlikeRaster;
 pub use bands::encode_bands;
-pub use blob::{EncodeFault, LayFault, encode, encode_over, encode_view, encode_view_over};
+pub use blob::{EncodeFault, LayFault, encode_view, encode_view_over};
 pub use laws::{
     bands_decode, blobs_are_small, choices_decode, codings_are_written, masks_are_taken,
 };

@@ -43,7 +43,8 @@ fn without_last(byte: u8, count: usize) -> u8
     byte & (255u8 << count)
 }
 
-/// The last byte of the mask of a raster, of these bytes: its bits behind the last pixel are cleared.
+/// The last byte of the mask of a raster, of these bytes: its bits behind the last pixel are
+/// cleared.
 fn last_of<V: View>(raster: &V, mask: &[u8]) -> u8
     requires size { length mask.now
         ≡ ((V.pixels raster.now).rows * (V.pixels raster.now).cols + 7) / 8 }
@@ -56,8 +57,8 @@ fn last_of<V: View>(raster: &V, mask: &[u8]) -> u8
     without_last(mask[mask.len() - 1], 8 * mask.len() - pixels)
 }
 
-/// How many bytes the runs of a raster's mask take: none where pixels are alike, nor where the mask is
-/// taken from the raster before.
+/// How many bytes the runs of a raster's mask take: none where pixels are alike, nor where the mask
+/// is taken from the raster before.
 pub(crate) fn runs_size<V: View>(raster: &V, taken: bool) -> usize
     ensures value { result ≡ length (runs_unless taken (marks_of (V.pixels raster.now))) }
     ensures few { result ≤ 6291458 }
@@ -78,7 +79,8 @@ pub(crate) fn write_no_mask(out: &mut [u8])
     LittleEndian::write_u32(out, 0);
 }
 
-/// Writes the length of the mask's runs, and these, which are made from the mask's bytes where they lie.
+/// Writes the length of the mask's runs, and these, which are made from the mask's bytes where they
+/// lie.
 pub(crate) fn write_mask<V: View>(raster: &V, taken: bool, size: usize, out: &mut [u8])
     requires size { size ≡ length (runs_unless taken (marks_of (V.pixels raster.now))) }
     requires few { size ≤ 6291458 }

@@ -17,7 +17,7 @@ pub(crate) struct Range {
 }
 
 /// The range of the values of two.
-fn joined(a: Range, b: Range) -> Range
+fn join(a: Range, b: Range) -> Range
     ensures least { result.least ≡ int_min a.least b.least }
     ensures greatest { result.greatest ≡ int_max a.greatest b.greatest }
 {
@@ -107,7 +107,7 @@ fn add(ranges: &mut Ranges, d: u32, found: Range)
         → get_or ranges.new.greatests k (pos 0) ≡ get_or ranges.old.greatests k (pos 0) }
 {
     let single = is_single(found);
-    ranges.whole = joined(ranges.whole, found);
+    ranges.whole = join(ranges.whole, found);
     ranges.equal = ranges.equal && single;
     keep(&mut ranges.leasts, d as usize, found.least);
     keep(&mut ranges.greatests, d as usize, found.greatest);

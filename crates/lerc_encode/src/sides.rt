@@ -13,14 +13,16 @@ ghost use Rattle.raster_cells.specs.PixelType.{InRange};
 ghost use Rattle.lerc_grammar.specs.Blocks.{blocks_across, blocks_down, coded_blocks};
 ghost use Rattle.lerc_encode.specs.Images.{blocks_bytes};
 ghost use Rattle.lerc_encode.specs.inside.Flags.{IsMarked, room_of};
-ghost use Rattle.lerc_encode.specs.inside.Blocked.{HasTableAt, IsBlocked, IsMeasured, IsSpot};
+ghost use Rattle.lerc_encode.specs.inside.Blocked.{HasTableAt, IsMeasured, IsBlockAt};
 ghost use Rattle.lerc_encode.specs.inside.Blocked.{IsWithin, bytes_at};
 ghost use Rattle.lerc_encode.specs.inside.Sides as inside;
 ghost use Rattle.lerc_encode.specs.inside.Sides.{AreFlaggedAt, AreMore, IsFlaggedAt, IsMore};
-ghost use Rattle.lerc_encode.specs.inside.Sides.{four_sizes, four_values, number_at};
+ghost use Rattle.lerc_encode.specs.inside.Sides.{IsPartBlockAt, four_sizes, four_values, number_at};
+ghost use Rattle.lerc_encode.specs.inside.Tallies.{AreGathered, IsTallied, values_in};
 
+use crate::block_view::{BlockView, BlockWalk, BothSides};
 use crate::blocks::{
-    FIRST, MOST, Measured, Spot, across, context, count, gather, next_spot, sorted_values,
+    BlockAt, FIRST, MOST, Measured, across, context, count, gather, next_block, sorted_values,
 };
 use crate::flags::{Flags, mark_where, no_flags};
 use lerc_header::Header;
@@ -29,8 +31,8 @@ use micro_block::{BlockSize, size_and_names};
 use raster_access::View;
 use std::alloc::{AllocError, Global};
 
-/// What is known of the blocks of a side that were looked at: how many bytes they take, and in which
-/// groups of them one has a table.
+/// What is known of the blocks of a side that were looked at: how many bytes they take, and in
+/// which groups of them one has a table.
 #[derive(Drop)]
 pub(crate) struct Tally {
     size: usize,
@@ -49,40 +51,58 @@ pub(crate) struct Sides {
 /// The most flags of a row of blocks, those of all depths together.
 const MOST_FLAGS: usize = 1024;
 
+/// A coded block: where it stands, and its number.
+#[derive(Clone, Copy)]
+struct CodedBlock {
+    spot: BlockAt,
+    k: usize,
+}
+
+/// The values of blocks, gathered one behind the other as how far each is above the least of its
+/// type, and their names as far as these are known.
+#[derive(Drop)]
+struct Gathered {
+    distances: [u32; MOST],
+    found: [u8; MOST],
+    /// How many values there are.
+    count: usize,
+    names: Names,
+    /// Whether the names of all of them are known.
+    known: bool,
+}
+
 /// How many blocks, one behind the other, have one flag: as few as leave a row of blocks no more
 /// flags than that.
-fn group_of<V: View>(h: &Header, raster: &V) -> usize
-    requires { IsBlocked h.now (V.pixels raster.now) }
-    ensures value { result ≡ (blocks_across h.now * h.now.depth + 1023) / 1024 }
+fn group_of<V: View>(blocks: &BlockView<V>) -> usize
+    ensures value { result
+        ≡ (blocks_across blocks.now.header.now * blocks.now.header.now.depth + 1023) / 1024 }
     ensures some { 0 < result }
     ensures few { result < 2 ^ 31 }
 {
-    (across(h, raster) * h.depth as usize + MOST_FLAGS - 1) / MOST_FLAGS
+    (across(blocks) * blocks.header.depth as usize + MOST_FLAGS - 1) / MOST_FLAGS
 }
 
 /// Nothing is known yet of the blocks of a side.
-fn no_tally<V: View>(alloc: Global, h: &Header, raster: &V) -> Result<Tally, AllocError>
-    requires { IsBlocked h.now (V.pixels raster.now) }
+fn no_tally<V: View>(alloc: Global, blocks: &BlockView<V>) -> Result<Tally, AllocError>
     ensures size { IfOk result (λ t. t.size ≡ 0) }
-    ensures few { IfOk result (λ t. length t.tables.words.items ≤ 16 * blocks_down h.now) }
-    ensures room { IfOk result (λ t. coded_blocks h.now ≤ room_of t.tables) }
+    ensures few { IfOk result (λ t. length t.tables.words.items
+        ≤ 16 * blocks_down blocks.now.header.now) }
+    ensures room { IfOk result (λ t. coded_blocks blocks.now.header.now ≤ room_of t.tables) }
     ensures none { IfOk result (λ t. (k : ℕ) → IsMarked t.tables k → ⊥) }
 {
-    let tables = no_flags(alloc, count(h, raster), group_of(h, raster))?;
+    let tables = no_flags(alloc, count(blocks), group_of(blocks))?;
     Ok(Tally { size: 0, tables })
 }
 
 /// The number of the block of 8 at a spot.
-fn number_of<V: View>(h: &Header, raster: &V, spot: Spot) -> usize
-    requires blocked { IsBlocked h.now (V.pixels raster.now) }
-    requires side { h.now.side ≡ 8 }
-    requires within { IsWithin h.now spot }
-    requires row { spot.row % 8 ≡ 0 }
-    requires col { spot.col % 8 ≡ 0 }
-    ensures value { result ≡ number_at h.now spot }
-    ensures within { result < coded_blocks h.now }
-    ensures spot { IsSpot h.now result spot }
+fn number_of<V: View>(blocks: &BlockView<V>, spot: BlockAt) -> usize
+    requires part { IsPartBlockAt blocks.now.header.now spot }
+    requires within { IsWithin blocks.now.header.now spot }
+    ensures value { result ≡ number_at blocks.now.header.now spot }
+    ensures within { result < coded_blocks blocks.now.header.now }
+    ensures spot { IsBlockAt blocks.now.header.now result spot }
 {
+    let h = blocks.header;
     let across = (h.cols as usize + 7) / 8;
     let block = (spot.row / 8) as usize * across + (spot.col / 8) as usize;
     block * h.depth as usize + spot.d as usize
@@ -105,106 +125,102 @@ fn add(tally: &mut Tally, k: usize, found: BlockSize)
     mark_where(&mut tally.tables, k, found.has_table);
 }
 
-/// Looks at the block at a spot, whose number is k and whose values, in some order, are gathered,
-/// unless the blocks before it take more than `most` bytes. Their names are sought only where they are
-/// needed and not known.
+/// Looks at a block whose values, in some order, are gathered, unless the blocks before it take too
+/// many bytes. Their names are sought only where they are needed and not known.
 fn tally_block<V: View>(
-    h: &Header,
-    raster: &V,
-    spot: Spot,
-    k: usize,
+    walk: &BlockWalk<V>,
+    block: CodedBlock,
     distances: &[u32],
-    most: usize,
     tally: &mut Tally,
     names: &mut Names,
     found: &mut [u8],
     known: &mut bool,
 )
-    requires blocked { IsBlocked h.now (V.pixels raster.now) }
-    requires spot { IsSpot h.now k spot }
-    requires most { most ≤ 67108865 }
+    requires spot { IsBlockAt walk.now.header.now block.k block.spot }
     requires few { length distances.now ≤ 256 }
-    requires fit { All (IsDistance h.now.kind) distances.now }
-    requires values { All (InRange h.now.kind) (map (value_above h.now.kind) distances.now) }
-    requires long { length (block_bytes h.now.kind spot.col h.now.step
-        (map (value_above h.now.kind) distances.now))
-        ≡ length (bytes_at h.now (V.pixels raster.now) spot) }
-    requires table { (chosen_form h.now.kind spot.col h.now.step
-        (map (value_above h.now.kind) distances.now) ≡ micro.table)
-        ↔ HasTableAt h.now (V.pixels raster.now) spot }
-    requires within { k < room_of tally.old.tables }
+    requires fit { All (IsDistance walk.now.header.now.kind) distances.now }
+    requires values { All (InRange walk.now.header.now.kind)
+        (map (value_above walk.now.header.now.kind) distances.now) }
+    requires long { length (block_bytes walk.now.header.now.kind block.spot.col
+        walk.now.header.now.step (map (value_above walk.now.header.now.kind) distances.now))
+        ≡ length (bytes_at walk.now.header.now (V.pixels walk.now.raster.now) block.spot) }
+    requires table { (chosen_form walk.now.header.now.kind block.spot.col
+        walk.now.header.now.step (map (value_above walk.now.header.now.kind) distances.now)
+        ≡ micro.table)
+        ↔ HasTableAt walk.now.header.now (V.pixels walk.now.raster.now) block.spot }
+    requires within { block.k < room_of tally.old.tables }
     requires room { length found.old ≡ length distances.now }
     requires known { IsTrue known.old → AreNamed names.old distances.now found.old }
     ensures kept { KeepsNames names.old names.new }
     ensures known { IsTrue known.new → AreNamed names.new distances.now found.new }
-    ensures size { IsMore most (length (bytes_at h.now (V.pixels raster.now) spot)) tally.old.size
-        tally.new.size }
-    ensures tables { AreMore h.now (V.pixels raster.now) tally.old.tables tally.new.tables }
-    ensures this { tally.new.size ≤ most → HasTableAt h.now (V.pixels raster.now) spot
-        → IsMarked tally.new.tables k }
+    ensures size { IsMore walk.now.most
+        (length (bytes_at walk.now.header.now (V.pixels walk.now.raster.now) block.spot))
+        tally.old.size tally.new.size }
+    ensures tables { AreMore walk.now.header.now (V.pixels walk.now.raster.now)
+        tally.old.tables tally.new.tables }
+    ensures this { tally.new.size ≤ walk.now.most
+        → HasTableAt walk.now.header.now (V.pixels walk.now.raster.now) block.spot
+        → IsMarked tally.new.tables block.k }
 {
-    if tally.size > most {
+    if tally.size > walk.most {
         return;
     }
-    let size = size_and_names(
-        distances,
-        &context(h, raster, spot.col),
-        names,
-        found,
-        known,
-    );
-    add(tally, k, size);
+    let blocks = BlockView {
+        header: walk.header,
+        raster: walk.raster,
+    };
+    let ctx = context(&blocks, block.spot.col);
+    let size = size_and_names(distances, &ctx, names, found, known);
+    add(tally, block.k, size);
 }
 
 /// Gathers the values of the block of 8 at a spot and looks at it, where one stands there, and
 /// answers how many values these are, and whether their names are known then.
 fn tally_part<V: View>(
-    h: &Header,
-    raster: &V,
-    spot: Spot,
-    most: usize,
+    walk: &BlockWalk<V>,
+    spot: BlockAt,
     tally: &mut Tally,
     names: &mut Names,
     distances: &mut [u32],
     found: &mut [u8],
     known: &mut bool,
 ) -> usize
-    requires blocked { IsBlocked h.now (V.pixels raster.now) }
-    requires side { h.now.side ≡ 8 }
-    requires row { spot.row % 8 ≡ 0 }
-    requires col { spot.col % 8 ≡ 0 }
-    requires depth { spot.d < h.now.depth }
-    requires most { most ≤ 67108865 }
+    requires part { IsPartBlockAt walk.now.header.now spot }
     requires room { 64 ≤ length distances.old }
     requires beside { length found.old ≡ length distances.old }
-    requires tables { coded_blocks h.now ≤ room_of tally.old.tables }
+    requires tables { coded_blocks walk.now.header.now ≤ room_of tally.old.tables }
     ensures kept { KeepsNames names.old names.new }
     ensures few { result ≤ 64 }
     ensures known { IsTrue known.new
         → AreNamed names.new (take result distances.new) (take result found.new) }
-    ensures fit { All (IsDistance h.now.kind) (take result distances.new) }
-    ensures are { map (value_above h.now.kind) (take result distances.new)
-        ≡ block_values (V.pixels raster.now) spot.row spot.col 8 spot.d }
-    ensures size { IsMore most (inside.size_at h.now (V.pixels raster.now) spot) tally.old.size
-        tally.new.size }
-    ensures tables { AreMore h.now (V.pixels raster.now) tally.old.tables tally.new.tables }
-    ensures this { tally.new.size ≤ most
-        → IsFlaggedAt h.now (V.pixels raster.now) spot tally.new.tables }
+    ensures fit { All (IsDistance walk.now.header.now.kind) (take result distances.new) }
+    ensures are { map (value_above walk.now.header.now.kind) (take result distances.new)
+        ≡ block_values (V.pixels walk.now.raster.now) spot.row spot.col 8 spot.d }
+    ensures size { IsMore walk.now.most
+        (inside.size_at walk.now.header.now (V.pixels walk.now.raster.now) spot)
+        tally.old.size tally.new.size }
+    ensures tables { AreMore walk.now.header.now (V.pixels walk.now.raster.now)
+        tally.old.tables tally.new.tables }
+    ensures this { tally.new.size ≤ walk.now.most
+        → IsFlaggedAt walk.now.header.now (V.pixels walk.now.raster.now) spot
+        tally.new.tables }
 {
+    let h = walk.header;
     if spot.row >= h.rows || spot.col >= h.cols {
         *known = true;
         return 0;
     }
-    let n = gather(h, raster, spot, distances);
-    let k = number_of(h, raster, spot);
+    let blocks = BlockView {
+        header: walk.header,
+        raster: walk.raster,
+    };
+    let n = gather(&blocks, spot, distances);
+    let k = number_of(&blocks, spot);
     *known = false;
     tally_block(
-        h,
-        raster,
-        spot,
-        k,
+        walk,
+        CodedBlock { spot, k },
         &distances[..n],
-        most,
         tally,
         names,
         &mut found[..n],
@@ -213,180 +229,131 @@ fn tally_part<V: View>(
     n
 }
 
-/// Does this with the values put behind the first `at`, and answers where they end, and whether the
-/// names of all up to there are known.
+/// Does this with the values put behind those that are gathered.
 fn tally_behind<V: View>(
-    h: &Header,
-    raster: &V,
-    spot: Spot,
-    at: usize,
-    most: usize,
+    walk: &BlockWalk<V>,
+    spot: BlockAt,
     tally: &mut Tally,
-    names: &mut Names,
-    distances: &mut [u32],
-    found: &mut [u8],
-    known: &mut bool,
-) -> usize
-    requires blocked { IsBlocked h.now (V.pixels raster.now) }
-    requires side { h.now.side ≡ 8 }
-    requires row { spot.row % 8 ≡ 0 }
-    requires col { spot.col % 8 ≡ 0 }
-    requires depth { spot.d < h.now.depth }
-    requires most { most ≤ 67108865 }
-    requires room { at + 64 ≤ length distances.old }
-    requires beside { length found.old ≡ length distances.old }
-    requires known { IsTrue known.old
-        → AreNamed names.old (take at distances.old) (take at found.old) }
-    requires fit { All (IsDistance h.now.kind) (take at distances.old) }
-    requires tables { coded_blocks h.now ≤ room_of tally.old.tables }
-    ensures few { result ≤ at + 64 }
-    ensures room { length distances.new ≡ length distances.old }
-    ensures beside { length found.new ≡ length distances.old }
-    ensures known { IsTrue known.new
-        → AreNamed names.new (take result distances.new) (take result found.new) }
-    ensures fit { All (IsDistance h.now.kind) (take result distances.new) }
-    ensures are { map (value_above h.now.kind) (take result distances.new)
-        ≡ map (value_above h.now.kind) (take at distances.old)
-        ++ block_values (V.pixels raster.now) spot.row spot.col 8 spot.d }
-    ensures size { IsMore most (inside.size_at h.now (V.pixels raster.now) spot) tally.old.size
-        tally.new.size }
-    ensures tables { AreMore h.now (V.pixels raster.now) tally.old.tables tally.new.tables }
-    ensures this { tally.new.size ≤ most
-        → IsFlaggedAt h.now (V.pixels raster.now) spot tally.new.tables }
+    gathered: &mut Gathered,
+)
+    requires part { IsPartBlockAt walk.now.header.now spot }
+    requires room { gathered.old.count + 64 ≤ 256 }
+    requires gathered { AreGathered walk.now.header.now.kind gathered.old }
+    requires tables { coded_blocks walk.now.header.now ≤ room_of tally.old.tables }
+    ensures few { gathered.new.count ≤ gathered.old.count + 64 }
+    ensures gathered { AreGathered walk.now.header.now.kind gathered.new }
+    ensures are { values_in walk.now.header.now.kind gathered.new
+        ≡ values_in walk.now.header.now.kind gathered.old
+        ++ block_values (V.pixels walk.now.raster.now) spot.row spot.col 8 spot.d }
+    ensures tallied { IsTallied walk.now.header.now (V.pixels walk.now.raster.now) walk.now.most
+        (inside.size_at walk.now.header.now (V.pixels walk.now.raster.now) spot)
+        (IsFlaggedAt walk.now.header.now (V.pixels walk.now.raster.now) spot)
+        tally.old tally.new }
 {
+    let at = gathered.count;
+    let distances = &mut gathered.distances[..];
+    let found = &mut gathered.found[..];
     let mut more = false;
     let n = tally_part(
-        h,
-        raster,
+        walk,
         spot,
-        most,
         tally,
-        names,
+        &mut gathered.names,
         &mut distances[at..],
         &mut found[at..],
         &mut more,
     );
-    *known = *known && more;
-    at + n
+    let were_known = gathered.known;
+    let known = were_known && more;
+    gathered.known = known;
+    gathered.count = at + n;
 }
 
-/// Does this of the up to four blocks of 8 in the block of 16 at a spot, row by row of blocks. Their
-/// values are gathered one behind the other; answers how many these are, and whether the names of all
-/// are known.
+/// Does this of the up to four blocks of 8 in the block of 16 at a spot, row by row of blocks:
+/// their values are those that are gathered then.
 fn tally_parts<V: View>(
-    h: &Header,
-    raster: &V,
-    spot: Spot,
-    most: usize,
+    walk: &BlockWalk<V>,
+    spot: BlockAt,
     tally: &mut Tally,
-    names: &mut Names,
-    distances: &mut [u32],
-    found: &mut [u8],
-    known: &mut bool,
-) -> usize
-    requires blocked { IsBlocked h.now (V.pixels raster.now) }
-    requires side { h.now.side ≡ 8 }
-    requires within { IsWithin h.now spot }
-    requires row { spot.row % 8 ≡ 0 }
-    requires col { spot.col % 8 ≡ 0 }
-    requires most { most ≤ 67108865 }
-    requires room { length distances.old ≡ 256 }
-    requires beside { length found.old ≡ 256 }
-    requires tables { coded_blocks h.now ≤ room_of tally.old.tables }
-    ensures few { result ≤ 256 }
-    ensures room { length distances.new ≡ 256 }
-    ensures beside { length found.new ≡ 256 }
-    ensures known { IsTrue known.new
-        → AreNamed names.new (take result distances.new) (take result found.new) }
-    ensures fit { All (IsDistance h.now.kind) (take result distances.new) }
-    ensures are { map (value_above h.now.kind) (take result distances.new)
-        ≡ four_values (V.pixels raster.now) spot }
-    ensures size { IsMore most (four_sizes h.now (V.pixels raster.now) spot) tally.old.size
-        tally.new.size }
-    ensures tables { AreMore h.now (V.pixels raster.now) tally.old.tables tally.new.tables }
-    ensures these { tally.new.size ≤ most
-        → AreFlaggedAt h.now (V.pixels raster.now) spot tally.new.tables }
+    gathered: &mut Gathered,
+)
+    requires within { IsWithin walk.now.header.now spot }
+    requires part { IsPartBlockAt walk.now.header.now spot }
+    requires tables { coded_blocks walk.now.header.now ≤ room_of tally.old.tables }
+    ensures few { gathered.new.count ≤ 256 }
+    ensures gathered { AreGathered walk.now.header.now.kind gathered.new }
+    ensures are { values_in walk.now.header.now.kind gathered.new
+        ≡ four_values (V.pixels walk.now.raster.now) spot }
+    ensures tallied { IsTallied walk.now.header.now (V.pixels walk.now.raster.now) walk.now.most
+        (four_sizes walk.now.header.now (V.pixels walk.now.raster.now) spot)
+        (AreFlaggedAt walk.now.header.now (V.pixels walk.now.raster.now) spot)
+        tally.old tally.new }
 {
-    let right = Spot {
+    let right = BlockAt {
         col: spot.col + 8,
         ..spot
     };
-    let below = Spot {
+    let below = BlockAt {
         row: spot.row + 8,
         ..spot
     };
-    let corner = Spot {
+    let corner = BlockAt {
         row: spot.row + 8,
         col: spot.col + 8,
         d: spot.d,
     };
-    *known = true;
-    let first = tally_behind(
-        h, raster, spot, 0, most, tally, names, distances, found, known,
-    );
-    let second = tally_behind(
-        h, raster, right, first, most, tally, names, distances, found, known,
-    );
-    let third = tally_behind(
-        h, raster, below, second, most, tally, names, distances, found, known,
-    );
-    tally_behind(
-        h, raster, corner, third, most, tally, names, distances, found, known,
-    )
+    gathered.count = 0;
+    gathered.known = true;
+    tally_behind(walk, spot, tally, gathered);
+    tally_behind(walk, right, tally, gathered);
+    tally_behind(walk, below, tally, gathered);
+    tally_behind(walk, corner, tally, gathered);
 }
 
-/// Looks at block of 16 number k, at a spot, and before at the blocks of 8 in it.
+/// Looks at a block of 16, and before at the blocks of 8 in it.
 fn tally_both<V: View>(
-    small: &Header,
-    large: &Header,
-    raster: &V,
-    spot: Spot,
-    k: usize,
-    most: usize,
+    sides: &BothSides<V>,
+    block: CodedBlock,
     eights: &mut Tally,
     sixteens: &mut Tally,
-    names: &mut Names,
-    distances: &mut [u32],
-    found: &mut [u8],
+    gathered: &mut Gathered,
 )
-    requires blocked { IsBlocked small.now (V.pixels raster.now) }
-    requires side { small.now.side ≡ 8 }
-    requires large { large.now ≡ record small.now { side = 16 } }
-    requires spot { IsSpot large.now k spot }
-    requires within { k < coded_blocks large.now }
-    requires most { most ≤ 67108865 }
-    requires room { length distances.old ≡ 256 }
-    requires beside { length found.old ≡ 256 }
-    requires eights { coded_blocks small.now ≤ room_of eights.old.tables }
-    requires sixteens { coded_blocks large.now ≤ room_of sixteens.old.tables }
-    ensures small_size { IsMore most (four_sizes small.now (V.pixels raster.now) spot)
-        eights.old.size eights.new.size }
-    ensures small_tables { AreMore small.now (V.pixels raster.now) eights.old.tables
-        eights.new.tables }
-    ensures small_these { eights.new.size ≤ most
-        → AreFlaggedAt small.now (V.pixels raster.now) spot eights.new.tables }
-    ensures large_size { IsMore most (length (bytes_at large.now (V.pixels raster.now) spot))
-        sixteens.old.size sixteens.new.size }
-    ensures large_tables { AreMore large.now (V.pixels raster.now) sixteens.old.tables
-        sixteens.new.tables }
-    ensures large_this { sixteens.new.size ≤ most → HasTableAt large.now (V.pixels raster.now) spot
-        → IsMarked sixteens.new.tables k }
+    requires sixteen { sides.now.large.now ≡ record sides.now.small.now { side = 16 } }
+    requires spot { IsBlockAt sides.now.large.now block.k block.spot }
+    requires within { block.k < coded_blocks sides.now.large.now }
+    requires eights { coded_blocks sides.now.small.now ≤ room_of eights.old.tables }
+    requires sixteens { coded_blocks sides.now.large.now ≤ room_of sixteens.old.tables }
+    ensures small { IsTallied sides.now.small.now (V.pixels sides.now.raster.now) sides.now.most
+        (four_sizes sides.now.small.now (V.pixels sides.now.raster.now) block.spot)
+        (AreFlaggedAt sides.now.small.now (V.pixels sides.now.raster.now) block.spot)
+        eights.old eights.new }
+    ensures large { IsTallied sides.now.large.now (V.pixels sides.now.raster.now) sides.now.most
+        (length (bytes_at sides.now.large.now (V.pixels sides.now.raster.now) block.spot))
+        (λ tables. HasTableAt sides.now.large.now (V.pixels sides.now.raster.now) block.spot
+        → IsMarked tables block.k)
+        sixteens.old sixteens.new }
 {
-    let mut known = false;
-    let n = tally_parts(
-        small, raster, spot, most, eights, names, distances, found, &mut known,
-    );
+    let small = BlockWalk {
+        header: sides.small,
+        raster: sides.raster,
+        most: sides.most,
+    };
+    let large = BlockWalk {
+        header: sides.large,
+        raster: sides.raster,
+        most: sides.most,
+    };
+    tally_parts(&small, block.spot, eights, gathered);
+    let n = gathered.count;
+    let found = &mut gathered.found[..];
     tally_block(
-        large,
-        raster,
-        spot,
-        k,
-        &distances[..n],
-        most,
+        &large,
+        block,
+        &gathered.distances[..n],
         sixteens,
-        names,
+        &mut gathered.names,
         &mut found[..n],
-        &mut known,
+        &mut gathered.known,
     );
 }
 
@@ -406,45 +373,46 @@ fn measured_of(tally: Tally, most: usize, names: &Names) -> Option<Measured>
     })
 }
 
-/// What is known of all blocks of both sides; none of a side where its blocks take more than `most`
-/// bytes, for then they are not looked at to the end.
+/// What is known of all blocks of both sides; none of a side where its blocks take too many bytes,
+/// for then they are not looked at to the end.
 pub(crate) fn measure_sides<V: View>(
     alloc: Global,
-    small: &Header,
-    large: &Header,
-    raster: &V,
-    most: usize,
+    sides: &BothSides<V>,
 ) -> Result<Sides, AllocError>
-    requires blocked { IsBlocked small.now (V.pixels raster.now) }
-    requires side { small.now.side ≡ 8 }
-    requires large { large.now ≡ record small.now { side = 16 } }
-    requires most { most ≤ 67108865 }
+    requires sixteen { sides.now.large.now ≡ record sides.now.small.now { side = 16 } }
     ensures small { IfOk result (λ found. MatchOption found.small
-        (most < length (blocks_bytes small.now (V.pixels raster.now)))
-        (IsMeasured small.now (V.pixels raster.now))) }
+        (sides.now.most < length (blocks_bytes sides.now.small.now (V.pixels sides.now.raster.now)))
+        (IsMeasured sides.now.small.now (V.pixels sides.now.raster.now))) }
     ensures large { IfOk result (λ found. MatchOption found.large
-        (most < length (blocks_bytes large.now (V.pixels raster.now)))
-        (IsMeasured large.now (V.pixels raster.now))) }
+        (sides.now.most < length (blocks_bytes sides.now.large.now (V.pixels sides.now.raster.now)))
+        (IsMeasured sides.now.large.now (V.pixels sides.now.raster.now))) }
 {
-    let mut eights = no_tally(alloc, small, raster)?;
-    let mut sixteens = no_tally(alloc, large, raster)?;
-    let mut names = Names::new();
-    let mut distances = [0; MOST];
-    let mut found = [0; MOST];
+    let most = sides.most;
+    let parts = BlockView {
+        header: sides.small,
+        raster: sides.raster,
+    };
+    let wholes = BlockView {
+        header: sides.large,
+        raster: sides.raster,
+    };
+    let mut eights = no_tally(alloc, &parts)?;
+    let mut sixteens = no_tally(alloc, &wholes)?;
+    let mut gathered = Gathered {
+        distances: [0; MOST],
+        found: [0; MOST],
+        count: 0,
+        names: Names::new(),
+        known: false,
+    };
     let mut spot = FIRST;
-    for k in 0..count(large, raster) {
+    for k in 0..count(&wholes) {
         tally_both(
-            small,
-            large,
-            raster,
-            spot,
-            k,
-            most,
+            sides,
+            CodedBlock { spot, k },
             &mut eights,
             &mut sixteens,
-            &mut names,
-            &mut distances,
-            &mut found,
+            &mut gathered,
         );
         if eights.size > most && sixteens.size > most {
             return Ok(Sides {
@@ -452,9 +420,9 @@ pub(crate) fn measure_sides<V: View>(
                 large: None,
             });
         }
-        spot = next_spot(large, raster, spot);
+        spot = next_block(&wholes, spot);
     }
-    let small = measured_of(eights, most, &names);
-    let large = measured_of(sixteens, most, &names);
+    let small = measured_of(eights, most, &gathered.names);
+    let large = measured_of(sixteens, most, &gathered.names);
     Ok(Sides { small, large })
 }

@@ -11,7 +11,7 @@ ghost use Rattle.lerc_encode.specs.Images.{all_deltas};
 ghost use Rattle.lerc_encode.specs.inside.Coded.{IsLying, symbols_of};
 
 use crate::byte_view::ByteView;
-use delta_mode::{first_plain, first_way, next_deltas, next_plain};
+use delta_mode::{first_plain, first_state, next_deltas, next_plain};
 use huff_codes::{Lengths, SymbolCounter, SymbolWriter, count_symbols, write_symbols};
 use raster_access::View;
 use raster_values::PixelType;
@@ -39,11 +39,11 @@ fn count_deltas<V: View>(bytes: &ByteView<V>) -> [u32; 256]
     let depth = bytes.raster.depth();
     let mut counter = SymbolCounter::new();
     let mut room = [0; DELTAS];
-    let mut way = first_way();
-    while way.d < depth {
-        let next = next_deltas(bytes.raster, way, &mut room);
-        counter.add(&room[..next.given - way.given]);
-        way = next;
+    let mut state = first_state();
+    while state.d < depth {
+        let next = next_deltas(bytes.raster, state, &mut room);
+        counter.add(&room[..next.given - state.given]);
+        state = next;
     }
     counter.counts()
 }
@@ -58,11 +58,11 @@ fn write_deltas<V: View>(bytes: &ByteView<V>, lengths: &Lengths, out: &mut [u8])
     let depth = bytes.raster.depth();
     let mut writer = SymbolWriter::new(lengths);
     let mut room = [0; DELTAS];
-    let mut way = first_way();
-    while way.d < depth {
-        let next = next_deltas(bytes.raster, way, &mut room);
-        writer.write(&room[..next.given - way.given], out);
-        way = next;
+    let mut state = first_state();
+    while state.d < depth {
+        let next = next_deltas(bytes.raster, state, &mut room);
+        writer.write(&room[..next.given - state.given], out);
+        state = next;
     }
     writer.end(out);
 }
@@ -79,18 +79,18 @@ fn is_lying<V: View>(raster: &V) -> bool
 }
 
 /// Counts the plain symbols piece by piece.
-fn count_pieces<V: View>(bytes: &ByteView<V>) -> [u32; 256]
+fn count_plain_by_piece<V: View>(bytes: &ByteView<V>) -> [u32; 256]
     ensures counts { result ≡ counts_of (plain (V.pixels bytes.now.raster.now)) }
     ensures few { sum result ≤ 2 ^ 24 }
 {
     let pixels = bytes.raster.rows() as usize * bytes.raster.cols() as usize;
     let mut counter = SymbolCounter::new();
     let mut room = [0; PLAINS];
-    let mut way = first_plain();
-    while way.place < pixels {
-        let next = next_plain(bytes.raster, way, &mut room);
-        counter.add(&room[..next.given - way.given]);
-        way = next;
+    let mut state = first_plain();
+    while state.place < pixels {
+        let next = next_plain(bytes.raster, state, &mut room);
+        counter.add(&room[..next.given - state.given]);
+        state = next;
     }
     counter.counts()
 }
@@ -103,12 +103,12 @@ fn count_plain<V: View>(bytes: &ByteView<V>) -> [u32; 256]
     if is_lying(bytes.raster) {
         count_symbols(bytes.raster.cells())
     } else {
-        count_pieces(bytes)
+        count_plain_by_piece(bytes)
     }
 }
 
 /// Writes the words of the plain symbols piece by piece over all of `out`.
-fn write_pieces<V: View>(bytes: &ByteView<V>, lengths: &Lengths, out: &mut [u8])
+fn write_plain_by_piece<V: View>(bytes: &ByteView<V>, lengths: &Lengths, out: &mut [u8])
     requires room { length out.old
         ≡ written_size (canonical_codes lengths.now) (plain (V.pixels bytes.now.raster.now)) }
     ensures { AreWritten (canonical_codes lengths.now) (plain (V.pixels bytes.now.raster.now))
@@ -117,11 +117,11 @@ fn write_pieces<V: View>(bytes: &ByteView<V>, lengths: &Lengths, out: &mut [u8])
     let pixels = bytes.raster.rows() as usize * bytes.raster.cols() as usize;
     let mut writer = SymbolWriter::new(lengths);
     let mut room = [0; PLAINS];
-    let mut way = first_plain();
-    while way.place < pixels {
-        let next = next_plain(bytes.raster, way, &mut room);
-        writer.write(&room[..next.given - way.given], out);
-        way = next;
+    let mut state = first_plain();
+    while state.place < pixels {
+        let next = next_plain(bytes.raster, state, &mut room);
+        writer.write(&room[..next.given - state.given], out);
+        state = next;
     }
     writer.end(out);
 }
@@ -138,7 +138,7 @@ fn write_plain<V: View>(bytes: &ByteView<V>, lengths: &Lengths, out: &mut [u8])
     if is_lying(bytes.raster) {
         write_symbols(bytes.raster.cells(), lengths, out);
     } else {
-        write_pieces(bytes, lengths, out);
+        write_plain_by_piece(bytes, lengths, out);
     }
 }
 

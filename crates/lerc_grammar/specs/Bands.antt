@@ -37,9 +37,9 @@ abbrev pub last_after : Option Previous → List Pixels → Option Previous
 last_after before [] = before
 last_after before (r ∷ more) = last_after (Some (previous_of r)) more
 
--- What is wrong first with a header behind these bands: rows, cols, depth or type is not that of the
--- first band, told where the header has it (at cols where the version has no depth); or with this
--- band there are more than 2 ^ 24 values, told where a header says that there are too many.
+-- What is wrong first with a header behind these bands: rows, cols, depth or type is not that of
+-- the first band, told where the header has it (at cols where the version has no depth); or with
+-- this band there are more than 2 ^ 24 values, told where a header says that there are too many.
 abbrev pub unlike_faults : List Pixels → Header → Faults BandReason
 unlike_faults [] h = none
 unlike_faults (r ∷ more) h =
@@ -55,9 +55,9 @@ unlike_faults (r ∷ more) h =
 abbrev pub HasLikeHead : List Pixels → List ℕ → Type 0
 HasLikeHead bands rest = (h : Header) → HeadAt rest h → IsEmpty (unlike_faults bands h)
 
--- The blob that begins here, behind these bands, is wrong: its header stands and is unlike the first
--- band's, decided with the header; or else the blob has a fault of its own, decided as that of a
--- blob is. A fault of the header itself comes first, since then none stands.
+-- The blob that begins here, behind these bands, is wrong: its header stands and is unlike the
+-- first band's, decided with the header; or else the blob has a fault of its own, decided as that
+-- of a blob is. A fault of the header itself comes first, since then none stands.
 pub data BandFault (bands : List Pixels) (rest : List ℕ) (place : ℕ) (reason : BandReason)
     : Type 0 where
   unlike : (h : Header) → HeadAt rest h → unlike_faults bands h place reason →
@@ -82,8 +82,8 @@ abbrev pub next_decided : List Pixels → List ℕ → Faults BandReason
 next_decided bands rest place reason = (IsBegun bands rest × BandFault bands rest place reason)
     ⊎ (IsNoBlob bands rest × wrong (OfBlob Leftover) 0 place reason)
 
--- the blobs of these bands stand in front, and what comes behind them has one of these faults, whose
--- place is counted from there
+-- the blobs of these bands stand in front, and what comes behind them has one of these faults,
+-- whose place is counted from there
 pub record Behind (faults : List Pixels → List ℕ → Faults BandReason) (input : List ℕ) (place : ℕ)
     (reason : BandReason) : Type 0 where
   pub bands : List Pixels
@@ -105,8 +105,8 @@ IsLeastFault bytes = (n : ℕ) → n < length bytes → (place : ℕ) (reason : 
 
 -- ---- the verdict on a whole input
 
--- nothing is decided of the blob that begins here, and nothing follows: it is cut, at the end of the
--- input
+-- nothing is decided of the blob that begins here, and nothing follows: it is cut, at the end of
+-- the input
 abbrev pub cut_faults : List Pixels → List ℕ → Faults BandReason
 cut_faults bands rest place reason = HasLikeHead bands rest
     × (IsMoreAfter (last_after None bands) rest

@@ -1,6 +1,7 @@
 //! Laws of the definitions.
 
 ghost use Rattle.lerc_grammar.specs.Laws.{NoTwoRasters, RastersArePrevious, OneFirstFault, OneVerdict, SomeVerdict, OneWholeVerdict, SomeWholeVerdict, VerdictStays, OneBandsVerdict, NoTwoBands, SomeBandsVerdict, BandsFaultStays};
+ghost use Rattle.lerc_grammar.specs.Laws.{BandsFaultIsWithin, FaultIsWithin};
 ghost use Rattle.lerc_grammar.specs.Near.{NearItself, NearBothWays, NearJoined, NearWider, NearestIsSame};
 
 /// A law: behind one raster no bytes have two rasters.
@@ -67,4 +68,11 @@ pub fn some_bands_verdict()
 /// A law: a fault of bands that is decided is the verdict whatever follows.
 pub fn bands_faults_stay()
     ensures { BandsFaultStays }
+{}
+
+/// A law: a first fault stands within the bytes, and no further on than the greatest blob is long;
+/// that of bands no further on than 17 of these.
+pub fn faults_are_within()
+    ensures blob { FaultIsWithin }
+    ensures bands { BandsFaultIsWithin }
 {}

@@ -55,7 +55,7 @@ pub struct Outline {
 }
 
 /// A fault, as an answer.
-fn refused<T: Drop>(reason: BlobReason, place: u64) -> Result<T, BlobFault>
+fn refuse<T: Drop>(reason: BlobReason, place: u64) -> Result<T, BlobFault>
     ensures { result ≡ Err (record { reason = reason; place = place }) }
 {
     Err(BlobFault { reason, place })
@@ -79,18 +79,18 @@ fn are_alike(pixels: u64, valid: u64) -> bool
     valid == 0 || valid == pixels
 }
 
-/// No runs, where some pixels are valid and some are not: the mask is the one before, where there is
-/// one and as many of its pixels are valid.
+/// No runs, where some pixels are valid and some are not: the mask is the one before, where there
+/// is one and as many of its pixels are valid.
 fn taken_span(valid: u32, before: Option<u32>) -> Result<u32, BlobFault>
     ensures ok { IfOk result (λ n. (n ≡ 0) × (before ≡ Some valid)) }
     ensures fault { IfErr result (λ f. taken_faults before valid f.place f.reason) }
     ensures near { IfErr result (λ f. f.place ≡ 0) }
 {
     let Some(counted) = before else {
-        return refused(BlobReason::MaskMissing, 0);
+        return refuse(BlobReason::MaskMissing, 0);
     };
     if counted != valid {
-        return refused(
+        return refuse(
             BlobReason::BadMaskCount {
                 header: valid,
                 counted,
@@ -109,12 +109,12 @@ fn mask_span(rest: &[u8], pixels: u64, valid: u32, before: Option<u32>) -> Resul
     ensures near { IfErr result (λ f. f.place ≤ 4) }
 {
     if rest.len() < 4 {
-        return refused(BlobReason::PastEnd, 0);
+        return refuse(BlobReason::PastEnd, 0);
     }
     let number = signed_at(rest, 0);
     let alike = are_alike(pixels, u64::from(valid));
     if number < 0 || (alike && number != 0) {
-        return refused(BlobReason::BadMaskLength, 0);
+        return refuse(BlobReason::BadMaskLength, 0);
     }
     if alike {
         return Ok(0);
@@ -124,7 +124,7 @@ fn mask_span(rest: &[u8], pixels: u64, valid: u32, before: Option<u32>) -> Resul
     }
     let size = number as u32;
     if size as usize > rest.len() - 4 {
-        return refused(BlobReason::PastEnd, 4);
+        return refuse(BlobReason::PastEnd, 4);
     }
     Ok(size)
 }
@@ -160,8 +160,8 @@ fn first_mask_form(blob: &[u8], header: &Header, before: Option<u32>) -> Result<
 /// The form of the mask, or what is wrong first with its length.
 ///
 /// It tests the length and that the runs lie within the blob, and does not look inside them. It
-/// takes no memory. `before` is how many pixels are valid in the raster of the blob before, where it
-/// has the same rows and columns.
+/// takes no memory. `before` is how many pixels are valid in the raster of the blob before, where
+/// it has the same rows and columns.
 pub fn mask_part(blob: &[u8], header: &Header, before: Option<u32>) -> Result<MaskForm, BlobFault>
     requires head { HeadAt blob.now header.now }
     requires size { length blob.now ≡ header.now.size }
@@ -202,10 +202,10 @@ fn front_span(rest: &[u8], header: &Header) -> Result<(usize, bool), BlobFault>
         Version::V4 => {
             let size = list_len(header);
             if rest.len() < size {
-                return refused(BlobReason::PastEnd, 0);
+                return refuse(BlobReason::PastEnd, 0);
             }
             if rest.len() - size < size {
-                return refused(BlobReason::PastEnd, size as u64);
+                return refuse(BlobReason::PastEnd, size as u64);
             }
             Ok((2 * size, are_same(&rest[..size], &rest[size..2 * size])))
         }
@@ -239,11 +239,11 @@ fn mode_form(rest: &[u8], header: &Header, place: usize) -> Result<ImageForm, Bl
     ensures near { IfErr result (λ f. f.place ≤ 1) }
 {
     if rest.is_empty() {
-        return refused(BlobReason::PastEnd, 0);
+        return refuse(BlobReason::PastEnd, 0);
     }
     let mode = rest[0];
     if mode > last_mode(header.version) {
-        return refused(BlobReason::BadMode, 0);
+        return refuse(BlobReason::BadMode, 0);
     }
     let at = place as u64 + 1;
     match mode {
@@ -277,7 +277,7 @@ fn coded_form(rest: &[u8], header: &Header, place: usize) -> Result<ImageForm, B
     ensures near { IfErr result (λ f. f.place ≤ 2) }
 {
     if rest.is_empty() {
-        return refused(BlobReason::PastEnd, 0);
+        return refuse(BlobReason::PastEnd, 0);
     }
     match rest[0] {
         0 => match zero_form(&rest[1..], header, place + 1) {
@@ -287,12 +287,12 @@ fn coded_form(rest: &[u8], header: &Header, place: usize) -> Result<ImageForm, B
         1 => Ok(ImageForm::Sweep {
             at: place as u64 + 1,
         }),
-        _ => refused(BlobReason::BadSweep, 0),
+        _ => refuse(BlobReason::BadSweep, 0),
     }
 }
 
 /// An early end of the image.
-fn ended(form: ImageForm, rest: &[u8]) -> Result<ImageForm, BlobFault>
+fn end_image(form: ImageForm, rest: &[u8]) -> Result<ImageForm, BlobFault>
     ensures ok { IfOk result (λ found. (found ≡ form) × (rest.now ≡ [])) }
     ensures fault { IfErr result (λ f. ends BlobReason.Leftover rest.now f.place f.reason) }
     ensures near { IfErr result (λ f. f.place ≡ 0) }
@@ -300,7 +300,7 @@ fn ended(form: ImageForm, rest: &[u8]) -> Result<ImageForm, BlobFault>
     if rest.is_empty() {
         Ok(form)
     } else {
-        refused(BlobReason::Leftover, 0)
+        refuse(BlobReason::Leftover, 0)
     }
 }
 
@@ -318,7 +318,7 @@ fn form_behind(
     ensures near { IfErr result (λ f. f.place ≤ 2) }
 {
     if equal {
-        ended(ImageForm::Ranges, rest)
+        end_image(ImageForm::Ranges, rest)
     } else {
         coded_form(rest, header, place)
     }
@@ -342,10 +342,10 @@ fn form_at(rest: &[u8], header: &Header, place: usize) -> Result<ImageForm, Blob
     ensures near { IfErr result (λ f. f.place < 2 ^ 63) }
 {
     if header.valid == 0 {
-        return ended(ImageForm::Empty, rest);
+        return end_image(ImageForm::Empty, rest);
     }
     if is_level(header) {
-        return ended(ImageForm::Constant, rest);
+        return end_image(ImageForm::Constant, rest);
     }
     let (used, equal) = front_span(rest, header)?;
     match form_behind(&rest[used..], equal, header, place + used) {

@@ -22,12 +22,15 @@ IsTwiceNormal-prop bits h = hlevel props
 
 HalfDouble-prop : (bits : ℕ) (h : ℤ) → IsProp (HalfDouble bits h)
 HalfDouble-prop bits h =
-    one_of-prop (IsTwiceZero-prop bits h) (IsTwiceNormal-prop bits h) (λ a b. omega (arith, a.no_exponent, b.exponent_above))
+    one_of-prop (IsTwiceZero-prop bits h) (IsTwiceNormal-prop bits h)
+    (λ a b. omega (arith, a.no_exponent, b.exponent_above))
 
-HasRange-prop : (bytes : List ℕ) (place : ℕ) (kind : PixelType) (least greatest : ℤ) → IsProp (HasRange bytes place kind least greatest)
+HasRange-prop : (bytes : List ℕ) (place : ℕ) (kind : PixelType) (least greatest : ℤ)
+    → IsProp (HasRange bytes place kind least greatest)
 HasRange-prop bytes place kind least greatest = hlevel (props, HalfDouble-prop)
 
-RangeAt-prop : (bytes : List ℕ) (place : ℕ) (kind : PixelType) (valid : ℕ) (least greatest : ℤ) → IsProp (RangeAt bytes place kind valid least greatest)
+RangeAt-prop : (bytes : List ℕ) (place : ℕ) (kind : PixelType) (valid : ℕ) (least greatest : ℤ)
+    → IsProp (RangeAt bytes place kind valid least greatest)
 RangeAt-prop bytes place kind valid least greatest =
     one_of-prop (hlevel (props, HasRange-prop)) (hlevel props) (λ a b. omega (arith, a.0, b.0))
 

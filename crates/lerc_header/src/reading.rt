@@ -49,7 +49,7 @@ struct Counts {
 }
 
 /// A fault, as an answer.
-fn refused<T: Drop>(reason: BlobReason, place: usize) -> Result<T, BlobFault>
+fn refuse<T: Drop>(reason: BlobReason, place: usize) -> Result<T, BlobFault>
     ensures { result ≡ Err (record { reason = reason; place = place }) }
 {
     Err(BlobFault {
@@ -77,15 +77,15 @@ fn shape_at(version: Version, bytes: &[u8]) -> Result<Shape, BlobFault>
 {
     let rows = signed_at(bytes, 14);
     if rows < 1 {
-        return refused(BlobReason::BadRows, 14);
+        return refuse(BlobReason::BadRows, 14);
     }
     let cols = signed_at(bytes, 18);
     if cols < 1 {
-        return refused(BlobReason::BadCols, 18);
+        return refuse(BlobReason::BadCols, 18);
     }
     let depth = depth_at(version, bytes);
     if depth < 1 || depth > GREATEST_DEPTH as i32 {
-        return refused(BlobReason::BadDepth, 22);
+        return refuse(BlobReason::BadDepth, 22);
     }
     let shape = Shape {
         rows: rows as u32,
@@ -93,7 +93,7 @@ fn shape_at(version: Version, bytes: &[u8]) -> Result<Shape, BlobFault>
         depth: depth as u32,
     };
     if !is_shape(shape.rows, shape.cols, shape.depth) {
-        return refused(BlobReason::TooLarge, 18 + version.shift());
+        return refuse(BlobReason::TooLarge, 18 + version.shift());
     }
     Ok(shape)
 }
@@ -116,15 +116,15 @@ fn counts_at(version: Version, bytes: &[u8], shape: &Shape) -> Result<Counts, Bl
     let shift = version.shift();
     let valid = signed_at(bytes, 22 + shift);
     if valid < 0 || i64::from(valid) > pixels_of(shape) {
-        return refused(BlobReason::BadCount, 22 + shift);
+        return refuse(BlobReason::BadCount, 22 + shift);
     }
     let side = signed_at(bytes, 26 + shift);
     if side < 1 {
-        return refused(BlobReason::BadBlockSize, 26 + shift);
+        return refuse(BlobReason::BadBlockSize, 26 + shift);
     }
     let size = signed_at(bytes, 30 + shift);
     if size < LEAST_SIZE + shift as i32 || size > GREATEST_SIZE {
-        return refused(BlobReason::BadBlobSize, 30 + shift);
+        return refuse(BlobReason::BadBlobSize, 30 + shift);
     }
     Ok(Counts {
         valid: valid as u32,
@@ -150,11 +150,11 @@ fn kind_at(version: Version, bytes: &[u8]) -> Result<PixelType, BlobFault>
     let place = 34 + version.shift();
     let code = signed_at(bytes, place);
     if code == 6 || code == 7 {
-        return refused(BlobReason::FloatPixels, place);
+        return refuse(BlobReason::FloatPixels, place);
     }
     match kind_of(i64::from(code)) {
         Some(kind) => Ok(kind),
-        None => refused(BlobReason::BadType, place),
+        None => refuse(BlobReason::BadType, place),
     }
 }
 
@@ -178,7 +178,7 @@ fn step_at(version: Version, bytes: &[u8]) -> Result<u64, BlobFault>
     let place = 38 + version.shift();
     match step_of_bits(bits_at(bytes, place)) {
         Some(step) => Ok(step),
-        None => refused(BlobReason::BadError, place),
+        None => refuse(BlobReason::BadError, place),
     }
 }
 
@@ -241,13 +241,13 @@ fn range_at(
     }
     let place = 46 + version.shift();
     let Some(least) = value_at(bytes, place, kind) else {
-        return refused(BlobReason::BadRange, place);
+        return refuse(BlobReason::BadRange, place);
     };
     let Some(greatest) = value_at(bytes, place + 8, kind) else {
-        return refused(BlobReason::BadRange, place + 8);
+        return refuse(BlobReason::BadRange, place + 8);
     };
     if greatest < least {
-        return refused(BlobReason::BadRange, place + 8);
+        return refuse(BlobReason::BadRange, place + 8);
     }
     Ok((least, greatest))
 }
@@ -289,7 +289,7 @@ fn read_whole(version: Version, bytes: &[u8]) -> Result<Header, BlobFault>
     ensures fault { IfErr result (λ f. whole_faults version bytes.now f.place f.reason) }
 {
     if bytes.len() < version.head_length() {
-        return refused(BlobReason::Truncated, bytes.len());
+        return refuse(BlobReason::Truncated, bytes.len());
     }
     read_fields(version, bytes)
 }
@@ -318,11 +318,11 @@ fn key_of(bytes: &[u8]) -> Result<Version, BlobFault>
     ensures fault { IfErr result (λ f. key_faults bytes.now f.place f.reason) }
 {
     if !has_key(bytes) {
-        return refused(BlobReason::BadKey, 0);
+        return refuse(BlobReason::BadKey, 0);
     }
     match version_at(bytes) {
         Some(version) => Ok(version),
-        None => refused(BlobReason::BadVersion, 6),
+        None => refuse(BlobReason::BadVersion, 6),
     }
 }
 
@@ -343,7 +343,7 @@ fn first_of(bytes: &[u8]) -> Result<Header, BlobFault>
     ensures fault { IfErr result (λ f. header_faults bytes.now f.place f.reason) }
 {
     if bytes.len() < FRONT_LENGTH {
-        return refused(BlobReason::Truncated, bytes.len());
+        return refuse(BlobReason::Truncated, bytes.len());
     }
     let version = key_of(bytes)?;
     read_whole(version, bytes)

@@ -6,6 +6,7 @@ use Rattle.outside_io.specs.volume.Disk.{Disk, IsQuiet}
 use Rattle.outside_io.specs.volume.History.{History, contents, current}
 use Rattle.side_journal.specs.declared.body.JournalState.TheVariants.{Closed}
 use Rattle.bundle_store.specs.declared.fault.StoreFault.{StoreFault}
+use Rattle.bundle_store.specs.declared.fault.StoreFault.TheVariants.{NoTile}
 use Rattle.bundle_store.specs.Causes.{OnCause}
 use Rattle.bundle_store.specs.Images.{StandsFor}
 use Rattle.bundle_store.specs.Tiles.{TileMap, no_tiles, with_tile}
@@ -104,6 +105,19 @@ module _ {V : Type 0} (told : V → Bool) (history : V → History) (faults : V 
       either_place (Err Shelf) quiet (inr (r, (l, beside))) = one_of_two r quiet l beside
 
     -- ---- gets
+    abbrev LentGet : Result (List ℕ) StoreFault → Type 0
+    LentGet r = Lends told history faults (λ q h k. GetsFrom q slot h k) r (old base) (new base)
+
+    pub gives_tile : (tile : List ℕ) → LentGet (Ok tile) → maps base slot ≡ Some tile
+    gives_tile tile l =
+        let was = lent_map (old base) l.lent (maps base) l.hands (are base) in
+        (l.made was.0).gives (maps base) was.1
+
+    pub none_there : LentGet (Err NoTile) → maps base slot ≡ None
+    none_there l =
+        let was = lent_map (old base) l.lent (maps base) l.hands (are base) in
+        (l.made was.0).none (maps base) was.1 refl
+
     stays_all : (r : Result (List ℕ) StoreFault) → AreQuiet history old → Lends told history faults (λ q h k. GetsFrom q slot h k) r (old base) (new base) → SameBeside base old new → AreMaps told history new maps
     stays_all r quiet l beside =
         let was = lent_map (old base) l.lent (maps base) l.hands (are base) in

@@ -35,12 +35,14 @@ pub record CouldBe (d : Disk) (map : TileMap) : Type 0 where
 -- tile
 abbrev pub EachWithOrWithout : ℕ → List ℕ → Disk → Disk → Type 0
 EachWithOrWithout slot tile before d =
-    EachImage (λ map. (start : TileMap) × (CouldBe before start × WithOrWithout slot tile start map)) d
+    EachImage (λ map. (start : TileMap)
+    × (CouldBe before start × WithOrWithout slot tile start map)) d
 
 -- each image stands for a map that an image of an earlier disk stood for, with the tile
 abbrev pub EachWith : ℕ → List ℕ → Disk → Disk → Type 0
 EachWith slot tile before d =
-    EachImage (λ map. (start : TileMap) × (CouldBe before start × (map ≡ with_tile slot tile start))) d
+    EachImage (λ map. (start : TileMap)
+    × (CouldBe before start × (map ≡ with_tile slot tile start))) d
 
 -- nothing is pending, the journal is not open, and what is read stands for this
 pub record ReadsAs (map : TileMap) (d : Disk) : Type 0 where
@@ -171,7 +173,8 @@ pub record Lends {V X : Type 0} (told : V → Bool) (history : V → History) (f
 -- been, and none has changed.
 abbrev pub LevelMoves : {V X : Type 0} → Result X LevelFault → Corner → (Corner → Option V)
     → (Corner → Option V) → (Result X StoreFault → Option V → Option V → Type 0) → Type 0
-LevelMoves {V} {X} (Ok x) base old new Lent = Lent (Ok x) (old base) (new base) × SameBeside base old new
+LevelMoves {V} {X} (Ok x) base old new Lent = Lent (Ok x) (old base) (new base)
+    × SameBeside base old new
 LevelMoves {V} {X} (Err (Store fault)) base old new Lent =
     Lent (Err fault) (old base) (new base) × SameBeside base old new
 LevelMoves {V} {X} (Err Shelf) base old new Lent = (new ≡ old)

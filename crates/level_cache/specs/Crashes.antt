@@ -46,7 +46,8 @@ pub record IsLeftOf (old new : Disk) : Type 0 where
   pub bundle : List ℕ
   pub journal : List ℕ
   pub image : IsDiskImage old bundle journal
-  pub left : new ≡ (let d : Disk = record { bundle = settled bundle; journal = settled journal } in d)
+  pub left : new
+      ≡ (let d : Disk = record { bundle = settled bundle; journal = settled journal } in d)
 
 -- What a step makes of the disks. A put that did not return is one that is not acknowledged.
 abbrev pub IsStep : Step → Disks → Disks → Type 0
@@ -79,7 +80,8 @@ Behind false New Old = New ⊎ Old
 -- the same of any step
 abbrev pub After : Step → Corner → ℕ → Option (List ℕ) → (Option (List ℕ) → Type 0) → Type 0
 After (Put base own tile acknowledged) at slot had Rest =
-    Either (same_corner at base && (slot == own)) (Behind acknowledged (Rest (Some tile)) (Rest had))
+    Either (same_corner at base && (slot == own))
+    (Behind acknowledged (Rest (Some tile)) (Rest had))
     (Rest had)
 After Get at slot had Rest = Rest had
 After Crash at slot had Rest = Rest had
@@ -87,14 +89,17 @@ After Crash at slot had Rest = Rest had
 -- What a place that had this may have behind the steps: the tile that was put there last and
 -- acknowledged, or one that was put there later and was not; where none was acknowledged, also what
 -- it had.
-abbrev pub LastOrLater : List (Step × Disks) → Corner → ℕ → Option (List ℕ) → Option (List ℕ) → Type 0
+abbrev pub LastOrLater : List (Step × Disks) → Corner → ℕ → Option (List ℕ) → Option (List ℕ)
+    → Type 0
 LastOrLater [] at slot had x = x ≡ had
 LastOrLater (s ∷ ss) at slot had x = After s.0 at slot had (λ now. LastOrLater ss at slot now x)
 
 -- Over any steps from disks of which each image is sound, each image is sound, and each place has
 -- the last acknowledged tile or a later one that was not acknowledged.
 abbrev pub StepsKeepTiles : Type 0
-StepsKeepTiles = (first : Disks) (steps : List (Step × Disks)) → ((base : Corner) → EachIsSound (first base))
+StepsKeepTiles = (first : Disks) (steps : List (Step × Disks))
+    → ((base : Corner) → EachIsSound (first base))
     → AreSteps steps first → (base : Corner) → EachImage (λ map. (start : TileMap)
-    × (CouldBe (first base) start × ((slot : ℕ) → LastOrLater steps base slot (start slot) (map slot))))
+    × (CouldBe (first base) start
+    × ((slot : ℕ) → LastOrLater steps base slot (start slot) (map slot))))
     (last_disks steps first base)

@@ -27,8 +27,10 @@ ReadsFor told history (Some v) map = IsTrue (told v)
     × StandsFor (contents Bundle (history v)) (contents Journal (history v)) map
 
 abbrev pub AreMaps : {V : Type 0} → (V → Bool) → (V → History) → (Corner → Option V) → Maps → Type 0
-AreMaps told history volumes maps = (base : Corner) → ReadsFor told history (volumes base) (maps base)
+AreMaps told history volumes maps = (base : Corner)
+    → ReadsFor told history (volumes base) (maps base)
 
 -- nothing is pending on any volume
 abbrev pub AreQuiet : {V : Type 0} → (V → History) → (Corner → Option V) → Type 0
-AreQuiet history volumes = (base : Corner) → IfSome (volumes base) (λ v. IsQuiet (current (history v)))
+AreQuiet history volumes = (base : Corner)
+    → IfSome (volumes base) (λ v. IsQuiet (current (history v)))

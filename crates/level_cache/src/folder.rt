@@ -16,7 +16,8 @@ use std::str::from_utf8;
 /// A take makes a volume of both files, of which none is opened before it is needed, and a give
 /// lets it go, so no file is open between the calls. The names in the folder are put on the disk by
 /// the first sync of a volume, as those of any volume of files. Memory that is refused for a path
-/// is a failure of the shelf, and nothing else is.
+/// is a failure of the shelf, and so is each take behind a give of a volume of which a sync has
+/// failed: another volume of its files would not know of that. Nothing else is.
 #[derive(Drop)]
 pub struct FileShelf<R: Files + Copy + Drop> {
     files: R,
@@ -24,6 +25,8 @@ pub struct FileShelf<R: Files + Copy + Drop> {
     lent: Option<Base>,
     faults: u64,
     volume_faults: u64,
+    // A volume was given back of which a sync had failed.
+    is_lost: bool,
 }
 
 impl<R: Files + Copy + Drop> Model for FileShelf<R> {
@@ -49,6 +52,7 @@ impl<R: Files + Copy + Drop> FileShelf<R> {
             lent: None,
             faults: 0,
             volume_faults: 0,
+            is_lost: false,
         }
     }
 
@@ -61,10 +65,13 @@ impl<R: Files + Copy + Drop> FileShelf<R> {
         Some(path)
     }
 
-    // The volume of the base's two files. None where memory is refused.
+    // The volume of the base's two files. None where memory is refused, and behind a failed sync.
     fn volume(&self, base: Base) -> Option<FileVolume<R>>
         ensures { IfSome result (λ vol. vol ≡ unused) }
     {
+        if self.is_lost {
+            return None;
+        }
         let bundle = self.path(base)?;
         let mut journal = self.path(base)?;
         journal.push_str(".jnl").ok()?;
@@ -103,6 +110,9 @@ impl<R: Files + Copy + Drop> Shelf for FileShelf<R> {
     fn give(&mut self, _base: Base, vol: FileVolume<R>) -> Result<(), Failed> {
         if vol.faults() > 0 {
             self.volume_faults = self.volume_faults.saturating_add(1);
+        }
+        if vol.is_lost() {
+            self.is_lost = true;
         }
         self.lent = None;
         Ok(())

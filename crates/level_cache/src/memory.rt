@@ -263,7 +263,8 @@ impl Shelf for MemShelf {
         ensures counted { CountsFaults result self.old.faults self.new.faults }
         ensures fails { IsErr result ↔ MustFailToTake self.old base }
         ensures numbers { Numbers self.old self.new result }
-        ensures spare { OnOk result (spare_of self.new.places + used_for (volume_of self.old.places base)
+        ensures spare { OnOk result
+            (spare_of self.new.places + used_for (volume_of self.old.places base)
             ≡ spare_of self.old.places) }
         ensures same_spare { OnErr result (spare_of self.new.places ≡ spare_of self.old.places) }
     {

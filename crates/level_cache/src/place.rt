@@ -21,7 +21,8 @@ impl Model for Base {
 
     ghost view = { λ b. record { row = b.row; col = b.col } };
 
-    ghost invariant = { λ b. (b.row < 2 ^ 31) × ((b.col < 2 ^ 31) × ((b.row % 128 ≡ 0) × (b.col % 128 ≡ 0))) };
+    ghost invariant = { λ b. (b.row < 2 ^ 31)
+        × ((b.col < 2 ^ 31) × ((b.row % 128 ≡ 0) × (b.col % 128 ≡ 0))) };
 
     ghost inverse = { λ c. record { row = c.row; col = c.col } };
 }

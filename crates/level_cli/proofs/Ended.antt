@@ -1,5 +1,5 @@
 -- What a status tells of an end.
-use Rattle.std.proofs.Common.{◌≡◌, ℕ, ◌<◌, ◌⊎◌, Ok, Err, refl, sym, ap, subst, ◌∙◌, inl, inr, arith}
+use Rattle.std.proofs.Common.{◌≡◌, subst, ℕ, ◌<◌, Ok, Err, refl, sym, ap, ◌∙◌, inl, inr, arith}
 use Rattle.outside_io.specs.program.Line.{GivesLine}
 use Rattle.outside_io.specs.streams.Faults.{IsCause}
 use Rattle.program_ends.specs.Moves.{SinkMove}
@@ -31,6 +31,9 @@ output_status end status old new is c = ends.output_status refusal_status own en
 
 pub usage_said : (end : End) (err : SinkMove) → end ≡ Err Usage → GivesLineOf end err → GivesLine err.held.old err.held.new err.faults.old err.faults.new (line_of Usage)
 usage_said end err is said = ends.usage_said refusal_text usage_text end err is said
+
+pub refused_said : (end : End) (r : Refusal) (err : SinkMove) → end ≡ Err (Refused r) → GivesLineOf end err → GivesLine err.held.old err.held.new err.faults.old err.faults.new (line_of (Refused r))
+refused_said end r err is said = subst (λ (e : End). GivesLineOf e err) is said
 
 shelf_at : (end : End) → status_at end ≡ 8 → end ≡ Err (Refused ShelfFailed)
 shelf_at (Ok x) is = absurd (omega (arith, is))

@@ -1,7 +1,7 @@
 -- How a command ends behind the calls that it makes, and what follows of a run that ends well.
-use Rattle.std.proofs.Common.{◌≡◌, ◌⊎◌, inl, inr, ℕ, ◌<◌, ◌≤◌, List, length, Bool, Option, Some, None, Result, Ok, Err, refl, sym, ap, subst, ◌∙◌, arith}
+use Rattle.std.proofs.Common.{◌≡◌, ◌⊎◌, inl, inr, ℕ, ◌<◌, List, length, Bool, Option, Result, Ok, Err, refl, sym, ap, subst, ◌∙◌, arith}
 use Rattle.std.specs.Prelude.{IsTrue}
-use Rattle.outside_io.specs.streams.Faults.{FailedBetween, IsCause}
+use Rattle.outside_io.specs.streams.Faults.{IsCause}
 use Rattle.outside_io.specs.streams.Sink.{Holds}
 use Rattle.outside_io.specs.volume.History.{History}
 use Rattle.bundle_store.specs.declared.fault.StoreFault.{StoreFault}
@@ -13,12 +13,9 @@ use Rattle.program_ends.specs.declared.stop.Stop.TheVariants.{Usage, Refused, So
 use Rattle.program_ends.proofs.Ends as ends
 use Rattle.grid_blobs.specs.declared.stop.InputStop.{InputStop}
 use Rattle.grid_blobs.specs.declared.stop.InputStop.TheVariants.{Fault as FaultOf, Source as SourceOf, OutOfMemory as MemoryOf}
-use Rattle.grid_blobs.specs.Blobs.{AreBlobsOf}
-use Rattle.grid_blobs.specs.Stops.{IsStopOf}
 use Rattle.level_cache.specs.declared.level.LevelFault.{LevelFault}
 use Rattle.level_cache.specs.declared.level.LevelFault.TheVariants.{Shelf as ShelfOf, Store as StoreOf}
 use Rattle.level_cache.specs.Calls.{DeviceRose, GetRefusal, GetsFrom, Lends, LevelMoves, OnStore, PutRefusal, PutsIn}
-use Rattle.level_cache.specs.Names.{IsName}
 use Rattle.level_cache.specs.Places.{Corner, base_of, slot_of}
 use Rattle.level_cli.specs.declared.refusal.Refusal.{Refusal}
 use Rattle.level_cli.specs.declared.refusal.Refusal.TheVariants.{Input, Store, TooLarge, ShelfFailed}
@@ -26,7 +23,7 @@ use Rattle.level_cli.specs.declared.words.Command.{Command}
 use Rattle.level_cli.specs.declared.words.Command.TheVariants.{Put, Get, Name}
 use Rattle.level_cli.specs.InWords.{GaveName, GetsTile, PutsTile}
 use Rattle.level_cli.specs.Names.{End, input_stop_of, level_stop_of, name_line, put_line, store_stop_of}
-use Rattle.level_cli.specs.Run.{GaveBehind, GetEnds, IsVolumeCause, OfCommand, OfGet, OfName, OfPut, PutEnds, PutsAt, ShelfMove, StopsBefore}
+use Rattle.level_cli.specs.Run.{GaveBehind, GetEnds, IsVolumeCause, OfCommand, OfGet, OfName, OfPut, PutEnds, ShelfMove}
 
 -- ---- which stops there are
 

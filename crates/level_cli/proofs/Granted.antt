@@ -1,5 +1,5 @@
 -- A run that nothing refuses, and of which no object fails, ends well.
-use Rattle.std.proofs.Common.{◌≡◌, ◌⊎◌, inl, inr, ℕ, List, length, Bool, Option, Some, None, Result, Ok, Err, refl, sym, subst}
+use Rattle.std.proofs.Common.{◌≡◌, inl, inr, ℕ, List, length, Bool, Option, Some, None, Result, Ok, Err, refl, sym, subst}
 use Rattle.std.specs.Prelude.{IfErr, IfSome, IsTrue}
 use Rattle.outside_io.specs.volume.History.{History}
 use Rattle.bundle_store.specs.declared.fault.StoreFault.{StoreFault}
@@ -24,7 +24,7 @@ use Rattle.level_cli.specs.declared.words.Command.{Command}
 use Rattle.level_cli.specs.declared.words.Command.TheVariants.{Put, Get, Name}
 use Rattle.level_cli.specs.Granted.{IsGranted, IsNamed, MayGet, MayPut, OfHanded}
 use Rattle.level_cli.specs.Names.{End, input_stop_of, level_stop_of, status_at, store_stop_of}
-use Rattle.level_cli.specs.Run.{GetEnds, OfCommand, OfGet, OfPut, PutEnds, ShelfMove}
+use Rattle.level_cli.specs.Run.{GetEnds, OfCommand, PutEnds, ShelfMove}
 
 -- a stop with a refusal's line is a refusal with a name
 named : (place : Corner) (fault : StoreFault) (r : Refusal) → store_stop_of place fault ≡ Refused r → IsNamed fault
@@ -44,7 +44,7 @@ stop_in : (a b : Stop Refusal) → ◌≡◌ {A = End} (Err a) (Err b) → b ≡
 stop_in a b same = cc
 
 -- what the shelf handed out tells its files
-handed_tells : {V : Type 0} (told : V → Bool) (history : V → History) (faults : V → ℕ) (before : Option V) (vol : V) → IfSome before (λ v. IsTrue (told v)) → Hands told history faults before vol → IsTrue (told vol)
+pub handed_tells : {V : Type 0} (told : V → Bool) (history : V → History) (faults : V → ℕ) (before : Option V) (vol : V) → IfSome before (λ v. IsTrue (told v)) → Hands told history faults before vol → IsTrue (told vol)
 handed_tells {V} told history faults (Some stood) vol tells hands = subst (λ (v : V). IsTrue (told v)) (sym hands) tells
 handed_tells told history faults None vol tells hands = hands.tells
 

@@ -2,4 +2,5 @@ mod Ended
 mod Ends
 mod Granted
 mod Outputs
+mod Refused
 mod Spelled

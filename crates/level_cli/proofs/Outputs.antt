@@ -1,5 +1,5 @@
 -- What `put`, `get` and `name` leave, by what the calls that they make answer.
-use Rattle.std.proofs.Common.{◌≡◌, ◌⊎◌, inl, inr, ℕ, ◌<◌, ◌≤◌, List, length, Bool, Option, Some, None, Result, Ok, Err, refl, sym, ap, subst, ◌∙◌, arith}
+use Rattle.std.proofs.Common.{◌≡◌, inl, inr, ℕ, ◌<◌, ◌≤◌, List, length, Bool, Option, Result, Ok, Err, refl, ap}
 use Rattle.std.specs.Prelude.{IsTrue}
 use Rattle.outside_io.specs.streams.Faults.{IsCause}
 use Rattle.outside_io.specs.streams.Sink.{Holds, HoldsPrefix}
@@ -7,7 +7,7 @@ use Rattle.outside_io.specs.volume.History.{History}
 use Rattle.lerc_header.specs.declared.header.Version.{Version}
 use Rattle.program_ends.specs.Moves.{sink_move}
 use Rattle.program_ends.specs.declared.stop.Stop.{Stop}
-use Rattle.program_ends.specs.declared.stop.Stop.TheVariants.{Usage, Refused, Source, Output, Volume, OutOfMemory}
+use Rattle.program_ends.specs.declared.stop.Stop.TheVariants.{Source, Output}
 use Rattle.program_ends.proofs.Ends as ends
 use Rattle.grid_blobs.specs.declared.stop.InputStop.{InputStop}
 use Rattle.grid_blobs.specs.declared.stop.InputStop.TheVariants.{Fault as FaultOf, Source as SourceOf, OutOfMemory as MemoryOf}
@@ -15,10 +15,9 @@ use Rattle.grid_blobs.specs.Blobs.{AreBlobsOf}
 use Rattle.grid_blobs.specs.Stops.{IsStopOf}
 use Rattle.level_cache.specs.declared.level.LevelFault.{LevelFault}
 use Rattle.level_cache.specs.Calls.{GetRefusal, GetsFrom, Lends, LevelMoves, OnStore, PutRefusal, PutsIn}
-use Rattle.level_cache.specs.Names.{IsName}
 use Rattle.level_cache.specs.Places.{Corner, base_of, slot_of}
-use Rattle.level_cli.specs.Names.{End, input_stop_of, level_stop_of, name_line, put_line}
-use Rattle.level_cli.specs.Run.{OfGet, OfName, OfPut, shelf_move}
+use Rattle.level_cli.specs.Names.{End, input_stop_of, level_stop_of, put_line}
+use Rattle.level_cli.specs.Run.{OfGet, OfPut, shelf_move}
 
 -- ---- causes
 
@@ -52,19 +51,19 @@ module _ {V X K : Type 0} (told : V → Bool) (history : V → History) (faults 
       → (IsTrue (tells old) → LevelMoves (Err fault) (base_of place) (volumes old) (volumes new) (Lends told history faults (λ r h k. PutsIn r (slot_of place) tile h k)))
       → OnStore (PutRefusal (length tile)) fault
       → OfPut told history faults version error place input (Err (level_stop_of place fault)) (sink_move held count out out) (shelf_move tells volumes old new)
-  put_refused fault out old new blobs moves why = inr (tile, (blobs, record { answer = Err fault; moves = moves; fails = why; ends = (refl, refl) }))
+  put_refused fault out old new blobs moves why = inr (tile, (blobs, record { answer = Err fault; moves = moves; fails = why; fits = tt; ends = (refl, refl) }))
 
   pub put_gave : (out_old out_new : K) (old new : X) → AreBlobsOf version error input tile
       → (IsTrue (tells old) → LevelMoves (Ok tt) (base_of place) (volumes old) (volumes new) (Lends told history faults (λ r h k. PutsIn r (slot_of place) tile h k)))
-      → Holds (held out_old) (held out_new) (put_line place (length tile))
+      → (0 < length tile) × (length tile ≤ 16777215) → Holds (held out_old) (held out_new) (put_line place (length tile))
       → OfPut told history faults version error place input (Ok tt) (sink_move held count out_old out_new) (shelf_move tells volumes old new)
-  put_gave out_old out_new old new blobs moves gave = inr (tile, (blobs, record { answer = Ok tt; moves = moves; fails = tt; ends = gave }))
+  put_gave out_old out_new old new blobs moves fits gave = inr (tile, (blobs, record { answer = Ok tt; moves = moves; fails = tt; fits = fits; ends = gave }))
 
   pub put_cut : (out_old out_new : K) (old new : X) → AreBlobsOf version error input tile
       → (IsTrue (tells old) → LevelMoves (Ok tt) (base_of place) (volumes old) (volumes new) (Lends told history faults (λ r h k. PutsIn r (slot_of place) tile h k)))
-      → HoldsPrefix (held out_old) (held out_new) (put_line place (length tile))
+      → (0 < length tile) × (length tile ≤ 16777215) → HoldsPrefix (held out_old) (held out_new) (put_line place (length tile))
       → OfPut told history faults version error place input (Err Output) (sink_move held count out_old out_new) (shelf_move tells volumes old new)
-  put_cut out_old out_new old new blobs moves gave = inr (tile, (blobs, record { answer = Ok tt; moves = moves; fails = tt; ends = gave }))
+  put_cut out_old out_new old new blobs moves fits gave = inr (tile, (blobs, record { answer = Ok tt; moves = moves; fails = tt; fits = fits; ends = gave }))
 
 -- ---- `get`
 

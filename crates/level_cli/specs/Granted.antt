@@ -3,7 +3,6 @@ use Rattle.std.specs.Prelude.{ℕ, List, length, Bool, Option}
 use Rattle.outside_io.specs.volume.History.{History}
 use Rattle.bundle_store.specs.declared.fault.StoreFault.{StoreFault}
 use Rattle.bundle_store.specs.declared.fault.StoreFault.TheVariants.{Device, OutOfMemory}
-use Rattle.lerc_header.specs.declared.header.Version.{Version}
 use Rattle.grid_blobs.specs.declared.stop.InputFault.{InputFault}
 use Rattle.grid_blobs.specs.declared.stop.InputStop.TheVariants.{Fault}
 use Rattle.grid_blobs.specs.Blobs.{AreBlobsOf}

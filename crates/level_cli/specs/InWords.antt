@@ -26,8 +26,8 @@ pub record PutsTile {V : Type 0} (told : V → Bool) (history : V → History) (
   pub beside : IsTrue shelf.told
       → SameBeside (base_of place) shelf.volumes.old shelf.volumes.new
 
--- The place's volume was lent and has the tile in the place's slot, no other volume has changed, and
--- the output has gained the tile.
+-- The place's volume was lent and has the tile in the place's slot, no other volume has changed,
+-- and the output has gained the tile.
 pub record GetsTile {V : Type 0} (told : V → Bool) (history : V → History) (faults : V → ℕ)
     (place : Corner) (out : SinkMove) (shelf : ShelfMove V) : Type 0 where
   pub tile : List ℕ

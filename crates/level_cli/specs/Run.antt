@@ -1,6 +1,6 @@
 -- What a run leaves of the objects that it is lent, whatever it answers.
-use Rattle.std.specs.Prelude.{◌≡◌, ◌⊎◌, ℕ, ◌≤◌, ◌<◌, List, length, Bool, IsTrue, Option, Result, Ok, Err, IfErr}
-use Rattle.outside_io.specs.streams.Faults.{FailedBetween, IsCause}
+use Rattle.std.specs.Prelude.{◌≡◌, ◌⊎◌, ℕ, ◌≤◌, ◌<◌, List, length, Bool, IsTrue, Option, Result, Ok, Err, IfErr, OnOk}
+use Rattle.outside_io.specs.streams.Faults.{FailedBetween}
 use Rattle.outside_io.specs.streams.Sink.{Holds, HoldsPrefix}
 use Rattle.outside_io.specs.program.Line.{GivesLine}
 use Rattle.outside_io.specs.volume.History.{History}
@@ -57,14 +57,16 @@ PutEnds place tile (Ok u) end out = GaveBehind end out (put_line place (length t
 PutEnds place tile (Err fault) end out = (end ≡ Err (level_stop_of place fault)) × out.same
 
 -- The tile was handed to the level, which answers this of the place's volume. The numbers of a
--- refusal fail the test that they name.
+-- refusal fail the test that they name, and an Ok comes only of a tile of a lawful size.
 pub record PutsAt {V : Type 0} (told : V → Bool) (history : V → History) (faults : V → ℕ)
     (place : Corner) (tile : List ℕ) (end : End) (out : SinkMove) (shelf : ShelfMove V) : Type 0
   where
     pub answer : Result (Unit {0}) LevelFault
     pub moves : IsTrue shelf.told → LevelMoves answer (base_of place) shelf.volumes.old
-        shelf.volumes.new (Lends told history faults (λ r old new. PutsIn r (slot_of place) tile old new))
+        shelf.volumes.new (Lends told history faults
+        (λ r old new. PutsIn r (slot_of place) tile old new))
     pub fails : IfErr answer (λ fault. OnStore (PutRefusal (length tile)) fault)
+    pub fits : OnOk answer ((0 < length tile) × (length tile ≤ 16777215))
     pub ends : PutEnds place tile answer end out
 
 -- no blobs were made
@@ -92,7 +94,8 @@ pub record OfGet {V : Type 0} (told : V → Bool) (history : V → History) (fau
     (place : Corner) (end : End) (out : SinkMove) (shelf : ShelfMove V) : Type 0 where
   pub answer : Result (List ℕ) LevelFault
   pub moves : IsTrue shelf.told → LevelMoves answer (base_of place) shelf.volumes.old
-      shelf.volumes.new (Lends told history faults (λ r old new. GetsFrom r (slot_of place) old new))
+      shelf.volumes.new (Lends told history faults
+      (λ r old new. GetsFrom r (slot_of place) old new))
   pub fails : IfErr answer (λ fault. OnStore GetRefusal fault)
   pub ends : GetEnds place answer end out
 

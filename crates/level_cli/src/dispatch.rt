@@ -12,9 +12,11 @@ ghost use Rattle.level_cli.specs.declared.refusal.Refusal.{Refusal};
 ghost use Rattle.level_cli.specs.declared.words.Command.{Command};
 ghost use Rattle.level_cli.specs.Commands.{IsNoCommand, IsSpelled};
 ghost use Rattle.level_cli.specs.Granted.{IsGranted};
-ghost use Rattle.level_cli.specs.Names.{line_of};
+ghost use Rattle.level_cli.specs.Names.{line_of, refusal_status};
+ghost use Rattle.level_cli.specs.Refused.{IsFirstRefusal};
 ghost use Rattle.level_cli.specs.InWords.{GaveName, GetsTile, PutsTile};
 ghost use Rattle.level_cli.specs.Run.{IsVolumeCause, OfCommand, OfRun, shelf_move};
+ghost use Rattle.level_cli.specs.inside.Shelves.{KeepsShelf};
 
 use crate::perform::{get, name, put};
 use crate::refusal::Refusal;
@@ -33,15 +35,10 @@ fn perform<S: Source, K: Sink, H: Shelf>(
     shelf: &mut H,
 ) -> Result<(), Stop<Refusal>>
     requires none_out { H.out shelf.old ≡ None }
-    ensures none_out { H.out shelf.new ≡ None }
-    ensures told { H.told shelf.new ≡ H.told shelf.old }
     ensures source { IsCause (result ≡ Err Stop.Source) (S.faults src.old) (S.faults src.new) }
     ensures output { IsCause (result ≡ Err Stop.Output) (K.faults out.old) (K.faults out.new) }
-    ensures shelf { IsCause (result ≡ Err (Stop.Refused Refusal.ShelfFailed))
-        (H.faults shelf.old) (H.faults shelf.new) }
-    ensures volume { IsVolumeCause (result ≡ Err Stop.Volume)
-        (result ≡ Err (Stop.Refused Refusal.ShelfFailed))
-        (H.volume_faults shelf.old) (H.volume_faults shelf.new) }
+    ensures shelf { KeepsShelf H.out H.told H.faults H.volume_faults result
+        shelf.old shelf.new }
     ensures done { OfCommand H.Vol.told H.Vol.history H.Vol.faults command result
         (source_move S.left S.faults src.old src.new)
         (sink_move K.held K.faults out.old out.new)
@@ -67,19 +64,14 @@ fn act<S: Source, K: Sink, H: Shelf>(
     shelf: &mut H,
 ) -> Result<(), Stop<Refusal>>
     requires none_out { H.out shelf.old ≡ None }
-    ensures none_out { H.out shelf.new ≡ None }
-    ensures told { H.told shelf.new ≡ H.told shelf.old }
     ensures usage { (result ≡ Err Stop.Usage) ↔ IsNoCommand words.now }
     ensures spelled { result ≢ Err Stop.Usage → (c : Command) × IsSpelled c words.now }
     ensures unused { result ≡ Err Stop.Usage → (src.new ≡ src.old) × (out.new ≡ out.old)
         × (shelf.new ≡ shelf.old) }
     ensures source { IsCause (result ≡ Err Stop.Source) (S.faults src.old) (S.faults src.new) }
     ensures output { IsCause (result ≡ Err Stop.Output) (K.faults out.old) (K.faults out.new) }
-    ensures shelf { IsCause (result ≡ Err (Stop.Refused Refusal.ShelfFailed))
-        (H.faults shelf.old) (H.faults shelf.new) }
-    ensures volume { IsVolumeCause (result ≡ Err Stop.Volume)
-        (result ≡ Err (Stop.Refused Refusal.ShelfFailed))
-        (H.volume_faults shelf.old) (H.volume_faults shelf.new) }
+    ensures shelf { KeepsShelf H.out H.told H.faults H.volume_faults result
+        shelf.old shelf.new }
     ensures done { (c : Command) → IsSpelled c words.now
         → OfCommand H.Vol.told H.Vol.history H.Vol.faults c result
         (source_move S.left S.faults src.old src.new)
@@ -154,6 +146,17 @@ pub fn run_level<S: Source, K: Sink, E: Sink, H: Shelf>(
         → Tells H.Vol.told (H.volumes shelf.old)
         → IsGranted H.Vol.told H.Vol.history H.Vol.faults (H.volumes shelf.old) (S.left src.old) c
         → result ≢ 3 → result ≢ 4 → result ≢ 5 → result ≢ 6 → result ≢ 8 → result ≡ 0 }
+
+    // And where it is refused, it ends with that refusal, unless the same happens. So each refusal
+    // comes exactly where it is the first.
+    ensures refused_exactly { (c : Command) → IsSpelled c words.now → IsTrue (H.told shelf.old)
+        → Tells H.Vol.told (H.volumes shelf.old) → (refusal : Refusal)
+        → IsFirstRefusal H.Vol.told H.Vol.history H.Vol.faults (H.volumes shelf.old)
+        (S.left src.old) c refusal
+        → result ≢ 3 → result ≢ 5 → result ≢ 6 → result ≢ 8
+        → (result ≡ refusal_status refusal) × (out.new ≡ out.old)
+        × GivesLine (E.held err.old) (E.held err.new) (E.faults err.old) (E.faults err.new)
+        (line_of (Stop.Refused refusal)) }
 
     // What follows for `put`: a run that ends well has put the chosen blobs of the input's grid at
     // the place, and no other volume has changed.

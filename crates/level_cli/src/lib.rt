@@ -1,8 +1,8 @@
 //! The program for one level of many bundles as a library: the words of the command line, the bytes
 //! of a source and a shelf of bundles become the bytes of an output, a status and one change of the
-//! shelf. It stands on `level_cache`, which puts and gets one tile, on `grid_blobs`, which makes the
-//! blobs of a grid, and on `reason_names`, `program_ends` and `command_words`. `serve` reads the
-//! words and calls `run_level`.
+//! shelf. It stands on `level_cache`, which puts and gets one tile, on `grid_blobs`, which makes
+//! the blobs of a grid, and on `reason_names`, `program_ends` and `command_words`. `serve` reads
+//! the words and calls `run_level`.
 //!
 //! The contract that the layer above uses is that of `run_level`: over any words, any input and any
 //! shelf, and objects that fail at any call, `put` puts the chosen blobs of the input's grid at

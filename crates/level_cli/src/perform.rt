@@ -6,9 +6,10 @@ ghost use Rattle.program_ends.specs.Moves.{sink_move};
 ghost use Rattle.program_ends.specs.declared.stop.Stop.{Stop};
 ghost use Rattle.level_cli.specs.declared.refusal.Refusal.{Refusal};
 ghost use Rattle.level_cli.specs.Names.{name_line, put_line};
-ghost use Rattle.level_cli.specs.Run.{GaveBehind, IsVolumeCause, OfGet, OfName, OfPut, shelf_move};
+ghost use Rattle.level_cli.specs.Run.{GaveBehind, OfGet, OfName, OfPut, shelf_move};
 ghost use Rattle.level_cache.specs.Names.{IsName};
 ghost use Rattle.level_cache.specs.Places.{base_of};
+ghost use Rattle.level_cli.specs.inside.Shelves.{KeepsShelf};
 
 use crate::refusal::{Refusal, input_stop, level_stop};
 use grid_blobs::encode_grid;
@@ -44,15 +45,10 @@ pub(crate) fn put<S: Source, K: Sink, H: Shelf>(
     shelf: &mut H,
 ) -> Result<(), Stop<Refusal>>
     requires none_out { H.out shelf.old ≡ None }
-    ensures none_out { H.out shelf.new ≡ None }
-    ensures told { H.told shelf.new ≡ H.told shelf.old }
     ensures source { IsCause (result ≡ Err Stop.Source) (S.faults src.old) (S.faults src.new) }
     ensures output { IsCause (result ≡ Err Stop.Output) (K.faults out.old) (K.faults out.new) }
-    ensures shelf { IsCause (result ≡ Err (Stop.Refused Refusal.ShelfFailed))
-        (H.faults shelf.old) (H.faults shelf.new) }
-    ensures volume { IsVolumeCause (result ≡ Err Stop.Volume)
-        (result ≡ Err (Stop.Refused Refusal.ShelfFailed))
-        (H.volume_faults shelf.old) (H.volume_faults shelf.new) }
+    ensures shelf { KeepsShelf H.out H.told H.faults H.volume_faults result
+        shelf.old shelf.new }
     ensures done { OfPut H.Vol.told H.Vol.history H.Vol.faults version error place
         (S.left src.old) result (sink_move K.held K.faults out.old out.new)
         (shelf_move H.told H.volumes shelf.old shelf.new) }
@@ -80,14 +76,9 @@ pub(crate) fn get<K: Sink, H: Shelf>(
     shelf: &mut H,
 ) -> Result<(), Stop<Refusal>>
     requires none_out { H.out shelf.old ≡ None }
-    ensures none_out { H.out shelf.new ≡ None }
-    ensures told { H.told shelf.new ≡ H.told shelf.old }
     ensures output { IsCause (result ≡ Err Stop.Output) (K.faults out.old) (K.faults out.new) }
-    ensures shelf { IsCause (result ≡ Err (Stop.Refused Refusal.ShelfFailed))
-        (H.faults shelf.old) (H.faults shelf.new) }
-    ensures volume { IsVolumeCause (result ≡ Err Stop.Volume)
-        (result ≡ Err (Stop.Refused Refusal.ShelfFailed))
-        (H.volume_faults shelf.old) (H.volume_faults shelf.new) }
+    ensures shelf { KeepsShelf H.out H.told H.faults H.volume_faults result
+        shelf.old shelf.new }
     ensures done { OfGet H.Vol.told H.Vol.history H.Vol.faults place result
         (sink_move K.held K.faults out.old out.new)
         (shelf_move H.told H.volumes shelf.old shelf.new) }

@@ -3,11 +3,12 @@
 ghost use Rattle.std.specs.Prelude.{◌≡◌, ◌⊎◌, ℕ, List, None, Some, drop};
 ghost use Rattle.std.specs.Process.{exit_status};
 ghost use Rattle.outside_io.specs.program.Line.{GivesLine};
+ghost use Rattle.outside_io.specs.streams.Faults.{IsCause};
 ghost use Rattle.program_ends.specs.Moves.{sink_move, source_move};
 ghost use Rattle.program_ends.specs.declared.stop.Stop.{Stop};
 ghost use Rattle.level_cli.specs.Commands.{IsNoCommand, IsSpelled};
 ghost use Rattle.level_cli.specs.Names.{line_of};
-ghost use Rattle.level_cli.specs.Run.{IsUnread, OfRun, shelf_move};
+ghost use Rattle.level_cli.specs.Run.{IsUnread, IsVolumeCause, OfRun, shelf_move};
 ghost use Rattle.level_cli.specs.declared.words.Command.{Command};
 
 use crate::dispatch::run_level;
@@ -29,8 +30,25 @@ pub fn serve<A: Arguments, S: Source, K: Sink, E: Sink, H: Shelf>(
     shelf: &mut H,
 ) -> ExitCode
     requires none_out { H.out shelf.old ≡ None }
+    ensures none_out { H.out shelf.new ≡ None }
+    ensures told { H.told shelf.new ≡ H.told shelf.old }
+
+    // An object that fails gives its status, and nothing else gives it. A shelf that fails comes
+    // before its volume.
+    ensures source_failed { IsCause (exit_status result ≡ 3) (S.faults src.old) (S.faults src.new) }
+    ensures output_failed { IsCause (exit_status result ≡ 4) (K.faults out.old) (K.faults out.new) }
+    ensures shelf_failed { IsCause (exit_status result ≡ 8)
+        (H.faults shelf.old) (H.faults shelf.new) }
+    ensures volume_failed { IsVolumeCause (exit_status result ≡ 5) (exit_status result ≡ 8)
+        (H.volume_faults shelf.old) (H.volume_faults shelf.new) }
+
+    // The rest where the texts are told.
     ensures usage { (texts : List (List ℕ)) → A.texts args.now ≡ Some texts
-        → IsNoCommand (drop 2 texts) → (exit_status result ≡ 1) ⊎ (exit_status result ≡ 6) }
+        → IsNoCommand (drop 2 texts) → (exit_status result ≡ 1)
+        ⊎ IsUnread (exit_status result) (source_move S.left S.faults src.old src.new)
+        (sink_move K.held K.faults out.old out.new)
+        (shelf_move H.told H.volumes shelf.old shelf.new)
+        (sink_move E.held E.faults err.old err.new) }
     ensures unused { exit_status result ≡ 1 → (src.new ≡ src.old) × (out.new ≡ out.old)
         × (shelf.new ≡ shelf.old)
         × GivesLine (E.held err.old) (E.held err.new) (E.faults err.old) (E.faults err.new)

@@ -7,7 +7,7 @@ ghost use Rattle.level_cli.specs.declared.words.Command.{Command};
 ghost use Rattle.level_cli.specs.Commands.{ArePlaceWords, IsSpelled};
 ghost use Rattle.level_cli.specs.inside.Spelling.{IsGet, IsName, IsPut};
 
-use command_words::{error_of, has_text, version_of, within};
+use command_words::{error_of, has_text, number_within, version_of};
 use lerc_header::Version;
 use level_cache::Place;
 use outside_io::Word;
@@ -42,7 +42,7 @@ const LAST: u64 = 2_147_483_647;
 fn row_or_col_of(word: &Word) -> Option<u32>
     ensures { (n : ℕ) → (result ≡ Some n) ↔ IsWithin word.now n 0 2147483647 }
 {
-    match within(word, 0, LAST) {
+    match number_within(word, 0, LAST) {
         Some(n) => Some(n as u32),
         None => None,
     }

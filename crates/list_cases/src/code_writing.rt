@@ -55,8 +55,8 @@ fn tell_words(
     told.bytes(&words)
 }
 
-/// `write COUNTS SYMBOLS`: the table of the codes that are chosen for the counts of the symbols from
-/// 0 on, and the words of the symbols; or `none` where there are no such codes.
+/// `write COUNTS SYMBOLS`: the table of the codes that are chosen for the counts of the symbols
+/// from 0 on, and the words of the symbols; or `none` where there are no such codes.
 pub(crate) fn write(alloc: Global, row: &Row, told: &mut Told) -> Result<(), CaseStop> {
     let counts = counts_of(&row.numbers::<u32>(alloc, 0)?)?;
     if total(&counts) > 16777216 {
@@ -71,8 +71,8 @@ pub(crate) fn write(alloc: Global, row: &Row, told: &mut Told) -> Result<(), Cas
     tell_words(alloc, row.bytes(1)?, &lengths, told)
 }
 
-/// `counts SYMBOLS SYMBOLS SYMBOLS`: the counts of the symbols that are given in three pieces. Where
-/// the first piece has other counts when it is counted at once, it is told which.
+/// `counts SYMBOLS SYMBOLS SYMBOLS`: the counts of the symbols that are given in three pieces.
+/// Where the first piece has other counts when it is counted at once, it is told which.
 pub(crate) fn counts(row: &Row, told: &mut Told) -> Result<(), CaseStop> {
     let (first, second, third) = (row.bytes(0)?, row.bytes(1)?, row.bytes(2)?);
     if first.len() > 65536 || second.len() > 65536 || third.len() > 65536 {

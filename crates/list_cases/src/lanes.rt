@@ -49,8 +49,8 @@ fn less(alloc: Global, values: &[i64], least: i64) -> Result<Vec<i64>, CaseStop>
     Ok(out)
 }
 
-/// `minus LEAST VALUES`: the numbers less another one. Where those of a front are others, it is told
-/// which.
+/// `minus LEAST VALUES`: the numbers less another one. Where those of a front are others, it is
+/// told which.
 fn differences(alloc: Global, row: &Row, told: &mut Told) -> Result<(), CaseStop> {
     let (least, values) = (row.number::<i64>(0)?, row.numbers::<i64>(alloc, 1)?);
     let whole = less(alloc, &values, least)?;

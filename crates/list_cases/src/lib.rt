@@ -1,7 +1,7 @@
 //! What rows of cases call of the parts of blobs below the raster: lists and stuffed bits, names of
-//! values, runs of masks, code tables and words, doubles, and loops over lists of numbers; and of the
-//! symbols of a raster that are given piece by piece. Each call is given what its row says, calls
-//! the library, and tells what came out.
+//! values, runs of masks, code tables and words, doubles, and loops over lists of numbers; and of
+//! the symbols of a raster that are given piece by piece. Each call is given what its row says,
+//! calls the library, and tells what came out.
 //!
 //! The contract that the layer above uses is that of `Calls`: a row that names none of these calls,
 //! or gives what the library does not take, is told to be none.

@@ -148,8 +148,8 @@ fn computed(alloc: Global, count: u32, modulus: u32, factor: u32) -> Result<Vec<
     Ok(values)
 }
 
-/// `long COUNT MODULUS FACTOR`: the length and the digest of the chosen list in the table form of so
-/// many computed numbers, or `none`.
+/// `long COUNT MODULUS FACTOR`: the length and the digest of the chosen list in the table form of
+/// so many computed numbers, or `none`.
 fn long(alloc: Global, row: &Row, told: &mut Told) -> Result<(), CaseStop> {
     let values = computed(alloc, row.number(0)?, row.number(1)?, row.number(2)?)?;
     match table_of(alloc, &values, told)? {

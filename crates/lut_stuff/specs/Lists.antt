@@ -29,7 +29,8 @@ pub record IsTabled (width : ℕ) (bytes values : List ℕ) : Type 0 where
 pub data IsList (bytes values : List ℕ) : Type 0 where
   simple : IsSimpleList bytes values → IsList bytes values
   table : (head : ListHead) (front back : List ℕ) → bytes ≡ front ++ back
-      → IsListHeadOf (length values) front head → IsTrue head.table → IsTabled head.width back values
+      → IsListHeadOf (length values) front head → IsTrue head.table
+      → IsTabled head.width back values
       → IsList bytes values
 
 -- the bytes are a list of n values

@@ -45,8 +45,8 @@ pub record KeepsTable (old new : Ranks) : Type 0 where
   pub count : new.count ≡ old.count
   pub table : new.table ≡ old.table
 
--- the least value has this rank, and the table from there on has each of the values by how many ranks
--- it is above that
+-- the least value has this rank, and the table from there on has each of the values by how many
+-- ranks it is above that
 pub record AreRanksFrom (table : List ℕ) (low least : ℕ) (values ranks : List ℕ) : Type 0 where
   pub there : low < length table
   pub first : get_or table low 0 ≡ least

@@ -1,5 +1,6 @@
 -- The list in the table form that is written for given values.
-use Rattle.std.specs.Prelude.{ℕ, ◌+◌, Bool, ◌&&◌, nat_eq, nat_le, nat_lt, List, ◌∷◌, ◌++◌, length, map, true}
+use Rattle.std.specs.Prelude.{ℕ, ◌≡◌, ◌+◌, ◌^◌, ◌<◌, ◌≤◌, Bool, ◌&&◌, nat_eq, nat_le, nat_lt, true}
+use Rattle.std.specs.Prelude.{List, ◌∷◌, ◌++◌, All, drop, length, map}
 use Rattle.std.specs.Prelude.{Option, None, Some, if◌then◌else◌}
 use Rattle.std.specs.List.{filter, list_any, range_with_len}
 use Rattle.bit_stuff.specs.Head.{list_head_bytes}
@@ -39,3 +40,19 @@ has_table values = nat_lt 0 (distinct_above_0 values) && nat_le (distinct_above_
 -- the length of the chosen list in the table form, where there is one
 abbrev pub table_size : List ℕ → Option ℕ
 table_size values = if has_table values then Some (length (table_bytes values)) else None
+
+-- at most 1,024 values, each below 2^31
+pub record AreTableValues (values : List ℕ) : Type 0 where
+  pub few : length values ≤ 1024
+  pub below : All (λ v. v < 2 ^ 31) values
+
+-- such values have a list in the table form, and there is room for it
+pub record TableFits (values room : List ℕ) : Type 0 where
+  pub values_are : AreTableValues values
+  pub table : table_size values ≡ Some (length (table_bytes values))
+  pub room_is : length (table_bytes values) ≤ length room
+
+-- the list stands over the front of what was there, and so many bytes are its
+pub record WritesTable (values old new : List ℕ) (used : ℕ) : Type 0 where
+  pub count : used ≡ length (table_bytes values)
+  pub bytes : new ≡ table_bytes values ++ drop used old

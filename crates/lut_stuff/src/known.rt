@@ -29,8 +29,8 @@ pub fn known_len(count: usize, width: u32, different: usize) -> Option<usize>
     Some(head_len(count as u32) + 1 + entries + indexes)
 }
 
-/// Writes the list in the table form with this width, these entries and these indexes over the front
-/// of `out`; how many bytes it takes.
+/// Writes the list in the table form with this width, these entries and these indexes over the
+/// front of `out`; how many bytes it takes.
 pub(crate) fn write_known(width: u32, entries: &[u32], indexes: &[u32], out: &mut [u8]) -> usize
     requires some { 0 < length entries.now }
     requires few { length entries.now ≤ 254 }

@@ -14,7 +14,7 @@ use bit_stuff::{
 };
 
 /// The answer with this fault.
-fn refused(reason: ListReason, at: usize) -> Result<usize, ListFault>
+fn refuse(reason: ListReason, at: usize) -> Result<usize, ListFault>
     ensures { result ≡ Err (record { reason = reason; at = at }) }
 {
     Err(ListFault { reason, at })
@@ -28,7 +28,7 @@ fn behind(n: usize, part: Result<usize, ListFault>) -> Result<usize, ListFault>
 {
     match part {
         Ok(used) => Ok(n + used),
-        Err(fault) => refused(fault.reason, n + fault.at),
+        Err(fault) => refuse(fault.reason, n + fault.at),
     }
 }
 
@@ -42,7 +42,7 @@ fn read_numbers(bytes: &[u8], width: u32, out: &mut [u32]) -> Result<usize, List
 {
     let used = stuffed_len(out.len(), width);
     if bytes.len() < used {
-        return refused(ListReason::Cut, 0);
+        return refuse(ListReason::Cut, 0);
     }
     unstuff_front(bytes, width, out);
     Ok(used)
@@ -77,7 +77,7 @@ fn read_indexes(bytes: &[u8], table: &[u32], out: &mut [u32]) -> Result<usize, L
     if look_up(table, out) {
         Ok(used)
     } else {
-        refused(ListReason::BadIndex, 0)
+        refuse(ListReason::BadIndex, 0)
     }
 }
 
@@ -129,11 +129,11 @@ fn read_table(bytes: &[u8], width: u32, out: &mut [u32]) -> Result<usize, ListFa
         × list_table_faults (length out.old) width bytes.now f.at f.reason) }
 {
     if bytes.is_empty() {
-        return refused(ListReason::Cut, 0);
+        return refuse(ListReason::Cut, 0);
     }
     let size = usize::from(bytes[0]);
     if size < 2 {
-        return refused(ListReason::BadTable, 0);
+        return refuse(ListReason::BadTable, 0);
     }
     let mut table = [0; 256];
     behind(1, read_tabled(&bytes[1..], width, size, &mut table, out))

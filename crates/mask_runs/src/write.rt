@@ -23,7 +23,7 @@ enum Choice {
 
 impl Choice {
     /// How many bytes of the mask it gives.
-    fn given(self) -> usize
+    fn count(self) -> usize
         ensures { result ≡ count_in self }
     {
         match self {
@@ -112,7 +112,8 @@ fn write_choice(choice: Choice, mask: &[u8], last: u8, out: &mut [u8])
     requires first { IsFirstChoice (ending_with mask.now last) choice }
     requires room { size_in choice ≤ length out.old }
     ensures { out.new
-        ≡ piece_bytes (piece_of (ending_with mask.now last) choice) ++ drop (size_in choice) out.old }
+        ≡ piece_bytes (piece_of (ending_with mask.now last) choice)
+        ++ drop (size_in choice) out.old }
 {
     match choice {
         Choice::Literal(count) => {
@@ -156,7 +157,7 @@ pub fn runs_len_with(mask: &[u8], last: u8) -> usize
     while at < mask.len() {
         let choice = first_choice(&mask[at..], last);
         size += choice.size();
-        at += choice.given();
+        at += choice.count();
     }
     size
 }
@@ -190,7 +191,7 @@ pub fn write_runs_with(mask: &[u8], last: u8, out: &mut [u8])
         let choice = first_choice(rest, last);
         write_choice(choice, rest, last, &mut out[to..]);
         to += choice.size();
-        from += choice.given();
+        from += choice.count();
     }
     LittleEndian::write_i16(&mut out[to..], i16::MIN);
 }

@@ -128,7 +128,8 @@ pub fn block_size(distances: &[u32], ctx: &BlockCtx) -> BlockSize
     requires in_range { All (IsDistance ctx.now.kind) distances.now }
     requires capped { All (λ v. v ≤ℤ ctx.now.top) (map (value_above ctx.now.kind) distances.now) }
     ensures length { let values = map (value_above ctx.now.kind) distances.now in
-        result.len ≡ length (chosen_block.block_bytes ctx.now.kind ctx.now.col ctx.now.step values) }
+        result.len ≡ length
+        (chosen_block.block_bytes ctx.now.kind ctx.now.col ctx.now.step values) }
     ensures table { let values = map (value_above ctx.now.kind) distances.now in
         IsTrue result.has_table
         ↔ (chosen_block.chosen_form ctx.now.kind ctx.now.col ctx.now.step values

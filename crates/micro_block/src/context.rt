@@ -22,8 +22,8 @@ pub struct BlockCtx {
     ghost twice_error: { IsTwiceError step },
 }
 
-/// What is read of a block beside its numbers of steps: each value is so many steps from the offset,
-/// or the top where that is less.
+/// What is read of a block beside its numbers of steps: each value is so many steps from the
+/// offset, or the top where that is less.
 #[derive(Clone, Copy, Debug, PartialEq, Eq)]
 pub struct SteppedBlock {
     /// How many bytes the block takes.

@@ -1,5 +1,5 @@
-//! Blocks at step 1 of values of which few are different and that are far apart: these are counted by
-//! names, and listed by ranks.
+//! Blocks at step 1 of values of which few are different and that are far apart: these are counted
+//! by names, and listed by ranks.
 
 ghost use Rattle.std.specs.Prelude.{◌≡◌, ◌+◌, ◌*◌, ◌≤◌, ◌≤ℤ◌, ◌↔◌, ◌++◌, All, IfSome, IsTrue, Some};
 ghost use Rattle.std.specs.Prelude.{drop, length, map, suc};
@@ -10,7 +10,7 @@ ghost use Rattle.raster_cells.specs.Distance.{IsDistance, value_above};
 ghost use Rattle.raster_cells.specs.PixelType.{bytes_of};
 ghost use Rattle.micro_block.specs.ChosenBlock as chosen_block;
 ghost use Rattle.micro_block.specs.ChosenBlock.{block_bytes, written_form_bytes};
-ghost use Rattle.micro_block.specs.Named.{AreNamed};
+ghost use Rattle.micro_block.specs.Named.{AreNamed, HasNameRoom};
 ghost use Rattle.micro_block.specs.inside.Sizes.{IsTabledLength};
 ghost use Rattle.micro_block.specs.inside.Stepping.{AreListable, IsSpread, steps_above};
 ghost use Rattle.micro_block.specs.inside.Stepping.{values_above};
@@ -39,23 +39,22 @@ fn different_of(names: &[u8]) -> usize
 
 /// Finds the names of values, unless they are known, and tells whether there are enough.
 fn find_names(distances: &[u32], names: &mut Names, found: &mut [u8], known: bool) -> bool
-    requires room { length found.old ≡ length distances.now }
-    requires known { IsTrue known → AreNamed names.old distances.now found.old }
+    requires found { HasNameRoom names.old distances.now found.old known }
     ensures kept { KeepsNames names.old names.new }
     ensures known { IsTrue result → AreNamed names.new distances.now found.new }
 {
     known || names.name_all(distances, found)
 }
 
-/// How many different values there are, each of which gets a name. None where no name is left for one.
+/// How many different values there are, each of which gets a name. None where no name is left for
+/// one.
 fn count_named(
     distances: &[u32],
     names: &mut Names,
     found: &mut [u8],
     known: &mut bool,
 ) -> Option<usize>
-    requires room { length found.old ≡ length distances.now }
-    requires known { IsTrue known.old → AreNamed names.old distances.now found.old }
+    requires found { HasNameRoom names.old distances.now found.old known.old }
     ensures kept { KeepsNames names.old names.new }
     ensures known { IsTrue known.new → AreNamed names.new distances.now found.new }
     ensures count { IfSome result (λ n. n ≡ distinct_above_0 (map suc distances.now)) }
@@ -82,8 +81,7 @@ fn named_len(
     requires count { length distances.now ≤ 256 }
     requires spread { IsSpread kind step distances.now spread }
     requires in_range { All (IsDistance kind) distances.now }
-    requires room { length found.old ≡ length distances.now }
-    requires known { IsTrue known.old → AreNamed names.old distances.now found.old }
+    requires found { HasNameRoom names.old distances.now found.old known.old }
     ensures kept { KeepsNames names.old names.new }
     ensures known { IsTrue known.new → AreNamed names.new distances.now found.new }
     ensures value { IsTabledLength step (values_above kind distances.now) result }
@@ -97,8 +95,8 @@ fn named_len(
     tabled_len(distances, kind, spread, step)
 }
 
-/// The answer of `named_size`, which leaves the values' names in `found` where it needed them: `known`
-/// tells whether they stand there. Where they stood there before, none is sought again.
+/// The answer of `named_size`, which leaves the values' names in `found` where it needed them:
+/// `known` tells whether they stand there. Where they stood there before, none is sought again.
 pub fn size_and_names(
     distances: &[u32],
     ctx: &BlockCtx,
@@ -114,7 +112,8 @@ pub fn size_and_names(
     ensures kept { KeepsNames names.old names.new }
     ensures known { IsTrue known.new → AreNamed names.new distances.now found.new }
     ensures length { let values = map (value_above ctx.now.kind) distances.now in
-        result.len ≡ length (chosen_block.block_bytes ctx.now.kind ctx.now.col ctx.now.step values) }
+        result.len ≡ length
+        (chosen_block.block_bytes ctx.now.kind ctx.now.col ctx.now.step values) }
     ensures table { let values = map (value_above ctx.now.kind) distances.now in
         IsTrue result.has_table
         ↔ (chosen_block.chosen_form ctx.now.kind ctx.now.col ctx.now.step values
@@ -130,14 +129,15 @@ pub fn size_and_names(
     }
 }
 
-/// The answer of `block_size`. Where the step is 1, values far apart of which few are different, here
-/// and in the blocks before, are counted by their names.
+/// The answer of `block_size`. Where the step is 1, values far apart of which few are different,
+/// here and in the blocks before, are counted by their names.
 pub fn named_size(distances: &[u32], ctx: &BlockCtx, names: &mut Names) -> BlockSize
     requires few { length distances.now ≤ 256 }
     requires in_range { All (IsDistance ctx.now.kind) distances.now }
     requires capped { All (λ v. v ≤ℤ ctx.now.top) (map (value_above ctx.now.kind) distances.now) }
     ensures length { let values = map (value_above ctx.now.kind) distances.now in
-        result.len ≡ length (chosen_block.block_bytes ctx.now.kind ctx.now.col ctx.now.step values) }
+        result.len ≡ length
+        (chosen_block.block_bytes ctx.now.kind ctx.now.col ctx.now.step values) }
     ensures table { let values = map (value_above ctx.now.kind) distances.now in
         IsTrue result.has_table
         ↔ (chosen_block.chosen_form ctx.now.kind ctx.now.col ctx.now.step values
@@ -211,8 +211,8 @@ fn write_ranked_form(
     used + write_ranked_list(distances, spread, ctx.step, ranks, &mut out[used..])
 }
 
-/// Writes what `write_distances` writes. Where the step is 1 and the values are far apart, the entries
-/// and the indexes of a table are found by ranks, as long as each value has one.
+/// Writes what `write_distances` writes. Where the step is 1 and the values are far apart, the
+/// entries and the indexes of a table are found by ranks, as long as each value has one.
 pub fn write_ranked(
     distances: &[u32],
     ctx: &BlockCtx,

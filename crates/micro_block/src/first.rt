@@ -13,14 +13,14 @@ pub fn first_least(sizes: &[Option<usize>]) -> Option<(usize, usize)>
 {
     let mut best = None;
     for (k, size) in sizes.iter().enumerate() {
-        best = former(best, k, *size);
+        best = smaller_of(best, k, *size);
     }
     best
 }
 
 // The place and size so far, or the next where it is smaller.
 #[inline(always)]
-fn former(best: Option<(usize, usize)>, k: usize, size: Option<usize>) -> Option<(usize, usize)>
+fn smaller_of(best: Option<(usize, usize)>, k: usize, size: Option<usize>) -> Option<(usize, usize)>
     ensures { result ≡ former_of best k size }
 {
     match (best, size) {

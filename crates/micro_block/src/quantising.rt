@@ -7,11 +7,11 @@ ghost use Rattle.raster_cells.specs.Step.{IsTwiceError};
 ghost use Rattle.micro_block.specs.Near.{quantised};
 ghost use Rattle.micro_block.specs.inside.Products.{rounded_steps, AreUpTo};
 
-use crate::stepping::{rounded, rule_for, steps_at};
+use crate::stepping::{round_steps, rule_for, steps_at};
 use lane_kernels::{minus, range};
 
-/// Puts for each distance the number of steps, rounded to the nearest, halves upwards: by the rule by
-/// which a block's distances of 32 bits are made into numbers of steps.
+/// Puts for each distance the number of steps, rounded to the nearest, halves upwards: by the rule
+/// by which a block's distances of 32 bits are made into numbers of steps.
 fn near_each(distances: &mut [i64], reach: u32, step: u64)
     requires step { IsTwiceError step }
     requires near { AreUpTo reach distances.old }
@@ -30,7 +30,7 @@ fn far_each(distances: &mut [i64], step: u64)
     ensures { distances.new ≡ map (λ d. pos (rounded_steps step (unsigned_abs d))) distances.old }
 {
     for i in 0..distances.len() {
-        distances[i] = rounded(distances[i] as u64, step) as i64;
+        distances[i] = round_steps(distances[i] as u64, step) as i64;
     }
 }
 

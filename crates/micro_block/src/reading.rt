@@ -24,7 +24,7 @@ use lut_stuff::read_list;
 use raster_cells::PixelType;
 
 /// The answer with this fault.
-fn refused(reason: BlockReason, at: usize) -> Result<SteppedBlock, BlockFault>
+fn refuse(reason: BlockReason, at: usize) -> Result<SteppedBlock, BlockFault>
     ensures { result ≡ Err (record { reason = reason; at = at }) }
 {
     Err(BlockFault { reason, at })
@@ -49,7 +49,7 @@ fn behind(n: usize, part: Result<SteppedBlock, BlockFault>) -> Result<SteppedBlo
             step: steps.step,
             top: steps.top,
         }),
-        Err(fault) => refused(fault.reason, n + fault.at),
+        Err(fault) => refuse(fault.reason, n + fault.at),
     }
 }
 
@@ -110,7 +110,7 @@ fn read_raw(bytes: &[u8], ctx: &BlockCtx, numbers: &mut [u32]) -> Result<Stepped
 {
     let used = numbers.len() * ctx.kind.bytes();
     if bytes.len() < used {
-        return refused(BlockReason::Cut, 0);
+        return refuse(BlockReason::Cut, 0);
     }
     read_distances(ctx.kind, &bytes[..used], numbers);
     Ok(SteppedBlock {
@@ -152,13 +152,13 @@ fn read_constant(
 {
     let used = kind.bytes();
     if bytes.len() < used {
-        return refused(BlockReason::Cut, 0);
+        return refuse(BlockReason::Cut, 0);
     }
     Ok(all_alike(ctx.kind, used, kind.read_value(bytes), numbers))
 }
 
 /// The same step with a sign.
-fn signed(step: u64) -> i64
+fn as_signed(step: u64) -> i64
     requires { step ≤ 8589934590 }
     ensures { result ≡ pos step }
 {
@@ -185,10 +185,10 @@ fn read_numbers(
         Ok(used) => Ok(SteppedBlock {
             used,
             offset,
-            step: signed(ctx.step),
+            step: as_signed(ctx.step),
             top: ctx.top,
         }),
-        Err(fault) => refused(BlockReason::List(fault.reason), fault.at),
+        Err(fault) => refuse(BlockReason::List(fault.reason), fault.at),
     }
 }
 
@@ -210,7 +210,7 @@ fn read_stuffed(
 {
     let size = kind.bytes();
     if bytes.len() < size {
-        return refused(BlockReason::Cut, 0);
+        return refuse(BlockReason::Cut, 0);
     }
     let offset = kind.read_value(bytes);
     behind(size, read_numbers(&bytes[size..], ctx, offset, numbers))
@@ -265,7 +265,7 @@ fn read_tagged(
         return Ok(all_alike(ctx.kind, 1, 0, numbers));
     }
     match offset_type(ctx.kind, tag / 64) {
-        None => refused(BlockReason::BadOffset, 0),
+        None => refuse(BlockReason::BadOffset, 0),
         Some(kind) => read_offset(bytes, tag, ctx, kind, numbers),
     }
 }
@@ -282,11 +282,11 @@ fn read_form(bytes: &[u8], ctx: &BlockCtx, numbers: &mut [u32]) -> Result<Steppe
         × block_faults (frame_of ctx.now (length numbers.old)) bytes.now f.at f.reason) }
 {
     if bytes.is_empty() {
-        return refused(BlockReason::Cut, 0);
+        return refuse(BlockReason::Cut, 0);
     }
     let tag = bytes[0];
     if u32::from(tag / 4 % 16) != ctx.col / 8 % 16 {
-        return refused(BlockReason::BadTag, 0);
+        return refuse(BlockReason::BadTag, 0);
     }
     read_tagged(&bytes[1..], tag, ctx, numbers)
 }
@@ -319,7 +319,8 @@ pub fn read_steps(
         (λ s. (s.used ≡ length front) × (stepped_values s numbers.new ≡ values)) }
     ensures fault { (f : BlockFault) → (result ≡ Err f)
         ↔ block_faults (frame_of ctx.now (length numbers.old)) bytes.now f.at f.reason }
-    ensures in_range { IfOk result (λ s. All (InRange ctx.now.kind) (stepped_values s numbers.new)) }
+    ensures in_range { IfOk result
+        (λ s. All (InRange ctx.now.kind) (stepped_values s numbers.new)) }
     ensures offset { IfOk result (λ s. InRange ctx.now.kind s.offset) }
     ensures top { IfOk result (λ s. InRange ctx.now.kind s.top) }
     ensures step { IfOk result (λ s. IsStepSize s.step) }

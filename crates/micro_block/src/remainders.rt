@@ -22,8 +22,8 @@ fn with_remainders(bits: u64, distances: &[u32], least: u32, rule: Rule, step: u
     with
 }
 
-/// The set of the remainders of numbers of steps and of 0, one bit each. None where remainders show that
-/// more different numbers above 0 than the bound are among them.
+/// The set of the remainders of numbers of steps and of 0, one bit each. None where remainders show
+/// that more different numbers above 0 than the bound are among them.
 pub(crate) fn remainders_within(
     distances: &[u32],
     least: u32,

@@ -63,8 +63,8 @@ static MOST_OF_256: [u8; 31] = [
     162, 166, 170, 173, 176, 179, 182, 184, 187,
 ];
 
-/// The same: as it is kept for the numbers of values that whole blocks have, and those of one row or
-/// one column, and else counted.
+/// The same: as it is kept for the numbers of values that whole blocks have, and those of one row
+/// or one column, and else counted.
 pub(crate) fn most_entries(count: usize, width: u32) -> usize
     requires count { count ≤ 256 }
     requires width { (0 < width) × (width ≤ 30) }

@@ -27,7 +27,7 @@ fn holds(kind: PixelType, value: i64) -> bool
 }
 
 /// The narrowest type in which the offset may stand, behind its code.
-pub(crate) fn narrowest(kind: PixelType, value: i64) -> (u8, PixelType)
+pub(crate) fn narrowest_type(kind: PixelType, value: i64) -> (u8, PixelType)
     ensures named { result ≡ chosen_block.narrowest kind value }
     ensures code { result.0 < 4 }
 {
@@ -103,7 +103,7 @@ pub(crate) fn form_sizes(
     ensures { result ≡ closed_sizes kind count least most tabled }
 {
     let flat = most == 0;
-    let offset = narrowest(kind, least).1.bytes();
+    let offset = narrowest_type(kind, least).1.bytes();
     let stuffable = !flat && most < 1 << 30;
     let simple = if stuffable {
         Some(1 + offset + list_size(count, most))
@@ -218,7 +218,8 @@ fn has_more_steps(distances: &[u32], least: u32, rule: Rule, step: u64, bound: u
 }
 
 /// How many bytes the list takes in the table form, where all numbers of steps are below 64 and the
-/// greatest has `width` binary digits. None where more different ones above 0 than the bound are found.
+/// greatest has `width` binary digits. None where more different ones above 0 than the bound are
+/// found.
 fn small_table(
     distances: &[u32],
     least: u32,

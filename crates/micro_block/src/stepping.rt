@@ -125,7 +125,7 @@ pub(crate) fn rule_for(step: u64, reach: u32) -> Rule
 }
 
 /// The number of steps of twice `half`, which is 2^shift.
-fn shifted(distance: u32, least: u32, half: u32, shift: u32) -> u32
+fn shift_one(distance: u32, least: u32, half: u32, shift: u32) -> u32
     requires from { least ≤ distance }
     requires near { distance - least + half < 2 ^ 32 }
     requires shift { shift < 32 }
@@ -136,7 +136,7 @@ fn shifted(distance: u32, least: u32, half: u32, shift: u32) -> u32
 }
 
 /// The number of steps of twice `half`.
-fn multiplied(distance: u32, least: u32, half: u32, product: Product) -> u32
+fn multiply_one(distance: u32, least: u32, half: u32, product: Product) -> u32
     requires from { least ≤ distance }
     requires near { distance - least + half < product.limit }
     requires step { IsProduct (2 * half) product }
@@ -146,7 +146,7 @@ fn multiplied(distance: u32, least: u32, half: u32, product: Product) -> u32
 }
 
 /// The number of steps of a distance of any size, rounded to the nearest, halves upwards.
-pub(crate) fn rounded(distance: u64, step: u64) -> u64
+pub(crate) fn round_steps(distance: u64, step: u64) -> u64
     requires far { distance ≤ 8589934592 }
     requires step { (0 < step) × (step ≤ 8589934592) }
     ensures { result ≡ rounded_steps step distance }
@@ -155,12 +155,12 @@ pub(crate) fn rounded(distance: u64, step: u64) -> u64
 }
 
 /// The number of steps, by a division.
-fn divided(distance: u32, least: u32, step: u64) -> u32
+fn divide_one(distance: u32, least: u32, step: u64) -> u32
     requires from { least ≤ distance }
     requires step { (0 < step) × (step ≤ 8589934592) }
     ensures { result ≡ steps_above step least distance }
 {
-    rounded(u64::from(distance - least), step) as u32
+    round_steps(u64::from(distance - least), step) as u32
 }
 
 /// The number of steps of one distance, rounded to the nearest, halves upwards.
@@ -173,9 +173,9 @@ pub(crate) fn steps_at(distance: u32, least: u32, rule: Rule, step: u64) -> u32
 {
     match rule {
         Rule::Subtract => distance - least,
-        Rule::Shift { half, shift } => shifted(distance, least, half, shift),
-        Rule::Multiply { half, product } => multiplied(distance, least, half, product),
-        Rule::Divide => divided(distance, least, step),
+        Rule::Shift { half, shift } => shift_one(distance, least, half, shift),
+        Rule::Multiply { half, product } => multiply_one(distance, least, half, product),
+        Rule::Divide => divide_one(distance, least, step),
     }
 }
 
@@ -200,7 +200,7 @@ fn shift_each(distances: &[u32], least: u32, half: u32, shift: u32, out: &mut [u
     ensures { out.new ≡ map (steps_above (2 * half) least) distances.now }
 {
     for (i, distance) in distances.iter().enumerate() {
-        out[i] = shifted(*distance, least, half, shift);
+        out[i] = shift_one(*distance, least, half, shift);
     }
 }
 
@@ -213,7 +213,7 @@ fn multiply_each(distances: &[u32], least: u32, half: u32, product: Product, out
     ensures { out.new ≡ map (steps_above (2 * half) least) distances.now }
 {
     for (i, distance) in distances.iter().enumerate() {
-        out[i] = multiplied(*distance, least, half, product);
+        out[i] = multiply_one(*distance, least, half, product);
     }
 }
 
@@ -225,7 +225,7 @@ fn divide_each(distances: &[u32], least: u32, step: u64, out: &mut [u32])
     ensures { out.new ≡ map (steps_above step least) distances.now }
 {
     for (i, distance) in distances.iter().enumerate() {
-        out[i] = divided(*distance, least, step);
+        out[i] = divide_one(*distance, least, step);
     }
 }
 

@@ -21,7 +21,7 @@ ghost use Rattle.micro_block.specs.inside.Stepping.{values_above};
 use crate::choosing::{BlockForm, Chosen, block_size, choose_plain};
 use crate::context::BlockCtx;
 use crate::distances::{distances_of, value_of};
-use crate::sizes::narrowest;
+use crate::sizes::narrowest_type;
 use crate::spreading::{Spread, spread_of};
 use crate::stepping::{Rule, steps_each};
 use bit_stuff::{digit_count, stuff, write_head};
@@ -46,7 +46,7 @@ pub(crate) fn write_offset(form: u8, col: u32, kind: PixelType, least: i64, out:
     ensures bytes { out.new ≡ tag_byte col form (narrow_code kind least)
         ∷ (offset_bytes kind least ++ drop (1 + bytes_of (narrow_type kind least)) out.old) }
 {
-    let (code, narrow) = narrowest(kind, least);
+    let (code, narrow) = narrowest_type(kind, least);
     out[0] = tag(col, form, code);
     narrow.write_value(least, &mut out[1..]);
     1 + narrow.bytes()

@@ -12,25 +12,25 @@ use std::alloc::Global;
 /// Of `outside`: `take TEXT PIECE FAILING HOW SIZES` takes from a source in memory into buffers of
 /// these sizes, whose bytes are dots, `once` each or until each is full, by `all`, and tells each
 /// answer and each buffer; `read TEXT SCRIPT HOW SIZES` the same over a file of std, and last how
-/// often that failed and how often it was called. Each letter of the script is one of its calls: `i`
-/// is interrupted, `!` fails, a digit moves so many bytes at most; and those behind move all. `give
-/// PIECE FAILING ROOM BYTES..` gives to a sink in memory, and tells each answer and what it holds,
-/// and last the answer for no bytes; `write TEXT SCRIPT BYTES BYTES` gives to a file of std, and
-/// tells both answers, how often it failed and was called, and the text, over which is written.
+/// often that failed and how often it was called. Each letter of the script is one of its calls:
+/// `i` is interrupted, `!` fails, a digit moves so many bytes at most; and those behind move all.
+/// `give PIECE FAILING ROOM BYTES..` gives to a sink in memory, and tells each answer and what it
+/// holds, and last the answer for no bytes; `write TEXT SCRIPT BYTES BYTES` gives to a file of std,
+/// and tells both answers, how often it failed and was called, and the text, over which is written.
 /// `bytes TEXT` tells what is told of bytes; `word TEXT` a word and its number; `line TEXT NUMBERS
 /// TEXT ROOM` a line of three numbers between two texts, and what a sink with so much room takes of
-/// it; `marks NUMBERS` whether there are none, before and behind, and the marks. `failing CALLS STOP
-/// MOST ROOM` tells which of five writes to a volume in memory are done, and the clock, `none` the
-/// same of the five calls of the volume that fails, and what a read left.
+/// it; `marks NUMBERS` whether there are none, before and behind, and the marks. `failing CALLS
+/// STOP MOST ROOM` tells which of five writes to a volume in memory are done, and the clock, `none`
+/// the same of the five calls of the volume that fails, and what a read left.
 ///
 /// Of `desk`: `new LEN FAULT PATH` makes a machine of two files of that length, or of none, which
 /// refuses what the word names, and a volume of its files, the first of them by this path; `fault
-/// FAULT` has it refuse another thing, and `refuse FILE KIND` have that file not be written. `length
-/// FILE`, `read FILE AT COUNT`, `write FILE AT BYTES`, `cut FILE LEN`, `sync FILE` and `moment` call
-/// the volume and tell its answer. `seen FILE` tells a file's length, where the last read and the last
-/// write began, and how often it was opened, read, written, cut and synced; `folder` the folder that
-/// was opened last, and the same five of it. `hold FAULT` tells whether three numbers are held, and
-/// by which folder, and how often one was opened.
+/// FAULT` has it refuse another thing, and `refuse FILE KIND` have that file not be written.
+/// `length FILE`, `read FILE AT COUNT`, `write FILE AT BYTES`, `cut FILE LEN`, `sync FILE`, `lost`
+/// and `moment` call the volume and tell its answer. `seen FILE` tells a file's length, where the
+/// last read and the last write began, and how often it was opened, read, written, cut and synced;
+/// `folder` the folder that was opened last, and the same five of it. `hold FAULT` tells whether
+/// three numbers are held, and by which folder, and how often one was opened.
 #[derive(Drop)]
 pub struct OutsideCalls {
     alloc: Global,
@@ -87,6 +87,7 @@ impl OutsideCalls {
             b"cut" => open.cut(row, told),
             b"sync" => open.sync(row, told),
             b"moment" => open.moment(told),
+            b"lost" => open.lost(told),
             b"seen" => open.seen(row, told),
             b"folder" => open.folder(told),
             _ => Err(CaseStop::BadRow),

@@ -22,9 +22,13 @@ pub(crate) enum Fault {
     WriteMidway,
     Cut,
     Sync,
+    /// The files' system knows no sync.
+    NoSync,
     OpenFolder,
     OpenRoot,
     ReadLink,
+    /// The journal's name is a link that leads to no file.
+    JournalLink,
     SyncFolder,
     FolderCalls,
 }
@@ -316,6 +320,7 @@ impl OpenFile for Handle {
             (b'/', Fault::FolderCalls) => Err(error(ErrorKind::InvalidInput)),
             (b'/', _) => Ok(()),
             (_, Fault::Sync) => Err(error(ErrorKind::Other)),
+            (_, Fault::NoSync) => Err(error(ErrorKind::InvalidInput)),
             _ => Ok(()),
         }
     }
@@ -390,7 +395,9 @@ impl Files for Machine {
         if self.desk.fault.get() == Fault::ReadLink {
             return Err(error(ErrorKind::Other));
         }
-        match link_at(path) {
+        let lost = path == "shelf/b.jnl" && self.desk.fault.get() == Fault::JournalLink;
+        let link = if lost { Some("away") } else { link_at(path) };
+        match link {
             Some(text) => Ok(PathBuf::from_str(alloc, text)?),
             None => Err(error(ErrorKind::InvalidInput)),
         }

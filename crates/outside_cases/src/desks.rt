@@ -30,9 +30,11 @@ fn fault_of(row: &Row, at: usize) -> Result<Fault, CaseStop> {
         "write" => Ok(Fault::WriteMidway),
         "cut" => Ok(Fault::Cut),
         "sync" => Ok(Fault::Sync),
+        "no_sync" => Ok(Fault::NoSync),
         "open_folder" => Ok(Fault::OpenFolder),
         "open_root" => Ok(Fault::OpenRoot),
         "read_link" => Ok(Fault::ReadLink),
+        "journal_link" => Ok(Fault::JournalLink),
         "sync_folder" => Ok(Fault::SyncFolder),
         "folder_calls" => Ok(Fault::FolderCalls),
         _ => Err(CaseStop::BadRow),
@@ -165,6 +167,11 @@ impl Open {
     pub(crate) fn folder(&self, told: &mut Told) -> Result<(), CaseStop> {
         told.word(self.desk.opened_folder())?;
         tell_counts(&self.desk.folder, told)
+    }
+
+    /// `lost`
+    pub(crate) fn lost(&self, told: &mut Told) -> Result<(), CaseStop> {
+        told.word(self.vol.is_lost())
     }
 
     /// `moment`

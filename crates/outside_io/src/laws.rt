@@ -1,3 +1,5 @@
+//! Laws of files and of what a crash leaves of them.
+
 ghost use Rattle.std.specs.Prelude.{◌≡◌, ℕ, List};
 ghost use Rattle.outside_io.specs.volume.Disk.{AreBytes, IsImage, settled};
 

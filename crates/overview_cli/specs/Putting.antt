@@ -25,8 +25,8 @@ abbrev pub IsFull : List TileRec → Option Files → ℕ → ℕ → Type 0
 IsFull updates files n len = (n < length updates) × LeavesNoRoom len updates n
     × OfBundle files (λ bundle. IsFirstFull bundle updates n len)
 
--- Why the second bundle does not take the updates: the refusal of its recovery or of its opening, or
--- there is no room for one of them.
+-- Why the second bundle does not take the updates: the refusal of its recovery or of its opening,
+-- or there is no room for one of them.
 abbrev pub IsToRefusal : List TileRec → Option Files → StoreRefusal → Type 0
 IsToRefusal updates files (Full len) = (n : ℕ) × IsFull updates files n len
 IsToRefusal updates files refusal = IsOpening files refusal

@@ -71,8 +71,8 @@ pub record IsUnread (status : ℕ) (from to : VolumeMove) (out err : SinkMove) :
 
 -- ---- refusals
 
--- Why there is nothing to put, or it is not put: the first refusal of the first bundle, or behind the
--- updates of its overview that of the second.
+-- Why there is nothing to put, or it is not put: the first refusal of the first bundle, or behind
+-- the updates of its overview that of the second.
 abbrev pub Refuses : Command → Option Files → Option Files → Refusal → Type 0
 Refuses c from to refusal = IsFromRefusal c from (Refused refusal)
     ⊎ ((updates : List TileRec) × (UpdatesOf c from updates

@@ -30,17 +30,15 @@ use overview_updates::{Asked, read_overview};
 use program_ends::{Stop, ended_status};
 use std::alloc::Global;
 use std::thread::Threads;
-use tile_workers::{Coding, Gate};
+use tile_workers::{Coding, Gate, Machine};
 
 /// Reads the updates of the bundle's overview, once it was recovered and opened, and takes memory
 /// for their marks.
 fn take_overview<R: Threads + Sync, V: Volume, G: Gate>(
-    rt: &R,
-    alloc: Global,
+    machine: &Machine<'_, R, G>,
     command: Command,
     from: &mut V,
     marks: &mut Marks,
-    gate: &G,
 ) -> Result<Vec<TileRec>, Stop<Refusal>>
     requires quarter { command.quarter < 4 }
     requires workers { (1 ≤ command.workers) × (command.workers ≤ 64) }
@@ -52,7 +50,7 @@ fn take_overview<R: Threads + Sync, V: Volume, G: Gate>(
     ensures reading { OfReading (result ≡ Err Stop.Volume)
         (volume_move V.told V.history V.faults from.old from.new) }
 {
-    let session = match open_bundle(alloc, from) {
+    let session = match open_bundle(machine.alloc, from) {
         Ok(session) => session,
         Err(stop) => return Err(store_stop(stop)),
     };
@@ -65,7 +63,14 @@ fn take_overview<R: Threads + Sync, V: Volume, G: Gate>(
         quarter: command.quarter,
         coding,
     };
-    let updates = match read_overview(rt, alloc, &session, from, asked, gate) {
+    let updates = match read_overview(
+        machine.rt,
+        machine.alloc,
+        &session,
+        from,
+        asked,
+        machine.gate,
+    ) {
         Ok(updates) => updates,
         Err(stop) => return Err(overview_stop(stop)),
     };
@@ -115,14 +120,12 @@ fn put_overview<K: Sink, W: Volume>(
 
 /// Makes the overview of the one bundle, and puts it into the other.
 fn perform<R: Threads + Sync, K: Sink, V: Volume, W: Volume, G: Gate>(
-    rt: &R,
-    alloc: Global,
+    machine: &Machine<'_, R, G>,
     command: Command,
     out: &mut K,
     from: &mut V,
     to: &mut W,
     marks: &mut Marks,
-    gate: &G,
 ) -> Result<(), Stop<Refusal>>
     requires quarter { command.quarter < 4 }
     requires workers { (1 ≤ command.workers) × (command.workers ≤ 64) }
@@ -136,23 +139,21 @@ fn perform<R: Threads + Sync, K: Sink, V: Volume, W: Volume, G: Gate>(
         (record { old = V.faults from.old; new = V.faults from.new })
         (record { old = W.faults to.old; new = W.faults to.new }) }
 {
-    let updates = match take_overview(rt, alloc, command, from, marks, gate) {
+    let updates = match take_overview(machine, command, from, marks) {
         Ok(updates) => updates,
         Err(stop) => return Err(stop),
     };
-    put_overview(alloc, updates.as_slice(), out, to, marks)
+    put_overview(machine.alloc, updates.as_slice(), out, to, marks)
 }
 
 /// Does what the words say.
 fn act<R: Threads + Sync, K: Sink, V: Volume, W: Volume, G: Gate>(
-    rt: &R,
-    alloc: Global,
+    machine: &Machine<'_, R, G>,
     words: &[Word],
     out: &mut K,
     from: &mut V,
     to: &mut W,
     marks: &mut Marks,
-    gate: &G,
 ) -> Result<(), Stop<Refusal>>
     requires { marks.old.marks ≡ [] }
     ensures usage { (result ≡ Err Stop.Usage) ↔ IsNoCommand words.now }
@@ -169,7 +170,7 @@ fn act<R: Threads + Sync, K: Sink, V: Volume, W: Volume, G: Gate>(
         (sink_move K.held K.faults out.old out.new) }
 {
     match command_of(words) {
-        Some(command) => perform(rt, alloc, command, out, from, to, marks, gate),
+        Some(command) => perform(machine, command, out, from, to, marks),
         None => Err(Stop::Usage),
     }
 }
@@ -292,8 +293,9 @@ pub fn run_overview<R: Threads + Sync, K: Sink, E: Sink, V: Volume, W: Volume, G
     ensures no_other_status { (result.status ≡ 0)
         ⊎ ((stop : Stop Refusal) × (result.status ≡ status_of stop)) }
 {
+    let machine = Machine { rt, alloc, gate };
     let mut marks = Marks::new(alloc);
-    let ended = act(rt, alloc, words, out, from, to, &mut marks, gate);
+    let ended = act(&machine, words, out, from, to, &mut marks);
     let status = ended_status(USAGE, &ended, err);
     Report { status, marks }
 }

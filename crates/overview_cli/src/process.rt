@@ -32,7 +32,12 @@ pub fn serve<R: Threads + Sync, A: Arguments, K: Sink, E: Sink, V: Volume, W: Vo
     gate: &G,
 ) -> ExitCode
     ensures usage { (texts : List (List ℕ)) → A.texts args.now ≡ Some texts
-        → IsNoCommand (drop 3 texts) → (exit_status result ≡ 1) ⊎ (exit_status result ≡ 6) }
+        → IsNoCommand (drop 3 texts) → (exit_status result ≡ 1)
+        ⊎ IsUnread (exit_status result)
+        (volume_move V.told V.history V.faults from.old from.new)
+        (volume_move W.told W.history W.faults to.old to.new)
+        (sink_move K.held K.faults out.old out.new)
+        (sink_move E.held E.faults err.old err.new) }
     ensures unused { exit_status result ≡ 1
         → (out.new ≡ out.old) × (from.new ≡ from.old) × (to.new ≡ to.old)
         × GivesLine (E.held err.old) (E.held err.new) (E.faults err.old) (E.faults err.new)

@@ -5,7 +5,7 @@ ghost use Rattle.command_words.specs.Words.{IsWithin};
 ghost use Rattle.overview_cli.specs.Commands.{AreSpelled, IsSpelled};
 ghost use Rattle.overview_cli.specs.declared.words.Command.{Command};
 
-use command_words::{error_of, has_text, version_of, within, workers_of};
+use command_words::{error_of, has_text, number_within, version_of, workers_of};
 use lerc_header::Version;
 use outside_io::Word;
 
@@ -32,7 +32,7 @@ pub struct Command {
 fn quarter_of(word: &Word) -> Option<u8>
     ensures { (quarter : ℕ) → (result ≡ Some quarter) ↔ IsWithin word.now quarter 0 3 }
 {
-    match within(word, 0, LAST_QUARTER) {
+    match number_within(word, 0, LAST_QUARTER) {
         Some(quarter) => Some(quarter as u8),
         None => None,
     }
@@ -56,7 +56,7 @@ fn overview_of(quarter: &Word, version: &Word, error: &Word, workers: &Word) -> 
 }
 
 /// The command of a name and four words.
-fn named(
+fn with_four(
     name: &Word,
     quarter: &Word,
     version: &Word,
@@ -78,7 +78,7 @@ pub fn command_of(words: &[Word]) -> Option<Command>
 {
     match words {
         [name, quarter, version, error, workers] => {
-            named(name, quarter, version, error, workers)
+            with_four(name, quarter, version, error, workers)
         }
         _ => None,
     }

@@ -1,5 +1,5 @@
-//! A test of runs of the program over volumes in memory, by `run_overview`: a gate, which is no case
-//! of a table. It stands apart from the libraries so that each is proved once.
+//! Tests of runs of the program over volumes in memory, by `run_overview`: gates, which are no
+//! cases of tables. They stand apart from the libraries so that each is proved once.
 #![tactic(auto)]
 
 #[cfg(test)]

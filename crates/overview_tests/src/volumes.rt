@@ -23,7 +23,7 @@ pub(crate) fn empty(rt: &impl Abort, alloc: Global) -> MemVolume {
     let bundle = Start::new(0, Vec::new(alloc));
     let journal = Start::new(0, Vec::new(alloc));
     let failing = Vec::new(alloc);
-    MemVolume::new(alloc, bundle, journal, failing, None, 300, 600_000).expect(rt, "memory")
+    MemVolume::new(alloc, bundle, journal, failing, None, 2000, 600_000).expect(rt, "memory")
 }
 
 /// Puts one tile, once the volume is recovered.

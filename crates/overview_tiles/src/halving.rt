@@ -66,8 +66,8 @@ fn means(counts: &[u8], sums: &[i64], depth: usize, d: usize, place: usize, out:
     }
 }
 
-/// Gives the valid ones among `count` pixels from number `place` on their means at each depth. The room
-/// for one depth of them is lent.
+/// Gives the valid ones among `count` pixels from number `place` on their means at each depth. The
+/// room for one depth of them is lent.
 fn fill_depths(
     raster: &mut Raster,
     counts: &[u8],

@@ -67,7 +67,8 @@ fn add_values(values: &[i64], base: usize, col: usize, depth: usize, d: usize, s
     requires depths { depth ≤ 65536 }
     requires room { (i : ℕ) → i < length values.now
         → in_row base col i * depth + d < length sums.old }
-    requires small { (i : ℕ) → i < length values.now → IsWithin 4294967296 (get_or values.now i (pos 0)) }
+    requires small { (i : ℕ) → i < length values.now
+        → IsWithin 4294967296 (get_or values.now i (pos 0)) }
     requires within { (t : ℕ) → t * depth + d < length sums.old
         → IsWithin 1152921504606846976 (get_or sums.old (t * depth + d) (pos 0)) }
     ensures { GrowsSums depth d (in_row base col) (values_amount values.now) (length values.now)
@@ -78,8 +79,8 @@ fn add_values(values: &[i64], base: usize, col: usize, depth: usize, d: usize, s
     }
 }
 
-/// Adds the values of `count` pixels of a row to their sums at each depth. The room for one depth of
-/// them is lent.
+/// Adds the values of `count` pixels of a row to their sums at each depth. The room for one depth
+/// of them is lent.
 fn lay_values(
     raster: &Raster,
     frame: Frame,

@@ -5,24 +5,9 @@
 
 use outside_io::{FileVolume, NoVolume, StdSink, hold_numbers};
 use overview_cli::serve;
-use program_ends::{Paths, ProcessArguments, end_without_memory, paths_at};
-use std::alloc::{AllocError, Global};
+use program_ends::{ProcessArguments, end_without_memory, two_paths_at};
 use std::process::ExitCode;
 use tile_workers::Open;
-
-/// The paths of both bundles. None where one of the first two words says no path.
-fn both_paths<R: std::env::Env>(
-    alloc: Global,
-    args: &ProcessArguments<'_, R>,
-) -> Result<Option<(Paths, Paths)>, AllocError> {
-    let Some(from) = paths_at(alloc, args, 1)? else {
-        return Ok(None);
-    };
-    let Some(to) = paths_at(alloc, args, 2)? else {
-        return Ok(None);
-    };
-    Ok(Some((from, to)))
-}
 
 fn main(rt: HostRuntime) -> ExitCode {
     let alloc = rt.alloc();
@@ -31,10 +16,10 @@ fn main(rt: HostRuntime) -> ExitCode {
     let args = ProcessArguments::new(&rt);
     let mut out = StdSink::new(rt.stdout());
     let mut err = StdSink::new(rt.stderr());
-    match both_paths(alloc, &args) {
-        Ok(Some((from, to))) if held.is_some() => {
-            let mut from = FileVolume::new(rt, from.bundle, from.journal);
-            let mut to = FileVolume::new(rt, to.bundle, to.journal);
+    match two_paths_at(alloc, &args, 1, 2) {
+        Ok(Some(paths)) if held.is_some() => {
+            let mut from = FileVolume::new(rt, paths.from.bundle, paths.from.journal);
+            let mut to = FileVolume::new(rt, paths.to.bundle, paths.to.journal);
             serve(
                 &rt, alloc, &args, &mut out, &mut err, &mut from, &mut to, &Open,
             )

@@ -16,7 +16,7 @@ use Rattle.overview_updates.specs.Overview.{IsQuarter, has_quarter, place_of, qu
 use Rattle.overview_updates.specs.Refusals.{FourStops, IsFirstQuarter, IsTooDeep, PlaceStops, QuarterStops, ReadFails}
 use Rattle.overview_updates.specs.declared.stop.OverviewStop.{OverviewStop}
 use Rattle.overview_updates.specs.declared.stop.OverviewStop.TheVariants.{Beyond, BadTile, Unlike, DepthNeedsV4, TileTooLarge, KeptTooMuch, Volume, OutOfMemory}
-use Rattle.overview_updates.specs.declared.places.Ending.{Ending}
+use Rattle.overview_updates.specs.declared.places.Next.{Next}
 use Rattle.overview_updates.specs.declared.places.Waiting.{Waiting}
 use Rattle.overview_updates.specs.inside.SoFar.{Follows, IsHalfOf, waits_of}
 
@@ -191,14 +191,14 @@ refused_there bundle v a b OutOfMemory row col fails well room stops = absurd (r
 -- ---- a stop of reading that waits
 
 -- it is of a place with a coarse tile
-pub waits_follow : (bundle : List ℕ) (quarter : ℕ) (v : Version) (before after : Waiting) (stop : OverviewStop) (r : Result Ending OverviewStop) → r ≡ waits_of stop → before.place < 4096 → ReadFails stop → PlaceStops bundle v (place_of before.place) stop
-    → IfOk r (λ ending. Follows bundle quarter v before after ending)
+pub waits_follow : (bundle : List ℕ) (quarter : ℕ) (v : Version) (before after : Waiting) (stop : OverviewStop) (r : Result Next OverviewStop) → r ≡ waits_of stop → before.place < 4096 → ReadFails stop → PlaceStops bundle v (place_of before.place) stop
+    → IfOk r (λ next. Follows bundle quarter v before after next)
 waits_follow bundle quarter v before after stop r is below fails stops =
     let row : before.place / 64 < 64 = omega (arith, below) in
     let col : before.place % 64 < 64 = omega arith in
-    subst (λ (u : Result Ending OverviewStop). IfOk u (λ ending. Follows bundle quarter v before after ending)) (sym is) (by stop row col fails stops)
+    subst (λ (u : Result Next OverviewStop). IfOk u (λ next. Follows bundle quarter v before after next)) (sym is) (by stop row col fails stops)
   where
-    by : (s : OverviewStop) → before.place / 64 < 64 → before.place % 64 < 64 → ReadFails s → PlaceStops bundle v (place_of before.place) s → IfOk (waits_of s) (λ ending. Follows bundle quarter v before after ending)
+    by : (s : OverviewStop) → before.place / 64 < 64 → before.place % 64 < 64 → ReadFails s → PlaceStops bundle v (place_of before.place) s → IfOk (waits_of s) (λ next. Follows bundle quarter v before after next)
     by (Beyond slot entry got) row col f p = (refused_there bundle v (before.place / 64) (before.place % 64) (Beyond slot entry got) row col f (λ e. let no : ⊥ = cc in no) (λ e. let no : ⊥ = cc in no) p, p)
     by (BadTile slot fault) row col f p = (refused_there bundle v (before.place / 64) (before.place % 64) (BadTile slot fault) row col f (λ e. let no : ⊥ = cc in no) (λ e. let no : ⊥ = cc in no) p, p)
     by (Unlike slot) row col f p = (refused_there bundle v (before.place / 64) (before.place % 64) (Unlike slot) row col f (λ e. let no : ⊥ = cc in no) (λ e. let no : ⊥ = cc in no) p, p)

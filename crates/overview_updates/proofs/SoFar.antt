@@ -16,7 +16,7 @@ use Rattle.tile_updates.proofs.Passing.{none_pass}
 use Rattle.tile_updates.proofs.SoFar.{all_fit_of, pass_join, updates_join}
 use Rattle.overview_updates.specs.Overview.{IsCoarse, first_places}
 use Rattle.overview_updates.specs.Updates.{IsEncodedOverview, IsOverviewUpdates}
-use Rattle.overview_updates.specs.declared.places.Ending.TheVariants.{More}
+use Rattle.overview_updates.specs.declared.places.Next.TheVariants.{More}
 use Rattle.overview_updates.specs.declared.places.Waiting.{Waiting}
 use Rattle.overview_updates.specs.declared.updates.SoFar.{SoFar}
 use Rattle.overview_updates.specs.inside.SoFar.{AreBetween, AreWaiting, IsSoFar, Steps, TakesPlace}

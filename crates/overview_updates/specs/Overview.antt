@@ -34,7 +34,8 @@ abbrev pub LiesWhole : List ℕ → ℕ → Type 0
 LiesWhole bundle slot = 0 < (entry_at bundle slot).size
     → (entry_at bundle slot).offset + (entry_at bundle slot).size ≤ length bundle
 
--- The first n of the four tiles were read from a bundle: each lies whole in it, and has these bands.
+-- The first n of the four tiles were read from a bundle: each lies whole in it, and has these
+-- bands.
 pub record AreRead (bundle : List ℕ) (a b n : ℕ) (four : Tiles) : Type 0 where
   pub first : AreFirst (tiles bundle) a b n four
   pub whole : (q : ℕ) → q < n → LiesWhole bundle (quarter_slot a b q)

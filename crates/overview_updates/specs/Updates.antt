@@ -1,5 +1,5 @@
--- The updates of an overview: for each coarse tile, in order, its slot and the blobs that are chosen
--- for its bands.
+-- The updates of an overview: for each coarse tile, in order, its slot and the blobs that are
+-- chosen for its bands.
 use Rattle.std.specs.Prelude.{◌≡◌, ℕ, List, All}
 use Rattle.lerc_header.specs.declared.header.Version.{Version}
 use Rattle.lerc_encode.specs.Encoded.{AreEncodedOnce}
@@ -8,8 +8,8 @@ use Rattle.tile_stream.specs.declared.tile.Tile.{Tile}
 use Rattle.tile_updates.specs.Updates.{AllPass, tile_bytes, updates_of}
 use Rattle.overview_updates.specs.Overview.{IsOverview}
 
--- The overview's tiles pass: the version has a place for the depths of each, and their blobs are not
--- too many bytes, each and together. These are the updates of them.
+-- The overview's tiles pass: the version has a place for the depths of each, and their blobs are
+-- not too many bytes, each and together. These are the updates of them.
 pub record IsOverviewUpdates (bundle : List ℕ) (quarter : ℕ) (v : Version) (step : ℕ)
     (updates : List TileRec) : Type 0 where
   pub coarse : List Tile

@@ -1,5 +1,5 @@
-// Laws of the definitions, for the crates above. The function does nothing: its contract is the
-// laws.
+//! Laws of overviews, for the crates above: a bundle has one list of updates or one refusal. The
+//! function does nothing: its contract is the laws.
 
 ghost use Rattle.overview_updates.specs.Laws.{OverviewOrStop, OverviewsAreOnce, StopsAreOnce};
 

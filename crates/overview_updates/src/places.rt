@@ -33,7 +33,7 @@ pub(crate) struct Waiting {
 
 /// What follows the halves that wait.
 #[derive(Clone, Copy)]
-pub(crate) enum Ending {
+pub(crate) enum Next {
     /// Places that were not looked at, or none.
     More,
     /// A coarse tile that is refused so as it is read.
@@ -42,13 +42,13 @@ pub(crate) enum Ending {
 
 /// What a stop of reading comes to: a volume that fails and want of memory are told at once, and a
 /// refusal behind the tiles before it.
-fn ending_of(stop: OverviewStop) -> Result<Ending, OverviewStop>
+fn next_of(stop: OverviewStop) -> Result<Next, OverviewStop>
     ensures { result ≡ waits_of stop }
 {
     match stop {
         OverviewStop::Volume => Err(OverviewStop::Volume),
         OverviewStop::OutOfMemory => Err(OverviewStop::OutOfMemory),
-        refusal => Ok(Ending::Refused(refusal)),
+        refusal => Ok(Next::Refused(refusal)),
     }
 }
 
@@ -73,15 +73,15 @@ fn wait_next<V: Volume>(
     vol: &mut V,
     asked: &Asked,
     waiting: &mut Waiting,
-) -> Result<Ending, OverviewStop>
+) -> Result<Next, OverviewStop>
     requires place { waiting.old.place < 4096 }
     requires few { length waiting.old.batch ≤ waiting.old.place }
     requires serving { Serving V.told V.history session.now vol.old }
     ensures steps { IfOk result
-        (λ ending. Steps asked.now.coding.version waiting.old waiting.new ending) }
-    ensures follows { IsTrue (V.told vol.old) → IfOk result (λ ending. Follows
+        (λ next. Steps asked.now.coding.version waiting.old waiting.new next) }
+    ensures follows { IsTrue (V.told vol.old) → IfOk result (λ next. Follows
         (contents Bundle (V.history vol.old)) asked.now.quarter asked.now.coding.version
-        waiting.old waiting.new ending) }
+        waiting.old waiting.new next) }
     ensures at_once { IfErr result (λ stop. IsToldAtOnce stop) }
     ensures reads { OnlyReads V.told V.history V.faults
         (IsCause (result ≡ Err OverviewStop.Volume)) vol.old vol.new }
@@ -92,15 +92,15 @@ fn wait_next<V: Volume>(
         Ok(Some(half)) => half,
         Ok(None) => {
             waiting.place += 1;
-            return Ok(Ending::More);
+            return Ok(Next::More);
         }
-        Err(stop) => return ending_of(stop),
+        Err(stop) => return next_of(stop),
     };
     let slot = coarse_slot_of(asked.quarter, row, col);
     match waiting.batch.push(slot, half) {
         Ok(()) => {
             waiting.place += 1;
-            Ok(Ending::More)
+            Ok(Next::More)
         }
         Err(_) => Err(OverviewStop::OutOfMemory),
     }
@@ -113,7 +113,7 @@ pub(crate) fn fill<V: Volume>(
     vol: &mut V,
     asked: &Asked,
     place: u16,
-) -> Result<(Waiting, Ending), OverviewStop>
+) -> Result<(Waiting, Next), OverviewStop>
     requires place { place < 4096 }
     requires serving { Serving V.told V.history session.now vol.old }
     ensures ok { IfOk result (λ r. IsFilled (V.told vol.old)
@@ -129,10 +129,10 @@ pub(crate) fn fill<V: Volume>(
     };
     while waiting.place < MOST_PLACES && !waiting.batch.is_full(asked.coding.workers) {
         match wait_next(alloc, session, vol, asked, &mut waiting) {
-            Ok(Ending::More) => {}
-            Ok(Ending::Refused(stop)) => return Ok((waiting, Ending::Refused(stop))),
+            Ok(Next::More) => {}
+            Ok(Next::Refused(stop)) => return Ok((waiting, Next::Refused(stop))),
             Err(stop) => return Err(stop),
         }
     }
-    Ok((waiting, Ending::More))
+    Ok((waiting, Next::More))
 }

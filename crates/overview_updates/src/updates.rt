@@ -13,7 +13,7 @@ ghost use Rattle.bundle_store.specs.Told.{OnlyReads};
 ghost use Rattle.bundle_store.specs.Serving.{Serving};
 
 use crate::asked::Asked;
-use crate::places::{Ending, MOST_PLACES, Waiting, fill};
+use crate::places::{MOST_PLACES, Next, Waiting, fill};
 use crate::stop::{OverviewStop, overview_stop};
 use bundle_store::{Session, TileRec};
 use outside_io::Volume;
@@ -60,7 +60,7 @@ fn add_batch<R: Threads + Sync, V: Volume, G: Gate>(
     ensures reads { OnlyReads V.told V.history V.faults
         (IsCause (result ≡ Err OverviewStop.Volume)) vol.old vol.new }
 {
-    let (waiting, ending) = match fill(alloc, session, vol, asked, done.place) {
+    let (waiting, next) = match fill(alloc, session, vol, asked, done.place) {
         Ok(filled) => filled,
         Err(stop) => return Err(stop),
     };
@@ -69,21 +69,21 @@ fn add_batch<R: Threads + Sync, V: Volume, G: Gate>(
         Ok(()) => done.place = place,
         Err(stop) => return Err(overview_stop(stop)),
     }
-    match ending {
-        Ending::More => Ok(()),
-        Ending::Refused(stop) => Err(stop),
+    match next {
+        Next::More => Ok(()),
+        Next::Refused(stop) => Err(stop),
     }
 }
 
 /// Reads the bundle that the session serves, and gives the updates of its overview, in the order of
 /// their slots: for each coarse place of which one of the four tiles is there, the slot of the
-/// quarter that is asked for, and the blobs of half of the four, in this version and with this step.
-/// Where a coarse tile is refused, nothing behind it is told.
+/// quarter that is asked for, and the blobs of half of the four, in this version and with this
+/// step. Where a coarse tile is refused, nothing behind it is told.
 ///
-/// Each tile is read and decoded once. Coarse tiles wait in batches, up to 16 for each worker or 2^24
-/// values, each of which is encoded by so many workers. Whichever their number and whatever the gate
-/// does, the answer is the same, but for a volume that fails, which is told at once, and for want of
-/// memory. The gate is that of `encode_tiles`, the tiles being numbered in their batch.
+/// Each tile is read and decoded once. Coarse tiles wait in batches, up to 16 for each worker or
+/// 2^24 values, each of which is encoded by so many workers. Whichever their number and whatever
+/// the gate does, the answer is the same, but for a volume that fails, which is told at once, and
+/// for want of memory. The gate is that of `encode_tiles`, the tiles being numbered in their batch.
 ///
 /// One mosaic and one batch of bands are kept at a time, and all the blobs, which have at most 2^30
 /// bytes together. The volume is read, and nothing is written to it.

@@ -45,7 +45,8 @@ fn grid_of(
     Ok(ascii_grid::ascii_read(alloc, &mut src, type_of(row, 1)?))
 }
 
-/// The shape of a grid, how many pixels are valid and the first pixel's value, or why there is none.
+/// The shape of a grid, how many pixels are valid and the first pixel's value, or why there is
+/// none.
 type Summary = Result<(u32, u32, u32, i64), AsciiStop>;
 
 fn summary_of(answer: Result<AsciiGrid, AsciiStop>) -> Summary {

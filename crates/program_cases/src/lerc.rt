@@ -45,8 +45,8 @@ fn is_again(last: &Option<Left>, left: &Left) -> bool {
     }
 }
 
-/// `lerc WORDS INPUT PIECES`, and `lerc_on VOLUME WORDS INPUT PIECES FAILING`, whose words of the run
-/// begin with the second.
+/// `lerc WORDS INPUT PIECES`, and `lerc_on VOLUME WORDS INPUT PIECES FAILING`, whose words of the
+/// run begin with the second.
 pub(crate) fn lerc<R: Threads + Sync>(
     rt: &R,
     alloc: Global,

@@ -8,8 +8,8 @@ use std::alloc::Global;
 use std::thread::Threads;
 use volume_rows::{Volumes, image};
 
-/// Whether a run of these words over this input, in each of three pieces, is refused as truncated at
-/// its end.
+/// Whether a run of these words over this input, in each of three pieces, is refused as truncated
+/// at its end.
 fn is_cut<R: Threads + Sync>(
     rt: &R,
     alloc: Global,

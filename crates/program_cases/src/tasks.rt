@@ -11,7 +11,8 @@ use std::thread::Threads;
 use tile_workers::Open;
 use volume_rows::Volumes;
 
-/// The words of a run, its input, the pieces of both streams and the numbers of their failing calls.
+/// The words of a run, its input, the pieces of both streams and the numbers of their failing
+/// calls.
 #[derive(Drop)]
 pub(crate) struct Task {
     pub(crate) words: Vec<Word>,

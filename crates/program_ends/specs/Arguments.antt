@@ -14,7 +14,11 @@ GivesText (Some texts) number (Err NotPresent) buf = length texts ≤ number
 GivesText (Some texts) number (Err TooLong) buf =
     IsSomeAnd (slice_get texts number) (λ text. length buf < length text)
 
--- The text names no path: there is none, it is `-`, or it is no UTF-8.
+-- The text names no path: there is none, it is empty, it is `-`, or it is no UTF-8.
 abbrev pub IsNoPath : Option (List ℕ) → Type 0
 IsNoPath None = Unit {0}
-IsNoPath (Some text) = (text ≡ codes "-") ⊎ (¬ IsUtf8 text)
+IsNoPath (Some text) = (length text ≡ 0) ⊎ ((text ≡ codes "-") ⊎ (¬ IsUtf8 text))
+
+-- Two texts name no two bundles: one names no path, or both are the same.
+abbrev pub IsNoPair : Option (List ℕ) → Option (List ℕ) → Type 0
+IsNoPair one two = IsNoPath one ⊎ (IsNoPath two ⊎ (one ≡ two))

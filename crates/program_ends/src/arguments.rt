@@ -1,3 +1,5 @@
+//! The texts of a command line.
+
 ghost use Rattle.std.specs.Prelude.{◌≡◌, ◌≤◌, ℕ, List, Option, Some, None, IfOk, IfSome, length, drop, slice_get};
 ghost use Rattle.program_ends.specs.Arguments.{GivesText};
 

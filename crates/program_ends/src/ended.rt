@@ -11,7 +11,7 @@ use outside_io::{Line, Sink, give_line};
 use std::process::ExitCode;
 
 /// A line of one text.
-fn plain(text: &[u8]) -> Line
+fn line_of_text(text: &[u8]) -> Line
     requires { length text.now ≤ 190 }
     ensures text { result ≡ text.now }
     ensures short { length result ≤ 190 }
@@ -28,11 +28,11 @@ fn text<R: Refusal>(usage: &[u8], stop: &Stop<R>) -> Line
     ensures short { length result ≤ 190 }
 {
     match stop {
-        Stop::Usage => plain(usage),
-        Stop::Source => plain(b"source failed"),
-        Stop::Output => plain(b"output failed"),
-        Stop::Volume => plain(b"volume failed"),
-        Stop::OutOfMemory => plain(b"out of memory"),
+        Stop::Usage => line_of_text(usage),
+        Stop::Source => line_of_text(b"source failed"),
+        Stop::Output => line_of_text(b"output failed"),
+        Stop::Volume => line_of_text(b"volume failed"),
+        Stop::OutOfMemory => line_of_text(b"out of memory"),
         Stop::Refused(refusal) => refusal.text(),
     }
 }
@@ -85,7 +85,7 @@ pub fn end_without_memory<E: Sink>(err: &mut E) -> ExitCode
     ensures line { GivesLine (E.held err.old) (E.held err.new) (E.faults err.old)
         (E.faults err.new) (codes "out of memory" ++ 10 ∷ []) }
 {
-    let mut line = plain(b"out of memory");
+    let mut line = line_of_text(b"out of memory");
     line.text(b"\n");
     give_line(err, &line);
     exit_code(6)

@@ -13,5 +13,5 @@ mod stop;
 
 pub use arguments::{Arguments, ProcessArguments, word_at, words_from};
 pub use ended::{end_without_memory, ended_status, exit_code, tell};
-pub use paths::{Paths, paths_at};
+pub use paths::{Paths, TwoPaths, paths_at, two_paths_at};
 pub use stop::{Refusal, Stop};

@@ -1,3 +1,5 @@
+//! Why a run stops.
+
 ghost use Rattle.std.specs.Prelude.{◌≡◌, ◌≤◌, ℕ, List, length};
 ghost use Rattle.program_ends.specs.Stop.{IsRefusalStatus, status_by};
 

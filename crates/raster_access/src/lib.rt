@@ -2,13 +2,13 @@
 //! `raster_values`, `raster_cells` and `lane_kernels`.
 //!
 //! The contract that the layers above use: the clauses of `Raster` on the calls that fill a raster
-//! whose mask stands, over the raster that a target keeps, and on the calls that encoding makes, over
-//! the raster that a view shows.
+//! whose mask stands, over the raster that a target keeps, and on the calls that encoding makes,
+//! over the raster that a view shows.
 #![tactic(auto)]
 
-mod lent;
 mod raster;
-mod seen;
+mod raster_mut;
+mod raster_ref;
 mod target;
 mod view;
 

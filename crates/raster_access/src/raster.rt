@@ -5,6 +5,7 @@ ghost use Rattle.raster_values.specs.Raster.{Pixels};
 
 use crate::target::Target;
 use crate::view::View;
+use raster_cells::ValueSource;
 use raster_values::{PixelType, Raster, Run};
 
 impl Target for Raster {
@@ -46,30 +47,12 @@ impl Target for Raster {
         Raster::values_from(self, place, d, out);
     }
 
-    fn pour_block(&mut self, row: u32, col: u32, side: u32, d: u32, values: &[i64]) {
-        Raster::pour_block(self, row, col, side, d, values);
-    }
-
-    fn pour_steps(
-        &mut self,
-        row: u32,
-        col: u32,
-        side: u32,
-        d: u32,
-        offset: i64,
-        step: i64,
-        top: i64,
-        numbers: &[u32],
-    ) {
-        Raster::pour_steps(self, row, col, side, d, offset, step, top, numbers);
+    fn scatter_given<G: ValueSource>(&mut self, row: u32, col: u32, side: u32, d: u32, given: &G) {
+        Raster::scatter_given(self, row, col, side, d, given);
     }
 
     fn put_from(&mut self, place: usize, d: u32, values: &[i64]) {
         Raster::put_from(self, place, d, values);
-    }
-
-    fn fill_valid(&mut self, values: &[i64]) {
-        Raster::fill_valid(self, values);
     }
 
     fn fill_value(&mut self, value: i64) {
@@ -80,8 +63,8 @@ impl Target for Raster {
         Raster::fill_bytes(self, bytes);
     }
 
-    fn pour(&mut self, bytes: &[u8]) {
-        Raster::pour(self, bytes);
+    fn scatter(&mut self, bytes: &[u8]) {
+        Raster::scatter(self, bytes);
     }
 }
 

@@ -4,11 +4,12 @@ ghost use Rattle.std.specs.Prelude.{◌≡◌, ◌+◌, ◌*◌, ◌<◌, ◌≤
 ghost use Rattle.lane_kernels.specs.Kernels.{IsStepSize, capped_sums};
 ghost use Rattle.raster_cells.specs.PixelType.{InRange, bytes_of};
 ghost use Rattle.raster_values.specs.Raster.{Pixels, IsRaster, InShape, valid_count};
-ghost use Rattle.raster_values.specs.Block.{block_count, PoursBlock};
-ghost use Rattle.raster_values.specs.Order.{FillsBytes, FillsValid, PoursBytes};
+ghost use Rattle.raster_values.specs.Block.{block_count, ScattersBlock};
+ghost use Rattle.raster_values.specs.Order.{FillsBytes, FillsValid, ScattersBytes};
 ghost use Rattle.raster_values.specs.Flat.{PutsFrom, marks_of, value_in};
 ghost use Rattle.raster_cells.specs.MarkRuns.{AreRuns};
 
+use raster_cells::ValueSource;
 use raster_values::{PixelType, Run};
 
 /// A raster whose type, shape and mask stand, and whose valid pixels are given their values,
@@ -57,15 +58,17 @@ pub trait Target {
         ensures marks { (i : ℕ) → i < length out.old → get_or out.new i false
             ≡ is_some (get_or (pixels self.now).pixels (place + i) None) };
 
-    /// The next run of valid pixels from number `place` on, before number `limit`, whole. It is empty,
-    /// and at `limit`, where there is none.
+    /// The next run of valid pixels from number `place` on, before number `limit`, whole. It is
+    /// empty, and at `limit`, where there is none.
     fn next_run(&self, place: usize, limit: usize) -> Run
         requires order { place ≤ limit }
         requires within { limit ≤ (pixels self.now).rows * (pixels self.now).cols }
         ensures runs { AreRuns (marks_of (pixels self.now)) place result.start result.end }
         ensures within { result.end ≤ limit }
-        ensures begins { result.start < limit → get_or (marks_of (pixels self.now)) result.start false ≡ true }
-        ensures ends { result.end < limit → get_or (marks_of (pixels self.now)) result.end false ≡ false }
+        ensures begins { result.start < limit
+            → get_or (marks_of (pixels self.now)) result.start false ≡ true }
+        ensures ends { result.end < limit
+            → get_or (marks_of (pixels self.now)) result.end false ≡ false }
         ensures forth { place < limit → place < result.end };
 
     /// The values at a depth of the pixels from number `place` on, 0 of invalid ones.
@@ -76,37 +79,15 @@ pub trait Target {
         ensures values { (i : ℕ) → i < length out.old → get_or out.new i (pos 0)
             ≡ value_in (pixels self.now) d (place + i) };
 
-    /// Gives the valid pixels of a block these values at a depth, row by row. All else stays.
-    fn pour_block(&mut self, row: u32, col: u32, side: u32, d: u32, values: &[i64])
+    /// Gives the valid pixels of a block the values that are given, at a depth, row by row. All
+    /// else stays.
+    fn scatter_given<G: ValueSource>(&mut self, row: u32, col: u32, side: u32, d: u32, given: &G)
         requires place { InShape (pixels self.old) row col }
         requires depth { d < (pixels self.old).depth }
-        requires count { length values.now ≡ block_count (pixels self.old) row col side }
-        requires in_range { All (InRange (pixels self.old).kind) values.now }
-        ensures poured { PoursBlock (pixels self.old) (pixels self.new) row col side d values.now }
-        ensures sound { IsRaster (pixels self.new) }
-        ensures kept { kept self.new ≡ kept self.old };
-
-    /// Gives the valid pixels of a block the sums of an offset and numbers of steps, none above
-    /// `top`, at a depth, row by row. All else stays.
-    fn pour_steps(
-        &mut self,
-        row: u32,
-        col: u32,
-        side: u32,
-        d: u32,
-        offset: i64,
-        step: i64,
-        top: i64,
-        numbers: &[u32],
-    )
-        requires place { InShape (pixels self.old) row col }
-        requires depth { d < (pixels self.old).depth }
-        requires count { length numbers.now ≡ block_count (pixels self.old) row col side }
-        requires offset { InRange (pixels self.old).kind offset }
-        requires top { InRange (pixels self.old).kind top }
-        requires step { IsStepSize step }
-        ensures poured { PoursBlock (pixels self.old) (pixels self.new) row col side d
-            (capped_sums (map pos numbers.now) offset step top) }
+        requires count { length (G.listed given.now) ≡ block_count (pixels self.old) row col side }
+        requires in_range { All (InRange (pixels self.old).kind) (G.listed given.now) }
+        ensures scattered { ScattersBlock (pixels self.old) (pixels self.new) row col side d
+            (G.listed given.now) }
         ensures sound { IsRaster (pixels self.new) }
         ensures kept { kept self.new ≡ kept self.old };
 
@@ -121,14 +102,6 @@ pub trait Target {
         ensures sound { IsRaster (pixels self.new) }
         ensures kept { kept self.new ≡ kept self.old };
 
-    /// Gives each valid pixel this list of values, one for each depth. All else stays.
-    fn fill_valid(&mut self, values: &[i64])
-        requires count { length values.now ≡ (pixels self.old).depth }
-        requires in_range { All (InRange (pixels self.old).kind) values.now }
-        ensures filled { FillsValid (pixels self.old) (pixels self.new) values.now }
-        ensures sound { IsRaster (pixels self.new) }
-        ensures kept { kept self.new ≡ kept self.old };
-
     /// Gives each valid pixel this one value at each depth. All else stays.
     fn fill_value(&mut self, value: i64)
         requires in_range { InRange (pixels self.old).kind value }
@@ -140,17 +113,18 @@ pub trait Target {
     /// Gives each valid pixel the list of values that the bytes stand for, one for each depth. All
     /// else stays.
     fn fill_bytes(&mut self, bytes: &[u8])
-        requires size { length bytes.now ≡ (pixels self.old).depth * bytes_of (pixels self.old).kind }
+        requires size { length bytes.now
+            ≡ (pixels self.old).depth * bytes_of (pixels self.old).kind }
         ensures filled { FillsBytes (pixels self.old) (pixels self.new) bytes.now }
         ensures sound { IsRaster (pixels self.new) }
         ensures kept { kept self.new ≡ kept self.old };
 
     /// Gives the valid pixels the values that the bytes stand for, pixel by pixel and depth
     /// innermost. All else stays.
-    fn pour(&mut self, bytes: &[u8])
+    fn scatter(&mut self, bytes: &[u8])
         requires size { length bytes.now ≡ valid_count (pixels self.old)
             * (pixels self.old).depth * bytes_of (pixels self.old).kind }
-        ensures poured { PoursBytes (pixels self.old) (pixels self.new) bytes.now }
+        ensures scattered { ScattersBytes (pixels self.old) (pixels self.new) bytes.now }
         ensures sound { IsRaster (pixels self.new) }
         ensures kept { kept self.new ≡ kept self.old };
 }

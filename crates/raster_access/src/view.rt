@@ -54,7 +54,8 @@ pub trait View {
         ensures count { result ≡ block_count (pixels self.now) row col side }
         ensures within { result ≤ side * side }
         ensures distances { out.new
-            ≡ map (distance_of (pixels self.now).kind) (block_values (pixels self.now) row col side d)
+            ≡ map (distance_of (pixels self.now).kind)
+            (block_values (pixels self.now) row col side d)
             ++ drop (block_count (pixels self.now) row col side) out.old };
 
     /// The least and the greatest value of the valid pixels at a depth, in this order; None exactly
@@ -83,8 +84,8 @@ pub trait View {
             ≡ value_in (pixels self.now) d (place + i) };
 
     /// Puts the values at a depth of the valid ones among `count` pixels from number `place` on in
-    /// front of `out`, in order and each by how far it is above the type's least, and answers how many
-    /// these are. The rest of `out` stays.
+    /// front of `out`, in order and each by how far it is above the type's least, and answers how
+    /// many these are. The rest of `out` stays.
     fn gather_from(&self, place: usize, count: usize, d: u32, out: &mut [u32]) -> usize
         requires place { place + count ≤ (pixels self.now).rows * (pixels self.now).cols }
         requires depth { d < (pixels self.now).depth }
@@ -92,11 +93,12 @@ pub trait View {
         ensures count { result ≡ length (valid_from (pixels self.now) place count) }
         ensures within { result ≤ count }
         ensures distances { out.new
-            ≡ map (distance_of (pixels self.now).kind) (values_among (pixels self.now) d place count)
+            ≡ map (distance_of (pixels self.now).kind)
+            (values_among (pixels self.now) d place count)
             ++ drop result out.old };
 
-    /// The marks of `count` pixels from number `place` on, at most 32, as the bits of one number, the
-    /// first as the highest.
+    /// The marks of `count` pixels from number `place` on, at most 32, as the bits of one number,
+    /// the first as the highest.
     fn mark_word(&self, place: usize, count: usize) -> u32
         requires some { 0 < count }
         requires few { count ≤ 32 }
@@ -116,9 +118,9 @@ pub trait View {
         requires { length out.old ≡ ((pixels self.now).rows * (pixels self.now).cols + 7) / 8 }
         ensures { IsMaskOf (pixels self.now) out.new };
 
-    /// The bytes of the mask where they lie, of a raster of which not every pixel is valid: a bit for
-    /// each pixel, row by row and the highest of each byte first, 1 for a valid one. The bits behind
-    /// the last pixel, which are fewer than eight, are any.
+    /// The bytes of the mask where they lie, of a raster of which not every pixel is valid: a bit
+    /// for each pixel, row by row and the highest of each byte first, 1 for a valid one. The bits
+    /// behind the last pixel, which are fewer than eight, are any.
     fn mask_slice(&self) -> &[u8]
         requires { valid_count (pixels self.now)
             < (pixels self.now).rows * (pixels self.now).cols }
@@ -127,8 +129,8 @@ pub trait View {
         ensures bits { (k : ℕ) → k < (pixels self.now).rows * (pixels self.now).cols
             → mask_bit result.now k ≡ is_some (get_or (pixels self.now).pixels k None) };
 
-    /// The bytes of the values of all pixels, row by row and depth innermost, as they lie in memory,
-    /// of a raster of which every pixel is valid.
+    /// The bytes of the values of all pixels, row by row and depth innermost, as they lie in
+    /// memory, of a raster of which every pixel is valid.
     fn cells(&self) -> &[u8]
         requires { valid_count (pixels self.now)
             ≡ (pixels self.now).rows * (pixels self.now).cols }

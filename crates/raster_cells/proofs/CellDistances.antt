@@ -8,14 +8,14 @@ use Rattle.std.specs.List.{range_with_len}
 use Rattle.byteorder.specs.Endian.{little_number}
 use Rattle.lane_kernels.specs.Kernels.{IsLeast, IsGreatest}
 use Rattle.raster_cells.specs.declared.values.cell_bytes.CellBytes.TheInside.{Inside}
-use Rattle.raster_cells.specs.inside.CellList.{CellList, values_in}
+use Rattle.raster_cells.specs.CellList.{CellList, values_in}
 use Rattle.raster_cells.specs.declared.kind.PixelType.{PixelType}
 use Rattle.raster_cells.specs.PixelType.{bytes_of, value_of, InRange}
-use Rattle.raster_cells.specs.inside.LentBytes.{AreHeld}
+use Rattle.raster_cells.specs.LentBytes.{AreHeld}
 use Rattle.raster_cells.specs.Distance.{distance_of, value_above}
 use Rattle.raster_cells.proofs.CellRuns.{length-values_in}
 use Rattle.raster_cells.proofs.Spelled.{value_in-at}
-use Rattle.raster_cells.specs.inside.Runs.{AreEnds}
+use Rattle.raster_cells.specs.Runs.{AreEnds}
 use Rattle.raster_cells.proofs.Distances.{value_back}
 use Rattle.raster_cells.proofs.Ranges.{least_of_one, greatest_of_one, least_pushed, greatest_pushed}
 
@@ -27,6 +27,10 @@ place_below {count} {depth} first some deep within =
 -- the values that the bytes stand for
 abbrev pub held : Inside → CellList
 held a = record { kind = a.kind; values = values_in a.kind a.count a.bytes.now }
+
+-- they are no more than a raster has
+pub few_there : (a : Inside) (l : CellList) → AreHeld a.kind a.count a.bytes.now → held a ≡ l → length l.values ≤ 16777216
+few_there a l h seen = subst (λ (c : CellList). length c.values ≤ 16777216) seen (omega (arith, h.counted, h.few))
 
 -- the bytes of a value lie within those of all
 pub bytes_within : (a : Inside) (l : CellList) (kind : PixelType) (at : ℕ) → AreHeld a.kind a.count a.bytes.now → held a ≡ l → kind ≡ l.kind → at < length l.values

@@ -9,14 +9,14 @@ use borrow.Rule.Slice.PartMut.{put_mid}
 use Rattle.byteorder.specs.Endian.{little_number}
 use Rattle.raster_cells.specs.declared.kind.PixelType.{PixelType}
 use Rattle.raster_cells.specs.PixelType.{bytes_of, value_of, value_bytes, InRange}
-use Rattle.raster_cells.specs.inside.CellList.{values_in}
+use Rattle.raster_cells.specs.CellList.{values_in}
 use Rattle.raster_cells.specs.Values.{values_bytes}
 use Rattle.raster_cells.proofs.Pack.{length-value_bytes, length-values_bytes, put_back}
 use Rattle.raster_cells.proofs.SpelledBack.{spelled_back}
 use Rattle.raster_cells.specs.declared.values.cells.Cells.TheInside.{Inside}
 use Rattle.raster_cells.specs.inside.CellView.{listed, IsCells}
 use Rattle.raster_cells.specs.declared.kind.PixelType.TheVariants.{I8, U8, I16, U16, I32, U32}
-use Rattle.raster_cells.specs.inside.Cleared.{cleared}
+use Rattle.raster_cells.specs.Cleared.{cleared}
 use Rattle.raster_cells.proofs.ValueBits.{zero_in_range}
 
 pub length-values_in : (kind : PixelType) (n : ℕ) (bytes : List ℕ) → length (values_in kind n bytes) ≡ n

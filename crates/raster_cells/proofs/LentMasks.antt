@@ -4,7 +4,7 @@ use Rattle.std.proofs.lemmas.Bool.{eq-eqb, ne_eqb, cases_eq, cases_lt}
 use Rattle.std.proofs.lemmas.List.{length-replicate, get_or_past, ext_get_or, get_or-replicate}
 use Rattle.std.specs.Prelude.{count_by}
 use Rattle.raster_cells.specs.Masks.{marks_in, mask_bit}
-use Rattle.raster_cells.specs.inside.LentMask.{marks_with, AreMarksWith, AreBits}
+use Rattle.raster_cells.specs.LentMask.{marks_with, AreMarksWith, AreBits}
 use Rattle.raster_cells.proofs.MaskBits.{length-marks_in, count_of_all, get_or-marks_in}
 use Rattle.raster_cells.proofs.MaskCounts.{all_set}
 

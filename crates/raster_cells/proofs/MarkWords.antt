@@ -14,7 +14,7 @@ use Rattle.byteorder.specs.Numbers.{big_from-lt}
 use Rattle.raster_cells.proofs.Spelled.{AreBytes}
 use Rattle.raster_cells.specs.Words.{word_bit, AreMarks}
 use Rattle.raster_cells.specs.Masks.{mask_bit}
-use Rattle.raster_cells.specs.inside.Runs.{run_places}
+use Rattle.raster_cells.specs.Runs.{run_places}
 use Rattle.raster_cells.proofs.MaskCounts.{ones_of, same_count}
 
 -- ---- bytes as one number

@@ -11,7 +11,7 @@ use Rattle.std.proofs.Math.Seq.{drop-append-add}
 use Rattle.raster_cells.specs.Masks.{mask_bit}
 use Rattle.raster_cells.specs.inside.Bits.{byte_bit, bit_after}
 use Rattle.raster_cells.proofs.MaskCounts.{ones_of, count_step, same_count, range_join, bit_after_none}
-use Rattle.raster_cells.specs.inside.MarkBytes.{mark_bytes}
+use Rattle.raster_cells.specs.MarkBytes.{mark_bytes}
 
 -- ---- bits counted
 

@@ -10,7 +10,7 @@ use Rattle.byteorder.specs.Numbers.{length-bytes_low_first}
 use Rattle.raster_cells.specs.declared.kind.PixelType.{PixelType}
 use Rattle.raster_cells.specs.PixelType.{bytes_of, value_bytes, complement_of}
 use Rattle.raster_cells.specs.Values.{values_bytes}
-use Rattle.raster_cells.specs.inside.MarkBytes.{mark_bytes}
+use Rattle.raster_cells.specs.MarkBytes.{mark_bytes}
 
 -- ---- writes into a buffer
 

@@ -5,7 +5,7 @@ use Rattle.std.specs.Prelude.{ℤ, pos}
 use Rattle.std.proofs.lemmas.List.{get_or-set_same, get_or-set_other}
 use Rattle.std.proofs.lemmas.Bool.{cases_eq, cases_lt}
 use Rattle.std.proofs.lemmas.Nat.{same_from_place}
-use Rattle.raster_cells.specs.inside.Ordered.{PutsPixels, FillsPixels}
+use Rattle.raster_cells.specs.Ordered.{PutsPixels, FillsPixels}
 use Rattle.raster_cells.proofs.CellRuns.{with_run}
 use Rattle.raster_cells.proofs.WholeRuns.{with_run_at, with_run_before, with_run_after}
 

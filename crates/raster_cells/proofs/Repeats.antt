@@ -10,7 +10,7 @@ use Rattle.raster_cells.proofs.CellRuns.{with_run, length-with_run, with_run_in_
 use Rattle.raster_cells.specs.declared.kind.PixelType.{PixelType}
 use Rattle.raster_cells.specs.PixelType.{InRange, bytes_of, value_bytes}
 use Rattle.raster_cells.specs.Values.{values_bytes}
-use Rattle.raster_cells.specs.inside.Ordered.{FillsPixels}
+use Rattle.raster_cells.specs.Ordered.{FillsPixels}
 use Rattle.raster_cells.proofs.PixelSteps.{fills_one_more}
 use Rattle.raster_cells.proofs.WholeRuns.{with_run_at, with_run_before, with_run_after}
 

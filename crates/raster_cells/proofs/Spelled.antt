@@ -15,7 +15,7 @@ use Rattle.raster_cells.specs.PixelType.{complement_of, bytes_of, value_of, InRa
 use Rattle.raster_cells.specs.declared.kind.PixelType.{PixelType}
 use Rattle.raster_cells.specs.declared.kind.PixelType.TheVariants.{I8, U8, I16, U16, I32, U32}
 use Rattle.raster_cells.specs.Values.{values_bytes, WrittenValuesStand, ValuesAreOnce, AreValues, ValuesAreThere}
-use Rattle.raster_cells.specs.inside.CellList.{values_in}
+use Rattle.raster_cells.specs.CellList.{values_in}
 use Rattle.raster_cells.proofs.CellRuns.{length-values_in, value_there, with_run, length-with_run, with_run_in_range, bytes_front, bytes_behind}
 use Rattle.raster_cells.proofs.Pack.{length-values_bytes}
 

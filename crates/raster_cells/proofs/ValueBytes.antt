@@ -4,8 +4,8 @@ use Rattle.std.specs.Prelude.{ℤ, All}
 use Rattle.raster_cells.specs.declared.kind.PixelType.{PixelType}
 use Rattle.raster_cells.specs.PixelType.{InRange, bytes_of}
 use Rattle.raster_cells.specs.Values.{values_bytes}
-use Rattle.raster_cells.specs.inside.CellList.{values_in}
-use Rattle.raster_cells.specs.inside.LentBytes.{AreValueBytes, AreHeld}
+use Rattle.raster_cells.specs.CellList.{values_in}
+use Rattle.raster_cells.specs.LentBytes.{AreValueBytes, AreHeld}
 use Rattle.raster_cells.proofs.CellRuns.{values_is, length-values_in}
 use Rattle.raster_cells.proofs.Spelled.{AreBytes, bytes_of_values, values_fit}
 use Rattle.raster_cells.proofs.Pack.{length-values_bytes}

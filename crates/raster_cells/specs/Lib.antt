@@ -1,9 +1,17 @@
 -- What contracts of this crate cite.
 pub use Rattle.byteorder.specs.Endian
+pub mod CellList
+pub mod Cleared
 pub mod Distance
+pub mod LentBytes
+pub mod LentMask
+pub mod Listed
+pub mod MarkBytes
 pub mod MarkRuns
 pub mod Masks
+pub mod Ordered
 pub mod PixelType
+pub mod Runs
 pub mod Shapes
 pub mod Step
 pub mod Values

@@ -15,6 +15,39 @@ pub enum PixelType {
     U32,
 }
 
+/// Does the same for each type, so that the loop in it is made once for each.
+#[macro_export]
+macro_rules! by_kind {
+    ($kind:expr, $name:ident => $work:expr) => {
+        match $kind {
+            $crate::PixelType::I8 => {
+                let $name = $crate::PixelType::I8;
+                $work
+            }
+            $crate::PixelType::U8 => {
+                let $name = $crate::PixelType::U8;
+                $work
+            }
+            $crate::PixelType::I16 => {
+                let $name = $crate::PixelType::I16;
+                $work
+            }
+            $crate::PixelType::U16 => {
+                let $name = $crate::PixelType::U16;
+                $work
+            }
+            $crate::PixelType::I32 => {
+                let $name = $crate::PixelType::I32;
+                $work
+            }
+            $crate::PixelType::U32 => {
+                let $name = $crate::PixelType::U32;
+                $work
+            }
+        }
+    };
+}
+
 impl PixelType {
     /// The number by which blobs and grids name the type, from 0 for `I8` to 5 for `U32`.
     pub fn code(self) -> u8

@@ -2,6 +2,8 @@
 
 pub mod byte_runs;
 pub(crate) mod cell_bytes;
+pub(crate) mod cell_store;
 pub(crate) mod cells;
-pub(crate) mod given;
-pub(crate) mod valued;
+pub(crate) mod pixels_from;
+pub(crate) mod value_bytes;
+pub(crate) mod value_source;

@@ -11,9 +11,9 @@ use Rattle.raster_cells.specs.Masks.{count_of}
 use Rattle.raster_cells.specs.Shapes.{IsShape}
 use Rattle.raster_cells.specs.declared.kind.PixelType.{PixelType}
 use Rattle.raster_cells.specs.PixelType.{InRange}
-use Rattle.raster_cells.specs.inside.CellList.{CellList}
-use Rattle.raster_values.specs.inside.Ordered.{ChangesMarked}
-use Rattle.raster_values.specs.inside.View.{AreVectors, pixels_of, raster_of, IsInside}
+use Rattle.raster_cells.specs.CellList.{CellList}
+use Rattle.raster_values.specs.Ordered.{ChangesMarked}
+use Rattle.raster_values.specs.View.{AreVectors, pixels_of, raster_of, IsInside}
 use Rattle.raster_cells.proofs.ValueBits.{zero_in_range}
 use Rattle.raster_cells.specs.Values.{AreValues, values_bytes}
 use Rattle.raster_values.specs.declared.rasters.raster.Raster.TheInside.{Inside}

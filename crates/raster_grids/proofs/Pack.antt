@@ -4,11 +4,11 @@ use Rattle.std.proofs.lemmas.List.{length-map, take_at, length-take-le, length-d
 use Rattle.std.proofs.Math.Seq.{take-add}
 use Rattle.std.specs.Prelude.{ℤ}
 use Rattle.std.proofs.lemmas.Grind.{flat_map-append}
-use Rattle.raster_cells.specs.inside.MarkBytes.{mark_bytes}
+use Rattle.raster_cells.specs.MarkBytes.{mark_bytes}
 use Rattle.outside_io.specs.streams.Sink.{Holds, HoldsPrefix}
 use Rattle.outside_io.proofs.StreamLemmas.Gives.{Holds_join, HoldsPrefix_front, HoldsPrefix_join}
 use Rattle.raster_values.specs.Raster.{mark_of, values_of}
-use Rattle.raster_values.specs.inside.View.{pixels_of}
+use Rattle.raster_values.specs.View.{pixels_of}
 use Rattle.raster_cells.specs.declared.kind.PixelType.{PixelType}
 use Rattle.raster_cells.specs.PixelType.{value_bytes}
 use Rattle.raster_cells.specs.Values.{values_bytes}

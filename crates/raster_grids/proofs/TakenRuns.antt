@@ -6,15 +6,15 @@ use Rattle.std.proofs.lemmas.List.{length-append, length-drop, length-take-le, t
 use Rattle.std.proofs.lemmas.List.Sums.{sum_by-cons}
 use Rattle.std.proofs.Math.Nat.{mul-le-mul}
 use Rattle.raster_cells.specs.declared.kind.PixelType.{PixelType}
-use Rattle.raster_cells.specs.inside.CellList.{CellList}
+use Rattle.raster_cells.specs.CellList.{CellList}
 use Rattle.raster_grids.specs.inside.TakenRun.{PutsRun, TakesRun}
 use Rattle.raster_cells.proofs.Spelled.{bytes_put, few_bytes}
 use Rattle.raster_cells.specs.PixelType.{bytes_of}
-use Rattle.raster_values.specs.inside.Ordered.{ChangesMarked}
+use Rattle.raster_values.specs.Ordered.{ChangesMarked}
 use Rattle.raster_cells.specs.MarkRuns.{AreRuns}
-use Rattle.raster_values.proofs.Poured.{kept_run, Fills, fills_next, run_within}
+use Rattle.raster_values.proofs.Scattered.{kept_run, Fills, fills_next, run_within}
 use Rattle.raster_values.specs.Raster.{values_of}
-use Rattle.raster_values.specs.inside.View.{pixels_of}
+use Rattle.raster_values.specs.View.{pixels_of}
 use Rattle.raster_values.proofs.Pack.{next_values}
 use Rattle.raster_values.proofs.MarkedRuns.{values_few, fits_more}
 use Rattle.outside_io.specs.streams.Source.{TakesFront}

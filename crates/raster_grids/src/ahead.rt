@@ -88,7 +88,8 @@ impl Ahead {
             (behind self.new.waiting (S.left src.new)) out.new }
         ensures more { IfOk result (λ n. length self.new.waiting + self.new.more + n
             ≡ length self.old.waiting + self.old.more) }
-        ensures some { OnErr result (TookSome (behind self.old.waiting (S.left src.old)) (S.left src.new)) }
+        ensures some { OnErr result
+            (TookSome (behind self.old.waiting (S.left src.old)) (S.left src.new)) }
         ensures counted { CountsFaults result (S.faults src.old) (S.faults src.new) }
     {
         let n = self.lay(out);

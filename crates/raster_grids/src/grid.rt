@@ -8,8 +8,8 @@ ghost use Rattle.raster_values.specs.Raster.{values_of};
 ghost use Rattle.raster_grids.specs.Grid.{head_of, band_of, grid_of, bands_grid_of};
 ghost use Rattle.raster_cells.specs.Values.{values_bytes};
 ghost use Rattle.raster_grids.specs.inside.Heads.{letters_with};
-ghost use Rattle.raster_values.specs.inside.View.{pixels_of};
-ghost use Rattle.raster_cells.specs.inside.MarkBytes.{mark_bytes};
+ghost use Rattle.raster_values.specs.View.{pixels_of};
+ghost use Rattle.raster_cells.specs.MarkBytes.{mark_bytes};
 
 use crate::PIECE;
 use crate::waiting::Waiting;

@@ -15,9 +15,9 @@ pub fn grids_are_parts()
     ensures decided { GridsAreDecided }
 {}
 
-/// A law: what has a grid are bands; what is written of bands is their grid; a grid of bands is read
-/// in one way, whatever follows it; bytes that begin with one have no fault, and all others have
-/// one first fault.
+/// A law: what has a grid are bands; what is written of bands is their grid; a grid of bands is
+/// read in one way, whatever follows it; bytes that begin with one have no fault, and all others
+/// have one first fault.
 pub fn bands_grids_are_parts()
     ensures bands { GridsAreOfBands }
     ensures written { WrittenBandsStand }

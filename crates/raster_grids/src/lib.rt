@@ -1,8 +1,8 @@
 //! Grid files, of one raster and of bands, written and read. This crate stands on raster_values,
 //! raster_cells, outside_io, first_fault and byteorder.
 //!
-//! The contract that the layers above use: `grid_write` gives the one grid of a raster, and `grid_read`
-//! takes a grid and answers its raster, or tells the first fault and its place.
+//! The contract that the layers above use: `grid_write` gives the one grid of a raster, and
+//! `grid_read` takes a grid and answers its raster, or tells the first fault and its place.
 #![tactic(auto)]
 
 mod ahead;

@@ -4,8 +4,8 @@ ghost use Rattle.std.specs.Prelude.{◌≡◌, ℕ, ◌+◌, ◌-◌, ◌*◌, �
 ghost use Rattle.raster_cells.specs.PixelType.{bytes_of};
 ghost use Rattle.raster_cells.specs.Shapes.{IsShape};
 ghost use Rattle.raster_values.specs.Raster.{values_of};
-ghost use Rattle.raster_values.specs.inside.View.{pixels_of};
-ghost use Rattle.raster_values.specs.inside.Ordered.{ChangesMarked};
+ghost use Rattle.raster_values.specs.View.{pixels_of};
+ghost use Rattle.raster_values.specs.Ordered.{ChangesMarked};
 ghost use Rattle.raster_grids.specs.inside.Heads.{IsSizeFault};
 ghost use Rattle.raster_cells.specs.Values.{values_bytes};
 ghost use Rattle.raster_grids.specs.ReadGrid.{IsHead, AreMarks, AreLawful, TookGrid, IsToldFault, CountsGridStop, number_at, magic_faults, head_faults, mark_faults, value_faults, behind_head, grid_faults};
@@ -304,8 +304,8 @@ fn take_values<S: Source>(
     Ok(())
 }
 
-/// Marks and values for the raster of a head: no mark is set, and all values are 0. A head has a shape
-/// of its own, so only memory may be wanting.
+/// Marks and values for the raster of a head: no mark is set, and all values are 0. A head has a
+/// shape of its own, so only memory may be wanting.
 fn blank_parts(alloc: Global, head: Head) -> Result<(Mask, TakenCells), GridStop>
     requires { IsShape head.rows head.cols head.depth }
     ensures ok { IfOk result (λ parts. (parts.0 ≡ replicate (head.rows * head.cols) false)

@@ -22,8 +22,8 @@ pub struct TakenCells {
 }
 
 impl Model for TakenCells {
-    ghost use Rattle.raster_cells.specs.inside.CellList.{CellList, cells_in};
-    ghost use Rattle.raster_cells.specs.inside.LentBytes.{AreHeld};
+    ghost use Rattle.raster_cells.specs.CellList.{CellList, cells_in};
+    ghost use Rattle.raster_cells.specs.LentBytes.{AreHeld};
 
     ghost Value = { CellList };
 

@@ -12,7 +12,7 @@ use Rattle.raster_cells.specs.declared.kind.PixelType.{PixelType}
 use Rattle.raster_cells.specs.PixelType.{InRange, bytes_of, value_of}
 use Rattle.raster_cells.proofs.ValueBits.{zero_in_range}
 use Rattle.raster_cells.specs.Values.{values_bytes}
-use Rattle.raster_cells.specs.inside.CellList.{values_in, CellList}
+use Rattle.raster_cells.specs.CellList.{values_in, CellList}
 use Rattle.raster_cells.proofs.CellRuns.{values_is, bytes_front, bytes_behind, length-values_in, with_run, value_there}
 use Rattle.raster_cells.proofs.Spelled.{AreBytes, bytes_of_values, values_fit, value_in-at, bytes_put, put_as_run}
 use Rattle.raster_cells.specs.MarkRuns.{AreRuns}
@@ -21,11 +21,11 @@ use Rattle.byteorder.specs.Endian.{little_number}
 use Rattle.raster_cells.specs.Shapes.{IsShape}
 use Rattle.raster_values.specs.Raster.{IsPixel, Pixels, IsRaster, InShape, IsValidAt, blank, filled}
 use Rattle.raster_values.specs.Flat.{all_values, AllValuesStand, PutsAll, value_in, PuttingAllIsOne, AllStand, AllPutGive}
-use Rattle.raster_values.specs.inside.View.{pixels_of, seen, IsInside}
+use Rattle.raster_values.specs.View.{pixels_of, seen, IsInside}
 use Rattle.raster_values.specs.declared.rasters.raster.Raster.TheInside.{Inside}
-use Rattle.raster_values.specs.inside.Ordered.{PutsMarkedBytes}
+use Rattle.raster_values.specs.Ordered.{PutsMarkedBytes}
 use Rattle.raster_values.proofs.Views.{KeepsValues}
-use Rattle.raster_values.proofs.FlatViews.{pours_keep, with_values, value_flat, mark_flat, same_mask, keeps_itself}
+use Rattle.raster_values.proofs.FlatViews.{scatters_keep, with_values, value_flat, mark_flat, same_mask, keeps_itself}
 use Rattle.raster_values.proofs.Same.{same_raster}
 
 -- ---- one list for each pixel
@@ -191,7 +191,7 @@ puts_more kind depth marks bytes old vs at start end count piece are full size r
 pub puts_keep_marks : (a : Inside) (bytes : List ℕ) (vs : List ℤ) → IsInside a → length vs ≡ length a.values.values → All (InRange a.values.kind) vs
     → PutsMarkedBytes a.values.kind a.depth (length a.marks) a.marks bytes a.values.values vs → KeepsValues a a.marks vs
 puts_keep_marks a bytes vs h size fits puts =
-    pours_keep a vs h (record { size = size; in_range = λ _. fits; rest = record { rest = λ k d less off. puts.rest k d less (λ _. off) } })
+    scatters_keep a vs h (record { size = size; in_range = λ _. fits; rest = record { rest = λ k d less off. puts.rest k d less (λ _. off) } })
 
 pub puts_all : (a : Inside) (bytes : List ℕ) (vs : List ℤ) → IsInside a → KeepsValues a a.marks vs
     → PutsMarkedBytes a.values.kind a.depth (length a.marks) a.marks bytes a.values.values vs → PutsAll (seen a) (with_values a vs) bytes

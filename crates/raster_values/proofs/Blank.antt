@@ -7,7 +7,7 @@ use Rattle.std.proofs.lemmas.Nat.{div_below, mul-add-lt}
 use Rattle.raster_cells.specs.Masks.{mask_bit}
 use Rattle.raster_values.specs.declared.rasters.raster.Raster.TheInside.{Inside}
 use Rattle.raster_values.specs.Raster.{valid_count}
-use Rattle.raster_values.specs.inside.View.{seen, IsInside, pixels_of}
+use Rattle.raster_values.specs.View.{seen, IsInside, pixels_of}
 use Rattle.raster_values.proofs.Views.{count-pixels_of, full, valid-pixels_of}
 use Rattle.raster_values.specs.Order.{MarksBits}
 use Rattle.raster_values.proofs.BlockViews.{value_there}

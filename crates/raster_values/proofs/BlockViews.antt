@@ -9,13 +9,13 @@ use Rattle.std.proofs.lemmas.Nat.{mul-add-lt, same_from_place}
 use Rattle.std.proofs.lemmas.Bool.{false≢true}
 use Rattle.raster_cells.specs.declared.kind.PixelType.{PixelType}
 use Rattle.raster_cells.proofs.Every.{every_range, same_flat_map}
-use Rattle.raster_cells.specs.inside.Runs.{run_places}
+use Rattle.raster_cells.specs.Runs.{run_places}
 use Rattle.raster_values.specs.inside.Runs.{Gathers, run_values, rows_values, rows_places, LeavesRows}
 use Rattle.raster_cells.specs.PixelType.{InRange}
 use Rattle.raster_values.specs.Raster.{Pixels, value_at, valid_at}
-use Rattle.raster_values.specs.inside.View.{pixels_of, seen, IsInside}
+use Rattle.raster_values.specs.View.{pixels_of, seen, IsInside}
 use Rattle.raster_values.proofs.Views.{get_or-pixels_of, value-pixel_of, valid-pixels_of, KeepsValues}
-use Rattle.raster_values.specs.Block.{block_values, block_count, InBlock, PoursBlock}
+use Rattle.raster_values.specs.Block.{block_values, block_count, InBlock, ScattersBlock}
 use Rattle.raster_values.proofs.RunSteps.{length_values}
 use Rattle.raster_values.proofs.BlockLaws.{has_count}
 use Rattle.raster_values.specs.declared.rasters.raster.Raster.TheInside.{Inside}
@@ -121,7 +121,7 @@ gathered_is g a row col side d n old new below gathers =
     let count : n ≡ block_count r row col side = bare ∙ ap length (sym same) ∙ has_count r row col side d in
     (count, sym (take-append-drop n new) ∙ ap (λ t. t ++ drop n new) (gathers.front ∙ ap (map g) (sym same)) ∙ ap (λ t. map g (block_values r row col side d) ++ t) (gathers.rest ∙ ap (λ m. drop m old) count))
 
--- ---- what pouring leaves
+-- ---- what scattering leaves
 
 out_of_block : (i j row col side rows cols i' : ℕ) → j < cols → i < rows → row ≤ i' → i' < row + min side (rows - row) → i' * cols + col ≤ i * cols + j → i * cols + j < i' * cols + col + min side (cols - col)
     → InBlock row col side i j
@@ -134,24 +134,24 @@ out_of_block i j row col side rows cols i' across within from to lo hi =
     let cols_same : j ≡ col + t = is.1 in
     record { below = omega arith; above = omega arith; right = omega arith; left = omega arith }
 
-pub pour_keeps : (a : Inside) (row col side d : ℕ) (input vs : List ℤ) → IsInside a → length vs ≡ length a.values.values → All (InRange a.values.kind) vs
+pub scatter_keeps : (a : Inside) (row col side d : ℕ) (input vs : List ℤ) → IsInside a → length vs ≡ length a.values.values → All (InRange a.values.kind) vs
     → LeavesRows a.depth d a.marks a.cols row col (min side (a.rows - row)) (min side (a.cols - col)) a.values.values vs → KeepsValues a a.marks vs
-pour_keeps a row col side d input vs h size fits leaves = record {
+scatter_keeps a row col side d input vs h size fits leaves = record {
   values = size ∙ h.values;
   in_range = fits;
   zeros = λ k e within below off. leaves.rest k e below (λ i from to lo hi on is. absurd (false≢true (sym off ∙ on))) ∙ h.zeros k e within below off;
 }
 
-pub pour_pours : (a : Inside) (row col side d : ℕ) (input vs : List ℤ) → IsInside a → d < a.depth → KeepsValues a a.marks vs
+pub scatter_scatters : (a : Inside) (row col side d : ℕ) (input vs : List ℤ) → IsInside a → d < a.depth → KeepsValues a a.marks vs
     → rows_values a.depth d a.marks vs a.cols row col (min side (a.rows - row)) (min side (a.cols - col)) ≡ input
     → LeavesRows a.depth d a.marks a.cols row col (min side (a.rows - row)) (min side (a.cols - col)) a.values.values vs
-    → PoursBlock (seen a) (record (seen a) { pixels = pixels_of a.depth a.marks vs }) row col side d input
-pour_pours a row col side d input vs h below are poured leaves = record {
+    → ScattersBlock (seen a) (record (seen a) { pixels = pixels_of a.depth a.marks vs }) row col side d input
+scatter_scatters a row col side d input vs h below are scattered leaves = record {
   same = record {
     shape = record { kind = refl; rows = refl; cols = refl; depth = refl };
     places = λ i j within. valid-pixels_of a.depth a.marks vs (i * a.cols + j) ∙ sym (valid-pixels_of a.depth a.marks a.values.values (i * a.cols + j));
   };
-  block = block_of_rows a.values.kind a.rows a.cols a.depth a.marks vs row col side d below ∙ poured;
+  block = block_of_rows a.values.kind a.rows a.cols a.depth a.marks vs row col side d below ∙ scattered;
   rest = λ i j e within less out.
       value_there a.values.kind a.rows a.cols a.depth a.marks vs i j e are.zeros h.marks within.0 within.1 less
       ∙ leaves.rest (i * a.cols + j) e less (λ i' from to lo hi on is. out (out_of_block i j row col side a.rows a.cols i' within.1 within.0 from to lo hi) is)

@@ -10,16 +10,16 @@ use Rattle.raster_cells.specs.PixelType.{InRange}
 use Rattle.raster_cells.specs.Values.{values_bytes, AreValues}
 use Rattle.raster_cells.proofs.Spelled.{written_values}
 use Rattle.raster_cells.specs.Masks.{mask_bit}
-use Rattle.raster_cells.specs.inside.CellList.{CellList}
+use Rattle.raster_cells.specs.CellList.{CellList}
 use Rattle.raster_values.specs.declared.rasters.raster.Raster.TheInside.{Inside}
 use Rattle.raster_values.specs.Raster.{Pixels, IsRaster, values_of, valid_count}
-use Rattle.raster_values.specs.inside.View.{seen, pixels_of, IsInside, AreVectors}
+use Rattle.raster_values.specs.View.{seen, pixels_of, IsInside, AreVectors}
 use Rattle.raster_values.specs.Flat.{value_in, values_among, valid_from, PutsFrom}
 use Rattle.raster_values.proofs.Views.{get_or-pixels_of, value-pixel_of, KeepsValues, valid-pixels_of, sound}
 use Rattle.raster_values.specs.Block.{SameMask}
 use Rattle.raster_values.proofs.BlockViews.{picks_same, value_there}
-use Rattle.raster_values.specs.inside.Ordered.{PutsMarked, FillsMarked, ChangesMarked}
-use Rattle.raster_values.specs.Order.{FillsValid, PoursBytes, IsMaskOf}
+use Rattle.raster_values.specs.Ordered.{PutsMarked, FillsMarked, ChangesMarked}
+use Rattle.raster_values.specs.Order.{FillsValid, ScattersBytes, IsMaskOf}
 use Rattle.raster_values.proofs.Deep.{values_in_range, length-values_of, raster_deep}
 
 -- a raster with other values in its vector
@@ -114,8 +114,8 @@ fills_valid a pixel vs h deep keeps fills = record {
       ∙ fills.each k d below (omega (arith, deep)) (sym (mark_flat a k) ∙ valid);
 }
 
-pub pours_keep : (a : Inside) (vs : List ℤ) → IsInside a → ChangesMarked a.values.kind a.depth a.marks a.values.values vs → KeepsValues a a.marks vs
-pours_keep a vs h changed = record {
+pub scatters_keep : (a : Inside) (vs : List ℤ) → IsInside a → ChangesMarked a.values.kind a.depth a.marks a.values.values vs → KeepsValues a a.marks vs
+scatters_keep a vs h changed = record {
   values = changed.size ∙ h.values;
   in_range = changed.in_range h.in_range;
   zeros = λ k e below less off. changed.rest.rest k e less off ∙ h.zeros k e below less off;
@@ -128,11 +128,11 @@ pub values_stand : (a : Inside) (vs : List ℤ) → IsInside a → KeepsValues a
     → AreValues a.values.kind (values_bytes a.values.kind (values_of (pixels_of a.depth a.marks vs))) (values_of (pixels_of a.depth a.marks vs))
 values_stand a vs h keeps = written_values a.values.kind (values_of (pixels_of a.depth a.marks vs)) (values_in_range a.values.kind a.depth (pixels_of a.depth a.marks vs) (keeps_inside a vs h keeps).each)
 
-pub pours_bytes : (a : Inside) (bytes : List ℕ) (vs : List ℤ) → IsInside a → KeepsValues a a.marks vs → values_bytes a.values.kind (values_of (pixels_of a.depth a.marks vs)) ≡ bytes
-    → PoursBytes (seen a) (with_values a vs) bytes
-pours_bytes a bytes vs h keeps poured = record {
+pub scatters_bytes : (a : Inside) (bytes : List ℕ) (vs : List ℤ) → IsInside a → KeepsValues a a.marks vs → values_bytes a.values.kind (values_of (pixels_of a.depth a.marks vs)) ≡ bytes
+    → ScattersBytes (seen a) (with_values a vs) bytes
+scatters_bytes a bytes vs h keeps scattered = record {
   same = same_mask a vs;
-  poured = subst (λ xs. AreValues a.values.kind xs (values_of (pixels_of a.depth a.marks vs))) poured (values_stand a vs h keeps);
+  scattered = subst (λ xs. AreValues a.values.kind xs (values_of (pixels_of a.depth a.marks vs))) scattered (values_stand a vs h keeps);
 }
 
 -- ---- how many values

@@ -4,10 +4,10 @@ use Rattle.std.specs.List.{flat_map, range_with_len}
 use Rattle.std.proofs.Math.Nat.{add-mul, div-add-mod', mod-lt, mul-le-mul_right}
 use Rattle.std.specs.Prelude.{ℤ}
 use Rattle.std.proofs.lemmas.Bool.{cases_lt}
-use Rattle.raster_cells.specs.inside.Runs.{run_places}
+use Rattle.raster_cells.specs.Runs.{run_places}
 use Rattle.raster_values.proofs.RowSteps.{pieces_more}
 use Rattle.raster_values.specs.inside.Runs.{rows_places, run_values, rows_values, LeavesRows}
-use Rattle.raster_values.proofs.PouredWords.{places_join, values_join}
+use Rattle.raster_values.proofs.ScatteredWords.{places_join, values_join}
 
 -- pieces that are those of one run
 one_run : {Y : Type 0} (piece : ℕ → ℕ → List Y) (cols row high : ℕ) → ((from : ℕ) → piece from 0 ≡ []) → ((from a b : ℕ) → piece from (a + b) ≡ piece from a ++ piece (from + a) b)

@@ -2,9 +2,9 @@
 use Rattle.std.proofs.Common.{[], ℕ, List, take, refl, sym, arith, append-nil, ◌≡◌, ◌∷◌, length, ◌+◌, ◌*◌, Bool, get_or, map, subst, ap, ◌∙◌, ◌≤◌}
 use Rattle.std.specs.Prelude.{ℤ, pos}
 use Rattle.std.proofs.lemmas.List.{map-append, length-map}
-use Rattle.raster_cells.specs.inside.Runs.{run_places}
+use Rattle.raster_cells.specs.Runs.{run_places}
 use Rattle.raster_values.specs.inside.Runs.{Gathers, run_values}
-use Rattle.raster_values.proofs.PouredWords.{values_join}
+use Rattle.raster_values.proofs.ScatteredWords.{values_join}
 use Rattle.raster_values.proofs.RunSteps.{gathers_join, length_places, length_values}
 
 nothing : {X : Type 0} (out : List X) (at : ℕ) → Gathers [] out out at at

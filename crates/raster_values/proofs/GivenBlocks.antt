@@ -15,7 +15,7 @@ use Rattle.raster_cells.proofs.Every.{Every, every_map, every_flat_map, every_fi
 use Rattle.raster_values.specs.Raster.{Pixels, IsRaster, InShape}
 use Rattle.raster_values.specs.Flat.{valid_numbers, marks_of, block_numbers, value_in, revalued, ChangesValues}
 use Rattle.raster_values.specs.Places.{SameShape}
-use Rattle.raster_values.specs.Block.{SameMask, InBlock, BlocksAreThere, block_values, PoursBlock, PoursEach, AllBlocksGive}
+use Rattle.raster_values.specs.Block.{SameMask, InBlock, BlocksAreThere, block_values, ScattersBlock, ScattersEach, AllBlocksGive}
 use Rattle.raster_values.proofs.NumberedBlocks.{marks_at, block_numbered}
 use Rattle.raster_values.proofs.BlockLaws.{partition, has_count, leaves_others, determine}
 use Rattle.raster_values.proofs.Revalued.{may_change}
@@ -188,7 +188,7 @@ given_blocks r side values sound wide fits =
       },
     )
 
--- ---- all blocks poured
+-- ---- all blocks scattered
 
 joined : (r s t : Pixels) → SameMask r s → SameMask s t → SameMask r t
 joined r s t h k = record {
@@ -203,14 +203,14 @@ this_or_other a b d x y z = grind arith
 abbrev Has : Pixels → ℕ → Pixels → ℕ → ℕ → ℕ → Type 0
 Has r side s a b d = block_values s (a * side) (b * side) side d ≡ block_values r (a * side) (b * side) side d
 
-poured_here : (r mid : Pixels) (side a b d x y z : ℕ) → a ≡ x → b ≡ y → d ≡ z → Has r side mid x y z → Has r side mid a b d
-poured_here r mid side a b d x y z p q s h = subst (λ i. Has r side mid i b d) (sym p) (subst (λ j. Has r side mid x j d) (sym q) (subst (λ e. Has r side mid x y e) (sym s) h))
+scattered_here : (r mid : Pixels) (side a b d x y z : ℕ) → a ≡ x → b ≡ y → d ≡ z → Has r side mid x y z → Has r side mid a b d
+scattered_here r mid side a b d x y z p q s h = subst (λ i. Has r side mid i b d) (sym p) (subst (λ j. Has r side mid x j d) (sym q) (subst (λ e. Has r side mid x y e) (sym s) h))
 
--- one pouring leaves what other blocks have, and other depths
-still_has : (r old mid : Pixels) (side a b d x y z : ℕ) → 0 < side → d < old.depth → (a ≡ x → b ≡ y → d ≡ z → ⊥) → PoursBlock old mid (x * side) (y * side) side z (block_values r (x * side) (y * side) side z)
+-- one scattering leaves what other blocks have, and other depths
+still_has : (r old mid : Pixels) (side a b d x y z : ℕ) → 0 < side → d < old.depth → (a ≡ x → b ≡ y → d ≡ z → ⊥) → ScattersBlock old mid (x * side) (y * side) side z (block_values r (x * side) (y * side) side z)
     → Has r side old a b d → Has r side mid a b d
-still_has r old mid side a b d x y z wide low other pours h =
-    leaves_others old mid (x * side) (y * side) side z _ (a * side) (b * side) side d pours low (λ i j here there is.
+still_has r old mid side a b d x y z wide low other scatters h =
+    leaves_others old mid (x * side) (y * side) side z _ (a * side) (b * side) side d scatters low (λ i j here there is.
     let one = (partition side i j wide).1 a b here in
     let two = (partition side i j wide).1 x y there in
     other (one.0 ∙ sym two.0) (one.1 ∙ sym two.1) is) ∙ h
@@ -219,27 +219,27 @@ in_rest : (c : ℕ × ℕ × ℕ) (rest : List (ℕ × ℕ × ℕ)) (a b d : ℕ
 in_rest c rest a b d other (zero, below, e) = absurd (other (sym (ap (λ (t : ℕ × ℕ × ℕ). t.0) e)) (sym (ap (λ (t : ℕ × ℕ × ℕ). t.1) e)) (sym (ap (λ (t : ℕ × ℕ × ℕ). t.2) e)))
 in_rest c rest a b d other (suc k, below, e) = (k, omega arith, e)
 
-poured_each : (r old new : Pixels) (side : ℕ) (order : List (ℕ × ℕ × ℕ)) → 0 < side → SameMask r old → PoursEach r side order old new
+scattered_each : (r old new : Pixels) (side : ℕ) (order : List (ℕ × ℕ × ℕ)) → 0 < side → SameMask r old → ScattersEach r side order old new
     → SameMask r new × ((a b d : ℕ) → d < r.depth → Has r side old a b d ⊎ Contains order (a, b, d) → Has r side new a b d)
-poured_each r old new side [] wide same e = (
+scattered_each r old new side [] wide same e = (
   subst (SameMask r) (sym e) same,
   λ a b d low. ⊎_elim
       (λ (h : Has r side old a b d). subst (λ s. Has r side s a b d) (sym e) h)
       (λ (h : Contains [] (a, b, d)). absurd (let no : ⊥ = omega (arith, h.1) in no)),
 )
-poured_each r old new side (c ∷ rest) wide same (mid, (pours, after)) =
-    let next = poured_each r mid new side rest wide (joined r old mid same pours.same) after in (
+scattered_each r old new side (c ∷ rest) wide same (mid, (scatters, after)) =
+    let next = scattered_each r mid new side rest wide (joined r old mid same scatters.same) after in (
       next.0,
       λ a b d low from. ⊎_elim
-          (λ (this : (a ≡ c.0) × ((b ≡ c.1) × (d ≡ c.2))). next.1 a b d low (inl (poured_here r mid side a b d c.0 c.1 c.2 this.0 this.1.0 this.1.1 pours.block)))
+          (λ (this : (a ≡ c.0) × ((b ≡ c.1) × (d ≡ c.2))). next.1 a b d low (inl (scattered_here r mid side a b d c.0 c.1 c.2 this.0 this.1.0 this.1.1 scatters.block)))
           (λ (other : a ≡ c.0 → b ≡ c.1 → d ≡ c.2 → ⊥). ⊎_elim
-          (λ (h : Has r side old a b d). next.1 a b d low (inl (still_has r old mid side a b d c.0 c.1 c.2 wide (omega (arith, same.shape.depth)) other pours h)))
+          (λ (h : Has r side old a b d). next.1 a b d low (inl (still_has r old mid side a b d c.0 c.1 c.2 wide (omega (arith, same.shape.depth)) other scatters h)))
           (λ (h : Contains (c ∷ rest) (a, b, d)). next.1 a b d low (inr (in_rest c rest a b d other h)))
           from)
           (this_or_other a b d c.0 c.1 c.2),
     )
 
 pub all_give : AllBlocksGive
-all_give r old new side order hr hn wide same all pours =
-    let each = poured_each r old new side order wide same pours in
+all_give r old new side order hr hn wide same all scatters =
+    let each = scattered_each r old new side order wide same scatters in
     sym (determine r new side hr hn wide each.0 (λ a b d start low. sym (each.1 a b d low (inr (all a b d start low)))))

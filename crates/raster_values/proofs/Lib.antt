@@ -10,7 +10,7 @@ mod FullWidth
 mod GatheredRuns
 mod GivenBlocks
 mod InOrder
-pub mod LentArrays
+pub mod RasterMutArrays
 mod MarkedPuts
 pub mod MarkedRuns
 mod MixedRuns
@@ -21,13 +21,13 @@ pub mod Pack
 mod PixelSteps
 mod Places
 mod Points
-pub mod Poured
-mod PouredWords
+pub mod Scattered
+mod ScatteredWords
 mod Ranges
 pub mod Revalued
 mod RowSteps
 mod RunSteps
 pub mod Same
-mod SeenArrays
+mod RasterRefArrays
 pub mod Views
 mod Windows

@@ -4,8 +4,8 @@ use Rattle.std.specs.Prelude.{ℤ, pos}
 use Rattle.std.proofs.lemmas.Bool.{false≢true, cases_eq, cases_lt}
 use Rattle.std.proofs.lemmas.List.{get_or-set_same, get_or-set_other, get_or-take, get_or-drop}
 use Rattle.std.proofs.lemmas.Nat.{same_from_place}
-use Rattle.raster_cells.specs.inside.Ordered.{PutsPixels}
-use Rattle.raster_values.specs.inside.Ordered.{PutsMarked}
+use Rattle.raster_cells.specs.Ordered.{PutsPixels}
+use Rattle.raster_values.specs.Ordered.{PutsMarked}
 
 pub puts_none : (depth d : ℕ) (marks : List Bool) (place : ℕ) (input old : List ℤ) → PutsMarked depth d marks place 0 input old old
 puts_none depth d marks place input old = record {

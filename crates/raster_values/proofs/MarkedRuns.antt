@@ -10,9 +10,9 @@ use Rattle.raster_cells.proofs.WholeRuns.{with_run_before, with_run_after}
 use Rattle.raster_cells.specs.declared.kind.PixelType.{PixelType}
 use Rattle.raster_cells.specs.PixelType.{bytes_of}
 use Rattle.raster_values.specs.Raster.{values_of}
-use Rattle.raster_values.specs.inside.View.{pixels_of}
+use Rattle.raster_values.specs.View.{pixels_of}
 use Rattle.raster_values.proofs.Pack.{next_values, two_runs, apart}
-use Rattle.raster_values.specs.inside.Ordered.{KeepsUnmarked}
+use Rattle.raster_values.specs.Ordered.{KeepsUnmarked}
 
 -- the values of the marked ones among the first pixels
 abbrev pub front_values : ℕ → ℕ → List Bool → List ℤ → List ℤ

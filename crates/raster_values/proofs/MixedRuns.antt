@@ -7,7 +7,7 @@ use Rattle.std.specs.List.{filter, range_with_len}
 use Rattle.std.proofs.lemmas.List.FromFn.{length-map-range_with_len}
 use Rattle.std.proofs.lemmas.Simd.{map-map}
 use borrow.Rule.Slice.PartMut.{put_mid}
-use Rattle.raster_cells.specs.inside.Runs.{run_places}
+use Rattle.raster_cells.specs.Runs.{run_places}
 use Rattle.raster_values.specs.inside.Runs.{Gathers, run_values}
 use Rattle.raster_cells.proofs.MaskCounts.{count_most}
 use Rattle.raster_values.proofs.RunSteps.{places_more}

@@ -7,11 +7,11 @@ use Rattle.std.specs.Prelude.{ℤ, pos}
 use Rattle.std.proofs.lemmas.List.{map-append, length-take-le, take_at, drop_at, drop-drop, length-drop, ext_get_or}
 use Rattle.std.proofs.Math.Seq.{take-add}
 use borrow.Rule.Slice.PartMut.{put_mid}
-use Rattle.raster_cells.specs.inside.Runs.{run_places}
+use Rattle.raster_cells.specs.Runs.{run_places}
 use Rattle.raster_values.specs.inside.Runs.{Gathers, run_values, LeavesRun}
 use Rattle.raster_cells.specs.MarkRuns.{AreRuns}
 use Rattle.raster_cells.proofs.MaskCounts.{range_join}
-use Rattle.raster_cells.specs.inside.Ordered.{PutsPixels}
+use Rattle.raster_cells.specs.Ordered.{PutsPixels}
 use Rattle.raster_values.proofs.RunSteps.{run_same}
 
 -- ---- run by run
@@ -67,12 +67,12 @@ gathers_piece piece old n next is within =
       rest = ap (drop next) joined ∙ drop_at (take n old ++ piece) (drop next old) next both;
     }
 
--- values poured over a run
-pub pour_piece : (depth d : ℕ) (marks : List Bool) (input piece old new : List ℤ) (from k start stop at n next : ℕ) → d < depth → from ≤ k → AreRuns marks k start stop
+-- values scattered over a run
+pub scatter_piece : (depth d : ℕ) (marks : List Bool) (input piece old new : List ℤ) (from k start stop at n next : ℕ) → d < depth → from ≤ k → AreRuns marks k start stop
     → next ≡ n + (stop - start) → next ≤ length input → piece ≡ take (stop - start) (drop n input) → PutsPixels depth d start (length piece) piece old new
     → take at input ++ run_values depth d marks old from (k - from) ≡ take n input
     → take at input ++ run_values depth d marks new from (stop - from) ≡ take next input
-pour_piece depth d marks input piece old new from k start stop at n next below low runs is within cut puts before =
+scatter_piece depth d marks input piece old new from k start stop at n next below low runs is within cut puts before =
     let f : ℕ → ℤ = λ j. get_or new (j * depth + d) (pos 0) in
     let m = stop - start in
     let long : length piece ≡ m = ap length cut ∙ length-take-le m (drop n input) (omega (arith, length-drop n input)) in

@@ -14,7 +14,7 @@ use Rattle.raster_values.specs.inside.Runs.{run_values, IsRange}
 use Rattle.raster_values.proofs.PixelSteps.{values_run}
 use Rattle.raster_values.proofs.BlockViews.{picks_same}
 use Rattle.raster_values.specs.Flat.{at_depth, depth_values}
-use Rattle.raster_values.specs.inside.View.{pixels_of, seen}
+use Rattle.raster_values.specs.View.{pixels_of, seen}
 use Rattle.raster_values.specs.declared.rasters.raster.Raster.TheInside.{Inside}
 use Rattle.raster_values.specs.Raster.{Pixels, valid_count}
 

@@ -6,7 +6,7 @@ use Rattle.std.proofs.Math.Nat.{mul-le-mul_left, mul-le-mul_right}
 use Rattle.std.specs.Prelude.{ℤ}
 use Rattle.std.proofs.lemmas.Bool.{cases_lt}
 use Rattle.raster_cells.proofs.RunSteps.{range_more}
-use Rattle.raster_cells.specs.inside.Runs.{run_places}
+use Rattle.raster_cells.specs.Runs.{run_places}
 use Rattle.raster_values.specs.inside.Runs.{Gathers, rows_places, run_values, rows_values, LeavesRun, LeavesRows}
 use Rattle.raster_cells.proofs.Every.{every_range, same_flat_map}
 use Rattle.raster_values.proofs.RunSteps.{gathers_join, run_same, length_places}
@@ -70,11 +70,11 @@ above_same depth d marks values new cols row col h wide below across leaves =
     let up : suc i * cols ≤ (row + h) * cols = mul-le-mul_right cols (omega arith) in
     let no : ⊥ = omega (arith, up) in no))))
 
-pub pour_more : (depth d : ℕ) (marks : List Bool) (input values new : List ℤ) (cols row col h wide n end : ℕ) → d < depth → col + wide ≤ cols
+pub scatter_more : (depth d : ℕ) (marks : List Bool) (input values new : List ℤ) (cols row col h wide n end : ℕ) → d < depth → col + wide ≤ cols
     → rows_values depth d marks values cols row col h wide ≡ take n input → LeavesRun depth d marks ((row + h) * cols + col) wide values new
     → take n input ++ run_values depth d marks new ((row + h) * cols + col) wide ≡ take end input
     → rows_values depth d marks new cols row col (h + 1) wide ≡ take end input
-pour_more depth d marks input values new cols row col h wide n end below across before leaves here =
+scatter_more depth d marks input values new cols row col h wide n end below across before leaves here =
     let f : ℕ → List ℤ = λ i. run_values depth d marks new (i * cols + col) wide in
     pieces_more f row h
     ∙ ap (λ vs. vs ++ f (row + h)) (above_same depth d marks values new cols row col h wide below across leaves ∙ before)

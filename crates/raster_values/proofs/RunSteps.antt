@@ -4,7 +4,7 @@ use Rattle.std.specs.List.{filter, range_with_len}
 use Rattle.std.proofs.lemmas.List.Elements.{filter-append}
 use Rattle.std.proofs.lemmas.List.{drop-drop, length-map}
 use Rattle.std.specs.Prelude.{ℤ, pos}
-use Rattle.raster_cells.specs.inside.Runs.{run_places}
+use Rattle.raster_cells.specs.Runs.{run_places}
 use Rattle.raster_values.specs.inside.Runs.{Gathers, run_values}
 use Rattle.raster_cells.proofs.RunSteps.{range_more}
 use Rattle.raster_cells.proofs.Every.{every_filter, every_range, same_map}
@@ -42,7 +42,7 @@ gathers_join values more old mid new at n end g h = record {
       ap (λ m. drop m mid) (sym e) ∙ sym (drop-drop (length more) n mid) ∙ ap (drop (length more)) g.rest ∙ drop-drop (length more) n old ∙ ap (λ m. drop m old) e);
 }
 
--- ---- poured values
+-- ---- scattered values
 
 -- values that agree at the places of a run give the same
 pub run_same : (depth d : ℕ) (marks : List Bool) (old new : List ℤ) (from n : ℕ)

@@ -2,13 +2,13 @@
 use Rattle.std.proofs.Common.{refl, sym, ◌∙◌, subst, ℕ, ◌≤◌, ◌*◌, ◌<◌, arith, ◌≡◌, Bool, List, ◌-◌, min, ◌+◌}
 use Rattle.std.specs.Prelude.{All, ℤ}
 use Rattle.std.proofs.Math.Nat.{mul-le-mul_left, mul-le-mul_right, mul-le-mul}
-use Rattle.raster_cells.specs.inside.CellList.{CellList, KeepsForm, AreOf}
+use Rattle.raster_cells.specs.CellList.{CellList, KeepsForm, AreOf}
 use Rattle.raster_cells.specs.PixelType.{InRange}
 use Rattle.raster_cells.specs.declared.kind.PixelType.{PixelType}
 use Rattle.raster_cells.specs.Shapes.{IsShape}
 use Rattle.raster_values.specs.declared.blocks.window.Window.{Window}
 use Rattle.raster_values.specs.inside.Runs.{rows_places, rows_values, LeavesRows}
-use Rattle.raster_values.specs.inside.Windows.{window_places, window_values, IsBlockOf, IsWithin, IsOneRowOf, PoursRows}
+use Rattle.raster_values.specs.inside.Windows.{window_places, window_values, IsBlockOf, IsWithin, IsOneRowOf, ScattersRows}
 use Rattle.raster_values.proofs.FullWidth.{full_places, full_values, full_leaves}
 
 -- ---- one type, and as many values
@@ -96,10 +96,10 @@ module _ (v w : Window) (is : IsOneRowOf v w) (whole : v.wide ≡ v.cols) where
   one_row_values depth d marks vs = values_at w depth d marks vs ((v.row + v.high) * v.cols) 0 (v.row * v.cols) 1 (v.high * v.cols) is.cols is.row is.col is.high is.wide
       ∙ full_values depth d marks vs v.cols v.row v.col v.high v.wide whole v.across
 
-  pub one_row_pours : (depth d : ℕ) (marks : List Bool) (values : List ℤ) (old new : CellList) → PoursRows depth d marks w values old new → PoursRows depth d marks v values old new
-  one_row_pours depth d marks values old new pours = record {
-    poured = sym (one_row_values depth d marks new.values) ∙ pours.poured;
+  pub one_row_scatters : (depth d : ℕ) (marks : List Bool) (values : List ℤ) (old new : CellList) → ScattersRows depth d marks w values old new → ScattersRows depth d marks v values old new
+  one_row_scatters depth d marks values old new scatters = record {
+    scattered = sym (one_row_values depth d marks new.values) ∙ scatters.scattered;
     rest = full_leaves depth d marks v.cols v.row v.col v.high v.wide old.values new.values whole v.across
-        (subst (λ (T : Type 0). T) (leaves_at w depth d marks old.values new.values ((v.row + v.high) * v.cols) 0 (v.row * v.cols) 1 (v.high * v.cols) is.cols is.row is.col is.high is.wide) pours.rest);
-    form = pours.form;
+        (subst (λ (T : Type 0). T) (leaves_at w depth d marks old.values new.values ((v.row + v.high) * v.cols) 0 (v.row * v.cols) 1 (v.high * v.cols) is.cols is.row is.col is.high is.wide) scatters.rest);
+    form = scatters.form;
   }

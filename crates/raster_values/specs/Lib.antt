@@ -11,8 +11,10 @@ pub use Rattle.raster_cells.specs.Words
 pub mod Bands
 pub mod Block
 pub mod Flat
-pub mod Lent
+pub mod Ordered
+pub mod RasterMut
 pub mod Order
 pub mod Places
 pub mod Raster
+pub mod View
 pub mod inside

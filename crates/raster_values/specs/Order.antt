@@ -1,4 +1,4 @@
--- A raster in order: its values poured one behind the other, one list for every valid pixel, and
+-- A raster in order: its values scattered one behind the other, one list for every valid pixel, and
 -- its mask as bytes.
 use Rattle.std.specs.Prelude.{◌≡◌, ℤ, List, ℕ, pos, ◌<◌, get_or, ◌+◌, ◌*◌, ◌/◌, ◌≤◌, false, length, None, is_some}
 use Rattle.raster_cells.specs.Values.{AreValues}
@@ -8,9 +8,9 @@ use Rattle.raster_values.specs.Block.{SameMask}
 use Rattle.raster_values.specs.Places.{SameShape}
 
 -- the valid pixels have these values, in order and depth innermost
-pub record PoursAll (old new : Pixels) (values : List ℤ) : Type 0 where
+pub record ScattersAll (old new : Pixels) (values : List ℤ) : Type 0 where
   pub same : SameMask old new
-  pub poured : values_of new.pixels ≡ values
+  pub scattered : values_of new.pixels ≡ values
 
 -- each valid pixel has this list
 pub record FillsValid (old new : Pixels) (values : List ℤ) : Type 0 where
@@ -38,9 +38,9 @@ pub record IsMaskOf (r : Pixels) (mask : List ℕ) : Type 0 where
   pub spare : (k : ℕ) → r.rows * r.cols ≤ k → mask_bit mask k ≡ false
 
 -- the valid pixels have the values that the bytes stand for, in order and depth innermost
-pub record PoursBytes (old new : Pixels) (bytes : List ℕ) : Type 0 where
+pub record ScattersBytes (old new : Pixels) (bytes : List ℕ) : Type 0 where
   pub same : SameMask old new
-  pub poured : AreValues old.kind bytes (values_of new.pixels)
+  pub scattered : AreValues old.kind bytes (values_of new.pixels)
 
 -- no two rasters come of one filling, or of one marking
 abbrev pub FillingIsOne : Type 0
@@ -51,7 +51,7 @@ abbrev pub MarkingIsOne : Type 0
 MarkingIsOne = (old r s : Pixels) (mask : List ℕ) → IsRaster r → IsRaster s → MarksBits old r mask
     → MarksBits old s mask → r ≡ s
 
--- no two rasters come of one pouring in order
-abbrev pub PouringAllIsOne : Type 0
-PouringAllIsOne = (old r s : Pixels) (values : List ℤ) → IsRaster r → IsRaster s
-    → PoursAll old r values → PoursAll old s values → r ≡ s
+-- no two rasters come of one scattering in order
+abbrev pub ScatteringAllIsOne : Type 0
+ScatteringAllIsOne = (old r s : Pixels) (values : List ℤ) → IsRaster r → IsRaster s
+    → ScattersAll old r values → ScattersAll old s values → r ≡ s

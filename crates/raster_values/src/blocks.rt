@@ -4,5 +4,5 @@ pub(crate) mod counting;
 pub(crate) mod gathering;
 pub(crate) mod numbered;
 pub(crate) mod order;
-pub(crate) mod pouring;
+pub(crate) mod scattering;
 pub(crate) mod window;

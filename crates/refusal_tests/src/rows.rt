@@ -1,10 +1,10 @@
 //! One row after the other. A run that ends for want of memory ends its test with that error, so
 //! that a test with ample memory has every answer.
 
-use crate::runs::{all_recover, gives, volume};
+use crate::runs::{all_recover, gives, refuses, volume};
 use outside_io::MemVolume;
 use std::alloc::{AllocError, Global};
-use worked_examples::{BLOB, GRID, NO_PIXEL, STEPS, TENS};
+use worked_examples::{BLOB, FOUR, GRID, NO_PIXEL, STEPS, TENS};
 
 /// The header of a bundle of 131,206 bytes that has one record.
 const HEADER: [u8; 64] =
@@ -29,6 +29,7 @@ fn volume_with(alloc: Global, has_tile: bool) -> Result<MemVolume, AllocError> {
 /// Whether a bundle has a tile, and what these words give over it and this input.
 const LOOKS: &[(bool, &[&str], &[u8], &[u8])] = &[
     (false, &["decode"], &BLOB, &GRID),
+    (false, &["encode", "3", "0"], &GRID, &BLOB),
     (false, &["encode", "3", "1"], &TENS, &STEPS),
     (
         false,
@@ -80,8 +81,8 @@ const CHANGES: &[(bool, &[&str], &[&[u8]], &[u8])] = &[
 const BEHIND: [(&[&str], &[u8], &[&str], &[u8]); 3] = [
     (&["get", "127", "127", "raw"], &BLOB, &["list"], b""),
     (
-        &["get", "127", "127", "raw"],
-        &STEPS,
+        &["get", "127", "127"],
+        &FOUR,
         &["get", "127", "127", "raw"],
         &BLOB,
     ),
@@ -104,4 +105,17 @@ fn rows_that_change_a_bundle(rt: HostRuntime) -> Result<(), AllocError> {
         }
     }
     Ok(())
+}
+
+/// A build where a bundle has a tile: it is refused, and the tile stands.
+#[test]
+fn a_second_build_is_refused(rt: HostRuntime) -> Result<(), AllocError> {
+    let alloc = rt.alloc();
+    let mut vol = volume_with(alloc, true)?;
+    let words = ["build", "3", "0", "2"];
+    let input = [b"T\0\0".as_slice(), &GRID, b"T\0\0", &NO_PIXEL].concat(alloc)?;
+    let line = b"store: NotEmpty 131206\n";
+    let is_refused = refuses(&rt, alloc, &words, &input, &mut vol, line)?;
+    all_recover(&rt, alloc, &vol, &["list"], b"127 127 131140 66\n")?;
+    if is_refused { Ok(()) } else { Err(AllocError) }
 }

@@ -37,9 +37,10 @@ pub(crate) fn volume(alloc: Global, bundle: &[u8]) -> Result<MemVolume, AllocErr
 
 /// What a run left.
 #[derive(Drop)]
-struct Ending {
+struct RunEnd {
     status: u8,
     out: MemSink,
+    err: MemSink,
 }
 
 /// What a run of these words over this input and this volume leaves.
@@ -49,20 +50,28 @@ fn left_by<R: Threads + Sync>(
     words: &[&str],
     input: &[u8],
     vol: &mut MemVolume,
-) -> Result<Ending, AllocError> {
+) -> Result<RunEnd, AllocError> {
     let words = words_of(alloc, words)?;
     let mut src = MemSource::new(Bytes::of(alloc, input)?, 7, Bytes::of(alloc, &[])?);
     let mut out = MemSink::new(alloc, 100, Bytes::of(alloc, &[])?, 1000)?;
     let mut err = MemSink::new(alloc, 100, Bytes::of(alloc, &[])?, 1000)?;
     let report = run(rt, alloc, &words, &mut src, &mut out, &mut err, vol, &Open);
-    Ok(Ending {
-        status: report.status,
-        out,
-    })
+    let status = report.status;
+    Ok(RunEnd { status, out, err })
 }
 
-/// A run of these words over this input and this volume gives this output, or ends for want of memory
-/// and gives none; whether it gave it.
+/// Whether a run ended for want of memory, which then gave the line of that and no output.
+fn wanted_memory(rt: &impl Abort, left: &RunEnd) -> bool {
+    if left.status != 6 {
+        return false;
+    }
+    assert!(rt; left.out.held().is_empty());
+    assert_eq!(rt; left.err.held(), b"out of memory\n".as_slice());
+    true
+}
+
+/// A run of these words over this input and this volume gives this output, or ends for want of
+/// memory and gives none; whether it gave it.
 pub(crate) fn gives(
     rt: &(impl Abort + Threads + Sync),
     alloc: Global,
@@ -72,12 +81,30 @@ pub(crate) fn gives(
     output: &[u8],
 ) -> Result<bool, AllocError> {
     let left = left_by(rt, alloc, words, input, vol)?;
-    if left.status == 6 {
-        assert!(rt; left.out.held().is_empty());
+    if wanted_memory(rt, &left) {
         return Ok(false);
     }
     assert!(rt; left.status == 0);
     assert_eq!(rt; left.out.held(), output);
+    Ok(true)
+}
+
+/// The store refuses a run of these words over this input and this volume with this line, or the
+/// run ends for want of memory; whether it refused it.
+pub(crate) fn refuses(
+    rt: &(impl Abort + Threads + Sync),
+    alloc: Global,
+    words: &[&str],
+    input: &[u8],
+    vol: &mut MemVolume,
+    line: &[u8],
+) -> Result<bool, AllocError> {
+    let left = left_by(rt, alloc, words, input, vol)?;
+    if wanted_memory(rt, &left) {
+        return Ok(false);
+    }
+    assert!(rt; left.status == 7 && left.out.held().is_empty());
+    assert_eq!(rt; left.err.held(), line);
     Ok(true)
 }
 
@@ -99,7 +126,7 @@ fn recovers(
 }
 
 /// Each image of each moment, recovered, gives this output of these words: of the files as last
-/// synced, as read, and torn.
+/// synced, as read, and torn with 0 and with 255.
 pub(crate) fn all_recover(
     rt: &(impl Abort + Threads + Sync),
     alloc: Global,
@@ -108,7 +135,7 @@ pub(crate) fn all_recover(
     output: &[u8],
 ) -> Result<(), AllocError> {
     for moment in 0..=vol.moment() {
-        for pick in [Pick::Oldest, Pick::Newest, Pick::Torn(255)] {
+        for pick in [Pick::Oldest, Pick::Newest, Pick::Torn(0), Pick::Torn(255)] {
             recovers(rt, alloc, vol, moment, pick, words, output)?;
         }
     }

@@ -1,5 +1,5 @@
 -- Tiles that are drawn and encoded at once.
-use Rattle.std.proofs.Common.{◌≡◌, ℕ, ◌+◌, ◌*◌, ◌<◌, ◌≤◌, zero, List, [], ◌∷◌, ◌++◌, length, get_or, map, None, refl, sym, ap, subst, ◌∙◌, arith, ⊎_elim}
+use Rattle.std.proofs.Common.{◌≡◌, ℕ, ◌+◌, ◌*◌, ◌<◌, ◌≤◌, List, [], ◌∷◌, ◌++◌, length, get_or, map, None, refl, sym, ap, subst, ◌∙◌, arith, ⊎_elim}
 use Rattle.std.specs.Prelude.{All}
 use Rattle.std.proofs.lemmas.Bool.{cases_lt}
 use Rattle.std.proofs.lemmas.List.{get_or-map, get_or_append_left, get_or_at, length-append, length-map}
@@ -11,7 +11,7 @@ use Rattle.lerc_encode.specs.Choice.{chosen_bands}
 use Rattle.lerc_encode.specs.Encoded.{AreEncodedOnce}
 use Rattle.sample_tiles.specs.Drawn.{drawn, sample_tile}
 use Rattle.sample_tiles.specs.Sums.{sample_blob}
-use Rattle.sample_tiles.specs.inside.Batches.{AreTheirs, AreTiles, IsFitting}
+use Rattle.sample_tiles.specs.inside.Batches.{AreTheirs, AreTiles}
 
 -- ---- drawn
 

@@ -1,5 +1,5 @@
 -- Pixels drawn one after the other.
-use Rattle.std.proofs.Common.{◌≡◌, ◌≢◌, ℕ, ℤ, pos, ◌+◌, ◌*◌, ◌/◌, ◌%◌, ◌<◌, ◌≤◌, suc, Bool, true, List, [], ◌∷◌, length, get_or, map, replicate, Option, None, Some, refl, sym, ap, ◌∙◌, subst, arith, ⊎_elim}
+use Rattle.std.proofs.Common.{◌≡◌, ℕ, ℤ, pos, ◌+◌, ◌*◌, ◌/◌, ◌%◌, ◌<◌, suc, true, List, [], ◌∷◌, length, get_or, map, replicate, Option, None, Some, refl, sym, ap, ◌∙◌, subst, arith, ⊎_elim}
 use Rattle.std.specs.Prelude.{is_some, slice_set, unwrap_or, IsTrue}
 use Rattle.std.specs.List.{range_with_len}
 use Rattle.std.proofs.lemmas.Bool.{cases_lt}
@@ -8,7 +8,7 @@ use Rattle.std.proofs.lemmas.List.FromFn.{get_or-map-range_with_len, length-map-
 use Rattle.raster_cells.specs.declared.kind.PixelType.TheVariants.{I16}
 use Rattle.raster_values.specs.Raster.{Pixels, blank, marked, written, IsValidAt}
 use Rattle.sample_tiles.specs.Drawn.{drawn, drawn_pixel, follower, sample_pixel, sample_tile}
-use Rattle.sample_tiles.specs.inside.Drawing.{IsDrawn, IsOpenFrom, pixel_of, tile_of}
+use Rattle.sample_tiles.specs.inside.Drawing.{IsDrawn, IsOpenFrom, tile_of}
 
 -- ---- one pixel
 

@@ -1,5 +1,5 @@
 -- A sample comes to one thing.
-use Rattle.std.proofs.Common.{◌≡◌, ℕ, ◌<◌, ◌≤◌, sym, ◌∙◌, arith, ⊎_elim}
+use Rattle.std.proofs.Common.{◌≡◌, ℕ, ◌≤◌, sym, ◌∙◌, arith, ⊎_elim}
 use Rattle.std.proofs.lemmas.Bool.{cases_lt}
 use Rattle.sample_tiles.specs.Sums.{AreSums, IsWorst}
 use Rattle.sample_tiles.specs.declared.adding.Sums.{Sums}

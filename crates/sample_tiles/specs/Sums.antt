@@ -33,7 +33,8 @@ abbrev pub IsOff : ℕ → ℕ → ℕ → Type 0
 IsOff start count n = (t k : ℕ) × ((r : Pixels) × ((t < count) × DecodesTo start t r × (k < 4096)
     × (off_by (sample_tile start t) r k ≡ n)))
 
--- no pixel of the first tiles is further from its decoded one, and one is so far, unless none is off
+-- no pixel of the first tiles is further from its decoded one, and one is so far, unless none is
+-- off
 pub record IsWorst (start count worst : ℕ) : Type 0 where
   pub bound : (n : ℕ) → IsOff start count n → n ≤ worst
   pub met : 0 < worst → IsOff start count worst

@@ -50,7 +50,7 @@ fn greatest_difference(given: &[i64], found: &[i64]) -> u64
 }
 
 /// The greatest difference of a pixel of one tile from that of the other.
-fn farthest(tile: &Raster, other: &Raster) -> u64
+fn greatest_offset(tile: &Raster, other: &Raster) -> u64
     requires shapes { IsTileLike tile.now × IsTileLike other.now }
     ensures bound { (k : ℕ) → k < 4096 → off_by tile.now other.now k ≤ result }
     ensures met { 0 < result → (k : ℕ) × ((k < 4096)
@@ -64,7 +64,7 @@ fn farthest(tile: &Raster, other: &Raster) -> u64
 }
 
 /// The bands that a blob decodes to.
-fn decoded(alloc: Global, blob: &[u8]) -> Result<Bands, AllocError>
+fn decode_blob(alloc: Global, blob: &[u8]) -> Result<Bands, AllocError>
     requires { (bands : List Pixels) × BandsBlob blob.now bands }
     ensures { IfOk result (BandsBlob blob.now) }
 {
@@ -85,8 +85,8 @@ fn error_of(alloc: Global, tile: &Raster, blob: &[u8]) -> Result<u64, AllocError
         × (BandsBlob blob.now (r ∷ []) × (k < 4096) × (off_by tile.now r k ≡ n)))) }
     ensures near { IfOk result (λ n. n ≤ 1) }
 {
-    let bands = decoded(alloc, blob)?;
-    Ok(farthest(tile, bands.at(0)))
+    let bands = decode_blob(alloc, blob)?;
+    Ok(greatest_offset(tile, bands.at(0)))
 }
 
 /// The checksum that stands in a blob.

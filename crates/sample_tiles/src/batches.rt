@@ -38,7 +38,7 @@ fn draw_tiles(alloc: Global, count: u32, x: &mut u32) -> Result<Vec<Bands>, Allo
 }
 
 /// The blobs of tiles, in version 4 with the error 1.
-fn encoded<R: Threads + Sync, G: Gate>(
+fn encode_drawn<R: Threads + Sync, G: Gate>(
     rt: &R,
     alloc: Global,
     tiles: &[Bands],
@@ -80,7 +80,7 @@ fn add_batch<R: Threads + Sync, G: Gate>(
         → OnOk result (x.new ≡ drawn start (4096 * sums.new.tiles)) }
 {
     let tiles = draw_tiles(alloc, count, x)?;
-    let blobs = encoded(rt, alloc, &tiles, gate)?;
+    let blobs = encode_drawn(rt, alloc, &tiles, gate)?;
     add_all(alloc, &tiles, &blobs, sums)
 }
 

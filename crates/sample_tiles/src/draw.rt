@@ -61,7 +61,7 @@ fn draw_pixel(tile: &mut Raster, k: u32, x: &mut u32)
 }
 
 /// A tile of which no pixel is valid.
-fn empty(alloc: Global) -> Result<Raster, AllocError>
+fn empty_tile(alloc: Global) -> Result<Raster, AllocError>
     ensures { IfOk result (IsOpenFrom 0) }
 {
     match Raster::new(alloc, PixelType::I16, SIDE, SIDE, 1) {
@@ -78,7 +78,7 @@ pub fn draw(alloc: Global, x: &mut u32) -> Result<Raster, AllocError>
     ensures number { (start t : ℕ) → x.old ≡ drawn start (4096 * t)
         → OnOk result (x.new ≡ drawn start (4096 * (t + 1))) }
 {
-    let mut tile = empty(alloc)?;
+    let mut tile = empty_tile(alloc)?;
     for k in 0..SIDE * SIDE {
         draw_pixel(&mut tile, k, x);
     }

@@ -1,11 +1,10 @@
 -- The bytes of a body.
 use Rattle.std.specs.Prelude.{slice_index}
-use Rattle.std.proofs.Common.{◌≡◌, ◌⊎◌, inl, inr, refl, ℕ, zero, suc, ◌+◌, ◌-◌, ◌*◌, ◌^◌, ◌<◌, ◌≤◌, List, [], ◌∷◌, ◌++◌, codes, length, get_or, replicate, take, drop, sym, ◌∙◌, ap, subst, arith}
-use Rattle.std.proofs.lemmas.Bool.{cases_lt}
+use Rattle.std.proofs.Common.{◌≡◌, ◌⊎◌, inl, inr, refl, ℕ, zero, suc, ◌+◌, ◌-◌, ◌*◌, ◌<◌, ◌≤◌, List, [], ◌∷◌, ◌++◌, length, get_or, replicate, take, drop, sym, ◌∙◌, ap, subst, arith}
 use Rattle.std.proofs.lemmas.List.{append_assoc, append-nil, take_all, take_more, drop-drop, drop_all, drop_at, get_or-drop, length-append, length-drop, length-replicate, length-take-le, take-append-le}
 use Rattle.byteorder.specs.Endian.{little_bytes, little_number}
 use Rattle.outside_io.specs.volume.Disk.{laid}
-use Rattle.bundle_index.specs.Entry.{IsEntry, entry_bytes, entry_of, word_of}
+use Rattle.bundle_index.specs.Entry.{IsEntry, entry_bytes, entry_of}
 use Rattle.bundle_index.specs.Numbers.{u16_at, u64_at}
 use Rattle.bundle_index.specs.declared.entry.Entry.{Entry}
 use Rattle.side_journal.specs.declared.body.Body.{Body}

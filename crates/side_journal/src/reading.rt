@@ -1,3 +1,5 @@
+//! A journal is read, and what it says.
+
 ghost use Rattle.std.specs.Prelude.{◌≡◌, ◌≢◌, ◌≤◌, ◌+◌, length, slice_index, IsTrue, IfOk};
 ghost use Rattle.outside_io.specs.declared.volume.VolFile.TheVariants.{Journal};
 ghost use Rattle.outside_io.specs.streams.Faults.{CountsFaults};

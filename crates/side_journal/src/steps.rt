@@ -1,3 +1,5 @@
+//! The steps of a journal: it is made ready, written, opened and closed.
+
 ghost use Rattle.std.specs.Prelude.{◌≡◌, ◌≤◌, ◌+◌, ◌↔◌, true, ◌∷◌, ◌++◌, [], length, drop, IsTrue, OnOk};
 ghost use Rattle.outside_io.specs.declared.volume.VolFile.TheVariants.{Journal};
 ghost use Rattle.outside_io.specs.volume.Disk.{IsSettled, change, settled};

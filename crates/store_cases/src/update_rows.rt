@@ -52,7 +52,8 @@ fn tell_updates(updates: &[TileRec], told: &mut Told) -> Result<(), CaseStop> {
     Ok(())
 }
 
-/// A call of the group `updates`, by the threads of a runtime. `BadRow` where nothing has that name.
+/// A call of the group `updates`, by the threads of a runtime. `BadRow` where nothing has that
+/// name.
 pub fn update_call<R: Threads + Sync>(
     rt: &R,
     alloc: Global,

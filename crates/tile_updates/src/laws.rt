@@ -1,5 +1,5 @@
-// Laws of the definitions, for the crates above. Each function does nothing: its contract is the
-// law.
+//! Laws of the definitions, for the crates above. Each function does nothing: its contract is the
+//! law.
 
 ghost use Rattle.tile_updates.specs.Laws.{StopsAreOnce, StreamsAreDecided, UpdatesAreOnce, UpdatesOrStop};
 

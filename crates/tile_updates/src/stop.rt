@@ -1,3 +1,5 @@
+//! Why an input, or a batch of it, gives no updates.
+
 ghost use Rattle.std.specs.Prelude.{◌≡◌};
 ghost use Rattle.tile_updates.specs.inside.StopOf.{stop_of};
 

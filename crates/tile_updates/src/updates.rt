@@ -41,7 +41,7 @@ struct Waiting {
 
 /// What follows the tiles that wait.
 #[derive(Clone, Copy)]
-enum Ending {
+enum Next {
     /// It was not looked at.
     More,
     /// Nothing.
@@ -56,33 +56,34 @@ fn wait_next<S: Source>(
     src: &mut S,
     version: Version,
     waiting: &mut Waiting,
-) -> Result<Ending, StreamStop>
+) -> Result<Next, StreamStop>
     requires few { length waiting.old.batch < 1048576 }
     requires place { waiting.old.place < 2 ^ 59 }
-    ensures ok { IfOk result (λ ending. Follows version (S.left src.old) (S.left src.new)
-        waiting.old waiting.new ending) }
-    ensures free { (step : ℕ) (input : Option (List ℕ)) → IfErr result (TellsStop version step input) }
+    ensures ok { IfOk result (λ next. Follows version (S.left src.old) (S.left src.new)
+        waiting.old waiting.new next) }
+    ensures free { (step : ℕ) (input : Option (List ℕ))
+        → IfErr result (TellsStop version step input) }
     ensures some { TookSome (S.left src.old) (S.left src.new) }
     ensures counted { IsCause (result ≡ Err StreamStop.Source)
         (S.faults src.old) (S.faults src.new) }
 {
     let tile = match next_tile(alloc, src, waiting.place) {
         Ok(Some(tile)) => tile,
-        Ok(None) => return Ok(Ending::AtEnd),
-        Err(TileStop::Fault(fault)) => return Ok(Ending::Refused(StreamStop::Fault(fault))),
+        Ok(None) => return Ok(Next::AtEnd),
+        Err(TileStop::Fault(fault)) => return Ok(Next::Refused(StreamStop::Fault(fault))),
         Err(TileStop::Source) => return Err(StreamStop::Source),
         Err(TileStop::OutOfMemory) => return Err(StreamStop::OutOfMemory),
     };
     if bands_need_v4(version, &tile.bands) {
         let place = waiting.place + 16;
-        return Ok(Ending::Refused(StreamStop::DepthNeedsV4 { place }));
+        return Ok(Next::Refused(StreamStop::DepthNeedsV4 { place }));
     }
     let size = tile.size();
     let Tile { slot, bands } = tile;
     match waiting.batch.push(slot, bands) {
         Ok(()) => {
             waiting.place += size;
-            Ok(Ending::More)
+            Ok(Next::More)
         }
         Err(_) => Err(StreamStop::OutOfMemory),
     }
@@ -95,7 +96,7 @@ fn fill<S: Source>(
     coding: &Coding,
     room: usize,
     place: u64,
-) -> Result<(Waiting, Ending), StreamStop>
+) -> Result<(Waiting, Next), StreamStop>
     requires room { (0 < room) × (room ≤ 1048576) }
     requires place { place ≤ 83886104 * 1048576 }
     ensures ok { IfOk result (λ r. IsFilled coding.now.version room place (S.left src.old)
@@ -112,13 +113,13 @@ fn fill<S: Source>(
     };
     while waiting.batch.len() < room && !waiting.batch.is_full(coding.workers) {
         match wait_next(alloc, src, coding.version, &mut waiting) {
-            Ok(Ending::More) => {}
-            Ok(Ending::AtEnd) => return Ok((waiting, Ending::AtEnd)),
-            Ok(Ending::Refused(stop)) => return Ok((waiting, Ending::Refused(stop))),
+            Ok(Next::More) => {}
+            Ok(Next::AtEnd) => return Ok((waiting, Next::AtEnd)),
+            Ok(Next::Refused(stop)) => return Ok((waiting, Next::Refused(stop))),
             Err(stop) => return Err(stop),
         }
     }
-    Ok((waiting, Ending::More))
+    Ok((waiting, Next::More))
 }
 
 /// Reads a batch, encodes it and adds its updates, and says whether there may be more tiles. What
@@ -147,7 +148,7 @@ fn add_batch<R: Threads + Sync, S: Source, G: Gate>(
         (S.faults src.old) (S.faults src.new) }
 {
     let room = MOST_TILES - done.list.len();
-    let (waiting, ending) = match fill(alloc, src, coding, room, done.place) {
+    let (waiting, next) = match fill(alloc, src, coding, room, done.place) {
         Ok(filled) => filled,
         Err(stop) => return Err(stop),
     };
@@ -156,24 +157,25 @@ fn add_batch<R: Threads + Sync, S: Source, G: Gate>(
         Ok(()) => done.place = place,
         Err(stop) => return Err(stream_stop(stop)),
     }
-    match ending {
-        Ending::More => Ok(true),
-        Ending::AtEnd => Ok(false),
-        Ending::Refused(stop) => Err(stop),
+    match next {
+        Next::More => Ok(true),
+        Next::AtEnd => Ok(false),
+        Next::Refused(stop) => Err(stop),
     }
 }
 
 /// Reads tiles up to the end of the source, and gives the updates that they ask for: for each tile
-/// its slot and the blobs of its bands, of this coding. Where a tile is refused, nothing behind it is
-/// told.
+/// its slot and the blobs of its bands, of this coding. Where a tile is refused, nothing behind it
+/// is told.
 ///
-/// The tiles are read in batches, up to 16 for each worker or 2^24 values, each of which is encoded by so many
-/// workers. Whichever their number and whatever the gate does, the answer is the same, but for a source that
-/// fails, which is told at once, and for want of memory. The gate is that of `encode_tiles`, the tiles
-/// being numbered in their batch.
+/// The tiles are read in batches, up to 16 for each worker or 2^24 values, each of which is encoded
+/// by so many workers. Whichever their number and whatever the gate does, the answer is the same,
+/// but for a source that fails, which is told at once, and for want of memory. The gate is that of
+/// `encode_tiles`, the tiles being numbered in their batch.
 ///
-/// One batch of bands is kept at a time, and all the blobs, which have at most 2^30 bytes together. Want of
-/// memory for them is answered where it comes. After an error some bytes of the source are taken.
+/// One batch of bands is kept at a time, and all the blobs, which have at most 2^30 bytes together.
+/// Want of memory for them is answered where it comes. After an error some bytes of the source are
+/// taken.
 pub fn read_updates<R: Threads + Sync, S: Source, G: Gate>(
     rt: &R,
     alloc: Global,

@@ -1,3 +1,5 @@
+//! The blobs of tiles.
+
 ghost use Rattle.std.specs.Prelude.{◌≡◌, ◌<◌, [], length, get_or};
 
 use outside_io::Bytes;

@@ -8,9 +8,11 @@
 mod blobs;
 mod coding;
 mod gate;
+mod machine;
 mod workers;
 
 pub use blobs::Blobs;
 pub use coding::Coding;
 pub use gate::{Gate, Open};
+pub use machine::Machine;
 pub use workers::{NoBlobs, bands_need_v4, encode_tiles};

@@ -14,11 +14,11 @@ const MOST: usize = 1_048_576;
 ///
 /// The calls: `new NAME LEN FRONT JOURNAL FAILING STOP` makes a bundle of `LEN` bytes that begins
 /// with `FRONT` and has zeros behind, beside the journal, where the calls with these numbers fail,
-/// and all from `STOP` on, which is empty for none. `copy NAME OTHER FAILING STOP` makes another one
-/// of the same files. `crash NAME MOMENT PICK OTHER` gives an image of a moment another name; the
-/// moment is a number, a name of one, or empty for now. `mark NAME MOMENT` gives the moment of now a
-/// name, `name MOMENT BACK OTHER` one so many before another one, and `is NAME MOMENT` tells whether
-/// it is now. `read NAME FILE AT COUNT` and `length NAME FILE` tell what a read gives,
+/// and all from `STOP` on, which is empty for none. `copy NAME OTHER FAILING STOP` makes another
+/// one of the same files. `crash NAME MOMENT PICK OTHER` gives an image of a moment another name;
+/// the moment is a number, a name of one, or empty for now. `mark NAME MOMENT` gives the moment of
+/// now a name, `name MOMENT BACK OTHER` one so many before another one, and `is NAME MOMENT` tells
+/// whether it is now. `read NAME FILE AT COUNT` and `length NAME FILE` tell what a read gives,
 /// without a call of the volume. `write NAME FILE AT BYTES` and `cut NAME FILE LEN` change a file
 /// and sync it. `moment NAME` tells the clock.
 #[derive(Drop)]

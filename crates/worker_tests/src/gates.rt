@@ -5,7 +5,7 @@ ghost use Rattle.std.specs.Prelude.{◌≤◌};
 use bundle_index::Slot;
 use lerc_encode::EncodeFault;
 use lerc_header::{Step, Version};
-use meeting_gate::Meeting;
+use meeting_gate::{Counting, Meeting};
 use outside_io::{Bytes, MemSource};
 use raster_grids::bands_read;
 use raster_values::Bands;
@@ -24,8 +24,8 @@ const EIGHT: [u8; 19] = *b"LGR1\x01\x01\0\0\0\x01\0\0\0\x01\0\0\0\x01\x08";
 /// Two depths of one unsigned byte, 7 and 8.
 const DEEP: [u8; 20] = *b"LGR1\x01\x01\0\0\0\x01\0\0\0\x02\0\0\0\x01\x07\x08";
 
-/// The blob of the first, worked by hand from the layout. The least and the greatest value, its last
-/// fields but the mask's size, are doubles.
+/// The blob of the first, worked by hand from the layout. The least and the greatest value, its
+/// last fields but the mask's size, are doubles.
 const SEVEN_BLOB: [u8; 66] = *b"Lerc2 \x03\0\0\0\xc0\x66\x45\x59\
 \x01\0\0\0\x01\0\0\0\x01\0\0\0\x08\0\0\0\x42\0\0\0\x01\0\0\0\
 \0\0\0\0\0\0\xe0\x3f\0\0\0\0\0\0\x1c\x40\0\0\0\0\0\0\x1c\x40\0\0\0\0";
@@ -38,8 +38,8 @@ fn bands_of(rt: &impl Abort, alloc: Global, grid: &[u8]) -> Bands {
     bands_read(alloc, &mut source, 0).expect(rt, "bands")
 }
 
-/// The blobs of tiles of these grids, one behind the other, or the number of the tile that is refused
-/// and whether that is for its depths.
+/// The blobs of tiles of these grids, one behind the other, or the number of the tile that is
+/// refused and whether that is for its depths.
 fn encoded<R: Threads + Sync + Abort, G: Gate>(
     rt: &R,
     alloc: Global,
@@ -75,11 +75,50 @@ fn joined(rt: &impl Abort, alloc: Global, blobs: &Blobs) -> Vec<u8> {
 
 #[test]
 fn two_workers_encode_at_once(rt: HostRuntime) {
-    let gate = Meeting::new();
+    let gate = Meeting::of_two();
     let blobs = encoded(&rt, rt.alloc(), &[&SEVEN, &EIGHT], 2, &gate).expect(&rt, "blobs");
-    assert!(&rt; gate.both_met(), "the workers did not meet");
+    assert!(&rt; gate.all_met(), "the workers did not meet");
     assert!(&rt; blobs.starts_with(&SEVEN_BLOB), "the blob of the first");
     assert_eq!(&rt; blobs.len(), 132, "two blobs");
+}
+
+#[test]
+fn four_workers_encode_at_once(rt: HostRuntime) {
+    let gate = Meeting::of_four();
+    let grids: [&[u8]; 4] = [&SEVEN, &EIGHT, &EIGHT, &SEVEN];
+    let blobs = encoded(&rt, rt.alloc(), &grids, 4, &gate).expect(&rt, "blobs");
+    assert!(&rt; gate.all_met(), "the workers did not meet");
+    assert!(&rt; blobs.ends_with(&SEVEN_BLOB), "the blob of the last");
+    assert_eq!(&rt; blobs.len(), 264, "four blobs");
+}
+
+/// Where there is one worker or one tile nobody can meet, and the gate says so.
+#[test]
+fn a_lone_worker_meets_nobody(rt: HostRuntime) {
+    let one = Meeting::of_two();
+    let blobs = encoded(&rt, rt.alloc(), &[&SEVEN, &EIGHT], 1, &one).expect(&rt, "blobs");
+    assert_eq!(&rt; blobs.len(), 132, "two blobs");
+    assert!(&rt; !one.all_met(), "one worker met another");
+    let alone = Meeting::of_two();
+    let blobs = encoded(&rt, rt.alloc(), &[&SEVEN], 2, &alone).expect(&rt, "blobs");
+    assert_eq!(&rt; blobs.len(), 66, "one blob");
+    assert!(&rt; !alone.all_met(), "the worker of the one tile met another");
+}
+
+#[test]
+fn each_tile_passes_once_by_its_number(rt: HostRuntime) {
+    let alloc = rt.alloc();
+    let grids: [&[u8]; 50] = [&SEVEN; 50];
+    for workers in [1, 2, 7, 64] {
+        let gate = Counting::new(alloc, grids.len()).expect(&rt, "memory");
+        let blobs = encoded(&rt, alloc, &grids, workers, &gate).expect(&rt, "blobs");
+        assert_eq!(&rt; blobs.len(), 3300, "fifty blobs");
+        for at in 0..grids.len() {
+            assert_eq!(&rt; gate.passes_of(at), 1, "tile {at} by {workers} workers");
+        }
+        let others = gate.passes_of(grids.len());
+        assert_eq!(&rt; others, 0, "numbers of no tile by {workers} workers");
+    }
 }
 
 #[test]
@@ -111,7 +150,7 @@ fn a_batch_is_encoded_at_once(rt: HostRuntime) {
     let alloc = rt.alloc();
     let batch = batch_of(&rt, alloc, &[&SEVEN, &EIGHT]);
     assert!(&rt; !batch.is_full(1), "two tiles are few");
-    let gate = Meeting::new();
+    let gate = Meeting::of_two();
     let mut list = UpdateList::new(alloc);
     let coding = Coding {
         version: Version::V4,
@@ -120,7 +159,7 @@ fn a_batch_is_encoded_at_once(rt: HostRuntime) {
     };
     let added = encode_batch(&rt, alloc, batch, coding, &gate, &mut list);
     assert!(&rt; added.is_ok(), "the updates");
-    assert!(&rt; gate.both_met(), "the workers did not meet");
+    assert!(&rt; gate.all_met(), "the workers did not meet");
     let updates = list.into_vec();
     if updates.len() != 2 {
         panic!(&rt; "two updates");

@@ -3,7 +3,7 @@ use Rattle.std.specs.Prelude.{◌≡◌, ℕ, ℤ, ◌-◌, ◌*◌, ◌≤◌, 
 use Rattle.raster_values.specs.Raster.{Pixels}
 use Rattle.ascii_grid.specs.declared.fault.AsciiStop.{AsciiStop}
 use Rattle.ascii_grid.specs.declared.fault.AsciiStop.TheVariants.{Fault, Source, OutOfMemory}
-use Rattle.ascii_grid.specs.Tokens.{Spot, limit}
+use Rattle.ascii_grid.specs.Tokens.{TokenAt, limit}
 use Rattle.ascii_grid.specs.Canon.{IsApart}
 use Rattle.ascii_grid.specs.Text.{AreCells, IsCell, NumberFaults, cell_faults}
 
@@ -18,7 +18,7 @@ IsFairSoFar blank now nodata k = (cells : List (Option (List ℤ))) × ((length 
     × (Begun blank now cells × All (IsApart nodata) cells))
 
 -- a cell more, or what is wrong with it
-abbrev pub CellTaken : Result Unit AsciiStop → ℤ → Spot → Pixels → Pixels → ℕ → Type 0
+abbrev pub CellTaken : Result Unit AsciiStop → ℤ → TokenAt → Pixels → Pixels → ℕ → Type 0
 CellTaken (Ok u) nodata t old new k = (p : Option (List ℤ)) × (IsCell old.kind nodata t.bytes p
     × ((blank : Pixels) (cells : List (Option (List ℤ))) → length cells ≡ k → Begun blank old cells
     → Begun blank new (cells ++ p ∷ [])))
@@ -27,7 +27,7 @@ CellTaken (Err Source) nodata t old new k = ⊥
 CellTaken (Err OutOfMemory) nodata t old new k = ⊥
 
 -- every number was taken
-abbrev pub CellsTaken : Result Unit AsciiStop → ℕ → ℤ → List Spot → Pixels → Pixels → Type 0
+abbrev pub CellsTaken : Result Unit AsciiStop → ℕ → ℤ → List TokenAt → Pixels → Pixels → Type 0
 CellsTaken (Ok u) total nodata tokens old new = (total ≤ limit)
     × ((length tokens ≡ old.rows * old.cols) × (AreCells old.kind nodata tokens new.pixels
     × (new ≡ record old { pixels = new.pixels })))

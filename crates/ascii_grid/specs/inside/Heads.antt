@@ -1,6 +1,6 @@
 -- What the code keeps of pairs.
 use Rattle.std.specs.Prelude.{◌≡◌, ◌⊎◌, ◌↔◌, ℕ, ℤ, pos, ◌*◌, ◌+◌, ◌<◌, ◌≤◌, Bool, ◌&&◌, IsTrue, List, [], ◌∷◌, ◌++◌, length, Option, None, Some, Result, Ok, Err, is_some, IfSome, unsigned_abs}
-use Rattle.ascii_grid.specs.Tokens.{Spot}
+use Rattle.ascii_grid.specs.Tokens.{TokenAt}
 use Rattle.ascii_grid.specs.Endings.{ending}
 use Rattle.ascii_grid.specs.Head.{ArePairs, BeginsWithLetter, HasAll, HeadFaults, IsInteger, IsText, Pair, Says, SaysKey, SaysNumber, SaysText, flat}
 use Rattle.ascii_grid.specs.declared.words.Key.{Key}
@@ -18,7 +18,7 @@ KeepsSize None ps q = ¬ Says ps q
 KeepsSize (Some n) ps q =
     SaysNumber ps q (pos n) × ((0 < n) × ((m : ℤ) → SaysNumber ps q m → m ≡ pos n))
 
-abbrev pub KeepsText : Option Spot → List Pair → ℕ → Type 0
+abbrev pub KeepsText : Option TokenAt → List Pair → ℕ → Type 0
 KeepsText None ps q = ¬ Says ps q
 KeepsText (Some t) ps q = SaysText ps q t.bytes × IsText t.bytes
 
@@ -80,10 +80,10 @@ SizeStops other bytes reason =
 -- ---- what the head's reader leaves
 
 -- the pairs stand and are all there, and this token is behind them
-pub record BehindHead (h : Head) (t : Spot) (left : Option (List ℕ)) (window : Held) (total : ℕ)
-    (tokens : List Spot) : Type 0 where
+pub record BehindHead (h : Head) (t : TokenAt) (left : Option (List ℕ)) (window : Held) (total : ℕ)
+    (tokens : List TokenAt) : Type 0 where
   pub pairs : List Pair
-  pub rest : List Spot
+  pub rest : List TokenAt
   pub joined : tokens ≡ flat pairs ++ t ∷ rest
   pub stand : ArePairs [] pairs
   pub all : HasAll pairs
@@ -91,7 +91,7 @@ pub record BehindHead (h : Head) (t : Spot) (left : Option (List ℕ)) (window :
   pub behind : ¬ BeginsWithLetter t.bytes
   pub later : length t.bytes < 33 → Left left window total rest
 
-abbrev pub HeadRead : Result (Head × Spot) AsciiStop → Option (List ℕ) → Held → ℕ → List Spot
+abbrev pub HeadRead : Result (Head × TokenAt) AsciiStop → Option (List ℕ) → Held → ℕ → List TokenAt
     → Type 0
 HeadRead (Ok r) left window total tokens = BehindHead r.0 r.1 left window total tokens
 HeadRead (Err (Fault f)) left window total tokens =

@@ -3,7 +3,7 @@ use Rattle.std.specs.Prelude.{◌≡◌, ◌≢◌, ℕ, ◌+◌, ◌<◌, ◌�
 use Rattle.ascii_grid.specs.declared.fault.AsciiFault.{AsciiFault}
 use Rattle.ascii_grid.specs.declared.fault.AsciiStop.{AsciiStop}
 use Rattle.ascii_grid.specs.declared.fault.AsciiStop.TheVariants.{Fault, Source, OutOfMemory}
-use Rattle.ascii_grid.specs.Tokens.{EndsToken, IsDark, Spot, limit}
+use Rattle.ascii_grid.specs.Tokens.{EndsToken, IsDark, TokenAt, limit}
 use Rattle.ascii_grid.specs.Endings.{ending}
 use Rattle.ascii_grid.specs.inside.Reading.{Ahead, Held, Left, TakesNext, begins_dark, tokens_of}
 use Rattle.ascii_grid.specs.Tokens.{decided_front}
@@ -20,7 +20,7 @@ pub record Skips (left : Option (List ℕ)) (window : Held) (from : ℕ) (text b
   pub ends : more ≡ false → bytes ≡ []
 
 -- no token is decided before the byte at the limit, and there is one
-abbrev pub IsOver : AsciiFault → ℕ → List Spot → Type 0
+abbrev pub IsOver : AsciiFault → ℕ → List TokenAt → Type 0
 IsOver f total tokens = (f ≡ too_long) × ((limit < total) × (decided_front tokens ≡ []))
 
 abbrev pub Skipped : Result Bool AsciiStop → Option (List ℕ) → Held → ℕ → List ℕ → Type 0
@@ -59,7 +59,7 @@ WordTaken (Err Source) left window from text word = Unit {0}
 WordTaken (Err OutOfMemory) left window from text word = ⊥
 
 -- the next token was taken, or there is none
-abbrev pub NextTaken : Result (Option Spot) AsciiStop → Option (List ℕ) → Held → ℕ → List Spot
+abbrev pub NextTaken : Result (Option TokenAt) AsciiStop → Option (List ℕ) → Held → ℕ → List TokenAt
     → Type 0
 NextTaken (Ok found) left window total tokens = TakesNext left window total tokens found
 NextTaken (Err (Fault f)) left window total tokens =
@@ -68,9 +68,9 @@ NextTaken (Err Source) left window total tokens = Unit {0}
 NextTaken (Err OutOfMemory) left window total tokens = ⊥
 
 -- the next token was taken, or there is none and how the text ends was told
-abbrev pub Demanded : Result Spot AsciiStop → Option (List ℕ) → Held → ℕ → List Spot → Type 0
+abbrev pub Demanded : Result TokenAt AsciiStop → Option (List ℕ) → Held → ℕ → List TokenAt → Type 0
 Demanded (Ok token) left window total tokens =
-    (ts : List Spot) × ((tokens ≡ token ∷ ts)
+    (ts : List TokenAt) × ((tokens ≡ token ∷ ts)
     × (length token.bytes < 33 → Left left window total ts))
 Demanded (Err (Fault f)) left window total tokens =
     (tokens ≡ []) × ending total f.place f.reason

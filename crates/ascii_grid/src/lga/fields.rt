@@ -7,7 +7,7 @@ ghost use Rattle.ascii_grid.specs.inside.Fields.{Tells, TookField, TookPart, sho
 ghost use Rattle.ascii_grid.specs.Stopping.{CountsStop};
 
 use crate::fault::{AsciiReason, AsciiStop, stop};
-use crate::text::held;
+use crate::text::copy_bytes;
 use crate::words::are_text_bytes;
 use byteorder::{ByteOrder, LittleEndian};
 use outside_io::{Bytes, Source, take_all};
@@ -115,7 +115,7 @@ pub(super) fn take_text<S: Source>(alloc: Global, src: &mut S, at: u64) -> Resul
     if !are_text_bytes(text) {
         return Err(stop(AsciiReason::BadText, at));
     }
-    held(alloc, text)
+    copy_bytes(alloc, text)
 }
 
 /// Takes the nodata value.

@@ -1,3 +1,5 @@
+//! An `LGA1` is read to the end of its source.
+
 ghost use Rattle.std.specs.Prelude.{IfOk, IfSome, OnOk};
 ghost use Rattle.outside_io.specs.streams.Source.{IsAtEnd};
 ghost use Rattle.ascii_grid.specs.Canon.{IsLawful};

@@ -1,3 +1,5 @@
+//! The `LGA1` of a grid is written.
+
 ghost use Rattle.std.specs.Prelude.{◌≡◌, ◌≤◌, ◌∷◌, ◌++◌, [], OnOk, OnErr, codes, length};
 ghost use Rattle.outside_io.specs.streams.Faults.{CountsFaults};
 ghost use Rattle.outside_io.specs.streams.Sink.{Holds, HoldsPrefix};
@@ -5,6 +7,7 @@ ghost use Rattle.byteorder.specs.Endian.{little_bytes};
 ghost use Rattle.raster_cells.specs.PixelType.{complement_of};
 ghost use Rattle.ascii_grid.specs.Canon.{IsLawful};
 ghost use Rattle.ascii_grid.specs.Lga.{flags_of, last_fields, lga_of, text_field};
+ghost use Rattle.ascii_grid.specs.inside.Pages.{Gives};
 
 use crate::grid::AsciiGrid;
 use byteorder::{ByteOrder, LittleEndian};
@@ -21,10 +24,7 @@ fn flags(x_centre: bool, y_centre: bool) -> u8
 /// Gives a text behind its length.
 fn give_text<K: Sink>(sink: &mut K, text: &[u8]) -> Result<(), Failed>
     requires { length text.now ≤ 32 }
-    ensures ok { OnOk result (Holds (K.held sink.old) (K.held sink.new) (text_field text.now)) }
-    ensures err { OnErr result
-        (HoldsPrefix (K.held sink.old) (K.held sink.new) (text_field text.now)) }
-    ensures counted { CountsFaults result (K.faults sink.old) (K.faults sink.new) }
+    ensures gives { Gives K.held K.faults result sink.old sink.new (text_field text.now) }
 {
     give_all(sink, &[text.len() as u8])?;
     give_all(sink, text)
@@ -42,10 +42,7 @@ fn nodata_bytes(nodata: i64) -> [u8; 8]
 /// Gives nodata, and the grid.
 fn give_last<K: Sink>(grid: &AsciiGrid, sink: &mut K) -> Result<(), Failed>
     requires { IsLawful grid.now }
-    ensures ok { OnOk result (Holds (K.held sink.old) (K.held sink.new) (last_fields grid.now)) }
-    ensures err { OnErr result
-        (HoldsPrefix (K.held sink.old) (K.held sink.new) (last_fields grid.now)) }
-    ensures counted { CountsFaults result (K.faults sink.old) (K.faults sink.new) }
+    ensures gives { Gives K.held K.faults result sink.old sink.new (last_fields grid.now) }
 {
     give_all(sink, &nodata_bytes(grid.geo.nodata))?;
     grid_write(&grid.raster, sink)

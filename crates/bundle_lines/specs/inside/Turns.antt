@@ -35,7 +35,8 @@ pub record IsFitting (len : ℕ) (updates : List TileRec) (n : ℕ) : Type 0 whe
   pub within : n ≤ length updates
   pub first : HasRoomFirst (end_of len) updates n
   pub ends : (n ≡ 64) ⊎ ((n ≡ length updates)
-      ⊎ (2 ^ 40 < end_of len + length (group_records (take n updates)) + 4 + length (bytes_at updates n)))
+      ⊎ (2 ^ 40 < end_of len + length (group_records (take n updates)) + 4 + length
+      (bytes_at updates n)))
 
 -- How many of the tiles are put next: some, behind a bundle of so many bytes where the volume tells
 -- it, or there is no room for the first.

@@ -27,7 +27,8 @@ pub record SameUnderAll (header : List ℕ) (es : List NewEntry) (old now : List
 
 -- a crash leaves a bundle that differs from this one under the header and the entries alone
 abbrev pub EachUnderAll : List ℕ → List NewEntry → List ℕ → Disk → Type 0
-EachUnderAll header es bundle now = (c : List ℕ) → IsImage now.bundle c → SameUnderAll header es bundle c
+EachUnderAll header es bundle now = (c : List ℕ) → IsImage now.bundle c
+    → SameUnderAll header es bundle c
 
 -- the journal is as it was, and a crash leaves a bundle that differs under the header and the
 -- entries alone
@@ -42,7 +43,8 @@ Lays Build es h = ⊥
 Lays (Group entries size header) es h = (es ≡ entries) × (h ≡ header)
 
 -- the journal is of tiles, whose header and entries, laid over the bundle, leave a readable one
-pub record AreUnderWay (bundle journal : List ℕ) (es : List NewEntry) (header : List ℕ) : Type 0 where
+pub record AreUnderWay (bundle journal : List ℕ) (es : List NewEntry)
+    (header : List ℕ) : Type 0 where
   pub body : Body
   pub says : SaysBody journal body
   pub lays : Lays body es header
@@ -56,7 +58,8 @@ IsOfGroup Build = ⊥
 IsOfGroup (Group entries size header) = IsGroup entries size header
 
 -- the journal is of these entries and this header, and has such a length at this place
-pub record SaysThese (journal : List ℕ) (es : List NewEntry) (header : List ℕ) (size place : ℕ) : Type 0 where
+pub record SaysThese (journal : List ℕ) (es : List NewEntry) (header : List ℕ)
+    (size place : ℕ) : Type 0 where
   pub body : Body
   pub says : SaysBody journal body
   pub lays : Lays body es header

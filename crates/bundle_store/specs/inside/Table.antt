@@ -5,7 +5,7 @@ use Rattle.bundle_index.specs.declared.entry.Entry.{Entry}
 use Rattle.bundle_store.specs.declared.tile_rec.TileRec.{TileRec}
 use Rattle.bundle_store.specs.Build.{bytes_at}
 use Rattle.bundle_store.specs.Session.{IsFirstEmpty, IsFirstLarge}
-use Rattle.bundle_store.specs.Tiles.{TileMap}
+use Rattle.bundle_store.specs.Tiles.{AreTiles, TileMap}
 use Rattle.bundle_store.specs.declared.fault.StoreFault.{StoreFault}
 use Rattle.bundle_store.specs.declared.fault.StoreFault.TheVariants.{TileTooLarge, EmptyTile}
 
@@ -22,6 +22,11 @@ table_map tiles table slot = tile_of_number tiles (get_or table slot None)
 abbrev pub IsTable : List TileRec → List (Option ℕ) → Type 0
 IsTable tiles table = (slot number : ℕ) → get_or table slot None ≡ Some number →
     number < length tiles
+
+-- the table's numbers are numbers of tiles, and a bundle can hold the tiles that it shows
+pub record NumbersTiles (tiles : List TileRec) (table : List (Option ℕ)) : Type 0 where
+  pub are_numbers : IsTable tiles table
+  pub are_tiles : AreTiles (table_map tiles table)
 
 -- so many bytes are enough for the record of each tile
 abbrev pub HasRoom : List TileRec → ℕ → Type 0

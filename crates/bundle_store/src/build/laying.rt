@@ -1,15 +1,16 @@
+//! The bytes of a new bundle: header, index and records.
+
 ghost use Rattle.std.specs.Prelude.{◌≡◌, ◌+◌, ◌^◌, ◌<◌, ◌≤◌, [], length, take, IsTrue, IfOk, OnOk};
 ghost use Rattle.outside_io.specs.declared.volume.VolFile.TheVariants.{Bundle};
 ghost use Rattle.outside_io.specs.volume.Disk.{settled};
 ghost use Rattle.outside_io.specs.streams.Faults.{CountsFaults};
-ghost use Rattle.outside_io.specs.volume.History.{During, contents, current};
+ghost use Rattle.outside_io.specs.volume.History.{contents, current};
 ghost use Rattle.bundle_index.specs.Sizes.{index_end, slot_count};
 ghost use Rattle.bundle_store.specs.inside.Parts.{Extends, KeepsJournal};
 ghost use Rattle.bundle_store.specs.Kept.{Keeps};
-ghost use Rattle.bundle_store.specs.inside.Table.{HasRoom, IsTable, table_map};
+ghost use Rattle.bundle_store.specs.inside.Table.{HasRoom, NumbersTiles, table_map};
 ghost use Rattle.bundle_store.specs.Layout.{layout, record_of, records, record_bytes};
-ghost use Rattle.bundle_store.specs.Tiles.{AreTiles};
-ghost use Rattle.bundle_store.specs.Told.{Told};
+ghost use Rattle.bundle_store.specs.Told.{Changes};
 
 use crate::TileRec;
 use crate::front::Front;
@@ -45,9 +46,8 @@ fn write_record<V: Volume>(
     requires end { IsTrue (V.told vol.old) → at ≡ length (contents Bundle (V.history vol.old)) }
     ensures done { IsTrue (V.told vol.old) → OnOk result (Extends (current (V.history vol.old))
         (current (V.history vol.new)) (record_bytes tile.now)) }
-    ensures during { IsTrue (V.told vol.old) → During (KeepsJournal (current (V.history vol.old)))
-        (V.history vol.old) (V.history vol.new) }
-    ensures told { Told V.told V.faults (CountsFaults result) vol.old vol.new }
+    ensures changes { Changes V.told V.history V.faults (CountsFaults result)
+        KeepsJournal vol.old vol.new }
 {
     let end = spell_record(tile, buffer);
     vol.write(VolFile::Bundle, at, &buffer[..end])
@@ -63,17 +63,15 @@ fn write_slot<V: Volume>(
     buffer: &mut [u8],
 ) -> Result<u64, Failed>
     requires buffer { HasRoom tiles.now (length buffer.old) }
-    requires table { IsTable tiles.now table.now }
-    requires tiles { AreTiles (table_map tiles.now table.now) }
+    requires table { NumbersTiles tiles.now table.now }
     requires room { at < 2 ^ 39 }
     requires end { IsTrue (V.told vol.old) → at ≡ length (contents Bundle (V.history vol.old)) }
     ensures done { IsTrue (V.told vol.old) → OnOk result (Extends (current (V.history vol.old))
         (current (V.history vol.new)) (record_of (table_map tiles.now table.now slot))) }
     ensures next { IfOk result (λ n. n ≡ at + length
         (record_of (table_map tiles.now table.now slot))) }
-    ensures during { IsTrue (V.told vol.old) → During (KeepsJournal (current (V.history vol.old)))
-        (V.history vol.old) (V.history vol.new) }
-    ensures told { Told V.told V.faults (CountsFaults result) vol.old vol.new }
+    ensures changes { Changes V.told V.history V.faults (CountsFaults result)
+        KeepsJournal vol.old vol.new }
 {
     if slot >= table.len() {
         return Ok(at);
@@ -94,15 +92,13 @@ fn write_records<V: Volume>(
     buffer: &mut [u8],
 ) -> Result<(), Failed>
     requires buffer { HasRoom tiles.now (length buffer.old) }
-    requires table { IsTable tiles.now table.now }
-    requires tiles { AreTiles (table_map tiles.now table.now) }
+    requires table { NumbersTiles tiles.now table.now }
     requires end { IsTrue (V.told vol.old) → length (contents Bundle (V.history vol.old))
         ≡ index_end }
     ensures done { IsTrue (V.told vol.old) → OnOk result (Extends (current (V.history vol.old))
         (current (V.history vol.new)) (records (table_map tiles.now table.now) slot_count)) }
-    ensures during { IsTrue (V.told vol.old) → During (KeepsJournal (current (V.history vol.old)))
-        (V.history vol.old) (V.history vol.new) }
-    ensures told { Told V.told V.faults (CountsFaults result) vol.old vol.new }
+    ensures changes { Changes V.told V.history V.faults (CountsFaults result)
+        KeepsJournal vol.old vol.new }
 {
     let mut at = INDEX_END;
     for slot in 0..SLOTS {
@@ -113,7 +109,7 @@ fn write_records<V: Volume>(
 
 /// Writes header, index and records of the tiles that the table numbers into the empty bundle, and
 /// syncs it; `front` then has its header and its index. The buffer takes one record.
-pub(crate) fn lay_out<V: Volume>(
+pub(crate) fn write_layout<V: Volume>(
     vol: &mut V,
     tiles: &[TileRec],
     table: &[Option<usize>],
@@ -121,15 +117,13 @@ pub(crate) fn lay_out<V: Volume>(
     front: &mut Front,
 ) -> Result<(), Failed>
     requires buffer { HasRoom tiles.now (length buffer.old) }
-    requires table { IsTable tiles.now table.now }
-    requires tiles { AreTiles (table_map tiles.now table.now) }
+    requires table { NumbersTiles tiles.now table.now }
     requires empty { IsTrue (V.told vol.old) → contents Bundle (V.history vol.old) ≡ [] }
     ensures bundle { IsTrue (V.told vol.old) → OnOk result ((current (V.history vol.new)).bundle
         ≡ settled (layout (table_map tiles.now table.now))) }
     ensures keeps { Keeps front.new (layout (table_map tiles.now table.now)) }
-    ensures during { IsTrue (V.told vol.old) → During (KeepsJournal (current (V.history vol.old)))
-        (V.history vol.old) (V.history vol.new) }
-    ensures told { Told V.told V.faults (CountsFaults result) vol.old vol.new }
+    ensures changes { Changes V.told V.history V.faults (CountsFaults result)
+        KeepsJournal vol.old vol.new }
 {
     let (most, total) = measure(tiles, table);
     front.fill(BundleHeader::fresh(most, INDEX_END + total), tiles, table);

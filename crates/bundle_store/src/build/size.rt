@@ -1,3 +1,5 @@
+//! How much a bundle holds that is built of some tiles.
+
 ghost use Rattle.std.specs.Prelude.{◌≡◌, length, IfOk};
 ghost use Rattle.bundle_index.specs.Sizes.{slot_count};
 ghost use Rattle.bundle_store.specs.Build.{EachFits, last_tiles};

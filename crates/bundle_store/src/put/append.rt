@@ -4,11 +4,11 @@ ghost use Rattle.std.specs.Prelude.{◌≡◌, ◌+◌, ◌^◌, ◌≤◌, ◌+
 ghost use Rattle.outside_io.specs.declared.volume.VolFile.TheVariants.{Bundle};
 ghost use Rattle.outside_io.specs.volume.Disk.{IsSettled, change, settled};
 ghost use Rattle.outside_io.specs.streams.Faults.{CountsFaults};
-ghost use Rattle.outside_io.specs.volume.History.{During, contents, current};
+ghost use Rattle.outside_io.specs.volume.History.{contents, current};
 ghost use Rattle.bundle_store.specs.Build.{EachFits};
 ghost use Rattle.bundle_store.specs.GroupPuts.{group_records};
 ghost use Rattle.bundle_store.specs.inside.Parts.{KeepsFront};
-ghost use Rattle.bundle_store.specs.Told.{Told};
+ghost use Rattle.bundle_store.specs.Told.{Changes};
 
 use crate::updates::Updates;
 use outside_io::{Failed, VolFile, Volume};
@@ -26,9 +26,8 @@ pub(crate) fn append_records<V: Volume>(
     ensures done { IsTrue (V.told vol.old) → OnOk result (current (V.history vol.new)
         ≡ change Bundle (λ f. settled (f.now ++ group_records tiles.now))
         (current (V.history vol.old))) }
-    ensures during { IsTrue (V.told vol.old) → During (KeepsFront (current (V.history vol.old)))
-        (V.history vol.old) (V.history vol.new) }
-    ensures told { Told V.told V.faults (CountsFaults result) vol.old vol.new }
+    ensures changes { Changes V.told V.history V.faults (CountsFaults result)
+        KeepsFront vol.old vol.new }
 {
     let mut at = end;
     for i in 0..tiles.len() {

@@ -4,14 +4,14 @@ ghost use Rattle.std.specs.Prelude.{◌≡◌, ◌≤◌, length, IsTrue, OnOk};
 ghost use Rattle.outside_io.specs.declared.volume.VolFile.TheVariants.{Bundle};
 ghost use Rattle.outside_io.specs.volume.Disk.{IsSettled, change, settled};
 ghost use Rattle.outside_io.specs.streams.Faults.{CountsFaults};
-ghost use Rattle.outside_io.specs.volume.History.{During, contents, current};
+ghost use Rattle.outside_io.specs.volume.History.{contents, current};
 ghost use Rattle.bundle_index.specs.Sizes.{index_end};
 ghost use Rattle.bundle_store.specs.GroupPuts.{with_entries};
 ghost use Rattle.bundle_store.specs.inside.Grouped.{KeepsUnderAll};
 ghost use Rattle.side_journal.specs.Groups.{AreNew};
-ghost use Rattle.bundle_store.specs.Told.{Told};
+ghost use Rattle.bundle_store.specs.Told.{Changes};
 
-use crate::spelling::spelled;
+use crate::spelling::spell_entry;
 use bundle_index::{BundleHeader, entry_place};
 use outside_io::{Failed, VolFile, Volume};
 use side_journal::Group;
@@ -30,16 +30,15 @@ pub(crate) fn write_all_over<V: Volume>(
     ensures done { IsTrue (V.told vol.old) → OnOk result (current (V.history vol.new)
         ≡ change Bundle (λ f. settled (with_entries header.now group.now f.now))
         (current (V.history vol.old))) }
-    ensures during { IsTrue (V.told vol.old) → During (KeepsUnderAll header.now group.now
-        (current (V.history vol.old))) (V.history vol.old) (V.history vol.new) }
-    ensures told { Told V.told V.faults (CountsFaults result) vol.old vol.new }
+    ensures changes { Changes V.told V.history V.faults (CountsFaults result)
+        (KeepsUnderAll header.now group.now) vol.old vol.new }
 {
     let front = header.bytes();
     vol.write(VolFile::Bundle, 0, &front)?;
     for i in 0..group.len() {
         let (slot, entry) = group.at(i);
         let place = entry_place(slot);
-        let word = spelled(entry);
+        let word = spell_entry(entry);
         vol.write(VolFile::Bundle, place, &word)?;
     }
     vol.sync(VolFile::Bundle)

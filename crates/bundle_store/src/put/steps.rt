@@ -16,8 +16,8 @@ ghost use Rattle.bundle_store.specs.inside.Grouped.{AreUnderWay, EachUnderAll, I
 ghost use Rattle.bundle_store.specs.LaidOver.{size_in, with_body};
 ghost use Rattle.bundle_store.specs.Images.{EachImage};
 ghost use Rattle.bundle_store.specs.Tiles.{IsBundle, IsReadable, tiles};
-ghost use Rattle.bundle_store.specs.Told.{Told};
 ghost use Rattle.bundle_store.specs.inside.Parts.{IsIdle};
+ghost use Rattle.bundle_store.specs.Told.{Changes};
 
 use super::append::append_records;
 use super::overlay::write_all_over;
@@ -51,14 +51,12 @@ pub(crate) fn redo<V: Volume>(
       bundle = settled (with_entries header.now group.now (contents Bundle (V.history vol.old)));
       journal = settled (0 ∷ drop 1 (contents Journal (V.history vol.old)));
     }) }
-    ensures images { IsTrue (V.told vol.old) →
-        During (λ d. AreUnderWay (contents Bundle (V.history vol.old)) (contents Journal
-        (V.history vol.old)) group.now header.now
-        → EachImage (λ map. map ≡ tiles (with_entries header.now group.now (contents Bundle
-        (V.history vol.old)))) d) (V.history vol.old) (V.history vol.new) }
     ensures bytes { IsTrue (V.told vol.old) → During (EachUnderAll header.now group.now
         (contents Bundle (V.history vol.old))) (V.history vol.old) (V.history vol.new) }
-    ensures told { Told V.told V.faults (CountsFaults result) vol.old vol.new }
+    ensures changes { Changes V.told V.history V.faults (CountsFaults result)
+        (λ old d. AreUnderWay old.bundle.now old.journal.now group.now header.now
+        → EachImage (λ map. map ≡ tiles (with_entries header.now group.now old.bundle.now)) d)
+        vol.old vol.new }
 {
     write_all_over(vol, header, group)?;
     close_gate(vol)
@@ -77,14 +75,11 @@ fn apply<V: Volume>(vol: &mut V, header: &BundleHeader, group: &Group) -> Result
       bundle = settled (with_entries header.now group.now (contents Bundle (V.history vol.old)));
       journal = settled (0 ∷ drop 1 (contents Journal (V.history vol.old)));
     }) }
-    ensures images { IsTrue (V.told vol.old) →
-        During (λ d. IsReadable (contents Bundle (V.history vol.old)) →
-        AreUnderWay (contents Bundle (V.history vol.old)) (contents Journal
-        (V.history vol.old)) group.now header.now
-        → EachImage (λ map. (map ≡ tiles (contents Bundle (V.history vol.old))) ⊎
-        (map ≡ tiles (with_entries header.now group.now (contents Bundle (V.history vol.old))))) d)
-        (V.history vol.old) (V.history vol.new) }
-    ensures told { Told V.told V.faults (CountsFaults result) vol.old vol.new }
+    ensures changes { Changes V.told V.history V.faults (CountsFaults result)
+        (λ old d. IsReadable old.bundle.now →
+        AreUnderWay old.bundle.now old.journal.now group.now header.now
+        → EachImage (λ map. (map ≡ tiles old.bundle.now) ⊎
+        (map ≡ tiles (with_entries header.now group.now old.bundle.now))) d) vol.old vol.new }
 {
     open_gate(vol)?;
     redo(vol, header, group)
@@ -102,11 +97,9 @@ fn stage<V: Volume>(vol: &mut V, end: u64, updates: &Updates, body: &Body) -> Re
       bundle = settled (contents Bundle (V.history vol.old) ++ group_records updates.now);
       journal = settled (0 ∷ body_bytes body.now);
     }) }
-    ensures images { IsTrue (V.told vol.old) →
-        During (λ d. IsBundle (contents Bundle (V.history vol.old))
-        → EachImage (λ map. map ≡ tiles (contents Bundle (V.history vol.old))) d)
-        (V.history vol.old) (V.history vol.new) }
-    ensures told { Told V.told V.faults (CountsFaults result) vol.old vol.new }
+    ensures changes { Changes V.told V.history V.faults (CountsFaults result)
+        (λ old d. IsBundle old.bundle.now → EachImage (λ map. map ≡ tiles old.bundle.now) d)
+        vol.old vol.new }
 {
     append_records(vol, end, updates)?;
     prepare(vol)?;
@@ -128,13 +121,10 @@ pub(crate) fn apply_body<V: Volume>(vol: &mut V, body: &Body) -> Result<(), Fail
       bundle = settled (with_body body.now (contents Bundle (V.history vol.old)));
       journal = settled (0 ∷ body_bytes body.now);
     }) }
-    ensures images { IsTrue (V.told vol.old) →
-        During (λ d. IsReadable (contents Bundle (V.history vol.old)) →
-        IsReadable (with_body body.now (contents Bundle (V.history vol.old)))
-        → EachImage (λ map. (map ≡ tiles (contents Bundle (V.history vol.old))) ⊎
-        (map ≡ tiles (with_body body.now (contents Bundle (V.history vol.old))))) d)
-        (V.history vol.old) (V.history vol.new) }
-    ensures told { Told V.told V.faults (CountsFaults result) vol.old vol.new }
+    ensures changes { Changes V.told V.history V.faults (CountsFaults result)
+        (λ old d. IsReadable old.bundle.now → IsReadable (with_body body.now old.bundle.now)
+        → EachImage (λ map. (map ≡ tiles old.bundle.now) ⊎
+        (map ≡ tiles (with_body body.now old.bundle.now))) d) vol.old vol.new }
 {
     match body {
         Body::Group { group, header, .. } => apply(vol, header, group),
@@ -162,15 +152,11 @@ pub(crate) fn commit<V: Volume>(
           ++ group_records updates.now));
       journal = settled (0 ∷ body_bytes body.now);
     }) }
-    ensures images { IsTrue (V.told vol.old) →
-        During (λ d. IsBundle (contents Bundle (V.history vol.old)) →
-        IsReadable (with_body body.now (contents Bundle (V.history vol.old)
-        ++ group_records updates.now))
-        → EachImage (λ map. (map ≡ tiles (contents Bundle (V.history vol.old))) ⊎
-        (map ≡ tiles (with_body body.now (contents Bundle (V.history vol.old)
-        ++ group_records updates.now)))) d)
-        (V.history vol.old) (V.history vol.new) }
-    ensures told { Told V.told V.faults (CountsFaults result) vol.old vol.new }
+    ensures changes { Changes V.told V.history V.faults (CountsFaults result)
+        (λ old d. IsBundle old.bundle.now →
+        IsReadable (with_body body.now (old.bundle.now ++ group_records updates.now))
+        → EachImage (λ map. (map ≡ tiles old.bundle.now) ⊎ (map ≡ tiles
+        (with_body body.now (old.bundle.now ++ group_records updates.now)))) d) vol.old vol.new }
 {
     stage(vol, end, updates, body)?;
     apply_body(vol, body)

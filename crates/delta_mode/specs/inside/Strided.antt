@@ -1,5 +1,6 @@
 -- The bytes of a depth among those of all pixels, depth innermost, by the numbers of their pixels.
-use Rattle.std.specs.Prelude.{ℕ, ◌+◌, ◌-◌, ◌*◌, ◌%◌, nat_lt, nat_le, List, get_or}
+use Rattle.std.specs.Prelude.{ℕ, ◌+◌, ◌-◌, ◌*◌, ◌%◌, ◌^◌, ◌<◌, ◌≤◌, nat_lt, nat_le}
+use Rattle.std.specs.Prelude.{List, get_or, length}
 use Rattle.std.specs.Prelude.{if◌then◌else◌}
 
 -- the byte of pixel number k at a depth
@@ -14,3 +15,9 @@ cell_above cols byte k = if nat_le cols k then byte (k - cols) else 0
 abbrev pub cell_before : ℕ → (ℕ → ℕ) → ℕ → ℕ
 cell_before cols byte k =
     if nat_lt 0 (k % cols) then byte (k - 1) else cell_above cols byte k
+
+-- so many pixels from one number on have a byte at the depth
+pub record HaveCells (depth d : ℕ) (bytes : List ℕ) (place count : ℕ) : Type 0 where
+  pub below : d < depth
+  pub size : (place + count) * depth ≤ length bytes
+  pub few : place + count ≤ 2 ^ 24

@@ -18,4 +18,8 @@ pub record AreNumbers (numbers : List CodeNumber) : Type 0 where
 
 unfoldable pub writing_of : List CodeNumber → ℕ → ℕ → ℕ → Writing
 writing_of numbers held count at =
-    record { codes = numbered_codes numbers; place = at; waiting = bits_of count (held % 2 ^ count) }
+    record {
+      codes = numbered_codes numbers;
+      place = at;
+      waiting = bits_of count (held % 2 ^ count);
+    }

@@ -5,7 +5,8 @@ use Rattle.huff_codes.specs.declared.words.reading.Cursor.{Cursor}
 use Rattle.huff_codes.specs.inside.Lookup.{IsSeen}
 use Rattle.huff_codes.specs.inside.Reading.{HaveReached}
 
--- the symbols before and those so far stand in front of the bits, and n bits behind them stand in the window
+-- the symbols before and those so far stand in front of the bits, and n bits behind them stand in
+-- the window
 pub record IsReading (codes : List (List Bool)) (bytes before out : List ℕ) (n : ℕ)
     (c : Cursor) : Type 0 where
   pub reached : HaveReached codes bytes (before ++ take c.count out) c.bit

@@ -8,6 +8,11 @@ pub record AreAdded (symbols old new : List ℕ) : Type 0 where
   pub each : (s : ℕ) → s < 256 → get_or new s 0 ≡ get_or old s 0 + count_by (nat_eq s) symbols
   pub total : sum new ≡ sum old + length symbols
 
+-- counts of 256 symbols, to which so many more can be added
+pub record HasRoom (counts : List ℕ) (more : ℕ) : Type 0 where
+  pub room : length counts ≡ 256
+  pub few : sum counts + more < 2 ^ 32
+
 -- the sums of four counts of each symbol
 unfoldable pub sums_of : List ℕ → List ℕ → List ℕ → List ℕ → List ℕ
 sums_of a b c d =

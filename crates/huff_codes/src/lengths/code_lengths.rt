@@ -8,7 +8,7 @@ ghost use Rattle.huff_codes.specs.Tree.{lengths_of, share, shares, used_count};
 ghost use Rattle.huff_codes.specs.Codes.{AreLengths, canonical_codes};
 ghost use Rattle.huff_codes.specs.inside.Spans.{IsLaid};
 ghost use Rattle.huff_codes.specs.inside.Stored.{codes_held};
-ghost use Rattle.huff_codes.specs.inside.Places.{IsCanonical, place_of};
+ghost use Rattle.huff_codes.specs.inside.Places.{IsCanonical, length_shares, place_of};
 
 use crate::codes::{Code, Codes};
 use crate::lengths::joining::all_lengths;
@@ -34,7 +34,7 @@ impl Model for Lengths {
 }
 
 /// How many counts are above 0.
-fn used(counts: &[u32; 256]) -> u32
+fn count_used(counts: &[u32; 256]) -> u32
     ensures { result ≡ used_count counts.now }
 {
     let mut n = 0;
@@ -70,7 +70,7 @@ impl Lengths {
         ensures none { IsNone result ↔ ((used_count counts.now < 2)
             ⊎ SomeIndex (lengths_of counts.now) (λ s. 32 < slice_index (lengths_of counts.now) s)) }
     {
-        if used(counts) < 2 {
+        if count_used(counts) < 2 {
             return None;
         }
         let lengths = all_lengths(counts);
@@ -100,34 +100,41 @@ fn share_of(length: u8) -> u64
     if length == 0 { 0 } else { 1 << (32 - length) }
 }
 
-/// Where the first code of this length begins: behind all shorter ones.
-fn shorter(lengths: &[u8; 256], length: u8) -> u64
-    requires { length ≤ 32 }
-    ensures { result ≡ place_of lengths.now 0 length }
+/// What all codes of each length take of all words.
+fn shares_by_length(lengths: &[u8; 256]) -> [u64; 33]
+    requires lengths { AreLengths lengths.now }
+    ensures room { length result ≡ 33 }
+    ensures small { (l : ℕ) → l < 33 → slice_index result l ≤ 2 ^ 40 }
+    ensures shares { (l : ℕ) → l < 33 → slice_index result l ≡ length_shares lengths.now l }
 {
-    let mut sum = 0;
-    for l in lengths {
-        if *l < length {
-            sum += share_of(*l);
-        }
+    let mut shares = [0; 33];
+    for s in 0..256 {
+        let length = lengths[s];
+        let at = usize::from(length);
+        let share = share_of(length);
+        shares[at] += share;
     }
-    sum
+    shares
 }
 
-/// Where the first code of each length begins.
+/// Where the first code of each length begins: behind all shorter ones.
 fn first_places(lengths: &[u8; 256]) -> [u64; 33]
+    requires { AreLengths lengths.now }
     ensures room { length result ≡ 33 }
     ensures places { (l : ℕ) → l < 33 → slice_index result l ≡ place_of lengths.now 0 l }
 {
+    let shares = shares_by_length(lengths);
     let mut places = [0; 33];
+    let mut place = 0;
     for l in 0..33 {
-        places[l] = shorter(lengths, l as u8);
+        places[l] = place;
+        place += shares[l];
     }
     places
 }
 
 /// The codes, side by side: in the order of the symbols, each behind the last one of its length.
-fn assigned(lengths: &[u8; 256], mut places: [u64; 33]) -> [Code; 256]
+fn assign_codes(lengths: &[u8; 256], mut places: [u64; 33]) -> [Code; 256]
     requires lengths { AreLengths lengths.now }
     requires room { length places ≡ 33 }
     requires places { (l : ℕ) → l < 33 → slice_index places l ≡ place_of lengths.now 0 l }
@@ -156,7 +163,7 @@ pub(crate) fn codes_of(lengths: &Lengths) -> [Code; 256]
     ensures lengths { AreLengths lengths.now }
 {
     let places = first_places(&lengths.lengths);
-    assigned(&lengths.lengths, places)
+    assign_codes(&lengths.lengths, places)
 }
 
 impl Codes {
@@ -166,6 +173,6 @@ impl Codes {
         ensures { result ≡ canonical_codes lengths.now }
     {
         let places = first_places(&lengths.lengths);
-        Codes::held(assigned(&lengths.lengths, places))
+        Codes::held(assign_codes(&lengths.lengths, places))
     }
 }

@@ -6,8 +6,9 @@ ghost use Rattle.std.specs.List.{range_with_len};
 ghost use Rattle.bit_stuff.specs.Simple.{simple_bytes};
 ghost use Rattle.huff_codes.specs.Codes.{AreLengths, canonical_codes};
 ghost use Rattle.huff_codes.specs.Table.{IsTable, symbol_in, symbols_in, words_size};
-ghost use Rattle.huff_codes.specs.Written.{AreTableWords, HoldsUsed, IsShortestRun, IsTableSize};
+ghost use Rattle.huff_codes.specs.Written.{AreTableWords, IsShortestRun, IsTableSize};
 ghost use Rattle.huff_codes.specs.Written.{IsWrittenTable, run_lengths, table_head};
+ghost use Rattle.huff_codes.specs.inside.Gaps.{IsGapBefore};
 
 use crate::lengths::code_lengths::{Lengths, codes_of};
 use crate::tables::table::{SymbolRange, bit_count};
@@ -15,40 +16,53 @@ use crate::words::writing::fill;
 use bit_stuff::{simple_len, write_simple};
 use byteorder::{ByteOrder, LittleEndian};
 
-/// How many symbols from one on, counted modulo 256, hold all that have a length: it ends at the
-/// last one that has.
-fn count_from(lengths: &[u8; 256], first: usize) -> usize
-    requires lengths { AreLengths lengths.now }
-    requires first { first < 256 }
-    ensures some { 0 < result }
-    ensures within { result ≤ 256 }
-    ensures holds { HoldsUsed lengths.now first result }
-    ensures least { (count : ℕ) → HoldsUsed lengths.now first count → result ≤ count }
+/// How many symbols right before symbol 0, counted modulo 256, have no length.
+fn first_gap(lengths: &[u8; 256]) -> usize
+    requires { AreLengths lengths.now }
+    ensures low { result ≤ 255 }
+    ensures gap { IsGapBefore lengths.now 0 result }
 {
     for gap in 0..255 {
-        if lengths[(first + 255 - gap) % 256] > 0 {
-            return 256 - gap;
+        if lengths[255 - gap] > 0 {
+            return gap;
         }
     }
-    1
+    255
+}
+
+/// How many symbols right before the next one have no length, from how many right before this one
+/// have none.
+fn next_gap(lengths: &[u8; 256], symbol: usize, gap: usize) -> usize
+    requires below { symbol < 255 }
+    requires low { gap ≤ 255 }
+    requires gap { IsGapBefore lengths.now symbol gap }
+    ensures low { result ≤ 255 }
+    ensures gap { IsGapBefore lengths.now (symbol + 1) result }
+{
+    if lengths[symbol] > 0 { 0 } else { gap + 1 }
 }
 
 /// The shortest range of symbols that holds all which have a length; of several the one that begins
-/// first.
+/// first. From a symbol on it takes all but those right before it that have none.
 fn shortest_run(lengths: &[u8; 256]) -> SymbolRange
     requires { AreLengths lengths.now }
     ensures run { IsShortestRun lengths.now result }
     ensures some { 0 < result.count }
     ensures within { result.count ≤ 256 }
 {
+    let mut gap = first_gap(lengths);
     let mut best = SymbolRange {
         first: 0,
-        count: count_from(lengths, 0),
+        count: 256 - gap,
     };
-    for first in 1..256 {
-        let count = count_from(lengths, first);
+    for symbol in 0..255 {
+        gap = next_gap(lengths, symbol, gap);
+        let count = 256 - gap;
         if count < best.count {
-            best = SymbolRange { first, count };
+            best = SymbolRange {
+                first: symbol + 1,
+                count,
+            };
         }
     }
     best

@@ -233,7 +233,7 @@ fn read_codes(bytes: &[u8], first: usize, lengths: &[u32]) -> Result<(Codes, usi
             at: 0,
         });
     }
-    match Codes::tested(cut_codes(&bytes[..size], first, lengths)) {
+    match Codes::prefix_free(cut_codes(&bytes[..size], first, lengths)) {
         Some(codes) => Ok((codes, size)),
         None => Err(bad_table(0)),
     }

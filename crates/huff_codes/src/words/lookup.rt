@@ -44,7 +44,7 @@ fn put_symbol(entries: &mut [Entry; 2048], code: Code, symbol: u8)
 }
 
 /// The table of one symbol for each entry, where its code has at most eleven bits.
-fn single_symbols(codes: &Codes) -> [Entry; 2048]
+pub(crate) fn single_symbols(codes: &Codes) -> [Entry; 2048]
     ensures room { length result ≡ 2048 }
     ensures short { All IsShort result }
     ensures are { AreEntries codes.now result }
@@ -57,7 +57,7 @@ fn single_symbols(codes: &Codes) -> [Entry; 2048]
 }
 
 /// Both entries in one, where two codes fit into the eleven bits; else the first.
-fn joined(one: Entry, two: Entry) -> Entry
+fn join_entries(one: Entry, two: Entry) -> Entry
     requires one { IsShort one }
     requires two { IsShort two }
     ensures short { IsShort result }
@@ -100,7 +100,7 @@ pub(crate) fn entries_of(codes: &Codes) -> [Entry; 2048]
     let mut entries = singles;
     for k in 0..2048 {
         let one = singles[k];
-        entries[k] = joined(one, singles[(k << one.length) % 2048]);
+        entries[k] = join_entries(one, singles[(k << one.length) % 2048]);
     }
     entries
 }

@@ -48,8 +48,8 @@ impl Model for Prefixes {
     ghost invariant = { λ p. length p.looks ≡ 256 };
 }
 
-/// Notes what the code of a symbol tells: at all bytes that it stands in front of, or at the one with
-/// which it begins.
+/// Notes what the code of a symbol tells: at all bytes that it stands in front of, or at the one
+/// with which it begins.
 fn put_look(looks: &mut [Look; 256], code: Code, symbol: u8)
     requires laid { IsLaid code }
     requires room { length looks.old ≡ 256 }

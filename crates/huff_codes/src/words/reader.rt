@@ -55,13 +55,13 @@ impl<'a> SymbolReader<'a> {
         ensures sound { IsReader self.new }
         ensures codes { codes_of self.new ≡ codes_of self.old }
         ensures bytes { bytes_of self.new ≡ bytes_of self.old }
-        ensures room { length out.new ≡ length out.old }
         ensures left { OnOk result (left_of self.new + length out.old ≡ left_of self.old) }
         ensures read { (symbols : List ℕ) → HaveRead self.old symbols
             → OnOk result (HaveRead self.new (symbols ++ out.new)) }
         ensures fault { (symbols : List ℕ) → HaveRead self.old symbols → (n : ℕ)
             → length symbols + length out.old ≤ n
-            → IfErr result (λ f. word_faults (codes_of self.old) n (bytes_of self.old) f.at f.reason) }
+            → IfErr result (λ f. word_faults (codes_of self.old) n
+            (bytes_of self.old) f.at f.reason) }
         ensures err { OnErr result (self.new ≡ self.old) }
     {
         let mut place = Place {
@@ -81,15 +81,17 @@ impl<'a> SymbolReader<'a> {
         Ok(())
     }
 
-    /// How many bytes the words take of the symbols that have been read, one further word among them
-    /// that is not looked at.
+    /// How many bytes the words take of the symbols that have been read, one further word among
+    /// them that is not looked at.
     pub fn end(&self) -> Result<usize, CodeFault>
         requires sound { IsReader self.now }
         ensures ok { (symbols : List ℕ) → HaveRead self.now symbols → IfOk result
             (λ used. (used ≤ length (bytes_of self.now))
-            × AreWords (codes_of self.now) (length symbols) (take used (bytes_of self.now)) symbols) }
+            × AreWords (codes_of self.now) (length symbols)
+            (take used (bytes_of self.now)) symbols) }
         ensures fault { (symbols : List ℕ) → HaveRead self.now symbols → IfErr result
-            (λ f. word_faults (codes_of self.now) (length symbols) (bytes_of self.now) f.at f.reason) }
+            (λ f. word_faults (codes_of self.now) (length symbols)
+            (bytes_of self.now) f.at f.reason) }
     {
         let used = (self.bit + 31) / 32 * 4 + 4;
         if used > self.bytes.len() {

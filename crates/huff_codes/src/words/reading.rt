@@ -12,13 +12,13 @@ ghost use Rattle.huff_codes.specs.inside.Stored.{IsAhead};
 
 use crate::codes::{Ahead, Codes};
 use crate::faults::{CodeFault, CodeReason};
-use crate::words::lookup::{Entry, entries_of, no_entries};
+use crate::words::lookup::{Entry, entries_of, no_entries, single_symbols};
 use crate::words::prefixes::{Prefixes, symbol_ahead};
 use byteorder::{ByteOrder, LittleEndian};
 
 /// 32 of the 64 bits of two words, from bit `skip` on.
 #[inline(always)]
-fn across(first: u32, second: u32, skip: u32) -> u32
+fn bits_across(first: u32, second: u32, skip: u32) -> u32
     requires { skip < 32 }
     ensures { result ≡ (first * 2 ^ 32 + second) / 2 ^ (32 - skip) % 2 ^ 32 }
 {
@@ -37,12 +37,12 @@ pub(crate) fn ahead(bytes: &[u8], bit: usize) -> Ahead
         let first = LittleEndian::read_u32(rest);
         let second = LittleEndian::read_u32(&rest[4..]);
         Ahead {
-            word: across(first, second, skip),
+            word: bits_across(first, second, skip),
             count: 32,
         }
     } else if rest.len() >= 4 {
         Ahead {
-            word: across(LittleEndian::read_u32(rest), 0, skip),
+            word: bits_across(LittleEndian::read_u32(rest), 0, skip),
             count: 32 - skip,
         }
     } else {
@@ -58,7 +58,7 @@ pub(crate) fn end_of_words(bytes: &[u8]) -> usize
 }
 
 /// The fault of bits that no code stands in front of.
-fn stopped(bytes: &[u8], codes: &Codes, bit: usize, next: Ahead) -> CodeFault
+fn stop_at(bytes: &[u8], codes: &Codes, bit: usize, next: Ahead) -> CodeFault
     requires few { next.count ≤ 32 }
     ensures { (left : List Bool) → IsAhead next left → IsStuck codes.now left
         → IsStop codes.now bytes.now bit left result }
@@ -103,6 +103,21 @@ fn window(bytes: &[u8], bit: usize) -> u64
     (first * 4294967296 + second) << (bit % 32)
 }
 
+/// The next 64 bits from place `bit` on, of three whole words.
+#[inline(always)]
+fn wide_window(bytes: &[u8], bit: usize) -> u64
+    requires { bit / 32 * 4 + 12 ≤ length bytes.now }
+    ensures { IsSeen 64 result (drop bit (word_bits bytes.now)) }
+{
+    let rest = &bytes[bit / 32 * 4..];
+    let first = u64::from(LittleEndian::read_u32(rest));
+    let second = u64::from(LittleEndian::read_u32(&rest[4..]));
+    let third = u64::from(LittleEndian::read_u32(&rest[8..]));
+    let skip = bit % 32;
+    let front = (first * 4294967296 + second) << skip;
+    front + (third >> (32 - skip))
+}
+
 /// Reads the symbols that the next eleven bits have in front.
 #[inline(always)]
 fn step(entries: &[Entry; 2048], from: Cursor, out: &mut [u8]) -> Cursor
@@ -110,7 +125,6 @@ fn step(entries: &[Entry; 2048], from: Cursor, out: &mut [u8]) -> Cursor
     requires table { length entries.now ≡ 2048 }
     requires room { from.count + 2 ≤ length out.old }
     requires low { from.bit ≤ 2 ^ 30 }
-    ensures room { length out.new ≡ length out.old }
     ensures more { from.count ≤ result.count }
     ensures within { result.count ≤ from.count + 2 }
     ensures few { result.bit ≤ from.bit + 32 * (result.count - from.count) }
@@ -132,13 +146,12 @@ fn step(entries: &[Entry; 2048], from: Cursor, out: &mut [u8]) -> Cursor
 /// Reads symbols by the table, if they have room and two whole words are left: up to six, and up to
 /// two where there is no room for six.
 #[inline(always)]
-pub(crate) fn read_few(bytes: &[u8], entries: &[Entry; 2048], from: Place, out: &mut [u8]) -> Place
+fn read_six(bytes: &[u8], entries: &[Entry; 2048], from: Place, out: &mut [u8]) -> Place
     requires short { All IsShort entries.now }
     requires table { length entries.now ≡ 2048 }
     requires room { from.count ≤ length out.old }
     requires few { from.bit + 32 * (length out.old - from.count) ≤ 2 ^ 29 }
     requires within { from.bit ≤ 32 * (length bytes.now / 4) }
-    ensures room { length out.new ≡ length out.old }
     ensures more { from.count ≤ result.count }
     ensures within { result.count ≤ length out.old }
     ensures few { result.bit ≤ from.bit + 32 * (result.count - from.count) }
@@ -170,6 +183,62 @@ pub(crate) fn read_few(bytes: &[u8], entries: &[Entry; 2048], from: Place, out: 
     }
 }
 
+/// Reads symbols by the table, up to ten, where these have room and three whole words are left.
+#[inline(always)]
+fn read_ten(bytes: &[u8], entries: &[Entry; 2048], from: Place, out: &mut [u8]) -> Place
+    requires short { All IsShort entries.now }
+    requires table { length entries.now ≡ 2048 }
+    requires room { from.count + 10 ≤ length out.old }
+    requires few { from.bit + 32 * (length out.old - from.count) ≤ 2 ^ 29 }
+    requires long { from.bit / 32 * 4 + 12 ≤ length bytes.now }
+    ensures more { from.count ≤ result.count }
+    ensures within { result.count ≤ length out.old }
+    ensures few { result.bit ≤ from.bit + 32 * (result.count - from.count) }
+    ensures bits { result.bit ≤ 32 * (length bytes.now / 4) }
+    ensures reached { (codes : List (List Bool)) (before : List ℕ) → AreEntries codes entries.now
+        → HaveReached codes bytes.now (before ++ take from.count out.old) from.bit
+        → HaveReached codes bytes.now (before ++ take result.count out.new) result.bit }
+{
+    let start = Cursor {
+        window: wide_window(bytes, from.bit),
+        bit: from.bit,
+        count: from.count,
+    };
+    let one = step(entries, start, out);
+    let two = step(entries, one, out);
+    let three = step(entries, two, out);
+    let four = step(entries, three, out);
+    let five = step(entries, four, out);
+    Place {
+        bit: five.bit,
+        count: five.count,
+    }
+}
+
+/// Reads symbols by the table, if they have room and two whole words are left: up to ten, and fewer
+/// where there is no room for so many, or no third word.
+#[inline(always)]
+pub(crate) fn read_few(bytes: &[u8], entries: &[Entry; 2048], from: Place, out: &mut [u8]) -> Place
+    requires short { All IsShort entries.now }
+    requires table { length entries.now ≡ 2048 }
+    requires room { from.count ≤ length out.old }
+    requires few { from.bit + 32 * (length out.old - from.count) ≤ 2 ^ 29 }
+    requires within { from.bit ≤ 32 * (length bytes.now / 4) }
+    ensures more { from.count ≤ result.count }
+    ensures within { result.count ≤ length out.old }
+    ensures few { result.bit ≤ from.bit + 32 * (result.count - from.count) }
+    ensures bits { result.bit ≤ 32 * (length bytes.now / 4) }
+    ensures reached { (codes : List (List Bool)) (before : List ℕ) → AreEntries codes entries.now
+        → HaveReached codes bytes.now (before ++ take from.count out.old) from.bit
+        → HaveReached codes bytes.now (before ++ take result.count out.new) result.bit }
+{
+    if from.bit / 32 * 4 + 12 <= bytes.len() && from.count + 10 <= out.len() {
+        read_ten(bytes, entries, from, out)
+    } else {
+        read_six(bytes, entries, from, out)
+    }
+}
+
 /// Reads one symbol.
 pub(crate) fn read_one(
     bytes: &[u8],
@@ -182,7 +251,6 @@ pub(crate) fn read_one(
     requires room { from.count < length out.old }
     requires within { from.bit ≤ 32 * (length bytes.now / 4) }
     requires few { from.bit + 32 * (length out.old - from.count) ≤ 2 ^ 29 }
-    ensures room { length out.new ≡ length out.old }
     ensures ok { IfOk result (λ place. (place.count ≡ from.count + 1)
         × ((place.bit ≤ from.bit + 32) × (place.bit ≤ 32 * (length bytes.now / 4)))) }
     ensures answer { (before : List ℕ)
@@ -201,18 +269,21 @@ pub(crate) fn read_one(
                 count: from.count + 1,
             })
         }
-        None => Err(stopped(bytes, codes, from.bit, next)),
+        None => Err(stop_at(bytes, codes, from.bit, next)),
     }
 }
 
-/// The table to read so many symbols by: an empty one where making it would take longer.
+/// The table to read so many symbols by: an empty one where making it would take longer, and one of
+/// single symbols where making the pairs would.
 pub(crate) fn table_for(codes: &Codes, count: usize) -> [Entry; 2048]
     ensures room { length result ≡ 2048 }
     ensures short { All IsShort result }
     ensures are { AreEntries codes.now result }
 {
-    if count < 256 {
+    if count < 512 {
         no_entries()
+    } else if count < 8192 {
+        single_symbols(codes)
     } else {
         entries_of(codes)
     }

@@ -10,7 +10,7 @@ ghost use Rattle.huff_codes.specs.inside.Filling.{IsLoose};
 
 use crate::lengths::code_lengths::{Lengths, codes_of};
 use crate::words::word_pairs::{CodeNumber, numbers_of, write_pairs};
-use crate::words::writing::{Pending, clear, flush, lowest};
+use crate::words::writing::{Pending, clear, flush, lowest_bits};
 use std::marker::Model;
 
 /// Writes the codes of symbols that come piece by piece into 32-bit little-endian words, as
@@ -44,7 +44,7 @@ fn end_words(pending: Pending, out: &mut [u8])
     ensures { (bits : List Bool) → IsLoose bits out.old pending.held pending.count pending.at
         → IsFilled (length out.old / 4) bits out.new }
 {
-    let held = lowest(pending.held, pending.count);
+    let held = lowest_bits(pending.held, pending.count);
     let masked = Pending {
         held,
         count: pending.count,

@@ -49,7 +49,7 @@ pub(crate) fn numbers_of(codes: &[Code; 256]) -> [CodeNumber; 256]
 
 /// Two codes as one number, which a word holds.
 #[inline(always)]
-fn joined(one: CodeNumber, two: CodeNumber) -> CodeNumber
+fn join_numbers(one: CodeNumber, two: CodeNumber) -> CodeNumber
     requires short { one.length + two.length ≤ 32 }
     requires one { one.number < 2 ^ one.length }
     requires two { two.number < 2 ^ two.length }
@@ -75,7 +75,7 @@ fn word_above(held: u64, count: u32) -> u32
 
 /// The bits of a number, and behind them those of a code; the highest ones may be lost.
 #[inline(always)]
-fn appended(held: u64, code: CodeNumber) -> u64
+fn append_code(held: u64, code: CodeNumber) -> u64
     requires low { code.length ≤ 32 }
     requires small { code.number < 2 ^ code.length }
     ensures { result ≡ held % 2 ^ (64 - code.length) * 2 ^ code.length + code.number }
@@ -90,7 +90,6 @@ fn push(pending: Pending, code: CodeNumber, out: &mut [u8]) -> Pending
     requires low { code.length ≤ 32 }
     requires small { code.number < 2 ^ code.length }
     requires room { pending.at + 4 ≤ length out.old }
-    ensures room { length out.new ≡ length out.old }
     ensures bits { 8 * result.at + result.count ≡ 8 * pending.at + pending.count + code.length }
     ensures pending { (bits : List Bool)
         → IsLoose bits out.old pending.held pending.count pending.at
@@ -98,7 +97,7 @@ fn push(pending: Pending, code: CodeNumber, out: &mut [u8]) -> Pending
         out.new result.held result.count result.at }
 {
     let count = pending.count + code.length;
-    let held = appended(pending.held, code);
+    let held = append_code(pending.held, code);
     put_word(out, pending.at, word_above(held, count % 32));
     Pending {
         held,
@@ -115,7 +114,6 @@ fn push_pair(pending: Pending, one: CodeNumber, two: CodeNumber, out: &mut [u8])
     requires two_low { two.length ≤ 32 }
     requires two_small { two.number < 2 ^ two.length }
     requires room { 8 * pending.at + pending.count + one.length + 32 ≤ 8 * length out.old }
-    ensures room { length out.new ≡ length out.old }
     ensures bits { 8 * result.at + result.count
         ≡ 8 * pending.at + pending.count + one.length + two.length }
     ensures pending { (bits : List Bool)
@@ -124,7 +122,7 @@ fn push_pair(pending: Pending, one: CodeNumber, two: CodeNumber, out: &mut [u8])
         out.new result.held result.count result.at }
 {
     if one.length + two.length <= 32 {
-        return push(pending, joined(one, two), out);
+        return push(pending, join_numbers(one, two), out);
     }
     let between = push(pending, one, out);
     push(between, two, out)
@@ -139,7 +137,6 @@ fn push_last(
 ) -> Pending
     requires numbers { AreNumbers numbers.now }
     requires room { pending.at + 4 ≤ length out.old }
-    ensures room { length out.new ≡ length out.old }
     ensures pending { (bits : List Bool)
         → IsLoose
         (bits ++ joined_codes (numbered_codes numbers.now)
@@ -170,7 +167,6 @@ pub(crate) fn write_pairs(
     requires room { 8 * pending.at + pending.count
         + length (joined_codes (numbered_codes numbers.now) symbols.now) + 32
         ≤ 8 * length out.old }
-    ensures room { length out.new ≡ length out.old }
     ensures pending { (bits : List Bool)
         → IsLoose bits out.old pending.held pending.count pending.at
         → IsLoose (bits ++ joined_codes (numbered_codes numbers.now) symbols.now)

@@ -41,14 +41,13 @@ impl Pending {
 /// Writes a word at a place.
 pub(crate) fn put_word(out: &mut [u8], at: usize, word: u32)
     requires { at + 4 ≤ length out.old }
-    ensures room { length out.new ≡ length out.old }
     ensures front { take (at + 4) out.new ≡ take at out.old ++ little_bytes 4 word }
 {
     LittleEndian::write_u32(&mut out[at..], word);
 }
 
 /// So many bits of a number, and behind them those of a code.
-fn joined(held: u64, count: u32, code: Code) -> u64
+fn append_bits(held: u64, count: u32, code: Code) -> u64
     requires few { count < 32 }
     requires low { held < 2 ^ count }
     requires code { IsLaid code }
@@ -59,7 +58,7 @@ fn joined(held: u64, count: u32, code: Code) -> u64
 }
 
 /// The lowest bits of a number.
-pub(crate) fn lowest(held: u64, count: u32) -> u64
+pub(crate) fn lowest_bits(held: u64, count: u32) -> u64
     requires { count < 32 }
     ensures value { result ≡ held % 2 ^ count }
     ensures low { result < 2 ^ count }
@@ -68,7 +67,7 @@ pub(crate) fn lowest(held: u64, count: u32) -> u64
 }
 
 /// The bits of a number above the lowest ones, which a word holds.
-fn highest(held: u64, count: u32) -> u32
+fn bits_above(held: u64, count: u32) -> u32
     requires few { count < 32 }
     requires low { held < 2 ^ (32 + count) }
     ensures { result ≡ held / 2 ^ count }
@@ -81,7 +80,6 @@ fn push(pending: Pending, code: Code, out: &mut [u8]) -> Pending
     requires low { pending.held < 2 ^ pending.count }
     requires code { IsLaid code }
     requires room { 8 * pending.at + pending.count + code.length ≤ 8 * length out.old }
-    ensures room { length out.new ≡ length out.old }
     ensures low { result.held < 2 ^ result.count }
     ensures bits { 8 * result.at + result.count ≡ 8 * pending.at + pending.count + code.length }
     ensures pending { (bits : List Bool)
@@ -89,7 +87,7 @@ fn push(pending: Pending, code: Code, out: &mut [u8]) -> Pending
         → IsPending (bits ++ code_bits code) out.new result.held result.count result.at }
 {
     let count = pending.count + code.length;
-    let held = joined(pending.held, pending.count, code);
+    let held = append_bits(pending.held, pending.count, code);
     if count < 32 {
         return Pending {
             held,
@@ -98,16 +96,16 @@ fn push(pending: Pending, code: Code, out: &mut [u8]) -> Pending
         };
     }
     let rest = count - 32;
-    put_word(out, pending.at, highest(held, rest));
+    put_word(out, pending.at, bits_above(held, rest));
     Pending {
-        held: lowest(held, rest),
+        held: lowest_bits(held, rest),
         count: rest,
         at: pending.at + 4,
     }
 }
 
 /// So many bits at the top of a word, and zeros below them.
-fn topmost(held: u64, count: u32) -> u32
+fn bits_at_top(held: u64, count: u32) -> u32
     requires few { count < 32 }
     requires low { held < 2 ^ count }
     ensures { result ≡ held * 2 ^ (32 - count) }
@@ -120,7 +118,6 @@ pub(crate) fn flush(pending: Pending, out: &mut [u8]) -> usize
     requires low { pending.held < 2 ^ pending.count }
     requires words { length out.old % 4 ≡ 0 }
     requires room { 8 * pending.at + pending.count ≤ 8 * length out.old }
-    ensures room { length out.new ≡ length out.old }
     ensures within { result ≤ length out.old }
     ensures flushed { (bits : List Bool)
         → IsPending bits out.old pending.held pending.count pending.at
@@ -129,7 +126,7 @@ pub(crate) fn flush(pending: Pending, out: &mut [u8]) -> usize
     if pending.count == 0 {
         return pending.at;
     }
-    put_word(out, pending.at, topmost(pending.held, pending.count));
+    put_word(out, pending.at, bits_at_top(pending.held, pending.count));
     pending.at + 4
 }
 

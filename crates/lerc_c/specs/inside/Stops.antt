@@ -7,15 +7,20 @@ use Rattle.lerc_header.specs.declared.header.Version.{Version}
 use Rattle.lerc_header.specs.declared.header.Version.TheVariants.{V3}
 use Rattle.lerc_decode.specs.Decoding.{HasHeader}
 use Rattle.lerc_decode.specs.declared.streams.decoder.DecodeFault.{DecodeFault}
-use Rattle.lerc_decode.specs.declared.streams.decoder.DecodeFault.TheVariants.{Blob, OutOfMemory as NoMemory}
+use Rattle.lerc_decode.specs.declared.streams.decoder.DecodeFault.TheVariants.{Blob}
+use Rattle.lerc_decode.specs.declared.streams.decoder.DecodeFault.TheVariants.{OutOfMemory as NoMemory}
 use Rattle.lerc_c.specs.declared.decoding.DecodeStop.{DecodeStop}
 use Rattle.lerc_c.specs.declared.decoding.DecodeStop.TheVariants.{Refused, OutOfMemory, Sizes}
 use Rattle.lerc_c.specs.declared.encoding.EncodeStop.{EncodeStop}
-use Rattle.lerc_c.specs.declared.encoding.EncodeStop.TheVariants.{BadSizes, BadShape, TooLarge, DepthNeedsV4, NoRoom, OutOfMemory as OutOfRoom}
+use Rattle.lerc_c.specs.declared.encoding.EncodeStop.TheVariants.{BadSizes, BadShape, TooLarge}
+use Rattle.lerc_c.specs.declared.encoding.EncodeStop.TheVariants.{DepthNeedsV4, NoRoom}
+use Rattle.lerc_c.specs.declared.encoding.EncodeStop.TheVariants.{OutOfMemory as OutOfRoom}
 use Rattle.lerc_c.specs.Told.{IsRefused}
 use Rattle.lerc_grammar.specs.Bands.{BandsFaultAt}
 use Rattle.lerc_c.specs.declared.band_decoding.BandsDecodeStop.{BandsDecodeStop}
-use Rattle.lerc_c.specs.declared.band_decoding.BandsDecodeStop.TheVariants.{Refused as TileRefused, OutOfMemory as NoBandMemory, Sizes as BandSizes}
+use Rattle.lerc_c.specs.declared.band_decoding.BandsDecodeStop.TheVariants.{Refused as TileRefused}
+use Rattle.lerc_c.specs.declared.band_decoding.BandsDecodeStop.TheVariants.{OutOfMemory as NoBandMemory}
+use Rattle.lerc_c.specs.declared.band_decoding.BandsDecodeStop.TheVariants.{Sizes as BandSizes}
 use Rattle.lerc_c.specs.BandArrays.{AreAllowed, AreBandsMisfit, AreTooLong, GiveBandSizes}
 use Rattle.lerc_c.specs.Arrays.{IsAllowed, IsMisfit, GivesSizes, IsBlobOf, IsTooLong}
 

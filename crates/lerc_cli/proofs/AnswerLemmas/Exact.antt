@@ -6,6 +6,7 @@ use Rattle.program_ends.specs.Moves.{Change, SinkMove}
 use Rattle.lerc_cli.specs.declared.words.Command.{Command}
 use Rattle.lerc_cli.specs.declared.words.Command.TheVariants.{Decode}
 use Rattle.program_ends.specs.declared.stop.Stop.TheVariants.{Usage, Refused, Source, Output, Volume, OutOfMemory}
+use Rattle.lerc_cli.specs.declared.refusal.Refusal.{Refusal}
 use Rattle.lerc_cli.specs.declared.refusal.Refusal.TheVariants.{Input, Store, Stream}
 use Rattle.lerc_cli.specs.answers.Names.{End, status_at, GivesLineOf}
 use Rattle.lerc_cli.specs.answers.Table.{Answers, IsOutput, IsAllTold}
@@ -94,3 +95,27 @@ pub complete : (c : Command) (g : Given) (n m status : ℕ) (end : End) (output 
     → status ≢ 3 → status ≢ 4 → status ≢ 5 → status ≢ 6 → (status ≡ 0) × Holds sink.held.old sink.held.new output
 complete c g n m status end output sink told is has out =
     completes c g n m status end output out.gave.0 sink.held told is has out.gave.1.0 out.gave.1.1
+
+-- ---- and where it is refused, it ends with that
+
+refuses : (c : Command) (g : Given) (n m status : ℕ) (end : End) (refusal : Refusal) (output given_out : List ℕ) (sink err : SinkMove) → IsAllTold c g → status ≡ status_at end
+    → Answers c g n (Err (Refused refusal)) output → Answers c g m end given_out → Gained end sink.held given_out → GivesLineOf end err
+    → status ≢ 3 → status ≢ 4 → status ≢ 5 → status ≢ 6
+    → (status ≡ status_at (Err (Refused refusal))) × Holds sink.held.old sink.held.new output × GivesLineOf (Err (Refused refusal)) err
+refuses c g n m status (Ok x) refusal output given_out sink err told is has e gained line s o v w =
+    let once = answers_once c g n m (Err (Refused refusal)) (Ok tt) output given_out told tt tt has e in absurd (let never = once.0 in cc)
+refuses c g n m status (Err Usage) refusal output given_out sink err told is has e gained line s o v w = absurd e
+refuses c g n m status (Err Source) refusal output given_out sink err told is has e gained line s o v w = absurd (s is)
+refuses c g n m status (Err Output) refusal output given_out sink err told is has e gained line s o v w = absurd (o is)
+refuses c g n m status (Err Volume) refusal output given_out sink err told is has e gained line s o v w = absurd (v is)
+refuses c g n m status (Err OutOfMemory) refusal output given_out sink err told is has e gained line s o v w = absurd (w is)
+refuses c g n m status (Err (Refused r)) refusal output given_out sink err told is has e gained line s o v w =
+    let once = answers_once c g n m (Err (Refused refusal)) (Err (Refused r)) output given_out told tt tt has e in
+    (is ∙ ap status_at (sym once.0), subst (Holds sink.held.old sink.held.new) (sym once.1) gained, subst (λ (x : End). GivesLineOf x err) (sym once.0) line)
+
+pub refused_so : (c : Command) (g : Given) (n m status : ℕ) (end : End) (refusal : Refusal) (output : List ℕ) (sink err : SinkMove)
+    → IsAllTold c g → status ≡ status_at end → Answers c g n (Err (Refused refusal)) output → OfOutput c g m end sink → GivesLineOf end err
+    → status ≢ 3 → status ≢ 4 → status ≢ 5 → status ≢ 6
+    → (status ≡ status_at (Err (Refused refusal))) × Holds sink.held.old sink.held.new output × GivesLineOf (Err (Refused refusal)) err
+refused_so c g n m status end refusal output sink err told is has out line =
+    refuses c g n m status end refusal output out.gave.0 sink err told is has out.gave.1.0 out.gave.1.1 line

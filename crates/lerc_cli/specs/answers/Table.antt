@@ -1,12 +1,11 @@
 -- What a command answers: the rows of one table. Each relation below has one case for each command.
-use Rattle.std.specs.Prelude.{◌≡◌, ◌⊎◌, ℕ, ◌+◌, ◌*◌, ◌^◌, ◌<◌, ◌≤◌, take, List, [], length, Option, None, Some, Ok, Err, IsTrue}
+use Rattle.std.specs.Prelude.{◌≡◌, ◌⊎◌, ℕ, ◌*◌, ◌<◌, ◌≤◌, take, List, [], length, Option, None, Some, Ok, Err, IsTrue}
 use Rattle.bundle_index.specs.Sizes.{slot_count}
 use Rattle.bundle_store.specs.declared.recovery.Recovery.{Recovery}
 use Rattle.bundle_store.specs.Session.{GetGives}
 use Rattle.bundle_store.specs.declared.check.CheckReport.{CheckReport}
 use Rattle.bundle_store.specs.Check.{Reports}
 use Rattle.bundle_store.specs.declared.tile_rec.TileRec.{TileRec}
-use Rattle.bundle_store.specs.Build.{bytes_at}
 use Rattle.bundle_lines.specs.Builds.{built_line_of}
 use Rattle.bundle_lines.specs.Lines.{check_lines, listing, put_lines, recovery_line}
 use Rattle.bundle_lines.specs.Puts.{HaveRoom, IsFirstFull, LeavesNoRoom}
@@ -76,7 +75,8 @@ IsOutput (Get slot) g n output =
 IsOutput (GetRaw slot) g n output = OfBundle g.files (λ bundle. GetGives bundle slot output)
 IsOutput ListAll g n output = OfBundle g.files (λ bundle. output ≡ listing bundle slot_count)
 IsOutput Check g n output = (report : CheckReport)
-    × (OfBundle g.files (λ bundle. Reports bundle slot_count report) × (output ≡ check_lines report))
+    × (OfBundle g.files (λ bundle. Reports bundle slot_count report)
+    × (output ≡ check_lines report))
 IsOutput Recover g n output =
     (done : Recovery) × (HasRecovered g.files done × (output ≡ recovery_line done))
 IsOutput (Sample start count) g n output =
@@ -90,7 +90,8 @@ IsUnopened c g stop = (updates : List TileRec) × (UpdatesOf c g updates
 
 -- the input has updates, and the bundle that is opened is not empty
 abbrev pub IsNotEmpty : Command → Given → Stop Refusal → Type 0
-IsNotEmpty c g stop = (len : ℕ) × ((stop ≡ Refused (Store (NotEmpty len))) × ((updates : List TileRec)
+IsNotEmpty c g stop = (len : ℕ)
+    × ((stop ≡ Refused (Store (NotEmpty len))) × ((updates : List TileRec)
     × (UpdatesOf c g updates × (0 < len) × OfBundle g.files (λ bundle. len ≡ length bundle))))
 
 -- There is no room for update number n, as it is put, and there is for those before it. Over a

@@ -20,8 +20,8 @@ use Rattle.lerc_cli.specs.inputs.Given.{Given}
 use Rattle.lerc_cli.specs.answers.Names.{End}
 use Rattle.lerc_cli.specs.answers.Table.{UpdatesOf}
 
--- The volume is not called; or the bundle is recovered, or refused in that or behind it, and no more
--- is done; or the updates are begun.
+-- The volume is not called; or the bundle is recovered, or refused in that or behind it, and no
+-- more is done; or the updates are begun.
 pub data Phase : Type 0 where
   NotCalled : Phase
   Recovered : Phase

@@ -38,7 +38,8 @@ IsBuild v e w c = IsOfTiles Build v e w c
 abbrev pub IsPut : List ℕ → List ℕ → List ℕ → Command → Type 0
 IsPut v e w c = IsOfTiles Put v e w c
 
--- the number of workers of a command that has one is from 1 to 64, and a sample has at most 4,096 tiles
+-- the number of workers of a command that has one is from 1 to 64, and a sample has at most 4,096
+-- tiles
 abbrev pub IsLawful : Command → Type 0
 IsLawful (Build version error workers) = (1 ≤ workers) × (workers ≤ 64)
 IsLawful (Put version error workers) = (1 ≤ workers) × (workers ≤ 64)

@@ -18,7 +18,8 @@ use Rattle.lerc_cli.specs.inputs.Refused.{IsNoUpdates}
 use Rattle.lerc_cli.specs.answers.Names.{End}
 
 -- the updates of the input, or why there are none
-abbrev pub TakesUpdates : Version → ℕ → Option (List ℕ) → Result (Vec TileRec Global) (Stop Refusal) →
+abbrev pub TakesUpdates : Version → ℕ → Option (List ℕ)
+    → Result (Vec TileRec Global) (Stop Refusal) →
     Type 0
 TakesUpdates version error input (Ok us) =
     OfBytes input (λ bytes. IsUpdates version (step_of error) bytes us.items)

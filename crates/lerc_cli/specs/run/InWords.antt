@@ -1,5 +1,5 @@
 -- What a run of one command leaves, in the command's own words.
-use Rattle.std.specs.Prelude.{◌≡◌, ℕ, List, length, replicate, Option, None, IfSome, Bool, IsTrue}
+use Rattle.std.specs.Prelude.{◌≡◌, ℕ, ◌≤◌, List, length, replicate, Option, None, IfSome, Bool, IsTrue}
 use Rattle.outside_io.specs.declared.volume.VolFile.TheVariants.{Bundle}
 use Rattle.outside_io.specs.program.Line.{GivesLine}
 use Rattle.outside_io.specs.streams.Sink.{Holds, HoldsPrefix}
@@ -18,12 +18,15 @@ use Rattle.bundle_store.specs.declared.tile_rec.TileRec.{TileRec}
 use Rattle.bundle_store.specs.Build.{last_tiles}
 use Rattle.bundle_store.specs.Layout.{layout}
 use Rattle.bundle_lines.specs.Builds.{built_line_of}
+use Rattle.sample_tiles.specs.Sums.{AreSums}
+use Rattle.sample_tiles.specs.declared.adding.Sums.{Sums}
 use Rattle.program_ends.specs.Moves.{Change, SinkMove}
 use Rattle.program_ends.specs.declared.stop.Stop.TheVariants.{Refused}
 use Rattle.lerc_cli.specs.declared.refusal.Refusal.TheVariants.{Input}
 use Rattle.lerc_cli.specs.inputs.Refused.{IsBandsBlob, HasHead, band_reason_of}
 use Rattle.lerc_cli.specs.answers.Names.{line_of}
 use Rattle.lerc_cli.specs.answers.Outline.{AreLinesOf}
+use Rattle.lerc_cli.specs.answers.Samples.{sums_lines}
 
 -- ---- of `encode` in its own words
 
@@ -91,3 +94,11 @@ abbrev pub GivesLines : Option (List ℕ) → Change (Option (List ℕ)) → Typ
 GivesLines input held =
     (blobs : List ℕ) × (IsBandsBlob blobs × IfSome input (λ bytes. bytes ≡ blobs)
     × ((lines : List ℕ) × (AreLinesOf blobs lines × Holds held.old held.new lines)))
+
+-- ---- of `sample` in its own words
+
+-- The output has gained the lines of what the sample comes to: no pixel of it is further than 1
+-- from the one that its blob decodes to.
+abbrev pub GivesSums : ℕ → ℕ → Change (Option (List ℕ)) → Type 0
+GivesSums start count held = (sums : Sums)
+    × (AreSums start count sums × ((sums.worst ≤ 1) × Holds held.old held.new (sums_lines sums)))

@@ -21,8 +21,8 @@ use Rattle.lerc_cli.specs.crashes.Phase.{Phase, ComesTo, IsLeftIn}
 
 -- ---- the source
 
--- What a command takes: some first bytes of those left. Of the blobs of bands it is at most one byte
--- more than the 16 longest ones have.
+-- What a command takes: some first bytes of those left. Of the blobs of bands it is at most one
+-- byte more than the 16 longest ones have.
 abbrev pub TakesFor : Command → Option (List ℕ) → Option (List ℕ) → Type 0
 TakesFor (Encode version error) left_old left_new = TookSome left_old left_new
 TakesFor Decode left_old left_new = TakesUpTo 2147483649 left_old left_new

@@ -1,5 +1,5 @@
--- The words that spell each command, and which objects it uses. Each definition has one case for each
--- command.
+-- The words that spell each command, and which objects it uses. Each definition has one case for
+-- each command.
 use Rattle.std.specs.Prelude.{◌≡◌, ℕ, Bool, true, false, List, [], ◌∷◌, codes}
 use Rattle.command_words.specs.Words.{AreSlotWords, IsVersionWord, IsWithin}
 use Rattle.lerc_cli.specs.declared.words.Command.{Command}

@@ -14,13 +14,13 @@ ghost use Rattle.lerc_cli.specs.run.Run.{OfOutput};
 
 use crate::refusal::{Refusal, store_stop};
 use bundle_lines::{LineStop, check_all, give_recovery, list_all};
-use opened_bundle::{open_bundle, recovered};
+use opened_bundle::{open_bundle, recover_bundle};
 use outside_io::{Sink, Volume};
 use program_ends::Stop;
 use std::alloc::Global;
 
 /// How a check ended, as a command's end.
-fn end(ended: Result<(), LineStop>) -> Result<(), Stop<Refusal>>
+fn check_end(ended: Result<(), LineStop>) -> Result<(), Stop<Refusal>>
     ensures { result ≡ end_of ended }
 {
     match ended {
@@ -40,7 +40,7 @@ pub fn recover<K: Sink, V: Volume>(out: &mut K, vol: &mut V) -> Result<(), Stop<
     ensures rests { IsTrue (V.told vol.old) → Rests result (contents Journal (V.history vol.old))
         (current (V.history vol.new)) }
 {
-    let found = match recovered(vol) {
+    let found = match recover_bundle(vol) {
         Ok(found) => found,
         Err(stop) => return Err(store_stop(stop)),
     };
@@ -92,5 +92,5 @@ pub fn check<K: Sink, V: Volume>(
         Ok(session) => session,
         Err(stop) => return Err(store_stop(stop)),
     };
-    end(check_all(&session, vol, out))
+    check_end(check_all(&session, vol, out))
 }

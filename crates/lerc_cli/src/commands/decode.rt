@@ -22,7 +22,8 @@ pub fn decode<S: Source, K: Sink>(
 ) -> Result<(), Stop<Refusal>>
     ensures source { OfSource Command.Decode result (source_move S.left S.faults src.old src.new) }
     ensures output { (files : Option Files)
-        → OfOutput Command.Decode (given (S.left src.old) files) 0 result (sink_move K.held K.faults out.old out.new) }
+        → OfOutput Command.Decode (given (S.left src.old) files) 0 result
+        (sink_move K.held K.faults out.old out.new) }
 {
     let bands = match read_bands(alloc, src) {
         Ok(bands) => bands,

@@ -56,7 +56,8 @@ pub fn info<S: Source, K: Sink>(
 ) -> Result<(), Stop<Refusal>>
     ensures source { OfSource Command.Info result (source_move S.left S.faults src.old src.new) }
     ensures output { (files : Option Files)
-        → OfOutput Command.Info (given (S.left src.old) files) 0 result (sink_move K.held K.faults out.old out.new) }
+        → OfOutput Command.Info (given (S.left src.old) files) 0 result
+        (sink_move K.held K.faults out.old out.new) }
 {
     let blobs = match read_kept(alloc, src) {
         Ok(blobs) => blobs,

@@ -29,7 +29,7 @@ fn band_reason(reason: BandReason) -> Reason
 }
 
 /// A fault of blobs of bands as a refusal.
-fn refused(fault: BandsFault) -> Refusal
+fn bands_refusal(fault: BandsFault) -> Refusal
     ensures { result ≡ Refusal.Input
         (record { reason = band_reason_of fault.reason; place = fault.place }) }
 {
@@ -40,11 +40,11 @@ fn refused(fault: BandsFault) -> Refusal
 }
 
 /// Why a source gave no bands, as a stop.
-fn stop(fault: BandsFromFault) -> Stop<Refusal>
+fn bands_stop(fault: BandsFromFault) -> Stop<Refusal>
     ensures { result ≡ stop_of fault }
 {
     match fault {
-        BandsFromFault::Fault(fault) => Stop::Refused(refused(fault)),
+        BandsFromFault::Fault(fault) => Stop::Refused(bands_refusal(fault)),
         BandsFromFault::Source => Stop::Source,
         BandsFromFault::OutOfMemory => Stop::OutOfMemory,
     }
@@ -60,7 +60,7 @@ pub fn read_bands<S: Source>(alloc: Global, src: &mut S) -> Result<Bands, Stop<R
 {
     match decode_bands_from(alloc, src) {
         Ok(bands) => Ok(bands),
-        Err(fault) => Err(stop(fault)),
+        Err(fault) => Err(bands_stop(fault)),
     }
 }
 
@@ -74,7 +74,7 @@ pub fn read_kept<S: Source>(alloc: Global, src: &mut S) -> Result<KeptBlobs, Sto
 {
     match keep_bands_from(alloc, src) {
         Ok(blobs) => Ok(blobs),
-        Err(fault) => Err(stop(fault)),
+        Err(fault) => Err(bands_stop(fault)),
     }
 }
 
@@ -83,7 +83,7 @@ fn tile_fault(fault: BandsStop) -> Stop<Refusal>
     ensures { result ≡ tile_fault_of fault }
 {
     match fault {
-        BandsStop::Fault(fault) => Stop::Refused(refused(fault)),
+        BandsStop::Fault(fault) => Stop::Refused(bands_refusal(fault)),
         BandsStop::OutOfMemory => Stop::OutOfMemory,
     }
 }

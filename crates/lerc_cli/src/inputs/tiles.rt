@@ -8,16 +8,16 @@ ghost use Rattle.bundle_store.specs.Build.{EachFits};
 ghost use Rattle.lerc_cli.specs.inputs.Refused.{stream_stop_of, tile_reason_of};
 ghost use Rattle.lerc_cli.specs.inside.Updates.{TakesUpdates};
 
+use crate::inputs::encoding::Encoding;
 use crate::refusal::{Fault, Reason, Refusal, StreamRefusal};
 use bundle_store::TileRec;
-use lerc_header::{Step, Version};
+use lerc_header::Step;
 use outside_io::{Marks, Source};
 use program_ends::Stop;
-use std::alloc::Global;
 use std::thread::Threads;
 use tile_stream::TileReason;
 use tile_updates::{StreamStop, read_updates};
-use tile_workers::{Coding, Gate};
+use tile_workers::{Coding, Gate, Machine};
 
 /// What is wrong in a tile, as a reason.
 fn tile_reason(reason: TileReason) -> Reason
@@ -55,21 +55,15 @@ fn stream_stop(stop: StreamStop) -> Stop<Refusal>
     }
 }
 
-/// Reads the updates that the input asks for, encoded by so many workers, and takes memory for their
-/// marks.
+/// Reads the updates that the input asks for, and takes memory for their marks.
 pub fn take_updates<R: Threads + Sync, S: Source, G: Gate>(
-    rt: &R,
-    alloc: Global,
-    version: Version,
-    error: u32,
-    workers: u32,
+    machine: &Machine<'_, R, G>,
+    encoding: Encoding,
     src: &mut S,
     marks: &mut Marks,
-    gate: &G,
 ) -> Result<Vec<TileRec>, Stop<Refusal>>
     requires none { marks.old.marks ≡ [] }
-    requires workers { (1 ≤ workers) × (workers ≤ 64) }
-    ensures updates { TakesUpdates version error (S.left src.old) result }
+    ensures updates { TakesUpdates encoding.version encoding.error (S.left src.old) result }
     ensures fit { IfOk result (λ us. EachFits us.items) }
     ensures room { IfOk result (λ us. length us.items ≤ marks.new.spare) }
     ensures none { marks.new.marks ≡ [] }
@@ -78,11 +72,11 @@ pub fn take_updates<R: Threads + Sync, S: Source, G: Gate>(
     ensures end { OnOk result (IsAtEnd (S.left src.new)) }
 {
     let coding = Coding {
-        version,
-        step: Step::of(error),
-        workers: workers as usize,
+        version: encoding.version,
+        step: Step::of(encoding.error),
+        workers: encoding.workers as usize,
     };
-    let updates = match read_updates(rt, alloc, src, coding, gate) {
+    let updates = match read_updates(machine.rt, machine.alloc, src, coding, machine.gate) {
         Ok(updates) => updates,
         Err(stop) => return Err(stream_stop(stop)),
     };

@@ -1,9 +1,10 @@
-//! What is told of an input that is refused: the names of the reasons, and their numbers.
+//! What is told of a refusal: its status, and the line of the names of its reasons and their
+//! numbers.
 
 ghost use Rattle.std.specs.Prelude.{◌≡◌, ◌+◌, ◌≤◌, ◌++◌, length};
 ghost use Rattle.lerc_cli.specs.answers.Names.{blob_numbers_of, fault_text, name_of, stream_text};
 
-use crate::refusal::{Fault, Reason, StreamRefusal};
+use crate::refusal::{Fault, Reason, Refusal, StreamRefusal};
 use lerc_header::BlobReason;
 use opened_bundle::{add_one, add_two};
 use outside_io::Line;
@@ -49,7 +50,7 @@ fn add_numbers(line: &mut Line, reason: BlobReason)
 }
 
 /// The text of a refused input.
-pub fn fault_line(fault: Fault) -> Line
+fn fault_line(fault: Fault) -> Line
     ensures text { result ≡ fault_text fault }
     ensures short { length result ≤ 190 }
 {
@@ -66,7 +67,7 @@ pub fn fault_line(fault: Fault) -> Line
 }
 
 /// The text of tiles that the store does not take.
-pub fn stream_line(refusal: StreamRefusal) -> Line
+fn stream_line(refusal: StreamRefusal) -> Line
     ensures text { result ≡ stream_text refusal }
     ensures short { length result ≤ 190 }
 {
@@ -80,4 +81,28 @@ pub fn stream_line(refusal: StreamRefusal) -> Line
         StreamRefusal::KeptTooMuch { at } => add_one(&mut line, b"KeptTooMuch", at),
     }
     line
+}
+
+impl program_ends::Refusal for Refusal {
+    ghost use Rattle.lerc_cli.specs.answers.Names.{refusal_status, refusal_text};
+
+    ghost status = { refusal_status };
+
+    ghost text = { refusal_text };
+
+    fn status(&self) -> u8 {
+        match self {
+            Refusal::Input(_) => 2,
+            Refusal::Store(_) => 7,
+            Refusal::Stream(_) => 7,
+        }
+    }
+
+    fn text(&self) -> Line {
+        match self {
+            Refusal::Input(fault) => fault_line(*fault),
+            Refusal::Store(refusal) => program_ends::Refusal::text(refusal),
+            Refusal::Stream(refusal) => stream_line(*refusal),
+        }
+    }
 }

@@ -1,5 +1,5 @@
 -- What the code keeps of bands, as a stage, and what its parts come to.
-use Rattle.std.specs.Prelude.{◌≡◌, ℕ, ◌+◌, ◌<◌, List, codes, Option, None, Result, Ok, Err}
+use Rattle.std.specs.Prelude.{◌≡◌, ℕ, ◌+◌, List, codes, Option, None, Result, Ok, Err}
 use Rattle.raster_values.specs.Raster.{Pixels}
 use Rattle.lerc_grammar.specs.declared.bands.BandsFault.{BandsFault}
 use Rattle.lerc_grammar.specs.Bands.{BandsBlob, BandsFaultAt, last_after}
@@ -19,11 +19,9 @@ stage_in (AtKey have) = Behind have
 stage_in (Refused f) = Wrong f.place f.reason
 stage_in OutOfMemory = NoMemory
 
--- the fault, so many bytes further on; or there is no number for its place, which is then behind the
--- first byte
+-- the fault, so many bytes further on
 abbrev pub IsRaised : BandsFault → ℕ → BandsProgress → Type 0
 IsRaised fault by (Refused f) = f ≡ record { reason = fault.reason; place = by + fault.place }
-IsRaised fault by OutOfMemory = 0 < by
 IsRaised fault by _ = ⊥
 
 -- the decoder of a blob behind these bands that has taken its key; or memory was refused

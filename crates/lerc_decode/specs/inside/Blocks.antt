@@ -9,8 +9,8 @@ use Rattle.lerc_header.specs.declared.header.Header.{Header}
 use Rattle.raster_cells.specs.Step.{IsTwiceError}
 use Rattle.lerc_grammar.specs.Blocks.{AreBlocks, all_blocks, block_frame, blocks_across}
 use Rattle.lerc_grammar.specs.Blocks.{blocks_down, coded_values}
-use Rattle.lerc_decode.specs.declared.blob.tops.Tops.{Tops}
-use Rattle.lerc_decode.specs.inside.Tops.{AreTops, top_in}
+use Rattle.lerc_decode.specs.declared.blob.maxima.Maxima.{Maxima}
+use Rattle.lerc_decode.specs.inside.Maxima.{AreMaxima, top_in}
 
 -- the number of the block in row a and column b of blocks, at depth d
 abbrev pub block_number : Header → ℕ → ℕ → ℕ → ℕ
@@ -28,20 +28,20 @@ pub record IsBlockHead (h : Header) : Type 0 where
   pub shape : IsShape h.rows h.cols h.depth
   pub step : IsTwiceError h.step
 
--- and these are the tops of its depths
-pub record HasToppedBlocks (h : Header) (tops : Tops) : Type 0 where
+-- and these are the maxima of its depths
+pub record HasToppedBlocks (h : Header) (maxima : Maxima) : Type 0 where
   pub head : IsBlockHead h
-  pub tops_of : AreTops h tops
+  pub maxima_of : AreMaxima h maxima
 
 -- the first `at` bytes are the first k blocks of the raster
-pub record HasRead (h : Header) (marks : List Bool) (tops : Tops) (rest : List ℕ) (k at : ℕ)
+pub record HasRead (h : Header) (marks : List Bool) (maxima : Maxima) (rest : List ℕ) (k at : ℕ)
     (r : Pixels) : Type 0 where
   pub within : at ≤ length rest
-  pub stand : Numbered (λ j. IsBlock (block_frame h marks (top_in h tops) j)) 0 (take at rest)
+  pub stand : Numbered (λ j. IsBlock (block_frame h marks (top_in h maxima) j)) 0 (take at rest)
       (map (coded_values h r) (range_with_len 0 k))
 
 -- all bytes are the blocks of the raster
-pub record HasBlocks (h : Header) (marks : List Bool) (tops : Tops) (rest : List ℕ)
+pub record HasBlocks (h : Header) (marks : List Bool) (maxima : Maxima) (rest : List ℕ)
     (r : Pixels) : Type 0 where
   pub side : h.side ≤ 32
-  pub stand : AreBlocks h marks (top_in h tops) rest (all_blocks h r)
+  pub stand : AreBlocks h marks (top_in h maxima) rest (all_blocks h r)

@@ -112,7 +112,7 @@ pub record ReadsImage (h : Header) (blob : List ℕ) (mask : MaskForm) (old new 
       (image_faults h (marks_of old) (drop (image_place h mask) blob))) fault)
 
 -- the array has the values of the raster of the blob, whose marks are those of the bits
-pub record IsPouredOver (h : Header) (blob bits values : List ℕ) : Type 0 where
+pub record IsScatteredOver (h : Header) (blob bits values : List ℕ) : Type 0 where
   pub raster : Pixels
   pub blob_of : Blob blob raster
   pub shape : HasHeadShape h raster

@@ -20,13 +20,13 @@ ghost use Rattle.lerc_decode.specs.inside.Body.{IsMarkedBy, IsMarkedFor, IsMaskF
 ghost use Rattle.lerc_decode.specs.inside.Body.{IsStopOf, IsSwept, KeepsFrame, ReadsImage};
 ghost use Rattle.lerc_decode.specs.inside.Body.{marks_for};
 
-use crate::blob::before::Before;
-use crate::blob::blocks::pour_blocks;
-use crate::blob::codes::{pour_deltas, pour_plain};
-use crate::blob::faults::stopped;
+use crate::blob::blocks::scatter_blocks;
+use crate::blob::codes::{scatter_deltas, scatter_plain};
+use crate::blob::faults::refuse;
 use crate::blob::masks::bits_of_runs;
+use crate::blob::maxima::Maxima;
+use crate::blob::previous_mask::PreviousMask;
 use crate::blob::summed::SummedBlob;
-use crate::blob::tops::Tops;
 use lerc_grammar::{ImageForm, MaskForm, image_part, mask_part, place_behind};
 use lerc_header::{BlobFault, BlobReason, Header};
 use raster_access::Target;
@@ -101,7 +101,7 @@ fn mark_runs(
 
 /// How many pixels are valid in the raster before, where there is one of the header's rows and
 /// columns.
-fn counted_before(before: &Option<Before>, header: &Header) -> Option<u32>
+fn valid_before(before: &Option<PreviousMask>, header: &Header) -> Option<u32>
     ensures { result ≡ count_before (marks_for before.now header.now) }
 {
     match before {
@@ -111,7 +111,7 @@ fn counted_before(before: &Option<Before>, header: &Header) -> Option<u32>
 }
 
 /// Makes the same pixels valid as in the raster before, which has the header's rows and columns.
-fn mark_as_before(before: &Option<Before>, header: &Header, raster: &mut Raster)
+fn mark_as_before(before: &Option<PreviousMask>, header: &Header, raster: &mut Raster)
     requires blank { raster.old
         ≡ blank header.now.kind header.now.rows header.now.cols header.now.depth }
     requires count { count_before (marks_for before.now header.now) ≡ Some header.now.valid }
@@ -128,12 +128,13 @@ fn read_mask(
     alloc: Global,
     blob: &SummedBlob,
     form: &MaskForm,
-    before: &Option<Before>,
+    before: &Option<PreviousMask>,
     raster: &mut Raster,
 ) -> Result<(), BodyStop>
     requires form { IsMaskFormFor before.now blob.now.header blob.now.bytes.now form.now }
     requires blank { raster.old
-        ≡ blank blob.now.header.kind blob.now.header.rows blob.now.header.cols blob.now.header.depth }
+        ≡ blank blob.now.header.kind blob.now.header.rows blob.now.header.cols
+        blob.now.header.depth }
     ensures shape { HasHeadShape blob.now.header raster.new }
     ensures ok { OnOk result (IsMaskAfter (marks_for before.now blob.now.header)
         (blob.now.header.rows * blob.now.header.cols) blob.now.header.valid
@@ -195,7 +196,7 @@ fn sweep_len(header: &Header) -> usize
 }
 
 /// Gives the valid pixels the values of a sweep, which begins at this place of the blob.
-fn pour_sweep<T: Target>(
+fn scatter_sweep<T: Target>(
     sweep: &[u8],
     place: usize,
     header: &Header,
@@ -212,12 +213,12 @@ fn pour_sweep<T: Target>(
 {
     let need = sweep_len(header);
     if sweep.len() < need {
-        return stopped(BlobReason::PastEnd, place);
+        return refuse(BlobReason::PastEnd, place);
     }
     if sweep.len() > need {
-        return stopped(BlobReason::Leftover, place + need);
+        return refuse(BlobReason::Leftover, place + need);
     }
-    raster.pour(sweep);
+    raster.scatter(sweep);
     Ok(())
 }
 
@@ -229,7 +230,8 @@ fn read_blocks<T: Target>(
     raster: &mut T,
 ) -> Result<(), BlobFault>
     requires mask { IsMaskForm blob.now.header blob.now.bytes.now mask.now }
-    requires form { IsImageForm blob.now.header blob.now.bytes.now mask.now (ImageForm.Blocks place) }
+    requires form { IsImageForm blob.now.header blob.now.bytes.now mask.now
+        (ImageForm.Blocks place) }
     requires shaped { IsShapedAs blob.now.header (T.pixels raster.old) }
     ensures read { ReadsImage blob.now.header blob.now.bytes.now mask.now (T.pixels raster.old)
         (T.pixels raster.new) result }
@@ -238,8 +240,8 @@ fn read_blocks<T: Target>(
 {
     let header = &blob.header;
     let start = place_behind(header, mask);
-    let tops = Tops::of(&blob.bytes[start..], header);
-    pour_blocks(&blob.bytes[place..], place, header, &tops, raster)
+    let maxima = Maxima::of(&blob.bytes[start..], header);
+    scatter_blocks(&blob.bytes[place..], place, header, &maxima, raster)
 }
 
 /// Gives the valid pixels the values of a code table and differences, which begin at this place.
@@ -250,14 +252,15 @@ fn read_deltas<T: Target>(
     raster: &mut T,
 ) -> Result<(), BlobFault>
     requires mask { IsMaskForm blob.now.header blob.now.bytes.now mask.now }
-    requires form { IsImageForm blob.now.header blob.now.bytes.now mask.now (ImageForm.Delta place) }
+    requires form { IsImageForm blob.now.header blob.now.bytes.now mask.now
+        (ImageForm.Delta place) }
     requires marked { IsMarkedAs blob.now.header (T.pixels raster.old) }
     ensures read { ReadsImage blob.now.header blob.now.bytes.now mask.now (T.pixels raster.old)
         (T.pixels raster.new) result }
     ensures frame { KeepsFrame (T.pixels raster.old) (T.pixels raster.new)
         (T.kept raster.old) (T.kept raster.new) }
 {
-    pour_deltas(&blob.bytes[place..], place, &blob.header, raster)
+    scatter_deltas(&blob.bytes[place..], place, &blob.header, raster)
 }
 
 /// Gives the valid pixels the values of a code table and words, which begin at this place.
@@ -268,14 +271,15 @@ fn read_plain<T: Target>(
     raster: &mut T,
 ) -> Result<(), BlobFault>
     requires mask { IsMaskForm blob.now.header blob.now.bytes.now mask.now }
-    requires form { IsImageForm blob.now.header blob.now.bytes.now mask.now (ImageForm.Plain place) }
+    requires form { IsImageForm blob.now.header blob.now.bytes.now mask.now
+        (ImageForm.Plain place) }
     requires marked { IsMarkedAs blob.now.header (T.pixels raster.old) }
     ensures read { ReadsImage blob.now.header blob.now.bytes.now mask.now (T.pixels raster.old)
         (T.pixels raster.new) result }
     ensures frame { KeepsFrame (T.pixels raster.old) (T.pixels raster.new)
         (T.kept raster.old) (T.kept raster.new) }
 {
-    pour_plain(&blob.bytes[place..], place, &blob.header, raster)
+    scatter_plain(&blob.bytes[place..], place, &blob.header, raster)
 }
 
 /// Gives the valid pixels the values that the image says.
@@ -308,7 +312,7 @@ fn read_image<T: Target>(
         }
         ImageForm::Sweep { at } => {
             let place = at as usize;
-            pour_sweep(&blob.bytes[place..], place, header, raster)
+            scatter_sweep(&blob.bytes[place..], place, header, raster)
         }
         ImageForm::Blocks { at } => read_blocks(blob, mask, at as usize, raster),
         ImageForm::Delta { at } => read_deltas(blob, mask, at as usize, raster),
@@ -317,22 +321,25 @@ fn read_image<T: Target>(
 }
 
 /// The form of the mask.
-pub(crate) fn mask_form(blob: &SummedBlob, before: &Option<Before>) -> Result<MaskForm, BlobFault>
+pub(crate) fn mask_form(
+    blob: &SummedBlob,
+    before: &Option<PreviousMask>,
+) -> Result<MaskForm, BlobFault>
     ensures ok { IfOk result (λ form. IsMaskFormFor before.now blob.now.header blob.now.bytes.now
         form) }
     ensures fault { IfErr result (λ fault.
         IsFaultIn (blob_faults before.now blob.now.header blob.now.bytes.now) fault) }
 {
-    let counted = counted_before(before, &blob.header);
+    let counted = valid_before(before, &blob.header);
     mask_part(blob.bytes, &blob.header, counted)
 }
 
 /// A raster whose pixels are valid as the mask says.
-fn marked(
+fn mark_raster(
     alloc: Global,
     blob: &SummedBlob,
     form: &MaskForm,
-    before: &Option<Before>,
+    before: &Option<PreviousMask>,
 ) -> Result<Raster, BodyStop>
     requires form { IsMaskFormFor before.now blob.now.header blob.now.bytes.now form.now }
     ensures ok { IfOk result (λ r. IsMarkedFor before.now blob.now.header blob.now.bytes.now
@@ -375,7 +382,7 @@ pub(crate) fn image_of<T: Target>(
 
 /// The raster with the values that the image says, behind a mask that stands, whatever the raster
 /// before is.
-fn pictured(blob: &SummedBlob, mask: &MaskForm, mut raster: Raster) -> Result<Raster, BlobFault>
+fn fill_raster(blob: &SummedBlob, mask: &MaskForm, mut raster: Raster) -> Result<Raster, BlobFault>
     requires mask { IsMaskForm blob.now.header blob.now.bytes.now mask.now }
     requires shape { HasHeadShape blob.now.header raster }
     requires valid { count_of (marks_of raster) ≡ blob.now.header.valid }
@@ -393,7 +400,11 @@ fn pictured(blob: &SummedBlob, mask: &MaskForm, mut raster: Raster) -> Result<Ra
 }
 
 /// The raster of a blob whose checksum stands.
-fn raster_of(alloc: Global, blob: &SummedBlob, before: &Option<Before>) -> Result<Raster, BodyStop>
+fn raster_of(
+    alloc: Global,
+    blob: &SummedBlob,
+    before: &Option<PreviousMask>,
+) -> Result<Raster, BodyStop>
     ensures ok { IfOk result (λ r. BlobAfter before.now blob.now.bytes.now r) }
     ensures fault { IfErr result (λ stop.
         IsStopOf (blob_faults before.now blob.now.header blob.now.bytes.now) stop) }
@@ -402,8 +413,8 @@ fn raster_of(alloc: Global, blob: &SummedBlob, before: &Option<Before>) -> Resul
         Ok(mask) => mask,
         Err(fault) => return Err(BodyStop::Fault(fault)),
     };
-    let raster = marked(alloc, blob, &mask, before)?;
-    match pictured(blob, &mask, raster) {
+    let raster = mark_raster(alloc, blob, &mask, before)?;
+    match fill_raster(blob, &mask, raster) {
         Ok(raster) => Ok(raster),
         Err(fault) => Err(BodyStop::Fault(fault)),
     }
@@ -414,7 +425,7 @@ pub(crate) fn body(
     alloc: Global,
     blob: &[u8],
     header: &Header,
-    before: &Option<Before>,
+    before: &Option<PreviousMask>,
 ) -> Result<Raster, BodyStop>
     requires head { HeadAt blob.now header.now }
     requires size { length blob.now ≡ header.now.size }

@@ -12,7 +12,7 @@ ghost use Rattle.lerc_decode.specs.inside.Body.{IsFaultIn, KeepsFrame};
 ghost use Rattle.lerc_decode.specs.inside.Codes.{HasDeltas, HasPlain, IsCodedAs, words_faults};
 ghost use Rattle.lerc_decode.specs.inside.Words.{AreWordsLeft, frame_of, have_come, left_in};
 
-use crate::blob::faults::{reason_of_code, stopped};
+use crate::blob::faults::{reason_of_code, refuse};
 use crate::blob::words::Words;
 use delta_mode::{SymbolSource, undelta_from, unplain_from};
 use huff_codes::{CodeFault, Codes, read_table};
@@ -29,14 +29,14 @@ fn value_len(header: &Header) -> usize
 }
 
 /// A fault of the codes that begin at this place.
-fn refused(fault: CodeFault, place: usize) -> Result<(), BlobFault>
+fn refuse_code(fault: CodeFault, place: usize) -> Result<(), BlobFault>
     requires { place + fault.at < 2 ^ 63 }
     ensures { result ≡ Err (record {
       reason = code_reason fault.reason;
       place = place + fault.at;
     }) }
 {
-    stopped(reason_of_code(fault.reason), place + fault.at)
+    refuse(reason_of_code(fault.reason), place + fault.at)
 }
 
 /// Ends the words, which are the blob's last bytes and begin at this place.
@@ -52,9 +52,9 @@ fn end_words(words: &Words, rest: &[u8], place: usize) -> Result<(), BlobFault>
         (words_faults (frame_of words.now).codes (frame_of words.now).total rest.now)) fault) }
 {
     match words.end() {
-        Ok(used) if used < rest.len() => stopped(BlobReason::Leftover, place + used),
+        Ok(used) if used < rest.len() => refuse(BlobReason::Leftover, place + used),
         Ok(_) => Ok(()),
-        Err(fault) => refused(fault, place),
+        Err(fault) => refuse_code(fault, place),
     }
 }
 
@@ -85,7 +85,7 @@ fn take_deltas<S: SymbolSource, T: Target>(
 }
 
 /// Gives the valid pixels the values of the words of differences, which begin at this place.
-fn pour_delta_words<T: Target>(
+fn scatter_delta_words<T: Target>(
     rest: &[u8],
     place: usize,
     codes: &Codes,
@@ -106,13 +106,13 @@ fn pour_delta_words<T: Target>(
     let mut words = Words::of(rest, codes, value_len(header));
     match take_deltas(&mut words, header, raster) {
         Ok(()) => end_words(&words, rest, place),
-        Err(fault) => refused(fault, place),
+        Err(fault) => refuse_code(fault, place),
     }
 }
 
 /// Gives the valid pixels the values of a table and words of differences, which begin at this
 /// place.
-pub(crate) fn pour_deltas<T: Target>(
+pub(crate) fn scatter_deltas<T: Target>(
     rest: &[u8],
     place: usize,
     header: &Header,
@@ -129,9 +129,9 @@ pub(crate) fn pour_deltas<T: Target>(
 {
     match read_table(rest) {
         Ok((codes, used)) => {
-            pour_delta_words(&rest[used..], place + used, &codes, header, raster)
+            scatter_delta_words(&rest[used..], place + used, &codes, header, raster)
         }
-        Err(fault) => refused(fault, place),
+        Err(fault) => refuse_code(fault, place),
     }
 }
 
@@ -159,7 +159,7 @@ fn take_plain<S: SymbolSource, T: Target>(
 }
 
 /// Gives the valid pixels the values of the words, which begin at this place.
-fn pour_plain_words<T: Target>(
+fn scatter_plain_words<T: Target>(
     rest: &[u8],
     place: usize,
     codes: &Codes,
@@ -180,12 +180,12 @@ fn pour_plain_words<T: Target>(
     let mut words = Words::of(rest, codes, value_len(header));
     match take_plain(&mut words, header, raster) {
         Ok(()) => end_words(&words, rest, place),
-        Err(fault) => refused(fault, place),
+        Err(fault) => refuse_code(fault, place),
     }
 }
 
 /// Gives the valid pixels the values of a table and words, which begin at this place.
-pub(crate) fn pour_plain<T: Target>(
+pub(crate) fn scatter_plain<T: Target>(
     rest: &[u8],
     place: usize,
     header: &Header,
@@ -202,8 +202,8 @@ pub(crate) fn pour_plain<T: Target>(
 {
     match read_table(rest) {
         Ok((codes, used)) => {
-            pour_plain_words(&rest[used..], place + used, &codes, header, raster)
+            scatter_plain_words(&rest[used..], place + used, &codes, header, raster)
         }
-        Err(fault) => refused(fault, place),
+        Err(fault) => refuse_code(fault, place),
     }
 }

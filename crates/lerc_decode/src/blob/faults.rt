@@ -9,7 +9,7 @@ use lerc_header::{BlobFault, BlobReason};
 use micro_block::BlockReason;
 
 /// A fault, as an answer.
-pub(crate) fn stopped<T: Drop>(reason: BlobReason, place: usize) -> Result<T, BlobFault>
+pub(crate) fn refuse<T: Drop>(reason: BlobReason, place: usize) -> Result<T, BlobFault>
     ensures { result ≡ Err (record { reason = reason; place = place }) }
 {
     Err(BlobFault {

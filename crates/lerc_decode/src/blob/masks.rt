@@ -11,8 +11,8 @@ ghost use Rattle.lerc_grammar.specs.Mask.{IsMaskAfter, count_before, mask_size, 
 ghost use Rattle.lerc_grammar.specs.Outline.{image_place};
 ghost use Rattle.lerc_decode.specs.inside.Body.{IsFaultIn, IsMarkedBy, IsMaskFormFor, marks_for};
 
-use crate::blob::before::Before;
-use crate::blob::faults::stopped;
+use crate::blob::faults::refuse;
+use crate::blob::previous_mask::PreviousMask;
 use crate::blob::summed::SummedBlob;
 use lerc_grammar::MaskForm;
 use lerc_header::{BlobFault, BlobReason, Header};
@@ -38,13 +38,13 @@ pub(crate) fn bits_of_runs(
         (runs_faults (header.now.rows * header.now.cols) header.now.valid runs.now)) fault) }
 {
     if let Err(fault) = read_runs(runs, bits) {
-        return stopped(BlobReason::BadRun, place + fault.at);
+        return refuse(BlobReason::BadRun, place + fault.at);
     }
     let pixels = header.rows as usize * header.cols as usize;
     clear_spare(bits, pixels);
     let counted = count_marked(bits, pixels) as u32;
     if counted != header.valid {
-        return stopped(
+        return refuse(
             BlobReason::BadMaskCount {
                 header: header.valid,
                 counted,
@@ -56,7 +56,7 @@ pub(crate) fn bits_of_runs(
 }
 
 /// Copies the bits of the raster before, which has the header's rows and columns.
-fn bits_before(before: &Option<Before>, header: &Header, bits: &mut [u8])
+fn bits_before(before: &Option<PreviousMask>, header: &Header, bits: &mut [u8])
     requires count { count_before (marks_for before.now header.now) ≡ Some header.now.valid }
     requires pixels { header.now.rows * header.now.cols ≤ 16777216 }
     requires room { length bits.old ≡ mask_size (header.now.rows * header.now.cols) }
@@ -75,7 +75,7 @@ fn bits_before(before: &Option<Before>, header: &Header, bits: &mut [u8])
 pub(crate) fn mask_bits(
     blob: &SummedBlob,
     form: &MaskForm,
-    before: &Option<Before>,
+    before: &Option<PreviousMask>,
     bits: &mut [u8],
 ) -> Result<(), BlobFault>
     requires form { IsMaskFormFor before.now blob.now.header blob.now.bytes.now form.now }

@@ -8,7 +8,7 @@ ghost use Rattle.lerc_grammar.specs.Blob.{blob_faults};
 ghost use Rattle.lerc_grammar.specs.Mask.{Previous};
 ghost use Rattle.lerc_decode.specs.inside.Body.{HasSum, IsFaultIn};
 
-use crate::blob::faults::stopped;
+use crate::blob::faults::refuse;
 use lerc_header::{BlobFault, BlobReason, Header, sum_behind};
 
 /// The bytes of a blob, and the header with which they begin.
@@ -34,7 +34,7 @@ impl<'a> SummedBlob<'a> {
     {
         let computed = sum_behind(bytes);
         if header.checksum != computed {
-            return stopped(
+            return refuse(
                 BlobReason::BadChecksum {
                     stored: header.checksum,
                     computed,

@@ -1,6 +1,7 @@
 //! The decoder of a tile: of one to 16 blobs, one behind the other.
 
-ghost use Rattle.std.specs.Prelude.{◌≡◌, ◌<◌, ◌≤◌, ◌⊎◌, ◌↔◌, ◌++◌, ℕ, List, [], ◌∷◌, ◌^◌, IfOk};
+ghost use Rattle.std.specs.Prelude.{◌≡◌, ◌+◌, ◌<◌, ◌≤◌, ◌⊎◌, ◌↔◌, ◌++◌, ℕ, List, [], ◌∷◌, ◌^◌};
+ghost use Rattle.std.specs.Prelude.{IfOk};
 ghost use Rattle.std.specs.Prelude.{Err, None, min, codes, length, take};
 ghost use Rattle.lerc_decode.specs.BandsStates.{state_of, GoesOn, IsBandsTold, IsBandsFinish};
 ghost use Rattle.lerc_grammar.specs.declared.bands.BandReason.{BandReason};
@@ -15,7 +16,7 @@ ghost use Rattle.lerc_decode.specs.inside.BandsStages.{IsKeptFinish};
 use crate::streams::decoder::Decoder;
 use crate::streams::front_blobs::FrontBlobs;
 use crate::streams::kept::KeptBlobs;
-use crate::streams::turns::{Ended, Next, Turned, turn};
+use crate::streams::turns::{Ended, Next, Turn, take_turn};
 use lerc_grammar::{BandReason, BandsFault};
 use lerc_header::{BlobReason, KEY};
 use raster_values::{Bands, GREATEST_BANDS};
@@ -79,23 +80,18 @@ impl Model for BandsDecoder {
 }
 
 /// A fault so many bytes further on.
-///
-/// A fault's place lies within its blob, so that there is always a number for it; this is not
-/// proved, and where there were none memory would be told to be wanting.
-fn raised(fault: BandsFault, by: u64) -> BandsProgress
+fn raise_fault(fault: BandsFault, by: u64) -> BandsProgress
+    requires { by + fault.place < 2 ^ 64 }
     ensures { IsRaised fault by result }
 {
-    match by.checked_add(fault.place) {
-        Some(place) => BandsProgress::Refused(BandsFault {
-            reason: fault.reason,
-            place,
-        }),
-        None => BandsProgress::OutOfMemory,
-    }
+    BandsProgress::Refused(BandsFault {
+        reason: fault.reason,
+        place: by + fault.place,
+    })
 }
 
 /// Where the decoder of bands is when a piece of a blob came to this.
-fn settled(alloc: Global, front: &mut FrontBlobs, next: Next) -> BandsProgress
+fn settle(alloc: Global, front: &mut FrontBlobs, next: Next) -> BandsProgress
     requires { (taken : List ℕ) × ((bytes : List ℕ)
         × (IsFrontOf bytes front.old × IsNext taken front.old.bands bytes next)) }
     ensures at { (taken bytes : List ℕ) → IsFrontOf bytes front.old
@@ -112,13 +108,13 @@ fn settled(alloc: Global, front: &mut FrontBlobs, next: Next) -> BandsProgress
                 Err(_) => BandsProgress::OutOfMemory,
             }
         }
-        Next::Refused(fault) => raised(fault, front.place()),
+        Next::Refused(fault) => raise_fault(fault, front.place()),
         Next::OutOfMemory => BandsProgress::OutOfMemory,
     }
 }
 
 /// A further blob, whose key has come.
-fn begun(alloc: Global, front: &FrontBlobs) -> BandsProgress
+fn begin_next(alloc: Global, front: &FrontBlobs) -> BandsProgress
     ensures { IsBegunBehind front.now.bands result }
 {
     match front.next(alloc) {
@@ -132,7 +128,7 @@ fn begun(alloc: Global, front: &FrontBlobs) -> BandsProgress
 }
 
 /// What a byte is behind a whole blob and so many bytes of a key.
-fn followed(alloc: Global, front: &FrontBlobs, have: usize, byte: u8) -> BandsProgress
+fn follow(alloc: Global, front: &FrontBlobs, have: usize, byte: u8) -> BandsProgress
     requires { have < 6 }
     ensures { (taken bytes : List ℕ) → IsFrontOf bytes front.now
         → IsBetween taken front.now.bands bytes (take have (codes "Lerc2 "))
@@ -147,7 +143,7 @@ fn followed(alloc: Global, front: &FrontBlobs, have: usize, byte: u8) -> BandsPr
     if have < 5 {
         return BandsProgress::Behind(have + 1);
     }
-    begun(alloc, front)
+    begin_next(alloc, front)
 }
 
 impl BandsDecoder {
@@ -164,7 +160,7 @@ impl BandsDecoder {
     }
 
     /// One that keeps the blobs.
-    pub(crate) fn keeping(alloc: Global) -> BandsDecoder
+    pub(crate) fn new_keeping(alloc: Global) -> BandsDecoder
         ensures taken { IsAfter [] result }
         ensures kept { result.front.kept ≡ Some [] }
     {
@@ -188,12 +184,12 @@ impl BandsDecoder {
     {
         match mem::replace(&mut self.progress, BandsProgress::OutOfMemory) {
             BandsProgress::Inside(decoder) => {
-                let Turned { used, next } = turn(decoder, &self.front, piece);
-                self.progress = settled(self.alloc, &mut self.front, next);
+                let Turn { used, next } = take_turn(decoder, &self.front, piece);
+                self.progress = settle(self.alloc, &mut self.front, next);
                 used
             }
             BandsProgress::Behind(have) => {
-                self.progress = followed(self.alloc, &self.front, have, piece[0]);
+                self.progress = follow(self.alloc, &self.front, have, piece[0]);
                 1
             }
             BandsProgress::Refused(fault) => {

@@ -111,7 +111,7 @@ pub fn keep_bands_from<S: Source>(alloc: Global, src: &mut S) -> Result<KeptBlob
     ensures end { OnOk result (IsAtEnd (S.left src.new)) }
     ensures taken { TakesUpTo 2147483649 (S.left src.old) (S.left src.new) }
 {
-    let mut decoder = BandsDecoder::keeping(alloc);
+    let mut decoder = BandsDecoder::new_keeping(alloc);
     match step_all(src, &mut decoder) {
         Ok(()) => match decoder.finish_kept() {
             Ok(found) => {

@@ -13,9 +13,9 @@ ghost use Rattle.lerc_decode.specs.States.{state_at, missing_at, IsTold, HasStop
 ghost use Rattle.lerc_decode.specs.States.{IsUsed};
 ghost use Rattle.lerc_decode.specs.inside.Steps.{UsesKey, UsesFields, UsesBody};
 
-use crate::blob::before::Before;
 use crate::blob::body::{BodyStop, body};
 use crate::blob::front::{header_at, version_at};
+use crate::blob::previous_mask::PreviousMask;
 use lerc_header::{BlobFault, BlobReason, Header, Version};
 use raster_values::Raster;
 use std::alloc::{AllocError, Global};
@@ -65,7 +65,7 @@ pub struct Decoder {
     // The bytes taken, from the whole header on.
     blob: Vec<u8>,
     progress: Progress,
-    before: Option<Before>,
+    before: Option<PreviousMask>,
 }
 
 impl Model for Decoder {
@@ -154,7 +154,7 @@ fn after_fields(version: Version, blob: &mut Vec<u8>, head: &[u8]) -> Progress
 }
 
 /// What a whole blob is.
-fn after_body(alloc: Global, blob: &[u8], header: Header, before: &Option<Before>) -> Progress
+fn after_body(alloc: Global, blob: &[u8], header: Header, before: &Option<PreviousMask>) -> Progress
     requires head { HeadAt blob.now header }
     requires size { length blob.now ≡ header.size }
     ensures ended { HasEnded result }
@@ -192,7 +192,7 @@ impl Decoder {
         ensures before { IfOk result (λ decoder.
             decoder.before ≡ Some (previous_of previous.now)) }
     {
-        let before = Before::of(alloc, previous)?;
+        let before = PreviousMask::of(alloc, previous)?;
         Ok(Decoder {
             alloc,
             head: [0; 66],
@@ -323,7 +323,7 @@ impl Decoder {
     }
 
     /// The raster of the whole blob, and its bytes.
-    pub(crate) fn ended(self) -> (Raster, Vec<u8>)
+    pub(crate) fn into_parts(self) -> (Raster, Vec<u8>)
         requires { state_at self.stage ≡ FedState.Done }
         ensures raster { self.stage ≡ Whole result.0 }
         ensures bytes { result.1.items ≡ self.taken }

@@ -31,13 +31,13 @@ pub(crate) enum Next {
 
 /// What a piece came to, and how many bytes of it were used.
 #[derive(Drop)]
-pub(crate) struct Turned {
+pub(crate) struct Turn {
     pub(crate) used: usize,
     pub(crate) next: Next,
 }
 
 /// Goes on where the header, once it is whole, is like those before.
-fn compared(decoder: Decoder, front: &FrontBlobs) -> Next
+fn compare(decoder: Decoder, front: &FrontBlobs) -> Next
     requires { IsStageOf decoder.before decoder.taken decoder.stage }
     ensures { IsCompared decoder front.now.bands result }
 {
@@ -51,7 +51,7 @@ fn compared(decoder: Decoder, front: &FrontBlobs) -> Next
 }
 
 /// Gives the decoder of a blob bytes of the piece up to what it decides next, at least one.
-pub(crate) fn turn(decoder: Decoder, front: &FrontBlobs, piece: &[u8]) -> Turned
+pub(crate) fn take_turn(decoder: Decoder, front: &FrontBlobs, piece: &[u8]) -> Turn
     requires some { 0 < length piece.now }
     requires goes { GoesOnBehind front.now.bands decoder }
     ensures within { result.used ≤ length piece.now }
@@ -65,25 +65,25 @@ pub(crate) fn turn(decoder: Decoder, front: &FrontBlobs, piece: &[u8]) -> Turned
     let fed = decoder.feed(&piece[..wants]);
     let used = fed.used;
     match fed.state {
-        FedState::More => Turned {
+        FedState::More => Turn {
             used,
-            next: compared(decoder, front),
+            next: compare(decoder, front),
         },
         FedState::Done => {
-            let (band, blob) = decoder.ended();
-            Turned {
+            let (band, blob) = decoder.into_parts();
+            Turn {
                 used,
                 next: Next::Ends(Ended { band, blob }),
             }
         }
-        FedState::Refused(fault) => Turned {
+        FedState::Refused(fault) => Turn {
             used,
             next: Next::Refused(BandsFault {
                 reason: BandReason::Blob(fault.reason),
                 place: fault.place,
             }),
         },
-        FedState::OutOfMemory => Turned {
+        FedState::OutOfMemory => Turn {
             used,
             next: Next::OutOfMemory,
         },

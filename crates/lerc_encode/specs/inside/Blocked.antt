@@ -11,7 +11,7 @@ use Rattle.micro_block.specs.ChosenBlock as micro
 use Rattle.micro_block.specs.ChosenBlock.{block_bytes, chosen_form}
 use Rattle.lerc_grammar.specs.Blocks.{block_col, block_depth, block_row, coded_blocks, coded_values}
 use Rattle.lerc_encode.specs.Images.{blocks_bytes}
-use Rattle.lerc_encode.specs.declared.blocks.Spot.{Spot}
+use Rattle.lerc_encode.specs.declared.blocks.BlockAt.{BlockAt}
 use Rattle.lerc_encode.specs.declared.blocks.Measured.{Measured}
 use Rattle.lerc_encode.specs.declared.flags.Flags.{Flags}
 use Rattle.lerc_encode.specs.inside.Flags.{IsMarked, room_of}
@@ -35,26 +35,26 @@ pub record IsContext (h : Header) (col : ℕ) (ctx : BlockCtx) : Type 0 where
   pub top : ctx.top ≡ type_greatest h.kind
 
 -- coded block number k stands here
-pub record IsSpot (h : Header) (k : ℕ) (spot : Spot) : Type 0 where
+pub record IsBlockAt (h : Header) (k : ℕ) (spot : BlockAt) : Type 0 where
   pub row : spot.row ≡ block_row h k
   pub col : spot.col ≡ block_col h k
   pub depth : spot.d ≡ block_depth h k
 
 -- a block stands here
-pub record IsWithin (h : Header) (spot : Spot) : Type 0 where
+pub record IsWithin (h : Header) (spot : BlockAt) : Type 0 where
   pub row : spot.row < h.rows
   pub col : spot.col < h.cols
   pub depth : spot.d < h.depth
 
 -- the values and the bytes of the block that stands here
-abbrev pub values_at : Header → Pixels → Spot → List ℤ
+abbrev pub values_at : Header → Pixels → BlockAt → List ℤ
 values_at h r spot = block_values r spot.row spot.col h.side spot.d
 
-abbrev pub bytes_at : Header → Pixels → Spot → List ℕ
+abbrev pub bytes_at : Header → Pixels → BlockAt → List ℕ
 bytes_at h r spot = block_bytes h.kind spot.col h.step (values_at h r spot)
 
 -- a block has a table
-abbrev pub HasTableAt : Header → Pixels → Spot → Type 0
+abbrev pub HasTableAt : Header → Pixels → BlockAt → Type 0
 HasTableAt h r spot = chosen_form h.kind spot.col h.step (values_at h r spot) ≡ micro.table
 
 abbrev pub HasTable : Header → Pixels → ℕ → Type 0
@@ -66,7 +66,8 @@ pub record AreFlags (h : Header) (r : Pixels) (n : ℕ) (tables : Flags) : Type 
   pub each : (k : ℕ) → k < n → HasTable h r k → IsMarked tables k
   pub sound : tables.group ≡ 1 → (k : ℕ) → k < n → IsMarked tables k → HasTable h r k
 
--- how many bytes all blocks take, and in which groups one has a table; at most 256 values, which rise
+-- how many bytes all blocks take, and in which groups one has a table; at most 256 values, which
+-- rise
 pub record IsMeasured (h : Header) (r : Pixels) (m : Measured) : Type 0 where
   pub size : m.size ≡ length (blocks_bytes h r)
   pub few : m.size ≤ 1025 * 16777216

@@ -12,15 +12,15 @@ use Rattle.lerc_encode.specs.Ranges.{depth_values, greatest_value, has_equal_ran
 use Rattle.lerc_encode.specs.inside.Coded.{AreCodings}
 use Rattle.lerc_encode.specs.inside.Blocked.{IsMeasured}
 use Rattle.lerc_encode.specs.Images as images
-use Rattle.lerc_encode.specs.Images.{CodedForm, chosen_coded_form, coded_form_bytes, ending}
+use Rattle.lerc_encode.specs.Images.{CodedForm, chosen_coded_form, coded_form_bytes, tail}
 use Rattle.lerc_encode.specs.declared.forms.ValueForm.{ValueForm}
 use Rattle.lerc_encode.specs.declared.forms.ValueForm.TheVariants.{Sweep, SmallBlocks, LargeBlocks}
 use Rattle.lerc_encode.specs.declared.forms.ValueForm.TheVariants.{Delta, Plain}
 use Rattle.lerc_encode.specs.declared.blocks.Measured.{Measured}
 use Rattle.lerc_encode.specs.declared.forms.Chosen.{Chosen}
-use Rattle.lerc_encode.specs.declared.choosing.Ending.{Ending}
-use Rattle.lerc_encode.specs.declared.choosing.Ending.TheVariants.{Empty, Constant}
-use Rattle.lerc_encode.specs.declared.choosing.Ending.TheVariants.{Ranges as EqualRanges, Coded}
+use Rattle.lerc_encode.specs.declared.choosing.Tail.{Tail}
+use Rattle.lerc_encode.specs.declared.choosing.Tail.TheVariants.{Empty, Constant}
+use Rattle.lerc_encode.specs.declared.choosing.Tail.TheVariants.{Ranges as EqualRanges, Coded}
 use Rattle.lerc_encode.specs.declared.ranging.Ranges.{Ranges}
 
 -- the form of the definitions
@@ -66,13 +66,16 @@ pub record AreRanges (r : Pixels) (ranges : Ranges) : Type 0 where
   pub least : ranges.whole.least ≡ least_value (values_of r.pixels)
   pub greatest : ranges.whole.greatest ≡ greatest_value (values_of r.pixels)
   pub equal : ranges.equal ≡ has_equal_ranges r
-  pub kept_least : (d : ℕ) → d < 16 → d < r.depth → get_or ranges.leasts d (pos 0) ≡ least_value (depth_values r d)
-  pub kept_greatest : (d : ℕ) → d < 16 → d < r.depth → get_or ranges.greatests d (pos 0) ≡ greatest_value (depth_values r d)
+  pub kept_least : (d : ℕ) → d < 16 → d < r.depth
+      → get_or ranges.leasts d (pos 0) ≡ least_value (depth_values r d)
+  pub kept_greatest : (d : ℕ) → d < 16 → d < r.depth
+      → get_or ranges.greatests d (pos 0) ≡ greatest_value (depth_values r d)
 
 -- how the image ends
-abbrev pub IsEnding : Pixels → Version → ℕ → Ending → Type 0
-IsEnding r version step Empty = ending r version step ≡ images.empty
-IsEnding r version step Constant = ending r version step ≡ images.constant
-IsEnding r version step EqualRanges = ending r version step ≡ images.ranges
-IsEnding r version step (Coded c) =
-    (ending r version step ≡ images.coded (chosen_coded_form r version step)) × IsChosen r version step c
+abbrev pub IsTail : Pixels → Version → ℕ → Tail → Type 0
+IsTail r version step Empty = tail r version step ≡ images.empty
+IsTail r version step Constant = tail r version step ≡ images.constant
+IsTail r version step EqualRanges = tail r version step ≡ images.ranges
+IsTail r version step (Coded c) =
+    (tail r version step ≡ images.coded (chosen_coded_form r version step))
+    × IsChosen r version step c

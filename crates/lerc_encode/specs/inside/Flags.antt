@@ -1,5 +1,5 @@
--- Flags by their numbers, a bit for each: 64 in a word, the lowest bit first. And flags of groups, one
--- for so many numbers one behind the other.
+-- Flags by their numbers, a bit for each: 64 in a word, the lowest bit first. And flags of groups,
+-- one for so many numbers one behind the other.
 use Rattle.std.specs.Prelude.{◌≡◌, ℕ, ◌*◌, ◌/◌, ◌%◌, List, get_or, length}
 use Rattle.std.specs.Int.{bit_at}
 use Rattle.lerc_encode.specs.declared.flags.Flags.{Flags}

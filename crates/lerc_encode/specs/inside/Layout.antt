@@ -8,7 +8,7 @@ use Rattle.lerc_header.specs.declared.header.Header.{Header}
 use Rattle.lerc_header.specs.declared.header.Version.{Version}
 use Rattle.lerc_encode.specs.Choice.{chosen_with, mask_and_image}
 use Rattle.lerc_encode.specs.Masks.{runs_unless}
-use Rattle.lerc_encode.specs.inside.Choosing.{AreRanges, IsBase, IsEnding}
+use Rattle.lerc_encode.specs.inside.Choosing.{AreRanges, IsBase, IsTail}
 use Rattle.lerc_encode.specs.declared.blob.Plan.{Plan}
 
 -- the runs of the mask: none where it is taken from the raster before
@@ -23,7 +23,7 @@ pub record IsPlan (r : Pixels) (version : Version) (step : ℕ) (p : Plan) : Typ
   pub ranges : AreRanges r p.ranges
   pub runs : p.runs ≡ length (planned_runs p r)
   pub few : p.runs ≤ 6291458
-  pub ending : IsEnding r version step p.ending
+  pub tail : IsTail r version step p.tail
 
 -- for the version and the step that it says
 abbrev pub IsPlanOf : Pixels → Plan → Type 0

@@ -1,4 +1,4 @@
--- What a header and its tops are for a raster whose blocks are written.
+-- What a header and its maxima are for a raster whose blocks are written.
 use Rattle.std.specs.Prelude.{◌≡◌, ℕ, ◌<◌, ◌≤◌, ◌≤ℤ◌, true, false, length, get_or, Option}
 use Rattle.raster_values.specs.Raster.{Pixels, IsRaster}
 use Rattle.raster_cells.specs.PixelType.{InRange}
@@ -17,9 +17,9 @@ pub record Suits (h : Header) (front : Option Ends) (r : Pixels) : Type 0 where
   pub side : 0 < h.side
   pub side_below : h.side ≤ 16
   pub step : 0 < h.step
-  pub tops : (p d : ℕ) → p < length r.pixels → get_or (marks_of r) p false ≡ true → d < r.depth
+  pub maxima : (p d : ℕ) → p < length r.pixels → get_or (marks_of r) p false ≡ true → d < r.depth
       → value_in r d p ≤ℤ top_of h front d
-  pub tops_in_range : (d : ℕ) → d < r.depth → InRange r.kind (top_of h front d)
+  pub maxima_in_range : (d : ℕ) → d < r.depth → InRange r.kind (top_of h front d)
 
 -- one type, shape and mask, and each value of a valid pixel near the other's, by the numbers of
 -- pixels

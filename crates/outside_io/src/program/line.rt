@@ -1,3 +1,5 @@
+//! Lines of output, of a fixed greatest length.
+
 ghost use Rattle.std.specs.Prelude.{◌≡◌, ◌+◌, ◌≤◌, ◌++◌, [], length};
 ghost use Rattle.outside_io.specs.program.Line.{GivesLine, and_number};
 

@@ -1,3 +1,5 @@
+//! Marks of a program's work: moments of a clock.
+
 ghost use Rattle.std.specs.Prelude.{◌≡◌, ◌+◌, ◌-◌, ◌<◌, ◌≤◌, ℕ, [], ◌∷◌, ◌++◌, Some, OnOk, OnErr, IsTrue, ◌↔◌, length, max, slice_get};
 
 use std::alloc::{AllocError, Global};

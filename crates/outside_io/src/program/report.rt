@@ -1,3 +1,5 @@
+//! What a run of a program ends with.
+
 use super::marks::Marks;
 
 /// What a program's run ends with: its exit status, 0 where all went well, and the marks of its

@@ -1,3 +1,5 @@
+//! Words of a command line, and the numbers that they stand for.
+
 ghost use Rattle.std.specs.Prelude.{◌≡◌, ◌↔◌, ◌<◌, ◌≤◌, ℕ, Some, IfOk, IsTrue, All, length, slice_index};
 ghost use Rattle.outside_io.specs.program.Word.{IsNumber, IsDigit, decimal_value};
 

@@ -1,3 +1,5 @@
+//! Bytes in memory that do not change.
+
 ghost use Rattle.std.specs.Prelude.{◌≡◌, ◌↔◌, ℕ, IfOk, IsTrue, length, Contains};
 
 use std::alloc::{AllocError, Global};

@@ -1,3 +1,5 @@
+//! A source over bytes in memory.
+
 ghost use Rattle.std.specs.Prelude.{◌≡◌, ◌<◌, ◌≤◌, ◌↔◌, Some, Ok, IfOk, OnErr, IsErr, length, drop, min, Contains};
 ghost use Rattle.outside_io.specs.streams.Faults.{CountsFaults};
 ghost use Rattle.outside_io.specs.streams.Source.{Takes};

@@ -1,3 +1,5 @@
+//! Whether a source has one byte more.
+
 ghost use Rattle.outside_io.specs.streams.Asks.{AsksOne};
 ghost use Rattle.outside_io.specs.streams.Faults.{CountsFaults};
 

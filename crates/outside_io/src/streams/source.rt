@@ -1,3 +1,5 @@
+//! Sources: where bytes come from.
+
 ghost use Rattle.std.specs.Prelude.{◌≡◌, ℕ, ◌-◌, ◌<◌, ◌≤◌, List, Option, IfOk, OnErr, Ok, length};
 ghost use Rattle.outside_io.specs.streams.Faults.{CountsFaults};
 ghost use Rattle.outside_io.specs.streams.Source.{Takes, TakesFront, TakesUpTo, IsAtEnd};

@@ -1,3 +1,5 @@
+//! A writer of std as a sink.
+
 ghost use Rattle.std.specs.Prelude.{◌≡◌, None};
 
 use super::failed::Failed;

@@ -1,3 +1,5 @@
+//! A reader of std as a source.
+
 ghost use Rattle.std.specs.Prelude.{◌≡◌, None};
 
 use super::failed::Failed;

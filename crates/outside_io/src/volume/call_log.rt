@@ -1,3 +1,5 @@
+//! The record of the calls of a volume in memory.
+
 ghost use Rattle.std.specs.Prelude.{◌≡◌, ◌+◌, ◌^◌, ◌<◌, ◌≤◌, ◌++◌, ◌∷◌, [], ℕ, List, take, OnOk, length, slice_index, vec_len, vec_capacity};
 ghost use Rattle.outside_io.specs.volume.Disk.{AreBytes, Disk, file_of};
 ghost use Rattle.outside_io.specs.volume.Pieces.{pieces_of};

@@ -1,3 +1,5 @@
+//! Two files of the machine as a volume.
+
 ghost use Rattle.std.specs.Prelude.{◌≡◌, ◌≤◌, length, IfSome};
 ghost use Rattle.outside_io.specs.volume.Blind.{unused};
 
@@ -10,13 +12,24 @@ use std::rt::Files;
 
 /// Two files of the machine as a volume. It tells nothing of what they hold.
 ///
-/// Each file is opened at the first call that needs it, and made at its first write. A file that
-/// may not be written is opened for reading; while one of the two is open so, each write and each
-/// cut of either of them is a failure. A file that is not there has the length 0, and a sync of it
-/// or a cut of it to 0 is Ok. A sync puts the file's own data and length on the disk; the first
-/// sync of each file that is there puts the names in its folder there, too, where the machine lets
-/// a folder be opened and synced: in the folder of the file that is opened, where the path is a
-/// link.
+/// Each file is opened at the first call that needs it, and made at its first write. A write behind
+/// the first byte of one of them makes the other one, too, where there is none: so no record is
+/// written beside a journal that cannot be made, and no journal tells of a bundle that cannot. A
+/// file that may not be written is opened for reading; while one of the two is open so, each write
+/// and each cut of either of them is a failure. A file that is not there has the length 0, and a
+/// sync of it or a cut of it to 0 is Ok; but where its name is a link that leads to no file, as one
+/// to a disk that is away, each call is a failure.
+///
+/// A sync puts the file's own data and length on the disk; the first sync of each file that is
+/// there puts the names in its folder there, too, where the machine lets a folder be opened and
+/// synced: in the folder of the file that is opened, where the path is a link. A sync of a file
+/// that was made here is a failure where its folder may not be read. A sync that a file system does
+/// not know is Ok where that may not be written.
+///
+/// Behind a failed sync of a file that is there a machine may keep in memory what is not on the
+/// disk, read it as if it were, and answer Ok to the next sync. So each later write, cut and sync
+/// of that file is a failure; its length is told and it is read. A volume that is made anew of the
+/// same paths is not told of this.
 ///
 /// A read or write that was interrupted is made again by this crate or by std, and an open, a cut
 /// or a sync by std; no machine interrupts a seek, which is made once. Whatever the machine
@@ -49,6 +62,12 @@ impl<R: Files + Drop> FileVolume<R> {
             },
             tally: Tally::new(),
         }
+    }
+
+    /// Whether a sync of one of its files has failed, so that each later write, cut and sync of
+    /// that file is a failure.
+    pub fn is_lost(&self) -> bool {
+        self.machine.bundle.is_lost() || self.machine.journal.is_lost()
     }
 
     /// How many of its calls have failed, up to 2^64 - 1.
@@ -101,8 +120,19 @@ impl<R: Files + Drop> Pair<R> {
     }
 
     fn write(&mut self, tally: &Tally, file: VolFile, at: u64, bytes: &[u8]) -> Option<()> {
+        if at > 0 {
+            self.make_both(tally)?;
+        }
         let (backing, files) = self.to_change(tally, file)?;
         backing.write(files, at, bytes)
+    }
+
+    // Both files are there: each is made where there was none, the journal first.
+    fn make_both(&mut self, tally: &Tally) -> Option<()> {
+        let (journal, files) = self.to_change(tally, VolFile::Journal)?;
+        journal.make(files)?;
+        let (bundle, files) = self.to_change(tally, VolFile::Bundle)?;
+        bundle.make(files)
     }
 
     fn cut(&mut self, tally: &Tally, file: VolFile, len: u64) -> Option<()> {

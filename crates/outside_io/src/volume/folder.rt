@@ -6,16 +6,26 @@ use std::io::ErrorKind;
 use std::path::PathBuf;
 use std::rt::Files;
 
-// How many links in a row the machine follows to open a file.
-const MOST_LINKS: u32 = 40;
+// How many names in a row the machine follows to open a file: 40 links, and what they lead to.
+const MOST_NAMES: u32 = 41;
 
 /// Puts the names in the folder of the file of this path on the disk: where the path is a link,
 /// those in the folder of the file that it leads to. A machine that lets no folder be opened or
-/// synced has to be trusted with them.
-pub(super) fn sync_name<R: Files>(files: &R, path: &String) -> Option<()> {
+/// synced has to be trusted with them; but the name of a file that was made just now, in a folder
+/// that may not be read, is none that a crash leaves.
+pub(super) fn sync_name<R: Files>(files: &R, path: &String, is_made: bool) -> Option<()> {
     match end_of_links(files, *path.allocator(), path.as_str())? {
-        Some(target) => sync_folder(files, folder_of(target.as_str())),
-        None => sync_folder(files, folder_of(path.as_str())),
+        Some(target) => sync_folder(files, folder_of(target.as_str()), is_made),
+        None => sync_folder(files, folder_of(path.as_str()), is_made),
+    }
+}
+
+/// That no link has this path, where no file opens by it. None where there is one, which leads to
+/// no file then, and where the machine does not tell.
+pub(super) fn has_no_link<R: Files>(files: &R, path: &String) -> Option<()> {
+    match files.read_link(*path.allocator(), path.as_str()) {
+        Err(error) if is_no_link(error.kind()) => Some(()),
+        _ => None,
     }
 }
 
@@ -23,7 +33,7 @@ pub(super) fn sync_name<R: Files>(files: &R, path: &String) -> Option<()> {
 // refuses, and memory where there is a link.
 fn end_of_links<R: Files>(files: &R, alloc: Global, path: &str) -> Option<Option<PathBuf>> {
     let mut end: Option<PathBuf> = None;
-    for _ in 0..MOST_LINKS {
+    for _ in 0..MOST_NAMES {
         let at = match &end {
             Some(link) => link.as_str(),
             None => path,
@@ -50,21 +60,22 @@ fn is_no_link(kind: ErrorKind) -> bool {
     kind == ErrorKind::InvalidInput || kind == ErrorKind::NotFound || kind == ErrorKind::Unsupported
 }
 
-fn sync_folder<R: Files>(files: &R, folder: &str) -> Option<()> {
+fn sync_folder<R: Files>(files: &R, folder: &str, is_made: bool) -> Option<()> {
     let synced = match File::open(files, folder) {
         Ok(folder) => folder.sync_all(),
         Err(error) => Err(error),
     };
     match synced {
         Ok(()) => Some(()),
-        Err(error) if is_no_folder_call(error.kind()) => Some(()),
+        Err(error) if is_no_folder_call(error.kind(), is_made) => Some(()),
         Err(_) => None,
     }
 }
 
-// The answers of a machine that opens or syncs no folder.
-fn is_no_folder_call(kind: ErrorKind) -> bool {
-    kind == ErrorKind::PermissionDenied
+// The answers of a machine that opens or syncs no folder, and of a folder that may not be read, if
+// no name was made in it.
+fn is_no_folder_call(kind: ErrorKind, is_made: bool) -> bool {
+    (kind == ErrorKind::PermissionDenied && !is_made)
         || kind == ErrorKind::IsADirectory
         || kind == ErrorKind::InvalidInput
         || kind == ErrorKind::Unsupported

@@ -1,3 +1,5 @@
+//! Images: what a crash leaves of a volume in memory.
+
 ghost use Rattle.std.specs.Prelude.{◌≡◌, ◌<◌, ◌^◌, ℕ, List, [], IfOk, length};
 ghost use Rattle.outside_io.specs.volume.Disk.{AreBytes, Disk, file_of, settled};
 ghost use Rattle.outside_io.specs.volume.Pick.{IsPicked, IsTorn};
@@ -9,7 +11,7 @@ ghost use Rattle.outside_io.specs.volume.Sparse.{sparse_bytes};
 
 use super::VolFile;
 use super::call_log::{Call, add_written, len_of, synced_by};
-use super::start::{Piece, Start, filled};
+use super::start::{Piece, Start, fill_bytes};
 use std::alloc::{AllocError, Global};
 
 /// Which image a crash is to leave.
@@ -65,7 +67,7 @@ fn held_after(
     let len = len_of(log, file, start.len());
     let mut pieces = start.copy_pieces(alloc)?;
     add_written(alloc, &mut pieces, log, written, file)?;
-    Ok(Start::cropped(len, pieces))
+    Ok(Start::crop(len, pieces))
 }
 
 // The same, torn.
@@ -109,7 +111,7 @@ fn fills_since(
         if call.ask.syncs(file) {
             pieces.clear();
         } else if let Some(at) = call.ask.place_in(file) {
-            let bytes = filled(alloc, fill, call.count)?;
+            let bytes = fill_bytes(alloc, fill, call.count)?;
             pieces.push(Piece { at, bytes })?;
         }
     }

@@ -1,3 +1,5 @@
+//! A volume in memory, which fails at the calls that it is told.
+
 ghost use Rattle.std.specs.Prelude.{◌≡◌, ◌↔◌, ℕ, ◌+◌, ◌-◌, ◌^◌, ◌<◌, ◌≤◌, [], None, min, length, IsTrue, IfOk, IsErr, IsSomeAnd, OnOk, OnErr, Contains};
 ghost use Rattle.outside_io.specs.declared.volume.VolFile.TheVariants.{Bundle, Journal};
 ghost use Rattle.outside_io.specs.volume.Disk.{FailedCut, FailedWrite, IsDiskImage, IsQuiet, Struck, change, file_of, shortened, synced, wrote};
@@ -83,8 +85,8 @@ impl MemVolume {
     }
 
     /// One image of that moment, which is not later than the clock, as a new volume that reads as
-    /// this image, with nothing pending. It has the same `calls` and `room`, and nothing that makes it fail before them.
-    /// Want of memory is the only error.
+    /// this image, with nothing pending. It has the same `calls` and `room`, and nothing that makes
+    /// it fail before them. Want of memory is the only error.
     pub fn crash(&self, alloc: Global, moment: u64, pick: Pick) -> Result<MemVolume, AllocError>
         requires { moment ≤ self.now.clock }
         ensures first_record { IfOk result (λ v. v
@@ -99,8 +101,8 @@ impl MemVolume {
             × (contents Journal (history_of v) ≡ sparse_bytes v.journal)) }
         ensures quiet { IfOk result (λ v. IsQuiet (current (history_of v))) }
     {
-        let bundle = self.picked(alloc, VolFile::Bundle, moment, pick)?;
-        let journal = self.picked(alloc, VolFile::Journal, moment, pick)?;
+        let bundle = self.pick_image(alloc, VolFile::Bundle, moment, pick)?;
+        let journal = self.pick_image(alloc, VolFile::Journal, moment, pick)?;
         MemVolume::new(
             alloc,
             bundle,
@@ -120,7 +122,7 @@ impl MemVolume {
     }
 
     // One image of that file at that moment.
-    fn picked(
+    fn pick_image(
         &self,
         alloc: Global,
         file: VolFile,

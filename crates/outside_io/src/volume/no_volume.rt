@@ -1,7 +1,7 @@
-ghost use Rattle.std.specs.Prelude.{◌≡◌, IsErr};
-ghost use Rattle.outside_io.specs.streams.Faults.{CountsFaults};
-ghost use Rattle.outside_io.specs.volume.Blind.{after_failure, blind_history, unused};
-ghost use Rattle.outside_io.specs.volume.History.{Ticks};
+//! The volume that fails at every call.
+
+ghost use Rattle.std.specs.Prelude.{◌≡◌};
+ghost use Rattle.outside_io.specs.volume.Blind.{FailsOnce, unused};
 
 use super::tally::Tally;
 use crate::{Failed, VolFile, Volume};
@@ -47,47 +47,32 @@ impl Volume for NoVolume {
     ghost present = { λ _ h. nothing_told h };
 
     fn len(&mut self, _file: VolFile) -> Result<u64, Failed>
-        ensures fails { IsErr result }
-        ensures after { self.new ≡ after_failure self.old }
-        ensures time { Ticks (blind_history self.old) (blind_history self.new) result }
-        ensures counted { CountsFaults result self.old.faults self.new.faults }
+        ensures fails { FailsOnce result self.old self.new }
     {
         self.tally.end::<u64>(None)
     }
 
     fn read(&mut self, _file: VolFile, _at: u64, _buf: &mut [u8]) -> Result<usize, Failed>
-        ensures fails { IsErr result }
         ensures same_buffer { _buf.new ≡ _buf.old }
-        ensures after { self.new ≡ after_failure self.old }
-        ensures time { Ticks (blind_history self.old) (blind_history self.new) result }
-        ensures counted { CountsFaults result self.old.faults self.new.faults }
+        ensures fails { FailsOnce result self.old self.new }
     {
         self.tally.end::<usize>(None)
     }
 
     fn write(&mut self, _file: VolFile, _at: u64, _bytes: &[u8]) -> Result<(), Failed>
-        ensures fails { IsErr result }
-        ensures after { self.new ≡ after_failure self.old }
-        ensures time { Ticks (blind_history self.old) (blind_history self.new) result }
-        ensures counted { CountsFaults result self.old.faults self.new.faults }
+        ensures fails { FailsOnce result self.old self.new }
     {
         self.tally.end(None)
     }
 
     fn cut(&mut self, _file: VolFile, _len: u64) -> Result<(), Failed>
-        ensures fails { IsErr result }
-        ensures after { self.new ≡ after_failure self.old }
-        ensures time { Ticks (blind_history self.old) (blind_history self.new) result }
-        ensures counted { CountsFaults result self.old.faults self.new.faults }
+        ensures fails { FailsOnce result self.old self.new }
     {
         self.tally.end(None)
     }
 
     fn sync(&mut self, _file: VolFile) -> Result<(), Failed>
-        ensures fails { IsErr result }
-        ensures after { self.new ≡ after_failure self.old }
-        ensures time { Ticks (blind_history self.old) (blind_history self.new) result }
-        ensures counted { CountsFaults result self.old.faults self.new.faults }
+        ensures fails { FailsOnce result self.old self.new }
     {
         self.tally.end(None)
     }

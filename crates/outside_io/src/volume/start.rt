@@ -1,3 +1,5 @@
+//! The bytes with which a volume in memory begins.
+
 ghost use Rattle.std.specs.Prelude.{◌≡◌, ◌+◌, ◌-◌, ◌^◌, ◌<◌, ◌++◌, ◌∷◌, [], ℕ, IfOk, OnOk, length, replicate, slice_index};
 ghost use Rattle.outside_io.specs.volume.Pieces.{pieces_of};
 ghost use Rattle.outside_io.specs.volume.Sparse.{AllEndBy, as_byte, byte_at, byte_over};
@@ -43,7 +45,7 @@ impl Start {
     }
 
     /// As `new`; of pieces that pass the end only what stands before it counts.
-    pub(crate) fn cropped(len: u64, pieces: Vec<Piece>) -> Start
+    pub(crate) fn crop(len: u64, pieces: Vec<Piece>) -> Start
         ensures { result ≡ record { len = len; pieces = pieces_of pieces.items } }
     {
         Start { len, pieces }
@@ -88,7 +90,7 @@ impl Start {
               (from, replicate (self.old.len - from) fill) ∷ [];
         }) }
     {
-        let bytes = filled(alloc, fill, self.len.saturating_sub(from) as usize)?;
+        let bytes = fill_bytes(alloc, fill, self.len.saturating_sub(from) as usize)?;
         self.pieces.append(&mut pieces)?;
         self.pieces.push(Piece { at: from, bytes })?;
         Ok(())
@@ -96,7 +98,7 @@ impl Start {
 }
 
 /// So many times the one byte.
-pub(crate) fn filled(alloc: Global, fill: u8, count: usize) -> Result<Bytes, AllocError>
+pub(crate) fn fill_bytes(alloc: Global, fill: u8, count: usize) -> Result<Bytes, AllocError>
     ensures { IfOk result (λ b. b ≡ replicate count fill) }
 {
     let bytes = vec![in alloc; fill; count]?;

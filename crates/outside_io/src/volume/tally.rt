@@ -1,3 +1,5 @@
+//! The clock and the count of faults of a volume that tells nothing.
+
 ghost use Rattle.std.specs.Prelude.{◌≡◌, ◌+◌, ◌-◌, ◌^◌, ◌<◌, ◌↔◌, IsTrue, IsSome, IsOk, IsErr, Some, None, IfOk, OnErr};
 ghost use Rattle.outside_io.specs.volume.Blind.{after_failure, blind_history, unused};
 ghost use Rattle.outside_io.specs.streams.Faults.{CountsFaults};

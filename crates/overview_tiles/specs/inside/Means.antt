@@ -15,7 +15,8 @@ mean_at depth counts sums d k = if nat_lt 0 (get_or counts k 0)
     then mean_of (get_or sums (k * depth + d) (pos 0)) (pos (get_or counts k 0)) else pos 0
 
 -- counts of at most four, and sums of so many values of the type
-pub record HaveMeans (kind : PixelType) (places depth : ℕ) (counts : List ℕ) (sums : List ℤ) : Type 0
+pub record HaveMeans (kind : PixelType) (places depth : ℕ) (counts : List ℕ)
+    (sums : List ℤ) : Type 0
   where
     pub count_size : length counts ≡ places
     pub sum_size : length sums ≡ places * depth

@@ -10,8 +10,8 @@ use Rattle.tile_updates.specs.Updates.{AllPass, tile_bytes, updates_of}
 use Rattle.overview_tiles.specs.Tiles.{AreHalf, Tiles}
 use Rattle.overview_updates.specs.Overview.{AreQuarters, IsCoarse, first_places, has_quarter, place_of}
 use Rattle.overview_updates.specs.Refusals.{PlaceStops, ReadFails}
-use Rattle.overview_updates.specs.declared.places.Ending.{Ending}
-use Rattle.overview_updates.specs.declared.places.Ending.TheVariants.{More, Refused}
+use Rattle.overview_updates.specs.declared.places.Next.{Next}
+use Rattle.overview_updates.specs.declared.places.Next.TheVariants.{More, Refused}
 use Rattle.overview_updates.specs.declared.places.Waiting.{Waiting}
 use Rattle.overview_updates.specs.declared.stop.OverviewStop.{OverviewStop}
 use Rattle.overview_updates.specs.declared.stop.OverviewStop.TheVariants.{Beyond, BadTile, Unlike, DepthNeedsV4, TileTooLarge, KeptTooMuch, Volume, OutOfMemory}
@@ -30,7 +30,7 @@ abbrev pub IsToldAtOnce : OverviewStop → Type 0
 IsToldAtOnce stop = (stop ≡ Volume) ⊎ (stop ≡ OutOfMemory)
 
 -- and the others wait
-abbrev pub waits_of : OverviewStop → Result Ending OverviewStop
+abbrev pub waits_of : OverviewStop → Result Next OverviewStop
 waits_of (Beyond slot entry got) = Ok (Refused (Beyond slot entry got))
 waits_of (BadTile slot fault) = Ok (Refused (BadTile slot fault))
 waits_of (Unlike slot) = Ok (Refused (Unlike slot))
@@ -42,7 +42,7 @@ waits_of OutOfMemory = Err OutOfMemory
 
 -- What a place changes, whatever the volume tells. A refusal that waits is no failure of the volume
 -- and no want of memory.
-abbrev pub Steps : Version → Waiting → Waiting → Ending → Type 0
+abbrev pub Steps : Version → Waiting → Waiting → Next → Type 0
 Steps v before after More =
     (after.place ≡ before.place + 1)
     × ((length after.batch ≤ length before.batch + 1)
@@ -59,7 +59,7 @@ TakesPlace bundle quarter k old new =
     × ((t : Tile) × (IsCoarse bundle quarter (place_of k) t × (new ≡ old ++ t ∷ []))))
 
 -- the place's coarse tile was taken, if it has one; or it is refused
-abbrev pub Follows : List ℕ → ℕ → Version → Waiting → Waiting → Ending → Type 0
+abbrev pub Follows : List ℕ → ℕ → Version → Waiting → Waiting → Next → Type 0
 Follows bundle quarter v before after More =
     TakesPlace bundle quarter before.place before.batch after.batch
 Follows bundle quarter v before after (Refused stop) =
@@ -84,7 +84,7 @@ pub record AreWaiting (told : Bool) (bundle : List ℕ) (quarter : ℕ) (v : Ver
 
 -- What follows tiles that wait: at least one place was read; or the coarse tile of the next one is
 -- refused.
-abbrev pub EndsSo : Bool → List ℕ → Version → ℕ → Waiting → Ending → Type 0
+abbrev pub EndsSo : Bool → List ℕ → Version → ℕ → Waiting → Next → Type 0
 EndsSo told bundle v from w More = from < w.place
 EndsSo told bundle v from w (Refused stop) =
     (w.place < 4096) × (ReadFails stop × ((IsToldAtOnce stop → ⊥) × (IsTrue told →
@@ -93,9 +93,9 @@ EndsSo told bundle v from w (Refused stop) =
 
 -- tiles wait, and this follows them
 pub record IsFilled (told : Bool) (bundle : List ℕ) (quarter : ℕ) (v : Version) (from : ℕ)
-    (w : Waiting) (ending : Ending) : Type 0 where
+    (w : Waiting) (next : Next) : Type 0 where
   pub waiting : AreWaiting told bundle quarter v from w
-  pub ends : EndsSo told bundle v from w ending
+  pub ends : EndsSo told bundle v from w next
 
 -- ---- the whole bundle
 

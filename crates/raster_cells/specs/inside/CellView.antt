@@ -1,7 +1,7 @@
 -- How bytes stand for values.
 use Rattle.std.specs.Prelude.{ℤ, List, ◌≡◌, ◌≤◌, All, length, ◌*◌}
 use Rattle.raster_cells.specs.declared.values.cells.Cells.TheInside.{Inside}
-use Rattle.raster_cells.specs.inside.CellList.{values_in, CellList}
+use Rattle.raster_cells.specs.CellList.{values_in, CellList}
 use Rattle.raster_cells.specs.PixelType.{InRange, bytes_of}
 use Rattle.raster_cells.specs.Values.{values_bytes}
 

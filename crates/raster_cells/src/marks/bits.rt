@@ -5,8 +5,25 @@ ghost use Rattle.raster_cells.specs.Masks.{marks_in, mask_bit};
 ghost use Rattle.raster_cells.specs.inside.Bits.{byte_bit};
 ghost use Rattle.raster_cells.specs.Words.{word_bit};
 
-use crate::marks::mask::{Run, front_bits};
 use byteorder::{BigEndian, ByteOrder};
+
+/// The pixels from number `start` on, up to number `end`.
+#[derive(Clone, Copy)]
+pub struct Run {
+    /// The number of the first pixel.
+    pub start: usize,
+    /// The number of the first pixel behind them.
+    pub end: usize,
+}
+
+/// The byte with its first bits alone.
+fn front_bits(byte: u8, count: usize) -> u8
+    requires above { 0 < count }
+    requires below { count < 8 }
+    ensures { (q : ℕ) → q < 8 → byte_bit result q ≡ (nat_lt q count && byte_bit byte q) }
+{
+    byte & (255u8 << (8 - count))
+}
 
 /// Whether bit number k is 1.
 #[inline(always)]
@@ -58,8 +75,8 @@ fn zeros_in_front(word: u32, count: usize) -> usize
     (word.leading_zeros() as usize).saturating_sub(32 - count)
 }
 
-/// How many of the bits of a number of so many are `mark` before the first that is not, counted from
-/// the highest.
+/// How many of the bits of a number of so many are `mark` before the first that is not, counted
+/// from the highest.
 #[inline(always)]
 fn equal_in_front(word: u32, count: usize, mark: bool) -> usize
     requires some { 0 < count }

@@ -3,19 +3,19 @@
 ghost use Rattle.std.specs.Prelude.{◌≡◌, ◌↔◌, ℕ, ◌+◌, ◌/◌, ◌<◌, ◌≤◌, IsTrue, length, get_or, replicate, true, false};
 ghost use Rattle.std.specs.List.{count_by};
 ghost use Rattle.raster_cells.specs.Masks.{marks_in, mask_bit};
-ghost use Rattle.raster_cells.specs.inside.LentMask.{AreBits};
-ghost use Rattle.raster_cells.specs.inside.Runs.{run_places};
+ghost use Rattle.raster_cells.specs.LentMask.{AreBits};
+ghost use Rattle.raster_cells.specs.Runs.{run_places};
 ghost use Rattle.raster_cells.specs.Words.{AreMarks};
 ghost use Rattle.raster_cells.specs.MarkRuns.{AreRuns};
 
-use crate::marks::bits;
-use crate::marks::mask::{Run, count_bits};
+use crate::marks::bits::{self, Run};
+use crate::marks::counting::count_bits;
 use crate::marks::mask_bits::set_bits;
 use std::marker::Model;
 
-/// Which pixels are valid: a bit for each, in bytes that someone else keeps, and how many there are.
-/// The bits behind the last pixel are not looked at. Where every pixel is valid no bit is, and there
-/// need be no bytes.
+/// Which pixels are valid: a bit for each, in bytes that someone else keeps, and how many there
+/// are. The bits behind the last pixel are not looked at. Where every pixel is valid no bit is, and
+/// there need be no bytes.
 ///
 /// A contract sees the list of the marks.
 #[derive(Drop)]
@@ -30,7 +30,7 @@ impl<'m> Model for LentMask<'m> {
 
     ghost Value = { List Bool };
 
-    ghost use Rattle.raster_cells.specs.inside.LentMask.{AreMarksWith, marks_with};
+    ghost use Rattle.raster_cells.specs.LentMask.{AreMarksWith, marks_with};
 
     ghost view = { λ m. marks_with m.count m.valid m.bytes.now };
 
@@ -53,7 +53,7 @@ impl<'m> LentMask<'m> {
     }
 
     /// The same mask, where it is known how many pixels are valid.
-    pub fn counted(count: usize, valid: usize, bytes: &'m [u8]) -> LentMask<'m>
+    pub fn with_count(count: usize, valid: usize, bytes: &'m [u8]) -> LentMask<'m>
         requires { AreBits count valid bytes.now }
         ensures { result ≡ marks_in count bytes.now }
     {
@@ -108,7 +108,8 @@ impl<'m> LentMask<'m> {
         self.valid == self.count || bits::bit_at(self.bytes, k)
     }
 
-    /// The bytes as they lie, where not every pixel is valid. The bits behind the last pixel are any.
+    /// The bytes as they lie, where not every pixel is valid. The bits behind the last pixel are
+    /// any.
     pub fn bytes(&self) -> &'m [u8]
         requires { count_by (λ m. m) self.now < length self.now }
         ensures size { length result.now ≡ (length self.now + 7) / 8 }
@@ -156,8 +157,8 @@ impl<'m> LentMask<'m> {
         bits::copy_bits(self.bytes, from, out);
     }
 
-    /// The marks of `count` pixels from `from` on, at most 32, as the bits of one number, the first as
-    /// the highest.
+    /// The marks of `count` pixels from `from` on, at most 32, as the bits of one number, the first
+    /// as the highest.
     #[inline]
     pub fn word(&self, from: usize, count: usize) -> u32
         requires some { 0 < count }

@@ -4,12 +4,13 @@ ghost use Rattle.std.specs.Prelude.{◌≡◌, ◌↔◌, ℕ, ◌+◌, ◌*◌,
 ghost use Rattle.std.specs.List.{count_by, filter, range_with_len};
 ghost use Rattle.raster_cells.specs.Masks.{mask_bit, marks_in};
 ghost use Rattle.raster_cells.specs.inside.Bits.{byte_bit, bit_after};
-ghost use Rattle.raster_cells.specs.inside.Runs.{run_places};
+ghost use Rattle.raster_cells.specs.Runs.{run_places};
 ghost use Rattle.raster_cells.specs.Words.{AreMarks};
 ghost use Rattle.raster_cells.specs.MarkRuns.{AreRuns};
-ghost use Rattle.raster_cells.specs.inside.MarkBytes.{mark_bytes};
+ghost use Rattle.raster_cells.specs.MarkBytes.{mark_bytes};
 
-use crate::marks::bits;
+use crate::marks::bits::{self, Run};
+use crate::marks::counting::count_bits;
 use crate::marks::lent_mask::LentMask;
 use byteorder::{ByteOrder, LittleEndian};
 use std::alloc::{AllocError, Global};
@@ -38,15 +39,6 @@ impl Model for Mask {
     ghost invariant = { IsMask };
 }
 
-/// The pixels from number `start` on, up to number `end`.
-#[derive(Clone, Copy)]
-pub struct Run {
-    /// The number of the first pixel.
-    pub start: usize,
-    /// The number of the first pixel behind them.
-    pub end: usize,
-}
-
 /// The byte with a bit set or cleared, its bits counted from the highest.
 fn with_bit(byte: u8, place: usize, mark: bool) -> u8
     requires { place < 8 }
@@ -55,15 +47,6 @@ fn with_bit(byte: u8, place: usize, mark: bool) -> u8
 {
     let bit = 1u8 << (7 - place);
     if mark { byte | bit } else { byte & !bit }
-}
-
-/// The byte with its first bits alone.
-pub(crate) fn front_bits(byte: u8, count: usize) -> u8
-    requires above { 0 < count }
-    requires below { count < 8 }
-    ensures { (q : ℕ) → q < 8 → byte_bit result q ≡ (nat_lt q count && byte_bit byte q) }
-{
-    byte & (255u8 << (8 - count))
 }
 
 /// Sets bit number k.
@@ -123,66 +106,9 @@ fn have_same_bits(one: &[u8], other: &[u8]) -> bool
     *one == *other
 }
 
-/// How many of `count` bits of a byte from `from` on are 1, the bits counted from the highest.
-fn ones_within(byte: u8, from: usize, count: usize) -> usize
-    requires above { 0 < count }
-    requires within { from + count ≤ 8 }
-    ensures { result ≡ length (filter (byte_bit byte) (range_with_len from count)) }
-{
-    let run = (byte >> (8 - from - count)) & (255u8 >> (8 - count));
-    run.count_ones() as usize
-}
-
-/// How many bits of bytes are 1.
-fn count_bytes(bytes: &[u8]) -> usize
-    requires { length bytes.now ≤ 2097152 }
-    ensures { result ≡ length (filter (mask_bit bytes.now)
-        (range_with_len 0 (8 * length bytes.now))) }
-{
-    let mut n = 0;
-    for byte in bytes {
-        n += byte.count_ones() as usize;
-    }
-    n
-}
-
-/// How many of `count` bits from `from` on are 1, which all stand in one byte.
-fn count_part(bytes: &[u8], from: usize, count: usize) -> usize
-    requires within { from + count ≤ 8 * length bytes.now }
-    requires one { from % 8 + count ≤ 8 }
-    requires few { from + count ≤ 16777216 }
-    ensures { result ≡ length (filter (mask_bit bytes.now) (range_with_len from count)) }
-{
-    if count == 0 {
-        return 0;
-    }
-    ones_within(bytes[from / 8], from % 8, count)
-}
-
-/// How many of `count` bits from `from` on are 1: those of one word where they are few, else those of
-/// the bytes that lie in them whole, and those before and behind these.
-pub(crate) fn count_bits(bytes: &[u8], from: usize, count: usize) -> usize
-    requires few { from + count ≤ 16777216 }
-    requires within { from + count ≤ 8 * length bytes.now }
-    ensures { result ≡ length (filter (mask_bit bytes.now) (range_with_len from count)) }
-{
-    if 0 < count && count <= 32 {
-        return bits::word_from(bytes, from, count).count_ones() as usize;
-    }
-    let end = from + count;
-    let first = from.div_ceil(8);
-    let last = end / 8;
-    if last < first {
-        return count_part(bytes, from, count);
-    }
-    count_part(bytes, from, first * 8 - from)
-        + count_bytes(&bytes[first..last])
-        + count_part(bytes, last * 8, end - last * 8)
-}
-
 /// Eight marks as a byte, the first as its highest bit: multiplied, each is moved to its place in
 /// the highest byte of the word, and none meets another.
-fn packed(marks: &[u8]) -> u8
+fn pack_marks(marks: &[u8]) -> u8
     requires eight { length marks.now ≡ 8 }
     requires lawful { (k : ℕ) → get_or marks.now k 0 ≤ 1 }
     ensures { (q : ℕ) → q < 8 → byte_bit result q ≡ nat_eq (get_or marks.now q 0) 1 }
@@ -203,7 +129,7 @@ fn put_packed(bytes: &mut Vec<u8>, first: usize, marks: &[u8])
         ≡ bit_after bytes.old.items marks.now (8 * first) (length marks.now) k }
 {
     for i in 0..marks.len() / 8 {
-        bytes[first + i] = packed(&marks[8 * i..8 * i + 8]);
+        bytes[first + i] = pack_marks(&marks[8 * i..8 * i + 8]);
     }
 }
 
@@ -308,7 +234,7 @@ impl Mask {
     pub fn read(&self) -> LentMask
         ensures { result ≡ self.now }
     {
-        LentMask::counted(self.count, self.valid, &self.bytes)
+        LentMask::with_count(self.count, self.valid, &self.bytes)
     }
 
     /// Whether a pixel is valid.
@@ -449,8 +375,8 @@ impl Mask {
         bits::copy_bits(&self.bytes, from, out);
     }
 
-    /// The marks of `count` pixels from `from` on, at most 32, as the bits of one number, the first as
-    /// the highest.
+    /// The marks of `count` pixels from `from` on, at most 32, as the bits of one number, the first
+    /// as the highest.
     #[inline]
     pub fn word(&self, from: usize, count: usize) -> u32
         requires some { 0 < count }

@@ -6,7 +6,7 @@ ghost use Rattle.raster_cells.specs.Masks.{marks_in, mask_bit};
 ghost use Rattle.raster_cells.specs.Masks.{count_of};
 
 use crate::marks::bits::clear_spare;
-use crate::marks::mask::count_bits;
+use crate::marks::counting::count_bits;
 
 /// Gives all bytes one value.
 fn fill_bytes(bytes: &mut [u8], byte: u8)

@@ -6,16 +6,17 @@ ghost use Rattle.lane_kernels.specs.Kernels.{IsLeast, IsGreatest};
 ghost use Rattle.raster_cells.specs.PixelType.{InRange, bytes_of};
 ghost use Rattle.raster_cells.specs.Values.{values_bytes};
 ghost use Rattle.raster_cells.specs.Distance.{distance_of};
-ghost use Rattle.raster_cells.specs.inside.CellList.{CellList, values_in};
-ghost use Rattle.raster_cells.specs.inside.LentBytes.{AreHeld};
-ghost use Rattle.raster_cells.specs.inside.Runs.{AreEnds};
+ghost use Rattle.raster_cells.specs.CellList.{CellList, values_in};
+ghost use Rattle.raster_cells.specs.LentBytes.{AreHeld};
+ghost use Rattle.raster_cells.specs.Runs.{AreEnds};
 
 use crate::by_kind;
 use crate::kind::PixelType;
-use crate::values::cells::{
-    distance_at, eight_at, lay_eight, place, read_pixels, read_pixels_as, value_at,
+use crate::values::pixels_from::PixelsFrom;
+use crate::values::value_bytes::{
+    distance_at, eight_at, lay_eight, place, read_steps_as, value_at,
 };
-use crate::values::given::Given;
+use crate::values::value_source::ValueSource;
 use std::marker::Model;
 
 /// Values of one type that are read from the bytes that stand for them, whoever keeps these.
@@ -27,20 +28,20 @@ pub struct CellBytes<'v> {
 }
 
 impl<'v> Model for CellBytes<'v> {
-    ghost use Rattle.raster_cells.specs.inside.CellList.{CellList};
+    ghost use Rattle.raster_cells.specs.CellList.{CellList};
 
     ghost Value = { CellList };
 
-    ghost use Rattle.raster_cells.specs.inside.CellList.{values_in};
-    ghost use Rattle.raster_cells.specs.inside.LentBytes.{AreHeld};
+    ghost use Rattle.raster_cells.specs.CellList.{values_in};
+    ghost use Rattle.raster_cells.specs.LentBytes.{AreHeld};
 
     ghost view = { λ c. record { kind = c.kind; values = values_in c.kind c.count c.bytes.now } };
 
     ghost invariant = { λ c. AreHeld c.kind c.count c.bytes.now };
 }
 
-/// Lays the bytes that one type has for values of another over the front of `out`: for `some` of the
-/// `count` values that the bytes stand for, from number `n` on. The bytes behind them stay.
+/// Lays the bytes that one type has for values of another over the front of `out`: for `some` of
+/// the `count` values that the bytes stand for, from number `n` on. The bytes behind them stay.
 #[inline(always)]
 fn write_spelled(
     kind: PixelType,
@@ -66,7 +67,7 @@ fn write_spelled(
     }
 }
 
-impl<'v> Given for CellBytes<'v> {
+impl<'v> ValueSource for CellBytes<'v> {
     ghost listed = { λ c. c.values };
 
     #[inline(always)]
@@ -91,6 +92,7 @@ impl<'v> Given for CellBytes<'v> {
 
 impl<'v> CellBytes<'v> {
     /// So many values, as their bytes.
+    #[inline(always)]
     pub fn over(kind: PixelType, count: usize, bytes: &'v [u8]) -> CellBytes<'v>
         requires few { count ≤ 16777216 }
         requires size { length bytes.now ≡ count * bytes_of kind }
@@ -113,42 +115,37 @@ impl<'v> CellBytes<'v> {
         self.bytes
     }
 
-    /// The values at a depth of the pixels from `first` on, of which each has `depth`.
-    pub fn get_pixels(&self, first: usize, depth: usize, d: usize, out: &mut [i64])
-        requires few { length self.now.values ≤ 16777216 }
-        requires depth { d < depth }
-        requires within { (first + length out.old) * depth ≤ length self.now.values }
-        ensures { out.new ≡ map (λ k. get_or self.now.values (k * depth + d) (pos 0))
-            (range_with_len first (length out.old)) }
+    /// The values at a depth of as many pixels.
+    pub fn get_pixels(&self, pixels: PixelsFrom, out: &mut [i64])
+        requires { (pixels.first + length out.old) * pixels.depth ≤ length self.now.values }
+        ensures { out.new
+            ≡ map (λ k. get_or self.now.values (k * pixels.depth + pixels.d) (pos 0))
+            (range_with_len pixels.first (length out.old)) }
     {
-        read_pixels(self.kind, self.count, self.bytes, first, depth, d, out);
+        by_kind!(self.kind, kind => self.get_pixels_as(kind, pixels, out))
     }
 
-    /// Does what `get_pixels` does, for a type that is known before.
+    /// Does what `get_pixels` does, for a type that is known before. Without a second depth values
+    /// stand side by side, which the compiler is to know.
     #[inline(always)]
-    pub fn get_pixels_as(
-        &self,
-        kind: PixelType,
-        first: usize,
-        depth: usize,
-        d: usize,
-        out: &mut [i64],
-    )
+    pub fn get_pixels_as(&self, kind: PixelType, pixels: PixelsFrom, out: &mut [i64])
         requires kind { kind ≡ self.now.kind }
-        requires few { length self.now.values ≤ 16777216 }
-        requires depth { d < depth }
-        requires within { (first + length out.old) * depth ≤ length self.now.values }
-        ensures { out.new ≡ map (λ k. get_or self.now.values (k * depth + d) (pos 0))
-            (range_with_len first (length out.old)) }
+        requires within { (pixels.first + length out.old) * pixels.depth ≤ length self.now.values }
+        ensures { out.new
+            ≡ map (λ k. get_or self.now.values (k * pixels.depth + pixels.d) (pos 0))
+            (range_with_len pixels.first (length out.old)) }
     {
-        read_pixels_as(kind, self.count, self.bytes, first, depth, d, out);
+        if pixels.depth == 1 {
+            read_steps_as(kind, self.count, self.bytes, pixels.of_depth(1), out);
+        } else {
+            read_steps_as(kind, self.count, self.bytes, pixels, out);
+        }
     }
 
     /// The value at a place, for a type that is known before.
     #[inline(always)]
     pub fn value_as(&self, kind: PixelType, at: usize) -> i64
         requires kind { kind ≡ self.now.kind }
-        requires few { length self.now.values ≤ 16777216 }
         requires within { at < length self.now.values }
         ensures value { result ≡ get_or self.now.values at (pos 0) }
         ensures in_range { InRange self.now.kind result }
@@ -160,39 +157,28 @@ impl<'v> CellBytes<'v> {
     #[inline(always)]
     pub fn distance_as(&self, kind: PixelType, at: usize) -> u32
         requires kind { kind ≡ self.now.kind }
-        requires few { length self.now.values ≤ 16777216 }
         requires within { at < length self.now.values }
         ensures { result ≡ distance_of self.now.kind (get_or self.now.values at (pos 0)) }
     {
         distance_at(kind, self.bytes, at)
     }
 
-    /// How far the values at a depth of the pixels from `first` on are above the type's least: of
-    /// the pixels each has `depth` values. Without a second depth values stand side by side, which
-    /// the compiler is to know, as it is the type.
+    /// How far the values at a depth of as many pixels are above the type's least. Without a second
+    /// depth values stand side by side, which the compiler is to know, as it is the type.
     #[inline(always)]
-    pub fn get_distances_as(
-        &self,
-        kind: PixelType,
-        first: usize,
-        depth: usize,
-        d: usize,
-        out: &mut [u32],
-    )
+    pub fn get_distances_as(&self, kind: PixelType, pixels: PixelsFrom, out: &mut [u32])
         requires kind { kind ≡ self.now.kind }
-        requires few { length self.now.values ≤ 16777216 }
-        requires depth { d < depth }
-        requires within { (first + length out.old) * depth ≤ length self.now.values }
+        requires within { (pixels.first + length out.old) * pixels.depth ≤ length self.now.values }
         ensures { out.new ≡ map (λ k. distance_of self.now.kind
-            (get_or self.now.values (k * depth + d) (pos 0)))
-            (range_with_len first (length out.old)) }
+            (get_or self.now.values (k * pixels.depth + pixels.d) (pos 0)))
+            (range_with_len pixels.first (length out.old)) }
     {
-        if depth == 1 && out.len() == 8 {
-            self.get_eight_as(kind, first, out);
-        } else if depth == 1 {
-            self.get_steps_as(kind, first, 1, d, out);
+        if pixels.depth == 1 && out.len() == 8 {
+            self.get_eight_as(kind, pixels.first, out);
+        } else if pixels.depth == 1 {
+            self.get_steps_as(kind, pixels.of_depth(1), out);
         } else {
-            self.get_steps_as(kind, first, depth, d, out);
+            self.get_steps_as(kind, pixels, out);
         }
     }
 
@@ -201,7 +187,6 @@ impl<'v> CellBytes<'v> {
     #[inline(always)]
     fn get_eight_as(&self, kind: PixelType, first: usize, out: &mut [u32])
         requires kind { kind ≡ self.now.kind }
-        requires few { length self.now.values ≤ 16777216 }
         requires eight { length out.old ≡ 8 }
         requires within { first + 8 ≤ length self.now.values }
         ensures { out.new ≡ map (λ k. distance_of self.now.kind (get_or self.now.values k (pos 0)))
@@ -213,101 +198,81 @@ impl<'v> CellBytes<'v> {
 
     /// Does what `get_distances_as` does, one pixel after the other.
     #[inline(always)]
-    fn get_steps_as(&self, kind: PixelType, first: usize, depth: usize, d: usize, out: &mut [u32])
+    fn get_steps_as(&self, kind: PixelType, pixels: PixelsFrom, out: &mut [u32])
         requires kind { kind ≡ self.now.kind }
-        requires few { length self.now.values ≤ 16777216 }
-        requires depth { d < depth }
-        requires within { (first + length out.old) * depth ≤ length self.now.values }
+        requires within { (pixels.first + length out.old) * pixels.depth ≤ length self.now.values }
         ensures { out.new ≡ map (λ k. distance_of self.now.kind
-            (get_or self.now.values (k * depth + d) (pos 0)))
-            (range_with_len first (length out.old)) }
+            (get_or self.now.values (k * pixels.depth + pixels.d) (pos 0)))
+            (range_with_len pixels.first (length out.old)) }
     {
         let bytes = self.bytes;
         for i in 0..out.len() {
-            out[i] = distance_at(kind, bytes, (first + i) * depth + d);
+            out[i] = distance_at(kind, bytes, (pixels.first + i) * pixels.depth + pixels.d);
         }
     }
 
-    /// The least and the greatest of the values at a depth of `count` pixels from `first` on, of
-    /// which each has `depth`.
-    pub fn extremes(&self, first: usize, count: usize, depth: usize, d: usize) -> (i64, i64)
-        requires few { length self.now.values ≤ 16777216 }
+    /// The least and the greatest of the values at a depth of `count` pixels.
+    pub fn extremes(&self, pixels: PixelsFrom, count: usize) -> (i64, i64)
         requires some { 0 < count }
-        requires depth { d < depth }
-        requires within { (first + count) * depth ≤ length self.now.values }
-        ensures least { IsLeast (map (λ k. get_or self.now.values (k * depth + d) (pos 0))
-            (range_with_len first count)) result.0 }
-        ensures greatest { IsGreatest (map (λ k. get_or self.now.values (k * depth + d) (pos 0))
-            (range_with_len first count)) result.1 }
+        requires within { (pixels.first + count) * pixels.depth ≤ length self.now.values }
+        ensures least { IsLeast
+            (map (λ k. get_or self.now.values (k * pixels.depth + pixels.d) (pos 0))
+            (range_with_len pixels.first count)) result.0 }
+        ensures greatest { IsGreatest
+            (map (λ k. get_or self.now.values (k * pixels.depth + pixels.d) (pos 0))
+            (range_with_len pixels.first count)) result.1 }
     {
         let bottom = self.kind.least();
-        let (near, far) = self.ends(first, count, depth, d);
+        let (near, far) = self.ends(pixels, count);
         (bottom + i64::from(near), bottom + i64::from(far))
     }
 
     /// How far the least and the greatest of these values are above the type's least.
     #[inline(never)]
-    fn ends(&self, first: usize, count: usize, depth: usize, d: usize) -> (u32, u32)
-        requires few { length self.now.values ≤ 16777216 }
+    fn ends(&self, pixels: PixelsFrom, count: usize) -> (u32, u32)
         requires some { 0 < count }
-        requires depth { d < depth }
-        requires within { (first + count) * depth ≤ length self.now.values }
-        ensures { AreEnds self.now.kind (map (λ k. get_or self.now.values (k * depth + d) (pos 0))
-            (range_with_len first count)) result.0 result.1 }
+        requires within { (pixels.first + count) * pixels.depth ≤ length self.now.values }
+        ensures { AreEnds self.now.kind
+            (map (λ k. get_or self.now.values (k * pixels.depth + pixels.d) (pos 0))
+            (range_with_len pixels.first count)) result.0 result.1 }
     {
-        by_kind!(self.kind, kind => self.ends_as(kind, first, count, depth, d))
+        by_kind!(self.kind, kind => self.ends_as(kind, pixels, count))
     }
 
     /// Does what `ends` does, for a type that is known before. Without a second depth values stand
     /// side by side, which the compiler is to know.
     #[inline(always)]
-    fn ends_as(
-        &self,
-        kind: PixelType,
-        first: usize,
-        count: usize,
-        depth: usize,
-        d: usize,
-    ) -> (u32, u32)
+    fn ends_as(&self, kind: PixelType, pixels: PixelsFrom, count: usize) -> (u32, u32)
         requires kind { kind ≡ self.now.kind }
-        requires few { length self.now.values ≤ 16777216 }
         requires some { 0 < count }
-        requires depth { d < depth }
-        requires within { (first + count) * depth ≤ length self.now.values }
-        ensures { AreEnds self.now.kind (map (λ k. get_or self.now.values (k * depth + d) (pos 0))
-            (range_with_len first count)) result.0 result.1 }
+        requires within { (pixels.first + count) * pixels.depth ≤ length self.now.values }
+        ensures { AreEnds self.now.kind
+            (map (λ k. get_or self.now.values (k * pixels.depth + pixels.d) (pos 0))
+            (range_with_len pixels.first count)) result.0 result.1 }
     {
-        if depth == 1 {
-            self.step_ends_as(kind, first, count, 1, d)
+        if pixels.depth == 1 {
+            self.step_ends_as(kind, pixels.of_depth(1), count)
         } else {
-            self.step_ends_as(kind, first, count, depth, d)
+            self.step_ends_as(kind, pixels, count)
         }
     }
 
     /// Does what `ends` does, for a type that is known before.
     #[inline(always)]
-    fn step_ends_as(
-        &self,
-        kind: PixelType,
-        first: usize,
-        count: usize,
-        depth: usize,
-        d: usize,
-    ) -> (u32, u32)
+    fn step_ends_as(&self, kind: PixelType, pixels: PixelsFrom, count: usize) -> (u32, u32)
         requires kind { kind ≡ self.now.kind }
-        requires few { length self.now.values ≤ 16777216 }
         requires some { 0 < count }
-        requires depth { d < depth }
-        requires within { (first + count) * depth ≤ length self.now.values }
-        ensures { AreEnds self.now.kind (map (λ k. get_or self.now.values (k * depth + d) (pos 0))
-            (range_with_len first count)) result.0 result.1 }
+        requires within { (pixels.first + count) * pixels.depth ≤ length self.now.values }
+        ensures { AreEnds self.now.kind
+            (map (λ k. get_or self.now.values (k * pixels.depth + pixels.d) (pos 0))
+            (range_with_len pixels.first count)) result.0 result.1 }
     {
         let bytes = self.bytes;
-        let begin = distance_at(kind, bytes, first * depth + d);
+        let begin = distance_at(kind, bytes, pixels.first * pixels.depth + pixels.d);
         let mut near = begin;
         let mut far = begin;
         for i in 1..count {
-            let here = distance_at(kind, bytes, (first + i) * depth + d);
+            let here = distance_at(kind, bytes, (pixels.first + i) * pixels.depth + pixels.d);
             near = near.min(here);
             far = far.max(here);
         }

@@ -1,17 +1,17 @@
-ghost use Rattle.std.specs.Prelude.{◌-◌, ◌≡◌, ◌+◌, ◌*◌, ◌<◌, ◌≤◌, ◌++◌, pos, IfOk, All, length, get_or, take, drop, map, replicate, slice_set};
-ghost use Rattle.raster_cells.specs.PixelType.{InRange, bytes_of, value_of};
-ghost use Rattle.byteorder.specs.Endian.{little_number};
+//! Values of one type that a raster keeps.
+
+ghost use Rattle.std.specs.Prelude.{◌-◌, ◌≡◌, ◌+◌, ◌*◌, ◌<◌, ◌≤◌, ◌++◌, pos, IfOk, All, length, get_or, take, drop, replicate, slice_set};
+ghost use Rattle.raster_cells.specs.PixelType.{InRange, bytes_of};
 ghost use Rattle.raster_cells.specs.Values.{values_bytes};
-ghost use Rattle.raster_cells.specs.inside.CellList.{CellList, values_in};
-ghost use Rattle.raster_cells.specs.inside.Cleared.{cleared};
-ghost use Rattle.std.specs.List.{range_with_len};
-ghost use Rattle.raster_cells.specs.Distance.{distance_of};
+ghost use Rattle.raster_cells.specs.CellList.{CellList, values_in};
+ghost use Rattle.raster_cells.specs.Cleared.{cleared};
 
 use crate::kind::PixelType;
 use crate::values::byte_runs;
 use crate::values::cell_bytes::CellBytes;
-use crate::values::given::{Given, ValueList};
-use crate::values::valued::{fill_pixels, put_all};
+use crate::values::cell_store::{CellStore, fill_pixels, put_all};
+use crate::values::value_bytes::{place, value_at};
+use crate::values::value_source::{ValueList, ValueSource};
 use std::alloc::{AllocError, Global};
 use std::marker::Model;
 
@@ -24,7 +24,7 @@ pub struct Cells {
 }
 
 impl Model for Cells {
-    ghost use Rattle.raster_cells.specs.inside.CellList.{CellList};
+    ghost use Rattle.raster_cells.specs.CellList.{CellList};
 
     ghost Value = { CellList };
 
@@ -33,50 +33,6 @@ impl Model for Cells {
     ghost view = { seen_cells };
 
     ghost invariant = { IsCells };
-}
-
-/// Does the same for each type, so that the loop in it is made once for each.
-#[macro_export]
-macro_rules! by_kind {
-    ($kind:expr, $name:ident => $work:expr) => {
-        match $kind {
-            $crate::PixelType::I8 => {
-                let $name = $crate::PixelType::I8;
-                $work
-            }
-            $crate::PixelType::U8 => {
-                let $name = $crate::PixelType::U8;
-                $work
-            }
-            $crate::PixelType::I16 => {
-                let $name = $crate::PixelType::I16;
-                $work
-            }
-            $crate::PixelType::U16 => {
-                let $name = $crate::PixelType::U16;
-                $work
-            }
-            $crate::PixelType::I32 => {
-                let $name = $crate::PixelType::I32;
-                $work
-            }
-            $crate::PixelType::U32 => {
-                let $name = $crate::PixelType::U32;
-                $work
-            }
-        }
-    };
-}
-
-/// Where the bytes of the value at a place begin.
-pub fn place(kind: PixelType, count: usize, at: usize) -> usize
-    requires few { count ≤ 16777216 }
-    requires within { at ≤ count }
-    ensures value { result ≡ at * bytes_of kind }
-    ensures within { result ≤ count * bytes_of kind }
-    ensures below { at < count → result + bytes_of kind ≤ count * bytes_of kind }
-{
-    at * kind.bytes()
 }
 
 /// Sets a run of bytes to 0.
@@ -116,141 +72,46 @@ fn zeros(alloc: Global, count: usize) -> Result<Vec<u8>, AllocError>
     vec![in alloc; 0u8; count]
 }
 
-/// Lays the bytes of values of a type over the front of `out`, one behind the other. The bytes
-/// behind them stay.
-#[inline(always)]
-pub fn write_values(kind: PixelType, values: &[i64], out: &mut [u8])
-    requires room { length values.now * bytes_of kind ≤ length out.old }
-    requires in_range { All (InRange kind) values.now }
-    ensures { out.new ≡ values_bytes kind values.now
-        ++ drop (length values.now * bytes_of kind) out.old }
-{
-    let size = kind.bytes();
-    for (i, value) in values.iter().enumerate() {
-        kind.write_value(*value, &mut out[i * size..]);
+impl CellStore for Cells {
+    ghost cells = { λ c. c };
+
+    ghost Kept = { Unit {0} };
+
+    ghost kept = { λ c. tt };
+
+    #[inline(always)]
+    fn kind(&self) -> PixelType {
+        Cells::kind(self)
     }
-}
 
-/// The values at a depth of the pixels from `first` on, of which each has `depth`: of `count` values
-/// that the bytes stand for.
-pub fn read_pixels(
-    kind: PixelType,
-    count: usize,
-    bytes: &[u8],
-    first: usize,
-    depth: usize,
-    d: usize,
-    out: &mut [i64],
-)
-    requires few { count ≤ 16777216 }
-    requires size { length bytes.now ≡ count * bytes_of kind }
-    requires depth { d < depth }
-    requires within { (first + length out.old) * depth ≤ count }
-    ensures { out.new ≡ map (λ k. get_or (values_in kind count bytes.now) (k * depth + d) (pos 0))
-        (range_with_len first (length out.old)) }
-{
-    by_kind!(kind, kind => read_pixels_as(kind, count, bytes, first, depth, d, out))
-}
-
-/// Does what `read_pixels` does, for a type that is known before. Without a second depth values stand
-/// side by side, which the compiler is to know.
-#[inline(always)]
-pub(crate) fn read_pixels_as(
-    kind: PixelType,
-    count: usize,
-    bytes: &[u8],
-    first: usize,
-    depth: usize,
-    d: usize,
-    out: &mut [i64],
-)
-    requires few { count ≤ 16777216 }
-    requires size { length bytes.now ≡ count * bytes_of kind }
-    requires depth { d < depth }
-    requires within { (first + length out.old) * depth ≤ count }
-    ensures { out.new ≡ map (λ k. get_or (values_in kind count bytes.now) (k * depth + d) (pos 0))
-        (range_with_len first (length out.old)) }
-{
-    if depth == 1 {
-        read_steps_as(kind, count, bytes, first, 1, d, out);
-    } else {
-        read_steps_as(kind, count, bytes, first, depth, d, out);
+    #[inline(always)]
+    fn get_as(&self, kind: PixelType, at: usize) -> i64 {
+        value_at(kind, self.count, &self.bytes, at)
     }
-}
 
-/// Does what `read_pixels` does, one pixel after the other.
-#[inline(always)]
-fn read_steps_as(
-    kind: PixelType,
-    count: usize,
-    bytes: &[u8],
-    first: usize,
-    depth: usize,
-    d: usize,
-    out: &mut [i64],
-)
-    requires few { count ≤ 16777216 }
-    requires size { length bytes.now ≡ count * bytes_of kind }
-    requires depth { d < depth }
-    requires within { (first + length out.old) * depth ≤ count }
-    ensures { out.new ≡ map (λ k. get_or (values_in kind count bytes.now) (k * depth + d) (pos 0))
-        (range_with_len first (length out.old)) }
-{
-    for i in 0..out.len() {
-        out[i] = value_at(kind, count, bytes, (first + i) * depth + d);
+    #[inline(always)]
+    fn put_as<G: ValueSource>(
+        &mut self,
+        kind: PixelType,
+        at: usize,
+        given: &G,
+        n: usize,
+        count: usize,
+    ) {
+        let from = place(kind, self.count, at);
+        given.write_as(kind, n, count, &mut self.bytes[from..]);
     }
-}
 
-/// The value whose bytes stand at a place, of `count` values.
-#[inline(always)]
-pub fn value_at(kind: PixelType, count: usize, bytes: &[u8], at: usize) -> i64
-    requires few { count ≤ 16777216 }
-    requires size { length bytes.now ≡ count * bytes_of kind }
-    requires within { at < count }
-    ensures value { result ≡ get_or (values_in kind count bytes.now) at (pos 0) }
-    ensures in_range { InRange kind result }
-{
-    let from = place(kind, count, at);
-    kind.read_value(&bytes[from..])
-}
-
-/// How far the value whose bytes stand at a place is above the type's least.
-#[inline(always)]
-pub(crate) fn distance_at(kind: PixelType, bytes: &[u8], at: usize) -> u32
-    requires few { at < 16777216 }
-    requires within { at * bytes_of kind + bytes_of kind ≤ length bytes.now }
-    ensures { result ≡ distance_of kind
-        (value_of kind (little_number (bytes_of kind) (drop (at * bytes_of kind) bytes.now))) }
-{
-    let here = &bytes[at * kind.bytes()..];
-    (kind.read_value(here) - kind.least()) as u32
-}
-
-/// The same of the eight values from a place on.
-#[inline(always)]
-pub(crate) fn eight_at(kind: PixelType, bytes: &[u8], at: usize) -> [u32; 8]
-    requires few { at + 8 ≤ 16777216 }
-    requires within { (at + 8) * bytes_of kind ≤ length bytes.now }
-    ensures { result ≡ map (λ k. distance_of kind
-        (value_of kind (little_number (bytes_of kind) (drop (k * bytes_of kind) bytes.now))))
-        (range_with_len at 8) }
-{
-    let mut read = [0; 8];
-    for i in 0..8 {
-        read[i] = distance_at(kind, bytes, at + i);
+    fn repeat_run(&mut self, at: usize, to: usize, count: usize) {
+        let from = place(self.kind, self.count, at);
+        let end = place(self.kind, self.count, at + count);
+        let dest = place(self.kind, self.count, to);
+        repeat_bytes(&mut self.bytes, from, end, dest);
     }
-    read
-}
 
-/// Lays eight numbers over as many. It goes one by one, since the numbers are then kept where they
-/// were made.
-#[inline(always)]
-pub(crate) fn lay_eight(numbers: &[u32; 8], out: &mut [u32])
-    requires { length out.old ≡ 8 }
-    ensures { out.new ≡ numbers.now }
-{
-    for i in 0..8 {
-        out[i] = numbers[i];
+    fn put_bytes(&mut self, at: usize, count: usize, bytes: &[u8]) {
+        let from = place(self.kind, self.count, at);
+        lay_bytes(&mut self.bytes, from, bytes);
     }
 }
 
@@ -310,57 +171,6 @@ impl Cells {
         value_at(self.kind, self.count, &self.bytes, at)
     }
 
-    /// The value at a place, of the type that is known before.
-    #[inline(always)]
-    pub fn get_as(&self, kind: PixelType, at: usize) -> i64
-        requires kind { kind ≡ self.now.kind }
-        requires within { at < length self.now.values }
-        ensures value { result ≡ get_or self.now.values at (pos 0) }
-        ensures in_range { InRange self.now.kind result }
-    {
-        value_at(kind, self.count, &self.bytes, at)
-    }
-
-    /// Puts `count` of the values that are given, from number `n` on, in the place of as many from
-    /// `at` on. The type is known before.
-    #[inline(always)]
-    pub fn put_as<G: Given>(
-        &mut self,
-        kind: PixelType,
-        at: usize,
-        given: &G,
-        n: usize,
-        count: usize,
-    )
-        requires kind { kind ≡ self.old.kind }
-        requires there { n + count ≤ length (G.listed given.now) }
-        requires within { at + count ≤ length self.old.values }
-        requires in_range { All (InRange self.old.kind) (G.listed given.now) }
-        ensures { self.new ≡ record self.old {
-          values = take at self.old.values ++ (take count (drop n (G.listed given.now))
-              ++ drop (at + count) self.old.values);
-        } }
-    {
-        let from = place(kind, self.count, at);
-        given.write_as(kind, n, count, &mut self.bytes[from..]);
-    }
-
-    /// Puts the `count` values from `at` on also in the place of those from `to` on, which stand
-    /// behind them.
-    pub fn repeat_run(&mut self, at: usize, to: usize, count: usize)
-        requires behind { at + count ≤ to }
-        requires within { to + count ≤ length self.old.values }
-        ensures { self.new ≡ record self.old {
-          values = take to self.old.values ++ (take count (drop at self.old.values)
-              ++ drop (to + count) self.old.values);
-        } }
-    {
-        let from = place(self.kind, self.count, at);
-        let end = place(self.kind, self.count, at + count);
-        let dest = place(self.kind, self.count, to);
-        repeat_bytes(&mut self.bytes, from, end, dest);
-    }
-
     /// The same values, to be read.
     #[inline(always)]
     pub fn read(&self) -> CellBytes
@@ -374,19 +184,6 @@ impl Cells {
         ensures { result.now ≡ values_bytes self.now.kind self.now.values }
     {
         &self.bytes
-    }
-
-    /// Puts the values that so many values' bytes stand for in the place of as many from `at` on.
-    pub fn put_bytes(&mut self, at: usize, count: usize, bytes: &[u8])
-        requires within { at + count ≤ length self.old.values }
-        requires size { length bytes.now ≡ count * bytes_of self.old.kind }
-        ensures { self.new ≡ record self.old {
-          values = take at self.old.values ++ (values_in self.old.kind count bytes.now
-              ++ drop (at + count) self.old.values);
-        } }
-    {
-        let from = place(self.kind, self.count, at);
-        lay_bytes(&mut self.bytes, from, bytes);
     }
 
     /// Values equal to these.

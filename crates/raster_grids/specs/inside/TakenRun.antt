@@ -3,7 +3,7 @@ use Rattle.std.specs.Prelude.{ℕ, ◌<◌, ◌≤◌, List, length, Option, Res
 use Rattle.outside_io.specs.declared.streams.failed.Failed.{Failed}
 use Rattle.outside_io.specs.streams.Source.{TakesFront, IsAtEnd}
 use Rattle.raster_cells.specs.PixelType.{bytes_of}
-use Rattle.raster_cells.specs.inside.CellList.{CellList, values_in}
+use Rattle.raster_cells.specs.CellList.{CellList, values_in}
 
 -- as many bytes as the run has were taken, or fewer and then none is left; where the source failed
 -- nothing is said

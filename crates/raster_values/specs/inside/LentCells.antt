@@ -2,7 +2,7 @@
 use Rattle.std.specs.Prelude.{ℕ}
 use Rattle.std.specs.Borrow.{GName}
 use Rattle.raster_cells.specs.declared.kind.PixelType.{PixelType}
-use Rattle.raster_cells.specs.inside.CellList.{CellList, cells_in}
+use Rattle.raster_cells.specs.CellList.{CellList, cells_in}
 use Rattle.raster_values.specs.declared.rasters.lent_cells.LentCells.{LentCells}
 
 -- what no call changes: all but the values, and which array these are

@@ -2,9 +2,9 @@
 use Rattle.std.specs.Prelude.{ℕ, ◌*◌, List}
 use Rattle.raster_cells.specs.declared.kind.PixelType.{PixelType}
 use Rattle.raster_cells.specs.Masks.{marks_in}
-use Rattle.raster_cells.specs.inside.CellList.{cells_in}
+use Rattle.raster_cells.specs.CellList.{cells_in}
 use Rattle.raster_values.specs.declared.rasters.raster.Raster.TheInside.{Inside}
-use Rattle.raster_values.specs.inside.View.{IsInside}
+use Rattle.raster_values.specs.View.{IsInside}
 
 abbrev pub parts_of : PixelType → ℕ → ℕ → ℕ → ℕ → List ℕ → List ℕ → Inside
 parts_of kind rows cols depth count mask values =

@@ -16,7 +16,8 @@ plane_distances p from count = map (distance_of p.samples.now.kind) (plane_value
 
 -- the same of a window
 abbrev pub window_distances : Plane → Window → List ℕ
-window_distances p w = map (distance_of p.samples.now.kind) (window_values w p.depth p.d p.marks.now p.samples.now.values)
+window_distances p w = map (distance_of p.samples.now.kind)
+    (window_values w p.depth p.d p.marks.now p.samples.now.values)
 
 -- the same of all its pixels, marked or not
 abbrev pub whole_distances : Plane → Window → List ℕ

@@ -1,7 +1,7 @@
 -- Runs of pixels in the two vectors of a raster.
 use Rattle.std.specs.Prelude.{[], ℕ, ℤ, pos, ◌+◌, ◌*◌, Bool, List, map, get_or, ◌≡◌, Option, Some, None, ◌<◌, ◌≤◌, true, false, ◌++◌, length, take, drop}
 use Rattle.std.specs.List.{flat_map, range_with_len}
-use Rattle.raster_cells.specs.inside.Runs.{run_places}
+use Rattle.raster_cells.specs.Runs.{run_places}
 use Rattle.lane_kernels.specs.Kernels.{IsLeast, IsGreatest}
 
 -- their values at a depth
@@ -31,12 +31,12 @@ pub record LeavesRun (depth d : ℕ) (marks : List Bool) (from count : ℕ)
       → (from ≤ k → k < from + count → get_or marks k false ≡ true → e ≡ d → ⊥)
       → get_or new (k * depth + e) (pos 0) ≡ get_or old (k * depth + e) (pos 0)
 
--- the values at a depth of the marked pixels among `count` from `from` on are those of the input from
--- number `at` up to `end`, and no other value was replaced
-pub record PoursRun (depth d : ℕ) (marks : List Bool) (input old new : List ℤ)
+-- the values at a depth of the marked pixels among `count` from `from` on are those of the input
+-- from number `at` up to `end`, and no other value was replaced
+pub record ScattersRun (depth d : ℕ) (marks : List Bool) (input old new : List ℤ)
     (from count at end : ℕ) : Type 0 where
   pub ends : end ≡ at + length (run_places marks from count)
-  pub poured : take at input ++ run_values depth d marks new from count ≡ take end input
+  pub scattered : take at input ++ run_values depth d marks new from count ≡ take end input
   pub rest : LeavesRun depth d marks from count old new
 
 -- the same of runs of rows

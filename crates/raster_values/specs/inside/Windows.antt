@@ -1,6 +1,6 @@
 -- Windows of the pixels of a raster, and what is put at one depth of them.
 use Rattle.std.specs.Prelude.{◌≡◌, ℕ, ◌-◌, min, ◌+◌, ◌*◌, Bool, List, ℤ, ◌≤◌}
-use Rattle.raster_cells.specs.inside.CellList.{CellList, KeepsForm}
+use Rattle.raster_cells.specs.CellList.{CellList, KeepsForm}
 use Rattle.raster_values.specs.declared.blocks.window.Window.{Window}
 use Rattle.raster_values.specs.inside.Runs.{rows_places, rows_values, LeavesRows}
 
@@ -26,16 +26,22 @@ window_places w marks = rows_places marks w.cols w.row w.col w.high w.wide
 
 -- their values at a depth
 abbrev pub window_values : Window → ℕ → ℕ → List Bool → List ℤ → List ℤ
-window_values w depth d marks values = rows_values depth d marks values w.cols w.row w.col w.high w.wide
+window_values w depth d marks values = rows_values depth d marks values w.cols w.row w.col w.high
+    w.wide
 
 -- the window lies among so many pixels
 pub record IsWithin (w : Window) (pixels : ℕ) : Type 0 where
   pub rows : w.row + w.high ≤ 16777216
   pub all : (w.row + w.high) * w.cols ≤ pixels
 
+-- and there is room for a number of each of its pixels
+pub record HasRoom (w : Window) (pixels numbers : ℕ) : Type 0 where
+  pub within : IsWithin w pixels
+  pub room : w.high * w.wide ≤ numbers
+
 -- the values at a depth of the marked pixels of a window are these, and no other was changed
-pub record PoursRows (depth d : ℕ) (marks : List Bool) (w : Window) (values : List ℤ)
+pub record ScattersRows (depth d : ℕ) (marks : List Bool) (w : Window) (values : List ℤ)
     (old new : CellList) : Type 0 where
-  pub poured : window_values w depth d marks new.values ≡ values
+  pub scattered : window_values w depth d marks new.values ≡ values
   pub rest : LeavesRows depth d marks w.cols w.row w.col w.high w.wide old.values new.values
   pub form : KeepsForm old new

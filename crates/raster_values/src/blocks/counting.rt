@@ -4,10 +4,10 @@ ghost use Rattle.std.specs.Prelude.{◌≡◌, ◌+◌, ◌*◌, ◌≤◌, leng
 ghost use Rattle.raster_values.specs.inside.Windows.{IsWithin, window_places};
 
 use crate::blocks::window::Window;
-use raster_cells::Marked;
+use raster_cells::MarkSource;
 
 /// How many pixels of a window are marked. Whole rows are one run.
-pub(crate) fn count_rows<M: Marked>(marks: &M, window: Window) -> usize
+pub(crate) fn count_rows<M: MarkSource>(marks: &M, window: Window) -> usize
     requires few { length (M.marks marks.now) ≤ 16777216 }
     requires within { IsWithin window (length (M.marks marks.now)) }
     ensures value { result ≡ length (window_places window (M.marks marks.now)) }

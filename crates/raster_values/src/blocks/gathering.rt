@@ -2,14 +2,14 @@
 
 ghost use Rattle.std.specs.Prelude.{◌≡◌, ℕ, ℤ, ◌+◌, ◌*◌, ◌<◌, ◌≤◌, Bool, List, length, take, drop, ◌++◌};
 ghost use Rattle.raster_cells.specs.Words.{AreMarks};
-ghost use Rattle.raster_cells.specs.inside.Runs.{run_places};
+ghost use Rattle.raster_cells.specs.Runs.{run_places};
 ghost use Rattle.raster_values.specs.inside.Runs.{Gathers, IsRange};
 ghost use Rattle.raster_values.specs.inside.Planes.{plane_distances, plane_values, whole_distances, window_distances};
-ghost use Rattle.raster_values.specs.inside.Windows.{IsWithin};
+ghost use Rattle.raster_values.specs.inside.Windows.{HasRoom};
 ghost use Rattle.lane_kernels.specs.Kernels.{IsLeast, IsGreatest};
 
 use crate::blocks::window::{Plane, Window};
-use raster_cells::{PixelType, by_kind};
+use raster_cells::{PixelType, PixelsFrom, by_kind};
 
 /// How many marks a number of so many bits has.
 #[inline(always)]
@@ -29,8 +29,8 @@ fn marks_of_word(word: u32, count: usize) -> usize
 }
 
 /// Puts the distances of the marked pixels among `count` from `from` on behind the first `at` of
-/// `out`, and answers where they end; the number that stands there may be another then. Each pixel is
-/// put where the next marked one belongs, so that only places depend on marks, and no jump does.
+/// `out`, and answers where they end; the number that stands there may be another then. Each pixel
+/// is put where the next marked one belongs, so that only places depend on marks, and no jump does.
 #[inline(always)]
 fn gather_mixed(plane: &Plane, from: usize, count: usize, out: &mut [u32], at: usize) -> usize
     requires some { 0 < count }
@@ -52,8 +52,8 @@ fn gather_mixed(plane: &Plane, from: usize, count: usize, out: &mut [u32], at: u
     n
 }
 
-/// Puts the distances of the marked pixels among `count` from `from` on, at most 32, behind the first
-/// `at` of `out`, and answers where they end. The type is known before.
+/// Puts the distances of the marked pixels among `count` from `from` on, at most 32, behind the
+/// first `at` of `out`, and answers where they end. The type is known before.
 #[inline(always)]
 fn gather_word(plane: &Plane, from: usize, count: usize, out: &mut [u32], at: usize) -> usize
     requires some { 0 < count }
@@ -68,9 +68,14 @@ fn gather_word(plane: &Plane, from: usize, count: usize, out: &mut [u32], at: us
     }
     if end == at + count {
         let (kind, depth, d) = (plane.kind, plane.depth, plane.d);
+        let pixels = PixelsFrom {
+            first: from,
+            depth,
+            d,
+        };
         plane
             .samples
-            .get_distances_as(kind, from, depth, d, &mut out[at..end]);
+            .get_distances_as(kind, pixels, &mut out[at..end]);
         return end;
     }
     let kept = out[end];
@@ -96,11 +101,10 @@ fn gather_run(plane: &Plane, from: usize, count: usize, out: &mut [u32], at: usi
     n
 }
 
-/// Puts the distances of a window's marked pixels in front of `out`, and answers how many these are.
-/// Whole rows lie one behind the other: they are one.
+/// Puts the distances of a window's marked pixels in front of `out`, and answers how many these
+/// are. Whole rows lie one behind the other: they are one.
 pub(crate) fn gather_rows(plane: &Plane, window: Window, out: &mut [u32]) -> usize
-    requires within { IsWithin window (length plane.now.marks.now) }
-    requires room { window.high * window.wide ≤ length out.old }
+    requires fits { HasRoom window (length plane.now.marks.now) (length out.old) }
     ensures gathered { Gathers (window_distances plane.now window) out.old out.new 0 result }
     ensures within { result ≤ window.high * window.wide }
 {
@@ -112,8 +116,8 @@ pub(crate) fn gather_rows(plane: &Plane, window: Window, out: &mut [u32]) -> usi
     gather_lines(plane, window, out)
 }
 
-/// Puts the distances of the marked ones among `count` pixels from `place` on in front of `out`, and
-/// answers how many these are.
+/// Puts the distances of the marked ones among `count` pixels from `place` on in front of `out`,
+/// and answers how many these are.
 pub(crate) fn gather_pixels(plane: &Plane, place: usize, count: usize, out: &mut [u32]) -> usize
     requires within { place + count ≤ length plane.now.marks.now }
     requires room { count ≤ length out.old }
@@ -134,8 +138,7 @@ pub(crate) fn gather_pixels(plane: &Plane, place: usize, count: usize, out: &mut
 
 /// Does what `gather_rows` does, row by row.
 fn gather_lines(plane: &Plane, window: Window, out: &mut [u32]) -> usize
-    requires within { IsWithin window (length plane.now.marks.now) }
-    requires room { window.high * window.wide ≤ length out.old }
+    requires fits { HasRoom window (length plane.now.marks.now) (length out.old) }
     ensures gathered { Gathers (window_distances plane.now window) out.old out.new 0 result }
     ensures within { result ≤ window.high * window.wide }
 {
@@ -151,8 +154,7 @@ fn gather_lines(plane: &Plane, window: Window, out: &mut [u32]) -> usize
 /// Does what `gather_lines` does, where every pixel is marked: no marks are looked at.
 #[inline(never)]
 fn gather_whole(plane: &Plane, window: Window, out: &mut [u32]) -> usize
-    requires within { IsWithin window (length plane.now.marks.now) }
-    requires room { window.high * window.wide ≤ length out.old }
+    requires fits { HasRoom window (length plane.now.marks.now) (length out.old) }
     ensures gathered { Gathers (whole_distances plane.now window) out.old out.new 0 result }
     ensures all { result ≡ window.high * window.wide }
 {
@@ -166,8 +168,7 @@ fn gather_whole(plane: &Plane, window: Window, out: &mut [u32]) -> usize
 /// such.
 #[inline(always)]
 fn gather_whole_as(plane: &Plane, window: Window, out: &mut [u32]) -> usize
-    requires within { IsWithin window (length plane.now.marks.now) }
-    requires room { window.high * window.wide ≤ length out.old }
+    requires fits { HasRoom window (length plane.now.marks.now) (length out.old) }
     ensures gathered { Gathers (whole_distances plane.now window) out.old out.new 0 result }
     ensures all { result ≡ window.high * window.wide }
 {
@@ -181,8 +182,7 @@ fn gather_whole_as(plane: &Plane, window: Window, out: &mut [u32]) -> usize
 /// Does what `gather_whole` does, for a type that is known before.
 #[inline(always)]
 fn gather_whole_rows(plane: &Plane, window: Window, out: &mut [u32]) -> usize
-    requires within { IsWithin window (length plane.now.marks.now) }
-    requires room { window.high * window.wide ≤ length out.old }
+    requires fits { HasRoom window (length plane.now.marks.now) (length out.old) }
     ensures gathered { Gathers (whole_distances plane.now window) out.old out.new 0 result }
     ensures all { result ≡ window.high * window.wide }
 {
@@ -191,7 +191,7 @@ fn gather_whole_rows(plane: &Plane, window: Window, out: &mut [u32]) -> usize
     for i in 0..window.high {
         let next = n + window.wide;
         let first = (window.row + i) * window.cols + window.col;
-        samples.get_distances_as(kind, first, depth, d, &mut out[n..next]);
+        samples.get_distances_as(kind, PixelsFrom { first, depth, d }, &mut out[n..next]);
         n = next;
     }
     n
@@ -201,8 +201,7 @@ fn gather_whole_rows(plane: &Plane, window: Window, out: &mut [u32]) -> usize
 /// such.
 #[inline(always)]
 fn gather_rows_as(plane: &Plane, window: Window, out: &mut [u32]) -> usize
-    requires within { IsWithin window (length plane.now.marks.now) }
-    requires room { window.high * window.wide ≤ length out.old }
+    requires fits { HasRoom window (length plane.now.marks.now) (length out.old) }
     ensures gathered { Gathers (window_distances plane.now window) out.old out.new 0 result }
     ensures within { result ≤ window.high * window.wide }
 {
@@ -216,8 +215,7 @@ fn gather_rows_as(plane: &Plane, window: Window, out: &mut [u32]) -> usize
 /// Does what `gather_lines` does, for a type that is known before.
 #[inline(always)]
 fn gather_marked_rows(plane: &Plane, window: Window, out: &mut [u32]) -> usize
-    requires within { IsWithin window (length plane.now.marks.now) }
-    requires room { window.high * window.wide ≤ length out.old }
+    requires fits { HasRoom window (length plane.now.marks.now) (length out.old) }
     ensures gathered { Gathers (window_distances plane.now window) out.old out.new 0 result }
     ensures within { result ≤ window.high * window.wide }
 {
@@ -251,9 +249,12 @@ pub(crate) fn range_of(plane: &Plane) -> Option<(i64, i64)>
         let run = marks.next_run(k, marks.len());
         if run.start < run.end {
             let count = run.end - run.start;
-            let more = plane
-                .samples
-                .extremes(run.start, count, plane.depth, plane.d);
+            let pixels = PixelsFrom {
+                first: run.start,
+                depth: plane.depth,
+                d: plane.d,
+            };
+            let more = plane.samples.extremes(pixels, count);
             found = Some(wider(found, more));
         }
         k = run.end;

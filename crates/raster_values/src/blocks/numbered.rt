@@ -5,7 +5,7 @@ ghost use Rattle.raster_values.specs.inside.Planes.{GetsMarked};
 ghost use Rattle.raster_cells.specs.Words.{AreMarks};
 
 use crate::blocks::window::Plane;
-use raster_cells::{PixelType, by_kind, one_of};
+use raster_cells::{PixelType, PixelsFrom, by_kind, one_of};
 
 /// Sets all values to 0.
 fn clear(out: &mut [i64])
@@ -15,8 +15,8 @@ fn clear(out: &mut [i64])
 }
 
 /// Does what `get_marked` does, for at most 32 pixels whose marks are the bits of the word. Each
-/// pixel's value is read, and 0 taken in its place where it is not marked, so that no jump depends on
-/// marks.
+/// pixel's value is read, and 0 taken in its place where it is not marked, so that no jump depends
+/// on marks.
 #[inline(always)]
 fn get_mixed(plane: &Plane, word: u32, place: usize, out: &mut [i64])
     requires within { place + length out.old ≤ length plane.now.marks.now }
@@ -49,7 +49,12 @@ fn get_word(plane: &Plane, place: usize, out: &mut [i64])
     }
     if word == u32::MAX >> (32 - count) {
         let (kind, depth, d) = (plane.kind, plane.depth, plane.d);
-        plane.samples.get_pixels_as(kind, place, depth, d, out);
+        let pixels = PixelsFrom {
+            first: place,
+            depth,
+            d,
+        };
+        plane.samples.get_pixels_as(kind, pixels, out);
         return;
     }
     get_mixed(plane, word, place, out);

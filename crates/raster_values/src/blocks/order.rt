@@ -3,27 +3,32 @@
 ghost use Rattle.std.specs.Prelude.{◌≡◌, ◌+◌, ◌-◌, ◌*◌, ◌<◌, ◌≤◌, length, All};
 ghost use Rattle.raster_cells.specs.PixelType.{InRange, bytes_of};
 ghost use Rattle.raster_values.specs.Raster.{values_of};
-ghost use Rattle.raster_values.specs.inside.View.{pixels_of};
+ghost use Rattle.raster_values.specs.View.{pixels_of};
 ghost use Rattle.raster_cells.specs.Values.{values_bytes};
 ghost use Rattle.raster_cells.specs.Words.{AreMarks};
-ghost use Rattle.raster_values.specs.inside.Ordered.{ChangesMarked, FillsMarked, PutsMarked, PutsMarkedBytes};
-ghost use Rattle.raster_cells.specs.inside.CellList.{AreOf, KeepsForm};
+ghost use Rattle.raster_values.specs.Ordered.{ChangesMarked, FillsMarked, PutsMarked, PutsMarkedBytes};
+ghost use Rattle.raster_cells.specs.CellList.{AreOf, KeepsForm};
 
 use crate::blocks::window::Channel;
 use raster_cells::{
-    CellBytes, Cells, Given, LentMask, Marked, Mask, PixelType, Valued, by_kind, fill_pixels,
-    put_list_as, put_marked_as,
+    CellBytes, CellStore, Cells, LentMask, MarkSource, Mask, PixelType, PixelsFrom, ValueList,
+    ValueSource, by_kind, fill_pixels, put_marked_as, put_pixels_as,
 };
 
 /// Gives each marked pixel the list of values that is given, one for each depth.
-pub(crate) fn fill_marked<M: Marked, V: Valued, G: Given>(marks: &M, pixel: &G, values: &mut V)
+pub(crate) fn fill_marked<M: MarkSource, V: CellStore, G: ValueSource>(
+    marks: &M,
+    pixel: &G,
+    values: &mut V,
+)
     requires size { length (V.cells values.old).values
         ≡ length (M.marks marks.now) * length (G.listed pixel.now) }
     requires few { length (V.cells values.old).values ≤ 16777216 }
     requires depth { 0 < length (G.listed pixel.now) }
     requires in_range { All (InRange (V.cells values.old).kind) (G.listed pixel.now) }
     ensures form { KeepsForm (V.cells values.old) (V.cells values.new) }
-    ensures filled { FillsMarked (length (M.marks marks.now)) (M.marks marks.now) (G.listed pixel.now)
+    ensures filled { FillsMarked (length (M.marks marks.now)) (M.marks marks.now)
+        (G.listed pixel.now)
         (V.cells values.old).values (V.cells values.new).values }
     ensures kept { V.kept values.new ≡ V.kept values.old }
 {
@@ -36,7 +41,7 @@ pub(crate) fn fill_marked<M: Marked, V: Valued, G: Given>(marks: &M, pixel: &G, 
 }
 
 /// Gives the marked pixels the values that the bytes stand for, run by run.
-pub(crate) fn pour_bytes<M: Marked, V: Valued>(
+pub(crate) fn scatter_bytes<M: MarkSource, V: CellStore>(
     marks: &M,
     depth: usize,
     bytes: &[u8],
@@ -45,11 +50,12 @@ pub(crate) fn pour_bytes<M: Marked, V: Valued>(
     requires size { length (V.cells values.old).values ≡ length (M.marks marks.now) * depth }
     requires few { length (V.cells values.old).values ≤ 16777216 }
     requires count { length bytes.now ≡ length (values_of
-        (pixels_of depth (M.marks marks.now) (V.cells values.old).values)) * bytes_of (V.cells values.old).kind }
+        (pixels_of depth (M.marks marks.now) (V.cells values.old).values)) * bytes_of
+        (V.cells values.old).kind }
     ensures kind { (V.cells values.new).kind ≡ (V.cells values.old).kind }
     ensures changed { ChangesMarked (V.cells values.old).kind depth (M.marks marks.now)
         (V.cells values.old).values (V.cells values.new).values }
-    ensures poured { values_bytes (V.cells values.old).kind
+    ensures scattered { values_bytes (V.cells values.old).kind
         (values_of (pixels_of depth (M.marks marks.now) (V.cells values.new).values)) ≡ bytes.now }
     ensures kept { V.kept values.new ≡ V.kept values.old }
 {
@@ -66,22 +72,25 @@ pub(crate) fn pour_bytes<M: Marked, V: Valued>(
     }
 }
 
-/// Does what `put_values` does, for at most 32 pixels whose marks are the bits of the word. Each pixel
-/// is written, one that is not marked with what stands there, so that no jump depends on marks.
+/// Does what `put_values` does, for at most 32 pixels whose marks are the bits of the word. Each
+/// pixel is written, one that is not marked with what stands there, so that no jump depends on
+/// marks.
 #[inline(always)]
-fn put_mixed<M: Marked, V: Valued>(
+fn put_mixed<M: MarkSource, V: CellStore>(
     channel: &Channel<M>,
     word: u32,
     place: usize,
     input: &[i64],
     values: &mut V,
 )
-    requires values { AreOf channel.now.kind channel.now.depth (length (M.marks channel.now.marks.now)) (V.cells values.old) }
+    requires values { AreOf channel.now.kind channel.now.depth
+        (length (M.marks channel.now.marks.now)) (V.cells values.old) }
     requires within { place + length input.now ≤ length (M.marks channel.now.marks.now) }
     requires in_range { All (InRange channel.now.kind) input.now }
     requires short { length input.now ≤ 32 }
     requires word { AreMarks (M.marks channel.now.marks.now) place (length input.now) word }
-    ensures put { PutsMarked channel.now.depth channel.now.d (M.marks channel.now.marks.now) place (length input.now)
+    ensures put { PutsMarked channel.now.depth channel.now.d (M.marks channel.now.marks.now) place
+        (length input.now)
         input.now (V.cells values.old).values (V.cells values.new).values }
     ensures form { KeepsForm (V.cells values.old) (V.cells values.new) }
     ensures kept { V.kept values.new ≡ V.kept values.old }
@@ -96,13 +105,20 @@ fn put_mixed<M: Marked, V: Valued>(
 
 /// Does what `put_values` does, for at most 32 pixels.
 #[inline(always)]
-fn put_word<M: Marked, V: Valued>(channel: &Channel<M>, place: usize, input: &[i64], values: &mut V)
-    requires values { AreOf channel.now.kind channel.now.depth (length (M.marks channel.now.marks.now)) (V.cells values.old) }
+fn put_word<M: MarkSource, V: CellStore>(
+    channel: &Channel<M>,
+    place: usize,
+    input: &[i64],
+    values: &mut V,
+)
+    requires values { AreOf channel.now.kind channel.now.depth
+        (length (M.marks channel.now.marks.now)) (V.cells values.old) }
     requires within { place + length input.now ≤ length (M.marks channel.now.marks.now) }
     requires in_range { All (InRange channel.now.kind) input.now }
     requires some { 0 < length input.now }
     requires short { length input.now ≤ 32 }
-    ensures put { PutsMarked channel.now.depth channel.now.d (M.marks channel.now.marks.now) place (length input.now)
+    ensures put { PutsMarked channel.now.depth channel.now.d (M.marks channel.now.marks.now) place
+        (length input.now)
         input.now (V.cells values.old).values (V.cells values.new).values }
     ensures form { KeepsForm (V.cells values.old) (V.cells values.new) }
     ensures kept { V.kept values.new ≡ V.kept values.old }
@@ -114,7 +130,12 @@ fn put_word<M: Marked, V: Valued>(channel: &Channel<M>, place: usize, input: &[i
     }
     if word == u32::MAX >> (32 - count) {
         let (kind, depth, d) = (channel.kind, channel.depth, channel.d);
-        put_list_as(values, kind, place, depth, d, input);
+        let pixels = PixelsFrom {
+            first: place,
+            depth,
+            d,
+        };
+        put_pixels_as(values, kind, pixels, &ValueList { values: input }, 0, count);
         return;
     }
     put_mixed(channel, word, place, input, values);
@@ -122,16 +143,18 @@ fn put_word<M: Marked, V: Valued>(channel: &Channel<M>, place: usize, input: &[i
 
 /// Does what `put_values` does, for a type that is known before.
 #[inline(always)]
-fn put_values_as<M: Marked, V: Valued>(
+fn put_values_as<M: MarkSource, V: CellStore>(
     channel: &Channel<M>,
     place: usize,
     input: &[i64],
     values: &mut V,
 )
-    requires values { AreOf channel.now.kind channel.now.depth (length (M.marks channel.now.marks.now)) (V.cells values.old) }
+    requires values { AreOf channel.now.kind channel.now.depth
+        (length (M.marks channel.now.marks.now)) (V.cells values.old) }
     requires within { place + length input.now ≤ length (M.marks channel.now.marks.now) }
     requires in_range { All (InRange channel.now.kind) input.now }
-    ensures put { PutsMarked channel.now.depth channel.now.d (M.marks channel.now.marks.now) place (length input.now)
+    ensures put { PutsMarked channel.now.depth channel.now.d (M.marks channel.now.marks.now) place
+        (length input.now)
         input.now (V.cells values.old).values (V.cells values.new).values }
     ensures form { KeepsForm (V.cells values.old) (V.cells values.new) }
     ensures kept { V.kept values.new ≡ V.kept values.old }
@@ -144,17 +167,20 @@ fn put_values_as<M: Marked, V: Valued>(
     }
 }
 
-/// Gives the marked ones among the pixels from `place` on these values, in words of at most 32 marks.
-pub(crate) fn put_values<M: Marked, V: Valued>(
+/// Gives the marked ones among the pixels from `place` on these values, in words of at most 32
+/// marks.
+pub(crate) fn put_values<M: MarkSource, V: CellStore>(
     channel: &Channel<M>,
     place: usize,
     input: &[i64],
     values: &mut V,
 )
-    requires values { AreOf channel.now.kind channel.now.depth (length (M.marks channel.now.marks.now)) (V.cells values.old) }
+    requires values { AreOf channel.now.kind channel.now.depth
+        (length (M.marks channel.now.marks.now)) (V.cells values.old) }
     requires within { place + length input.now ≤ length (M.marks channel.now.marks.now) }
     requires in_range { All (InRange channel.now.kind) input.now }
-    ensures put { PutsMarked channel.now.depth channel.now.d (M.marks channel.now.marks.now) place (length input.now)
+    ensures put { PutsMarked channel.now.depth channel.now.d (M.marks channel.now.marks.now) place
+        (length input.now)
         input.now (V.cells values.old).values (V.cells values.new).values }
     ensures form { KeepsForm (V.cells values.old) (V.cells values.new) }
     ensures kept { V.kept values.new ≡ V.kept values.old }

@@ -19,7 +19,8 @@ pub struct Window {
 impl Window {
     ghost use Rattle.raster_values.specs.inside.Windows.{IsBlockOf, IsOneRowOf};
 
-    /// The block of `side` rows and columns from (row, col) on, cut off at the lower and right edges.
+    /// The block of `side` rows and columns from (row, col) on, cut off at the lower and right
+    /// edges.
     pub fn block(rows: u32, cols: u32, row: u32, col: u32, side: u32) -> Window
         requires row { row < rows }
         requires col { col < cols }

@@ -4,16 +4,16 @@ ghost use Rattle.std.specs.Prelude.{◌≡◌, ◌≢◌, ◌+◌, ◌*◌, ◌<
 ghost use Rattle.std.specs.List.{count_by};
 ghost use Rattle.raster_cells.specs.PixelType.{InRange, bytes_of};
 ghost use Rattle.raster_cells.specs.Values.{values_bytes};
-ghost use Rattle.raster_cells.specs.inside.CellList.{AreOf, KeepsForm, cells_in, values_in};
-ghost use Rattle.raster_cells.specs.inside.LentBytes.{AreValueBytes};
+ghost use Rattle.raster_cells.specs.CellList.{AreOf, KeepsForm, cells_in, values_in};
+ghost use Rattle.raster_cells.specs.LentBytes.{AreValueBytes};
 ghost use Rattle.raster_values.specs.Raster.{values_of};
-ghost use Rattle.raster_values.specs.inside.Ordered.{ChangesMarked, FillsMarked, PutsMarked};
-ghost use Rattle.raster_values.specs.inside.View.{pixels_of};
-ghost use Rattle.raster_values.specs.inside.Windows.{IsWithin, PoursRows, window_places};
+ghost use Rattle.raster_values.specs.Ordered.{ChangesMarked, FillsMarked, PutsMarked};
+ghost use Rattle.raster_values.specs.View.{pixels_of};
+ghost use Rattle.raster_values.specs.inside.Windows.{IsWithin, ScattersRows, window_places};
 
 use crate::blocks::window::{Channel, Window};
-use crate::blocks::{order, pouring};
-use raster_cells::{Given, LentMask, PixelType, Valued, byte_runs, place, value_at};
+use crate::blocks::{order, scattering};
+use raster_cells::{CellStore, LentMask, PixelType, ValueSource, byte_runs, place, value_at};
 
 /// So many values of a type in a caller's array. Any of them may be changed.
 #[derive(Drop)]
@@ -24,7 +24,7 @@ struct LentCells<'v> {
     ghost cells: { AreValueBytes kind count values.now },
 }
 
-impl<'v> Valued for LentCells<'v> {
+impl<'v> CellStore for LentCells<'v> {
     ghost use Rattle.raster_values.specs.inside.LentCells.{CellFrame, cell_frame, cells_there};
 
     ghost cells = { cells_there };
@@ -43,7 +43,14 @@ impl<'v> Valued for LentCells<'v> {
     }
 
     #[inline(always)]
-    fn put_as<G: Given>(&mut self, kind: PixelType, at: usize, given: &G, n: usize, count: usize) {
+    fn put_as<G: ValueSource>(
+        &mut self,
+        kind: PixelType,
+        at: usize,
+        given: &G,
+        n: usize,
+        count: usize,
+    ) {
         let from = place(kind, self.count, at);
         given.write_as(kind, n, count, &mut self.values[from..]);
     }
@@ -61,8 +68,8 @@ impl<'v> Valued for LentCells<'v> {
     }
 }
 
-/// Sets all values to 0, but where every pixel is marked. One pass over them costs less than one over
-/// the runs of the mask, and the marked ones are filled in later.
+/// Sets all values to 0, but where every pixel is marked. One pass over them costs less than one
+/// over the runs of the mask, and the marked ones are filled in later.
 pub fn clear_masked(marks: &LentMask, kind: PixelType, depth: usize, values: &mut [u8])
     requires few { length marks.now * depth ≤ 16777216 }
     requires size { length values.old ≡ length marks.now * depth * bytes_of kind }
@@ -78,8 +85,8 @@ pub fn clear_masked(marks: &LentMask, kind: PixelType, depth: usize, values: &mu
     values.fill(0);
 }
 
-/// Does what `pour_rows` does, to values in an array.
-pub fn pour_over<G: Given>(
+/// Does what `scatter_rows` does, to values in an array.
+pub fn scatter_over<G: ValueSource>(
     channel: &Channel<LentMask>,
     window: Window,
     count: usize,
@@ -91,9 +98,11 @@ pub fn pour_over<G: Given>(
         (cells_in channel.now.kind count values.old) }
     requires within { IsWithin window (length channel.now.marks.now) }
     requires in_range { All (InRange channel.now.kind) (G.listed given.now) }
-    requires count { length (G.listed given.now) ≡ length (window_places window channel.now.marks.now) }
+    requires count { length (G.listed given.now)
+        ≡ length (window_places window channel.now.marks.now) }
     ensures cells { AreValueBytes channel.now.kind count values.new }
-    ensures poured { PoursRows channel.now.depth channel.now.d channel.now.marks.now window (G.listed given.now)
+    ensures scattered { ScattersRows channel.now.depth channel.now.d channel.now.marks.now window
+        (G.listed given.now)
         (cells_in channel.now.kind count values.old) (cells_in channel.now.kind count values.new) }
 {
     let kind = channel.kind;
@@ -102,7 +111,7 @@ pub fn pour_over<G: Given>(
         count,
         values,
     };
-    pouring::pour_rows(channel, window, given, &mut cells);
+    scattering::scatter_rows(channel, window, given, &mut cells);
 }
 
 /// Does what `put_values` does, to values in an array.
@@ -119,9 +128,12 @@ pub fn put_over(
     requires within { place + length input.now ≤ length channel.now.marks.now }
     requires in_range { All (InRange channel.now.kind) input.now }
     ensures cells { AreValueBytes channel.now.kind count values.new }
-    ensures put { PutsMarked channel.now.depth channel.now.d channel.now.marks.now place (length input.now) input.now
-        (values_in channel.now.kind count values.old) (values_in channel.now.kind count values.new) }
-    ensures form { KeepsForm (cells_in channel.now.kind count values.old) (cells_in channel.now.kind count values.new) }
+    ensures put { PutsMarked channel.now.depth channel.now.d channel.now.marks.now place
+        (length input.now) input.now
+        (values_in channel.now.kind count values.old)
+        (values_in channel.now.kind count values.new) }
+    ensures form { KeepsForm (cells_in channel.now.kind count values.old)
+        (cells_in channel.now.kind count values.new) }
 {
     let kind = channel.kind;
     let mut cells = LentCells {
@@ -133,7 +145,7 @@ pub fn put_over(
 }
 
 /// Does what `fill_marked` does, to values in an array.
-pub fn fill_over<G: Given>(
+pub fn fill_over<G: ValueSource>(
     marks: &LentMask,
     kind: PixelType,
     count: usize,
@@ -141,7 +153,8 @@ pub fn fill_over<G: Given>(
     values: &mut [u8],
 )
     requires cells { AreValueBytes kind count values.old }
-    requires size { length (values_in kind count values.old) ≡ length marks.now * length (G.listed pixel.now) }
+    requires size { length (values_in kind count values.old)
+        ≡ length marks.now * length (G.listed pixel.now) }
     requires few { length (values_in kind count values.old) ≤ 16777216 }
     requires depth { 0 < length (G.listed pixel.now) }
     requires in_range { All (InRange kind) (G.listed pixel.now) }
@@ -158,8 +171,8 @@ pub fn fill_over<G: Given>(
     order::fill_marked(marks, pixel, &mut cells);
 }
 
-/// Does what `pour_bytes` of `order` does, to values in an array.
-pub fn pour_bytes_over(
+/// Does what `scatter_bytes` of `order` does, to values in an array.
+pub fn scatter_bytes_over(
     marks: &LentMask,
     kind: PixelType,
     depth: usize,
@@ -175,7 +188,7 @@ pub fn pour_bytes_over(
     ensures cells { AreValueBytes kind count values.new }
     ensures changed { ChangesMarked kind depth marks.now (values_in kind count values.old)
         (values_in kind count values.new) }
-    ensures poured { values_bytes kind
+    ensures scattered { values_bytes kind
         (values_of (pixels_of depth marks.now (values_in kind count values.new))) ≡ bytes.now }
 {
     let mut cells = LentCells {
@@ -183,5 +196,5 @@ pub fn pour_bytes_over(
         count,
         values,
     };
-    order::pour_bytes(marks, depth, bytes, &mut cells);
+    order::scatter_bytes(marks, depth, bytes, &mut cells);
 }

@@ -4,7 +4,7 @@ ghost use Rattle.raster_values.specs.Raster.{IsRaster, blank, filled, values_of,
 ghost use Rattle.raster_cells.specs.Shapes.{HasZero, IsTooLarge, IsShape};
 ghost use Rattle.raster_values.specs.Places.{ChangesMark, ChangesValue};
 ghost use Rattle.raster_cells.specs.Values.{values_bytes};
-ghost use Rattle.raster_values.specs.Order.{FillsBytes, FillsValid, IsMaskOf, MarksBits, PoursBytes};
+ghost use Rattle.raster_values.specs.Order.{FillsBytes, FillsValid, IsMaskOf, MarksBits, ScattersBytes};
 ghost use Rattle.raster_cells.specs.Masks.{mask_bit};
 ghost use Rattle.raster_values.specs.Flat.{PutsFrom, PutsAll, all_values, depth_values, marks_of, valid_from, value_in, values_among};
 ghost use Rattle.raster_cells.specs.Words as words;
@@ -12,12 +12,12 @@ ghost use Rattle.raster_cells.specs.MarkRuns.{AreRuns};
 ghost use Rattle.raster_cells.specs.Distance.{distance_of};
 ghost use Rattle.lane_kernels.specs.Kernels.{IsLeast, IsGreatest};
 ghost use Rattle.lane_kernels.specs.Kernels.{IsStepSize, capped_sums};
-ghost use Rattle.raster_values.specs.Block.{block_count, block_values, PoursBlock};
+ghost use Rattle.raster_values.specs.Block.{block_count, block_values, ScattersBlock};
 
 use crate::blocks::window::{Channel, Plane, Window};
-use crate::blocks::{counting, gathering, order, pouring};
+use crate::blocks::{counting, gathering, order, scattering};
 use raster_cells::{
-    CellBytes, Cells, Given, Mask, OneValue, PixelType, Run, Sums, ValueList, is_shape,
+    CellBytes, Cells, Mask, OneValue, PixelType, PixelsFrom, Run, ValueSource, is_shape,
 };
 use std::alloc::{AllocError, Global};
 use std::marker::Model;
@@ -67,7 +67,7 @@ impl Model for Raster {
 
     ghost Value = { Pixels };
 
-    ghost use Rattle.raster_values.specs.inside.View.{seen, IsInside};
+    ghost use Rattle.raster_values.specs.View.{seen, IsInside};
 
     ghost view = { seen };
 
@@ -103,7 +103,7 @@ fn places_of(rows: u32, cols: u32, depth: u32) -> Result<usize, ShapeFault>
 }
 
 impl Raster {
-    ghost use Rattle.raster_values.specs.inside.View.{AreVectors, raster_of};
+    ghost use Rattle.raster_values.specs.View.{AreVectors, raster_of};
 
     /// A raster of which no pixel is valid.
     ///
@@ -342,52 +342,21 @@ impl Raster {
         gathering::range_of(&plane)
     }
 
-    /// Gives the valid pixels of a block these values at a depth, row by row. All else stays.
-    pub fn pour_block(&mut self, row: u32, col: u32, side: u32, d: u32, values: &[i64])
-        requires place { InShape self.old row col }
-        requires depth { d < self.old.depth }
-        requires count { length values.now ≡ block_count self.old row col side }
-        requires in_range { All (InRange self.old.kind) values.now }
-        ensures poured { PoursBlock self.old self.new row col side d values.now }
-        ensures sound { IsRaster self.new }
-    {
-        self.pour_given(row, col, side, d, &ValueList { values });
-    }
-
-    /// Gives the valid pixels of a block the sums of an offset and numbers of steps, none above
-    /// `top`, at a depth, row by row. All else stays.
-    pub fn pour_steps(
+    /// Gives the valid pixels of a block the values that are given, at a depth, row by row. All
+    /// else stays.
+    pub fn scatter_given<G: ValueSource>(
         &mut self,
         row: u32,
         col: u32,
         side: u32,
         d: u32,
-        offset: i64,
-        step: i64,
-        top: i64,
-        numbers: &[u32],
+        given: &G,
     )
-        requires place { InShape self.old row col }
-        requires depth { d < self.old.depth }
-        requires count { length numbers.now ≡ block_count self.old row col side }
-        requires offset { InRange self.old.kind offset }
-        requires top { InRange self.old.kind top }
-        requires step { IsStepSize step }
-        ensures poured { PoursBlock self.old self.new row col side d
-            (capped_sums (map pos numbers.now) offset step top) }
-        ensures sound { IsRaster self.new }
-    {
-        let sums = Sums::of(self.values.kind(), numbers, offset, step, top);
-        self.pour_given(row, col, side, d, &sums);
-    }
-
-    /// Gives the valid pixels of a block the values that are given, at a depth, row by row.
-    fn pour_given<G: Given>(&mut self, row: u32, col: u32, side: u32, d: u32, given: &G)
         requires place { InShape self.old row col }
         requires depth { d < self.old.depth }
         requires count { length (G.listed given.now) ≡ block_count self.old row col side }
         requires in_range { All (InRange self.old.kind) (G.listed given.now) }
-        ensures poured { PoursBlock self.old self.new row col side d (G.listed given.now) }
+        ensures scattered { ScattersBlock self.old self.new row col side d (G.listed given.now) }
         ensures sound { IsRaster self.new }
     {
         let window = Window::block(self.rows, self.cols, row, col, side);
@@ -397,7 +366,7 @@ impl Raster {
             depth: self.depth as usize,
             d: d as usize,
         };
-        pouring::pour_rows(&channel, window, given, &mut self.values);
+        scattering::scatter_rows(&channel, window, given, &mut self.values);
     }
 
     /// The marks of the pixels from number `place` on: the pixels are numbered row by row, from 0.
@@ -410,14 +379,15 @@ impl Raster {
         self.marks.copy_run(place, out);
     }
 
-    /// The next run of valid pixels from number `place` on, before number `limit`, whole. It is empty,
-    /// and at `limit`, where there is none.
+    /// The next run of valid pixels from number `place` on, before number `limit`, whole. It is
+    /// empty, and at `limit`, where there is none.
     pub fn next_run(&self, place: usize, limit: usize) -> Run
         requires order { place ≤ limit }
         requires within { limit ≤ self.now.rows * self.now.cols }
         ensures runs { AreRuns (marks_of self.now) place result.start result.end }
         ensures within { result.end ≤ limit }
-        ensures begins { result.start < limit → get_or (marks_of self.now) result.start false ≡ true }
+        ensures begins { result.start < limit
+            → get_or (marks_of self.now) result.start false ≡ true }
         ensures ends { result.end < limit → get_or (marks_of self.now) result.end false ≡ false }
         ensures forth { place < limit → place < result.end }
     {
@@ -433,12 +403,17 @@ impl Raster {
             ≡ value_in self.now d (place + i) }
     {
         let values = self.values.read();
-        values.get_pixels(place, self.depth as usize, d as usize, out);
+        let pixels = PixelsFrom {
+            first: place,
+            depth: self.depth as usize,
+            d: d as usize,
+        };
+        values.get_pixels(pixels, out);
     }
 
     /// Puts the values at a depth of the valid ones among `count` pixels from number `place` on in
-    /// front of `out`, in order and each by how far it is above the type's least, and answers how many
-    /// these are. The rest of `out` stays.
+    /// front of `out`, in order and each by how far it is above the type's least, and answers how
+    /// many these are. The rest of `out` stays.
     pub fn gather_from(&self, place: usize, count: usize, d: u32, out: &mut [u32]) -> usize
         requires place { place + count ≤ self.now.rows * self.now.cols }
         requires depth { d < self.now.depth }
@@ -461,8 +436,8 @@ impl Raster {
         gathering::gather_pixels(&plane, place, count, out)
     }
 
-    /// The marks of `count` pixels from number `place` on, at most 32, as the bits of one number, the
-    /// first as the highest.
+    /// The marks of `count` pixels from number `place` on, at most 32, as the bits of one number,
+    /// the first as the highest.
     pub fn mark_word(&self, place: usize, count: usize) -> u32
         requires some { 0 < count }
         requires few { count ≤ 32 }
@@ -488,16 +463,6 @@ impl Raster {
             d: d as usize,
         };
         order::put_values(&channel, place, values, &mut self.values);
-    }
-
-    /// Gives each valid pixel this list of values, one for each depth. All else stays.
-    pub fn fill_valid(&mut self, values: &[i64])
-        requires count { length values.now ≡ self.old.depth }
-        requires in_range { All (InRange self.old.kind) values.now }
-        ensures filled { FillsValid self.old self.new values.now }
-        ensures sound { IsRaster self.new }
-    {
-        self.fill_given(&ValueList { values });
     }
 
     /// Gives each valid pixel this one value at each depth. All else stays.
@@ -526,7 +491,7 @@ impl Raster {
     }
 
     /// Gives each valid pixel the list of values that is given, one for each depth.
-    fn fill_given<G: Given>(&mut self, given: &G)
+    fn fill_given<G: ValueSource>(&mut self, given: &G)
         requires count { length (G.listed given.now) ≡ self.old.depth }
         requires in_range { All (InRange self.old.kind) (G.listed given.now) }
         ensures filled { FillsValid self.old self.new (G.listed given.now) }
@@ -537,14 +502,14 @@ impl Raster {
 
     /// Gives the valid pixels the values that the bytes stand for, pixel by pixel and depth
     /// innermost. All else stays.
-    pub fn pour(&mut self, bytes: &[u8])
+    pub fn scatter(&mut self, bytes: &[u8])
         requires { length bytes.now
             ≡ valid_count self.old * self.old.depth * bytes_of self.old.kind }
-        ensures poured { PoursBytes self.old self.new bytes.now }
+        ensures scattered { ScattersBytes self.old self.new bytes.now }
         ensures sound { IsRaster self.new }
     {
         let depth = self.depth;
-        order::pour_bytes(&self.marks, depth as usize, bytes, &mut self.values);
+        order::scatter_bytes(&self.marks, depth as usize, bytes, &mut self.values);
     }
 
     /// Writes the bytes of the valid pixels' values, pixel by pixel and depth innermost.
@@ -567,9 +532,9 @@ impl Raster {
         out.copy_from_slice(self.marks.bytes());
     }
 
-    /// The bytes of the mask where they lie, of a raster of which not every pixel is valid: a bit for
-    /// each pixel, row by row and the highest of each byte first, 1 for a valid one. The bits behind
-    /// the last pixel, which are fewer than eight, are any.
+    /// The bytes of the mask where they lie, of a raster of which not every pixel is valid: a bit
+    /// for each pixel, row by row and the highest of each byte first, 1 for a valid one. The bits
+    /// behind the last pixel, which are fewer than eight, are any.
     pub fn mask_slice(&self) -> &[u8]
         requires { valid_count self.now < self.now.rows * self.now.cols }
         ensures size { length result.now ≡ (self.now.rows * self.now.cols + 7) / 8 }
@@ -645,8 +610,10 @@ impl Raster {
 
     /// Its values, of valid pixels and of invalid ones.
     pub fn samples(&self) -> &Cells
-        ensures value { self.now ≡ raster_of self.now.rows self.now.cols self.now.depth (marks_of self.now) result.now }
-        ensures vectors { AreVectors self.now.rows self.now.cols self.now.depth (marks_of self.now) result.now }
+        ensures value { self.now
+            ≡ raster_of self.now.rows self.now.cols self.now.depth (marks_of self.now) result.now }
+        ensures vectors { AreVectors self.now.rows self.now.cols self.now.depth
+            (marks_of self.now) result.now }
     {
         &self.values
     }

@@ -10,8 +10,8 @@ use Rattle.tile_stream.specs.Stream.{IsStream}
 use Rattle.tile_stream.specs.Tile.{IsTile, IsToldStop}
 use Rattle.tile_updates.specs.declared.stop.StreamStop.{StreamStop}
 use Rattle.tile_updates.specs.declared.stop.StreamStop.TheVariants.{TooManyTiles, Fault, DepthNeedsV4, TileTooLarge, KeptTooMuch, Source, OutOfMemory}
-use Rattle.tile_updates.specs.declared.updates.Ending.{Ending}
-use Rattle.tile_updates.specs.declared.updates.Ending.TheVariants.{More, AtEnd, Refused}
+use Rattle.tile_updates.specs.declared.updates.Next.{Next}
+use Rattle.tile_updates.specs.declared.updates.Next.TheVariants.{More, AtEnd, Refused}
 use Rattle.tile_updates.specs.declared.updates.SoFar.{SoFar}
 use Rattle.tile_updates.specs.declared.updates.Waiting.{Waiting}
 use Rattle.tile_updates.specs.Updates.{AllPass, updates_of, tile_bytes}
@@ -53,7 +53,7 @@ RefusesReading v place old new Source = ⊥
 RefusesReading v place old new OutOfMemory = ⊥
 
 -- one tile more waits; or none was left; or the next one is refused
-abbrev pub Follows : Version → Option (List ℕ) → Option (List ℕ) → Waiting → Waiting → Ending →
+abbrev pub Follows : Version → Option (List ℕ) → Option (List ℕ) → Waiting → Waiting → Next →
     Type 0
 Follows v old new before after More = WaitsToo v old new before after
 Follows v old new before after AtEnd = IsAtEnd old × ((new ≡ old) × (after ≡ before))
@@ -75,7 +75,7 @@ pub record AreWaiting (v : Version) (place : ℕ) (old now : Option (List ℕ)) 
 
 -- what follows tiles that wait: there are some, and what follows was not looked at; or none is
 -- left; or there may be more, and the next one is refused
-abbrev pub EndsSo : Version → ℕ → Option (List ℕ) → Option (List ℕ) → Waiting → Ending → Type 0
+abbrev pub EndsSo : Version → ℕ → Option (List ℕ) → Option (List ℕ) → Waiting → Next → Type 0
 EndsSo v room mid new w More = (new ≡ mid) × (0 < length w.batch)
 EndsSo v room mid new w AtEnd = (new ≡ mid) × IsAtEnd mid
 EndsSo v room mid new w (Refused stop) =
@@ -83,11 +83,11 @@ EndsSo v room mid new w (Refused stop) =
 
 -- tiles wait, at most so many, and this follows them
 pub record IsFilled (v : Version) (room place : ℕ) (old new : Option (List ℕ)) (w : Waiting)
-    (ending : Ending) : Type 0 where
+    (next : Next) : Type 0 where
   pub mid : Option (List ℕ)
   pub waiting : AreWaiting v place old mid w
   pub few : length w.batch ≤ room
-  pub ends : EndsSo v room mid new w ending
+  pub ends : EndsSo v room mid new w next
 
 -- ---- the whole input
 

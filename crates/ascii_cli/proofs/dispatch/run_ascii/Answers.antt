@@ -1,8 +1,8 @@
-use Rattle.std.proofs.Common.{ap, refl, sym, ◌∙◌}
+use Rattle.std.proofs.Common.{ap, ◌∙◌}
 use Rattle.ascii_cli.specs.Names.{status_at}
 use Rattle.ascii_cli.specs.declared.words.Command.TheVariants.{Split, Join}
 use Rattle.ascii_cli.proofs.Ended.{output_status, source_status, usage_said, usage_status}
-use Rattle.ascii_cli.proofs.Outputs.{lga_exactly, lga_gave, refused, text_exactly, text_gave}
+use Rattle.ascii_cli.proofs.Outputs.{lga_exactly, lga_gave, refused, split_joins, text_exactly, text_gave}
 use Rattle.ascii_cli.proofs.dispatch.run_ascii.Goals as goal
 
 pub returns-clause-usage : goal.returns-clause-usage
@@ -58,3 +58,7 @@ returns-clause-join_gave g c = λ spelled bytes told zero grid stands.
 pub returns-clause-join_refused : goal.returns-clause-join_refused
 returns-clause-join_refused g c = λ spelled bytes told two.
     refused Join bytes _ _ _ _ c.ended_status.ensures.status two (rw told at (c.act-ended.ensures.output Join spelled)) c.ended_status.ensures.line
+
+pub returns-clause-split_joins : goal.returns-clause-split_joins
+returns-clause-split_joins g c = λ kind spelled text told zero.
+    split_joins kind text _ _ _ c.ended_status.ensures.status zero (rw told at (c.act-ended.ensures.output (Split kind) spelled))

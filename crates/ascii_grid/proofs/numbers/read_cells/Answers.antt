@@ -4,7 +4,7 @@ use Rattle.std.proofs.lemmas.Result.{err_from_is_err_and}
 use Rattle.raster_values.specs.Raster.{Pixels}
 use Rattle.std.proofs.lemmas.List.Elements.{All-nil}
 use Rattle.ascii_grid.specs.Canon.{IsApart}
-use Rattle.ascii_grid.specs.Tokens.{Spot}
+use Rattle.ascii_grid.specs.Tokens.{TokenAt}
 use Rattle.ascii_grid.proofs.CellSteps.{Progress, begun_blank, cell_step, cells_done, number_bad, number_end, number_last, number_over, fair_all, fair_step, some_area, token_short}
 use Rattle.ascii_grid.proofs.numbers.read_cells.Goals as goal
 
@@ -67,7 +67,7 @@ loop-done-preserved g c =
                     on.1.are,
                     (
                       on.1.begun,
-                      (on.1.joined ∙ ap (λ (l : List Spot). (so.0 ++ c.loop-done.token ∷ []) ++ l) next.1.0, next.1.1),
+                      (on.1.joined ∙ ap (λ (l : List TokenAt). (so.0 ++ c.loop-done.token ∷ []) ++ l) next.1.0, next.1.1),
                     ),
                   ),
                 ),

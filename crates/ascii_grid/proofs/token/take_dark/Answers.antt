@@ -1,7 +1,7 @@
 use Rattle.std.proofs.Common.{◌≡◌, ◌∙◌, ◌+◌, ◌<◌, ◌++◌, ◌∷◌, [], ap, sym, arith, length, length-append, List, ℕ}
 use Rattle.std.proofs.lemmas.Result.{err_from_is_err_and}
 use Rattle.std.proofs.lemmas.List.Elements.{All-push}
-use Rattle.ascii_grid.specs.Tokens.{IsDark, Spot}
+use Rattle.ascii_grid.specs.Tokens.{IsDark, TokenAt}
 use Rattle.ascii_grid.proofs.ReadSteps.{ends_blank, ends_none, word_step, word_stopped}
 use Rattle.ascii_grid.proofs.token.take_dark.Goals as goal
 
@@ -17,12 +17,12 @@ pub loop-window-preserved : goal.loop-window-preserved
 loop-window-preserved g c =
     let inv = c.loop-window.invariant in
     let some = rw c.in-Some.is at c.in_ok-byte.ensures.byte in
-    let word : c.push.new.self.bytes ≡ c.loop-window.token.bytes ++ c.in-Some.byte ∷ [] = ap (λ (t : Spot). t.bytes) c.push.ensures in
+    let word : c.push.new.self.bytes ≡ c.loop-window.token.bytes ++ c.in-Some.byte ∷ [] = ap (λ (t : TokenAt). t.bytes) c.push.ensures in
     let size : length c.push.new.self.bytes ≡ length c.loop-window.token.bytes + 1 = ap length word ∙ length-append c.loop-window.token.bytes (c.in-Some.byte ∷ []) in
     let dark : IsDark c.in-Some.byte = sym c.is_blank.ensures ∙ c.if-not-is_blank.true in
     record {
       faults = c.in_ok-byte.ensures.counted ∙ inv.faults;
-      place = ap (λ (t : Spot). t.place) c.push.ensures ∙ inv.place;
+      place = ap (λ (t : TokenAt). t.place) c.push.ensures ∙ inv.place;
       within = omega (arith, some.0, c.step.ensures.place);
       few = omega (arith, size, c.loop-window-test.true, c.len.ensures);
       dark = rw word (All-push IsDark c.loop-window.token.bytes c.in-Some.byte inv.dark dark);

@@ -16,11 +16,11 @@ loop-i-init c = record {
 
 pub loop-i-preserved : goal.loop-i-preserved
 loop-i-preserved c = record {
-  buffer = c.spilled-buffer.ensures.buffer;
-  bits = omega (arith, c.spilled-buffer.ensures.bits, c.taken.ensures.same, c.taken.ensures.used, c.loop-i.invariant.bits);
-  number = c.spilled-buffer.ensures.number
-      ∙ value_taken c.loop-i.out c.args.values.now c.args.width c.loop-i.i c.loop-i.buffer.at c.loop-i.buffer.used c.loop-i.buffer.held c.taken.result.at c.taken.result.held
-      c.taken.ensures.same c.taken.ensures.held c.loop-i.invariant.bits c.loop-i-test.true c.loop-i.invariant.number;
+  buffer = c.spill-buffer.ensures.buffer;
+  bits = omega (arith, c.spill-buffer.ensures.bits, c.take_in.ensures.same, c.take_in.ensures.used, c.loop-i.invariant.bits);
+  number = c.spill-buffer.ensures.number
+      ∙ value_taken c.loop-i.out c.args.values.now c.args.width c.loop-i.i c.loop-i.buffer.at c.loop-i.buffer.used c.loop-i.buffer.held c.take_in.result.at c.take_in.result.held
+      c.take_in.ensures.same c.take_in.ensures.held c.loop-i.invariant.bits c.loop-i-test.true c.loop-i.invariant.number;
 }
 
 pub returns-clause-bytes : goal.returns-clause-bytes

@@ -7,11 +7,11 @@ pub returns : goal.returns
 returns c =
     let us = c.args.updates.now in
     let is = c.first_place.ensures in
-    let fits = c.fitting.ensures in
+    let fits = c.count_fitting.ensures in
     record {
       most = omega (arith, fits.within, c.min-most.ensures);
       within = omega (arith, fits.within, c.min-most.ensures);
-      first = subst (λ (end : ℕ). HasRoomFirst end us c.fitting.result) is fits.first;
+      first = subst (λ (end : ℕ). HasRoomFirst end us c.count_fitting.result) is fits.first;
       ends = elim fits.ends [
         | inl all ↦ ⊎_elim (λ (few : length us < 64). inr (inl (omega (arith, all, few, c.min-most.ensures))))
             (λ (many : 64 ≤ length us). inl (omega (arith, all, many, c.min-most.ensures))) (cases_lt (length us) 64)

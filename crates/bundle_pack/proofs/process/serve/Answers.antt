@@ -29,3 +29,13 @@ pub returns-in-Ok-clause-unused : goal.returns-in-Ok-clause-unused
 returns-in-Ok-clause-unused g c = λ one.
     let is = sym c.exit_code.ensures ∙ one in
     let u = c.run_pack.ensures.unused is in (u.0, u.1, u.2, c.run_pack.ensures.usage_told is)
+
+pub returns-in-Err-clause-usage : goal.returns-in-Err-clause-usage
+unfolding line_by
+returns-in-Err-clause-usage g c = λ texts told none. inr (record {
+  status_is = c.end_without_memory.ensures.status;
+  sources = refl;
+  target = refl;
+  output = refl;
+  line = c.end_without_memory.ensures.line;
+})

@@ -1,4 +1,4 @@
-use Rattle.std.proofs.Common.{◌≡◌, inl, inr, refl, ℕ, suc, List, [], ◌∷◌, drop, get_or, length, sym, ap, ◌∙◌, subst, arith}
+use Rattle.std.proofs.Common.{◌≡◌, inl, inr, refl, ℕ, suc, List, [], ◌∷◌, drop, get_or, length, sym, ap, ◌∙◌, subst, arith, rules}
 use Rattle.std.proofs.lemmas.Result.{IfOk-from_err, on_ok_weaker}
 use Rattle.outside_io.specs.volume.Disk.{Disk, File, settled}
 use Rattle.outside_io.specs.volume.History.{current}
@@ -13,24 +13,32 @@ use Rattle.bundle_store.proofs.Recovering.{tiles_empty}
 use Rattle.bundle_store.proofs.Standing.{in_closed, in_gate, length-gated}
 use Rattle.bundle_store.proofs.build.begin.Goals as goal
 
-pub returns-in_err-prepare-clause-images : goal.returns-in_err-prepare-clause-images
-returns-in_err-prepare-clause-images g c = λ told.
-    let old = g.V.Volume.history c.args.vol.now in
-    let Pass = EachImage (λ map. map ≡ no_tiles) in
-    let bundle = (c.requires.idle told).quiet.bundle ∙ ap settled (c.requires.empty told) in
-    let preparing = during_map _ Pass _ _ (λ d. in_closed [] (λ map. map ≡ no_tiles) (current old) d (inl refl) tiles_empty bundle) (c.prepare.ensures.during told) in
-    preparing
+pub returns-in_err-prepare-clause-changes : goal.returns-in_err-prepare-clause-changes
+returns-in_err-prepare-clause-changes g c = record {
+  same = (cc);
+  counted = search rules;
+  during = λ told.
+      let old = g.V.Volume.history c.args.vol.now in
+      let Pass = EachImage (λ map. map ≡ no_tiles) in
+      let bundle = (c.requires.idle told).quiet.bundle ∙ ap settled (c.requires.empty told) in
+      let preparing = during_map _ Pass _ _ (λ d. in_closed [] (λ map. map ≡ no_tiles) (current old) d (inl refl) tiles_empty bundle) (c.prepare.ensures.during told) in
+      preparing;
+}
 
-pub returns-in_err-arm-clause-images : goal.returns-in_err-arm-clause-images
-returns-in_err-arm-clause-images g c = λ told.
-    let old = g.V.Volume.history c.args.vol.now in
-    let Pass = EachImage (λ map. map ≡ no_tiles) in
-    let bundle = (c.requires.idle told).quiet.bundle ∙ ap settled (c.requires.empty told) in
-    let preparing = during_map _ Pass _ _ (λ d. in_closed [] (λ map. map ≡ no_tiles) (current old) d (inl refl) tiles_empty bundle) (c.prepare.ensures.during told) in
-    let told_1 = c.prepare.ensures.told ∙ told in
-    let bundle_1 = c.prepare.ensures.bundle told ∙ bundle in
-    let arming = during_join Pass _ _ _ preparing (during_map _ Pass _ _ (λ d. in_closed [] (λ map. map ≡ no_tiles) (current (g.V.Volume.history c.prepare.new.vol)) d (inl refl) tiles_empty bundle_1) (c.arm.ensures.during told_1)) in
-    arming
+pub returns-in_err-arm-clause-changes : goal.returns-in_err-arm-clause-changes
+returns-in_err-arm-clause-changes g c = record {
+  same = (cc);
+  counted = search rules;
+  during = λ told.
+      let old = g.V.Volume.history c.args.vol.now in
+      let Pass = EachImage (λ map. map ≡ no_tiles) in
+      let bundle = (c.requires.idle told).quiet.bundle ∙ ap settled (c.requires.empty told) in
+      let preparing = during_map _ Pass _ _ (λ d. in_closed [] (λ map. map ≡ no_tiles) (current old) d (inl refl) tiles_empty bundle) (c.prepare.ensures.during told) in
+      let told_1 = c.prepare.ensures.told ∙ told in
+      let bundle_1 = c.prepare.ensures.bundle told ∙ bundle in
+      let arming = during_join Pass _ _ _ preparing (during_map _ Pass _ _ (λ d. in_closed [] (λ map. map ≡ no_tiles) (current (g.V.Volume.history c.prepare.new.vol)) d (inl refl) tiles_empty bundle_1) (c.arm.ensures.during told_1)) in
+      arming;
+}
 
 pub returns-in_err-arm-clause-bundle : goal.returns-in_err-arm-clause-bundle
 returns-in_err-arm-clause-bundle g c = λ told.
@@ -66,22 +74,26 @@ returns-clause-journal g c = λ told.
       says = subst SaysBuild (sym bytes) moved;
     }) (c.open_gate.ensures.done (c.arm.ensures.told ∙ told_1))
 
-pub returns-clause-images : goal.returns-clause-images
-returns-clause-images g c = λ told.
-    let old = g.V.Volume.history c.args.vol.now in
-    let Pass = EachImage (λ map. map ≡ no_tiles) in
-    let bundle = (c.requires.idle told).quiet.bundle ∙ ap settled (c.requires.empty told) in
-    let preparing = during_map _ Pass _ _ (λ d. in_closed [] (λ map. map ≡ no_tiles) (current old) d (inl refl) tiles_empty bundle) (c.prepare.ensures.during told) in
-    let told_1 = c.prepare.ensures.told ∙ told in
-    let bundle_1 = c.prepare.ensures.bundle told ∙ bundle in
-    let arming = during_join Pass _ _ _ preparing (during_map _ Pass _ _ (λ d. in_closed [] (λ map. map ≡ no_tiles) (current (g.V.Volume.history c.prepare.new.vol)) d (inl refl) tiles_empty bundle_1) (c.arm.ensures.during told_1)) in
-    let done = c.in_ok-arm.ensures.done told_1 in
-    let next = current (g.V.Volume.history c.arm.new.vol) in
-    let journal_2 : next.journal.now ≡ 0 ∷ build_bytes = ap (λ (d : Disk). d.journal.now) done in
-    let says : SaysBuild next.journal.now = subst SaysBuild (sym journal_2) (says_body 0 Build tt tt) in
-    let bundle_2 = ap (λ (d : Disk). d.bundle) done ∙ bundle_1 in
-    let opening = during_map _ Pass _ _ (λ d. in_gate [] next.journal.now Build no_tiles (λ map. map ≡ no_tiles) next d (build_whole next.journal.now says) says (inl refl) tiles_empty refl refl bundle_2 refl) (c.open_gate.ensures.during (c.arm.ensures.told ∙ told_1)) in
-    during_join Pass _ _ _ arming opening
+pub returns-clause-changes : goal.returns-clause-changes
+returns-clause-changes g c = record {
+  same = (cc);
+  counted = search rules;
+  during = λ told.
+      let old = g.V.Volume.history c.args.vol.now in
+      let Pass = EachImage (λ map. map ≡ no_tiles) in
+      let bundle = (c.requires.idle told).quiet.bundle ∙ ap settled (c.requires.empty told) in
+      let preparing = during_map _ Pass _ _ (λ d. in_closed [] (λ map. map ≡ no_tiles) (current old) d (inl refl) tiles_empty bundle) (c.prepare.ensures.during told) in
+      let told_1 = c.prepare.ensures.told ∙ told in
+      let bundle_1 = c.prepare.ensures.bundle told ∙ bundle in
+      let arming = during_join Pass _ _ _ preparing (during_map _ Pass _ _ (λ d. in_closed [] (λ map. map ≡ no_tiles) (current (g.V.Volume.history c.prepare.new.vol)) d (inl refl) tiles_empty bundle_1) (c.arm.ensures.during told_1)) in
+      let done = c.in_ok-arm.ensures.done told_1 in
+      let next = current (g.V.Volume.history c.arm.new.vol) in
+      let journal_2 : next.journal.now ≡ 0 ∷ build_bytes = ap (λ (d : Disk). d.journal.now) done in
+      let says : SaysBuild next.journal.now = subst SaysBuild (sym journal_2) (says_body 0 Build tt tt) in
+      let bundle_2 = ap (λ (d : Disk). d.bundle) done ∙ bundle_1 in
+      let opening = during_map _ Pass _ _ (λ d. in_gate [] next.journal.now Build no_tiles (λ map. map ≡ no_tiles) next d (build_whole next.journal.now says) says (inl refl) tiles_empty refl refl bundle_2 refl) (c.open_gate.ensures.during (c.arm.ensures.told ∙ told_1)) in
+      during_join Pass _ _ _ arming opening;
+}
 
 pub returns-in_err-prepare-clause-journal : goal.returns-in_err-prepare-clause-journal
 returns-in_err-prepare-clause-journal g c = λ told.

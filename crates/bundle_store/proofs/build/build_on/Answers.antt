@@ -1,4 +1,4 @@
-use Rattle.std.proofs.Common.{◌≡◌, inl, [], length, sym, subst, ap, ◌∙◌, arith}
+use Rattle.std.proofs.Common.{◌≡◌, inl, [], length, sym, subst, ap, ◌∙◌, arith, rules}
 use Rattle.std.proofs.lemmas.List.{nil_from_length}
 use Rattle.outside_io.specs.volume.Disk.{Disk}
 use Rattle.outside_io.specs.volume.History.{current}
@@ -14,46 +14,62 @@ use Rattle.bundle_store.proofs.Rests.{holds_rest, opens_layout}
 use Rattle.bundle_store.specs.inside.Parts.{IsAtRest}
 use Rattle.bundle_store.proofs.build.build_on.Goals as goal
 
-pub returns-in_err-len-clause-images : goal.returns-in_err-len-clause-images
-returns-in_err-len-clause-images g c = λ told.
-    let old = g.V.Volume.history c.args.vol.now in
-    let map = table_map c.args.tiles.now c.args.table.now in
-    let Pass : Disk → Type 0 = λ d. (current old).bundle.now ≡ [] → EachImage (EmptyOr map) d in
-    let start : Pass (current old) = λ is. still_good (EmptyOr map) (current old) (c.requires.idle told).quiet (c.requires.idle told).closed (inl (ap length is)) (inl (ap tiles is ∙ tiles_empty)) in
-    let measuring = stays_on Pass _ _ _ _ (started Pass old start) c.len.ensures.time (c.len.ensures.disk told) in
-    measuring
+pub returns-in_err-len-clause-changes : goal.returns-in_err-len-clause-changes
+returns-in_err-len-clause-changes g c = record {
+  same = (cc);
+  counted = search rules;
+  during = λ told.
+      let old = g.V.Volume.history c.args.vol.now in
+      let map = table_map c.args.tiles.now c.args.table.now in
+      let Pass : Disk → Type 0 = λ d. (current old).bundle.now ≡ [] → EachImage (EmptyOr map) d in
+      let start : Pass (current old) = λ is. still_good (EmptyOr map) (current old) (c.requires.rest told).quiet (c.requires.rest told).closed (inl (ap length is)) (inl (ap tiles is ∙ tiles_empty)) in
+      let measuring = stays_on Pass _ _ _ _ (started Pass old start) c.len.ensures.time (c.len.ensures.disk told) in
+      measuring;
+}
 
-pub returns-clause-images : goal.returns-clause-images
-returns-clause-images g c = λ told.
-    let old = g.V.Volume.history c.args.vol.now in
-    let map = table_map c.args.tiles.now c.args.table.now in
-    let Pass : Disk → Type 0 = λ d. (current old).bundle.now ≡ [] → EachImage (EmptyOr map) d in
-    let start : Pass (current old) = λ is. still_good (EmptyOr map) (current old) (c.requires.idle told).quiet (c.requires.idle told).closed (inl (ap length is)) (inl (ap tiles is ∙ tiles_empty)) in
-    let measuring = stays_on Pass _ _ _ _ (started Pass old start) c.len.ensures.time (c.len.ensures.disk told) in
-    during_join Pass _ _ _ measuring (during_map _ Pass _ _ (λ d each is. each) (c.build_empty.ensures.images (c.len.ensures.told ∙ told)))
+pub returns-clause-changes : goal.returns-clause-changes
+returns-clause-changes g c = record {
+  same = (cc);
+  counted = search rules;
+  during = λ told.
+      let old = g.V.Volume.history c.args.vol.now in
+      let map = table_map c.args.tiles.now c.args.table.now in
+      let Pass : Disk → Type 0 = λ d. (current old).bundle.now ≡ [] → EachImage (EmptyOr map) d in
+      let start : Pass (current old) = λ is. still_good (EmptyOr map) (current old) (c.requires.rest told).quiet (c.requires.rest told).closed (inl (ap length is)) (inl (ap tiles is ∙ tiles_empty)) in
+      let measuring = stays_on Pass _ _ _ _ (started Pass old start) c.len.ensures.time (c.len.ensures.disk told) in
+      during_join Pass _ _ _ measuring (during_map _ Pass _ _ (λ d each is. each) (c.build_empty.ensures.changes.during (c.len.ensures.told ∙ told)));
+}
 
 pub returns-clause-rest : goal.returns-clause-rest
 returns-clause-rest g c = λ told.
     let map = table_map c.args.tiles.now c.args.table.now in
-    holds_rest (layout map) c.build_empty.new.front (current (g.V.Volume.history c.build_empty.new.vol)) (opens_layout map c.requires.tiles) c.in_ok-build_empty.ensures.keeps (c.in_ok-build_empty.ensures.done (c.len.ensures.told ∙ told))
+    holds_rest (layout map) c.build_empty.new.front (current (g.V.Volume.history c.build_empty.new.vol)) (opens_layout map c.requires.table.are_tiles) c.in_ok-build_empty.ensures.keeps (c.in_ok-build_empty.ensures.done (c.len.ensures.told ∙ told))
 
-pub returns-in_err-build_empty-clause-images : goal.returns-in_err-build_empty-clause-images
-returns-in_err-build_empty-clause-images g c = λ told.
-    let old = g.V.Volume.history c.args.vol.now in
-    let map = table_map c.args.tiles.now c.args.table.now in
-    let Pass : Disk → Type 0 = λ d. (current old).bundle.now ≡ [] → EachImage (EmptyOr map) d in
-    let start : Pass (current old) = λ is. still_good (EmptyOr map) (current old) (c.requires.idle told).quiet (c.requires.idle told).closed (inl (ap length is)) (inl (ap tiles is ∙ tiles_empty)) in
-    let measuring = stays_on Pass _ _ _ _ (started Pass old start) c.len.ensures.time (c.len.ensures.disk told) in
-    during_join Pass _ _ _ measuring (during_map _ Pass _ _ (λ d each is. each) (c.build_empty.ensures.images (c.len.ensures.told ∙ told)))
+pub returns-in_err-build_empty-clause-changes : goal.returns-in_err-build_empty-clause-changes
+returns-in_err-build_empty-clause-changes g c = record {
+  same = (cc);
+  counted = search rules;
+  during = λ told.
+      let old = g.V.Volume.history c.args.vol.now in
+      let map = table_map c.args.tiles.now c.args.table.now in
+      let Pass : Disk → Type 0 = λ d. (current old).bundle.now ≡ [] → EachImage (EmptyOr map) d in
+      let start : Pass (current old) = λ is. still_good (EmptyOr map) (current old) (c.requires.rest told).quiet (c.requires.rest told).closed (inl (ap length is)) (inl (ap tiles is ∙ tiles_empty)) in
+      let measuring = stays_on Pass _ _ _ _ (started Pass old start) c.len.ensures.time (c.len.ensures.disk told) in
+      during_join Pass _ _ _ measuring (during_map _ Pass _ _ (λ d each is. each) (c.build_empty.ensures.changes.during (c.len.ensures.told ∙ told)));
+}
 
-pub returns-then-len-ne0-clause-images : goal.returns-then-len-ne0-clause-images
-returns-then-len-ne0-clause-images g c = λ told.
-    let old = g.V.Volume.history c.args.vol.now in
-    let map = table_map c.args.tiles.now c.args.table.now in
-    let Pass : Disk → Type 0 = λ d. (current old).bundle.now ≡ [] → EachImage (EmptyOr map) d in
-    let start : Pass (current old) = λ is. still_good (EmptyOr map) (current old) (c.requires.idle told).quiet (c.requires.idle told).closed (inl (ap length is)) (inl (ap tiles is ∙ tiles_empty)) in
-    let measuring = stays_on Pass _ _ _ _ (started Pass old start) c.len.ensures.time (c.len.ensures.disk told) in
-    measuring
+pub returns-then-len-ne0-clause-changes : goal.returns-then-len-ne0-clause-changes
+returns-then-len-ne0-clause-changes g c = record {
+  same = (cc);
+  counted = search rules;
+  during = λ told.
+      let old = g.V.Volume.history c.args.vol.now in
+      let map = table_map c.args.tiles.now c.args.table.now in
+      let Pass : Disk → Type 0 = λ d. (current old).bundle.now ≡ [] → EachImage (EmptyOr map) d in
+      let start : Pass (current old) = λ is. still_good (EmptyOr map) (current old) (c.requires.rest told).quiet (c.requires.rest told).closed (inl (ap length is)) (inl (ap tiles is ∙ tiles_empty)) in
+      let measuring = stays_on Pass _ _ _ _ (started Pass old start) c.len.ensures.time (c.len.ensures.disk told) in
+      measuring;
+}
 
 pub returns-then-len-ne0-clause-kept : goal.returns-then-len-ne0-clause-kept
 returns-then-len-ne0-clause-kept g c = λ told.
@@ -78,12 +94,7 @@ returns-clause-beside g c = λ told some.
 pub returns-then-len-ne0-clause-rest : goal.returns-then-len-ne0-clause-rest
 returns-then-len-ne0-clause-rest g c = λ told.
     subst (IsAtRest c.args.front.now) (sym (c.len.ensures.disk told))
-    (record {
-      opens = c.requires.opens told;
-      keeps = c.requires.keeps told;
-      quiet = (c.requires.idle told).quiet;
-      closed = (c.requires.idle told).closed;
-    })
+    (c.requires.rest told)
 
 pub build_empty-requires-clause-empty : goal.build_empty-requires-clause-empty
 build_empty-requires-clause-empty g c = λ told_1.

@@ -16,6 +16,7 @@ loop-number-init g c =
       report = λ told. reports_none (current h).bundle.now _ refl refl refl refl;
       during = λ told. started (λ d. d ≡ current h) h refl;
       calls = omega arith;
+      needed = omega arith;
       told = refl;
       counted = refl;
     }
@@ -38,13 +39,14 @@ loop-number-preserved g c =
       report = λ told.
           let told_1 = inv.told ∙ told in
           let still = during_end (λ d. d ≡ current old) old _ (inv.during told) in
-          let entry : c.numbered-entry.result ≡ entry_at b n = c.numbered-entry.ensures.value b (c.requires.keeps told) in
-          let bad : c.in_ok-bad.bad ≡ is_bad b (entry_at b n) = c.in_ok-bad.ensures.value told_1 ∙ ap (λ (d : Disk). is_bad d.bundle.now c.numbered-entry.result) still ∙ ap (is_bad b) entry in
-          reports_more b n c.numbered-entry.result.size c.in_ok-bad.bad c.loop-number.all c.with_slot-all.result (ap (λ (x : Entry). x.size) entry) bad c.with_slot-all.ensures.next (inv.report told);
+          let entry : c.entry_of_number-entry.result ≡ entry_at b n = c.entry_of_number-entry.ensures.value b (c.requires.keeps told) in
+          let bad : c.in_ok-bad.bad ≡ is_bad b (entry_at b n) = c.in_ok-bad.ensures.value told_1 ∙ ap (λ (d : Disk). is_bad d.bundle.now c.entry_of_number-entry.result) still ∙ ap (is_bad b) entry in
+          reports_more b n c.entry_of_number-entry.result.size c.in_ok-bad.bad c.loop-number.all c.with_slot-all.result (ap (λ (x : Entry). x.size) entry) bad c.with_slot-all.ensures.next (inv.report told);
       during = λ told.
           let still = during_end (λ d. d ≡ current old) old _ (inv.during told) in
-          during_join (λ d. d ≡ current old) _ _ _ (inv.during told) (during_map _ (λ d. d ≡ current old) _ _ (λ d same. same ∙ still) (c.is_bad_entry.ensures.during (inv.told ∙ told)));
+          during_join (λ d. d ≡ current old) _ _ _ (inv.during told) (during_map _ (λ d. d ≡ current old) _ _ (λ d same. same ∙ still) (c.is_bad_entry.ensures.reads.during (inv.told ∙ told)));
       calls = omega (arith, inv.calls, c.is_bad_entry.ensures.calls);
-      told = c.is_bad_entry.ensures.told.same ∙ inv.told;
-      counted = c.in_ok-bad.ensures.told.counted ∙ inv.counted;
+      needed = omega (arith, inv.needed, c.is_bad_entry.ensures.needed, c.with_slot-all.ensures.next.tiles);
+      told = c.is_bad_entry.ensures.reads.same ∙ inv.told;
+      counted = c.in_ok-bad.ensures.reads.counted ∙ inv.counted;
     }

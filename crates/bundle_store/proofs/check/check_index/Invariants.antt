@@ -11,6 +11,7 @@ invariant-loop-number g l = record {
   report : IsTrue (g.V.Volume.told l.fn.vol) → Reports (contents Bundle (g.V.Volume.history l.fn.vol)) l.number l.all;
   during : IsTrue (g.V.Volume.told l.fn.vol) → During (λ d. d ≡ current (g.V.Volume.history l.fn.vol)) (g.V.Volume.history l.fn.vol) (g.V.Volume.history l.vol);
   calls : (g.V.Volume.history l.vol).moment ≤ (g.V.Volume.history l.fn.vol).moment + l.number;
+  needed : (g.V.Volume.history l.vol).moment ≤ (g.V.Volume.history l.fn.vol).moment + l.all.tiles;
   told : g.V.Volume.told l.vol ≡ g.V.Volume.told l.fn.vol;
   counted : g.V.Volume.faults l.vol ≡ g.V.Volume.faults l.fn.vol;
 }

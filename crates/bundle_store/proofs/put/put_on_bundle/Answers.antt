@@ -1,4 +1,4 @@
-use Rattle.std.proofs.Common.{◌≡◌, ◌⊎◌, inl, inr, ℕ, ◌+◌, ◌^◌, ◌≤◌, List, ◌++◌, length, get_or, sym, ap, ◌∙◌, subst, arith}
+use Rattle.std.proofs.Common.{◌≡◌, ◌⊎◌, inl, inr, ℕ, ◌+◌, ◌^◌, ◌≤◌, List, ◌++◌, length, get_or, sym, ap, ◌∙◌, subst, arith, rules}
 use Rattle.std.proofs.lemmas.Result.{on_ok_weaker}
 use Rattle.outside_io.specs.volume.Disk.{Disk, settled}
 use Rattle.outside_io.specs.volume.History.{During, History, current}
@@ -73,14 +73,18 @@ returns-clause-keeps g c = λ told.
     let long : 131136 ≤ length b = omega (arith, len, c.requires.least told) in
     on_ok_weaker c.commit.result (λ is. c.body_of_tiles-body.ensures.keeps b long len (c.requires.keeps told)) (c.commit.ensures.done told)
 
-pub returns-clause-images : goal.returns-clause-images
-returns-clause-images g c = λ told.
-    let old = g.V.Volume.history c.args.vol.now in
-    let b = (current old).bundle.now in
-    let us = c.args.updates.now in
-    let len = c.requires.len told in
-    let made = c.body_of_tiles-body in
-    let long : 131136 ≤ length b = omega (arith, len, c.requires.least told) in
-    let keeps = made.ensures.keeps b long len (c.requires.keeps told) in
-    let put = laid b us c.args.len made.new.front made.result len long made.ensures.tiles keeps made.ensures.body in
-    images b (with_body made.result (b ++ group_records us)) us old _ put made.ensures.tiles (omega (arith, len, c.requires.room)) (c.commit.ensures.images told)
+pub returns-clause-changes : goal.returns-clause-changes
+returns-clause-changes g c = record {
+  same = (cc);
+  counted = search rules;
+  during = λ told.
+      let old = g.V.Volume.history c.args.vol.now in
+      let b = (current old).bundle.now in
+      let us = c.args.updates.now in
+      let len = c.requires.len told in
+      let made = c.body_of_tiles-body in
+      let long : 131136 ≤ length b = omega (arith, len, c.requires.least told) in
+      let keeps = made.ensures.keeps b long len (c.requires.keeps told) in
+      let put = laid b us c.args.len made.new.front made.result len long made.ensures.tiles keeps made.ensures.body in
+      images b (with_body made.result (b ++ group_records us)) us old _ put made.ensures.tiles (omega (arith, len, c.requires.room)) (c.commit.ensures.changes.during told);
+}

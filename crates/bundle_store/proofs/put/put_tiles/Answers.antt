@@ -1,4 +1,4 @@
-use Rattle.std.proofs.Common.{◌≡◌, ◌≢◌, inl, inr, refl, ℕ, ◌+◌, ◌^◌, ◌≤◌, List, Result, length, sym, ap, ◌∙◌, subst, arith}
+use Rattle.std.proofs.Common.{◌≡◌, ◌≢◌, inl, inr, refl, ℕ, ◌+◌, ◌^◌, ◌≤◌, List, Result, length, sym, ap, ◌∙◌, subst, arith, rules}
 use Rattle.outside_io.specs.volume.Disk.{Disk, IsQuiet}
 use Rattle.outside_io.specs.volume.History.{During, History, Ticks, current}
 use Rattle.side_journal.specs.Says.{IsOpen}
@@ -57,33 +57,53 @@ put_more us old next last r quiet closed tick same more during =
       | inr is ↦ subst (λ (b : List ℕ). Either b d) bundle (each (subst IsBundle (sym bundle) is))
     ]) during)
 
-pub returns-in_err-len-clause-images : goal.returns-in_err-len-clause-images
-returns-in_err-len-clause-images g c = λ told.
-    measured c.args.updates.now _ _ _ (c.requires.idle told).quiet (c.requires.idle told).closed c.len.ensures.time (c.len.ensures.disk told)
+pub returns-in_err-len-clause-changes : goal.returns-in_err-len-clause-changes
+returns-in_err-len-clause-changes g c = record {
+  same = (cc);
+  counted = search rules;
+  during = λ told.
+      measured c.args.updates.now _ _ _ (c.requires.rest told).quiet (c.requires.rest told).closed c.len.ensures.time (c.len.ensures.disk told);
+}
 
-pub returns-in_err-put_on_nothing-clause-images : goal.returns-in_err-put_on_nothing-clause-images
-returns-in_err-put_on_nothing-clause-images g c = λ told.
-    put_first c.args.updates.now _ _ _ _ (c.requires.idle told).quiet (c.requires.idle told).closed c.len.ensures.time (c.len.ensures.disk told)
-    (omega (arith, c.in_ok-len.ensures.answer told)) (c.put_on_nothing.ensures.images (c.len.ensures.told ∙ told))
+pub returns-in_err-put_on_nothing-clause-changes : goal.returns-in_err-put_on_nothing-clause-changes
+returns-in_err-put_on_nothing-clause-changes g c = record {
+  same = (cc);
+  counted = search rules;
+  during = λ told.
+      put_first c.args.updates.now _ _ _ _ (c.requires.rest told).quiet (c.requires.rest told).closed c.len.ensures.time (c.len.ensures.disk told)
+      (omega (arith, c.in_ok-len.ensures.answer told)) (c.put_on_nothing.ensures.changes.during (c.len.ensures.told ∙ told));
+}
 
-pub returns-in_ok-put_on_nothing-clause-images : goal.returns-in_ok-put_on_nothing-clause-images
-returns-in_ok-put_on_nothing-clause-images g c = λ told.
-    put_first c.args.updates.now _ _ _ _ (c.requires.idle told).quiet (c.requires.idle told).closed c.len.ensures.time (c.len.ensures.disk told)
-    (omega (arith, c.in_ok-len.ensures.answer told)) (c.put_on_nothing.ensures.images (c.len.ensures.told ∙ told))
+pub returns-in_ok-put_on_nothing-clause-changes : goal.returns-in_ok-put_on_nothing-clause-changes
+returns-in_ok-put_on_nothing-clause-changes g c = record {
+  same = (cc);
+  counted = search rules;
+  during = λ told.
+      put_first c.args.updates.now _ _ _ _ (c.requires.rest told).quiet (c.requires.rest told).closed c.len.ensures.time (c.len.ensures.disk told)
+      (omega (arith, c.in_ok-len.ensures.answer told)) (c.put_on_nothing.ensures.changes.during (c.len.ensures.told ∙ told));
+}
 
-pub returns-in_err-put_on_bundle-clause-images : goal.returns-in_err-put_on_bundle-clause-images
-returns-in_err-put_on_bundle-clause-images g c = λ told.
-    put_more c.args.updates.now _ _ _ _ (c.requires.idle told).quiet (c.requires.idle told).closed
-    c.len.ensures.time (c.len.ensures.disk told)
-    (λ zero. c.if-len-eq0.false (c.in_ok-len.ensures.answer told ∙ zero))
-    (c.put_on_bundle.ensures.images (c.len.ensures.told ∙ told))
+pub returns-in_err-put_on_bundle-clause-changes : goal.returns-in_err-put_on_bundle-clause-changes
+returns-in_err-put_on_bundle-clause-changes g c = record {
+  same = (cc);
+  counted = search rules;
+  during = λ told.
+      put_more c.args.updates.now _ _ _ _ (c.requires.rest told).quiet (c.requires.rest told).closed
+      c.len.ensures.time (c.len.ensures.disk told)
+      (λ zero. c.if-len-eq0.false (c.in_ok-len.ensures.answer told ∙ zero))
+      (c.put_on_bundle.ensures.changes.during (c.len.ensures.told ∙ told));
+}
 
-pub returns-in_ok-put_on_bundle-clause-images : goal.returns-in_ok-put_on_bundle-clause-images
-returns-in_ok-put_on_bundle-clause-images g c = λ told.
-    put_more c.args.updates.now _ _ _ _ (c.requires.idle told).quiet (c.requires.idle told).closed
-    c.len.ensures.time (c.len.ensures.disk told)
-    (λ zero. c.if-len-eq0.false (c.in_ok-len.ensures.answer told ∙ zero))
-    (c.put_on_bundle.ensures.images (c.len.ensures.told ∙ told))
+pub returns-in_ok-put_on_bundle-clause-changes : goal.returns-in_ok-put_on_bundle-clause-changes
+returns-in_ok-put_on_bundle-clause-changes g c = record {
+  same = (cc);
+  counted = search rules;
+  during = λ told.
+      put_more c.args.updates.now _ _ _ _ (c.requires.rest told).quiet (c.requires.rest told).closed
+      c.len.ensures.time (c.len.ensures.disk told)
+      (λ zero. c.if-len-eq0.false (c.in_ok-len.ensures.answer told ∙ zero))
+      (c.put_on_bundle.ensures.changes.during (c.len.ensures.told ∙ told));
+}
 
 pub put_on_nothing-requires-clause-empty : goal.put_on_nothing-requires-clause-empty
 put_on_nothing-requires-clause-empty g c = λ told_1.
@@ -94,7 +114,7 @@ put_on_nothing-requires-clause-empty g c = λ told_1.
 pub put_on_bundle-requires-clause-keeps : goal.put_on_bundle-requires-clause-keeps
 put_on_bundle-requires-clause-keeps g c = λ told_1.
     let told = sym c.len.ensures.told ∙ told_1 in
-    subst (λ (d : Disk). Keeps c.args.front.now d.bundle.now) (sym (c.len.ensures.disk told)) (c.requires.keeps told)
+    subst (λ (d : Disk). Keeps c.args.front.now d.bundle.now) (sym (c.len.ensures.disk told)) (c.requires.rest told).keeps
 
 -- a bundle that is not empty and opens has its index
 index_of_opens : (b : List ℕ) → Opens b → length b ≢ 0 → HasIndex b
@@ -116,7 +136,7 @@ returns-in_ok-put_on_bundle-clause-done g c = λ told.
     let b = (current (g.V.Volume.history c.args.vol.now)).bundle.now in
     let us = c.args.updates.now in
     let more : length b ≢ 0 = λ zero. c.if-len-eq0.false (c.in_ok-len.ensures.answer told ∙ zero) in
-    let index = index_of_opens b (c.requires.opens told) more in
+    let index = index_of_opens b (c.requires.rest told).opens more in
     let still = ap (λ (d : Disk). bundle_with_tiles d.bundle.now us) (c.len.ensures.disk told) in
     subst (λ (l : List ℕ). HoldsClosed l (current (g.V.Volume.history c.put_on_bundle.new.vol))) (still ∙ sym (puts_on b us index.long c.put_on_bundle.ensures.tiles))
     (c.in_ok-put_on_bundle.ensures.done (c.len.ensures.told ∙ told))
@@ -133,7 +153,7 @@ pub returns-in_ok-put_on_bundle-clause-rest : goal.returns-in_ok-put_on_bundle-c
 returns-in_ok-put_on_bundle-clause-rest g c = λ told.
     let us = c.args.updates.now in
     let next = current (g.V.Volume.history c.len.new.self) in
-    let opens : Opens next.bundle.now = subst (λ (d : Disk). Opens d.bundle.now) (sym (c.len.ensures.disk told)) (c.requires.opens told) in
+    let opens : Opens next.bundle.now = subst (λ (d : Disk). Opens d.bundle.now) (sym (c.len.ensures.disk told)) (c.requires.rest told).opens in
     let size : length next.bundle.now ≡ c.in_ok-len.len = ap (λ (d : Disk). length d.bundle.now) (c.len.ensures.disk told) ∙ sym (c.in_ok-len.ensures.answer told) in
     let index = index_of_opens next.bundle.now opens (λ zero. c.if-len-eq0.false (sym size ∙ zero)) in
     let room : length next.bundle.now + length (group_records us) ≤ 2 ^ 40 = omega (arith, size, c.in_ok-room_for.ensures.room) in
@@ -141,6 +161,10 @@ returns-in_ok-put_on_bundle-clause-rest g c = λ told.
     (inr (puts_index us next.bundle.now index c.put_on_bundle.ensures.tiles (room_all us (length next.bundle.now) room)))
     (c.in_ok-put_on_bundle.ensures.keeps (c.len.ensures.told ∙ told)) (c.in_ok-put_on_bundle.ensures.done (c.len.ensures.told ∙ told))
 
-pub returns-in_err-room_for-clause-images : goal.returns-in_err-room_for-clause-images
-returns-in_err-room_for-clause-images g c = λ told.
-    measured c.args.updates.now _ _ _ (c.requires.idle told).quiet (c.requires.idle told).closed c.len.ensures.time (c.len.ensures.disk told)
+pub returns-in_err-room_for-clause-changes : goal.returns-in_err-room_for-clause-changes
+returns-in_err-room_for-clause-changes g c = record {
+  same = (cc);
+  counted = search rules;
+  during = λ told.
+      measured c.args.updates.now _ _ _ (c.requires.rest told).quiet (c.requires.rest told).closed c.len.ensures.time (c.len.ensures.disk told);
+}

@@ -1,55 +1,71 @@
-use Rattle.std.proofs.Common.{◌≡◌, ◌∷◌, ◌≤◌, drop, length, ap, ◌∙◌, arith}
+use Rattle.std.proofs.Common.{◌≡◌, ◌∷◌, ◌≤◌, drop, length, ap, ◌∙◌, arith, rules}
+use Rattle.std.specs.Prelude.{IsTrue}
 use Rattle.outside_io.specs.volume.Disk.{Disk, settled}
 use Rattle.outside_io.specs.volume.History.{current}
 use Rattle.bundle_store.specs.GroupPuts.{with_entries}
 use Rattle.bundle_store.specs.LaidOver.{size_in}
+use Rattle.bundle_store.specs.Recover.{AppliesTo}
 use Rattle.bundle_store.proofs.GroupStanding.{lays_body, lays_tiles}
 use Rattle.bundle_store.proofs.Midway.{midway_measuring, midway_putting}
 use Rattle.bundle_store.proofs.Recovering.{keeps_measuring, keeps_putting, recovered_group}
 use Rattle.bundle_store.proofs.recovery.finish_group.Goals as goal
 
-pub returns-in_err-len-clause-images : goal.returns-in_err-len-clause-images
-returns-in_err-len-clause-images g c = λ told.
-    keeps_measuring _ _ _ (c.requires.quiet told) c.len.ensures.time (c.len.ensures.disk told)
+pub returns-in_err-len-clause-changes : goal.returns-in_err-len-clause-changes
+returns-in_err-len-clause-changes g c = record {
+  same = (cc);
+  counted = search rules;
+  during = λ told.
+      keeps_measuring _ _ _ (c.requires.quiet told) c.len.ensures.time (c.len.ensures.disk told);
+}
 
-pub returns-in_err-redo-clause-images : goal.returns-in_err-redo-clause-images
-returns-in_err-redo-clause-images g c = λ told.
-    keeps_putting c.args.group.now c.args.header.now c.args.size c.args.place _ _ _ _ (c.requires.quiet told) (c.requires.opened told) (c.requires.says told)
-    c.len.ensures.time (c.len.ensures.disk told) (c.redo.ensures.images (c.len.ensures.told ∙ told))
+pub returns-in_err-redo-clause-changes : goal.returns-in_err-redo-clause-changes
+returns-in_err-redo-clause-changes g c = record {
+  same = (cc);
+  counted = search rules;
+  during = λ told.
+      keeps_putting c.args.group.now c.args.header.now c.args.size c.args.place _ _ _ _ (c.requires.quiet told) (c.requires.opened told) (c.requires.says told)
+      c.len.ensures.time (c.len.ensures.disk told) (c.redo.ensures.changes.during (c.len.ensures.told ∙ told));
+}
 
-pub returns-clause-images : goal.returns-clause-images
-returns-clause-images g c = λ told.
-    keeps_putting c.args.group.now c.args.header.now c.args.size c.args.place _ _ _ _ (c.requires.quiet told) (c.requires.opened told) (c.requires.says told)
-    c.len.ensures.time (c.len.ensures.disk told) (c.redo.ensures.images (c.len.ensures.told ∙ told))
+pub returns-clause-changes : goal.returns-clause-changes
+returns-clause-changes g c = record {
+  same = (cc);
+  counted = search rules;
+  during = λ told.
+      keeps_putting c.args.group.now c.args.header.now c.args.size c.args.place _ _ _ _ (c.requires.quiet told) (c.requires.opened told) (c.requires.says told)
+      c.len.ensures.time (c.len.ensures.disk told) (c.redo.ensures.changes.during (c.len.ensures.told ∙ told));
+}
 
-pub returns-clause-done : goal.returns-clause-done
-returns-clause-done g c = λ told.
+pub returns-clause-finishes : goal.returns-clause-finishes
+returns-clause-finishes g c =
     let old = g.V.Volume.history c.args.vol.now in
     let b = (current old).bundle.now in
     let j = (current old).journal.now in
     let next = g.V.Volume.history c.len.new.self in
-    let still : current next ≡ current old = c.len.ensures.disk told in
-    let told_1 = c.len.ensures.told ∙ told in
     let over = with_entries c.args.header.now c.args.group.now in
-    let bundle : (current next).bundle.now ≡ b = ap (λ (d : Disk). d.bundle.now) still in
-    let journal : (current next).journal.now ≡ j = ap (λ (d : Disk). d.journal.now) still in
-    let done = c.in_ok-redo.ensures.done told_1 in
-    recovered_group b j c.args.group.now c.args.header.now c.args.size c.args.place (current (g.V.Volume.history c.redo.new.vol)) (c.requires.opened told) (c.requires.says told)
-    (done ∙ (λ i. let x : Disk = record { bundle = settled (over (bundle i)); journal = settled (0 ∷ drop 1 (journal i)) } in x))
-
-pub returns-clause-leaves : goal.returns-clause-leaves
-returns-clause-leaves g c = λ told.
-    let old = g.V.Volume.history c.args.vol.now in
-    let b = (current old).bundle.now in
-    let next = g.V.Volume.history c.len.new.self in
-    let over = with_entries c.args.header.now c.args.group.now in
-    let bundle : (current next).bundle.now ≡ b = ap (λ (d : Disk). d.bundle.now) (c.len.ensures.disk told) in
-    let done = c.in_ok-redo.ensures.done (c.len.ensures.told ∙ told) in
+    let applies = λ (told : IsTrue (g.V.Volume.told c.args.vol.now)).
     let these = c.requires.says told in
-    let within : size_in these.body ≤ length b = omega (arith, c.if-branch-size.false, c.in_ok-len.ensures.answer told, these.size_is) in (
-      record { opened = c.requires.opened told; body = these.body; says = these.says; tiles = lays_tiles these.body c.args.group.now c.args.header.now these.lays; within = within },
-      ap (λ (d : Disk). d.bundle.now) done ∙ ap over bundle ∙ lays_body b these.body c.args.group.now c.args.header.now these.lays,
-    )
+    let within : size_in these.body ≤ length b = omega (arith, c.if-branch-size.false, c.in_ok-len.ensures.answer told, these.size_is) in
+    let applies : AppliesTo b j = record { opened = c.requires.opened told; body = these.body; says = these.says; tiles = lays_tiles these.body c.args.group.now c.args.header.now these.lays; within = within } in
+    applies in
+    record {
+      says = applies;
+      done = λ told.
+          let still : current next ≡ current old = c.len.ensures.disk told in
+          let told_1 = c.len.ensures.told ∙ told in
+          let bundle : (current next).bundle.now ≡ b = ap (λ (d : Disk). d.bundle.now) still in
+          let journal : (current next).journal.now ≡ j = ap (λ (d : Disk). d.journal.now) still in
+          let done = c.in_ok-redo.ensures.done told_1 in
+          recovered_group b j c.args.group.now c.args.header.now c.args.size c.args.place (current (g.V.Volume.history c.redo.new.vol)) (c.requires.opened told) (c.requires.says told)
+          (done ∙ (λ i. let x : Disk = record { bundle = settled (over (bundle i)); journal = settled (0 ∷ drop 1 (journal i)) } in x));
+      leaves = λ told.
+          let these = c.requires.says told in
+          let bundle : (current next).bundle.now ≡ b = ap (λ (d : Disk). d.bundle.now) (c.len.ensures.disk told) in
+          let done = c.in_ok-redo.ensures.done (c.len.ensures.told ∙ told) in
+          (applies told, ap (λ (d : Disk). d.bundle.now) done ∙ ap over bundle ∙ lays_body b these.body c.args.group.now c.args.header.now these.lays);
+      refused = λ told. tt;
+      answers = tt;
+    }
 
 pub returns-in_err-len-clause-bytes : goal.returns-in_err-len-clause-bytes
 returns-in_err-len-clause-bytes g c = λ told.

@@ -17,7 +17,7 @@ loop-slot-preserved c =
         few = omega (arith, w.count-is, c.loop-slot.invariant.few);
       }
       | else-len_at-gt0 w ↦ record {
-        count = omega (arith, w.count-is, c.loop-slot.invariant.count, filled_same map n c.requires.tiles (omega (arith, c.len_at.ensures, w.if-len_at-gt0)));
+        count = omega (arith, w.count-is, c.loop-slot.invariant.count, filled_same map n c.requires.table.are_tiles (omega (arith, c.len_at.ensures, w.if-len_at-gt0)));
         few = omega (arith, w.count-is, c.loop-slot.invariant.few);
       }
     ]

@@ -20,12 +20,12 @@ loop-i-init c =
     }
 
 pub entry_for-requires-clause-room : goal.entry_for-requires-clause-room
-entry_for-requires-clause-room c = omega (arith, c.loop-i.invariant.end, length-records (table_map c.args.tiles.now c.args.table.now) c.loop-i.i c.requires.tiles)
+entry_for-requires-clause-room c = omega (arith, c.loop-i.invariant.end, length-records (table_map c.args.tiles.now c.args.table.now) c.loop-i.i c.requires.table.are_tiles)
 
 pub loop-i-preserved : goal.loop-i-preserved
 loop-i-preserved c =
     let map = table_map c.args.tiles.now c.args.table.now in
-    let are = c.requires.tiles in
+    let are = c.requires.table.are_tiles in
     let i = c.loop-i.i in
     let inv = c.loop-i.invariant in
     let room = length c.loop-i.index in

@@ -15,4 +15,4 @@ returns-then-is_full g c =
     let r = g.V.View.pixels c.args.raster.now in
     let full = c.is_full.ensures.full.0 c.if-is_full.true in
     let w = c.write_full.ensures in
-    one_whole r c.is_full.ensures.sound c.args.d (0 + length c.args.out.now) c.write_full.new.out (omega (arith, full, c.requires.count)) w.symbols (w.room ∙ c.requires.count)
+    one_whole r c.is_full.ensures.sound c.args.d (0 + length c.args.out.now) c.write_full.new.out (omega (arith, full, c.requires.count)) w.symbols (c.write_full.auto.out ∙ c.requires.count)

@@ -24,5 +24,5 @@ returns g c =
     let w = c.write_marked.ensures in
     let none : c.start.result.count ≡ 0 = c.start.ensures.count in
     filled_whole r c.kind-kind.ensures.sound c.args.plane.now.d (0 + c.write_marked.result.1) (c.write_marked.result.0.count - c.start.result.count) c.write_marked.new.out w.within w.symbols
-    (omega (arith, w.few, none, w.room)) (w.room ∙ c.requires.count)
-    (subst (λ m. IsFilled (r.rows * r.cols) (0 + c.write_marked.result.1) 1 (c.write_marked.result.0.count - c.start.result.count) m) (sym w.room) w.full)
+    (omega (arith, w.few, none, c.write_marked.auto.out)) (c.write_marked.auto.out ∙ c.requires.count)
+    (subst (λ m. IsFilled (r.rows * r.cols) (0 + c.write_marked.result.1) 1 (c.write_marked.result.0.count - c.start.result.count) m) (sym c.write_marked.auto.out) w.full)

@@ -19,7 +19,7 @@ loop-at-init c = record {
 pub first_of_row-requires-clause-size : goal.first_of_row-requires-clause-size
 first_of_row-requires-clause-size c =
     let test = c.loop-at-test.true in
-    row_there (c.args.place + length c.args.out.now) c.args.depth (c.args.place + c.loop-at.at) (length c.args.cells.now) (omega (arith, test, c.loop-at.invariant.room)) c.requires.size
+    row_there (c.args.place + length c.args.out.now) c.args.depth (c.args.place + c.loop-at.at) (length c.args.cells.now) (omega (arith, test, c.loop-at.invariant.room)) c.requires.cells.size
 
 pub loop-at-preserved : goal.loop-at-preserved
 loop-at-preserved c =

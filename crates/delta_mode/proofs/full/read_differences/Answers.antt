@@ -5,9 +5,9 @@ use Rattle.delta_mode.proofs.full.read_differences.Goals as goal
 pub cell_of-before-requires : goal.cell_of-before-requires
 cell_of-before-requires c =
     let test = c.loop-i-test.true in
-    cell_there (c.args.place + length c.args.out.now) c.args.depth c.args.d (c.args.place + c.loop-i.i - 1) (length c.args.cells.now) c.requires.depth (omega (arith, test, c.loop-i.invariant.room)) c.requires.size
+    cell_there (c.args.place + length c.args.out.now) c.args.depth c.args.d (c.args.place + c.loop-i.i - 1) (length c.args.cells.now) c.requires.cells.below (omega (arith, test, c.loop-i.invariant.room)) c.requires.cells.size
 
 pub cell_of-requires : goal.cell_of-requires
 cell_of-requires c =
     let test = c.loop-i-test.true in
-    cell_there (c.args.place + length c.args.out.now) c.args.depth c.args.d (c.args.place + c.loop-i.i) (length c.args.cells.now) c.requires.depth (omega (arith, test, c.loop-i.invariant.room)) c.requires.size
+    cell_there (c.args.place + length c.args.out.now) c.args.depth c.args.d (c.args.place + c.loop-i.i) (length c.args.cells.now) c.requires.cells.below (omega (arith, test, c.loop-i.invariant.room)) c.requires.cells.size

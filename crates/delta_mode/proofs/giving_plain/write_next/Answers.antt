@@ -34,7 +34,7 @@ write_plain-valid-requires-clause-within g c =
     let r = g.V.View.pixels c.args.raster.now in
     let size : c.rows.result * c.cols.result ≡ r.rows * r.cols = λ i. c.rows.ensures.value i * c.cols.ensures.value i in
     let least = c.min-count.ensures in
-    let place = c.requires.way.place in
+    let place = c.requires.state.place in
     omega (arith, least, size, place)
 
 pub write_plain-valid-requires-clause-room : goal.write_plain-valid-requires-clause-room
@@ -46,16 +46,16 @@ write_plain-valid-requires-clause-room g c =
     let room = fits (length c.args.out.now) c.depth-depth.result c.min-count.result deep (omega (arith, least, inner)) in
     subst (λ k. c.min-count.result * k ≤ length c.args.out.now) c.depth-depth.ensures.value room
 
-pub returns-clause-way : goal.returns-clause-way
-returns-clause-way g c =
+pub returns-clause-state : goal.returns-clause-state
+returns-clause-state g c =
     let r = g.V.View.pixels c.args.raster.now in
     let size : c.rows.result * c.cols.result ≡ r.rows * r.cols = λ i. c.rows.ensures.value i * c.cols.ensures.value i in
     let n = c.min-count.result in
     let least = c.min-count.ensures in
-    let place = c.requires.way.place in
+    let place = c.requires.state.place in
     let w = c.write_plain-valid in
-    let given : c.args.way.given + w.result * c.depth-depth.result ≡ c.args.way.given + w.result * r.depth = ap (λ k. c.args.way.given + w.result * k) c.depth-depth.ensures.value in
-    plain_next r c.args.way _ n w.result c.requires.way (omega (arith, least, size, place)) w.ensures.count refl given
+    let given : c.args.state.given + w.result * c.depth-depth.result ≡ c.args.state.given + w.result * r.depth = ap (λ k. c.args.state.given + w.result * k) c.depth-depth.ensures.value in
+    plain_next r c.args.state _ n w.result c.requires.state (omega (arith, least, size, place)) w.ensures.count refl given
 
 pub returns-clause-few : goal.returns-clause-few
 returns-clause-few g c =
@@ -72,10 +72,10 @@ returns-clause-symbols g c =
     let size : c.rows.result * c.cols.result ≡ r.rows * r.cols = λ i. c.rows.ensures.value i * c.cols.ensures.value i in
     let n = c.min-count.result in
     let least = c.min-count.ensures in
-    let place = c.requires.way.place in
+    let place = c.requires.state.place in
     let w = c.write_plain-valid in
-    let given : c.args.way.given + w.result * c.depth-depth.result ≡ c.args.way.given + w.result * r.depth = ap (λ k. c.args.way.given + w.result * k) c.depth-depth.ensures.value in
-    plain_symbols r c.rows.ensures.sound c.args.way (record { place = c.args.way.place + n; given = c.args.way.given + w.result * c.depth-depth.result }) n w.result w.new.out c.requires.way
+    let given : c.args.state.given + w.result * c.depth-depth.result ≡ c.args.state.given + w.result * r.depth = ap (λ k. c.args.state.given + w.result * k) c.depth-depth.ensures.value in
+    plain_symbols r c.rows.ensures.sound c.args.state (record { place = c.args.state.place + n; given = c.args.state.given + w.result * c.depth-depth.result }) n w.result w.new.out c.requires.state
     (omega (arith, least, size, place)) w.ensures.count w.ensures.symbols given
 
 pub returns-clause-later : goal.returns-clause-later
@@ -96,15 +96,15 @@ overflow_add-result-2 g c =
     let size : c.rows.result * c.cols.result ≡ r.rows * r.cols = λ i. c.rows.ensures.value i * c.cols.ensures.value i in
     let n = c.min-count.result in
     let least = c.min-count.ensures in
-    let place = c.requires.way.place in
+    let place = c.requires.state.place in
     let w = c.write_plain-valid in
     let rank_is = w.ensures.count in
-    let given : c.args.way.given + w.result * c.depth-depth.result ≡ c.args.way.given + w.result * r.depth = ap (λ k. c.args.way.given + w.result * k) c.depth-depth.ensures.value in
-    let open_ : (rank (is_valid r) c.args.way.place + w.result) * r.depth ≡ rank (is_valid r) c.args.way.place * r.depth + w.result * r.depth = omega arith in
-    let grows = rank_grows (is_valid r) (c.args.way.place + n) (r.rows * r.cols) (omega (arith, least, size, place)) in
+    let given : c.args.state.given + w.result * c.depth-depth.result ≡ c.args.state.given + w.result * r.depth = ap (λ k. c.args.state.given + w.result * k) c.depth-depth.ensures.value in
+    let open_ : (rank (is_valid r) c.args.state.place + w.result) * r.depth ≡ rank (is_valid r) c.args.state.place * r.depth + w.result * r.depth = omega arith in
+    let grows = rank_grows (is_valid r) (c.args.state.place + n) (r.rows * r.cols) (omega (arith, least, size, place)) in
     let all = rank_all r sound in
-    let up : (rank (is_valid r) c.args.way.place + w.result) * r.depth ≤ valid_count r * r.depth = mul-le-mul_right r.depth (omega (arith, grows, all, rank_is)) in
+    let up : (rank (is_valid r) c.args.state.place + w.result) * r.depth ≤ valid_count r * r.depth = mul-le-mul_right r.depth (omega (arith, grows, all, rank_is)) in
     let most = all_few r sound in
-    let before = c.requires.way.given in
-    let small : c.args.way.given + w.result * c.depth-depth.result ≤ 16777216 = omega (arith, given, before, open_, up, most) in
+    let before = c.requires.state.given in
+    let small : c.args.state.given + w.result * c.depth-depth.result ≤ 16777216 = omega (arith, given, before, open_, up, most) in
     search rules

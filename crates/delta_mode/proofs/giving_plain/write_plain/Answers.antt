@@ -3,7 +3,7 @@ use Rattle.std.proofs.lemmas.List.{take_at}
 use Rattle.std.proofs.Math.Nat.{mul-le-mul_right}
 use Rattle.raster_values.specs.Flat.{value_in}
 use Rattle.delta_mode.specs.Deltas.{is_valid}
-use Rattle.delta_mode.specs.PlainWays.{plain_before}
+use Rattle.delta_mode.specs.PlainStates.{plain_before}
 use Rattle.delta_mode.specs.inside.Pieces.{rank}
 use Rattle.delta_mode.proofs.Bytewise.{rank_most}
 use Rattle.delta_mode.proofs.Gathered.{distance_at, distances, distances_small, many, numbers_long, own_symbol, rank_more}

@@ -4,7 +4,7 @@ use Rattle.raster_cells.specs.Distance.{value_above}
 use Rattle.raster_cells.proofs.Distances.{sum_is, value_back}
 use Rattle.delta_mode.specs.Symbols.{bias}
 use Rattle.delta_mode.specs.Deltas.{has_left, is_valid}
-use Rattle.delta_mode.specs.Ways.{deltas_before}
+use Rattle.delta_mode.specs.EncodeStates.{deltas_before}
 use Rattle.delta_mode.proofs.Bytewise.{rank_most}
 use Rattle.delta_mode.proofs.FullPieces.{pixels_few}
 use Rattle.delta_mode.proofs.InPieces.{kept_left}
@@ -33,7 +33,7 @@ write_starts-requires-clause-symbols g c =
     c.left_in.ensures ∙ ap (λ q. nat_lt 0 q && c.args.walk.left) c.requires.col ∙ kept_left r.cols place (is_valid r) c.args.walk.left sound.shape.cols_above c.requires.at.left_is in
     let across : place % r.cols + n ≤ r.cols = omega (arith, c.requires.across, c.requires.col) in
     in_order r c.args.plane.now.d place n c.from-bias.result c.starts-starts.result c.gather-valid.result c.gather-valid.new.distances c.differences.new.out sound c.args.plane.now.byte c.gather-valid.ensures.last
-    (c.from-bias.ensures ∙ c.added.ensures ∙ ap bias c.kind-kind.ensures.value) c.gather-valid.ensures.count
+    (c.from-bias.ensures ∙ c.bias_of.ensures ∙ ap bias c.kind-kind.ensures.value) c.gather-valid.ensures.count
     (λ i lt on off. sym (marks_left r place n c.mark_word-marks.result i c.left_in.result sound across left marks lt)
     ∙ c.starts-starts.ensures.off i lt (word_marks r place n c.mark_word-marks.result marks i lt ∙ on) off)
     c.differences.ensures.symbols
@@ -69,5 +69,5 @@ returns-clause-symbols g c =
     let r = g.V.View.pixels c.args.plane.now.raster.now in
     let out = c.write_starts.new.out in
     let all : c.gather-valid.result ≡ c.args.walk.count + c.gather-valid.result - c.args.walk.count = omega arith in
-    piece_symbols r c.args.plane.now.d c.args.place c.args.count c.gather-valid.result out c.gather-valid.ensures.count (omega (arith, c.gather-valid.ensures.few, c.requires.room, c.write_starts.ensures.room, c.differences.ensures.room)) c.write_starts.ensures.symbols
+    piece_symbols r c.args.plane.now.d c.args.place c.args.count c.gather-valid.result out c.gather-valid.ensures.count (omega (arith, c.gather-valid.ensures.few, c.requires.room, c.write_starts.auto.out, c.differences.auto.out)) c.write_starts.ensures.symbols
     ∙ ap (λ j. deltas_before r c.args.plane.now.d c.args.place ++ take j out) all

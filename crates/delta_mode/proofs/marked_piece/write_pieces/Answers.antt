@@ -1,7 +1,7 @@
 use Rattle.std.proofs.Common.{◌≡◌, ◌+◌, ◌-◌, ◌%◌, ◌*◌, ◌<◌, ◌≤◌, ◌++◌, length, take, drop, refl, ap, sym, ◌∙◌, subst, arith}
 use Rattle.std.proofs.lemmas.List.{append-nil, length-append, length-drop, length-take-le}
 use borrow.Rule.Slice.PartMut.{post_of, put_mid}
-use Rattle.delta_mode.specs.Ways.{deltas_before}
+use Rattle.delta_mode.specs.EncodeStates.{deltas_before}
 use Rattle.delta_mode.proofs.FullPieces.{symbols_more}
 use Rattle.delta_mode.proofs.WholeDepth.{piece_within}
 use Rattle.delta_mode.proofs.marked_piece.write_pieces.Goals as goal
@@ -50,7 +50,7 @@ loop-at-preserved g c =
       few = omega (arith, w.few, inv.counted, inv.few);
       fits = omega (arith, w.few, inv.counted, sum, front, same, rest, least, few);
       room = omega (arith, sum, front, same, rest, inv.fits, inv.room);
-      distances = w.distances ∙ inv.distances;
+      distances = c.write_piece-behind.auto.distances ∙ inv.distances;
       symbols = symbols_more r c.args.plane.now.d c.args.place at n filled (walk.count - c.loop-at.behind.count) old piece (post_of filled (length old - filled) old) inv.fits
           (omega (arith, w.few, same, rest, least, few)) inv.symbols next
           ∙ ap (λ m. deltas_before r c.args.plane.now.d c.args.place ++ take m (put_mid filled (length old - filled) old piece)) more;

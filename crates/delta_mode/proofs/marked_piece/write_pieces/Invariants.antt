@@ -1,7 +1,7 @@
 use Rattle.std.proofs.Common.{◌≡◌, ◌≤◌, ◌+◌, ◌-◌, ◌*◌, ◌++◌, length, take}
 use Rattle.raster_values.specs.Flat.{value_in}
 use Rattle.delta_mode.specs.Deltas.{is_valid}
-use Rattle.delta_mode.specs.Ways.{deltas_before}
+use Rattle.delta_mode.specs.EncodeStates.{deltas_before}
 use Rattle.delta_mode.specs.inside.Pieces.{IsAt}
 use Rattle.delta_mode.proofs.marked_piece.write_pieces.Given as goal
 

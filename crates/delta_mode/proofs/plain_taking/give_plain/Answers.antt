@@ -34,7 +34,7 @@ loop-d-preserved g c =
     let values = c.spread.new.out in
     let d = c.loop-d.d in
     let deep : d < r.depth = omega (arith, c.loop-d-test.true, c.depth-depth.ensures.value) in
-    let long : length values ≡ length marks = c.spread.ensures.room ∙ inv.room in
+    let long : length values ≡ length marks = c.spread.auto.out ∙ inv.room in
     let found : (i : ℕ) → i < length marks → mark_at marks i ≡ true → symbol_of r.kind (value_of_place values i) ≡ get_or symbols (rank (mark_at marks) i * r.depth + d) 0 =
     λ (i : ℕ) (lt : i < length marks) (on : mark_at marks i ≡ true).
     ap (λ (kind : PixelType). symbol_of kind (value_of_place values i)) (sym c.kind-kind.ensures.value) ∙ c.spread.ensures.symbols i lt on

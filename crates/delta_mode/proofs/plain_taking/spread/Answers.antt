@@ -32,10 +32,10 @@ loop-i-preserved c =
     let g = λ (k : ℕ). get_or c.args.symbols.now (rank mark k * depth + d) 0 in
     elim c.if-marks-i.branch [
       | then-marks-i w ↦
-          let v = w.lowered.result in
-          let fits = byte_fits kind _ v c.requires.kind w.lowered.ensures.byte (w.lowered.ensures.value ∙ ap (λ (m : ℕ). pos (get_or c.args.symbols.now c.loop-i.at 0) -ℤ pos m) c.added-added.ensures) in
+          let v = w.value_above_least.result in
+          let fits = byte_fits kind _ v c.requires.kind w.value_above_least.ensures.byte (w.value_above_least.ensures.value ∙ ap (λ (m : ℕ). pos (get_or c.args.symbols.now c.loop-i.at 0) -ℤ pos m) c.bias_of-added.ensures) in
           let here : symbol_of kind v ≡ g i =
-          plain_symbol kind c.added-added.result (get_or c.args.symbols.now c.loop-i.at 0) v c.requires.kind c.added-added.ensures w.lowered.ensures.byte w.lowered.ensures.value
+          plain_symbol kind c.bias_of-added.result (get_or c.args.symbols.now c.loop-i.at 0) v c.requires.kind c.bias_of-added.ensures w.value_above_least.ensures.byte w.value_above_least.ensures.value
           ∙ ap (λ n. get_or c.args.symbols.now n 0) inv.at in
           let is : c.if-marks-i.out ≡ set out i v = w.out-is ∙ ap (set out i) (same kind v c.requires.kind fits) in
           let more : (rank mark i + 1) * depth ≡ rank mark i * depth + depth = omega arith in

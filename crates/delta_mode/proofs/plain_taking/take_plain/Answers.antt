@@ -45,7 +45,7 @@ pub give_plain-requires-clause-count : goal.give_plain-requires-clause-count
 give_plain-requires-clause-count g c =
     let r = g.T.Target.pixels c.args.raster.now in
     let f = fitting c.args.symbols.now c.marks_from.new.out (length c.args.marks.now) r.depth c.count_set.ensures c.marks_from.ensures.room c.depth.ensures.value c.requires.room in
-    c.next.ensures.room ∙ f.long ∙ (λ i. c.count_set.ensures i * c.depth.ensures.value i)
+    c.next.auto.out ∙ f.long ∙ (λ i. c.count_set.ensures i * c.depth.ensures.value i)
 
 pub returns-clause-left : goal.returns-clause-left
 returns-clause-left g c =
@@ -67,7 +67,7 @@ returns-clause-placed g c before front has e =
       (
         subst (λ (xs : List ℕ). g.S.SymbolSource.has_given c.next.new.self xs) (append_assoc before front piece) (c.in_ok-next.ensures.given (before ++ front) has),
         (
-          omega (arith, length-append front piece, f.is, f.long, all, e, c.next.ensures.room),
+          omega (arith, length-append front piece, f.is, f.long, all, e, c.next.auto.out),
           piece_placed r.kind r.depth (is_valid r) (value_in t) c.args.place n marks front piece c.marks_from.ensures.marks e (λ i d lt deep on. c.give_plain.ensures.placed i d (omega (arith, lt, c.marks_from.ensures.room)) deep on),
         ),
       ),

@@ -90,8 +90,8 @@ loop-place-preserved g c =
               ),
             ),
           );
-      ready = w.ready;
-      sources = w.sources ∙ inv.sources;
+      ready = w.source.ready;
+      sources = w.source.kept ∙ inv.sources;
       sound = w.frame.raster;
       kept = w.frame.kept ∙ inv.kept;
     }

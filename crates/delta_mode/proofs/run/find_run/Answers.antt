@@ -14,17 +14,17 @@ use Rattle.delta_mode.proofs.run.find_run.Goals as goal
 sum : (kind : PixelType) (p : ℤ) (a : ℕ) → IsByteType kind → InRange kind p → a ≡ bias kind → to_z w64 (of_z w64 p) +ℤ pos a ≡ p +ℤ pos (bias kind)
 sum kind p a byte fits e = λ t. same kind p byte fits t +ℤ pos (e t)
 
-pub lifted-byte-requires-clause-low : goal.lifted-byte-requires-clause-low
-lifted-byte-requires-clause-low c =
-    subst (λ z. pos 0 ≤ℤ z) (sym (sum c.args.kind c.args.predictor c.added-added.result c.requires.kind c.requires.predictor c.added-added.ensures)) (lifts c.args.kind c.args.predictor c.requires.kind c.requires.predictor).0
+pub byte_above_least-byte-requires-clause-low : goal.byte_above_least-byte-requires-clause-low
+byte_above_least-byte-requires-clause-low c =
+    subst (λ z. pos 0 ≤ℤ z) (sym (sum c.args.kind c.args.predictor c.bias_of-added.result c.requires.kind c.requires.predictor c.bias_of-added.ensures)) (lifts c.args.kind c.args.predictor c.requires.kind c.requires.predictor).0
 
-pub lifted-byte-requires-clause-high : goal.lifted-byte-requires-clause-high
-lifted-byte-requires-clause-high c =
-    subst (λ z. z ≤ℤ pos 255) (sym (sum c.args.kind c.args.predictor c.added-added.result c.requires.kind c.requires.predictor c.added-added.ensures)) (lifts c.args.kind c.args.predictor c.requires.kind c.requires.predictor).1
+pub byte_above_least-byte-requires-clause-high : goal.byte_above_least-byte-requires-clause-high
+byte_above_least-byte-requires-clause-high c =
+    subst (λ z. z ≤ℤ pos 255) (sym (sum c.args.kind c.args.predictor c.bias_of-added.result c.requires.kind c.requires.predictor c.bias_of-added.ensures)) (lifts c.args.kind c.args.predictor c.requires.kind c.requires.predictor).1
 
 pub loop-i-init : goal.loop-i-init
 loop-i-init c = record {
-  byte = c.lifted-byte.ensures ∙ ap (λ a. to_z w64 (of_z w64 c.args.predictor) +ℤ pos a) c.added-added.ensures;
+  byte = c.byte_above_least-byte.ensures ∙ ap (λ a. to_z w64 (of_z w64 c.args.predictor) +ℤ pos a) c.bias_of-added.ensures;
   room = refl;
   in_range = λ k lt. absurd (omega (arith, lt));
   symbols = λ k lt. absurd (omega (arith, lt));
@@ -39,15 +39,15 @@ loop-i-preserved c =
     let i = c.loop-i.i in
     let room : i < length out = omega (arith, inv.room, c.requires.room, c.loop-i-test.true) in
     let g = λ (k : ℕ). get_or c.args.symbols.now k 0 in
-    let e = c.added-added.ensures in
+    let e = c.bias_of-added.ensures in
     let n = c.next_byte-byte.result in
     let w = c.next_byte-byte.ensures in
     let low : n < 256 = omega (arith, w.value) in
-    let v = c.lowered.result in
-    let is : v ≡ pos n -ℤ pos (bias kind) = c.lowered.ensures.value ∙ ap (λ m. pos n -ℤ pos m) e in
+    let v = c.value_above_least.result in
+    let is : v ≡ pos n -ℤ pos (bias kind) = c.value_above_least.ensures.value ∙ ap (λ m. pos n -ℤ pos m) e in
     let q = value_before first (value_of_place out) i in
     let fits = byte_fits kind n v c.requires.kind low is in
-    let here : symbol_of kind (v -ℤ q) ≡ g i = byte_symbol kind c.added-added.result c.loop-i.byte n (g i) v q c.requires.kind e w.symbol w.before inv.byte w.value is in
+    let here : symbol_of kind (v -ℤ q) ≡ g i = byte_symbol kind c.bias_of-added.result c.loop-i.byte n (g i) v q c.requires.kind e w.symbol w.before inv.byte w.value is in
     let stays : set out i v ≡ set out i (to_z w64 (of_z w64 v)) = ap (set out i) (sym (same kind v c.requires.kind fits)) in
     record {
       byte = subst (λ (l : List ℤ). pos n ≡ value_before first (value_of_place l) (i + 1) +ℤ pos (bias kind)) stays (run_byte kind first out i n v room is);

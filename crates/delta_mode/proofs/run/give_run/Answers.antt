@@ -43,7 +43,7 @@ overflow_add-result g c =
     let r = g.T.Target.pixels c.args.raster.now in
     let most = area_few r.rows r.cols r.depth c.kind-kind.ensures.sound.shape in
     let first = rank_le (is_valid r) c.args.place in
-    omega (arith, most, first, c.requires.within, c.requires.count, c.find_run.ensures.room, c.requires.values)
+    omega (arith, most, first, c.requires.within, c.requires.count, c.find_run.auto.out, c.requires.values)
 
 pub returns-clause-at : goal.returns-clause-at
 returns-clause-at g c =
@@ -53,7 +53,7 @@ returns-clause-at g c =
     let place = c.args.place in
     let n = length c.args.symbols.now in
     let out = c.find_run.new.out in
-    let long : length out ≡ n = c.find_run.ensures.room ∙ c.requires.values in
+    let long : length out ≡ n = c.find_run.auto.out ∙ c.requires.values in
     let k = length out - 1 in
     let last : value_of_place out k ≡ value_in s d (place + (n - 1)) =
     sym (c.put_from.ensures.put.put k (omega (arith, long, c.requires.some)) (c.requires.valid k (omega (arith, long, c.requires.some)))) ∙ ap (λ m. value_in s d (place + (m - 1))) long in
@@ -72,7 +72,7 @@ returns-clause-coded g c front e =
     let n = length symbols in
     let out = c.find_run.new.out in
     let put = c.put_from.ensures.put in
-    let long : length out ≡ n = c.find_run.ensures.room ∙ c.requires.values in
+    let long : length out ≡ n = c.find_run.auto.out ∙ c.requires.values in
     let sound = c.kind-kind.ensures.sound in
     let some = sound.shape.cols_above in
     let ek = c.kind-kind.ensures.value in

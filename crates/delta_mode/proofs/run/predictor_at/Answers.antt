@@ -24,8 +24,8 @@ returns g c =
     let above = value_of_place c.read_above.new.above 0 in
     let kind = r.kind in
     let fits = c.read_above.ensures.in_range 0 in
-    let here : c.predicted.result ≡ predicted_by false up above walk.last =
-    c.predicted.ensures ∙ (λ i. predicted_by false up (same kind above c.requires.kind fits i) (same kind walk.last c.requires.kind c.requires.last_in_range i)) in
+    let here : c.predict.result ≡ predicted_by false up above walk.last =
+    c.predict.ensures ∙ (λ i. predicted_by false up (same kind above c.requires.kind fits i) (same kind walk.last c.requires.kind c.requires.last_in_range i)) in
     let first : c.args.place + 0 ≡ c.args.place = omega arith in
     let is : predicted_by walk.left up above walk.last ≡ predictor r.cols (is_valid r) (value_in r c.args.d) c.args.place =
     kept_predictor r.cols c.args.place (is_valid r) (value_in r c.args.d) walk.left up above walk.last (some_cols c.args.place r.cols c.requires.across) c.requires.left c.requires.last

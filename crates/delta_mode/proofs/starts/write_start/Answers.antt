@@ -82,7 +82,7 @@ returns-clause-here g c =
     let next : at + 1 ≡ rank (mark_of r c.args.place) i + 1 = omega (arith, is) in
     ap (λ k. get_or (set c.args.out.now at s) k 0) is ∙ get_or-set_same c.args.out.now at s 0 (omega (arith, ones, below, c.requires.room))
     ∙ start_symbol r c.args.plane.now.d c.args.place c.args.count i c.from-bias.result s c.predictor_above-predictor.result c.args.distances.now c.kind.ensures.sound c.args.plane.now.byte c.requires.last (omega (arith, c.requires.bit)) c.requires.valid
-    (c.from-bias.ensures ∙ c.added.ensures ∙ ap Rattle.delta_mode.specs.Symbols.bias c.kind.ensures.value) c.predictor_above-predictor.ensures
+    (c.from-bias.ensures ∙ c.bias_of.ensures ∙ ap Rattle.delta_mode.specs.Symbols.bias c.kind.ensures.value) c.predictor_above-predictor.ensures
     (c.symbol_between.ensures ∙ ap (λ k. Rattle.delta_mode.specs.inside.Starts.between c.from-bias.result (get_or c.args.distances.now k 0) c.predictor_above-predictor.result) next)
 
 pub returns-clause-others : goal.returns-clause-others

@@ -48,7 +48,7 @@ loop-rest-preserved g c =
     let low = h.0 in
     let w = c.write_start.ensures in
     record {
-      room = w.room ∙ inv.room;
+      room = c.write_start.auto.out ∙ inv.room;
       starts = starts_less r c.args.place n rest b c.requires.few low h.1.0 inv.starts;
       symbols = symbols_set r c.args.plane.now.d c.args.place n rest b c.loop-rest.out c.write_start.new.out c.requires.few low (inv.starts.each (n - 1 - b) (omega (arith, low)) h.1.1).0 inv.symbols w.here w.others;
     }

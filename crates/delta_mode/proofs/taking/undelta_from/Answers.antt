@@ -128,8 +128,8 @@ loop-place-preserved g c =
           );
       rest = λ k e lt below other.
           w.rest k e (omega (arith, lt, same_size r s inv.same)) (subst (λ n. e < n) inv.same.shape.depth below) (λ from to_ is. other is) ∙ inv.rest k e lt below other;
-      ready = w.ready;
-      sources = w.sources ∙ inv.sources;
+      ready = w.source.ready;
+      sources = w.source.kept ∙ inv.sources;
       sound = w.frame.raster;
       kept = w.frame.kept ∙ inv.kept;
     }

@@ -12,7 +12,7 @@ returns-in-Err-clause-grid g c =
 
 pub returns-in-Ok-true-clause-grid : goal.returns-in-Ok-true-clause-grid
 returns-in-Ok-true-clause-grid g c =
-    subst (λ (s : InputStop). ReadsGrid (g.S.Source.left c.args.src.now) (Err s)) (sym c.leftover.ensures)
+    subst (λ (s : InputStop). ReadsGrid (g.S.Source.left c.args.src.now) (Err s)) (sym c.leftover_stop.ensures)
     (reads_more c.in-Ok.bands c.bands_size.result (g.S.Source.left c.args.src.now) (g.S.Source.left c.bands_read.new.src) (g.S.Source.left c.has_more.new.src) c.bands_size.ensures.size c.in-Ok.ensures.ok
     (subst (λ (b : Bool). AsksOne (Ok b) (g.S.Source.left c.bands_read.new.src) (g.S.Source.left c.has_more.new.src)) c.in-Ok-true.field-0-test c.in-Ok-true.ensures.asks))
 

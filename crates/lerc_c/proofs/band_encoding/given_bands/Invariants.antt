@@ -4,9 +4,9 @@ use Rattle.lerc_c.proofs.band_encoding.given_bands.Given as goal
 
 abbrev pub invariant-loop-alloc : goal.invariant-loop-alloc
 invariant-loop-alloc l = record {
-  given : AreGivenFrom l.fn.kind l.fn.rows l.fn.cols l.fn.depth l.fn.values l.fn.masks 0 l.bands;
-  fewer : length l.bands ≤ l.fn.count;
+  given : AreGivenFrom l.fn.fit.arrays.kind l.fn.fit.arrays.rows l.fn.fit.arrays.cols l.fn.fit.arrays.depth l.fn.fit.arrays.values.now l.fn.fit.arrays.masks.now 0 l.bands;
+  fewer : length l.bands ≤ l.fn.fit.arrays.count;
 }
 
 abbrev pub decreases-loop-alloc : goal.decreases-loop-alloc
-decreases-loop-alloc l = l.fn.count - length l.bands
+decreases-loop-alloc l = l.fn.fit.arrays.count - length l.bands

@@ -6,11 +6,11 @@ use Rattle.lerc_c.proofs.encoding.write_alike.Goals as goal
 
 pub returns-in-Ok-clause-ok : goal.returns-in-Ok-clause-ok
 returns-in-Ok-clause-ok c =
-    let blob = chosen_blob (alike c.args.kind c.args.rows c.args.cols c.args.depth c.args.found.value) c.args.version c.args.step in
+    let blob = chosen_blob (alike c.args.raster.kind c.args.raster.rows c.args.raster.cols c.args.raster.depth c.args.raster.value) c.args.version c.args.step in
     record {
       blob = blob;
       blob_of = record {
-        fits = λ needs. let told = c.in-Ok.ensures.depth.1 (needs.0, alike_deep c.args.kind c.args.rows c.args.cols c.args.depth c.args.found.value needs.1) in cc;
+        fits = λ needs. let told = c.in-Ok.ensures.depth.1 (needs.0, alike_deep c.args.raster.kind c.args.raster.rows c.args.raster.cols c.args.raster.depth c.args.raster.value needs.1) in cc;
         chosen = refl;
         once = c.in-Ok.ensures.decodes;
       };

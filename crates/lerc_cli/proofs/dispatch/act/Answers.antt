@@ -1,5 +1,5 @@
 use Rattle.std.proofs.Common.{◌≡◌, refl, sym, ◌∙◌}
-use Rattle.lerc_cli.specs.declared.words.Command.TheVariants.{Encode}
+use Rattle.lerc_cli.specs.declared.words.Command.TheVariants.{Encode, Sample}
 use Rattle.lerc_cli.proofs.AnswerLemmas.Statuses.{never_usage}
 use Rattle.lerc_cli.proofs.WordLemmas.Spelled.{lawful}
 use Rattle.lerc_cli.proofs.dispatch.act.Goals as goal
@@ -15,6 +15,12 @@ returns-in-Some-clause-blobs g c = λ version error spelled.
     let same = sym c.in-Some.is ∙ (c.command_of.ensures (Encode version error)).1 spelled in
     let is : c.in-Some.command ≡ Encode version error = cc in
     c.perform.ensures.blobs version error is
+
+pub returns-in-Some-clause-sums : goal.returns-in-Some-clause-sums
+returns-in-Some-clause-sums g c = λ start count spelled.
+    let same = sym c.in-Some.is ∙ (c.command_of.ensures (Sample start count)).1 spelled in
+    let is : c.in-Some.command ≡ Sample start count = cc in
+    c.perform.ensures.sums start count is
 
 pub perform-requires-clause-lawful : goal.perform-requires-clause-lawful
 perform-requires-clause-lawful g c κs within = lawful c.in-Some.command c.args.words.now ((c.command_of.ensures c.in-Some.command).0 c.in-Some.is)

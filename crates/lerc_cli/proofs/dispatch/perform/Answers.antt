@@ -3,7 +3,7 @@ use Rattle.std.specs.Prelude.{OnOk}
 use Rattle.lerc_header.specs.declared.header.Version.{Version}
 use Rattle.program_ends.specs.Moves.{Change}
 use Rattle.lerc_cli.specs.inputs.Given.{given}
-use Rattle.lerc_cli.specs.run.InWords.{GivesBlobs}
+use Rattle.lerc_cli.specs.run.InWords.{GivesBlobs, GivesSums}
 use Rattle.lerc_cli.proofs.CrashLemmas.Idle.{reading_volume, source_idle, volume_idle}
 use Rattle.lerc_cli.proofs.dispatch.perform.Goals as goal
 
@@ -99,10 +99,19 @@ pub returns-in-Build-clause-volume : goal.returns-in-Build-clause-volume
 returns-in-Build-clause-volume g c = rw c.in-Build.is (c.build.ensures.volume _)
 
 pub returns-in-Sample-clause-source : goal.returns-in-Sample-clause-source
-returns-in-Sample-clause-source g c = rw c.in-Sample.is (source_idle _ _ _ _ _ _ g.S.Source.left g.S.Source.faults _ (search rules) (c.sample.ensures (given None None)))
+returns-in-Sample-clause-source g c = rw c.in-Sample.is (source_idle _ _ _ _ _ _ g.S.Source.left g.S.Source.faults _ (search rules) (c.sample.ensures.output (given None None)))
 
 pub returns-in-Sample-clause-output : goal.returns-in-Sample-clause-output
-returns-in-Sample-clause-output g c = rw (c.in-Sample.is, c.requires.none) (c.sample.ensures _)
+returns-in-Sample-clause-output g c = rw (c.in-Sample.is, c.requires.none) (c.sample.ensures.output _)
 
 pub returns-in-Sample-clause-volume : goal.returns-in-Sample-clause-volume
-returns-in-Sample-clause-volume g c = rw (c.in-Sample.is, c.requires.none) (volume_idle _ _ _ _ _ _ g.V.Volume.told g.V.Volume.history g.V.Volume.faults _ (search rules) (c.sample.ensures _))
+returns-in-Sample-clause-volume g c = rw (c.in-Sample.is, c.requires.none) (volume_idle _ _ _ _ _ _ g.V.Volume.told g.V.Volume.history g.V.Volume.faults _ (search rules) (c.sample.ensures.output _))
+
+pub returns-in-Sample-clause-sums : goal.returns-in-Sample-clause-sums
+returns-in-Sample-clause-sums g c = λ start count is.
+    let same = sym c.in-Sample.is ∙ is in
+    let s : c.in-Sample.start ≡ start = cc in
+    let n : c.in-Sample.count ≡ count = cc in
+    let held : Change (Option (List ℕ)) = record { old = g.K.Sink.held c.args.out.now; new = g.K.Sink.held c.sample.new.out } in
+    subst (λ (x : ℕ). OnOk c.sample.result (GivesSums x count held)) s
+    (subst (λ (x : ℕ). OnOk c.sample.result (GivesSums c.in-Sample.start x held)) n c.sample.ensures.sums)

@@ -4,7 +4,7 @@ use Rattle.lerc_cli.specs.declared.words.Command.TheVariants.{Encode, Decode, In
 use Rattle.lerc_cli.proofs.AnswerLemmas.Built.{built}
 use Rattle.lerc_cli.proofs.AnswerLemmas.Encoding.{encoded_exactly}
 use Rattle.lerc_cli.proofs.AnswerLemmas.Statuses.{ok_at, output_status, some_status, source_status, unsaid, usage_said, usage_status, volume_status}
-use Rattle.lerc_cli.proofs.AnswerLemmas.Exact.{complete, cut_short, decoded, exact, refused, wanted}
+use Rattle.lerc_cli.proofs.AnswerLemmas.Exact.{complete, cut_short, decoded, exact, refused, refused_so, wanted}
 use Rattle.lerc_cli.proofs.AnswerLemmas.Informed.{informed, informed_exactly}
 use Rattle.lerc_cli.proofs.AnswerLemmas.Outputs.{nothing_given, on_ok}
 use Rattle.lerc_cli.proofs.CrashLemmas.Resting.{shut_at}
@@ -46,6 +46,10 @@ returns-clause-ran g c = λ command spelled. record {
 pub returns-clause-complete : goal.returns-clause-complete
 returns-clause-complete g c = λ command spelled told n output has.
     complete command _ n _ _ _ output _ told c.ended_status-status.ensures.status has (c.act-ended.ensures.output command spelled)
+
+pub returns-clause-refused_exactly : goal.returns-clause-refused_exactly
+returns-clause-refused_exactly g c = λ command spelled told n refusal output has s o v w.
+    refused_so command _ n _ _ _ refusal output _ _ told c.ended_status-status.ensures.status has (c.act-ended.ensures.output command spelled) c.ended_status-status.ensures.line s o v w
 
 pub returns-clause-kept : goal.returns-clause-kept
 returns-clause-kept g c = λ command spelled. (_, (c.ended_status-status.ensures.status, (c.act-ended.ensures.volume command spelled).tiles))
@@ -113,3 +117,7 @@ returns-clause-informed g c = λ spelled zero. (
 
 pub returns-clause-not_informed : goal.returns-clause-not_informed
 returns-clause-not_informed g c = λ spelled zero four. nothing_given Info _ _ _ _ _ refl c.ended_status-status.ensures.status zero four (c.act-ended.ensures.output Info spelled)
+
+pub returns-clause-sampled : goal.returns-clause-sampled
+returns-clause-sampled g c = λ start count spelled zero.
+    on_ok _ (ok_at _ (sym c.ended_status-status.ensures.status ∙ zero)) (c.act-ended.ensures.sums start count spelled)

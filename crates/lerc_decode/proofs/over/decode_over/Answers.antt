@@ -5,7 +5,7 @@ use Rattle.lerc_decode.proofs.CallersArrays.{head_taken, no_other_room}
 use Rattle.lerc_decode.proofs.over.decode_over.Goals as goal
 
 pub returns-then-blob-size-clause-stop : goal.returns-then-blob-size-clause-stop
-returns-then-blob-size-clause-stop c = inr (more_body c.args.blob.now c.in-Ok.header c.in-Ok.ensures.ok (omega (arith, c.if-blob-size.true)), c.cut.ensures)
+returns-then-blob-size-clause-stop c = inr (more_body c.args.blob.now c.in-Ok.header c.in-Ok.ensures.ok (omega (arith, c.if-blob-size.true)), c.cut_fault.ensures)
 
 pub returns-then-blob-size-clause-sizes : goal.returns-then-blob-size-clause-sizes
 returns-then-blob-size-clause-sizes c = (
@@ -21,6 +21,12 @@ returns-in-Ok-body_over-clause-sizes c = (
   λ e. absurd (cc),
   λ other. absurd (no_other_room c.args.blob.now c.in-Ok.header (length c.args.values.now) (length c.args.mask.now) c.in-Ok.ensures.ok (c.if-not-have_room.ensures.0 refl) other),
 )
+
+pub returns-in-Ok-body_over-clause-kept : goal.returns-in-Ok-body_over-clause-kept
+returns-in-Ok-body_over-clause-kept c = λ e. absurd (cc)
+
+pub returns-in-Err-body_over-clause-kept : goal.returns-in-Err-body_over-clause-kept
+returns-in-Err-body_over-clause-kept c = λ e. absurd (cc)
 
 pub returns-in-Err-body_over-clause-stop : goal.returns-in-Err-body_over-clause-stop
 returns-in-Err-body_over-clause-stop c =

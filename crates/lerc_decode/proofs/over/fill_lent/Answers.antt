@@ -1,7 +1,7 @@
 use Rattle.std.proofs.Common.{ap}
 use Rattle.std.specs.Prelude.{None}
-use Rattle.raster_values.specs.Lent.{Frame, lent_pixels}
-use Rattle.raster_values.proofs.LentArrays.{lent_bytes, lent_raster}
+use Rattle.raster_values.specs.RasterMut.{Frame, lent_pixels}
+use Rattle.raster_values.proofs.RasterMutArrays.{lent_bytes, lent_raster}
 use Rattle.lerc_decode.proofs.Bodies.{marked_count, ok_map, picked_err}
 use Rattle.lerc_decode.proofs.over.fill_lent.Goals as goal
 

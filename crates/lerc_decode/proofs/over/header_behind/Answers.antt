@@ -6,7 +6,7 @@ use Rattle.lerc_decode.proofs.over.header_behind.Goals as goal
 
 pub returns-then-blob-size-clause-fault : goal.returns-then-blob-size-clause-fault
 returns-then-blob-size-clause-fault c =
-    inr (more_fields c.args.blob.now c.args.version c.requires.ten (omega (arith, c.if-blob-size.true, c.head_length-size.ensures)) c.requires.key c.requires.version, c.cut.ensures)
+    inr (more_fields c.args.blob.now c.args.version c.requires.ten (omega (arith, c.if-blob-size.true, c.head_length-size.ensures)) c.requires.key c.requires.version, c.cut_fault.ensures)
 
 pub returns-then-blob-size-clause-none : goal.returns-then-blob-size-clause-none
 returns-then-blob-size-clause-none c = cut_none c.args.blob.now c.args.version c.requires.ten (omega (arith, c.if-blob-size.true, c.head_length-size.ensures)) c.requires.version

@@ -3,5 +3,5 @@ use Rattle.lerc_encode.proofs.alike.alike_header.Goals as goal
 
 pub returns : goal.returns
 returns c =
-    alike_head c.args.kind c.args.rows c.args.cols c.args.depth c.args.value c.args.version c.args.step c.requires.shape c.requires.in_range c.valid_of.result c.alike_len.result c.level_of-level.result
+    alike_head c.args.raster.kind c.args.raster.rows c.args.raster.cols c.args.raster.depth c.args.raster.value c.args.version c.args.step c.args.raster.shape c.args.raster.in_range c.valid_of.result c.alike_len.result c.level_of-level.result
     c.valid_of.ensures c.alike_len.ensures c.level_of-level.ensures.least c.level_of-level.ensures.greatest

@@ -1,6 +1,6 @@
-use Rattle.std.proofs.Common.{◌≡◌, ◌++◌, ℕ, length, take, drop, refl, ap, ◌∙◌, arith, length-append, length-drop}
+use Rattle.std.proofs.Common.{◌≡◌, ◌++◌, length, take, drop, refl, ap, ◌∙◌, arith, length-append, length-drop}
 use Rattle.std.proofs.lemmas.List.{take_rest, length-take-le}
-use Rattle.lerc_encode.specs.Images.{ending, image_bytes}
+use Rattle.lerc_encode.specs.Images.{tail, image_bytes}
 use Rattle.lerc_encode.specs.inside.Layout.{planned_runs}
 use Rattle.lerc_encode.proofs.Laying.{behind_length, behind_written}
 use Rattle.lerc_encode.proofs.blob.write_behind.Goals as goal
@@ -8,7 +8,7 @@ use Rattle.lerc_encode.proofs.blob.write_behind.Goals as goal
 pub write_mask-requires-clause-room : goal.write_mask-requires-clause-room
 write_mask-requires-clause-room g c =
     let r = (g.V.View.pixels c.args.raster.now) in
-    let all = behind_length (planned_runs c.args.plan.now (g.V.View.pixels c.args.raster.now)) r c.args.plan.now.base.version c.args.plan.now.base.step c.args.plan.now.runs (length (image_bytes r c.args.plan.now.base.version c.args.plan.now.base.step (ending r c.args.plan.now.base.version c.args.plan.now.base.step))) c.requires.plan.runs refl in
+    let all = behind_length (planned_runs c.args.plan.now (g.V.View.pixels c.args.raster.now)) r c.args.plan.now.base.version c.args.plan.now.base.step c.args.plan.now.runs (length (image_bytes r c.args.plan.now.base.version c.args.plan.now.base.step (tail r c.args.plan.now.base.version c.args.plan.now.base.step))) c.requires.plan.runs refl in
     let room = c.requires.room in
     let front = c.min-front.ensures in
     length-take-le c.min-front.result c.args.out.now (omega arith) ∙ omega (arith, all, room, front)
@@ -18,7 +18,7 @@ write_image-requires-clause-room g c =
     let r = (g.V.View.pixels c.args.raster.now) in
     let out = c.args.out.now in
     let n = c.min-front.result in
-    let image = image_bytes r c.args.plan.now.base.version c.args.plan.now.base.step (ending r c.args.plan.now.base.version c.args.plan.now.base.step) in
+    let image = image_bytes r c.args.plan.now.base.version c.args.plan.now.base.step (tail r c.args.plan.now.base.version c.args.plan.now.base.step) in
     let all = behind_length (planned_runs c.args.plan.now (g.V.View.pixels c.args.raster.now)) r c.args.plan.now.base.version c.args.plan.now.base.step c.args.plan.now.runs (length image) c.requires.plan.runs refl in
     let room = c.requires.room in
     let front = c.min-front.ensures in

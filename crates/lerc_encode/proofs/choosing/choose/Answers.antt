@@ -1,4 +1,4 @@
-use Rattle.std.proofs.Common.{◌≤◌, arith, ap, subst, ◌∙◌, ◌∷◌, [], length, Some}
+use Rattle.std.proofs.Common.{arith, ap, subst, ◌∙◌, ◌∷◌, [], length, Some}
 use Rattle.lerc_header.specs.declared.header.Header.{Header}
 use Rattle.std.specs.Prelude.{MatchOption}
 use Rattle.lerc_encode.specs.Images.{blocks_bytes, mode_bytes}
@@ -8,15 +8,15 @@ use Rattle.lerc_encode.proofs.Candidates.{chosen_is, delta_size, plain_size, few
 use Rattle.lerc_encode.proofs.Forming.{base_blocked, large_header, sweep_is}
 use Rattle.lerc_encode.proofs.choosing.choose.Goals as goal
 
-pub measure_sides-requires-clause-blocked : goal.measure_sides-requires-clause-blocked
-measure_sides-requires-clause-blocked g c = base_blocked c.args.base.now (g.V.View.pixels c.args.raster.now) c.requires
+pub invariant_of-both-clause-blocked : goal.invariant_of-both-clause-blocked
+invariant_of-both-clause-blocked g c = base_blocked c.args.base.now (g.V.View.pixels c.args.raster.now) c.requires
 
-pub measure_sides-requires-clause-side : goal.measure_sides-requires-clause-side
+pub invariant_of-both-clause-eight : goal.invariant_of-both-clause-eight
 unfolding header_of
-measure_sides-requires-clause-side g c = ap (λ (x : Header). x.side) c.requires.is
+invariant_of-both-clause-eight g c = ap (λ (x : Header). x.side) c.requires.is
 
-pub measure_sides-requires-clause-most : goal.measure_sides-requires-clause-most
-measure_sides-requires-clause-most g c =
+pub invariant_of-both-clause-few : goal.invariant_of-both-clause-few
+invariant_of-both-clause-few g c =
     let low = c.least_known-most.ensures.few in
     let few = c.sweep_len-sweep.ensures.few in
     omega (arith, low, few)

@@ -45,8 +45,8 @@ write_sweep-requires g c =
     let r = (g.V.View.pixels c.args.raster.now) in
     c.requires.room ∙ ap (λ (f : ValueForm). length (coded_form_bytes r h.version h.step (named f))) c.in-Sweep.is ∙ sym (ap length (sweep_is r h.version h.step))
 
-pub write_block_form-requires-clause-blocked : goal.write_block_form-requires-clause-blocked
-write_block_form-requires-clause-blocked g c = base_blocked c.args.base.now (g.V.View.pixels c.args.raster.now) c.requires.base
+pub invariant_of-small : goal.invariant_of-small
+invariant_of-small g c = record { blocked = base_blocked c.args.base.now (g.V.View.pixels c.args.raster.now) c.requires.base }
 
 pub write_block_form-requires-clause-measured : goal.write_block_form-requires-clause-measured
 write_block_form-requires-clause-measured g c =
@@ -61,21 +61,21 @@ write_block_form-requires-clause-room g c =
     let r = (g.V.View.pixels c.args.raster.now) in
     c.requires.room ∙ ap (λ (f : ValueForm). length (coded_form_bytes r h.version h.step (named f))) c.in-SmallBlocks.is ∙ sym (ap length (small_is h r c.requires.base))
 
-pub write_block_form-requires-in-LargeBlocks-clause-blocked : goal.write_block_form-requires-in-LargeBlocks-clause-blocked
-write_block_form-requires-in-LargeBlocks-clause-blocked g c = large_blocked c.args.base.now c.with_large.result (g.V.View.pixels c.args.raster.now) c.requires.base c.with_large.ensures
+pub invariant_of-large : goal.invariant_of-large
+invariant_of-large g c = record { blocked = large_blocked c.args.base.now c.with_large-header.result (g.V.View.pixels c.args.raster.now) c.requires.base c.with_large-header.ensures }
 
 pub write_block_form-requires-in-LargeBlocks-clause-measured : goal.write_block_form-requires-in-LargeBlocks-clause-measured
 write_block_form-requires-in-LargeBlocks-clause-measured g c =
     let h = c.args.base.now in
     let r = (g.V.View.pixels c.args.raster.now) in
     let chosen = c.args.chosen.now in
-    measured_here c.with_large.result (header_of r h.version h.step 16 0 0) r images.blocks_16 (named chosen.form) chosen.large c.requires.chosen.large_are (ap named c.in-LargeBlocks.is) (c.with_large.ensures ∙ large_header h r c.requires.base)
+    measured_here c.with_large-header.result (header_of r h.version h.step 16 0 0) r images.blocks_16 (named chosen.form) chosen.large c.requires.chosen.large_are (ap named c.in-LargeBlocks.is) (c.with_large-header.ensures ∙ large_header h r c.requires.base)
 
 pub write_block_form-requires-in-LargeBlocks-clause-room : goal.write_block_form-requires-in-LargeBlocks-clause-room
 write_block_form-requires-in-LargeBlocks-clause-room g c =
     let h = c.args.base.now in
     let r = (g.V.View.pixels c.args.raster.now) in
-    c.requires.room ∙ ap (λ (f : ValueForm). length (coded_form_bytes r h.version h.step (named f))) c.in-LargeBlocks.is ∙ sym (ap length (large_is h c.with_large.result r c.requires.base c.with_large.ensures))
+    c.requires.room ∙ ap (λ (f : ValueForm). length (coded_form_bytes r h.version h.step (named f))) c.in-LargeBlocks.is ∙ sym (ap length (large_is h c.with_large-header.result r c.requires.base c.with_large-header.ensures))
 
 pub returns-in-Sweep : goal.returns-in-Sweep
 returns-in-Sweep g c =
@@ -93,7 +93,7 @@ pub returns-in-LargeBlocks : goal.returns-in-LargeBlocks
 returns-in-LargeBlocks g c =
     let h = c.args.base.now in
     let r = (g.V.View.pixels c.args.raster.now) in
-    c.write_block_form-in-LargeBlocks.ensures ∙ large_is h c.with_large.result r c.requires.base c.with_large.ensures ∙ ap (λ (f : ValueForm). coded_form_bytes r h.version h.step (named f)) (sym c.in-LargeBlocks.is)
+    c.write_block_form-in-LargeBlocks.ensures ∙ large_is h c.with_large-header.result r c.requires.base c.with_large-header.ensures ∙ ap (λ (f : ValueForm). coded_form_bytes r h.version h.step (named f)) (sym c.in-LargeBlocks.is)
 
 pub write_coded_form-requires-clause-kind : goal.write_coded_form-requires-clause-kind
 write_coded_form-requires-clause-kind g c =

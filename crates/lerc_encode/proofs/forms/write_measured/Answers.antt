@@ -6,9 +6,9 @@ use Rattle.lerc_encode.proofs.forms.write_measured.Goals as goal
 
 pub returns-then-has_mode : goal.returns-then-has_mode
 returns-then-has_mode g c =
-    behind_two c.args.out.now c.write_blocks.new.out (blocks_bytes c.args.h.now (g.V.View.pixels c.args.raster.now)) (images.has_mode (g.V.View.pixels c.args.raster.now) c.args.h.now.step) (sym c.has_mode.ensures ∙ c.if-has_mode.true) c.requires.room c.write_blocks.ensures
+    behind_two c.args.out.now c.write_blocks.new.out (blocks_bytes c.args.blocks.now.header.now (g.V.View.pixels c.args.blocks.now.raster.now)) (images.has_mode (g.V.View.pixels c.args.blocks.now.raster.now) c.args.blocks.now.header.now.step) (sym c.has_mode.ensures ∙ c.if-has_mode.true) c.requires.room c.write_blocks.ensures
 
 pub returns-else-has_mode : goal.returns-else-has_mode
 returns-else-has_mode g c =
-    behind_one 0 c.args.out.now c.write_blocks-else-has_mode.new.out (blocks_bytes c.args.h.now (g.V.View.pixels c.args.raster.now)) (let room = c.requires.room in omega (arith, room)) c.write_blocks-else-has_mode.ensures
-    ∙ ap (λ (b : Bool). 0 ∷ (mode_if b ++ blocks_bytes c.args.h.now (g.V.View.pixels c.args.raster.now))) (sym (sym c.has_mode.ensures ∙ c.if-has_mode.false))
+    behind_one 0 c.args.out.now c.write_blocks-else-has_mode.new.out (blocks_bytes c.args.blocks.now.header.now (g.V.View.pixels c.args.blocks.now.raster.now)) (let room = c.requires.room in omega (arith, room)) c.write_blocks-else-has_mode.ensures
+    ∙ ap (λ (b : Bool). 0 ∷ (mode_if b ++ blocks_bytes c.args.blocks.now.header.now (g.V.View.pixels c.args.blocks.now.raster.now))) (sym (sym c.has_mode.ensures ∙ c.if-has_mode.false))

@@ -6,7 +6,7 @@ use Rattle.lerc_encode.proofs.sides.no_tally.Goals as goal
 
 pub returns-clause-few : goal.returns-clause-few
 returns-clause-few g c =
-    let h = c.args.h.now in
+    let h = c.args.blocks.now.header.now in
     let row = blocks_across h * h.depth in
     let all : c.count.result ≡ blocks_down h * row = omega (arith, c.count.ensures.value) in
     let few = few_words (blocks_down h) row c.group_of.result c.count.result c.group_of.ensures.some c.group_of.ensures.value all in

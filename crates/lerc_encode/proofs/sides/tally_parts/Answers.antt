@@ -1,59 +1,73 @@
-use Rattle.std.proofs.Common.{◌+◌, ◌++◌, List, ap, ◌∙◌}
+use Rattle.std.proofs.Common.{◌+◌, ◌++◌, List, ap, ◌∙◌, arith}
 use Rattle.std.specs.Prelude.{ℤ}
 use Rattle.raster_values.specs.Block.{block_values}
-use Rattle.lerc_encode.specs.declared.blocks.Spot.{Spot}
+use Rattle.lerc_encode.specs.declared.blocks.BlockAt.{BlockAt}
 use Rattle.lerc_encode.specs.inside.Sides.{below, corner, right_of, size_at}
 use Rattle.lerc_encode.proofs.SideSteps.{flag_stays, two_flags, two_more}
+use Rattle.lerc_encode.proofs.SideWalks.{spot_few}
 use Rattle.lerc_encode.proofs.sides.tally_parts.Goals as goal
 
+pub overflow_add-right : goal.overflow_add-right
+overflow_add-right g c =
+    let low = (spot_few c.args.walk.now.header.now (g.V.View.pixels c.args.walk.now.raster.now) c.args.spot c.args.walk.now.blocked c.requires.within).1 in
+    omega (arith, low)
+
+pub overflow_add-below : goal.overflow_add-below
+overflow_add-below g c =
+    let low = (spot_few c.args.walk.now.header.now (g.V.View.pixels c.args.walk.now.raster.now) c.args.spot c.args.walk.now.blocked c.requires.within).0 in
+    omega (arith, low)
+
+pub overflow_add-corner : goal.overflow_add-corner
+overflow_add-corner g c =
+    let low = (spot_few c.args.walk.now.header.now (g.V.View.pixels c.args.walk.now.raster.now) c.args.spot c.args.walk.now.blocked c.requires.within).0 in
+    omega (arith, low)
+
+pub overflow_add-corner-2 : goal.overflow_add-corner-2
+overflow_add-corner-2 g c =
+    let low = (spot_few c.args.walk.now.header.now (g.V.View.pixels c.args.walk.now.raster.now) c.args.spot c.args.walk.now.blocked c.requires.within).1 in
+    omega (arith, low)
+
+-- the four calls, each behind the one before
 pub returns-clause-are : goal.returns-clause-are
 returns-clause-are g c =
-    let r = (g.V.View.pixels c.args.raster.now) in
+    let r = (g.V.View.pixels c.args.walk.now.raster.now) in
     let spot = c.args.spot in
-    c.tally_behind.ensures.are
-    ∙ ap (λ (vs : List ℤ). vs ++ block_values r (spot.row + 8) (spot.col + 8) 8 spot.d) (c.tally_behind-third.ensures.are
-    ∙ ap (λ (vs : List ℤ). vs ++ block_values r (spot.row + 8) spot.col 8 spot.d) (c.tally_behind-second.ensures.are
-    ∙ ap (λ (vs : List ℤ). vs ++ block_values r spot.row (spot.col + 8) 8 spot.d) c.tally_behind-first.ensures.are))
+    c.tally_behind-4.ensures.are
+    ∙ ap (λ (vs : List ℤ). vs ++ block_values r (spot.row + 8) (spot.col + 8) 8 spot.d) (c.tally_behind-3.ensures.are
+    ∙ ap (λ (vs : List ℤ). vs ++ block_values r (spot.row + 8) spot.col 8 spot.d) (c.tally_behind-2.ensures.are
+    ∙ ap (λ (vs : List ℤ). vs ++ block_values r spot.row (spot.col + 8) 8 spot.d) c.tally_behind.ensures.are))
 
-pub returns-clause-size : goal.returns-clause-size
-returns-clause-size g c =
-    let h = c.args.h.now in
-    let r = (g.V.View.pixels c.args.raster.now) in
+pub returns-clause-tallied : goal.returns-clause-tallied
+returns-clause-tallied g c =
+    let h = c.args.walk.now.header.now in
+    let r = (g.V.View.pixels c.args.walk.now.raster.now) in
     let spot = c.args.spot in
-    let s = λ (x : Spot). size_at h r x in
-    let last = two_more c.args.most (s (below spot)) (s (corner spot)) c.tally_behind-second.new.tally.size c.tally_behind-third.new.tally.size c.tally_behind.new.tally.size c.tally_behind-third.ensures.size c.tally_behind.ensures.size in
-    let more = two_more c.args.most (s (right_of spot)) (s (below spot) + s (corner spot)) c.tally_behind-first.new.tally.size c.tally_behind-second.new.tally.size c.tally_behind.new.tally.size c.tally_behind-second.ensures.size last in
-    two_more c.args.most (s spot) (s (right_of spot) + (s (below spot) + s (corner spot))) c.args.tally.now.size c.tally_behind-first.new.tally.size c.tally_behind.new.tally.size c.tally_behind-first.ensures.size more
-
-pub returns-clause-tables : goal.returns-clause-tables
-returns-clause-tables g c =
-    let h = c.args.h.now in
-    let r = (g.V.View.pixels c.args.raster.now) in
-    let t0 = c.args.tally.now.tables in
-    let t1 = c.tally_behind-first.new.tally.tables in
-    let t2 = c.tally_behind-second.new.tally.tables in
-    let t3 = c.tally_behind-third.new.tally.tables in
-    let t4 = c.tally_behind.new.tally.tables in
-    two_flags h r t0 t1 t4 c.tally_behind-first.ensures.tables (two_flags h r t1 t2 t4 c.tally_behind-second.ensures.tables (two_flags h r t2 t3 t4 c.tally_behind-third.ensures.tables c.tally_behind.ensures.tables))
-
-pub returns-clause-these : goal.returns-clause-these
-returns-clause-these g c = λ le.
-    let h = c.args.h.now in
-    let r = (g.V.View.pixels c.args.raster.now) in
-    let spot = c.args.spot in
-    let t1 = c.tally_behind-first.new.tally.tables in
-    let t2 = c.tally_behind-second.new.tally.tables in
-    let t3 = c.tally_behind-third.new.tally.tables in
-    let t4 = c.tally_behind.new.tally.tables in
-    let le3 = (c.tally_behind.ensures.size.within le).0 in
-    let le2 = (c.tally_behind-third.ensures.size.within le3).0 in
-    let le1 = (c.tally_behind-second.ensures.size.within le2).0 in
-    let from3 = c.tally_behind.ensures.tables in
-    let from2 = two_flags h r t2 t3 t4 c.tally_behind-third.ensures.tables from3 in
-    let from1 = two_flags h r t1 t2 t4 c.tally_behind-second.ensures.tables from2 in
+    let most = c.args.walk.now.most in
+    let s = λ (x : BlockAt). size_at h r x in
+    let t0 = c.args.tally.now in
+    let t1 = c.tally_behind.new.tally in
+    let t2 = c.tally_behind-2.new.tally in
+    let t3 = c.tally_behind-3.new.tally in
+    let t4 = c.tally_behind-4.new.tally in
+    let first = c.tally_behind.ensures.tallied in
+    let second = c.tally_behind-2.ensures.tallied in
+    let third = c.tally_behind-3.ensures.tallied in
+    let last = c.tally_behind-4.ensures.tallied in
+    let two = two_more most (s (below spot)) (s (corner spot)) t2.size t3.size t4.size third.size last.size in
+    let three = two_more most (s (right_of spot)) (s (below spot) + s (corner spot)) t1.size t2.size t4.size second.size two in
+    let from2 = two_flags h r t2.tables t3.tables t4.tables third.tables last.tables in
+    let from1 = two_flags h r t1.tables t2.tables t4.tables second.tables from2 in
     record {
-      first = flag_stays h r spot t1 t4 from1 (c.tally_behind-first.ensures.this le1);
-      right = flag_stays h r (right_of spot) t2 t4 from2 (c.tally_behind-second.ensures.this le2);
-      under = flag_stays h r (below spot) t3 t4 from3 (c.tally_behind-third.ensures.this le3);
-      last = c.tally_behind.ensures.this le;
+      size = two_more most (s spot) (s (right_of spot) + (s (below spot) + s (corner spot))) t0.size t1.size t4.size first.size three;
+      tables = two_flags h r t0.tables t1.tables t4.tables first.tables from1;
+      flagged = λ le.
+          let le3 = (last.size.within le).0 in
+          let le2 = (third.size.within le3).0 in
+          let le1 = (second.size.within le2).0 in
+          record {
+            first = flag_stays h r spot t1.tables t4.tables from1 (first.flagged le1);
+            right = flag_stays h r (right_of spot) t2.tables t4.tables from2 (second.flagged le2);
+            under = flag_stays h r (below spot) t3.tables t4.tables last.tables (third.flagged le3);
+            last = last.flagged le;
+          };
     }

@@ -1,16 +1,16 @@
 use Rattle.std.proofs.Common.{◌≡◌, length, take}
-use Rattle.delta_mode.specs.Ways.{IsOn, deltas_of_all, left_over}
+use Rattle.delta_mode.specs.EncodeStates.{IsOn, deltas_of_all, left_over}
 use Rattle.huff_codes.specs.Codes.{canonical_codes}
 use Rattle.huff_codes.specs.Pieces.{AreBegun}
 use Rattle.lerc_encode.proofs.symbols.write_deltas.Given as goal
 
-abbrev pub invariant-loop-way : goal.invariant-loop-way
-invariant-loop-way g l = record {
-  way : IsOn (g.V.View.pixels l.bytes.raster.now) l.way;
+abbrev pub invariant-loop-state : goal.invariant-loop-state
+invariant-loop-state g l = record {
+  state : IsOn (g.V.View.pixels l.bytes.raster.now) l.state;
   room_is : length l.out ≡ length l.fn.out;
   codes_are : l.writer.codes ≡ canonical_codes l.lengths;
-  begun : AreBegun l.writer l.out (take l.way.given (deltas_of_all (g.V.View.pixels l.bytes.raster.now)));
+  begun : AreBegun l.writer l.out (take l.state.given (deltas_of_all (g.V.View.pixels l.bytes.raster.now)));
 }
 
-abbrev pub decreases-loop-way : goal.decreases-loop-way
-decreases-loop-way g l = left_over (g.V.View.pixels l.bytes.raster.now) l.way
+abbrev pub decreases-loop-state : goal.decreases-loop-state
+decreases-loop-state g l = left_over (g.V.View.pixels l.bytes.raster.now) l.state

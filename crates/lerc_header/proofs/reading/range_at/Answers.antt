@@ -16,7 +16,7 @@ returns-in_default-value_at-clause-fault c =
     let bytes = c.args.bytes.now in
     let s = c.shift-place.result in
     let low = some_has (IsValueAt bytes (46 + s) c.args.kind) c.in-Some.least c.in-Some.ensures in
-    subst (λ (r : Result (ℤ × ℤ) BlobFault). IfErr r (λ f. range_faults c.args.version bytes f.place f.reason)) (sym c.refused-in_default-value_at.ensures)
+    subst (λ (r : Result (ℤ × ℤ) BlobFault). IfErr r (λ f. range_faults c.args.version bytes f.place f.reason)) (sym c.refuse-in_default-value_at.ensures)
     (no_greatest c.args.version bytes c.args.kind c.args.valid s c.in-Some.least c.shift-place.ensures c.requires.kind c.requires.valid c.if-valid-eq0.false low
     (λ z h ordered. none_of (IsValueAt bytes (46 + s + 8) c.args.kind) c.in_default-value_at.ensures z h))
 
@@ -30,7 +30,7 @@ returns-then-greatest-least-clause-fault c =
     let high = some_has High c.in-Some-value_at.greatest c.in-Some-value_at.ensures in
     let cast_low = cast_whole _ c.in-Some.least low.0 in
     let cast_high = cast_whole _ c.in-Some-value_at.greatest high.0 in
-    subst (λ (r : Result (ℤ × ℤ) BlobFault). IfErr r (λ f. range_faults c.args.version bytes f.place f.reason)) (sym c.refused-then-greatest-least.ensures)
+    subst (λ (r : Result (ℤ × ℤ) BlobFault). IfErr r (λ f. range_faults c.args.version bytes f.place f.reason)) (sym c.refuse-then-greatest-least.ensures)
     (no_greatest c.args.version bytes c.args.kind c.args.valid s c.in-Some.least c.shift-place.ensures c.requires.kind c.requires.valid c.if-valid-eq0.false low
     (λ z h ordered. (let same : c.in-Some-value_at.greatest ≡ z = some_of High c.in-Some-value_at.greatest c.in-Some-value_at.ensures z h in
     omega (arith, ints, cast_low, cast_high, same, ordered, c.if-greatest-least.true))))

@@ -17,7 +17,7 @@ returns-in-Some-clause-ok c =
 pub returns-in-None-clause-fault : goal.returns-in-None-clause-fault
 returns-in-None-clause-fault c =
     let there : c.bits_at.result ≡ double_at c.args.bytes.now (38 + shift c.args.version) = c.bits_at.ensures ∙ ap (λ k. double_at c.args.bytes.now (38 + k)) c.shift-place.ensures in
-    subst (λ (r : Result ℕ BlobFault). IfErr r (λ f. step_faults c.args.version c.args.bytes.now f.place f.reason)) (sym c.refused.ensures)
+    subst (λ (r : Result ℕ BlobFault). IfErr r (λ f. step_faults c.args.version c.args.bytes.now f.place f.reason)) (sym c.refuse.ensures)
     (inr (
       λ has. none_of (λ n. HalfDouble c.bits_at.result (pos n) × IsTwiceError n) c.in-None.ensures has.0 (subst (λ bits. HalfDouble bits (pos has.0)) (sym there) has.1.0, has.1.1),
       (ap (λ k. 38 + k) c.shift-place.ensures, refl),

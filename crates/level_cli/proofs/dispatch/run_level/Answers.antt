@@ -1,9 +1,10 @@
-use Rattle.std.proofs.Common.{ap, refl, sym, ◌∙◌}
+use Rattle.std.proofs.Common.{ap, sym, ◌∙◌}
 use Rattle.level_cli.specs.Names.{status_at}
 use Rattle.level_cli.specs.declared.words.Command.TheVariants.{Put, Get, Name}
-use Rattle.level_cli.proofs.Ended.{ok_at, output_status, shelf_status, source_status, usage_said, usage_status, volume_status}
+use Rattle.level_cli.proofs.Ended.{ok_at, output_status, refused_said, shelf_status, source_status, usage_said, usage_status, volume_status}
 use Rattle.level_cli.proofs.Ends.{get_well, name_well, put_well}
 use Rattle.level_cli.proofs.Granted.{granted}
+use Rattle.level_cli.proofs.Refused.{refused_so}
 use Rattle.level_cli.proofs.dispatch.run_level.Goals as goal
 
 pub returns-clause-usage : goal.returns-clause-usage
@@ -28,10 +29,10 @@ pub returns-clause-output_failed : goal.returns-clause-output_failed
 returns-clause-output_failed g c = output_status _ _ _ _ c.ended_status.ensures.status c.act-ended.ensures.output
 
 pub returns-clause-shelf_failed : goal.returns-clause-shelf_failed
-returns-clause-shelf_failed g c = shelf_status _ _ _ _ c.ended_status.ensures.status c.act-ended.ensures.shelf
+returns-clause-shelf_failed g c = shelf_status _ _ _ _ c.ended_status.ensures.status c.act-ended.ensures.shelf.shelf
 
 pub returns-clause-volume_failed : goal.returns-clause-volume_failed
-returns-clause-volume_failed g c = volume_status _ _ _ _ c.ended_status.ensures.status c.act-ended.ensures.volume
+returns-clause-volume_failed g c = volume_status _ _ _ _ c.ended_status.ensures.status c.act-ended.ensures.shelf.volume
 
 pub returns-clause-ran : goal.returns-clause-ran
 returns-clause-ran g c = λ command spelled. record {
@@ -60,3 +61,10 @@ returns-clause-complete g c = λ command spelled told tells grants n3 n4 n5 n6 n
     is ∙ granted _ _ _ _ told tells command _ _ _ (c.act-ended.ensures.done command spelled) grants
     (λ e. c.act-ended.ensures.usage.0 (usage_status _ _ is (is ∙ e)) command spelled)
     (λ e. n3 (is ∙ e)) (λ e. n4 (is ∙ e)) (λ e. n5 (is ∙ e)) (λ e. n6 (is ∙ e)) (λ e. n8 (is ∙ e))
+
+pub returns-clause-refused_exactly : goal.returns-clause-refused_exactly
+returns-clause-refused_exactly g c = λ command spelled told tells refusal first n3 n5 n6 n8.
+    let is = c.ended_status.ensures.status in
+    let so = refused_so _ _ _ _ told tells command _ _ _ refusal (c.act-ended.ensures.done command spelled) first
+    ((λ e. n3 (is ∙ e)), ((λ e. n5 (is ∙ e)), ((λ e. n6 (is ∙ e)), (λ e. n8 (is ∙ e))))) in
+    (is ∙ ap status_at so.0, so.1, refused_said _ refusal _ so.0 c.ended_status.ensures.line)

@@ -28,3 +28,25 @@ pub returns-in-Ok-clause-unused : goal.returns-in-Ok-clause-unused
 returns-in-Ok-clause-unused g c = λ one.
     let is = sym c.exit_code.ensures ∙ one in
     let u = c.run_level.ensures.unused is in (u.0, u.1, u.2, c.run_level.ensures.usage_told is)
+
+pub returns-in-Err-clause-usage : goal.returns-in-Err-clause-usage
+unfolding line_by
+returns-in-Err-clause-usage g c = λ texts told none. inr (record {
+  status_is = c.end_without_memory.ensures.status;
+  source = refl;
+  output = refl;
+  level = refl;
+  line = c.end_without_memory.ensures.line;
+})
+
+pub returns-in-Ok-clause-source_failed : goal.returns-in-Ok-clause-source_failed
+returns-in-Ok-clause-source_failed g c = rw c.exit_code.ensures c.run_level.ensures.source_failed
+
+pub returns-in-Ok-clause-output_failed : goal.returns-in-Ok-clause-output_failed
+returns-in-Ok-clause-output_failed g c = rw c.exit_code.ensures c.run_level.ensures.output_failed
+
+pub returns-in-Ok-clause-shelf_failed : goal.returns-in-Ok-clause-shelf_failed
+returns-in-Ok-clause-shelf_failed g c = rw c.exit_code.ensures c.run_level.ensures.shelf_failed
+
+pub returns-in-Ok-clause-volume_failed : goal.returns-in-Ok-clause-volume_failed
+returns-in-Ok-clause-volume_failed g c = rw c.exit_code.ensures c.run_level.ensures.volume_failed

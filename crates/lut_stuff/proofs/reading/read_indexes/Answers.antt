@@ -19,4 +19,4 @@ returns-else-look_up c =
     let missing : ¬ All (λ i. i < length table - 1 + 1) c.read_numbers.new.out = subst (λ (k : ℕ). ¬ All (λ i. i < k) c.read_numbers.new.out) most (c.if-look_up.ensures.missing refl) in
     let fault : index_faults n (length table - 1) bytes 0 BadIndex =
     missing_index n (length table - 1) bytes c.in_ok-used.used c.digit_count.result c.read_numbers.new.out c.digit_count.ensures.value read.0 read.1 c.read_numbers.auto.out missing 0 BadIndex refl refl in
-    told c.refused.result (λ used. HasIndexes table (length table - 1) bytes used c.look_up.new.out) (λ f. (f.at ≡ 0) × index_faults n (length table - 1) bytes f.at f.reason) (record { reason = BadIndex; at = 0 }) c.refused.ensures (refl, fault)
+    told c.refuse.result (λ used. HasIndexes table (length table - 1) bytes used c.look_up.new.out) (λ f. (f.at ≡ 0) × index_faults n (length table - 1) bytes f.at f.reason) (record { reason = BadIndex; at = 0 }) c.refuse.ensures (refl, fault)

@@ -16,5 +16,5 @@ loop-at-preserved c =
     let first : IsFirstChoice (drop at mask) choice =
     subst (λ (xs : List ℕ). IsFirstChoice xs choice) (ap (λ (xs : List ℕ). ending_with xs last) (take_rest bytes at) ∙ drop-ending bytes last at c.loop-at-test.true) c.first_choice-choice.ensures in
     let more = measuring_more mask c.loop-at.size at choice (omega (arith, c.loop-at-test.true, length-ending bytes last)) c.loop-at.invariant first in
-    subst (λ n. Measuring mask (c.loop-at.size + n) (at + c.given-at.result)) (sym c.size-size.ensures)
-    (subst (λ n. Measuring mask (c.loop-at.size + size_in choice) (at + n)) (sym c.given-at.ensures) more)
+    subst (λ n. Measuring mask (c.loop-at.size + n) (at + c.count-at.result)) (sym c.size-size.ensures)
+    (subst (λ n. Measuring mask (c.loop-at.size + size_in choice) (at + n)) (sym c.count-at.ensures) more)

@@ -35,7 +35,7 @@ loop-from-preserved c =
     c.write_choice.ensures ∙ ap (λ (xs : List ℕ). piece_bytes (piece_of xs choice) ++ drop (size_in choice) left) rest in
     let now = put_mid c.loop-from.to (length c.loop-from.out - c.loop-from.to) c.loop-from.out c.write_choice.new.out in
     let more = written_more mask c.loop-from.out c.write_choice.new.out (drop (size_in choice) left) from c.loop-from.to choice (omega (arith, c.loop-from-test.true, length-ending bytes last)) c.loop-from.invariant first wrote c.write_choice.auto.out in
-    subst (λ n. Written mask now (from + n) (c.loop-from.to + c.size-to.result)) (sym c.given-from.ensures)
+    subst (λ n. Written mask now (from + n) (c.loop-from.to + c.size-to.result)) (sym c.count-from.ensures)
     (subst (λ n. Written mask now (from + count_in choice) (c.loop-from.to + n)) (sym c.size-to.ensures) more)
 
 pub returns-clause-chosen : goal.returns-clause-chosen

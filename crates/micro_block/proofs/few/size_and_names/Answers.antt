@@ -7,6 +7,9 @@ use Rattle.micro_block.proofs.Chosen.{chosen_found}
 use Rattle.micro_block.proofs.Closed.{block_short}
 use Rattle.micro_block.proofs.few.size_and_names.Goals as goal
 
+pub named_len-tabled-requires-clause-found : goal.named_len-tabled-requires-clause-found
+named_len-tabled-requires-clause-found c = record { room = c.requires.room; named = c.requires.known }
+
 pub returns-clause-length : goal.returns-clause-length
 returns-clause-length c =
     let ctx = c.args.ctx.now in

@@ -9,13 +9,13 @@ use Rattle.micro_block.proofs.reading.read_form.Goals as goal
 pub returns-then-is_empty : goal.returns-then-is_empty
 returns-then-is_empty c =
     let none_ : ¬ (0 < length c.args.bytes.now) = λ some. grind (arith, nat_tests) in
-    told c.refused.result _ _ _ c.refused.ensures (no_tag (frame_of c.args.ctx.now (length c.args.numbers.now)) c.args.bytes.now 0 reasons.Cut none_ refl refl)
+    told c.refuse.result _ _ _ c.refuse.ensures (no_tag (frame_of c.args.ctx.now (length c.args.numbers.now)) c.args.bytes.now 0 reasons.Cut none_ refl refl)
 
 pub returns-then-from-ctx : goal.returns-then-from-ctx
 returns-then-from-ctx c =
     let there : 0 < length c.args.bytes.now = grind (arith, nat_tests) in
     let other : ¬ (slice_index c.args.bytes.now 0 / 4 % 16 ≡ c.args.ctx.now.col / 8 % 16) = λ same. c.if-from-ctx.true (c.from.ensures ∙ same) in
-    told c.refused-then-from-ctx.result _ _ _ c.refused-then-from-ctx.ensures (other_column (frame_of c.args.ctx.now (length c.args.numbers.now)) c.args.bytes.now 0 reasons.BadTag there other refl refl)
+    told c.refuse-then-from-ctx.result _ _ _ c.refuse-then-from-ctx.ensures (other_column (frame_of c.args.ctx.now (length c.args.numbers.now)) c.args.bytes.now 0 reasons.BadTag there other refl refl)
 
 pub returns : goal.returns
 returns c =

@@ -10,14 +10,14 @@ pub returns-in-Ok : goal.returns-in-Ok
 returns-in-Ok c =
     let ctx = c.args.ctx.now in
     let step = step_small ctx.step ctx.twice_error in
-    let step_fits : SFits w64 c.signed.result = omega (arith, ints, step, c.signed.ensures) in
-    let far : to_z w64 (of_z w64 c.signed.result) ≡ pos ctx.step = to_z-of_z w64 c.signed.result step_fits ∙ c.signed.ensures in
+    let step_fits : SFits w64 c.as_signed.result = omega (arith, ints, step, c.as_signed.ensures) in
+    let far : to_z w64 (of_z w64 c.as_signed.result) ≡ pos ctx.step = to_z-of_z w64 c.as_signed.result step_fits ∙ c.as_signed.ensures in
     let size : IsStepSize (pos ctx.step) = (omega (arith, ints, step), omega (arith, ints, step)) in (
       record {
         room = c.in-Ok.ensures.ok.0;
         qs = c.read_list.new.out;
         list = (c.read_list.auto.out, c.in-Ok.ensures.ok.1);
-        values_are = steps_reread c.read_list.new.out (to_z w64 (of_z w64 c.args.offset)) (to_z w64 (of_z w64 c.signed.result)) (to_z w64 (of_z w64 ctx.top)) c.args.offset ctx.top ctx.step
+        values_are = steps_reread c.read_list.new.out (to_z w64 (of_z w64 c.args.offset)) (to_z w64 (of_z w64 c.as_signed.result)) (to_z w64 (of_z w64 ctx.top)) c.args.offset ctx.top ctx.step
             (reread ctx.kind c.args.offset c.requires.offset) far (reread ctx.kind ctx.top ctx.top_of_type);
       },
       ((reread_in ctx.kind c.args.offset c.requires.offset, reread_in ctx.kind ctx.top ctx.top_of_type), subst (λ (z : ℤ). IsStepSize z) (sym far) size),

@@ -16,8 +16,8 @@ returns-clause-bytes c =
     let least = c.args.least in
     let old = c.args.out.now in
     let e : to_z w64 (of_z w64 least) ≡ least = reread kind least c.requires.fits in
-    let found : c.narrowest-code.result ≡ narrowest kind least = c.narrowest-code.ensures.named ∙ ap (narrowest kind) e in
-    let narrow : c.narrowest-code.result.1 ≡ narrow_type kind least = ap (λ (p : ℕ × PixelType). p.1) found in
+    let found : c.narrowest_type-code.result ≡ narrowest kind least = c.narrowest_type-code.ensures.named ∙ ap (narrowest kind) e in
+    let narrow : c.narrowest_type-code.result.1 ≡ narrow_type kind least = ap (λ (p : ℕ × PixelType). p.1) found in
     let tagged : c.tag.result ≡ tag_byte c.args.col c.args.form (narrow_code kind least) = c.tag.ensures ∙ ap (λ (p : ℕ × PixelType). tag_byte c.args.col c.args.form p.0) found in
     let behind = take (length (set old 0 c.tag.result) - 1) (drop 1 (set old 0 c.tag.result)) in
     front_written c.tag.result (offset_bytes kind least) old c.write_value.new.out (bytes_of (narrow_type kind least)) (omega (arith, c.requires.room))

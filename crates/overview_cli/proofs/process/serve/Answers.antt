@@ -23,3 +23,13 @@ returns-in-Err-clause-ran g c = λ texts told command spelled. inl (record {
   output = refl;
   line = c.end_without_memory.ensures.line;
 })
+
+pub returns-in-Err-clause-usage : goal.returns-in-Err-clause-usage
+unfolding line_by
+returns-in-Err-clause-usage g c = λ texts told none. inr (record {
+  status_is = c.end_without_memory.ensures.status;
+  from_same = refl;
+  to_same = refl;
+  output = refl;
+  line = c.end_without_memory.ensures.line;
+})

@@ -2,4 +2,4 @@ use Rattle.std.proofs.Common.{arith}
 use Rattle.overview_cli.proofs.words.quarter_of.Goals as goal
 
 pub overflow_cast-result : goal.overflow_cast-result
-overflow_cast-result c = omega (arith, ((c.within.ensures c.in-Some.quarter).0 c.in-Some.is).2)
+overflow_cast-result c = omega (arith, ((c.number_within.ensures c.in-Some.quarter).0 c.in-Some.is).2)

@@ -4,8 +4,8 @@ use Rattle.outside_io.specs.volume.History.{contents, current}
 use Rattle.outside_io.proofs.VolumeLemmas.Moments.{started}
 use Rattle.bundle_store.specs.Session.{Serves}
 use Rattle.tile_updates.proofs.SoFar.{same_count}
-use Rattle.overview_updates.specs.declared.places.Ending.{Ending}
-use Rattle.overview_updates.specs.declared.places.Ending.TheVariants.{More}
+use Rattle.overview_updates.specs.declared.places.Next.{Next}
+use Rattle.overview_updates.specs.declared.places.Next.TheVariants.{More}
 use Rattle.overview_updates.specs.inside.SoFar.{Follows, Steps}
 use Rattle.overview_updates.proofs.SoFar.{none_wait, one_more}
 use Rattle.overview_updates.proofs.Still.{said_behind, said_before, still_join}
@@ -43,9 +43,9 @@ loop-waiting-preserved g c =
     let after = c.wait_next.new.waiting in
     let v = c.args.asked.now.coding.version in
     let same : (g.V.Volume.told mid ≡ g.V.Volume.told entry) = inv.1.1.0 in
-    let steps = subst (λ (e : Ending). Steps v before after e) c.in-Ok-More.field-0-is c.in-Ok-More.ensures.steps in
+    let steps = subst (λ (e : Next). Steps v before after e) c.in-Ok-More.field-0-is c.in-Ok-More.ensures.steps in
     let takes = λ (tells : IsTrue (g.V.Volume.told entry)).
-    let here = subst (λ (e : Ending). Follows (contents Bundle (h mid)) c.args.asked.now.quarter v before after e) c.in-Ok-More.field-0-is (c.in-Ok-More.ensures.follows (same ∙ tells)) in
+    let here = subst (λ (e : Next). Follows (contents Bundle (h mid)) c.args.asked.now.quarter v before after e) c.in-Ok-More.field-0-is (c.in-Ok-More.ensures.follows (same ∙ tells)) in
     said_before (λ (b : List ℕ). Follows b c.args.asked.now.quarter v before after More) (h entry) (h mid) (inv.1.1.1 tells) here in (
       one_more (g.V.Volume.told entry) (contents Bundle (h entry)) c.args.asked.now.quarter v c.args.place before after (omega (arith, c.loop-waiting-test.true)) inv.0 steps takes,
       (

@@ -5,4 +5,4 @@ use Rattle.overview_updates.proofs.places.wait_next.Goals as goal
 
 pub returns-in-Err-clause-follows : goal.returns-in-Err-clause-follows
 returns-in-Err-clause-follows g c = λ tells.
-    waits_follow (contents Bundle (g.V.Volume.history c.args.vol.now)) c.args.asked.now.quarter c.args.asked.now.coding.version c.args.waiting.now c.args.waiting.now c.in-Err.stop c.ending_of.result c.ending_of.ensures c.requires.place c.in-Err.ensures.answers (c.in-Err.ensures.refused tells)
+    waits_follow (contents Bundle (g.V.Volume.history c.args.vol.now)) c.args.asked.now.quarter c.args.asked.now.coding.version c.args.waiting.now c.args.waiting.now c.in-Err.stop c.next_of.result c.next_of.ensures c.requires.place c.in-Err.ensures.answers (c.in-Err.ensures.refused tells)

@@ -2,7 +2,7 @@ use Rattle.std.proofs.Common.{◌+◌, ◌≤◌, inl, length, sym, subst, refl,
 use Rattle.outside_io.specs.declared.volume.VolFile.TheVariants.{Bundle}
 use Rattle.outside_io.specs.volume.History.{contents}
 use Rattle.tile_updates.proofs.SoFar.{no_cause, same_count}
-use Rattle.overview_updates.specs.declared.places.Ending.{Ending}
+use Rattle.overview_updates.specs.declared.places.Next.{Next}
 use Rattle.overview_updates.specs.declared.updates.SoFar.{SoFar}
 use Rattle.overview_updates.specs.Stops.{OverviewFails, TellsStop}
 use Rattle.overview_updates.specs.inside.SoFar.{EndsSo}
@@ -38,7 +38,7 @@ returns-in-More-clause-ok g c = λ s.
 
 pub returns-in-More-clause-grows : goal.returns-in-More-clause-grows
 returns-in-More-clause-grows g c =
-    subst (λ (e : Ending). EndsSo (g.V.Volume.told c.args.vol.now) (contents Bundle (g.V.Volume.history c.args.vol.now)) c.args.asked.now.coding.version c.args.done.now.place c.in-Ok.filled.0 e) c.in-More.is c.in-Ok.ensures.ok.ends
+    subst (λ (e : Next). EndsSo (g.V.Volume.told c.args.vol.now) (contents Bundle (g.V.Volume.history c.args.vol.now)) c.args.asked.now.coding.version c.args.done.now.place c.in-Ok.filled.0 e) c.in-More.is c.in-Ok.ensures.ok.ends
 
 pub returns-in-More-clause-few : goal.returns-in-More-clause-few
 returns-in-More-clause-few g c =
@@ -52,7 +52,7 @@ returns-in-Refused-clause-refused g c = λ s tells.
     let v = c.args.asked.now.coding.version in
     let w = c.in-Ok.filled.0 in
     let after : SoFar = record { list = c.encode_batch.new.list; place = w.place } in
-    let ends = subst (λ (e : Ending). EndsSo told bundle v c.args.done.now.place w e) c.in-Refused.is c.in-Ok.ensures.ok.ends in
+    let ends = subst (λ (e : Next). EndsSo told bundle v c.args.done.now.place w e) c.in-Refused.is c.in-Ok.ensures.ok.ends in
     let here = ends.1.1.1 tells in
     refused_reading told bundle c.args.asked.now.quarter v c.args.asked.now.coding.step after c.in-Refused.stop tells
     (so_far_more told bundle c.args.asked.now.quarter v c.args.asked.now.coding.step c.args.done.now after w s c.in-Ok.ensures.ok.waiting c.requires.few c.in-Ok-encode_batch.ensures.passed c.in-Ok-encode_batch.ensures.encoded c.in-Ok-encode_batch.ensures.added refl)
@@ -60,12 +60,12 @@ returns-in-Refused-clause-refused g c = λ s tells.
 
 pub returns-in-Refused-clause-answers : goal.returns-in-Refused-clause-answers
 returns-in-Refused-clause-answers g c =
-    let ends = subst (λ (e : Ending). EndsSo (g.V.Volume.told c.args.vol.now) (contents Bundle (g.V.Volume.history c.args.vol.now)) c.args.asked.now.coding.version c.args.done.now.place c.in-Ok.filled.0 e) c.in-Refused.is c.in-Ok.ensures.ok.ends in
+    let ends = subst (λ (e : Next). EndsSo (g.V.Volume.told c.args.vol.now) (contents Bundle (g.V.Volume.history c.args.vol.now)) c.args.asked.now.coding.version c.args.done.now.place c.in-Ok.filled.0 e) c.in-Refused.is c.in-Ok.ensures.ok.ends in
     fails_reading c.in-Refused.stop ends.1.0
 
 pub returns-in-Refused-clause-reads : goal.returns-in-Refused-clause-reads
 returns-in-Refused-clause-reads g c =
-    let ends = subst (λ (e : Ending). EndsSo (g.V.Volume.told c.args.vol.now) (contents Bundle (g.V.Volume.history c.args.vol.now)) c.args.asked.now.coding.version c.args.done.now.place c.in-Ok.filled.0 e) c.in-Refused.is c.in-Ok.ensures.ok.ends in
+    let ends = subst (λ (e : Next). EndsSo (g.V.Volume.told c.args.vol.now) (contents Bundle (g.V.Volume.history c.args.vol.now)) c.args.asked.now.coding.version c.args.done.now.place c.in-Ok.filled.0 e) c.in-Refused.is c.in-Ok.ensures.ok.ends in
     record {
       same = c.fill.ensures.reads.same;
       counted = no_cause _ (g.V.Volume.faults c.args.vol.now) (g.V.Volume.faults c.fill.new.vol) (λ is. ends.1.1.0 (inl cc)) (same_count _ (g.V.Volume.faults c.args.vol.now) (g.V.Volume.faults c.fill.new.vol) c.in-Ok.ensures.reads.counted (λ e. let no : ⊥ = cc e in no));

@@ -6,9 +6,9 @@ use Rattle.raster_values.specs.Raster.{Pixels, values_of}
 use Rattle.raster_values.specs.Flat.{marks_of}
 use Rattle.raster_grids.specs.Grid.{grid_marks}
 use Rattle.raster_cells.specs.Values.{values_bytes}
-use Rattle.raster_cells.specs.inside.CellList.{CellList}
-use Rattle.raster_cells.specs.inside.MarkBytes.{mark_bytes}
-use Rattle.raster_values.specs.inside.View.{pixels_of, raster_of}
+use Rattle.raster_cells.specs.CellList.{CellList}
+use Rattle.raster_cells.specs.MarkBytes.{mark_bytes}
+use Rattle.raster_values.specs.View.{pixels_of, raster_of}
 use Rattle.raster_grids.proofs.Pack.{grid_marks-pixels_of}
 use Rattle.raster_cells.proofs.Pack.{on_err}
 use Rattle.raster_grids.proofs.grid.give_band.Goals as goal

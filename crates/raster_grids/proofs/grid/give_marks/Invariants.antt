@@ -1,6 +1,6 @@
 use Rattle.std.proofs.Common.{◌≡◌, ◌≤◌, ◌-◌, take, length}
 use Rattle.outside_io.specs.streams.Sink.{Holds}
-use Rattle.raster_cells.specs.inside.MarkBytes.{mark_bytes}
+use Rattle.raster_cells.specs.MarkBytes.{mark_bytes}
 use Rattle.raster_grids.proofs.grid.give_marks.Given as goal
 
 abbrev pub invariant-loop-at : goal.invariant-loop-at

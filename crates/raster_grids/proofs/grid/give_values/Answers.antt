@@ -3,12 +3,12 @@ use Rattle.std.proofs.lemmas.Result.{on_ok_weaker, on_err_weaker}
 use Rattle.outside_io.specs.streams.Sink.{Holds, HoldsPrefix}
 use Rattle.raster_values.specs.Raster.{values_of}
 use Rattle.raster_cells.specs.Values.{values_bytes}
-use Rattle.raster_values.specs.inside.View.{pixels_of}
+use Rattle.raster_values.specs.View.{pixels_of}
 use Rattle.raster_grids.specs.inside.Pack.{Sends}
 use Rattle.raster_grids.proofs.Pack.{sends_give, sends_put, sends_all, sends_fail, two_runs_bytes, no_more}
 use Rattle.raster_cells.proofs.Pack.{on_err}
 use Rattle.raster_values.proofs.Pack.{apart}
-use Rattle.raster_values.proofs.Poured.{run_within}
+use Rattle.raster_values.proofs.Scattered.{run_within}
 use Rattle.raster_grids.proofs.grid.give_values.Goals as goal
 
 pub returns-in_err-give-clause-err : goal.returns-in_err-give-clause-err

@@ -1,7 +1,7 @@
 use Rattle.std.proofs.Common.{◌≡◌, ◌≤◌, ◌-◌, ◌*◌, drop, length}
 use Rattle.raster_values.specs.Raster.{values_of}
 use Rattle.raster_cells.specs.Values.{values_bytes}
-use Rattle.raster_values.specs.inside.View.{pixels_of}
+use Rattle.raster_values.specs.View.{pixels_of}
 use Rattle.raster_grids.specs.inside.Pack.{Sends}
 use Rattle.raster_grids.proofs.grid.give_values.Given as goal
 

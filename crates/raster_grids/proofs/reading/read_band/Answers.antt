@@ -9,8 +9,8 @@ use Rattle.raster_cells.specs.Values.{values_bytes}
 use Rattle.raster_grids.specs.ReadGrid.{AreMarks, IsToldFault, mark_faults, value_faults}
 use Rattle.raster_cells.specs.Masks.{count_of}
 use Rattle.raster_grids.specs.BandsGrid.{IsBandGrid}
-use Rattle.raster_cells.specs.inside.CellList.{CellList}
-use Rattle.raster_values.specs.inside.View.{pixels_of, raster_of, AreVectors}
+use Rattle.raster_cells.specs.CellList.{CellList}
+use Rattle.raster_values.specs.View.{pixels_of, raster_of, AreVectors}
 use Rattle.raster_cells.proofs.Pack.{on_err}
 use Rattle.raster_grids.proofs.TakenBytes.{took_join, took_more}
 use Rattle.raster_grids.proofs.TakenRuns.{values_counted}

@@ -6,9 +6,9 @@ use Rattle.raster_grids.specs.Taken.{TookBytes}
 use Rattle.raster_cells.proofs.Pack.{on_err}
 use Rattle.raster_cells.specs.declared.kind.PixelType.{PixelType}
 use Rattle.raster_values.specs.Raster.{values_of}
-use Rattle.raster_values.specs.inside.View.{pixels_of}
+use Rattle.raster_values.specs.View.{pixels_of}
 use Rattle.raster_grids.specs.inside.TakenRun.{AheadOf, behind}
-use Rattle.raster_values.proofs.Poured.{fills_start, run_within, filled_all, filled_size}
+use Rattle.raster_values.proofs.Scattered.{fills_start, run_within, filled_all, filled_size}
 use Rattle.raster_grids.proofs.TakenAhead.{behind_none, none_waits, took_waiting}
 use Rattle.raster_grids.proofs.TakenRuns.{values_counted, run_fits, changed_put, fills_put, run_size, run_kind, taken_few, took_run, told_cut}
 use Rattle.raster_grids.proofs.Taken.{took_none, took_front}

@@ -3,8 +3,8 @@ use Rattle.raster_cells.specs.PixelType.{bytes_of}
 use Rattle.raster_values.specs.Raster.{values_of}
 use Rattle.raster_grids.specs.Taken.{TookBytes}
 use Rattle.raster_grids.specs.inside.TakenRun.{behind}
-use Rattle.raster_values.specs.inside.View.{pixels_of}
-use Rattle.raster_values.proofs.Poured.{Fills}
+use Rattle.raster_values.specs.View.{pixels_of}
+use Rattle.raster_values.proofs.Scattered.{Fills}
 use Rattle.raster_grids.proofs.reading.take_values.Given as goal
 
 abbrev pub invariant-loop-done : goal.invariant-loop-done

@@ -4,7 +4,7 @@ use Rattle.lerc_grammar.specs.Bands.{BandsBlob}
 use Rattle.sample_tiles.specs.Drawn.{sample_tile}
 use Rattle.sample_tiles.specs.Sums.{off_by}
 use Rattle.sample_tiles.specs.inside.Batches.{IsFitting, IsTileLike}
-use Rattle.sample_tiles.proofs.Summing.{Bounds, Meets, like_sample, sums_more, tile_at}
+use Rattle.sample_tiles.proofs.Summing.{like_sample, sums_more, tile_at}
 use Rattle.sample_tiles.proofs.adding.add.Goals as goal
 
 pub error_of-requires-clause-like : goal.error_of-requires-clause-like

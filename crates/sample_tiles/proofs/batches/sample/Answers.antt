@@ -1,4 +1,4 @@
-use Rattle.std.proofs.Common.{◌≡◌, ◌≤◌, ℕ, refl, subst, arith}
+use Rattle.std.proofs.Common.{◌≡◌, ℕ, subst, arith}
 use Rattle.sample_tiles.specs.Sums.{AreSums}
 use Rattle.sample_tiles.proofs.Batch.{starts}
 use Rattle.sample_tiles.proofs.Summing.{none_summed}

@@ -1,4 +1,4 @@
-use Rattle.std.proofs.Common.{◌-◌, ◌≡◌, ◌*◌, ◌≤◌, ℕ}
+use Rattle.std.proofs.Common.{◌-◌, ◌≡◌, ◌*◌, ◌≤◌}
 use Rattle.sample_tiles.specs.Drawn.{drawn}
 use Rattle.sample_tiles.specs.Sums.{AreSums}
 use Rattle.sample_tiles.specs.inside.Batches.{AreRoomy}

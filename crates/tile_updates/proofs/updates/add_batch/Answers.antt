@@ -1,6 +1,6 @@
 use Rattle.std.proofs.Common.{◌≡◌, ◌∙◌, ◌+◌, ◌-◌, ◌≤◌, ℕ, List, Option, length, sym, ap, subst, refl, arith, length-append}
 use Rattle.std.proofs.lemmas.List.{length-map}
-use Rattle.tile_updates.specs.declared.updates.Ending.{Ending}
+use Rattle.tile_updates.specs.declared.updates.Next.{Next}
 use Rattle.tile_updates.specs.declared.updates.SoFar.{SoFar}
 use Rattle.tile_updates.specs.Stops.{TellsStop}
 use Rattle.tile_updates.specs.Updates.{update_of, updates_of}
@@ -30,7 +30,7 @@ returns-in-More-clause-ok g c = λ input s.
     let after : SoFar = record { list = c.encode_batch.new.list; place = w.place } in
     let room = f.few in
     let few : length c.args.done.now.list + length w.batch ≤ 1048576 = omega (arith, room, c.len-room.ensures.value, c.requires.roomy.few) in
-    let ends = subst (λ (e : Ending). EndsSo v (1048576 - c.len-room.result) f.mid new w e) c.in-More.is f.ends in
+    let ends = subst (λ (e : Next). EndsSo v (1048576 - c.len-room.result) f.mid new w e) c.in-More.is f.ends in
     subst (λ (o : Option (List ℕ)). IsSoFar v step input o after) (sym ends.0)
     (so_far_more v step input (g.S.Source.left c.args.src.now) f.mid c.args.done.now after w s f.waiting c.in-Ok-encode_batch.ensures.passed c.in-Ok-encode_batch.ensures.encoded few c.in-Ok-encode_batch.ensures.added refl)
 
@@ -44,7 +44,7 @@ returns-in-AtEnd-clause-ok g c = λ input s.
     let after : SoFar = record { list = c.encode_batch.new.list; place = w.place } in
     let room = f.few in
     let few : length c.args.done.now.list + length w.batch ≤ 1048576 = omega (arith, room, c.len-room.ensures.value, c.requires.roomy.few) in
-    let ends = subst (λ (e : Ending). EndsSo v (1048576 - c.len-room.result) f.mid new w e) c.in-AtEnd.is f.ends in
+    let ends = subst (λ (e : Next). EndsSo v (1048576 - c.len-room.result) f.mid new w e) c.in-AtEnd.is f.ends in
     at_the_end v step input f.mid new after ends.0 ends.1
     (so_far_more v step input (g.S.Source.left c.args.src.now) f.mid c.args.done.now after w s f.waiting c.in-Ok-encode_batch.ensures.passed c.in-Ok-encode_batch.ensures.encoded few c.in-Ok-encode_batch.ensures.added refl)
 
@@ -58,7 +58,7 @@ returns-in-Refused-clause-refused g c = λ input s.
     let after : SoFar = record { list = c.encode_batch.new.list; place = w.place } in
     let room = f.few in
     let few : length c.args.done.now.list + length w.batch ≤ 1048576 = omega (arith, room, c.len-room.ensures.value, c.requires.roomy.few) in
-    let ends = subst (λ (e : Ending). EndsSo v (1048576 - c.len-room.result) f.mid new w e) c.in-Refused.is f.ends in
+    let ends = subst (λ (e : Next). EndsSo v (1048576 - c.len-room.result) f.mid new w e) c.in-Refused.is f.ends in
     let less = ends.0 in
     let added : length c.encode_batch.new.list ≡ length c.args.done.now.list + length w.batch =
     ap length c.in-Ok-encode_batch.ensures.added ∙ length-append c.args.done.now.list (updates_of v step w.batch) ∙ ap (λ n. length c.args.done.now.list + n) (length-map w.batch (update_of v step)) in

@@ -1,4 +1,4 @@
-use Rattle.std.proofs.Common.{◌≡◌, ◌+◌, ◌*◌, w64, ap, sym, ◌∙◌, refl}
+use Rattle.std.proofs.Common.{◌+◌, ◌*◌, w64, ap, sym, ◌∙◌, refl}
 use Rattle.std.proofs.lemmas.Int.{to_z-of_z}
 use Rattle.raster_cells.specs.PixelType.{bytes_of}
 use Rattle.ascii_grid.specs.declared.fault.AsciiReason.TheVariants.{Collision}

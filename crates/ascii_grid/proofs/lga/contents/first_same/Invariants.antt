@@ -1,4 +1,4 @@
-use Rattle.std.proofs.Common.{◌≡◌, ◌-◌, ◌*◌, ◌≤◌, length}
+use Rattle.std.proofs.Common.{◌-◌, ◌≤◌}
 use Rattle.ascii_grid.proofs.ContentSteps.{NoneSame}
 use Rattle.ascii_grid.proofs.lga.contents.first_same.Given as goal
 

@@ -1,4 +1,4 @@
-use Rattle.std.proofs.Common.{◌≡◌, ◌+◌, ℕ, w64, refl, subst, sym, ap, ◌∙◌}
+use Rattle.std.proofs.Common.{◌+◌, ℕ, w64, ap}
 use Rattle.std.proofs.lemmas.Int.{to_z-of_z}
 use Rattle.std.proofs.lemmas.Result.{err_from_is_err_and}
 use Rattle.ascii_grid.proofs.ContentSteps.{content_refused, end_refused, whole_grid}

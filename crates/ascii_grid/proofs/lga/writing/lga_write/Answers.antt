@@ -36,31 +36,31 @@ returns-in_err-give_text-clause-err g c =
     let g0 = c.args.grid.now in
     on_err c.from_residual-in_err-give_text.result (HoldsPrefix_join _ _ _ (codes "LGA1") (flags g0 ++ from_x g0) c.in_ok-give_all.ensures.ok
     (HoldsPrefix_join _ _ _ (flags g0) (from_x g0) (rw c.flags.ensures at c.in_ok-give_all-2.ensures.ok)
-    (HoldsPrefix_front _ _ (text_field g0.geo.x) (from_y g0) (rw c.as_slice.ensures at c.in_err-give_text.ensures.err))))
+    (HoldsPrefix_front _ _ (text_field g0.geo.x) (from_y g0) (rw c.as_slice.ensures at c.in_err-give_text.ensures.gives.err))))
 
 pub returns-in_err-give_text-2-clause-err : goal.returns-in_err-give_text-2-clause-err
 returns-in_err-give_text-2-clause-err g c =
     let g0 = c.args.grid.now in
     on_err c.from_residual-in_err-give_text-2.result (HoldsPrefix_join _ _ _ (codes "LGA1") (flags g0 ++ from_x g0) c.in_ok-give_all.ensures.ok
     (HoldsPrefix_join _ _ _ (flags g0) (from_x g0) (rw c.flags.ensures at c.in_ok-give_all-2.ensures.ok)
-    (HoldsPrefix_join _ _ _ (text_field g0.geo.x) (from_y g0) (rw c.as_slice.ensures at c.in_ok-give_text.ensures.ok)
-    (HoldsPrefix_front _ _ (text_field g0.geo.y) (from_cell g0) (rw c.as_slice-2.ensures at c.in_err-give_text-2.ensures.err)))))
+    (HoldsPrefix_join _ _ _ (text_field g0.geo.x) (from_y g0) (rw c.as_slice.ensures at c.in_ok-give_text.ensures.gives.ok)
+    (HoldsPrefix_front _ _ (text_field g0.geo.y) (from_cell g0) (rw c.as_slice-2.ensures at c.in_err-give_text-2.ensures.gives.err)))))
 
 pub returns-in_err-give_text-3-clause-err : goal.returns-in_err-give_text-3-clause-err
 returns-in_err-give_text-3-clause-err g c =
     let g0 = c.args.grid.now in
     on_err c.from_residual-in_err-give_text-3.result (HoldsPrefix_join _ _ _ (codes "LGA1") (flags g0 ++ from_x g0) c.in_ok-give_all.ensures.ok
     (HoldsPrefix_join _ _ _ (flags g0) (from_x g0) (rw c.flags.ensures at c.in_ok-give_all-2.ensures.ok)
-    (HoldsPrefix_join _ _ _ (text_field g0.geo.x) (from_y g0) (rw c.as_slice.ensures at c.in_ok-give_text.ensures.ok)
-    (HoldsPrefix_join _ _ _ (text_field g0.geo.y) (from_cell g0) (rw c.as_slice-2.ensures at c.in_ok-give_text-2.ensures.ok)
-    (HoldsPrefix_front _ _ (text_field g0.geo.cell) (last_fields g0) (rw c.as_slice-3.ensures at c.in_err-give_text-3.ensures.err))))))
+    (HoldsPrefix_join _ _ _ (text_field g0.geo.x) (from_y g0) (rw c.as_slice.ensures at c.in_ok-give_text.ensures.gives.ok)
+    (HoldsPrefix_join _ _ _ (text_field g0.geo.y) (from_cell g0) (rw c.as_slice-2.ensures at c.in_ok-give_text-2.ensures.gives.ok)
+    (HoldsPrefix_front _ _ (text_field g0.geo.cell) (last_fields g0) (rw c.as_slice-3.ensures at c.in_err-give_text-3.ensures.gives.err))))))
 
 pub returns-clause-err : goal.returns-clause-err
 returns-clause-err g c =
     let g0 = c.args.grid.now in
     on_err_weaker c.give_last.result (λ h. (HoldsPrefix_join _ _ _ (codes "LGA1") (flags g0 ++ from_x g0) c.in_ok-give_all.ensures.ok
     (HoldsPrefix_join _ _ _ (flags g0) (from_x g0) (rw c.flags.ensures at c.in_ok-give_all-2.ensures.ok)
-    (HoldsPrefix_join _ _ _ (text_field g0.geo.x) (from_y g0) (rw c.as_slice.ensures at c.in_ok-give_text.ensures.ok)
-    (HoldsPrefix_join _ _ _ (text_field g0.geo.y) (from_cell g0) (rw c.as_slice-2.ensures at c.in_ok-give_text-2.ensures.ok)
-    (HoldsPrefix_join _ _ _ (text_field g0.geo.cell) (last_fields g0) (rw c.as_slice-3.ensures at c.in_ok-give_text-3.ensures.ok)
-    h)))))) c.give_last.ensures.err
+    (HoldsPrefix_join _ _ _ (text_field g0.geo.x) (from_y g0) (rw c.as_slice.ensures at c.in_ok-give_text.ensures.gives.ok)
+    (HoldsPrefix_join _ _ _ (text_field g0.geo.y) (from_cell g0) (rw c.as_slice-2.ensures at c.in_ok-give_text-2.ensures.gives.ok)
+    (HoldsPrefix_join _ _ _ (text_field g0.geo.cell) (last_fields g0) (rw c.as_slice-3.ensures at c.in_ok-give_text-3.ensures.gives.ok)
+    h)))))) c.give_last.ensures.gives.err

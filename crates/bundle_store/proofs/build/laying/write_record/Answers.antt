@@ -1,4 +1,4 @@
-use Rattle.std.proofs.Common.{ℕ, List, ◌++◌, ap, ◌∙◌}
+use Rattle.std.proofs.Common.{ℕ, List, ◌++◌, ap, ◌∙◌, rules}
 use Rattle.std.proofs.lemmas.Result.{on_ok_weaker}
 use Rattle.outside_io.specs.volume.Disk.{Disk}
 use Rattle.outside_io.specs.volume.History.{current}
@@ -16,8 +16,12 @@ returns-clause-done g c = λ told.
           ∙ record_;
     }) (c.write.ensures.ok told)
 
-pub returns-clause-during : goal.returns-clause-during
-returns-clause-during g c = λ told.
-    let crash = c.write.ensures.crash told in
-    let old = g.V.Volume.history c.args.vol.now in
-    journal_stays _ _ _ _ (journal_starts old) c.write.ensures.time crash.other
+pub returns-clause-changes : goal.returns-clause-changes
+returns-clause-changes g c = record {
+  same = (cc);
+  counted = search rules;
+  during = λ told.
+      let crash = c.write.ensures.crash told in
+      let old = g.V.Volume.history c.args.vol.now in
+      journal_stays _ _ _ _ (journal_starts old) c.write.ensures.time crash.other;
+}

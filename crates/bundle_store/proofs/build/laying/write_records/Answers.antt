@@ -24,7 +24,7 @@ loop-slot-init g c =
     }
 
 pub write_slot-requires-clause-room : goal.write_slot-requires-clause-room
-write_slot-requires-clause-room g c = omega (arith, c.loop-slot.invariant.at, length-records (table_map c.args.tiles.now c.args.table.now) c.loop-slot.slot c.requires.tiles)
+write_slot-requires-clause-room g c = omega (arith, c.loop-slot.invariant.at, length-records (table_map c.args.tiles.now c.args.table.now) c.loop-slot.slot c.requires.table.are_tiles)
 
 pub loop-slot-preserved : goal.loop-slot-preserved
 loop-slot-preserved g c =
@@ -43,7 +43,7 @@ loop-slot-preserved g c =
             journal = now.journal ∙ was.journal;
             bundle = now.bundle ∙ ap (λ (l : List ℕ). l ++ more) was.bundle ∙ append_assoc old.bundle.now (records map n) more ∙ ap (λ (l : List ℕ). old.bundle.now ++ l) (sym step);
           };
-      during = λ told. during_join (KeepsJournal old) _ _ _ (inv.during told) (during_map _ (KeepsJournal old) _ _ (λ d keeps. record { journal = keeps.journal ∙ (inv.done told).journal }) (c.write_slot.ensures.during (inv.told ∙ told)));
-      told = c.write_slot.ensures.told.same ∙ inv.told;
-      counted = c.in_ok-at.ensures.told.counted ∙ inv.counted;
+      during = λ told. during_join (KeepsJournal old) _ _ _ (inv.during told) (during_map _ (KeepsJournal old) _ _ (λ d keeps. record { journal = keeps.journal ∙ (inv.done told).journal }) (c.write_slot.ensures.changes.during (inv.told ∙ told)));
+      told = c.write_slot.ensures.changes.same ∙ inv.told;
+      counted = c.in_ok-at.ensures.changes.counted ∙ inv.counted;
     }

@@ -22,13 +22,17 @@ write-requires-clause-end g c =
     let four : length c.to_le_bytes-size.result ≡ 4 = search rules in
     omega (arith, four, c.loop-i.invariant.at, c.requires.room, records_within c.args.tiles.now c.loop-i.i (omega (arith, c.loop-i-test.true, c.len-i-end.ensures)))
 
-pub returns-in_err-write-clause-during : goal.returns-in_err-write-clause-during
-returns-in_err-write-clause-during g c = λ told.
-    let inv = c.loop-i.invariant in
-    let old = g.V.Volume.history c.args.vol.now in
-    let more = group_records (take c.loop-i.i c.args.tiles.now) in
-    append_during old _ _ more c.to_le_bytes-size.result c.loop-i.at c.write.result (inv.so_far told) (omega (arith, inv.at, c.requires.end told, length-append (contents Bundle old) more))
-    c.write.ensures.time (c.write.ensures.crash (inv.told ∙ told))
+pub returns-in_err-write-clause-changes : goal.returns-in_err-write-clause-changes
+returns-in_err-write-clause-changes g c = record {
+  same = (cc);
+  counted = search rules;
+  during = λ told.
+      let inv = c.loop-i.invariant in
+      let old = g.V.Volume.history c.args.vol.now in
+      let more = group_records (take c.loop-i.i c.args.tiles.now) in
+      append_during old _ _ more c.to_le_bytes-size.result c.loop-i.at c.write.result (inv.so_far told) (omega (arith, inv.at, c.requires.end told, length-append (contents Bundle old) more))
+      c.write.ensures.time (c.write.ensures.crash (inv.told ∙ told));
+}
 
 pub overflow_add-at : goal.overflow_add-at
 overflow_add-at g c = omega (arith, c.loop-i.invariant.at, c.requires.room, records_within c.args.tiles.now c.loop-i.i (omega (arith, c.loop-i-test.true, c.len-i-end.ensures)))
@@ -49,18 +53,22 @@ write-requires-in-loop-i-clause-within g c = λ told_1.
     let four : length c.to_le_bytes-size.result ≡ 4 = search rules in
     omega (arith, ap length one.is, four, end, length-append (contents Bundle old) (more ++ c.to_le_bytes-size.result), length-append more c.to_le_bytes-size.result, length-append (contents Bundle old) more)
 
-pub returns-in_err-write-2-clause-during : goal.returns-in_err-write-2-clause-during
-returns-in_err-write-2-clause-during g c = λ told.
-    let inv = c.loop-i.invariant in
-    let old = g.V.Volume.history c.args.vol.now in
-    let more = group_records (take c.loop-i.i c.args.tiles.now) in
-    let told_1 = inv.told ∙ told in
-    let end : c.loop-i.at ≡ length (contents Bundle old ++ more) = omega (arith, inv.at, c.requires.end told, length-append (contents Bundle old) more) in
-    let one = append_on old _ _ more c.to_le_bytes-size.result c.loop-i.at c.write.result (inv.so_far told) end c.write.ensures.time (c.write.ensures.crash told_1) (c.in_ok-write.ensures.ok told_1) in
-    let four : length c.to_le_bytes-size.result ≡ 4 = search rules in
-    append_during old _ _ (more ++ c.to_le_bytes-size.result) c.bytes-tile.result.now (c.loop-i.at + 4) c.write-in-loop-i.result one
-    (omega (arith, four, end, length-append (contents Bundle old) (more ++ c.to_le_bytes-size.result), length-append more c.to_le_bytes-size.result, length-append (contents Bundle old) more))
-    c.write-in-loop-i.ensures.time (c.write-in-loop-i.ensures.crash (c.write.ensures.told ∙ told_1))
+pub returns-in_err-write-2-clause-changes : goal.returns-in_err-write-2-clause-changes
+returns-in_err-write-2-clause-changes g c = record {
+  same = (cc);
+  counted = search rules;
+  during = λ told.
+      let inv = c.loop-i.invariant in
+      let old = g.V.Volume.history c.args.vol.now in
+      let more = group_records (take c.loop-i.i c.args.tiles.now) in
+      let told_1 = inv.told ∙ told in
+      let end : c.loop-i.at ≡ length (contents Bundle old ++ more) = omega (arith, inv.at, c.requires.end told, length-append (contents Bundle old) more) in
+      let one = append_on old _ _ more c.to_le_bytes-size.result c.loop-i.at c.write.result (inv.so_far told) end c.write.ensures.time (c.write.ensures.crash told_1) (c.in_ok-write.ensures.ok told_1) in
+      let four : length c.to_le_bytes-size.result ≡ 4 = search rules in
+      append_during old _ _ (more ++ c.to_le_bytes-size.result) c.bytes-tile.result.now (c.loop-i.at + 4) c.write-in-loop-i.result one
+      (omega (arith, four, end, length-append (contents Bundle old) (more ++ c.to_le_bytes-size.result), length-append more c.to_le_bytes-size.result, length-append (contents Bundle old) more))
+      c.write-in-loop-i.ensures.time (c.write-in-loop-i.ensures.crash (c.write.ensures.told ∙ told_1));
+}
 
 pub overflow_add-at-in-loop-i-2 : goal.overflow_add-at-in-loop-i-2
 overflow_add-at-in-loop-i-2 g c =
@@ -100,7 +108,11 @@ returns-clause-done g c = λ told.
     let all : group_records (take c.loop-i.i c.args.tiles.now) ≡ group_records c.args.tiles.now = ap group_records (take_all c.loop-i.i c.args.tiles.now (omega (arith, c.loop-i-test.false, c.len-i-end.ensures))) in
     append_done (g.V.Volume.history c.args.vol.now) _ _ (group_records c.args.tiles.now) c.sync.result (subst (Appending (g.V.Volume.history c.args.vol.now) _) all (inv.so_far told)) c.sync.ensures.time (c.sync.ensures.ok (inv.told ∙ told))
 
-pub returns-clause-during : goal.returns-clause-during
-returns-clause-during g c = λ told.
-    let inv = c.loop-i.invariant in
-    append_synced (g.V.Volume.history c.args.vol.now) _ _ (group_records (take c.loop-i.i c.args.tiles.now)) c.sync.result (inv.so_far told) c.sync.ensures.time (c.sync.ensures.crash (inv.told ∙ told))
+pub returns-clause-changes : goal.returns-clause-changes
+returns-clause-changes g c = record {
+  same = (cc);
+  counted = search rules;
+  during = λ told.
+      let inv = c.loop-i.invariant in
+      append_synced (g.V.Volume.history c.args.vol.now) _ _ (group_records (take c.loop-i.i c.args.tiles.now)) c.sync.result (inv.so_far told) c.sync.ensures.time (c.sync.ensures.crash (inv.told ∙ told));
+}

@@ -1,4 +1,4 @@
-use Rattle.std.proofs.Common.{◌≡◌, ◌⊎◌, inl, inr, refl, ℕ, List, sym, ap, subst, ◌∙◌, ◌∷◌, drop}
+use Rattle.std.proofs.Common.{◌≡◌, ◌⊎◌, inl, inr, refl, ℕ, List, sym, ap, subst, ◌∙◌, ◌∷◌, drop, rules}
 use Rattle.std.proofs.lemmas.Result.{IfOk-from_err, on_ok_weaker}
 use Rattle.outside_io.specs.volume.Disk.{Disk, File, IsSettled, settled}
 use Rattle.outside_io.specs.volume.History.{current}
@@ -11,32 +11,40 @@ use Rattle.bundle_store.proofs.GroupStanding.{in_group_opening, ways_gated}
 use Rattle.bundle_store.proofs.Standing.{weaker}
 use Rattle.bundle_store.proofs.put.steps.apply.Goals as goal
 
-pub returns-in_err-open_gate-clause-images : goal.returns-in_err-open_gate-clause-images
-returns-in_err-open_gate-clause-images g c = λ told.
-    let old = g.V.Volume.history c.args.vol.now in
-    let b = (current old).bundle.now in
-    let j = (current old).journal.now in
-    let Either : TileMap → Type 0 = λ map. (map ≡ tiles b) ⊎ (map ≡ tiles (with_entries c.args.header.now c.args.group.now b)) in
-    let Pass : Disk → Type 0 = λ d. IsReadable b → AreUnderWay b j c.args.group.now c.args.header.now → EachImage Either d in
-    during_map _ Pass _ _ (λ d keeps is way. in_group_opening b j c.args.group.now c.args.header.now Either (current old) d (c.requires.whole told) way is (inl refl) (inr refl) (c.requires.quiet told).bundle refl keeps) (c.open_gate.ensures.during told)
+pub returns-in_err-open_gate-clause-changes : goal.returns-in_err-open_gate-clause-changes
+returns-in_err-open_gate-clause-changes g c = record {
+  same = (cc);
+  counted = search rules;
+  during = λ told.
+      let old = g.V.Volume.history c.args.vol.now in
+      let b = (current old).bundle.now in
+      let j = (current old).journal.now in
+      let Either : TileMap → Type 0 = λ map. (map ≡ tiles b) ⊎ (map ≡ tiles (with_entries c.args.header.now c.args.group.now b)) in
+      let Pass : Disk → Type 0 = λ d. IsReadable b → AreUnderWay b j c.args.group.now c.args.header.now → EachImage Either d in
+      during_map _ Pass _ _ (λ d keeps is way. in_group_opening b j c.args.group.now c.args.header.now Either (current old) d (c.requires.whole told) way is (inl refl) (inr refl) (c.requires.quiet told).bundle refl keeps) (c.open_gate.ensures.during told);
+}
 
-pub returns-clause-images : goal.returns-clause-images
-returns-clause-images g c = λ told.
-    let old = g.V.Volume.history c.args.vol.now in
-    let b = (current old).bundle.now in
-    let j = (current old).journal.now in
-    let h = c.args.header.now in
-    let es = c.args.group.now in
-    let Either : TileMap → Type 0 = λ map. (map ≡ tiles b) ⊎ (map ≡ tiles (with_entries h es b)) in
-    let Pass : Disk → Type 0 = λ d. IsReadable b → AreUnderWay b j es h → EachImage Either d in
-    let opening = during_map _ Pass _ _ (λ d keeps is way. in_group_opening b j es h Either (current old) d (c.requires.whole told) way is (inl refl) (inr refl) (c.requires.quiet told).bundle refl keeps) (c.open_gate.ensures.during told) in
-    let told_1 = c.open_gate.ensures.told ∙ told in
-    let done = c.in_ok-open_gate.ensures.done told in
-    let next = current (g.V.Volume.history c.open_gate.new.vol) in
-    let bundle = ap (λ (x : Disk). x.bundle.now) done in
-    let journal = ap (λ (x : Disk). x.journal.now) done in
-    let redoing = during_map _ Pass _ _ (λ d each is way. weaker (λ map. map ≡ tiles (with_entries h es next.bundle.now)) Either d (λ map same. inr (same ∙ ap (λ (l : List ℕ). tiles (with_entries h es l)) bundle)) (each (ways_gated b next.bundle.now j next.journal.now 1 es h (c.requires.whole told) bundle journal way))) (c.redo.ensures.images told_1) in
-    during_join Pass _ _ _ opening redoing
+pub returns-clause-changes : goal.returns-clause-changes
+returns-clause-changes g c = record {
+  same = (cc);
+  counted = search rules;
+  during = λ told.
+      let old = g.V.Volume.history c.args.vol.now in
+      let b = (current old).bundle.now in
+      let j = (current old).journal.now in
+      let h = c.args.header.now in
+      let es = c.args.group.now in
+      let Either : TileMap → Type 0 = λ map. (map ≡ tiles b) ⊎ (map ≡ tiles (with_entries h es b)) in
+      let Pass : Disk → Type 0 = λ d. IsReadable b → AreUnderWay b j es h → EachImage Either d in
+      let opening = during_map _ Pass _ _ (λ d keeps is way. in_group_opening b j es h Either (current old) d (c.requires.whole told) way is (inl refl) (inr refl) (c.requires.quiet told).bundle refl keeps) (c.open_gate.ensures.during told) in
+      let told_1 = c.open_gate.ensures.told ∙ told in
+      let done = c.in_ok-open_gate.ensures.done told in
+      let next = current (g.V.Volume.history c.open_gate.new.vol) in
+      let bundle = ap (λ (x : Disk). x.bundle.now) done in
+      let journal = ap (λ (x : Disk). x.journal.now) done in
+      let redoing = during_map _ Pass _ _ (λ d each is way. weaker (λ map. map ≡ tiles (with_entries h es next.bundle.now)) Either d (λ map same. inr (same ∙ ap (λ (l : List ℕ). tiles (with_entries h es l)) bundle)) (each (ways_gated b next.bundle.now j next.journal.now 1 es h (c.requires.whole told) bundle journal way))) (c.redo.ensures.changes.during told_1) in
+      during_join Pass _ _ _ opening redoing;
+}
 
 pub returns-clause-done : goal.returns-clause-done
 returns-clause-done g c = λ told.

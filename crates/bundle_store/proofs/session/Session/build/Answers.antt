@@ -6,7 +6,7 @@ use Rattle.side_journal.specs.Says.{IsOpen}
 use Rattle.bundle_store.specs.Build.{EachFits}
 use Rattle.bundle_store.specs.Images.{EachImage, EmptyOr, HoldsClosed}
 use Rattle.bundle_store.specs.declared.fault.StoreFault.{StoreFault}
-use Rattle.bundle_store.specs.inside.Table.{table_map}
+use Rattle.bundle_store.specs.inside.Table.{NumbersTiles, table_map}
 use Rattle.bundle_store.specs.Built.{HoldsTiles}
 use Rattle.bundle_store.specs.Layout.{layout}
 use Rattle.bundle_store.specs.Tiles.{AreTiles, TileMap, tiles}
@@ -44,13 +44,15 @@ returns-clause-holds g c = λ told.
     let are = are_shown us table c.in_ok-table.ensures.long c.in_ok-table.ensures.table (subst EachFits c.all.ensures c.in_ok-check_tiles.ensures.fits) in
     holds c.build_on-built.result _ _ (current (g.V.Volume.history c.build_on-built.new.vol)) (subst AreTiles (sym same) are) (same ∙ c.in_ok-table.ensures.last) (c.build_on-built.ensures.done told)
 
-pub build_on-built-requires-clause-tiles : goal.build_on-built-requires-clause-tiles
-build_on-built-requires-clause-tiles g c =
+pub build_on-built-requires-clause-table : goal.build_on-built-requires-clause-table
+build_on-built-requires-clause-table g c =
     let us = c.args.tiles.now in
     let table = c.in_ok-table.table.items in
     let fits = subst EachFits c.all.ensures c.in_ok-check_tiles.ensures.fits in
-    subst AreTiles (sym (ap (table_map us) c.as_slice.ensures.value))
-    (are_shown us table c.in_ok-table.ensures.long c.in_ok-table.ensures.table fits)
+    subst (NumbersTiles us) (sym c.as_slice.ensures.value) (record {
+      are_numbers = c.in_ok-table.ensures.table;
+      are_tiles = are_shown us table c.in_ok-table.ensures.long c.in_ok-table.ensures.table fits;
+    })
 
 pub returns-clause-images : goal.returns-clause-images
 returns-clause-images g c = λ told.
@@ -59,4 +61,4 @@ returns-clause-images g c = λ told.
     let same = ap (table_map us) c.as_slice.ensures.value ∙ last in
     let Each : Disk → TileMap → Type 0 = λ d map. EachImage (EmptyOr map) d in
     during_map _ _ _ _ (λ d each running is. subst (Each d) same (each is))
-    (c.build_on-built.ensures.images told)
+    (c.build_on-built.ensures.changes.during told)

@@ -13,18 +13,21 @@ returns-in_err-len-clause-during g c = λ told.
 pub returns-in_err-check_index-clause-during : goal.returns-in_err-check_index-clause-during
 returns-in_err-check_index-clause-during g c = λ told.
     let measured = keeps_disk _ _ _ c.len.ensures.time (c.len.ensures.disk told) in
-    keeps_disk_on _ _ _ measured (c.check_index.ensures.during (c.len.ensures.told ∙ told))
+    keeps_disk_on _ _ _ measured (c.check_index.ensures.reads.during (c.len.ensures.told ∙ told))
 
 pub returns-clause-during : goal.returns-clause-during
 returns-clause-during g c = λ told.
     let measured = keeps_disk _ _ _ c.len.ensures.time (c.len.ensures.disk told) in
-    keeps_disk_on _ _ _ measured (c.check_index.ensures.during (c.len.ensures.told ∙ told))
+    keeps_disk_on _ _ _ measured (c.check_index.ensures.reads.during (c.len.ensures.told ∙ told))
 
 pub returns-in_err-check_index-clause-calls : goal.returns-in_err-check_index-clause-calls
 returns-in_err-check_index-clause-calls g c = (let time = c.len.ensures.time in omega (arith, time.clock, c.check_index.ensures.calls))
 
 pub returns-clause-calls : goal.returns-clause-calls
 returns-clause-calls g c = (let time = c.len.ensures.time in omega (arith, time.clock, c.check_index.ensures.calls))
+
+pub returns-clause-needed : goal.returns-clause-needed
+returns-clause-needed g c = (let time = c.len.ensures.time in omega (arith, time.clock, c.in_ok-check_index.ensures.needed))
 
 pub check_index-requires-clause-keeps : goal.check_index-requires-clause-keeps
 check_index-requires-clause-keeps g c = λ told_1.

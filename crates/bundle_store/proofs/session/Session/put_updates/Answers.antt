@@ -24,8 +24,8 @@ returns-then-self-clause-images g c = λ told.
 
 pub returns-in-Err-Device-clause-images : goal.returns-in-Err-Device-clause-images
 returns-in-Err-Device-clause-images g c = λ told.
-    during_map _ _ _ _ (λ d each running. each) (c.put_tiles-put.ensures.images told)
+    during_map _ _ _ _ (λ d each running. each) (c.put_tiles-put.ensures.changes.during told)
 
 pub returns-in_ok-check_tiles-2-clause-images : goal.returns-in_ok-check_tiles-2-clause-images
 returns-in_ok-check_tiles-2-clause-images g c = λ told.
-    during_map _ _ _ _ (λ d each running. each) (c.put_tiles-put.ensures.images told)
+    during_map _ _ _ _ (λ d each running. each) (c.put_tiles-put.ensures.changes.during told)

@@ -12,8 +12,8 @@ loop-i-preserved c =
     let three = c.type_inv.three i in
     let four = c.type_inv.four i in
     record {
-      one = added_more c.args.one.now c.args.first.now c.loop-i.first i c.from.result test c.from.ensures (omega (arith, c.from.ensures, one)) inv.one;
-      two = added_more c.args.two.now c.args.second.now c.loop-i.second i c.from-in-loop-i.result (omega (arith, test, c.requires.two)) c.from-in-loop-i.ensures (omega (arith, c.from-in-loop-i.ensures, two)) inv.two;
-      three = added_more c.args.three.now c.args.third.now c.loop-i.third i c.from-in-loop-i-2.result (omega (arith, test, c.requires.three)) c.from-in-loop-i-2.ensures (omega (arith, c.from-in-loop-i-2.ensures, three)) inv.three;
-      four = added_more c.args.four.now c.args.fourth.now c.loop-i.fourth i c.from-in-loop-i-3.result (omega (arith, test, c.requires.four)) c.from-in-loop-i-3.ensures (omega (arith, c.from-in-loop-i-3.ensures, four)) inv.four;
+      one = added_more c.args.one.now c.args.counts.now.first c.loop-i.counts.first i c.from.result test c.from.ensures (omega (arith, c.from.ensures, one)) inv.one;
+      two = added_more c.args.two.now c.args.counts.now.second c.loop-i.counts.second i c.from-in-loop-i.result (omega (arith, test, c.requires.two)) c.from-in-loop-i.ensures (omega (arith, c.from-in-loop-i.ensures, two)) inv.two;
+      three = added_more c.args.three.now c.args.counts.now.third c.loop-i.counts.third i c.from-in-loop-i-2.result (omega (arith, test, c.requires.three)) c.from-in-loop-i-2.ensures (omega (arith, c.from-in-loop-i-2.ensures, three)) inv.three;
+      four = added_more c.args.four.now c.args.counts.now.fourth c.loop-i.counts.fourth i c.from-in-loop-i-3.result (omega (arith, test, c.requires.four)) c.from-in-loop-i-3.ensures (omega (arith, c.from-in-loop-i-3.ensures, four)) inv.four;
     }

@@ -12,8 +12,8 @@ use Rattle.huff_codes.proofs.tables.table.read_codes.Goals as goal
 pub overflow_add-size : goal.overflow_add-size
 overflow_add-size c = omega (arith, c.bit_count.ensures, sum_by-le (λ l. l) 32 c.args.lengths.now c.requires.lengths.low)
 
-pub tested-requires-clause-some : goal.tested-requires-clause-some
-tested-requires-clause-some c =
+pub prefix_free-requires-clause-some : goal.prefix_free-requires-clause-some
+prefix_free-requires-clause-some c =
     let lengths = c.args.lengths.now in
     let words = take ((c.bit_count.result + 31) / 32 * 4) c.args.bytes.now in
     let size : length words ≡ words_size lengths = omega (arith, length-take-le ((c.bit_count.result + 31) / 32 * 4) c.args.bytes.now c.if-size-bytes.false, c.bit_count.ensures) in

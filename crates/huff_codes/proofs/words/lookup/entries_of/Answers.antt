@@ -17,8 +17,8 @@ loop-k-preserved c =
     let place = up % 2 ^ 64 % 2 ^ 11 in
     let two = get_or c.single_symbols-singles.result place no_entry in
     let second : IsEntry codes (up % 2 ^ 11) two = subst (λ (n : ℕ). IsEntry codes n two) (mod-mod-pow up 53 11) (singles.are place (omega (arith, singles.room))) in
-    let is = c.joined.ensures.is codes k (singles.are k (omega (arith, singles.room))) second in record {
-      room = length-set c.loop-k.entries k c.joined.result ∙ inv.room;
-      short = All-set IsShort c.loop-k.entries k c.joined.result c.joined.ensures.short inv.short;
-      are = entries_set codes c.loop-k.entries k c.joined.result inv.are is;
+    let is = c.join_entries.ensures.is codes k (singles.are k (omega (arith, singles.room))) second in record {
+      room = length-set c.loop-k.entries k c.join_entries.result ∙ inv.room;
+      short = All-set IsShort c.loop-k.entries k c.join_entries.result c.join_entries.ensures.short inv.short;
+      are = entries_set codes c.loop-k.entries k c.join_entries.result inv.are is;
     }

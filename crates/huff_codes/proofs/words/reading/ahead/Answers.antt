@@ -9,15 +9,15 @@ pub returns-then-rest-ge8 : goal.returns-then-rest-ge8
 returns-then-rest-ge8 c =
     let bytes = c.args.bytes.now in
     let rest = take (length bytes - c.args.bit / 32 * 4) (drop (c.args.bit / 32 * 4) bytes) in
-    subst (IsAhead (record { word = c.across.result; count = 32 })) (words_from bytes rest c.args.bit c.requires refl)
-    (window_two rest (c.args.bit % 32) c.read_u32-first.result c.read_u32-second.result c.across.result (omega arith) (omega arith) c.read_u32-first.ensures (c.read_u32-second.ensures ∙ ap (little_number 4) (take_rest rest 4)) (omega arith) c.across.ensures)
+    subst (IsAhead (record { word = c.bits_across.result; count = 32 })) (words_from bytes rest c.args.bit c.requires refl)
+    (window_two rest (c.args.bit % 32) c.read_u32-first.result c.read_u32-second.result c.bits_across.result (omega arith) (omega arith) c.read_u32-first.ensures (c.read_u32-second.ensures ∙ ap (little_number 4) (take_rest rest 4)) (omega arith) c.bits_across.ensures)
 
 pub returns-then-rest-ge4 : goal.returns-then-rest-ge4
 returns-then-rest-ge4 c =
     let bytes = c.args.bytes.now in
     let rest = take (length bytes - c.args.bit / 32 * 4) (drop (c.args.bit / 32 * 4) bytes) in
-    subst (IsAhead (record { word = c.across-then-rest-ge4.result; count = 32 - c.args.bit % 32 })) (words_from bytes rest c.args.bit c.requires refl)
-    (window_one rest (c.args.bit % 32) c.read_u32.result c.across-then-rest-ge4.result (omega arith) (omega arith) (omega arith) c.read_u32.ensures c.across-then-rest-ge4.ensures)
+    subst (IsAhead (record { word = c.bits_across-then-rest-ge4.result; count = 32 - c.args.bit % 32 })) (words_from bytes rest c.args.bit c.requires refl)
+    (window_one rest (c.args.bit % 32) c.read_u32.result c.bits_across-then-rest-ge4.result (omega arith) (omega arith) (omega arith) c.read_u32.ensures c.bits_across-then-rest-ge4.ensures)
 
 pub returns-else-rest-ge4 : goal.returns-else-rest-ge4
 returns-else-rest-ge4 c =

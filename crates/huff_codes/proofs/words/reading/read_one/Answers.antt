@@ -33,4 +33,4 @@ returns-in-None-clause-answer c before h n most =
     let left = drop c.args.from.bit (word_bits bytes) in
     let stuck = c.in-None.ensures.found left c.ahead-next.ensures in
     let few : length (before ++ front) < n = omega (arith, length-append before front, length-take-le c.args.from.count out (omega arith), c.requires.room, most) in
-    stop_fault codes bytes (before ++ front) c.args.from.bit n c.stopped.result h few stuck (c.stopped.ensures left c.ahead-next.ensures stuck)
+    stop_fault codes bytes (before ++ front) c.args.from.bit n c.stop_at.result h few stuck (c.stop_at.ensures left c.ahead-next.ensures stuck)

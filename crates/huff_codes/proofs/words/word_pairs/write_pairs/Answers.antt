@@ -49,7 +49,7 @@ loop-k-preserved c =
     let on : k + 2 ≡ 2 * (c.loop-k.k + 1) = omega arith in
     let p = c.push_pair-current in
     record {
-      room = p.ensures.room ∙ c.loop-k.invariant.room;
+      room = p.auto.out ∙ c.loop-k.invariant.room;
       bits =
           let long = two_long codes symbols k a b lt one two ∙ ap (λ n. length (joined_codes codes (take n symbols))) on in
           omega (arith, p.ensures.bits, c.loop-k.invariant.bits, long);
@@ -64,9 +64,11 @@ push_last-requires-clause-room c =
     let within = joined_within (numbered_codes c.args.numbers.now) c.args.symbols.now (2 * c.loop-k.k) in
     omega (arith, within, c.loop-k.invariant.bits, c.requires.room, c.loop-k.invariant.room)
 
-pub returns-clause-pending : goal.returns-clause-pending
-returns-clause-pending c = λ bits h.
-    let codes = numbered_codes c.args.numbers.now in
-    let k : c.loop-k.k ≡ length c.args.symbols.now / 2 = omega arith in
-    c.push_last.ensures.pending bits
-    (subst (λ n. IsLoose (bits ++ joined_codes codes (take (2 * n) c.args.symbols.now)) c.loop-k.out c.loop-k.current.held c.loop-k.current.count c.loop-k.current.at) k (c.loop-k.invariant.pending bits h))
+pub returns : goal.returns
+returns c = record {
+  pending = λ bits h.
+      let codes = numbered_codes c.args.numbers.now in
+      let k : c.loop-k.k ≡ length c.args.symbols.now / 2 = omega arith in
+      c.push_last.ensures.pending bits
+      (subst (λ n. IsLoose (bits ++ joined_codes codes (take (2 * n) c.args.symbols.now)) c.loop-k.out c.loop-k.current.held c.loop-k.current.count c.loop-k.current.at) k (c.loop-k.invariant.pending bits h));
+}

@@ -28,7 +28,7 @@ loop-symbol-preserved c =
     let byte = c.type_inv.symbols k in
     let joined = joined_held cs symbols k c.from.result no_code c.from.ensures (omega (arith, c.from.ensures, byte)) c.requires.size c.loop-symbol-test.true in
     record {
-      room = c.push-pending.ensures.room ∙ c.loop-symbol.invariant.room;
+      room = c.push-pending.auto.out ∙ c.loop-symbol.invariant.room;
       pending = subst (λ (bits : List Bool). IsPending bits c.push-pending.new.out c.push-pending.result.held c.push-pending.result.count c.push-pending.result.at) joined
           (c.push-pending.ensures.pending (joined_codes (codes_held cs) (take k symbols)) c.loop-symbol.invariant.pending);
     }
@@ -52,8 +52,8 @@ returns c =
     let all : take k symbols ≡ symbols = take_all k symbols c.loop-symbol-test.false in
     let pending = subst (λ (xs : List ℕ). IsPending (joined_codes (codes_held cs) xs) c.loop-symbol.out c.loop-symbol.pending.held c.loop-symbol.pending.count c.loop-symbol.pending.at) all c.loop-symbol.invariant.pending in
     let flushed = c.flush-end.ensures.flushed (joined_codes (codes_held cs) symbols) pending in
-    let size : length out ≡ length c.args.out.now = c.flush-end.ensures.room ∙ c.loop-symbol.invariant.room in
+    let size : length out ≡ length c.args.out.now = c.flush-end.auto.out ∙ c.loop-symbol.invariant.room in
     let whole : length out ≡ 4 * (length c.args.out.now / 4) = omega (arith, size, c.requires.words) in
-    let within : end ≤ length out = omega (arith, c.flush-end.ensures.within, c.flush-end.ensures.room) in
+    let within : end ≤ length out = omega (arith, c.flush-end.ensures.within, c.flush-end.auto.out) in
     filled (joined_codes (codes_held cs) symbols) out _ end (length c.args.out.now / 4) flushed whole
     (ap (λ (xs : List ℕ). take end out ++ (xs ++ drop (length out - end) (drop end out))) c.clear.ensures ∙ cleared out end within)

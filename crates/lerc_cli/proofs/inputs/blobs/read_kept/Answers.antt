@@ -5,4 +5,4 @@ use Rattle.lerc_cli.proofs.inputs.blobs.read_kept.Goals as goal
 
 pub returns-in-Err-clause-blobs : goal.returns-in-Err-clause-blobs
 returns-in-Err-clause-blobs g c =
-    subst (ReadsNone (g.S.Source.left c.args.src.now)) (sym c.stop.ensures) (reads_none c.in-Err.fault (g.S.Source.left c.args.src.now) c.in-Err.ensures.told)
+    subst (ReadsNone (g.S.Source.left c.args.src.now)) (sym c.bands_stop.ensures) (reads_none c.in-Err.fault (g.S.Source.left c.args.src.now) c.in-Err.ensures.told)

@@ -8,7 +8,7 @@ use Rattle.lerc_cli.proofs.inputs.tiles.take_updates.Goals as goal
 
 pub returns-in-Err-clause-updates : goal.returns-in-Err-clause-updates
 returns-in-Err-clause-updates g c =
-    inr (c.in-Err.stop, (c.stream_stop.ensures, subst (λ (n : ℕ). TellsStop c.args.version n (g.S.Source.left c.args.src.now) c.in-Err.stop) c.of.ensures.step c.in-Err.ensures.refused))
+    inr (c.in-Err.stop, (c.stream_stop.ensures, subst (λ (n : ℕ). TellsStop c.args.encoding.version n (g.S.Source.left c.args.src.now) c.in-Err.stop) c.of.ensures.step c.in-Err.ensures.refused))
 
 pub returns-in-Err-clause-source : goal.returns-in-Err-clause-source
 returns-in-Err-clause-source g c =
@@ -17,7 +17,7 @@ returns-in-Err-clause-source g c =
 
 pub returns-in-Ok-reserve-clause-updates : goal.returns-in-Ok-reserve-clause-updates
 returns-in-Ok-reserve-clause-updates g c =
-    subst (λ (n : ℕ). OfBytes (g.S.Source.left c.args.src.now) (λ bytes. IsUpdates c.args.version n bytes c.in-Ok.updates.items)) c.of.ensures.step c.in-Ok.ensures.ok
+    subst (λ (n : ℕ). OfBytes (g.S.Source.left c.args.src.now) (λ bytes. IsUpdates c.args.encoding.version n bytes c.in-Ok.updates.items)) c.of.ensures.step c.in-Ok.ensures.ok
 
 pub returns-in-Ok-reserve-clause-source : goal.returns-in-Ok-reserve-clause-source
 returns-in-Ok-reserve-clause-source g c = no_cause _ _ _ _ (λ is. absurd cc) (λ is. absurd cc) c.in-Ok.ensures.counted

@@ -6,5 +6,5 @@ use Rattle.lerc_decode.proofs.blob.blocks.read_depths.Given as goal
 abbrev pub invariant-loop-d : goal.invariant-loop-d
 invariant-loop-d g l = record {
   frame : KeepsFrame (g.T.Target.pixels l.fn.raster) (g.T.Target.pixels l.raster) (g.T.Target.kept l.fn.raster) (g.T.Target.kept l.raster);
-  read : HasRead l.header (marks_of (g.T.Target.pixels l.fn.raster)) l.tops l.rest (block_number l.header l.a l.b l.d) l.at (g.T.Target.pixels l.raster);
+  read : HasRead l.blocks.header.now (marks_of (g.T.Target.pixels l.fn.raster)) l.blocks.maxima.now l.blocks.rest.now (block_number l.blocks.header.now l.a l.b l.d) l.at (g.T.Target.pixels l.raster);
 }

@@ -1,15 +1,19 @@
-use Rattle.std.proofs.Common.{◌≡◌, ◌*◌, ℤ, List, length, sym, subst, arith, ◌∙◌}
-use Rattle.std.specs.Prelude.{IfErr}
+use Rattle.std.proofs.Common.{◌≡◌, ◌*◌, ℤ, List, length, ap, sym, subst, arith, ◌∙◌}
+use Rattle.std.specs.Prelude.{IfErr, All}
+use Rattle.std.proofs.lemmas.List.{length-map}
 use Rattle.std.proofs.lemmas.Int.{ints, to_z-of_z}
 use mir.Syntax.{w64}
 use mir.Val.{SFits, of_z, to_z}
+use Rattle.raster_cells.specs.declared.kind.PixelType.{PixelType}
 use Rattle.raster_cells.specs.PixelType.{InRange}
-use Rattle.raster_values.specs.Block.{PoursBlock}
+use Rattle.raster_cells.specs.Listed.{sums_of}
+use Rattle.raster_values.specs.Block.{ScattersBlock}
 use Rattle.raster_cells.proofs.ValueBits.{same_bits}
 use Rattle.raster_values.specs.Flat.{marks_of}
+use Rattle.micro_block.specs.declared.context.SteppedBlock.{SteppedBlock}
 use Rattle.micro_block.specs.ReadSteps.{stepped_values}
 use Rattle.lerc_grammar.specs.Blocks.{first_block_faults}
-use Rattle.lerc_decode.specs.inside.Tops.{top_in}
+use Rattle.lerc_decode.specs.inside.Maxima.{top_in}
 use Rattle.lerc_decode.proofs.Filling.{keeps, same_frame}
 use Rattle.lerc_decode.proofs.BlockReading.{row_begins, col_begins, one_read, one_fault, square_within}
 use Rattle.lerc_decode.proofs.blob.blocks.read_one.Goals as goal
@@ -17,23 +21,31 @@ use Rattle.lerc_decode.proofs.blob.blocks.read_one.Goals as goal
 pub invariant_of-ctx-clause-top_of_type : goal.invariant_of-ctx-clause-top_of_type
 invariant_of-ctx-clause-top_of_type g c =
     let fit = c.at.ensures.in_range in
-    subst (InRange c.args.header.now.kind) (sym (same_bits c.args.header.now.kind c.at.result fit)) fit
+    subst (InRange c.args.blocks.now.header.now.kind) (sym (same_bits c.args.blocks.now.header.now.kind c.at.result fit)) fit
 
 pub invariant_of-ctx-clause-twice_error : goal.invariant_of-ctx-clause-twice_error
-invariant_of-ctx-clause-twice_error g c = c.requires.blocks.head.step
+invariant_of-ctx-clause-twice_error g c = c.args.blocks.now.topped.head.step
 
-pub at-requires-clause-tops : goal.at-requires-clause-tops
-at-requires-clause-tops g c = c.requires.blocks.tops_of
+pub at-requires-clause-maxima : goal.at-requires-clause-maxima
+at-requires-clause-maxima g c = c.args.blocks.now.topped.maxima_of
 
-pub pour_steps-requires-clause-place : goal.pour_steps-requires-clause-place
-pour_steps-requires-clause-place g c =
-    square_within c.args.header.now (g.T.Target.pixels c.args.raster.now) c.args.a c.args.b c.requires.blocks.head c.requires.square c.requires.shaped.shape
+pub scatter_given-requires-clause-place : goal.scatter_given-requires-clause-place
+scatter_given-requires-clause-place g c =
+    square_within c.args.blocks.now.header.now (g.T.Target.pixels c.args.raster.now) c.args.a c.args.b c.args.blocks.now.topped.head c.requires.square c.requires.shaped.shape
+
+pub scatter_given-requires-clause-count : goal.scatter_given-requires-clause-count
+scatter_given-requires-clause-count g c =
+    ap length c.of-sums.ensures.listed ∙ length-map _ _ ∙ length-map _ _ ∙ c.read_steps.auto.numbers ∙ c.requires.count
+
+pub scatter_given-requires-clause-in_range : goal.scatter_given-requires-clause-in_range
+scatter_given-requires-clause-in_range g c =
+    subst (λ (k : PixelType). All (InRange k) (sums_of c.of-sums.result)) c.requires.shaped.shape.kind c.of-sums.ensures.in_range
 
 pub returns-in-Ok-clause-frame : goal.returns-in-Ok-clause-frame
 returns-in-Ok-clause-frame g c = record {
-  raster = c.pour_steps.ensures.sound;
-  marks = keeps _ _ c.requires.shaped.raster c.pour_steps.ensures.sound c.pour_steps.ensures.poured.same;
-  kept = c.pour_steps.ensures.kept;
+  raster = c.scatter_given.ensures.sound;
+  marks = keeps _ _ c.requires.shaped.raster c.scatter_given.ensures.sound c.scatter_given.ensures.scattered.same;
+  kept = c.scatter_given.ensures.kept;
 }
 
 pub returns-in-Err-clause-frame : goal.returns-in-Err-clause-frame
@@ -41,7 +53,7 @@ returns-in-Err-clause-frame g c = same_frame _ _ c.requires.shaped.raster
 
 pub returns-in-Ok-clause-ok : goal.returns-in-Ok-clause-ok
 returns-in-Ok-clause-ok g c =
-    let h = c.args.header.now in
+    let h = c.args.blocks.now.header.now in
     let kind = h.kind in
     let read = c.in-Ok.read in
     let numbers = c.read_steps.new.numbers in
@@ -50,22 +62,25 @@ returns-in-Ok-clause-ok g c =
     let low : to_z w64 (of_z w64 read.offset) ≡ read.offset = same_bits kind read.offset c.in-Ok.ensures.offset in
     let far : to_z w64 (of_z w64 read.step) ≡ read.step = to_z-of_z w64 read.step fits in
     let high : to_z w64 (of_z w64 read.top) ≡ read.top = same_bits kind read.top c.in-Ok.ensures.top in
-    let poured : PoursBlock (g.T.Target.pixels c.args.raster.now) (g.T.Target.pixels c.pour_steps.new.self) (c.args.a * h.side) (c.args.b * h.side) h.side c.args.d (stepped_values read numbers) =
-    subst (λ (u : List ℤ). PoursBlock (g.T.Target.pixels c.args.raster.now) (g.T.Target.pixels c.pour_steps.new.self) (c.args.a * h.side) (c.args.b * h.side) h.side c.args.d u)
-    (λ i. stepped_values (record { used = read.used; offset = low i; step = far i; top = high i }) numbers) c.pour_steps.ensures.poured in
-    one_read h (g.T.Target.pixels c.args.raster.now) (g.T.Target.pixels c.pour_steps.new.self) c.args.tops.now (stepped_values read numbers) c.args.rest.now _ c.args.a c.args.b c.args.d c.args.at read.used (length c.args.numbers.now)
-    c.requires.blocks.head c.requires.square c.requires.depth c.requires.shaped.shape (same_bits kind c.at.result c.at.ensures.in_range ∙ c.at.ensures.value) c.requires.count c.requires.read c.in-Ok.ensures.ok poured
+    let near : SteppedBlock = record { used = read.used; offset = to_z w64 (of_z w64 read.offset); step = to_z w64 (of_z w64 read.step); top = to_z w64 (of_z w64 read.top) } in
+    let given : ScattersBlock (g.T.Target.pixels c.args.raster.now) (g.T.Target.pixels c.scatter_given.new.self) (c.args.a * h.side) (c.args.b * h.side) h.side c.args.d (stepped_values near numbers) =
+    subst (λ (u : List ℤ). ScattersBlock (g.T.Target.pixels c.args.raster.now) (g.T.Target.pixels c.scatter_given.new.self) (c.args.a * h.side) (c.args.b * h.side) h.side c.args.d u) c.of-sums.ensures.listed c.scatter_given.ensures.scattered in
+    let scattered : ScattersBlock (g.T.Target.pixels c.args.raster.now) (g.T.Target.pixels c.scatter_given.new.self) (c.args.a * h.side) (c.args.b * h.side) h.side c.args.d (stepped_values read numbers) =
+    subst (λ (u : List ℤ). ScattersBlock (g.T.Target.pixels c.args.raster.now) (g.T.Target.pixels c.scatter_given.new.self) (c.args.a * h.side) (c.args.b * h.side) h.side c.args.d u)
+    (λ i. stepped_values (record { used = read.used; offset = low i; step = far i; top = high i }) numbers) given in
+    one_read h (g.T.Target.pixels c.args.raster.now) (g.T.Target.pixels c.scatter_given.new.self) c.args.blocks.now.maxima.now (stepped_values read numbers) c.args.blocks.now.rest.now _ c.args.a c.args.b c.args.d c.args.at read.used (length c.args.numbers.now)
+    c.args.blocks.now.topped.head c.requires.square c.requires.depth c.requires.shaped.shape (same_bits kind c.at.result c.at.ensures.in_range ∙ c.at.ensures.value) c.requires.count c.requires.read c.in-Ok.ensures.ok scattered
 
 pub returns-in-Err-clause-fault : goal.returns-in-Err-clause-fault
 returns-in-Err-clause-fault g c =
-    subst (λ r. IfErr r (λ f. first_block_faults c.args.header.now (marks_of (g.T.Target.pixels c.args.raster.now)) (top_in c.args.header.now c.args.tops.now) c.args.rest.now f.place f.reason)) (sym c.refused.ensures)
-    (one_fault c.args.header.now (g.T.Target.pixels c.args.raster.now) c.args.tops.now c.args.rest.now _ c.args.a c.args.b c.args.d c.args.at (length c.args.numbers.now) c.in-Err.fault
-    c.requires.square c.requires.depth c.requires.shaped.shape (same_bits c.args.header.now.kind c.at.result c.at.ensures.in_range ∙ c.at.ensures.value) c.requires.count c.requires.read ((c.read_steps.ensures.fault c.in-Err.fault).0 c.in-Err.is))
+    subst (λ r. IfErr r (λ f. first_block_faults c.args.blocks.now.header.now (marks_of (g.T.Target.pixels c.args.raster.now)) (top_in c.args.blocks.now.header.now c.args.blocks.now.maxima.now) c.args.blocks.now.rest.now f.place f.reason)) (sym c.refuse_block.ensures)
+    (one_fault c.args.blocks.now.header.now (g.T.Target.pixels c.args.raster.now) c.args.blocks.now.maxima.now c.args.blocks.now.rest.now _ c.args.a c.args.b c.args.d c.args.at (length c.args.numbers.now) c.in-Err.fault
+    c.requires.square c.requires.depth c.requires.shaped.shape (same_bits c.args.blocks.now.header.now.kind c.at.result c.at.ensures.in_range ∙ c.at.ensures.value) c.requires.count c.requires.read ((c.read_steps.ensures.fault c.in-Err.fault).0 c.in-Err.is))
 
 pub overflow_mul-row : goal.overflow_mul-row
 overflow_mul-row g c =
-    omega (arith, row_begins c.args.header.now c.args.a c.requires.blocks.head c.requires.square.down)
+    omega (arith, row_begins c.args.blocks.now.header.now c.args.a c.args.blocks.now.topped.head c.requires.square.down)
 
 pub overflow_mul-col : goal.overflow_mul-col
 overflow_mul-col g c =
-    omega (arith, col_begins c.args.header.now c.args.b c.requires.blocks.head c.requires.square.across)
+    omega (arith, col_begins c.args.blocks.now.header.now c.args.b c.args.blocks.now.topped.head c.requires.square.across)

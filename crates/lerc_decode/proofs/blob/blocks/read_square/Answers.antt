@@ -11,22 +11,22 @@ few side count low within =
     omega (arith, most, low, within)
 
 pub overflow_mul-a : goal.overflow_mul-a
-overflow_mul-a g c = omega (arith, row_begins c.args.header.now c.args.a c.requires.blocks.head c.requires.square.down)
+overflow_mul-a g c = omega (arith, row_begins c.args.blocks.now.header.now c.args.a c.args.blocks.now.topped.head c.requires.square.down)
 
 pub overflow_mul-b : goal.overflow_mul-b
-overflow_mul-b g c = omega (arith, col_begins c.args.header.now c.args.b c.requires.blocks.head c.requires.square.across)
+overflow_mul-b g c = omega (arith, col_begins c.args.blocks.now.header.now c.args.b c.args.blocks.now.topped.head c.requires.square.across)
 
 pub slice_bounds-read_depths-end-2 : goal.slice_bounds-read_depths-end-2
 slice_bounds-read_depths-end-2 g c =
     let count = c.block_valid_count-count in
-    let low = few c.args.header.now.side count.result c.requires.blocks.head.side_below
+    let low = few c.args.blocks.now.header.now.side count.result c.args.blocks.now.topped.head.side_below
     count.ensures.within in
     sym (length-take-le count.result c.args.room.now (omega (arith, low, c.requires.room)))
 
 pub read_depths-requires-clause-count : goal.read_depths-requires-clause-count
 read_depths-requires-clause-count g c =
     let count = c.block_valid_count-count in
-    let low = few c.args.header.now.side count.result c.requires.blocks.head.side_below
+    let low = few c.args.blocks.now.header.now.side count.result c.args.blocks.now.topped.head.side_below
     count.ensures.within in
     length-take-le count.result c.args.room.now (omega (arith, low, c.requires.room))
     ∙ count.ensures.value

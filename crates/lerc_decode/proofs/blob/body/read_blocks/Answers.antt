@@ -2,12 +2,12 @@ use Rattle.std.proofs.Common.{List, ℕ, ◌<◌, drop, ◌∙◌, refl, sym, ap
 use Rattle.std.proofs.lemmas.List.{take_rest}
 use Rattle.raster_values.specs.Flat.{marks_of}
 use Rattle.lerc_grammar.specs.declared.parts.ImageForm.TheVariants.{Blocks}
-use Rattle.lerc_decode.specs.inside.Tops.{AreTopsOf, HasBoth}
+use Rattle.lerc_decode.specs.inside.Maxima.{AreMaximaOf, HasBoth}
 use Rattle.lerc_decode.proofs.Bodies.{blocks_fault, both_there, coded_there, err_map, image_blocks, ok_map}
 use Rattle.lerc_decode.proofs.blob.body.read_blocks.Goals as goal
 
-pub of-tops-requires-clause-lists : goal.of-tops-requires-clause-lists
-of-tops-requires-clause-lists g c =
+pub of-maxima-requires-clause-lists : goal.of-maxima-requires-clause-lists
+of-maxima-requires-clause-lists g c =
     let h = c.args.blob.now.header in
     let blob = c.args.blob.now.bytes.now in
     let form = Blocks c.args.place in
@@ -24,9 +24,9 @@ returns-clause-read g c =
     let mask = c.args.mask.now in
     let there = coded_there h blob mask (Blocks c.args.place) c.args.place refl c.requires.mask c.requires.form in
     let start = take_rest blob c.place_behind-start.result ∙ ap (λ n. drop n blob) c.place_behind-start.ensures.value in
-    let tops = subst (λ (u : List ℕ). AreTopsOf h u c.of-tops.result) start c.of-tops.ensures in
+    let maxima = subst (λ (u : List ℕ). AreMaximaOf h u c.of-maxima.result) start c.of-maxima.ensures in
     let some : 0 < h.depth = omega (arith, c.args.blob.now.head.shape.depth_above) in
     record {
-      ok = ok_map (image_blocks h blob mask c.args.place (g.T.Target.pixels c.args.raster.now) (g.T.Target.pixels c.pour_blocks.new.raster) c.of-tops.result there some c.pour_blocks.ensures.frame.marks tops) c.pour_blocks.result c.pour_blocks.ensures.ok;
-      fault = err_map (blocks_fault h blob mask (marks_of (g.T.Target.pixels c.args.raster.now)) c.args.place c.of-tops.result there some tops) c.pour_blocks.result c.pour_blocks.ensures.fault;
+      ok = ok_map (image_blocks h blob mask c.args.place (g.T.Target.pixels c.args.raster.now) (g.T.Target.pixels c.scatter_blocks.new.raster) c.of-maxima.result there some c.scatter_blocks.ensures.frame.marks maxima) c.scatter_blocks.result c.scatter_blocks.ensures.ok;
+      fault = err_map (blocks_fault h blob mask (marks_of (g.T.Target.pixels c.args.raster.now)) c.args.place c.of-maxima.result there some maxima) c.scatter_blocks.result c.scatter_blocks.ensures.fault;
     }

@@ -36,8 +36,8 @@ slice_bounds-fill_list-end g c =
     c.bytes.result c.in-Ranges.is c.requires.mask c.requires.form c.bytes.ensures in
     omega (arith, both)
 
-pub pour_sweep-requires-clause-values : goal.pour_sweep-requires-clause-values
-pour_sweep-requires-clause-values g c =
+pub scatter_sweep-requires-clause-values : goal.scatter_sweep-requires-clause-values
+scatter_sweep-requires-clause-values g c =
     few_values c.args.blob.now.bytes.now c.args.blob.now.header c.args.blob.now.head
 
 pub returns-in-Empty-clause-frame : goal.returns-in-Empty-clause-frame
@@ -70,6 +70,6 @@ returns-in-Sweep-clause-read g c =
     let at = c.in-Sweep.at in
     let there = sweep_there h blob mask c.args.form.now at c.in-Sweep.is c.requires.mask c.requires.form in
     record {
-      ok = ok_map (image_sweep h blob mask at (g.T.Target.pixels c.pour_sweep.new.raster) there) c.pour_sweep.result c.pour_sweep.ensures.ok;
-      fault = err_map (sweep_fault h blob mask (marks_of (g.T.Target.pixels c.args.raster.now)) at there) c.pour_sweep.result c.pour_sweep.ensures.fault;
+      ok = ok_map (image_sweep h blob mask at (g.T.Target.pixels c.scatter_sweep.new.raster) there) c.scatter_sweep.result c.scatter_sweep.ensures.ok;
+      fault = err_map (sweep_fault h blob mask (marks_of (g.T.Target.pixels c.args.raster.now)) at there) c.scatter_sweep.result c.scatter_sweep.ensures.fault;
     }

@@ -12,14 +12,14 @@ overflow_add-place c = omega (arith, c.requires.few, run_place _ c.args.runs.now
 pub returns-in-Err-clause-fault : goal.returns-in-Err-clause-fault
 returns-in-Err-clause-fault c =
     let h = c.args.header.now in
-    subst (λ r. IfErr r (IsFaultIn (moved c.args.place (runs_faults (h.rows * h.cols) h.valid c.args.runs.now)))) (sym c.stopped.ensures)
+    subst (λ r. IfErr r (IsFaultIn (moved c.args.place (runs_faults (h.rows * h.cols) h.valid c.args.runs.now)))) (sym c.refuse.ensures)
     (bad_run (h.rows * h.cols) h.valid c.args.place _ c.args.runs.now c.in-Err.fault c.read_runs.result c.read_runs.ensures.fault c.in-Err.is c.requires.room)
 
 pub returns-then-counted-header-clause-fault : goal.returns-then-counted-header-clause-fault
 returns-then-counted-header-clause-fault c =
     let h = c.args.header.now in
     let size : length c.read_runs.new.out ≡ mask_size (h.rows * h.cols) = c.read_runs.auto.out ∙ c.requires.room in
-    subst (λ r. IfErr r (IsFaultIn (moved c.args.place (runs_faults (h.rows * h.cols) h.valid c.args.runs.now)))) (sym c.stopped-then-counted-header.ensures)
+    subst (λ r. IfErr r (IsFaultIn (moved c.args.place (runs_faults (h.rows * h.cols) h.valid c.args.runs.now)))) (sym c.refuse-then-counted-header.ensures)
     (bad_count (h.rows * h.cols) h.valid c.args.place c.count_marked-counted.result c.args.runs.now c.read_runs.new.out c.in_default.ensures.ok size (c.count_marked-counted.ensures.value ∙ ap count_of c.clear_spare.ensures.marks) c.if-counted-header.true)
 
 pub returns-clause-ok : goal.returns-clause-ok

@@ -16,7 +16,7 @@ unreachable-requires g c =
     let d = c.step_all.new.decoder in
     let end = came first new d c.in-Ok.ensures.read c.in-Ok.ensures.end in
     let ok = ok_end first new d end (λ p r is. let e = c.in-Ok-finish_kept.ensures.refused p r is in cc) (λ is. let e = c.in-Ok-finish_kept.ensures.memory.1 is in cc) in
-    none_kept first new d c.in-Ok-finish_kept.found c.in-None.is (c.step_all.ensures.keeps (subst IsKeeping (sym c.keeping-decoder.ensures.kept) tt)) ok.1 c.in-Ok-finish_kept.ensures.verdict
+    none_kept first new d c.in-Ok-finish_kept.found c.in-None.is (c.step_all.ensures.keeps (subst IsKeeping (sym c.new_keeping-decoder.ensures.kept) tt)) ok.1 c.in-Ok-finish_kept.ensures.verdict
 
 pub returns-in-Some-clause-told : goal.returns-in-Some-clause-told
 returns-in-Some-clause-told g c =

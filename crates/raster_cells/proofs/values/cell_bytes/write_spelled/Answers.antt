@@ -2,7 +2,7 @@ use Rattle.std.proofs.Common.{◌≡◌, ◌+◌, ◌*◌, ◌<◌, ◌≤◌, �
 use Rattle.std.specs.Prelude.{pos}
 use Rattle.std.proofs.lemmas.List.{get_or-take, get_or-drop}
 use Rattle.raster_cells.specs.PixelType.{InRange, bytes_of, value_bytes}
-use Rattle.raster_cells.specs.inside.CellList.{values_in}
+use Rattle.raster_cells.specs.CellList.{values_in}
 use Rattle.raster_cells.proofs.ValueBits.{same_bits}
 use Rattle.raster_cells.proofs.CellRuns.{length-values_in}
 use Rattle.raster_cells.proofs.GivenRuns.{given_laid, given_long}

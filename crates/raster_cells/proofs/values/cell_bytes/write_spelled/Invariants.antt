@@ -1,7 +1,7 @@
 use Rattle.std.proofs.Common.{◌≡◌, ◌++◌, ◌*◌, take, drop}
 use Rattle.raster_cells.specs.PixelType.{bytes_of}
 use Rattle.raster_cells.specs.Values.{values_bytes}
-use Rattle.raster_cells.specs.inside.CellList.{values_in}
+use Rattle.raster_cells.specs.CellList.{values_in}
 use Rattle.raster_cells.proofs.values.cell_bytes.write_spelled.Given as goal
 
 abbrev pub invariant-loop-i : goal.invariant-loop-i

@@ -1,7 +1,7 @@
 use Rattle.std.proofs.Common.{◌≡◌, ◌+◌, ◌*◌, ◌≤◌, ◌++◌, ap, ◌∙◌, sym, subst, length, take, drop, arith}
 use Rattle.raster_cells.specs.PixelType.{bytes_of}
 use Rattle.raster_cells.specs.Values.{values_bytes}
-use Rattle.raster_cells.specs.inside.CellList.{CellList, values_in}
+use Rattle.raster_cells.specs.CellList.{CellList, values_in}
 use Rattle.raster_cells.proofs.CellRuns.{values_is}
 use Rattle.raster_cells.proofs.Spelled.{bytes_laid, bytes_put, length-bytes_put, bytes_put_in_range}
 use Rattle.raster_grids.proofs.HeldBytes.{are_held}

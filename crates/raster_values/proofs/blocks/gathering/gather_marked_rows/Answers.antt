@@ -9,17 +9,17 @@ use Rattle.raster_values.proofs.blocks.gathering.gather_marked_rows.Goals as goa
 
 pub overflow_mul-from : goal.overflow_mul-from
 overflow_mul-from c =
-    let h = row_inside c.loop-i.i (c.args.window.row + c.args.window.high) c.args.window.cols c.args.window.col c.args.window.wide (length c.args.plane.now.marks.now) c.args.plane.now.depth c.args.plane.now.d (length c.args.plane.now.samples.now.values) (omega arith) c.requires.within.all c.args.window.across c.args.plane.now.below c.args.plane.now.size c.args.plane.now.few in
+    let h = row_inside c.loop-i.i (c.args.window.row + c.args.window.high) c.args.window.cols c.args.window.col c.args.window.wide (length c.args.plane.now.marks.now) c.args.plane.now.depth c.args.plane.now.d (length c.args.plane.now.samples.now.values) (omega arith) c.requires.fits.within.all c.args.window.across c.args.plane.now.below c.args.plane.now.size c.args.plane.now.few in
     omega arith
 
 pub overflow_add-from : goal.overflow_add-from
 overflow_add-from c =
-    let h = row_inside c.loop-i.i (c.args.window.row + c.args.window.high) c.args.window.cols c.args.window.col c.args.window.wide (length c.args.plane.now.marks.now) c.args.plane.now.depth c.args.plane.now.d (length c.args.plane.now.samples.now.values) (omega arith) c.requires.within.all c.args.window.across c.args.plane.now.below c.args.plane.now.size c.args.plane.now.few in
+    let h = row_inside c.loop-i.i (c.args.window.row + c.args.window.high) c.args.window.cols c.args.window.col c.args.window.wide (length c.args.plane.now.marks.now) c.args.plane.now.depth c.args.plane.now.d (length c.args.plane.now.samples.now.values) (omega arith) c.requires.fits.within.all c.args.window.across c.args.plane.now.below c.args.plane.now.size c.args.plane.now.few in
     omega arith
 
 pub gather_run-n-requires-clause-within : goal.gather_run-n-requires-clause-within
 gather_run-n-requires-clause-within c =
-    let h = row_inside c.loop-i.i (c.args.window.row + c.args.window.high) c.args.window.cols c.args.window.col c.args.window.wide (length c.args.plane.now.marks.now) c.args.plane.now.depth c.args.plane.now.d (length c.args.plane.now.samples.now.values) (omega arith) c.requires.within.all c.args.window.across c.args.plane.now.below c.args.plane.now.size c.args.plane.now.few in
+    let h = row_inside c.loop-i.i (c.args.window.row + c.args.window.high) c.args.window.cols c.args.window.col c.args.window.wide (length c.args.plane.now.marks.now) c.args.plane.now.depth c.args.plane.now.d (length c.args.plane.now.samples.now.values) (omega arith) c.requires.fits.within.all c.args.window.across c.args.plane.now.below c.args.plane.now.size c.args.plane.now.few in
     omega arith
 
 pub loop-i-preserved : goal.loop-i-preserved

@@ -2,7 +2,7 @@ use Rattle.std.proofs.Common.{◌≡◌, ◌≤◌, ◌+◌, ◌-◌, ◌∙◌,
 use Rattle.std.specs.Prelude.{ℤ}
 use Rattle.raster_values.specs.inside.Planes.{plane_value}
 use Rattle.raster_cells.proofs.MarkedValues.{read_piece}
-use Rattle.raster_values.proofs.Poured.{piece_long}
+use Rattle.raster_values.proofs.Scattered.{piece_long}
 use Rattle.raster_values.proofs.blocks.numbered.get_marked_as.Goals as goal
 
 pub loop-k-init : goal.loop-k-init

@@ -4,12 +4,12 @@ use Rattle.std.proofs.lemmas.List.{length-take-le, length-drop}
 use Rattle.std.proofs.Math.Nat.{mul-le-mul_right}
 use Rattle.raster_cells.specs.declared.kind.PixelType.{PixelType}
 use Rattle.raster_cells.specs.PixelType.{bytes_of, InRange}
-use Rattle.raster_cells.specs.inside.CellList.{CellList}
+use Rattle.raster_cells.specs.CellList.{CellList}
 use Rattle.raster_cells.specs.MarkRuns.{AreRuns}
-use Rattle.raster_values.specs.inside.Ordered.{PutsMarkedBytes}
+use Rattle.raster_values.specs.Ordered.{PutsMarkedBytes}
 use Rattle.raster_cells.proofs.Spelled.{AreBytes, bytes_put, length-bytes_put, bytes_put_in_range}
 use Rattle.raster_values.proofs.Pack.{apart}
-use Rattle.raster_values.proofs.Poured.{piece_are}
+use Rattle.raster_values.proofs.Scattered.{piece_are}
 use Rattle.raster_values.proofs.AllCells.{puts_more}
 use Rattle.raster_values.proofs.OrderSteps.{run_cut}
 use Rattle.raster_values.proofs.blocks.order.put_cells.Goals as goal
@@ -69,14 +69,14 @@ loop-at-preserved c =
     let up : end * depth ≤ length c.args.marks.now * depth = mul-le-mul_right depth runs.within in
     let full : length vs ≡ length c.args.marks.now * depth = c.loop-at.invariant.form.size ∙ c.requires.size in
     let within : from + count ≤ length vs = omega (arith, full) in
-    let is : new ≡ bytes_put kind vs from count piece = ap (λ (l : CellList). l.values) c.put_bytes.ensures ∙ ap (λ (k : PixelType). bytes_put k vs from count piece) c.loop-at.invariant.form.kind in
+    let is : new ≡ bytes_put kind vs from count piece = ap (λ (l : CellList). l.values) c.put_bytes.ensures.put ∙ ap (λ (k : PixelType). bytes_put k vs from count piece) c.loop-at.invariant.form.kind in
     let cut : piece ≡ take (count * bytes_of kind) (drop (from * bytes_of kind) c.args.bytes.now) =
     ap (λ n. take (end * depth * n - from * n) (drop (from * n) c.args.bytes.now)) size
     ∙ ap (λ n. take n (drop (from * bytes_of kind) c.args.bytes.now)) (sym (apart from (end * depth) (bytes_of kind) low)) in
     record {
       within = runs.within;
       form = record {
-        kind = ap (λ (l : CellList). l.kind) c.put_bytes.ensures ∙ c.loop-at.invariant.form.kind;
+        kind = ap (λ (l : CellList). l.kind) c.put_bytes.ensures.put ∙ c.loop-at.invariant.form.kind;
         in_range = λ before. subst (All (InRange kind)) (sym is) (bytes_put_in_range kind vs from count piece (c.loop-at.invariant.form.in_range before) (piece_are (end * depth * s - from * s) (from * s) c.args.bytes.now are));
         size = ap length is ∙ length-bytes_put kind vs from count piece within ∙ c.loop-at.invariant.form.size;
       };

@@ -1,6 +1,6 @@
 use Rattle.std.proofs.Common.{◌≤◌, ◌-◌, length}
-use Rattle.raster_cells.specs.inside.CellList.{KeepsForm}
-use Rattle.raster_values.specs.inside.Ordered.{PutsMarkedBytes}
+use Rattle.raster_cells.specs.CellList.{KeepsForm}
+use Rattle.raster_values.specs.Ordered.{PutsMarkedBytes}
 use Rattle.raster_values.proofs.blocks.order.put_cells.Given as goal
 
 abbrev pub invariant-loop-at : goal.invariant-loop-at

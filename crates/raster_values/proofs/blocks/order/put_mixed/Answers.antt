@@ -3,7 +3,7 @@ use Rattle.std.specs.Prelude.{pos}
 use mir.Syntax.{w64}
 use mir.Val.{to_z, of_z}
 use Rattle.raster_cells.specs.PixelType.{InRange}
-use Rattle.raster_values.specs.inside.Ordered.{PutsMarked}
+use Rattle.raster_values.specs.Ordered.{PutsMarked}
 use Rattle.raster_cells.proofs.GivenRuns.{put_in_range, put_size}
 use Rattle.raster_cells.proofs.MarkWords.{word_tells}
 use Rattle.raster_values.proofs.MarkedPuts.{puts_none, puts_pixel}
@@ -16,8 +16,8 @@ pub loop-i-init : goal.loop-i-init
 loop-i-init g c = record {
   kept = refl;
   within = omega arith;
-  form = same_form (g.V.Valued.cells c.args.values.now);
-  put = puts_none c.args.channel.now.depth c.args.channel.now.d (g.M.Marked.marks c.args.channel.now.marks.now) c.args.place c.args.input.now (g.V.Valued.cells c.args.values.now).values;
+  form = same_form (g.V.CellStore.cells c.args.values.now);
+  put = puts_none c.args.channel.now.depth c.args.channel.now.d (g.M.MarkSource.marks c.args.channel.now.marks.now) c.args.place c.args.input.now (g.V.CellStore.cells c.args.values.now).values;
 }
 
 pub overflow_shr-mark : goal.overflow_shr-mark
@@ -25,8 +25,8 @@ overflow_shr-mark g c = omega (arith, c.requires.short, c.loop-i-test.true)
 
 pub put_marked_as-requires-clause-within : goal.put_marked_as-requires-clause-within
 put_marked_as-requires-clause-within g c =
-    let marks = g.M.Marked.marks c.args.channel.now.marks.now in
-    let first = (g.V.Valued.cells c.args.values.now).values in
+    let marks = g.M.MarkSource.marks c.args.channel.now.marks.now in
+    let first = (g.V.CellStore.cells c.args.values.now).values in
     let there = value_there {i = c.loop-i.i} {n = length c.args.input.now} {depth = c.args.channel.now.depth} {d = c.args.channel.now.d} marks first c.args.place c.requires.values.size c.requires.within c.args.channel.now.below c.loop-i-test.true in
     omega (arith, there, c.loop-i.invariant.form.size)
 
@@ -44,11 +44,11 @@ loop-i-preserved g c =
     let depth = c.args.channel.now.depth in
     let d = c.args.channel.now.d in
     let input = c.args.input.now in
-    let marks = g.M.Marked.marks c.args.channel.now.marks.now in
-    let kind = (g.V.Valued.cells c.args.values.now).kind in
-    let first = (g.V.Valued.cells c.args.values.now).values in
-    let old = (g.V.Valued.cells c.loop-i.values).values in
-    let new = (g.V.Valued.cells c.put_marked_as.new.cells).values in
+    let marks = g.M.MarkSource.marks c.args.channel.now.marks.now in
+    let kind = (g.V.CellStore.cells c.args.values.now).kind in
+    let first = (g.V.CellStore.cells c.args.values.now).values in
+    let old = (g.V.CellStore.cells c.loop-i.values).values in
+    let new = (g.V.CellStore.cells c.put_marked_as.new.cells).values in
     let inv = c.loop-i.invariant in
     let at = (place + i) * depth + d in
     let mark = get_or marks (place + i) false in
@@ -74,4 +74,4 @@ loop-i-preserved g c =
 pub returns-clause-put : goal.returns-clause-put
 returns-clause-put g c =
     let whole : c.loop-i.i ≡ length c.args.input.now = omega (arith, c.loop-i.invariant.within, c.loop-i-test.false) in
-    subst (λ n. PutsMarked c.args.channel.now.depth c.args.channel.now.d (g.M.Marked.marks c.args.channel.now.marks.now) c.args.place n c.args.input.now (g.V.Valued.cells c.args.values.now).values (g.V.Valued.cells c.loop-i.values).values) whole c.loop-i.invariant.put
+    subst (λ n. PutsMarked c.args.channel.now.depth c.args.channel.now.d (g.M.MarkSource.marks c.args.channel.now.marks.now) c.args.place n c.args.input.now (g.V.CellStore.cells c.args.values.now).values (g.V.CellStore.cells c.loop-i.values).values) whole c.loop-i.invariant.put

@@ -1,6 +1,6 @@
 use Rattle.std.proofs.Common.{◌+◌, ◌-◌, ◌*◌, ap, ◌∙◌, sym, length, arith, rules}
 use Rattle.raster_cells.specs.PixelType.{bytes_of}
-use Rattle.raster_values.proofs.Poured.{writes_none, writes_within, writes_more, written_all, run_within, run_bytes, piece_long}
+use Rattle.raster_values.proofs.Scattered.{writes_none, writes_within, writes_more, written_all, run_within, run_bytes, piece_long}
 use Rattle.raster_values.proofs.blocks.order.write_valid.Goals as goal
 
 pub loop-at-init : goal.loop-at-init

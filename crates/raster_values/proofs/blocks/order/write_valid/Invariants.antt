@@ -1,5 +1,5 @@
 use Rattle.std.proofs.Common.{◌-◌, length}
-use Rattle.raster_values.proofs.Poured.{Writes}
+use Rattle.raster_values.proofs.Scattered.{Writes}
 use Rattle.raster_values.proofs.blocks.order.write_valid.Given as goal
 
 abbrev pub invariant-loop-at : goal.invariant-loop-at

@@ -1,7 +1,7 @@
 use Rattle.std.proofs.Common.{List, ℕ, ap, sym, subst, length}
-use Rattle.raster_cells.specs.inside.CellList.{KeepsForm, cells_in, values_in}
+use Rattle.raster_cells.specs.CellList.{KeepsForm, cells_in, values_in}
 use Rattle.raster_values.specs.inside.LentCells.{CellFrame}
-use Rattle.raster_values.specs.inside.Ordered.{PutsMarked}
+use Rattle.raster_values.specs.Ordered.{PutsMarked}
 use Rattle.raster_values.proofs.rasters.lent_cells.put_over.Goals as goal
 
 pub returns-clause-put : goal.returns-clause-put

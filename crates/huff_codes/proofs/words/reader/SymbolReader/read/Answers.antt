@@ -7,7 +7,7 @@ returns-in_err-place-clause-fault c symbols h n most =
     let p = err_from_is_err_and c.from_residual.result c.from_residual.ensures.1 in
     let entries = c.requires.sound.entries in
     let reached = c.read_few-next.ensures.reached c.args.self.now.codes.now symbols entries (c.loop-place.invariant.reached symbols h) in
-    let same : length c.read_few-next.new.out ≡ length c.args.out.now = omega (arith, c.read_few-next.ensures.room, c.loop-place.invariant.room) in
+    let same : length c.read_few-next.new.out ≡ length c.args.out.now = omega (arith, c.read_few-next.auto.out, c.loop-place.invariant.room) in
     rw (p.1, p.2) (c.in_err-place.ensures.answer symbols reached n (omega (arith, most, same)))
 
 pub returns-clause-sound : goal.returns-clause-sound

@@ -12,7 +12,7 @@ returns-in-Ok-clause-sound c =
       reader = w.sound;
       symbols = sound.symbols ++ c.read.new.out;
       read = w.read sound.symbols sound.read;
-      count = omega (arith, sound.count, w.left, w.room, length-append sound.symbols c.read.new.out);
+      count = omega (arith, sound.count, w.left, c.read.auto.out, length-append sound.symbols c.read.new.out);
     }
 
 pub returns-in-Err-clause-sound : goal.returns-in-Err-clause-sound

@@ -1,7 +1,7 @@
 use Rattle.std.proofs.Common.{◌+◌, Bool, List, ap, ◌∙◌, sym, length, get_or, replicate, true, false, arith}
 use Rattle.std.proofs.lemmas.List.{get_or-replicate}
 use Rattle.raster_cells.specs.Masks.{mask_bit, marks_in}
-use Rattle.raster_cells.specs.inside.Runs.{run_places}
+use Rattle.raster_cells.specs.Runs.{run_places}
 use Rattle.raster_cells.proofs.LentMasks.{all_with, length-marks_with, some_with}
 use Rattle.raster_cells.proofs.MaskBits.{get_or-marks_in}
 use Rattle.raster_cells.proofs.MaskCounts.{same_count, all_count}

@@ -1,7 +1,7 @@
 use Rattle.std.proofs.Common.{◌≡◌, ◌<◌, Bool, List, ℕ, sym, subst, ◌∙◌, length, get_or, false, true}
 use Rattle.std.specs.Prelude.{IsTrue, count_by, nat_eq}
 use Rattle.std.proofs.lemmas.Bool.{eq-eqb, eqb-true}
-use Rattle.raster_cells.specs.inside.LentMask.{marks_with}
+use Rattle.raster_cells.specs.LentMask.{marks_with}
 use Rattle.raster_cells.proofs.LentMasks.{count_with, length-marks_with}
 use Rattle.raster_cells.proofs.MaskCounts.{all_counted, all_set}
 use Rattle.raster_cells.proofs.marks.lent_mask.LentMask.is_whole.Goals as goal

@@ -1,5 +1,5 @@
 use Rattle.std.proofs.Common.{◌∙◌}
-use Rattle.raster_cells.specs.inside.LentMask.{AreBits}
+use Rattle.raster_cells.specs.LentMask.{AreBits}
 use Rattle.raster_cells.proofs.LentMasks.{bits_with}
 use Rattle.raster_cells.proofs.MaskCounts.{count_of_marks}
 use Rattle.raster_cells.proofs.marks.lent_mask.LentMask.over.Goals as goal

@@ -3,7 +3,7 @@ use Rattle.std.specs.Prelude.{count_by}
 use Rattle.std.specs.List.{filter, range_with_len}
 use Rattle.raster_cells.specs.Masks.{mask_bit}
 use Rattle.raster_cells.specs.inside.MaskView.{seen_mask}
-use Rattle.raster_cells.specs.inside.Runs.{run_places}
+use Rattle.raster_cells.specs.Runs.{run_places}
 use Rattle.raster_cells.proofs.MaskBits.{count_is, size_is, bit_is, run_room}
 use Rattle.raster_cells.proofs.MaskCounts.{same_count, all_count, all_set}
 use Rattle.raster_cells.proofs.marks.mask.Mask.count_run.Goals as goal

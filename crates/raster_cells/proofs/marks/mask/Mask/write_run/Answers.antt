@@ -4,7 +4,7 @@ use Rattle.std.proofs.lemmas.List.{length-drop, length-take-le}
 use borrow.Rule.Slice.PartMut.{put_mid}
 use Rattle.raster_cells.specs.Masks.{mask_bit}
 use Rattle.raster_cells.specs.inside.MaskView.{seen_mask}
-use Rattle.raster_cells.specs.inside.MarkBytes.{mark_bytes}
+use Rattle.raster_cells.specs.MarkBytes.{mark_bytes}
 use Rattle.raster_cells.proofs.MaskBits.{count_is, size_is, bit_is}
 use Rattle.raster_cells.proofs.MaskBytes.{marks_joined, piece_bit}
 use Rattle.raster_cells.proofs.MaskCounts.{set_run}

@@ -1,7 +1,7 @@
 use Rattle.std.proofs.Common.{◌≡◌, ◌+◌, ◌*◌, ◌-◌, ◌≤◌, ap, ◌∙◌, subst, take, drop, length, arith}
 use Rattle.raster_cells.specs.PixelType.{bytes_of}
 use Rattle.raster_cells.specs.Values.{values_bytes}
-use Rattle.raster_cells.specs.inside.CellList.{CellList, values_in}
+use Rattle.raster_cells.specs.CellList.{CellList, values_in}
 use Rattle.std.proofs.lemmas.List.{length-drop}
 use Rattle.raster_cells.proofs.CellRuns.{bytes_front, bytes_behind}
 use Rattle.raster_cells.proofs.values.cell_bytes.CellBytes.bytes_of_run.Goals as goal

@@ -1,8 +1,8 @@
 use Rattle.std.proofs.Common.{◌≡◌, ◌+◌, ◌-◌, ◌≤◌, ap, ◌∙◌, sym, subst, length, arith}
 use Rattle.raster_cells.specs.Values.{values_bytes}
-use Rattle.raster_cells.specs.inside.CellList.{CellList, values_in}
+use Rattle.raster_cells.specs.CellList.{CellList, values_in}
 use Rattle.raster_cells.specs.inside.CellView.{listed}
-use Rattle.raster_cells.specs.inside.Cleared.{cleared}
+use Rattle.raster_cells.specs.Cleared.{cleared}
 use Rattle.raster_cells.proofs.ValueBits.{length-cleared}
 use Rattle.raster_cells.proofs.CellRuns.{run_cleared, cleared_in_range, are_cells, values_is}
 use Rattle.raster_cells.proofs.values.cells.Cells.clear.Goals as goal

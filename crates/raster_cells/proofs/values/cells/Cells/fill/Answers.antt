@@ -1,7 +1,7 @@
 use Rattle.std.proofs.Common.{◌≡◌, ◌<◌, ◌+◌, ◌*◌, ap, sym, ◌∙◌, length, get_or, replicate, arith}
 use Rattle.std.specs.Prelude.{pos}
 use Rattle.std.proofs.lemmas.List.{ext_get_or, length-replicate, get_or-replicate}
-use Rattle.raster_cells.specs.inside.CellList.{CellList}
+use Rattle.raster_cells.specs.CellList.{CellList}
 use Rattle.raster_cells.proofs.ValueBits.{same_bits}
 use Rattle.raster_cells.proofs.values.cells.Cells.fill.Goals as goal
 

@@ -1,6 +1,6 @@
 use Rattle.std.proofs.Common.{sym, arith}
 use Rattle.std.proofs.lemmas.List.{get_or_past}
-use Rattle.raster_cells.specs.inside.CellList.{values_in}
+use Rattle.raster_cells.specs.CellList.{values_in}
 use Rattle.raster_cells.proofs.CellRuns.{are_cells, length-values_in}
 use Rattle.raster_cells.proofs.Spelled.{AreBytes, bytes_of_values, values_fit}
 use Rattle.raster_cells.proofs.values.cells.Cells.of_vec.Goals as goal

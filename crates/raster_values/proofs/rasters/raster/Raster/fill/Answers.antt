@@ -2,10 +2,10 @@ use Rattle.std.proofs.Common.{◌≡◌, ap, ◌∙◌, subst, replicate, length
 use mir.Syntax.{w64}
 use mir.Val.{to_z, of_z}
 use Rattle.std.proofs.lemmas.List.{length-replicate}
-use Rattle.raster_cells.specs.inside.CellList.{CellList}
+use Rattle.raster_cells.specs.CellList.{CellList}
 use Rattle.raster_cells.specs.PixelType.{InRange}
 use Rattle.raster_values.specs.Raster.{Pixels, filled}
-use Rattle.raster_values.specs.inside.View.{seen, pixels_of, IsInside}
+use Rattle.raster_values.specs.View.{seen, pixels_of, IsInside}
 use Rattle.raster_values.proofs.Views.{fill_leaves, fill_keeps, KeepsValues}
 use Rattle.raster_cells.proofs.ValueBits.{same_bits}
 use Rattle.raster_values.proofs.rasters.raster.Raster.fill.Goals as goal

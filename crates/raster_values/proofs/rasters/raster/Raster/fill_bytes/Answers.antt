@@ -3,7 +3,7 @@ use Rattle.raster_cells.specs.declared.kind.PixelType.{PixelType}
 use Rattle.raster_cells.specs.PixelType.{bytes_of}
 use Rattle.raster_values.specs.Raster.{Pixels}
 use Rattle.raster_cells.specs.Values.{AreValues}
-use Rattle.raster_cells.specs.inside.CellList.{CellList, values_in}
+use Rattle.raster_cells.specs.CellList.{CellList, values_in}
 use Rattle.raster_cells.proofs.CellRuns.{length-values_in}
 use Rattle.raster_cells.proofs.Spelled.{read_stand}
 use Rattle.raster_values.proofs.rasters.raster.Raster.fill_bytes.Goals as goal

@@ -2,8 +2,8 @@ use Rattle.std.proofs.Common.{◌≡◌, ◌*◌, ◌∙◌, ap, length, replica
 use Rattle.std.proofs.Math.Nat.{mul-le-mul_left}
 use Rattle.std.proofs.lemmas.List.{length-replicate}
 use Rattle.raster_values.specs.declared.rasters.raster.Raster.TheInside.{Inside}
-use Rattle.raster_cells.specs.inside.CellList.{values_in}
-use Rattle.raster_values.specs.inside.View.{IsInside}
+use Rattle.raster_cells.specs.CellList.{values_in}
+use Rattle.raster_values.specs.View.{IsInside}
 use Rattle.raster_cells.proofs.Spelled.{AreBytes}
 use Rattle.raster_values.proofs.Views.{sound}
 use Rattle.raster_values.proofs.AllCells.{whole_inside, whole_puts}

@@ -3,7 +3,7 @@ use Rattle.std.specs.Prelude.{ℤ}
 use Rattle.raster_values.specs.Raster.{Pixels}
 use Rattle.raster_values.specs.Block.{block_count, block_values}
 use Rattle.raster_cells.specs.Distance.{distance_of}
-use Rattle.raster_cells.specs.inside.CellList.{CellList}
+use Rattle.raster_cells.specs.CellList.{CellList}
 use Rattle.raster_values.specs.inside.Runs.{rows_values, Gathers}
 use Rattle.raster_values.specs.inside.Windows.{IsWithin, window_values}
 use Rattle.raster_values.proofs.BlockViews.{gathered_is}
@@ -34,16 +34,16 @@ returns-clause-count c = (both c).0
 pub returns-clause-distances : goal.returns-clause-distances
 returns-clause-distances c = (both c).1
 
-pub gather_rows-requires-clause-within : goal.gather_rows-requires-clause-within
-gather_rows-requires-clause-within c =
+pub gather_rows-requires : goal.gather_rows-requires
+gather_rows-requires c =
     let a = c.self.inside in
-    subst (IsWithin c.block-window.result) (sym (ap (λ (ms : List Bool). length ms) c.read-marks.ensures ∙ c.self.invariant.marks))
-    (block_within a.rows a.cols c.args.row c.args.col c.args.side c.block-window.result c.block-window.ensures (omega (arith, c.requires.place, ap (λ (r : Pixels). r.rows) c.self.view_is)) (omega (arith, c.requires.place, ap (λ (r : Pixels). r.cols) c.self.view_is)) (few_places a.rows a.cols a.depth c.self.invariant.shape))
-
-pub gather_rows-requires-clause-room : goal.gather_rows-requires-clause-room
-gather_rows-requires-clause-room c =
-    let a = c.self.inside in
-    omega (arith, block_area a.rows a.cols c.args.row c.args.col c.args.side c.block-window.result c.block-window.ensures, c.requires.room)
+    record {
+      fits = record {
+        within = subst (IsWithin c.block-window.result) (sym (ap (λ (ms : List Bool). length ms) c.read-marks.ensures ∙ c.self.invariant.marks))
+            (block_within a.rows a.cols c.args.row c.args.col c.args.side c.block-window.result c.block-window.ensures (omega (arith, c.requires.place, ap (λ (r : Pixels). r.rows) c.self.view_is)) (omega (arith, c.requires.place, ap (λ (r : Pixels). r.cols) c.self.view_is)) (few_places a.rows a.cols a.depth c.self.invariant.shape));
+        room = omega (arith, block_area a.rows a.cols c.args.row c.args.col c.args.side c.block-window.result c.block-window.ensures, c.requires.room);
+      };
+    }
 
 pub returns-clause-within : goal.returns-clause-within
 returns-clause-within c =

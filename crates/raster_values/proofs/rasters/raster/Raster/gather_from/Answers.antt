@@ -2,7 +2,7 @@ use Rattle.std.proofs.Common.{◌≡◌, ◌<◌, ◌++◌, ◌*◌, ◌∙◌, 
 use Rattle.raster_values.specs.Raster.{Pixels}
 use Rattle.raster_values.specs.Flat.{valid_from, values_among}
 use Rattle.raster_cells.specs.Distance.{distance_of}
-use Rattle.raster_cells.specs.inside.CellList.{CellList}
+use Rattle.raster_cells.specs.CellList.{CellList}
 use Rattle.raster_values.specs.inside.Runs.{run_values, Gathers}
 use Rattle.raster_values.proofs.FlatViews.{gathered_among}
 use Rattle.raster_values.proofs.rasters.raster.Raster.gather_from.Goals as goal

@@ -1,9 +1,9 @@
 use Rattle.std.proofs.Common.{◌≡◌, ◌+◌, ◌*◌, ap, ◌∙◌, sym, subst, set, length, true, false, arith}
 use Rattle.std.proofs.lemmas.List.{length-set}
-use Rattle.raster_cells.specs.inside.CellList.{CellList}
+use Rattle.raster_cells.specs.CellList.{CellList}
 use Rattle.raster_values.specs.Raster.{Pixels, IsRaster, InShape, marked}
-use Rattle.raster_cells.specs.inside.Cleared.{cleared}
-use Rattle.raster_values.specs.inside.View.{seen, pixels_of, IsInside}
+use Rattle.raster_cells.specs.Cleared.{cleared}
+use Rattle.raster_values.specs.View.{seen, pixels_of, IsInside}
 use Rattle.raster_values.proofs.Views.{unmark_leaves, unmark_keeps, mark_leaves, KeepsValues, sound}
 use Rattle.raster_values.proofs.Changes.{mark_changes}
 use Rattle.raster_values.proofs.rasters.raster.Raster.mark.Goals as goal

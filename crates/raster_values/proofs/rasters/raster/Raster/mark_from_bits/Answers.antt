@@ -2,7 +2,7 @@ use Rattle.std.proofs.Common.{◌≡◌, Bool, List, ap, ◌∙◌, subst, lengt
 use Rattle.raster_values.specs.Raster.{Pixels, valid_count}
 use Rattle.raster_values.specs.Order.{MarksBits}
 use Rattle.raster_values.specs.declared.rasters.raster.Raster.TheInside.{Inside}
-use Rattle.raster_values.specs.inside.View.{seen, pixels_of, IsInside}
+use Rattle.raster_values.specs.View.{seen, pixels_of, IsInside}
 use Rattle.raster_values.proofs.Views.{sound}
 use Rattle.raster_values.proofs.Blank.{still_zero, bits_mark}
 use Rattle.raster_cells.proofs.MaskBits.{length-marks_in, get_or-marks_in}

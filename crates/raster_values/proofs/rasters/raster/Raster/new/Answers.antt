@@ -6,10 +6,10 @@ use Rattle.std.proofs.lemmas.Nat.{mul-add-lt}
 use Rattle.raster_values.specs.declared.rasters.raster.Raster.TheInside.{Inside}
 use Rattle.raster_cells.specs.declared.kind.PixelType.{PixelType}
 use Rattle.raster_cells.specs.PixelType.{InRange}
-use Rattle.raster_cells.specs.inside.CellList.{CellList}
+use Rattle.raster_cells.specs.CellList.{CellList}
 use Rattle.raster_values.specs.Raster.{Pixels}
 use Rattle.raster_cells.specs.Shapes.{IsShape}
-use Rattle.raster_values.specs.inside.View.{pixels_of, IsInside}
+use Rattle.raster_values.specs.View.{pixels_of, IsInside}
 use Rattle.raster_values.proofs.Views.{pixels_of-blank}
 use Rattle.raster_cells.proofs.ValueBits.{zero_in_range}
 use Rattle.raster_values.proofs.rasters.raster.Raster.new.Goals as goal

@@ -2,9 +2,9 @@ use Rattle.std.proofs.Common.{◌≡◌, ◌*◌, ap, ◌∙◌, sym, subst, len
 use Rattle.raster_cells.specs.PixelType.{bytes_of}
 use Rattle.raster_values.specs.Raster.{Pixels, IsRaster}
 use Rattle.raster_values.specs.Flat.{PutsAll}
-use Rattle.raster_cells.specs.inside.CellList.{CellList}
-use Rattle.raster_values.specs.inside.Ordered.{PutsMarkedBytes}
-use Rattle.raster_values.specs.inside.View.{pixels_of}
+use Rattle.raster_cells.specs.CellList.{CellList}
+use Rattle.raster_values.specs.Ordered.{PutsMarkedBytes}
+use Rattle.raster_values.specs.View.{pixels_of}
 use Rattle.raster_values.proofs.FlatViews.{with_values, keeps_inside}
 use Rattle.raster_values.proofs.AllCells.{puts_keep_marks, puts_all}
 use Rattle.raster_values.proofs.rasters.raster.Raster.put_cells.Goals as goal

@@ -1,9 +1,9 @@
 use Rattle.std.proofs.Common.{◌≡◌, ◌<◌, ◌≤◌, ◌+◌, ◌*◌, sym, subst, length, arith}
 use Rattle.raster_values.specs.Raster.{Pixels, IsRaster}
 use Rattle.raster_values.specs.Flat.{PutsFrom}
-use Rattle.raster_cells.specs.inside.CellList.{CellList}
-use Rattle.raster_values.specs.inside.Ordered.{PutsMarked}
-use Rattle.raster_values.specs.inside.View.{pixels_of}
+use Rattle.raster_cells.specs.CellList.{CellList}
+use Rattle.raster_values.specs.Ordered.{PutsMarked}
+use Rattle.raster_values.specs.View.{pixels_of}
 use Rattle.raster_values.proofs.FlatViews.{puts_keep, puts_from, with_values, keeps_inside}
 use Rattle.raster_values.proofs.rasters.raster.Raster.put_from.Goals as goal
 

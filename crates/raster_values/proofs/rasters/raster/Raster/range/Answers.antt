@@ -1,7 +1,7 @@
 use Rattle.std.proofs.Common.{◌<◌, ◌*◌, ◌∙◌, Bool, List, ap, sym, subst, length, arith}
 use Rattle.raster_values.specs.Raster.{Pixels}
 use Rattle.raster_values.specs.Flat.{depth_values}
-use Rattle.raster_cells.specs.inside.CellList.{CellList}
+use Rattle.raster_cells.specs.CellList.{CellList}
 use Rattle.raster_values.specs.inside.Runs.{IsRange, run_values}
 use Rattle.raster_values.proofs.Ranges.{depth_is, found_is, empty_is, none_is}
 use Rattle.raster_values.proofs.rasters.raster.Raster.range.Goals as goal

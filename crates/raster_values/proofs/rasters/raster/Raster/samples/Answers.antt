@@ -1,7 +1,7 @@
 use Rattle.std.proofs.Common.{◌≡◌, List, Bool, ap, sym, subst}
 use Rattle.raster_values.specs.Raster.{Pixels}
 use Rattle.raster_values.specs.Flat.{marks_of}
-use Rattle.raster_values.specs.inside.View.{AreVectors, raster_of}
+use Rattle.raster_values.specs.View.{AreVectors, raster_of}
 use Rattle.raster_values.proofs.FlatViews.{marks_of-pixels_of, vectors_inside}
 use Rattle.raster_values.proofs.rasters.raster.Raster.samples.Goals as goal
 

@@ -1,10 +1,10 @@
 use Rattle.std.proofs.Common.{◌≡◌, ◌<◌, ap, ◌∙◌, subst, set, sym}
 use mir.Syntax.{w64}
 use mir.Val.{to_z, of_z}
-use Rattle.raster_cells.specs.inside.CellList.{CellList}
+use Rattle.raster_cells.specs.CellList.{CellList}
 use Rattle.raster_cells.specs.PixelType.{InRange}
 use Rattle.raster_values.specs.Raster.{Pixels, IsRaster, InShape, IsValidAt, written}
-use Rattle.raster_values.specs.inside.View.{seen, pixels_of, IsInside}
+use Rattle.raster_values.specs.View.{seen, pixels_of, IsInside}
 use Rattle.raster_cells.proofs.ValueBits.{same_bits}
 use Rattle.raster_values.proofs.Views.{set_leaves, set_keeps, KeepsValues, sound}
 use Rattle.raster_values.proofs.Changes.{set_changes}

@@ -2,8 +2,8 @@ use Rattle.std.proofs.Common.{◌*◌, Bool, List, ap, ◌∙◌, sym, length, a
 use Rattle.raster_cells.specs.PixelType.{bytes_of}
 use Rattle.raster_values.specs.Raster.{Pixels, valid_count, values_of}
 use Rattle.raster_cells.specs.Values.{values_bytes}
-use Rattle.raster_cells.specs.inside.CellList.{CellList}
-use Rattle.raster_values.specs.inside.View.{pixels_of, seen}
+use Rattle.raster_cells.specs.CellList.{CellList}
+use Rattle.raster_values.specs.View.{pixels_of, seen}
 use Rattle.raster_values.proofs.Views.{sound}
 use Rattle.raster_values.proofs.FlatViews.{count_values}
 use Rattle.raster_values.proofs.rasters.raster.Raster.value_bytes.Goals as goal

@@ -4,7 +4,7 @@ use Rattle.std.proofs.lemmas.List.FromFn.{get_or-map-range_with_len}
 use Rattle.std.specs.List.{range_with_len}
 use Rattle.std.proofs.Math.Nat.{mul-le-mul_right}
 use Rattle.raster_values.specs.Raster.{Pixels}
-use Rattle.raster_cells.specs.inside.CellList.{CellList}
+use Rattle.raster_cells.specs.CellList.{CellList}
 use Rattle.raster_values.specs.Flat.{value_in}
 use Rattle.raster_values.proofs.FlatViews.{value_flat, keeps_itself}
 use Rattle.raster_values.proofs.rasters.raster.Raster.values_from.Goals as goal
@@ -19,11 +19,8 @@ returns-clause-values c i below =
     ∙ subst (λ (r : Pixels). c.args.place + length c.args.out.now ≤ r.rows * r.cols → c.args.d < r.depth → get_or a.values.values ((c.args.place + i) * a.depth + c.args.d) (pos 0) ≡ value_in r c.args.d (c.args.place + i)) c.self.view_is
     (λ within deep. sym (value_flat a a.values.values (c.args.place + i) c.args.d (keeps_itself a c.self.invariant) (omega (arith, within, below, c.self.invariant.marks)) deep)) c.requires.place c.requires.depth
 
-pub get_pixels-requires-clause-few : goal.get_pixels-requires-clause-few
-get_pixels-requires-clause-few c = omega (arith, ap (λ (l : CellList). length l.values) c.read-values.ensures, c.self.invariant.values, c.self.invariant.shape.size)
-
-pub get_pixels-requires-clause-within : goal.get_pixels-requires-clause-within
-get_pixels-requires-clause-within c =
+pub get_pixels-requires : goal.get_pixels-requires
+get_pixels-requires c =
     let a = c.self.inside in
     let within : c.args.place + length c.args.out.now ≤ a.rows * a.cols = subst (λ (r : Pixels). c.args.place + length c.args.out.now ≤ r.rows * r.cols) (sym c.self.view_is) c.requires.place in
     let up : (c.args.place + length c.args.out.now) * a.depth ≤ a.rows * a.cols * a.depth = mul-le-mul_right a.depth within in

@@ -1,7 +1,0 @@
-use Rattle.std.proofs.Common.{rules}
-use Rattle.bundle_index.specs.Entry.{entry_bytes}
-use Rattle.bundle_store.proofs.spelling.spelled.Goals as goal
-
-pub returns : goal.returns
-unfolding entry_bytes
-returns c = search rules

@@ -1,8 +1,0 @@
-use Rattle.std.proofs.Common.{◌≡◌, ℕ, ◌+◌, ◌<◌, length, get_or}
-use Rattle.huff_codes.proofs.lengths.symbol_counter.summed.Given as goal
-
-abbrev pub invariant-loop-s : goal.invariant-loop-s
-invariant-loop-s l = record {
-  room : length l.counts ≡ 256;
-  done : (k : ℕ) → k < l.s → get_or l.counts k 0 ≡ get_or l.first k 0 + get_or l.second k 0 + get_or l.third k 0 + get_or l.fourth k 0;
-}

@@ -1,7 +1,0 @@
-use Rattle.std.proofs.Common.{◌≡◌, ◌<◌, ◌+◌, ◌*◌, ℕ, get_or}
-use Rattle.std.specs.Prelude.{pos}
-use Rattle.raster_cells.specs.inside.CellList.{values_in}
-use Rattle.raster_cells.proofs.values.cells.read_steps_as.Given as goal
-
-abbrev pub invariant-loop-i : goal.invariant-loop-i
-invariant-loop-i l = (k : ℕ) → k < l.i → get_or l.out k (pos 0) ≡ get_or (values_in l.kind l.count l.bytes) ((l.first + k) * l.depth + l.d) (pos 0)

@@ -1,7 +1,0 @@
-use Rattle.std.proofs.Common.{◌≡◌, ◌++◌, ◌*◌, take, drop}
-use Rattle.raster_cells.specs.PixelType.{bytes_of}
-use Rattle.raster_cells.specs.Values.{values_bytes}
-use Rattle.raster_cells.proofs.values.cells.write_values.Given as goal
-
-abbrev pub invariant-loop-i : goal.invariant-loop-i
-invariant-loop-i l = l.out ≡ values_bytes l.kind (take l.i l.values) ++ drop (l.i * bytes_of l.kind) l.initial.out

@@ -1,6 +1,0 @@
-use Rattle.raster_values.specs.Lent.{inside_of}
-use Rattle.raster_values.proofs.Views.{sound}
-use Rattle.raster_values.proofs.rasters.lent.Lent.rows.Goals as goal
-
-pub returns-clause-sound : goal.returns-clause-sound
-returns-clause-sound c = sound (inside_of c.args.self.now) c.args.self.now.inside

@@ -1,0 +1,6 @@
+use Rattle.raster_values.specs.RasterMut.{inside_of}
+use Rattle.raster_values.proofs.Views.{sound}
+use Rattle.raster_values.proofs.rasters.raster_mut.RasterMut.rows.Goals as goal
+
+pub returns-clause-sound : goal.returns-clause-sound
+returns-clause-sound c = sound (inside_of c.args.self.now) c.args.self.now.inside

@@ -1,5 +1,0 @@
-use Rattle.sample_tiles.proofs.Drawing.{none_drawn}
-use Rattle.sample_tiles.proofs.draw.empty.Goals as goal
-
-pub returns-in-Ok : goal.returns-in-Ok
-returns-in-Ok c = none_drawn c.in-Ok.tile c.in-Ok.ensures.ok
