@@ -8,7 +8,7 @@
 
 # What the crates of bin/lerc_cli take, proved from nothing: minutes of a processor for all of them; and minutes by the
 # clock for the longest chain, in which each crate stands on the one before, so that more processors do not help.
-whole_minutes=42
+whole_minutes=44
 chain_minutes=18
 
 # The build that is under way: the crate that it ends with, and those below, the ones with the longest chain above them
