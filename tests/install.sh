@@ -121,7 +121,7 @@ END
 fi
 if has nm; then
     nm -D --defined-only "$prefix/lib/libfutskheri.so" | awk '{ print $3 }' | sort >names
-    grep -o '^[a-z].*futskheri_[a-z_]*(' "$here/include/futskheri.h" | grep -o 'futskheri_[a-z_]*' | sort >wanted
+    grep -o '^[a-z].*futskheri_[a-z_]*(' "$here/include/futskheri.h" | grep -v '^static' | grep -o 'futskheri_[a-z_]*' | sort >wanted
     holds "the shared library has the header's names and no others" cmp names wanted
 fi
 if has readelf; then
